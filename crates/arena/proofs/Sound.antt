@@ -1,0 +1,120 @@
+-- What each change of an arena's slots keeps.
+use Rattle.std.proofs.Common.{◌≡◌, ◌≢◌, ◌⊎◌, ℕ, zero, suc, ◌<◌, ◌≤◌, List, [], ◌∷◌, ◌++◌, length, get_or, set, refl, ap, subst, inl, inr, arith}
+use Rattle.std.proofs.lemmas.Bool.{cases_eq}
+use Rattle.std.proofs.lemmas.List.{get_or-set_same, get_or-set_other, length-set, length_push}
+use Rattle.arena.specs.Arena.{Has, plain, IsFree, IsBorn, IsSound}
+use Rattle.arena.specs.declared.Slot.{Slot}
+use Rattle.arena.specs.declared.Slot.TheVariants.{Free, Occupied, Retired}
+use Rattle.arena.specs.declared.TheConstants.{FIRST_GENERATION}
+
+-- a look-up after a write
+pub at_set : {X : Type 0} (xs : List X) (k i : ℕ) (x d : X) → k < length xs → ((i ≡ k) × (get_or (set xs k x) i d ≡ x)) ⊎ ((i ≢ k) × (get_or (set xs k x) i d ≡ get_or xs i d))
+at_set xs k i x d within =
+    elim (cases_eq i k) [
+      | inl same ↦ inl (same, rw same (get_or-set_same xs k x d within))
+      | inr differs ↦ inr (differs, get_or-set_other xs k i x d differs)
+    ]
+
+-- a look-up after a push, where the default is at the end of every list
+pub at_push : {X : Type 0} (xs : List X) (x d : X) (i : ℕ) → ((i ≡ length xs) × (get_or (xs ++ x ∷ []) i d ≡ x)) ⊎ ((i ≢ length xs) × (get_or (xs ++ x ∷ []) i d ≡ get_or xs i d))
+at_push [] x d zero = inl (refl, refl)
+at_push [] x d (suc i) = inr (λ e. omega arith, refl)
+at_push (y ∷ ys) x d zero = inr (λ e. omega arith, refl)
+at_push (y ∷ ys) x d (suc i) =
+    elim (at_push ys x d i) [
+      | inl here ↦ inl (ap suc here.0, here.1)
+      | inr there ↦ inr (λ e. there.0 (omega arith), there.1)
+    ]
+
+module _ {T : Type 0} where
+  -- a slot that is no retired one is within the list
+  pub free_within : (slots : List (Slot T)) (k : ℕ) → IsFree (get_or slots k Retired) → k < length slots
+  free_within [] k free = absurd free
+  free_within (s ∷ slots) zero free = omega arith
+  free_within (s ∷ slots) (suc k) free = let rest = free_within slots k free in omega arith
+
+  -- a free slot gets a value
+  pub IsSound-fill : (slots : List (Slot T)) (k : ℕ) (ks : List ℕ) (limit g : ℕ) (x : T) → FIRST_GENERATION ≤ g → IsSound (plain slots (k ∷ ks) limit) → IsSound (plain (set slots k (Occupied g x)) ks limit)
+  IsSound-fill slots k ks limit g x born sound =
+      let within = free_within slots k (sound.named k (inl refl)) in
+      record {
+        small = sound.small;
+        within = rw length-set sound.within;
+        born = λ i. elim (at_set slots k i (Occupied g x) Retired within) [
+          | inl here ↦ rw here.1 born
+          | inr there ↦ rw there.1 (sound.born i)
+        ];
+        named = λ i has. elim (at_set slots k i (Occupied g x) Retired within) [
+          | inl here ↦ absurd (sound.once.0 (subst (Has ks) here.0 has))
+          | inr there ↦ rw there.1 (sound.named i (inr has))
+        ];
+        listed = λ i free. elim (at_set slots k i (Occupied g x) Retired within) [
+          | inl here ↦ absurd (subst IsFree here.1 free)
+          | inr there ↦ elim (sound.listed i (subst IsFree there.1 free)) [ inl same ↦ absurd (there.0 same) | inr has ↦ has ]
+        ];
+        once = sound.once.1;
+      }
+
+  -- a slot that was not free becomes free
+  pub IsSound-vacate : (slots : List (Slot T)) (k : ℕ) (ks : List ℕ) (limit g : ℕ) → k < length slots → (IsFree (get_or slots k Retired) → ⊥) → FIRST_GENERATION ≤ g → IsSound (plain slots ks limit) → IsSound (plain (set slots k (Free g)) (k ∷ ks) limit)
+  IsSound-vacate slots k ks limit g within taken born sound =
+      record {
+        small = sound.small;
+        within = rw length-set sound.within;
+        born = λ i. elim (at_set slots k i (Free g) Retired within) [
+          | inl here ↦ rw here.1 born
+          | inr there ↦ rw there.1 (sound.born i)
+        ];
+        named = λ i has. elim (at_set slots k i (Free g) Retired within) [
+          | inl here ↦ rw here.1 tt
+          | inr there ↦ elim has [ inl same ↦ absurd (there.0 same) | inr later ↦ rw there.1 (sound.named i later) ]
+        ];
+        listed = λ i free. elim (at_set slots k i (Free g) Retired within) [
+          | inl here ↦ inl here.0
+          | inr there ↦ inr (sound.listed i (subst IsFree there.1 free))
+        ];
+        once = (λ has. taken (sound.named k has), sound.once);
+      }
+
+  -- a slot that was not free changes, and is not free afterwards
+  pub IsSound-set : (slots : List (Slot T)) (k : ℕ) (ks : List ℕ) (limit : ℕ) (s : Slot T) → k < length slots → (IsFree (get_or slots k Retired) → ⊥) → (IsFree s → ⊥) → IsBorn s → IsSound (plain slots ks limit) → IsSound (plain (set slots k s) ks limit)
+  IsSound-set slots k ks limit s within taken stays born sound =
+      record {
+        small = sound.small;
+        within = rw length-set sound.within;
+        born = λ i. elim (at_set slots k i s Retired within) [
+          | inl here ↦ rw here.1 born
+          | inr there ↦ rw there.1 (sound.born i)
+        ];
+        named = λ i has. elim (at_set slots k i s Retired within) [
+          | inl here ↦ absurd (taken (sound.named k (subst (Has ks) here.0 has)))
+          | inr there ↦ rw there.1 (sound.named i has)
+        ];
+        listed = λ i free. elim (at_set slots k i s Retired within) [
+          | inl here ↦ absurd (stays (subst IsFree here.1 free))
+          | inr there ↦ sound.listed i (subst IsFree there.1 free)
+        ];
+        once = sound.once;
+      }
+
+  -- a fresh slot gets a value
+  pub IsSound-push : (slots : List (Slot T)) (ks : List ℕ) (limit : ℕ) (x : T) → length slots < limit → IsSound (plain slots ks limit) → IsSound (plain (slots ++ Occupied FIRST_GENERATION x ∷ []) ks limit)
+  IsSound-push slots ks limit x room sound =
+      let s = Occupied FIRST_GENERATION x in
+      record {
+        small = sound.small;
+        within = rw length_push (omega arith);
+        born = λ i. elim (at_push slots s Retired i) [
+          | inl here ↦ rw here.1 (omega arith)
+          | inr there ↦ rw there.1 (sound.born i)
+        ];
+        named = λ i has. elim (at_push slots s Retired i) [
+          | inl here ↦ absurd (omega (arith, free_within slots i (sound.named i has)))
+          | inr there ↦ rw there.1 (sound.named i has)
+        ];
+        listed = λ i free. elim (at_push slots s Retired i) [
+          | inl here ↦ absurd (subst IsFree here.1 free)
+          | inr there ↦ sound.listed i (subst IsFree there.1 free)
+        ];
+        once = sound.once;
+      }

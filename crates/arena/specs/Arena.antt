@@ -1,0 +1,142 @@
+-- What a contract sees of an `Arena`.
+use Rattle.std.specs.Prelude.{◌≡◌, ◌⊎◌, ◌==◌, ℕ, ◌+◌, ◌^◌, ◌<◌, ◌≤◌, List, [], ◌∷◌, ◌++◌, length, Bool, true, false, if◌then◌else◌, Option, Some, None, count_by, slice_index_or, slice_set, ⊤}
+use Rattle.arena.specs.declared.Slot.{Slot}
+use Rattle.arena.specs.declared.Slot.TheVariants.{Free, Occupied, Retired}
+use Rattle.arena.specs.declared.Key.{Key}
+use Rattle.arena.specs.declared.Fault.{Fault}
+use Rattle.arena.specs.declared.Fault.TheVariants.{Full, Memory}
+use Rattle.arena.specs.declared.TheConstants.{GREATEST_GENERATION, FIRST_GENERATION}
+
+-- the slots that have been used, the free ones in order of use, and how many slots there may be
+pub record Arena (T : Type 0) : Type 0 where
+  pub slots : List (Slot T)
+  pub free : List ℕ
+  pub limit : ℕ
+
+-- the number is in the list
+abbrev pub Has : List ℕ → ℕ → Type 0
+Has [] i = ⊥
+Has (x ∷ xs) i = (i ≡ x) ⊎ Has xs i
+
+-- no number is in the list twice
+abbrev pub Once : List ℕ → Type 0
+Once [] = ⊤
+Once (x ∷ xs) = (Has xs x → ⊥) × Once xs
+
+-- the key of a slot and a generation, if there is one
+abbrev pub key_of : ℕ → Option ℕ → Option Key
+key_of slot None = None
+key_of slot (Some g) = Some (record { slot = slot; generation = g })
+
+module _ {T : Type 0} where
+  -- the arena of these parts
+  abbrev pub plain : List (Slot T) → List ℕ → ℕ → Arena T
+  plain slots free limit = record { slots = slots; free = free; limit = limit }
+
+  -- the slot of a number; past the last it counts as retired
+  abbrev pub slot_at : Arena T → ℕ → Slot T
+  slot_at a i = slice_index_or a.slots i Retired
+
+  abbrev pub IsFree : Slot T → Type 0
+  IsFree (Free g) = ⊤
+  IsFree (Occupied g x) = ⊥
+  IsFree Retired = ⊥
+
+  -- the generation, if there is one, is at least the first
+  abbrev pub IsBorn : Slot T → Type 0
+  IsBorn (Free g) = FIRST_GENERATION ≤ g
+  IsBorn (Occupied g x) = FIRST_GENERATION ≤ g
+  IsBorn Retired = ⊤
+
+  -- what holds of every arena
+  pub record IsSound (a : Arena T) : Type 0 where
+    pub small : a.limit < 2 ^ 32
+    pub within : length a.slots ≤ a.limit
+    pub born : (i : ℕ) → IsBorn (slot_at a i)
+    -- the list names the free slots and no others, each once
+    pub named : (i : ℕ) → Has a.free i → IsFree (slot_at a i)
+    pub listed : (i : ℕ) → IsFree (slot_at a i) → Has a.free i
+    pub once : Once a.free
+
+  abbrev pub is_occupied : Slot T → Bool
+  is_occupied (Free g) = false
+  is_occupied (Occupied g x) = true
+  is_occupied Retired = false
+
+  -- how many values there are
+  abbrev pub occupied_count : Arena T → ℕ
+  occupied_count a = count_by is_occupied a.slots
+
+  -- the value in a slot, if it has this generation
+  abbrev pub value_of : Slot T → ℕ → Option T
+  value_of (Free g) generation = None
+  value_of (Occupied g x) generation = if g == generation then Some x else None
+  value_of Retired generation = None
+
+  -- the value under a key
+  abbrev pub get : Arena T → Key → Option T
+  get a key = value_of (slot_at a key.slot) key.generation
+
+  -- the generation of the value in a slot
+  abbrev pub generation_in : Slot T → Option ℕ
+  generation_in (Free g) = None
+  generation_in (Occupied g x) = Some g
+  generation_in Retired = None
+
+  -- the key of the value in a slot
+  abbrev pub key_at : Arena T → ℕ → Option Key
+  key_at a slot = key_of slot (generation_in (slot_at a slot))
+
+  -- the arena after a write through `get_mut`
+  abbrev pub with_value : Arena T → Key → T → Arena T
+  with_value a key x = record a { slots = slice_set a.slots key.slot (Occupied key.generation x) }
+
+  -- no slot is free, and none is fresh
+  abbrev pub IsFull : Arena T → Type 0
+  IsFull a = (a.free ≡ []) × (a.limit ≤ length a.slots)
+
+  -- this fault is the one that the arena gives
+  abbrev pub IsFaultOf : Arena T → Fault → Type 0
+  IsFaultOf a f = (IsFull a × (f ≡ Full)) ⊎ ((length a.slots < a.limit) × (a.free ≡ []) × (f ≡ Memory))
+
+  -- the generation that the next value of a free slot has
+  abbrev pub generation_of : Slot T → ℕ
+  generation_of (Free g) = g
+  generation_of (Occupied g x) = g
+  generation_of Retired = 0
+
+  abbrev pub first_key : List ℕ → Arena T → Key
+  first_key [] a = record { slot = length a.slots; generation = FIRST_GENERATION }
+  first_key (k ∷ ks) a = record { slot = k; generation = generation_of (slot_at a k) }
+
+  -- the key that the next value gets
+  abbrev pub next_key : Arena T → Key
+  next_key a = first_key a.free a
+
+  abbrev pub filled : List ℕ → Arena T → T → Arena T
+  filled [] a x = record a { slots = a.slots ++ Occupied FIRST_GENERATION x ∷ [] }
+  filled (k ∷ ks) a x = record { slots = slice_set a.slots k (Occupied (generation_of (slot_at a k)) x); free = ks; limit = a.limit }
+
+  -- the arena with one value more, under the next key
+  abbrev pub inserted : Arena T → T → Arena T
+  inserted a x = filled a.free a x
+
+  -- the arena without the value of this key, whose slot is free
+  abbrev pub freed : Arena T → Key → Arena T
+  freed a key = record { slots = slice_set a.slots key.slot (Free (key.generation + 1)); free = key.slot ∷ a.free; limit = a.limit }
+
+  -- the arena without the value of this key, whose slot is retired
+  abbrev pub retired : Arena T → Key → Arena T
+  retired a key = record a { slots = slice_set a.slots key.slot Retired }
+
+  -- the arena without the value of this key, which it has
+  abbrev pub vacated : Arena T → Key → Arena T
+  vacated a key = if key.generation == GREATEST_GENERATION then retired a key else freed a key
+
+  abbrev pub without : Option T → Arena T → Key → Arena T
+  without None a key = a
+  without (Some x) a key = vacated a key
+
+  -- the arena without the value of this key, if it has one
+  abbrev pub removed : Arena T → Key → Arena T
+  removed a key = without (get a key) a key

@@ -1,0 +1,6 @@
+pub mod Arena
+pub mod Entry
+pub mod LendsItem
+pub mod LendsValue
+pub mod Row
+pub mod Seen

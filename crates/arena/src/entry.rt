@@ -1,0 +1,88 @@
+//! What a slot of an arena is in memory.
+ghost use Rattle.std.specs.Prelude.{◌≡◌, IsSome, Some, option_copied};
+ghost use Rattle.std.specs.Borrow.{Lends, sem};
+ghost use Rattle.arena.specs.Arena.{IsFree, value_of, generation_of, generation_in};
+ghost use Rattle.arena.specs.Entry.{slot_of, held_by, next_of, occupied_by};
+
+use crate::Generation;
+use std::mem;
+
+/// A slot: as [`crate::Slot`], but a free one also names the free slot that is used after it.
+#[derive(Drop)]
+pub(crate) enum Entry<T> {
+    Free(Generation, u32),
+    Occupied(Generation, T),
+    Retired,
+}
+
+impl<T> Entry<T> {
+    ghost use Rattle.arena.specs.contracts.entry.Entry.{the_row};
+
+    /// The value, if there is one and it has this generation.
+    pub(crate) fn value(&self, generation: Generation) -> Option<&T>
+        ensures { option_copied result ≡ value_of (slot_of self.now) generation }
+    {
+        match self {
+            Entry::Occupied(own, value) => {
+                if *own == generation {
+                    Some(value)
+                } else {
+                    None
+                }
+            }
+            _ => None,
+        }
+    }
+
+    /// The generation of the value, if there is one.
+    pub(crate) fn generation(&self) -> Option<Generation>
+        ensures { result ≡ generation_in (slot_of self.now) }
+    {
+        match self {
+            Entry::Occupied(generation, _) => Some(*generation),
+            _ => None,
+        }
+    }
+
+    /// The value for writing.
+    pub(crate) fn value_mut(&mut self) -> &mut T
+        requires { IsSome (held_by self.old) }
+        ensures* writes_back { sem 𝓛 (Lends (the_row T.row) T.row self.entry result (λ x. occupied_by self.old x)) }
+        ensures value { self.old ≡ occupied_by self.old result.now }
+    {
+        match self {
+            Entry::Occupied(_, value) => value,
+            _ => unreachable!(),
+        }
+    }
+
+    /// The value.
+    pub(crate) fn into_value(self) -> T
+        requires { IsSome (held_by self) }
+        ensures { held_by self ≡ Some result }
+    {
+        match self {
+            Entry::Occupied(_, value) => value,
+            _ => unreachable!(),
+        }
+    }
+
+    /// Puts a value into a free slot, under the generation that the slot has for it. It gives that
+    /// generation, and the free slot that was named.
+    pub(crate) fn occupy(&mut self, value: T) -> (Generation, u32)
+        requires { IsFree (slot_of self.old) }
+        ensures generation { result.0 ≡ generation_of (slot_of self.old) }
+        ensures next { result.1 ≡ next_of self.old }
+        ensures done { self.new ≡ Entry.Occupied (generation_of (slot_of self.old)) value }
+    {
+        let (generation, next) = match self {
+            Entry::Free(generation, next) => (*generation, *next),
+            _ => unreachable!(),
+        };
+        match mem::replace(self, Entry::Occupied(generation, value)) {
+            Entry::Free(_, _) => {}
+            _ => unreachable!(),
+        }
+        (generation, next)
+    }
+}

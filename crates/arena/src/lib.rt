@@ -1,0 +1,257 @@
+//! Values under keys that are never given out twice.
+//!
+//! An [`Arena`] keeps values of one type in numbered slots. A slot whose value was removed is used
+//! again, under the next generation, so a key that names an older generation finds nothing.
+#![tactic(auto)]
+
+ghost use Rattle.std.specs.Prelude.{◌≡◌, ◌<◌, ◌==◌, [], length, IsSome, IsOk, OnOk, OnErr, IfOk, IfErr, Some, option_copied};
+ghost use Rattle.std.specs.Option.{option_copied_mut};
+ghost use Rattle.std.specs.Borrow.{sem};
+ghost use Rattle.arena.specs.Arena.{IsSound, IsFaultOf, get, key_at, next_key, inserted, removed, vacated, occupied_count};
+
+mod entry;
+mod store;
+#[cfg(test)]
+mod tests;
+
+use crate::entry::Entry;
+use crate::store::Store;
+use std::alloc::Global;
+use std::marker::Model;
+use std::mem;
+
+/// Counts the values that a slot has had, from [`FIRST_GENERATION`] on.
+pub type Generation = u32;
+
+/// The greatest generation. A slot whose value of this generation is removed is retired: it is never
+/// used again.
+pub const GREATEST_GENERATION: Generation = 4_294_967_295;
+
+/// The generation of the first value of a slot.
+pub const FIRST_GENERATION: Generation = 1;
+
+/// The name of one value of an arena: its slot, and which of the slot's values it is.
+#[derive(Clone, Copy, Debug, PartialEq, Eq)]
+pub struct Key {
+    pub slot: u32,
+    pub generation: Generation,
+}
+
+/// What a slot of an arena holds.
+#[derive(Drop)]
+pub enum Slot<T> {
+    /// No value; the next one will have this generation.
+    Free(Generation),
+    /// A value, and its generation.
+    Occupied(Generation, T),
+    /// No value, ever again.
+    Retired,
+}
+
+/// Why an arena took no value.
+#[derive(Clone, Copy, Debug, PartialEq, Eq)]
+pub enum Fault {
+    /// As many slots as the limit allows were used, and none of them is free.
+    Full,
+    /// There was no memory for one slot more.
+    Memory,
+}
+
+/// Values of one type, each under a [`Key`] that the arena picks, in at most as many slots as its
+/// limit says.
+///
+/// A slot is fresh until its first value comes, and free once its value was removed. The free slots
+/// are linked through themselves, so to remove a value takes no memory.
+#[derive(Drop)]
+pub struct Arena<T> {
+    entries: Store<Entry<T>>,
+    // The slot that is used next, where `vacant` is not 0.
+    first: u32,
+    // How many slots are free.
+    vacant: u32,
+    // How many slots are occupied.
+    len: u32,
+}
+
+impl<T> Model for Arena<T> {
+    ghost use Rattle.arena.specs.Arena.{Arena as Plain};
+
+    ghost Value = { Plain T };
+
+    ghost use Rattle.arena.specs.Entry.{arena_of, IsLinked};
+
+    ghost view = { λ a. arena_of a.entries.items a.first a.vacant a.entries.capacity };
+
+    ghost invariant = { λ a. IsLinked a.entries.items a.first a.vacant a.len a.entries.capacity };
+}
+
+impl<T> Arena<T> {
+    ghost use Rattle.arena.specs.LendsValue.{lends_value, lends_occupied};
+
+    /// An arena with no value that will use at most `limit` slots. It takes no memory yet.
+    pub fn with_limit(alloc: Global, limit: u32) -> Self
+        ensures { result ≡ record { slots = []; free = []; limit = limit } }
+    {
+        Arena {
+            entries: Store::new(alloc, limit as usize),
+            first: 0,
+            vacant: 0,
+            len: 0,
+        }
+    }
+
+    /// How many slots have ever been used: the number of the next fresh slot.
+    pub fn high(&self) -> u32
+        ensures { result ≡ length self.now.slots }
+    {
+        self.entries.len() as u32
+    }
+
+    /// How many values the arena holds.
+    pub fn len(&self) -> u32
+        ensures { result ≡ occupied_count self.now }
+    {
+        self.len
+    }
+
+    /// Whether the arena holds no value.
+    pub fn is_empty(&self) -> bool
+        ensures { result ≡ (occupied_count self.now == 0) }
+    {
+        self.len == 0
+    }
+
+    /// What holds of every arena, for a caller's proof. It does nothing.
+    pub fn sound(&self)
+        ensures { IsSound self.now }
+    {
+        let _ = &self.first;
+    }
+
+    /// The value under `key`, if it is still there.
+    pub fn get(&self, key: Key) -> Option<&T>
+        ensures { option_copied result ≡ get self.now key }
+    {
+        let slot = key.slot as usize;
+        if slot >= self.entries.len() {
+            return None;
+        }
+        self.entries.get(slot).value(key.generation)
+    }
+
+    /// The value under `key` for writing, if it is still there.
+    pub fn get_mut(&mut self, key: Key) -> Option<&mut T>
+        ensures* writes_back { sem 𝓛 (lends_value T.row self.entry key result) }
+        ensures value { option_copied_mut result ≡ get self.old key }
+    {
+        if self.get(key).is_some() {
+            Some(self.value_mut(key))
+        } else {
+            None
+        }
+    }
+
+    /// The key of the value that now stands in `slot`, if one does.
+    pub fn key_at(&self, slot: u32) -> Option<Key>
+        ensures { result ≡ key_at self.now slot }
+    {
+        if slot as usize >= self.entries.len() {
+            return None;
+        }
+        match self.entries.get(slot as usize).generation() {
+            Some(generation) => Some(Key { slot, generation }),
+            None => None,
+        }
+    }
+
+    /// Stores `value`, and gives its key: the slot that was freed last, under its next generation, or
+    /// else the next fresh slot, under [`FIRST_GENERATION`].
+    ///
+    /// It answers [`Fault::Full`] where there is no free slot and no fresh one, and [`Fault::Memory`]
+    /// where a fresh slot needs memory and there is none. `value` then comes back, and the arena is as
+    /// it was. While a slot is free it takes no memory and never fails.
+    pub fn insert(&mut self, value: T) -> Result<Key, (T, Fault)>
+        ensures key { IfOk result (λ key. key ≡ next_key self.old) }
+        ensures done { OnOk result (self.new ≡ inserted self.old value) }
+
+        ensures back { IfErr result (λ e. e.0 ≡ value) }
+        ensures unchanged { OnErr result (self.new ≡ self.old) }
+        ensures full { IfErr result (λ e. IsFaultOf self.old e.1) }
+        ensures reuses { 0 < length self.old.free → IsOk result }
+    {
+        if self.vacant > 0 {
+            return Ok(self.reuse(value));
+        }
+        let high = self.entries.len();
+        if high >= self.entries.capacity() {
+            return Err((value, Fault::Full));
+        }
+        match self.entries.push(Entry::Occupied(FIRST_GENERATION, value)) {
+            Ok(()) => {
+                self.len += 1;
+                Ok(Key {
+                    slot: high as u32,
+                    generation: FIRST_GENERATION,
+                })
+            }
+            Err(entry) => Err((entry.into_value(), Fault::Memory)),
+        }
+    }
+
+    /// Takes the value under `key` out, if it is still there, and takes no memory to do so.
+    ///
+    /// Its slot is then the next to be used, under the next generation. A slot of
+    /// [`GREATEST_GENERATION`] is retired.
+    pub fn remove(&mut self, key: Key) -> Option<T>
+        ensures value { result ≡ get self.old key }
+        ensures done { self.new ≡ removed self.old key }
+    {
+        if self.get(key).is_some() {
+            Some(self.take(key))
+        } else {
+            None
+        }
+    }
+
+    // Stores a value in the free slot that is used next.
+    fn reuse(&mut self, value: T) -> Key
+        requires { 0 < length self.old.free }
+        ensures key { result ≡ next_key self.old }
+        ensures done { self.new ≡ inserted self.old value }
+    {
+        let slot = self.first;
+        let (generation, next) = self.entries.get_mut(slot as usize).occupy(value);
+        self.first = next;
+        self.vacant -= 1;
+        self.len += 1;
+        Key { slot, generation }
+    }
+
+    // Takes out a value that is there.
+    fn take(&mut self, key: Key) -> T
+        requires { IsSome (get self.old key) }
+        ensures value { get self.old key ≡ Some result }
+        ensures done { self.new ≡ vacated self.old key }
+    {
+        let entry = self.entries.get_mut(key.slot as usize);
+        self.len -= 1;
+        if key.generation == GREATEST_GENERATION {
+            return mem::replace(entry, Entry::Retired).into_value();
+        }
+        let freed = Entry::Free(key.generation + 1, self.first);
+        let value = mem::replace(entry, freed).into_value();
+        self.first = key.slot;
+        self.vacant += 1;
+        value
+    }
+
+    // A value that is there, for writing.
+    fn value_mut(&mut self, key: Key) -> &mut T
+        requires { IsSome (get self.old key) }
+        ensures* writes_back { sem 𝓛 (lends_occupied T.row self.entry key result) }
+        ensures value { get self.old key ≡ Some result.now }
+    {
+        let entry = self.entries.get_mut(key.slot as usize);
+        entry.value_mut()
+    }
+}

@@ -1,0 +1,23 @@
+-- What a contract sees of a `Heap`.
+use Rattle.std.specs.Prelude.{ℕ, Bool, true, false, ◌==◌}
+use Rattle.model.specs.State.{Slot, Free, Occupied, Retired, Heap, slot_at}
+
+-- the heap as plain data, and how many slots there may be
+pub record HeapView : Type 0 where
+  pub heap : Heap
+  pub limit : ℕ
+
+abbrev pub is_occupied : Slot → Bool
+is_occupied (Free g) = false
+is_occupied (Occupied g o) = true
+is_occupied Retired = false
+
+-- the slot has an object of this generation
+abbrev pub has_generation : Slot → ℕ → Bool
+has_generation (Free g) generation = false
+has_generation (Occupied g o) generation = g == generation
+has_generation Retired generation = false
+
+-- the object of a slot and a generation is still there
+abbrev pub is_live : Heap → ℕ → ℕ → Bool
+is_live h slot generation = has_generation (slot_at h slot) generation

@@ -1,0 +1,33 @@
+-- How a `Heap` is stored. No public clause cites this module.
+use Rattle.std.specs.Prelude.{ℕ, ◌≤◌, List, map, Option}
+use Rattle.ids.specs.declared.limits.TheConstants.{GREATEST_SLOTS}
+use Rattle.ids.specs.declared.names.Ref.{Ref}
+use Rattle.arena.specs.Arena.{Arena}
+use Rattle.arena.specs.declared.Slot.{Slot}
+use Rattle.arena.specs.declared.Slot.TheVariants as stored
+use Rattle.model.specs.declared.event.Letter.{Letter}
+use Rattle.model.specs.State.{Object, Free, Occupied, Retired, Heap}
+use Rattle.model.specs.State as state
+use Rattle.heap.specs.Heap.{HeapView}
+use Rattle.heap.specs.declared.Heap.TheInside.{Inside}
+
+abbrev pub slot_of : Slot Object → state.Slot
+slot_of (stored.Free g) = Free g
+slot_of (stored.Occupied g o) = Occupied g o
+slot_of stored.Retired = Retired
+
+-- the heap of these parts
+abbrev pub heap_of : Arena Object → List (Option Ref) → List Letter → List ℕ → Heap
+heap_of a registers letters grey =
+    record { slots = map slot_of a.slots; free = a.free; registers = registers; letters = letters; grey = grey }
+
+abbrev pub view_of : Inside → HeapView
+view_of h =
+    record {
+      heap = heap_of h.objects h.registers.items h.letters.items h.grey.items;
+      limit = h.objects.limit;
+    }
+
+-- how many slots there may be is within the limits
+pub record IsHeap (h : Inside) : Type 0 where
+  pub limit : h.objects.limit ≤ GREATEST_SLOTS

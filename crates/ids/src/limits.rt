@@ -1,0 +1,35 @@
+/// The least number of nodes in a space.
+pub const LEAST_NODES: u8 = 2;
+
+/// The greatest number of nodes in a space; a node's number is below it.
+pub const GREATEST_NODES: u8 = 16;
+
+/// The greatest number of registers of a node; the least is 1.
+pub const GREATEST_REGISTERS: u16 = 256;
+
+/// The greatest number of slots of a node; the least is 1.
+pub const GREATEST_SLOTS: u32 = 1_048_576;
+
+/// The greatest number of places of an object; they are numbered from 0.
+pub const GREATEST_PLACES: u8 = 8;
+
+/// Counts how often a slot was given out: 1 for its first object.
+pub type Generation = u32;
+
+/// The greatest generation. A slot is retired when its object of this generation is freed.
+pub const GREATEST_GENERATION: Generation = 4_294_967_295;
+
+/// The greatest number of a message on a link, 2^48; the first is 1.
+pub const GREATEST_NUMBER: u64 = 281_474_976_710_656;
+
+/// The greatest number of a collection cycle, 2^48; 0 stands for "none yet".
+pub const GREATEST_CYCLE: u64 = 281_474_976_710_656;
+
+/// How many messages of a link may be on their way without an acknowledgement.
+pub const WINDOW: u8 = 32;
+
+/// The greatest size of a saved node, in bytes.
+pub const GREATEST_IMAGE: u64 = 67_108_864;
+
+/// How many events a trace keeps.
+pub const TRACE_EVENTS: usize = 64;

@@ -1,0 +1,140 @@
+ghost use Rattle.std.specs.Prelude.{◌≡◌};
+ghost use Rattle.ids.specs.Refusals.{name_of, number_of};
+ghost use Rattle.ids.specs.declared.refusal.Refusal.TheVariants.{Memory};
+
+use std::alloc::{AllocError, AllocFailed};
+
+/// Why a call was refused. A refused call leaves what it was called on as it was.
+#[derive(Clone, Copy, Debug, PartialEq, Eq)]
+pub enum Refusal {
+    /// Memory was wanted and refused.
+    Memory,
+    /// The node has no free slot and no fresh one.
+    ArenaFull,
+    /// There is no register of that number.
+    NoRegister,
+    /// The register that is read is empty.
+    EmptyRegister,
+    /// The object is on another node.
+    Remote,
+    /// The object is on this node.
+    Local,
+    /// There is no node of that number.
+    NoNode,
+    /// No letter is there.
+    NoLetter,
+    /// The object has no such place, or is not live.
+    NoField,
+    /// More places than an object may have.
+    TooManyFields,
+    /// A message to the node itself.
+    SelfSend,
+    /// The link has no number left for the message.
+    LinkSpent,
+    /// No cycle number is left.
+    CyclesSpent,
+    /// Only node 0 may do this.
+    NotDirector,
+    /// The last cycle is not swept and reported everywhere.
+    CycleRunning,
+    /// There is nothing for this step to do.
+    NothingToDo,
+    /// The message is not the next one.
+    OutOfOrder,
+    /// What is acknowledged was never released.
+    AckBeyond,
+    /// The bytes are no frame.
+    BadFrame,
+    /// The frame is not for this node, or not now.
+    WrongNode,
+    /// The bytes are no saved node.
+    BadImage,
+    /// The saved node would be too large.
+    ImageTooLarge,
+    /// The device failed.
+    Disk,
+    /// The device failed earlier, and was not opened again.
+    Closed,
+}
+
+impl Refusal {
+    /// The number that stands for the refusal in printed texts, 1 to 24.
+    pub fn number(self) -> u8
+        ensures { result ≡ number_of self }
+    {
+        match self {
+            Refusal::Memory => 1,
+            Refusal::ArenaFull => 2,
+            Refusal::NoRegister => 3,
+            Refusal::EmptyRegister => 4,
+            Refusal::Remote => 5,
+            Refusal::Local => 6,
+            Refusal::NoNode => 7,
+            Refusal::NoLetter => 8,
+            Refusal::NoField => 9,
+            Refusal::TooManyFields => 10,
+            Refusal::SelfSend => 11,
+            Refusal::LinkSpent => 12,
+            Refusal::CyclesSpent => 13,
+            Refusal::NotDirector => 14,
+            Refusal::CycleRunning => 15,
+            Refusal::NothingToDo => 16,
+            Refusal::OutOfOrder => 17,
+            Refusal::AckBeyond => 18,
+            Refusal::BadFrame => 19,
+            Refusal::WrongNode => 20,
+            Refusal::BadImage => 21,
+            Refusal::ImageTooLarge => 22,
+            Refusal::Disk => 23,
+            Refusal::Closed => 24,
+        }
+    }
+
+    /// The name that stands for the refusal in printed texts.
+    pub fn name(self) -> &'static str
+        ensures { result.now ≡ name_of self }
+    {
+        match self {
+            Refusal::Memory => "Memory",
+            Refusal::ArenaFull => "ArenaFull",
+            Refusal::NoRegister => "NoRegister",
+            Refusal::EmptyRegister => "EmptyRegister",
+            Refusal::Remote => "Remote",
+            Refusal::Local => "Local",
+            Refusal::NoNode => "NoNode",
+            Refusal::NoLetter => "NoLetter",
+            Refusal::NoField => "NoField",
+            Refusal::TooManyFields => "TooManyFields",
+            Refusal::SelfSend => "SelfSend",
+            Refusal::LinkSpent => "LinkSpent",
+            Refusal::CyclesSpent => "CyclesSpent",
+            Refusal::NotDirector => "NotDirector",
+            Refusal::CycleRunning => "CycleRunning",
+            Refusal::NothingToDo => "NothingToDo",
+            Refusal::OutOfOrder => "OutOfOrder",
+            Refusal::AckBeyond => "AckBeyond",
+            Refusal::BadFrame => "BadFrame",
+            Refusal::WrongNode => "WrongNode",
+            Refusal::BadImage => "BadImage",
+            Refusal::ImageTooLarge => "ImageTooLarge",
+            Refusal::Disk => "Disk",
+            Refusal::Closed => "Closed",
+        }
+    }
+}
+
+impl From<AllocError> for Refusal {
+    ghost from_gives = { λ _ e. e ≡ Memory };
+
+    fn from(_error: AllocError) -> Refusal {
+        Refusal::Memory
+    }
+}
+
+impl<T: Drop> From<AllocFailed<T>> for Refusal {
+    ghost from_gives = { λ _ e. e ≡ Memory };
+
+    fn from(_error: AllocFailed<T>) -> Refusal {
+        Refusal::Memory
+    }
+}

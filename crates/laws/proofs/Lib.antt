@@ -1,0 +1,13 @@
+pub mod Lookups
+pub mod StepFacts
+pub mod KeepsSent
+pub mod Cuts
+pub mod Invariant
+pub mod Facts
+pub mod Turns
+pub mod Kept
+pub mod OwnEvents
+pub mod Receipts
+pub mod PlainSteps
+pub mod New
+pub mod Live

@@ -1,0 +1,4 @@
+mod Rows
+pub mod Lookups
+pub mod Shown
+pub mod References

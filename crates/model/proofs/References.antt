@@ -1,0 +1,77 @@
+-- Each change of a heap keeps a property of all references that the heap holds.
+use Rattle.std.proofs.Common.{◌≡◌, ℕ, zero, suc, Bool, true, false, List, [], ◌∷◌, drop, replicate, get_or, Option, None, Ok, refl, sym, subst}
+use Rattle.ids.specs.declared.names.Ref.{Ref}
+use Rattle.ids.specs.declared.refusal.Refusal.{Refusal}
+use Rattle.model.specs.declared.event.Letter.{Letter}
+use Rattle.model.specs.Checks.{guarded, AllPass}
+use Rattle.model.specs.State.{Object, Slot, Occupied, Retired, Heap}
+use Rattle.model.specs.Heaps.{with_register, with_object, with_letter, letter_taken, oldest_letter, new_object, no_letter, next_generation, slots_with}
+use Rattle.model.specs.References.{IfAny, HoldsOnly}
+use Rattle.model.proofs.Lookups.{at_set, at_push}
+
+-- what passed every test is the value
+pub guarded-ok : {A : Type 0} (cs : List (Bool × Refusal)) (x y : A) → guarded cs x ≡ Ok y → x ≡ y
+guarded-ok [] x y h = cc
+guarded-ok ((true, r) ∷ cs) x y h = guarded-ok cs x y h
+guarded-ok ((false, r) ∷ cs) x y h = absurd cc
+
+pub guarded-passes : {A : Type 0} (cs : List (Bool × Refusal)) (x y : A) → guarded cs x ≡ Ok y → AllPass cs
+guarded-passes [] x y h = tt
+guarded-passes ((true, r) ∷ cs) x y h = (refl, guarded-passes cs x y h)
+guarded-passes ((false, r) ∷ cs) x y h = absurd cc
+
+pub holds-with_register : (P : Ref → Type 0) (h : Heap) (k : ℕ) (r : Option Ref) → HoldsOnly P h → IfAny P r → HoldsOnly P (with_register h k r)
+holds-with_register P h k r all here = record {
+  registers = λ i. at_set (IfAny P) h.registers k i r None here (all.registers i);
+  letters = all.letters;
+  places = all.places;
+}
+
+empty_place : (P : Ref → Type 0) (n j : ℕ) → IfAny P (get_or (replicate n None) j None)
+empty_place P zero j = tt
+empty_place P (suc n) zero = tt
+empty_place P (suc n) (suc j) = empty_place P n j
+
+-- every object of the slot, if it has one, holds only such references
+abbrev SlotHolds : (P : Ref → Type 0) → Slot → Type 0
+SlotHolds P s = (g : ℕ) (o : Object) (j : ℕ) → s ≡ Occupied g o → IfAny P (get_or o.places j None)
+
+new_slot : (P : Ref → Type 0) (generation cycle places : ℕ) → SlotHolds P (Occupied generation (new_object cycle places))
+new_slot P generation cycle places g o j e =
+    let same : new_object cycle places ≡ o = cc in
+    subst (λ (z : Object). IfAny P (get_or z.places j None)) same (empty_place P places j)
+
+retired_slot : (P : Ref → Type 0) → SlotHolds P Retired
+retired_slot P g o j e = absurd cc
+
+places-slots_with : (P : Ref → Type 0) (free : List ℕ) (slots : List Slot) (cycle places : ℕ) (k : ℕ) → SlotHolds P (get_or slots k Retired) → SlotHolds P (get_or (slots_with free slots (new_object cycle places)) k Retired)
+places-slots_with P [] slots cycle places k h =
+    at_push (SlotHolds P) slots k (Occupied 1 (new_object cycle places)) Retired (new_slot P 1 cycle places) (retired_slot P) h
+places-slots_with P (i ∷ free) slots cycle places k h =
+    at_set (SlotHolds P) slots i k (Occupied (next_generation (get_or slots i Retired)) (new_object cycle places)) Retired (new_slot P _ cycle places) h
+
+pub holds-with_object : (P : Ref → Type 0) (h : Heap) (cycle places : ℕ) → HoldsOnly P h → HoldsOnly P (with_object h (new_object cycle places))
+holds-with_object P h cycle places all = record {
+  registers = all.registers;
+  letters = all.letters;
+  places = λ k g o j e. places-slots_with P h.free h.slots cycle places k (λ g o j. all.places k g o j) g o j e;
+}
+
+get_or-drop_one : {A : Type 0} (xs : List A) (k : ℕ) (d : A) → get_or (drop 1 xs) k d ≡ get_or xs (suc k) d
+get_or-drop_one [] k d = refl
+get_or-drop_one (x ∷ xs) k d = refl
+
+pub holds-letter_taken : (P : Ref → Type 0) (h : Heap) (register : ℕ) → HoldsOnly P h → HoldsOnly P (letter_taken h register)
+holds-letter_taken P h register all =
+    holds-with_register P (record h { letters = drop 1 h.letters }) register (oldest_letter h).reference (record {
+      registers = all.registers;
+      letters = λ k. subst (λ (z : Letter). IfAny P z.reference) (sym (get_or-drop_one h.letters k no_letter)) (all.letters (suc k));
+      places = all.places;
+    }) (all.letters 0)
+
+pub holds-with_letter : (P : Ref → Type 0) (h : Heap) (l : Letter) → HoldsOnly P h → IfAny P l.reference → HoldsOnly P (with_letter h l)
+holds-with_letter P h l all here = record {
+  registers = all.registers;
+  letters = λ k. at_push (λ (z : Letter). IfAny P z.reference) h.letters k l no_letter here tt (all.letters k);
+  places = all.places;
+}

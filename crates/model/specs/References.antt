@@ -1,0 +1,38 @@
+-- Where references stand, and what it means that all of them have some property ("Well-formed nodes" in
+-- docs/RULES.md).
+use Rattle.std.specs.Prelude.{◌≡◌, ℕ, ◌<◌, ◌≤◌, Option, Some, None, slice_index_or}
+use Rattle.std.specs.List.{AllByRecursion}
+use Rattle.ids.specs.Limits.{Shaped}
+use Rattle.ids.specs.declared.names.Ref.{Ref}
+use Rattle.ids.specs.declared.limits.TheConstants.{GREATEST_CYCLE}
+use Rattle.msg.specs.declared.body.Body.TheVariants as body
+use Rattle.msg.specs.declared.body.Message.{Message}
+use Rattle.model.specs.State.{Object, Occupied, Heap, register_at, slot_at}
+use Rattle.model.specs.Heaps.{no_letter}
+use Rattle.model.specs.Steps.{carried}
+
+-- where there is a reference, it has the property
+abbrev pub IfAny : (P : Ref → Type 0) → Option Ref → Type 0
+IfAny P None = Unit {0}
+IfAny P (Some r) = P r
+
+-- every reference that the heap holds has the property
+pub record HoldsOnly (P : Ref → Type 0) (h : Heap) : Type 0 where
+  pub registers : (k : ℕ) → IfAny P (register_at h k)
+  pub letters : (k : ℕ) → IfAny P (slice_index_or h.letters k no_letter).reference
+  pub places : (k g : ℕ) (o : Object) (j : ℕ) → slot_at h k ≡ Occupied g o → IfAny P (slice_index_or o.places j None)
+
+-- a reference that the shape has room for
+pub record IsWithin (shape : Shaped) (r : Ref) : Type 0 where
+  pub node : r.node < shape.nodes
+  pub slot : r.slot < shape.slots
+  pub generation : 1 ≤ r.generation
+
+-- the message that stands past the end of a list of messages
+abbrev pub no_message : Message
+no_message = record { stamp = 0; body = body.Give 0 None }
+
+-- a message whose stamp is a cycle, and whose references the shape has room for
+pub record IsSendable (shape : Shaped) (x : Message) : Type 0 where
+  pub stamp : x.stamp ≤ GREATEST_CYCLE
+  pub references : AllByRecursion (IsWithin shape) (carried x.body)

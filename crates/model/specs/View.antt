@@ -1,0 +1,101 @@
+-- How a node that keeps only windows of what it sent shows a node's state.
+use Rattle.std.specs.Prelude.{◌≡◌, ℕ, ◌+◌, ◌-◌, ◌≤◌, Bool, cond, nat_lt, nat_le, not, ◌==◌, ◌&&◌, List, [], ◌∷◌, ◌++◌, length, map, drop, replicate, Option, None, Result, Ok, Err, slice_index_or, slice_get, slice_set}
+use Rattle.ids.specs.Limits.{Shaped}
+use Rattle.ids.specs.declared.limits.TheConstants.{WINDOW}
+use Rattle.ids.specs.declared.refusal.Refusal.{Refusal}
+use Rattle.msg.specs.declared.body.Message.{Message}
+use Rattle.model.specs.declared.event.Event.{Event}
+use Rattle.model.specs.declared.event.Answer.{Answer}
+use Rattle.model.specs.Checks.{IsFirstRefusal}
+use Rattle.model.specs.State.{Part, NodeState, new_part}
+use Rattle.model.specs.Steps.{Effect, effect}
+
+-- What a node keeps of the messages to another node: the highest number that was acknowledged, the
+-- messages after it, and how many of all its messages a saved node holds.
+pub record Link : Type 0 where
+  pub base : ℕ
+  pub window : List Message
+  pub kept : ℕ
+
+-- a node as it stands
+pub record NodeView : Type 0 where
+  pub part : Part
+  pub links : List Link
+
+abbrev pub no_link : Link
+no_link = record { base = 0; window = []; kept = 0 }
+
+abbrev pub link_to : NodeView → ℕ → Link
+link_to n i = slice_index_or n.links i no_link
+
+-- how many messages were ever appended
+abbrev pub used : Link → ℕ
+used l = l.base + length l.window
+
+-- what neither an event nor counting as saved moves
+abbrev pub base_of : Link → ℕ
+base_of l = l.base
+
+-- what an event leaves
+abbrev pub kept_of : Link → ℕ
+kept_of l = l.kept
+
+abbrev pub appended : Link → Message → Link
+appended l x = record l { window = l.window ++ x ∷ [] }
+
+abbrev pub append_to : List Link → List (ℕ × Message) → List Link
+append_to links [] = links
+append_to links (m ∷ ms) = append_to (slice_set links m.0 (appended (slice_index_or links m.0 no_link) m.1)) ms
+
+abbrev pub view_after : NodeView → Result Effect Refusal → Result (NodeView × Answer) Refusal
+view_after n (Ok x) = Ok (record { part = x.part; links = append_to n.links x.sends }, x.answer)
+view_after n (Err e) = Err e
+
+-- an event of the node as it stands
+unfoldable pub view_act : NodeView → Event → Result (NodeView × Answer) Refusal
+view_act n e = view_after n (effect n.part (map used n.links) e)
+
+-- all messages count as saved
+abbrev pub all_kept : Link → Link
+all_kept l = record l { kept = used l }
+
+abbrev pub kept_view : NodeView → NodeView
+kept_view n = record n { links = map all_kept n.links }
+
+-- a new node
+abbrev pub new_view : Shaped → ℕ → NodeView
+new_view shape own = record { part = new_part shape own; links = replicate shape.nodes no_link }
+
+-- another node of the shape
+abbrev pub is_other : Part → ℕ → Bool
+is_other p i = nat_lt i p.shape.nodes && not (i == p.own)
+
+-- the message of a number, while the node still keeps it
+abbrev pub message_of : Link → ℕ → Option Message
+message_of l number = cond (nat_le number l.base) None (slice_get l.window (number - l.base - 1))
+
+-- the link's message in a place of its window, where a saved node holds that message
+abbrev pub released_at : Link → ℕ → Option Message
+released_at l place = cond (nat_lt place WINDOW && nat_lt (l.base + place) l.kept) (slice_get l.window place) None
+
+-- what one link keeps of all that was sent on it
+pub record ShowsSent (l : Link) (sent : List Message) : Type 0 where
+  pub within : l.base ≤ length sent
+  pub window : l.window ≡ drop l.base sent
+
+-- the node as it stands shows the state
+pub record Shows (n : NodeView) (s : NodeState) : Type 0 where
+  pub part : n.part ≡ s.part
+  pub width : length n.links ≡ length s.sent
+  pub links : (i : ℕ) → ShowsSent (slice_index_or n.links i no_link) (slice_index_or s.sent i [])
+
+-- What a call answered, and the node after it, against the event on the state: an answer is the event's,
+-- and the node then shows the event's state; a refusal is the first that applies.
+abbrev pub Follows : Result Answer Refusal → NodeView → Result (NodeState × Answer) Refusal → Type 0
+Follows (Ok a) new stepped = (s : NodeState) × (stepped ≡ Ok (s, a)) × Shows new s
+Follows (Err e) new stepped = IsFirstRefusal e stepped
+
+-- the same against the event on the node as it stood
+abbrev pub Performs : Result Answer Refusal → NodeView → Result (NodeView × Answer) Refusal → Type 0
+Performs (Ok a) new stepped = stepped ≡ Ok (new, a)
+Performs (Err e) new stepped = IsFirstRefusal e stepped

@@ -1,0 +1,87 @@
+-- A space of nodes: for each its present state and the one last saved ("A space" in docs/RULES.md).
+use Rattle.std.specs.Prelude.{◌++◌, ◌≡◌, ℕ, ◌-◌, Bool, true, cond, nat_lt, ◌==◌, ◌&&◌, List, [], ◌∷◌, length, map, Option, Some, None, Result, Ok, Err, slice_get, slice_set}
+use Rattle.std.specs.List.{range_with_len}
+use Rattle.ids.specs.Limits.{Shaped}
+use Rattle.ids.specs.declared.refusal.Refusal.{Refusal}
+use Rattle.ids.specs.declared.refusal.Refusal.TheVariants.{NoNode, WrongNode}
+use Rattle.msg.specs.declared.body.Message.{Message}
+use Rattle.model.specs.declared.event.Answer.{Answer}
+use Rattle.model.specs.declared.step.Step.{Step}
+use Rattle.model.specs.declared.step.Step.TheVariants as step
+use Rattle.model.specs.declared.step.Outcome.{Outcome}
+use Rattle.model.specs.declared.step.Outcome.TheVariants as outcome
+use Rattle.model.specs.State.{NodeState, new_node, node_at, sent_to}
+use Rattle.model.specs.Steps.{act, receive, is_own}
+
+pub record World : Type 0 where
+  pub current : List NodeState
+  pub saved : List NodeState
+
+abbrev pub new_nodes : Shaped → List NodeState
+new_nodes shape = map (new_node shape) (range_with_len 0 shape.nodes)
+
+abbrev pub new_world : Shaped → World
+new_world shape = record { current = new_nodes shape; saved = new_nodes shape }
+
+-- the message of a number among those sent, which are numbered from 1
+abbrev pub numbered : List Message → ℕ → Option Message
+numbered sent number = cond (nat_lt 0 number) (slice_get sent (number - 1)) None
+
+-- A message to another node is released once a saved state of its sender holds it. Saved lists only ever
+-- grow longer, so what was released stays so.
+abbrev pub released : World → ℕ → ℕ → ℕ → Option Message
+released w from to number = cond (from == to) None (numbered (sent_to (node_at w.saved from) to) number)
+
+-- the node's present state and answer afterwards
+abbrev pub moved : World → ℕ → Result (NodeState × Answer) Refusal → Result (World × Outcome) Refusal
+moved w i (Ok x) = Ok (record w { current = slice_set w.current i x.0 }, outcome.Answer x.1)
+moved w i (Err e) = Err e
+
+abbrev pub handed_over : World → ℕ → ℕ → ℕ → Option Message → Result (World × Outcome) Refusal
+handed_over w from to number None = Ok (w, outcome.NoFrame)
+handed_over w from to number (Some x) = moved w to (receive (node_at w.current to) from to number x.stamp x.body)
+
+abbrev pub is_node : World → ℕ → Bool
+is_node w i = nat_lt i (length w.current)
+
+-- a step of the space: the space afterwards and what became of the step, or its refusal
+unfoldable pub take_step : World → Step → Result (World × Outcome) Refusal
+take_step w (step.Act i e) = cond (is_node w i) (cond (is_own e) (moved w i (act (node_at w.current i) e)) (Err WrongNode)) (Err NoNode)
+take_step w (step.Save i) = cond (is_node w i) (Ok (record w { saved = slice_set w.saved i (node_at w.current i) }, outcome.Done)) (Err NoNode)
+take_step w (step.Restart i) = cond (is_node w i) (Ok (record w { current = slice_set w.current i (node_at w.saved i) }, outcome.Done)) (Err NoNode)
+take_step w (step.Deliver from to number) =
+    cond (is_node w from && is_node w to) (handed_over w from to number (released w from to number)) (Err NoNode)
+
+abbrev pub world_after : World → Result (World × Outcome) Refusal → World
+world_after w (Ok x) = x.0
+world_after w (Err e) = w
+
+-- a refused step leaves the space as it was
+abbrev pub happens : World → Step → World
+happens w s = world_after w (take_step w s)
+
+-- the space after a list of steps
+abbrev pub run : World → List Step → World
+run w [] = w
+run w (s ∷ ss) = run (happens w s) ss
+
+abbrev pub outcome_of : Result (World × Outcome) Refusal → Result Outcome Refusal
+outcome_of (Ok x) = Ok x.1
+outcome_of (Err e) = Err e
+
+-- what became of each step of a list
+abbrev pub outcomes : World → List Step → List (Result Outcome Refusal)
+outcomes w [] = []
+outcomes w (s ∷ ss) = outcome_of (take_step w s) ∷ outcomes (happens w s) ss
+
+-- what a node's saved state sent, its present state sent too, and perhaps more after it
+pub record KeepsSent (w : World) : Type 0 where
+  pub width : length w.saved ≡ length w.current
+  pub sent : (i j : ℕ) → (more : List Message) × (sent_to (node_at w.current i) j ≡ sent_to (node_at w.saved i) j ++ more)
+
+-- a step whose event is no message from another node
+abbrev pub is_own_step : Step → Bool
+is_own_step (step.Act i e) = is_own e
+is_own_step (step.Save i) = true
+is_own_step (step.Restart i) = true
+is_own_step (step.Deliver from to number) = true

@@ -1,0 +1,25 @@
+use crate::event::{Answer, Event};
+
+/// One step of a space of nodes in one thread.
+#[derive(Clone, Copy, Debug, PartialEq, Eq)]
+pub enum Step {
+    /// An event of the node, which is no message from another node.
+    Act(u8, Event),
+    /// The node's present state becomes its saved one.
+    Save(u8),
+    /// The node's saved state becomes its present one.
+    Restart(u8),
+    /// The message of this number, if it was ever released, is given to its receiver.
+    Deliver { from: u8, to: u8, number: u64 },
+}
+
+/// What became of a step that was not refused.
+#[derive(Clone, Copy, Debug, PartialEq, Eq)]
+pub enum Outcome {
+    /// What the node answered.
+    Answer(Answer),
+    /// The node was saved, or restarted.
+    Done,
+    /// No such message was ever released.
+    NoFrame,
+}

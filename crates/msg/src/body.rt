@@ -1,0 +1,31 @@
+use ids::Ref;
+
+/// The colour of a node or of the token, as in EWD998: a white token that meets white nodes alone may
+/// say that marking has ended.
+#[derive(Clone, Copy, Debug, PartialEq, Eq)]
+pub enum Colour {
+    White,
+    Black,
+}
+
+/// The token that goes round the ring: its colour, and the sum of the balances that it has met.
+#[derive(Clone, Copy, Debug, PartialEq, Eq)]
+pub struct Token {
+    pub colour: Colour,
+    pub q: i64,
+}
+
+/// What a message says.
+#[derive(Clone, Copy, Debug, PartialEq, Eq)]
+pub enum Body {
+    /// A letter to the receiver's program: a label, and a reference where one is sent.
+    Give { label: u32, reference: Option<Ref> },
+}
+
+/// A message as its sender keeps it: the sender's cycle when it was appended, and what it says. Its
+/// number is its place among all messages of its link, counted from 1.
+#[derive(Clone, Copy, Debug, PartialEq, Eq)]
+pub struct Message {
+    pub stamp: u64,
+    pub body: Body,
+}

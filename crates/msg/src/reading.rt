@@ -1,0 +1,141 @@
+ghost use Rattle.std.specs.Prelude.{◌≡◌, IfOk, IfErr};
+ghost use Rattle.std.specs.Option.{option_map};
+ghost use Rattle.std.specs.Result.{IsOkAnd};
+ghost use Rattle.ids.specs.declared.refusal.Refusal.TheVariants.{BadFrame};
+ghost use Rattle.msg.specs.Grammar.{Plain, Fits, spelling};
+ghost use Rattle.msg.specs.Frames.{plain, plain_data};
+ghost use Rattle.msg.specs.Reading.{byte_at, number_at, reference_at, optional_at, give_at, body_at, data_at, frame_at, whole};
+
+use crate::body::Body;
+use crate::frame::{Data, Frame};
+use crate::tags::{ABSENT, DATA, GIVE, PRESENT};
+use byteorder::{BigEndian, ByteOrder};
+use ids::{Ref, Refusal};
+
+fn u8_at(bytes: &[u8]) -> Option<(u8, &[u8])>
+    ensures { byte_at bytes.now ≡ option_map (λ x. (x.0, x.1.now)) result }
+{
+    match bytes {
+        [byte, rest @ ..] => Some((*byte, rest)),
+        [] => None,
+    }
+}
+
+fn u32_at(bytes: &[u8]) -> Option<(u32, &[u8])>
+    ensures { number_at 4 bytes.now ≡ option_map (λ x. (x.0, x.1.now)) result }
+{
+    if bytes.len() < 4 {
+        return None;
+    }
+    Some((BigEndian::read_u32(bytes), &bytes[4..]))
+}
+
+fn u64_at(bytes: &[u8]) -> Option<(u64, &[u8])>
+    ensures { number_at 8 bytes.now ≡ option_map (λ x. (x.0, x.1.now)) result }
+{
+    if bytes.len() < 8 {
+        return None;
+    }
+    Some((BigEndian::read_u64(bytes), &bytes[8..]))
+}
+
+#[tactic(auto, unfolding(crate::specs::Reading::reference_at))]
+fn reference_at(bytes: &[u8]) -> Option<(Ref, &[u8])>
+    ensures { reference_at bytes.now ≡ option_map (λ x. (x.0, x.1.now)) result }
+{
+    let (node, rest) = u8_at(bytes)?;
+    let (slot, rest) = u32_at(rest)?;
+    let (generation, rest) = u32_at(rest)?;
+    let reference = Ref {
+        node,
+        slot,
+        generation,
+    };
+    Some((reference, rest))
+}
+
+#[tactic(auto, unfolding(crate::specs::Reading::optional_at))]
+fn optional_at(bytes: &[u8]) -> Option<(Option<Ref>, &[u8])>
+    ensures { optional_at bytes.now ≡ option_map (λ x. (x.0, x.1.now)) result }
+{
+    let (flag, rest) = u8_at(bytes)?;
+    match flag {
+        ABSENT => Some((None, rest)),
+        PRESENT => {
+            let (reference, rest) = reference_at(rest)?;
+            Some((Some(reference), rest))
+        }
+        _ => None,
+    }
+}
+
+#[tactic(auto, unfolding(crate::specs::Reading::give_at))]
+fn give_at(bytes: &[u8]) -> Option<(Body, &[u8])>
+    ensures { give_at bytes.now ≡ option_map (λ x. (x.0, x.1.now)) result }
+{
+    let (label, rest) = u32_at(bytes)?;
+    let (reference, rest) = optional_at(rest)?;
+    Some((Body::Give { label, reference }, rest))
+}
+
+#[tactic(auto, unfolding(crate::specs::Reading::body_at))]
+fn body_at(bytes: &[u8]) -> Option<(Body, &[u8])>
+    ensures { body_at bytes.now ≡ option_map (λ x. (x.0, x.1.now)) result }
+{
+    let (tag, rest) = u8_at(bytes)?;
+    match tag {
+        GIVE => give_at(rest),
+        _ => None,
+    }
+}
+
+#[tactic(auto, unfolding(crate::specs::Reading::data_at))]
+fn data_at(bytes: &[u8]) -> Option<(Data, &[u8])>
+    ensures { data_at bytes.now ≡ option_map (λ x. (plain_data x.0, x.1.now)) result }
+{
+    let (from, rest) = u8_at(bytes)?;
+    let (to, rest) = u8_at(rest)?;
+    let (number, rest) = u64_at(rest)?;
+    let (stamp, rest) = u64_at(rest)?;
+    let (body, rest) = body_at(rest)?;
+    let data = Data::new(from, to, number, stamp, body)?;
+    Some((data, rest))
+}
+
+#[tactic(auto, unfolding(crate::specs::Reading::frame_at))]
+fn frame_at(bytes: &[u8]) -> Option<(Frame, &[u8])>
+    ensures { frame_at bytes.now ≡ option_map (λ x. (plain x.0, x.1.now)) result }
+{
+    let (kind, rest) = u8_at(bytes)?;
+    match kind {
+        DATA => {
+            let (data, rest) = data_at(rest)?;
+            Some((Frame::Data(data), rest))
+        }
+        _ => None,
+    }
+}
+
+#[tactic(auto, unfolding(crate::specs::Reading::whole))]
+fn whole(bytes: &[u8]) -> Option<Frame>
+    ensures { whole bytes.now ≡ option_map plain result }
+{
+    let (frame, rest) = frame_at(bytes)?;
+    if rest.is_empty() { Some(frame) } else { None }
+}
+
+/// The frame that the bytes spell, all of the bytes. It takes no memory.
+///
+/// # Errors
+///
+/// [`Refusal::BadFrame`] where the bytes spell no frame: something is missing or left over, or a byte
+/// or a number is not one that may stand there.
+pub fn decode(bytes: &[u8]) -> Result<Frame, Refusal>
+    // What is read is spelled so.
+    ensures found { IfOk result (λ f. Fits (plain f) × (bytes.now ≡ spelling (plain f))) }
+    // What is spelled so is read.
+    ensures only { (f : Plain) → Fits f → bytes.now ≡ spelling f → IsOkAnd result (λ x. plain x ≡ f) }
+    ensures refused { IfErr result (λ e. e ≡ BadFrame) }
+{
+    whole(bytes).ok_or(Refusal::BadFrame)
+}

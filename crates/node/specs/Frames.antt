@@ -1,0 +1,19 @@
+-- The frames that a node gives out, as plain data.
+use Rattle.std.specs.Prelude.{ℕ, ◌+◌, cond, Option, Some, None}
+use Rattle.std.specs.Option.{option_map}
+use Rattle.msg.specs.Grammar.{Plain, data_frame}
+use Rattle.msg.specs.declared.body.Message.{Message}
+use Rattle.model.specs.View.{NodeView, link_to, is_other, message_of, released_at}
+
+abbrev pub frame_of : ℕ → ℕ → ℕ → Message → Plain
+frame_of own to number x = data_frame own to number x.stamp x.body
+
+-- the frame of a message that the node still keeps
+abbrev pub numbered_frame : NodeView → ℕ → ℕ → Option Plain
+numbered_frame n to number =
+    cond (is_other n.part to) (option_map (frame_of n.part.own to number) (message_of (link_to n to) number)) None
+
+-- the frame in a place of the window, where a saved node holds its message
+abbrev pub released_frame : NodeView → ℕ → ℕ → Option Plain
+released_frame n to place =
+    cond (is_other n.part to) (option_map (frame_of n.part.own to ((link_to n to).base + 1 + place)) (released_at (link_to n to) place)) None

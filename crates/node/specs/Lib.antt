@@ -1,0 +1,4 @@
+pub mod Invariant
+pub mod Inside
+pub mod Frames
+pub mod Summaries

@@ -1,0 +1,22 @@
+use ids::Shape;
+use msg::Colour;
+
+/// A node in numbers: what its phases, its part of the ring, its grey list, its slots and its letters
+/// come to.
+#[derive(Clone, Copy, Debug, PartialEq, Eq)]
+pub struct Summary {
+    pub shape: Shape,
+    pub own: u8,
+    pub cycle: u64,
+    pub ended: u64,
+    pub swept: u64,
+    pub colour: Colour,
+    /// The balance of the present cycle.
+    pub earlier: i64,
+    /// The balance that the next cycle counts.
+    pub recent: i64,
+    pub grey: usize,
+    pub live: u32,
+    pub has_token: bool,
+    pub letters: usize,
+}

@@ -1,0 +1,4 @@
+pub mod Outboxes
+pub mod InsideOutbox
+pub mod Shows
+pub mod InsideSim

@@ -1,0 +1,49 @@
+-- How the code's space shows a space of the definitions.
+use Rattle.std.specs.Prelude.{◌≡◌, ◌≢◌, ℕ, ◌≤◌, List, [], length, slice_get, slice_index_or, Result, Ok, Err}
+use Rattle.ids.specs.declared.refusal.Refusal.{Refusal}
+use Rattle.model.specs.declared.step.Outcome.{Outcome}
+use Rattle.model.specs.Checks.{IsFirstRefusal}
+use Rattle.model.specs.State.{NodeState, node_at, sent_to}
+use Rattle.model.specs.View.{NodeView, Shows, new_view, link_to}
+use Rattle.model.specs.World.{World, KeepsSent}
+use Rattle.world.specs.Outboxes.{IsFrameOf}
+
+-- the present nodes, the saved ones, and for each ordered pair of nodes the frames that were released
+pub record Simulated : Type 0 where
+  pub present : List NodeView
+  pub saved : List NodeView
+  pub released : List (List (List (List ℕ)))
+
+-- the view of the node past the end of a list of nodes
+abbrev pub no_view : NodeView
+no_view = new_view (record { nodes = 0; registers = 0; slots = 0 }) 1
+
+abbrev pub view_at : List NodeView → ℕ → NodeView
+view_at nodes i = slice_index_or nodes i no_view
+
+abbrev pub frames_of : List (List (List (List ℕ))) → ℕ → ℕ → List (List ℕ)
+frames_of released from to = slice_index_or (slice_index_or released from []) to []
+
+-- the nodes show the states, one by one
+pub record ShowAll (nodes : List NodeView) (states : List NodeState) : Type 0 where
+  pub width : length nodes ≡ length states
+  pub each : (i : ℕ) → Shows (view_at nodes i) (node_at states i)
+
+-- no node has let go of a message before its frame was released
+abbrev pub AreKept : List NodeView → List (List (List (List ℕ))) → Type 0
+AreKept nodes released = (i j : ℕ) → (link_to (view_at nodes i) j).base ≤ length (frames_of released i j)
+
+pub record ShowsWorld (n : Simulated) (w : World) : Type 0 where
+  pub current : ShowAll n.present w.current
+  pub saved : ShowAll n.saved w.saved
+  -- each released frame spells the message of its number, and there is one for each
+  pub released : (i j k : ℕ) → i ≢ j → IsFrameOf i j k (slice_get (sent_to (node_at w.saved i) j) k) (slice_get (frames_of n.released i j) k)
+  pub grown : KeepsSent w
+  pub present_kept : AreKept n.present n.released
+  pub saved_kept : AreKept n.saved n.released
+
+-- What a step answered, and the space after it, against the step of the definitions: an answer is the
+-- definition's, and the code then shows the definition's space; a refusal is the first that applies.
+abbrev pub FollowsStep : Result Outcome Refusal → Simulated → Result (World × Outcome) Refusal → Type 0
+FollowsStep (Ok o) new stepped = (w : World) × (stepped ≡ Ok (w, o)) × ShowsWorld new w
+FollowsStep (Err e) new stepped = IsFirstRefusal e stepped

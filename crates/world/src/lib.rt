@@ -1,0 +1,12 @@
+//! A space of nodes in one thread: each step is one step of the definitions in `model`, over present
+//! states, saved states and the frames that saved states released.
+#![tactic(auto)]
+
+mod outbox;
+mod sim;
+
+pub use model::{Answer, Event, Letter, Outcome, Step};
+pub use sim::Sim;
+
+#[cfg(test)]
+mod tests;

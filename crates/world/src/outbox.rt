@@ -1,0 +1,97 @@
+ghost use Rattle.std.specs.Prelude.{◌≡◌, ◌≤◌, ◌+◌, ℕ, length, map, take, slice_get, IsTrue, IfErr, OnOk};
+ghost use Rattle.std.specs.Option.{option_map};
+ghost use Rattle.ids.specs.declared.refusal.Refusal.TheVariants.{Memory};
+ghost use Rattle.model.specs.View.{link_to, message_of, is_other};
+ghost use Rattle.world.specs.Outboxes.{no_outbox, released_frames, numbered_bytes, AreFramesFrom};
+
+use ids::Refusal;
+use msg::encode;
+use node::Node;
+use std::alloc::Global;
+use std::marker::Model;
+
+/// The frames of one node's messages to another: those that were released, and after them the ones that
+/// the save under way is to release.
+#[derive(Drop)]
+pub struct Outbox {
+    frames: Vec<Vec<u8>>,
+    released: usize,
+}
+
+impl Model for Outbox {
+    ghost use Rattle.world.specs.Outboxes.{OutboxView};
+
+    ghost Value = { OutboxView };
+
+    ghost use Rattle.world.specs.InsideOutbox.{view_of, IsWhole};
+
+    ghost view = { view_of };
+
+    ghost invariant = { IsWhole };
+}
+
+impl Outbox {
+    /// An outbox without frames.
+    pub fn new(alloc: Global) -> Outbox
+        ensures { result ≡ no_outbox }
+    {
+        Outbox {
+            frames: Vec::new(alloc),
+            released: 0,
+        }
+    }
+
+    /// The bytes of the frame of this number, if it was released.
+    pub fn frame(&self, number: u64) -> Option<&[u8]>
+        ensures { option_map (λ b. b.now) result ≡ numbered_bytes (released_frames self.now) number }
+    {
+        let place = number.checked_sub(1)? as usize;
+        if place < self.released {
+            Some(self.frames[place].as_slice())
+        } else {
+            None
+        }
+    }
+
+    /// Makes the frames of all messages to the node `to` that follow the released ones, and releases none.
+    /// `Memory` where a growth was refused.
+    pub fn stage(&mut self, alloc: Global, node: &Node, to: u8) -> Result<(), Refusal>
+        requires other { IsTrue (is_other node.now.part to) }
+        requires kept { (link_to node.now to).base ≤ length (released_frames self.old) }
+        ensures released { released_frames self.new ≡ released_frames self.old }
+        ensures staged { OnOk result (AreFramesFrom (length (released_frames self.old)) node.now.part.own to (λ k. message_of (link_to node.now to) (k + 1)) self.new.frames) }
+        ensures refused { IfErr result (λ e. e ≡ Memory) }
+    {
+        self.frames.truncate(self.released);
+        stage_frames(alloc, &mut self.frames, node, to)
+    }
+
+    /// Releases all frames that were made.
+    pub fn release(&mut self)
+        ensures { released_frames self.new ≡ self.old.frames }
+    {
+        self.released = self.frames.len();
+    }
+}
+
+fn stage_frames(
+    alloc: Global,
+    frames: &mut Vec<Vec<u8>>,
+    node: &Node,
+    to: u8,
+) -> Result<(), Refusal>
+    requires other { IsTrue (is_other node.now.part to) }
+    requires kept { (link_to node.now to).base ≤ length frames.old.items }
+    ensures kept { take (length frames.old.items) frames.new.items ≡ frames.old.items }
+    ensures staged { OnOk result (AreFramesFrom (length frames.old.items) node.now.part.own to (λ k. message_of (link_to node.now to) (k + 1)) (map (λ v. v.items) frames.new.items)) }
+    ensures refused { IfErr result (λ e. e ≡ Memory) }
+{
+    let last = node.appended(to);
+    for place in frames.len() as u64..last {
+        let Some(frame) = node.numbered_frame(to, place + 1) else {
+            unreachable!()
+        };
+        frames.push(encode(alloc, &frame)?)?;
+    }
+    Ok(())
+}
