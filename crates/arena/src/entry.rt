@@ -5,6 +5,7 @@ ghost use Rattle.arena.specs.Arena.{IsFree, value_of, generation_of, generation_
 ghost use Rattle.arena.specs.Entry.{slot_of, held_by, next_of, occupied_by};
 
 use crate::Generation;
+use std::alloc::AllocError;
 use std::mem;
 
 /// A slot: as [`crate::Slot`], but a free one also names the free slot that is used after it.
@@ -13,6 +14,20 @@ pub(crate) enum Entry<T> {
     Free(Generation, u32),
     Occupied(Generation, T),
     Retired,
+}
+
+impl<T: Clone> Clone for Entry<T> {
+    ghost use Rattle.arena.specs.Entry.{IsEntryClone};
+
+    ghost is_clone = { IsEntryClone T.is_clone };
+
+    fn clone(&self) -> Result<Self, AllocError> {
+        match self {
+            Entry::Free(generation, next) => Ok(Entry::Free(*generation, *next)),
+            Entry::Occupied(generation, value) => Ok(Entry::Occupied(*generation, value.clone()?)),
+            Entry::Retired => Ok(Entry::Retired),
+        }
+    }
 }
 
 impl<T> Entry<T> {

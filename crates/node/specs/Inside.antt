@@ -1,5 +1,5 @@
 -- How a node shows what it is.
-use Rattle.std.specs.Prelude.{[]}
+use Rattle.std.specs.Prelude.{◌≡◌, []}
 use Rattle.node.specs.declared.node.Node.TheInside.{Inside}
 use Rattle.model.specs.State.{new_phases, new_ring}
 use Rattle.model.specs.View.{NodeView}
@@ -12,5 +12,7 @@ view_of n = record {
   links = n.links.items;
 }
 
-abbrev pub IsSound : Inside → Type 0
-IsSound n = IsNode (view_of n) n.heap.limit
+-- the heap may use the slots of the shape
+pub record IsSound (n : Inside) : Type 0 where
+  pub node : IsNode (view_of n)
+  pub limit : n.heap.limit ≡ n.shape.slots

@@ -10,11 +10,9 @@ pub record IsLink (l : Link) : Type 0 where
   pub within : used l ≤ GREATEST_NUMBER
   pub kept : l.kept ≤ used l
 
--- room: how many slots the heap may use
-pub record IsNode (n : NodeView) (room : ℕ) : Type 0 where
+pub record IsNode (n : NodeView) : Type 0 where
   pub shape : IsShape n.part.shape
   pub own : n.part.own < n.part.shape.nodes
-  pub limit : room ≡ n.part.shape.slots
   pub received : length n.part.got ≡ n.part.shape.nodes
   pub linked : length n.links ≡ n.part.shape.nodes
   pub numbers : (i : ℕ) → got_from n.part i ≤ GREATEST_NUMBER

@@ -46,6 +46,7 @@ impl Node {
     ghost use Rattle.msg.specs.Frames.{plain};
     ghost use Rattle.node.specs.Frames.{frame_of, numbered_frame, released_frame};
     ghost use Rattle.node.specs.Summaries.{summary_of};
+    ghost use Rattle.node.specs.Invariant.{IsNode};
 
     /// A new node of the shape: nothing allocated, nothing sent, nothing received. `NoNode` where the
     /// shape has no such node, `Memory` where a growth was refused.
@@ -74,6 +75,7 @@ impl Node {
     pub fn act(&mut self, event: Event) -> Result<Answer, Refusal>
         ensures states { (s : NodeState) → Shows self.old s → Follows result self.new (act s event) }
         ensures unchanged { OnErr result (self.new ≡ self.old) }
+        ensures place { (self.new.part.shape ≡ self.old.part.shape) × (self.new.part.own ≡ self.old.part.own) }
         ensures memory_free { IsTrue (is_memory_free self.old.part event) → IfErr result (λ e. e ≢ Memory) }
         ensures bases { map base_of self.new.links ≡ map base_of self.old.links }
         ensures kept { map kept_of self.new.links ≡ map kept_of self.old.links }
@@ -84,6 +86,7 @@ impl Node {
     fn perform(&mut self, event: Event) -> Result<Answer, Refusal>
         ensures performs { Performs result self.new (view_act self.old event) }
         ensures unchanged { OnErr result (self.new ≡ self.old) }
+        ensures place { (self.new.part.shape ≡ self.old.part.shape) × (self.new.part.own ≡ self.old.part.own) }
         ensures memory_free { IsTrue (is_memory_free self.old.part event) → IfErr result (λ e. e ≢ Memory) }
         ensures bases { map base_of self.new.links ≡ map base_of self.old.links }
         ensures kept { map kept_of self.new.links ≡ map kept_of self.old.links }
@@ -105,6 +108,7 @@ impl Node {
     fn allocate(&mut self, register: u16, places: u8) -> Result<Answer, Refusal>
         ensures performs { Performs result self.new (view_act self.old (event.Alloc register places)) }
         ensures unchanged { OnErr result (self.new ≡ self.old) }
+        ensures place { (self.new.part.shape ≡ self.old.part.shape) × (self.new.part.own ≡ self.old.part.own) }
         ensures links { self.new.links ≡ self.old.links }
     {
         let own = self.own;
@@ -117,6 +121,7 @@ impl Node {
     fn drop_register(&mut self, register: u16) -> Result<Answer, Refusal>
         ensures performs { Performs result self.new (view_act self.old (event.Drop register)) }
         ensures unchanged { OnErr result (self.new ≡ self.old) }
+        ensures place { (self.new.part.shape ≡ self.old.part.shape) × (self.new.part.own ≡ self.old.part.own) }
         ensures memory_free { IfErr result (λ e. e ≢ Memory) }
         ensures links { self.new.links ≡ self.old.links }
     {
@@ -128,6 +133,7 @@ impl Node {
     fn give(&mut self, to: u8, label: u32, register: u16) -> Result<Answer, Refusal>
         ensures performs { Performs result self.new (view_act self.old (event.Give to label register)) }
         ensures unchanged { OnErr result (self.new ≡ self.old) }
+        ensures place { (self.new.part.shape ≡ self.old.part.shape) × (self.new.part.own ≡ self.old.part.own) }
         ensures bases { map base_of self.new.links ≡ map base_of self.old.links }
         ensures kept { map kept_of self.new.links ≡ map kept_of self.old.links }
     {
@@ -150,6 +156,7 @@ impl Node {
     fn accept(&mut self, register: u16) -> Result<Answer, Refusal>
         ensures performs { Performs result self.new (view_act self.old (event.Accept register)) }
         ensures unchanged { OnErr result (self.new ≡ self.old) }
+        ensures place { (self.new.part.shape ≡ self.old.part.shape) × (self.new.part.own ≡ self.old.part.own) }
         ensures memory_free { IfErr result (λ e. e ≢ Memory) }
         ensures links { self.new.links ≡ self.old.links }
     {
@@ -161,6 +168,7 @@ impl Node {
     fn take_in(&mut self, frame: Data) -> Result<Answer, Refusal>
         ensures performs { Performs result self.new (view_act self.old (event.Data frame)) }
         ensures unchanged { OnErr result (self.new ≡ self.old) }
+        ensures place { (self.new.part.shape ≡ self.old.part.shape) × (self.new.part.own ≡ self.old.part.own) }
         ensures memory_free { IsTrue (is_memory_free self.old.part (event.Data frame)) → IfErr result (λ e. e ≢ Memory) }
         ensures links { self.new.links ≡ self.old.links }
     {
@@ -287,6 +295,13 @@ impl Node {
             has_token: false,
             letters: self.heap.letters(),
         }
+    }
+
+    /// Nothing: its contract says what is true of every node.
+    pub fn sound(&self)
+        ensures { IsNode self.now }
+    {
+        let _shape = &self.shape;
     }
 
     /// A node that is equal to this one.

@@ -1,5 +1,5 @@
 -- How an outbox shows its frames.
-use Rattle.std.specs.Prelude.{◌≤◌, List, map, length}
+use Rattle.std.specs.Prelude.{◌≤◌, map, length}
 use Rattle.world.specs.declared.outbox.Outbox.TheInside.{Inside}
 use Rattle.world.specs.Outboxes.{OutboxView}
 

@@ -2,8 +2,11 @@
 use Rattle.std.specs.Prelude.{◌≡◌, ℕ, ◌<◌, List, [], map, length, slice_index_or}
 use Rattle.ids.specs.declared.limits.TheConstants.{GREATEST_NODES}
 use Rattle.world.specs.declared.sim.Sim.TheInside.{Inside}
-use Rattle.world.specs.Outboxes.{OutboxView, released_frames}
-use Rattle.world.specs.Shows.{Simulated, view_at}
+use Rattle.world.specs.Rows.{rows_of}
+use Rattle.world.specs.Shows.{Simulated, IsSim}
 
 abbrev pub view_of : Inside → Simulated
-view_of s = record { present = s.present.items; saved = s.saved.items; released = map (λ row. map released_frames row.items) s.outboxes.items }
+view_of s = record { present = s.present.items; saved = s.saved.items; released = rows_of s.outboxes.items }
+
+abbrev pub IsSound : Inside → Type 0
+IsSound s = IsSim (view_of s)

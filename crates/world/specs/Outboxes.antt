@@ -2,6 +2,7 @@
 use Rattle.std.specs.Prelude.{◌≡◌, ℕ, ◌+◌, ◌-◌, ◌≤◌, cond, nat_lt, List, [], take, length, Option, Some, None, slice_get}
 use Rattle.msg.specs.Grammar.{Fits, spelling, data_frame}
 use Rattle.msg.specs.declared.body.Message.{Message}
+use Rattle.model.specs.View.{NodeView, link_to, message_of}
 
 -- all frames, and how many of them are released: the others are those of a save that is under way or
 -- that was refused
@@ -28,6 +29,14 @@ IsFrameOf from to place (Some x) None = ⊥
 IsFrameOf from to place (Some x) (Some bytes) =
     Fits (data_frame from to (place + 1) x.stamp x.body) × (bytes ≡ spelling (data_frame from to (place + 1) x.stamp x.body))
 
--- from this place on, the frames are those of the messages
-abbrev pub AreFramesFrom : ℕ → (from to : ℕ) → (ℕ → Option Message) → List (List ℕ) → Type 0
-AreFramesFrom first from to messages frames = (k : ℕ) → first ≤ k → IsFrameOf from to k (messages k) (slice_get frames k)
+-- from this place on, the frames are those of the messages that the node has appended for another
+abbrev pub AreFramesFrom : ℕ → NodeView → ℕ → List (List ℕ) → Type 0
+AreFramesFrom first n to frames =
+    (k : ℕ) → first ≤ k → IsFrameOf n.part.own to k (message_of (link_to n to) (k + 1)) (slice_get frames k)
+
+-- the outbox has the frames of all messages that the node has appended, and has released none
+abbrev pub IsStaged : NodeView → ℕ → OutboxView → OutboxView → Type 0
+IsStaged n to before after = AreFramesFrom (length (released_frames before)) n to after.frames
+
+abbrev pub all_released : OutboxView → OutboxView
+all_released b = record b { released = length b.frames }

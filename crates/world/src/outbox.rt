@@ -1,8 +1,8 @@
-ghost use Rattle.std.specs.Prelude.{◌≡◌, ◌≤◌, ◌+◌, ℕ, length, map, take, slice_get, IsTrue, IfErr, OnOk};
+ghost use Rattle.std.specs.Prelude.{◌≡◌, ◌≢◌, ◌≤◌, ◌<◌, ℕ, length, map, take, replicate, slice_index_or, IsTrue, IfOk, IfErr, OnOk};
 ghost use Rattle.std.specs.Option.{option_map};
 ghost use Rattle.ids.specs.declared.refusal.Refusal.TheVariants.{Memory};
-ghost use Rattle.model.specs.View.{link_to, message_of, is_other};
-ghost use Rattle.world.specs.Outboxes.{no_outbox, released_frames, numbered_bytes, AreFramesFrom};
+ghost use Rattle.model.specs.View.{link_to, is_other};
+ghost use Rattle.world.specs.Outboxes.{no_outbox, released_frames, all_released, numbered_bytes, AreFramesFrom, IsStaged};
 
 use ids::Refusal;
 use msg::encode;
@@ -59,7 +59,7 @@ impl Outbox {
         requires other { IsTrue (is_other node.now.part to) }
         requires kept { (link_to node.now to).base ≤ length (released_frames self.old) }
         ensures released { released_frames self.new ≡ released_frames self.old }
-        ensures staged { OnOk result (AreFramesFrom (length (released_frames self.old)) node.now.part.own to (λ k. message_of (link_to node.now to) (k + 1)) self.new.frames) }
+        ensures staged { OnOk result (IsStaged node.now to self.old self.new) }
         ensures refused { IfErr result (λ e. e ≡ Memory) }
     {
         self.frames.truncate(self.released);
@@ -68,7 +68,7 @@ impl Outbox {
 
     /// Releases all frames that were made.
     pub fn release(&mut self)
-        ensures { released_frames self.new ≡ self.old.frames }
+        ensures { self.new ≡ all_released self.old }
     {
         self.released = self.frames.len();
     }
@@ -83,7 +83,7 @@ fn stage_frames(
     requires other { IsTrue (is_other node.now.part to) }
     requires kept { (link_to node.now to).base ≤ length frames.old.items }
     ensures kept { take (length frames.old.items) frames.new.items ≡ frames.old.items }
-    ensures staged { OnOk result (AreFramesFrom (length frames.old.items) node.now.part.own to (λ k. message_of (link_to node.now to) (k + 1)) (map (λ v. v.items) frames.new.items)) }
+    ensures staged { OnOk result (AreFramesFrom (length frames.old.items) node.now to (map (λ v. v.items) frames.new.items)) }
     ensures refused { IfErr result (λ e. e ≡ Memory) }
 {
     let last = node.appended(to);
@@ -94,4 +94,56 @@ fn stage_frames(
         frames.push(encode(alloc, &frame)?)?;
     }
     Ok(())
+}
+
+/// For each of so many nodes its outboxes to each.
+pub fn new_outboxes(alloc: Global, count: u8) -> Result<Vec<Vec<Outbox>>, Refusal>
+    ensures made { IfOk result (λ v. map (λ r. r.items) v.items ≡ replicate count (replicate count no_outbox)) }
+    ensures refused { IfErr result (λ e. e ≡ Memory) }
+{
+    let mut rows = Vec::new(alloc);
+    for _node in 0..count {
+        rows.push(new_row(alloc, count)?)?;
+    }
+    Ok(rows)
+}
+
+fn new_row(alloc: Global, count: u8) -> Result<Vec<Outbox>, Refusal>
+    ensures made { IfOk result (λ v. v.items ≡ replicate count no_outbox) }
+    ensures refused { IfErr result (λ e. e ≡ Memory) }
+{
+    let mut row = Vec::new(alloc);
+    for _node in 0..count {
+        row.push(Outbox::new(alloc))?;
+    }
+    Ok(row)
+}
+
+/// Makes the frames of all messages that the node has appended since the released ones, to each other
+/// node, and releases none.
+pub fn stage_all(alloc: Global, row: &mut [Outbox], node: &Node, count: u8) -> Result<(), Refusal>
+    requires row { length row.old ≡ count }
+    requires nodes { node.now.part.shape.nodes ≡ count }
+    requires kept { (j : ℕ) → (link_to node.now j).base ≤ length (released_frames (slice_index_or row.old j no_outbox)) }
+    ensures released { map released_frames row.new ≡ map released_frames row.old }
+    ensures staged { OnOk result ((j : ℕ) → j < count → j ≢ node.now.part.own → IsStaged node.now j (slice_index_or row.old j no_outbox) (slice_index_or row.new j no_outbox)) }
+    ensures refused { IfErr result (λ e. e ≡ Memory) }
+{
+    let own = node.state().own;
+    for to in 0..count {
+        if to != own {
+            let outbox = &mut row[usize::from(to)];
+            outbox.stage(alloc, node, to)?;
+        }
+    }
+    Ok(())
+}
+
+/// Releases all frames that were made.
+pub fn release_all(row: &mut [Outbox])
+    ensures { row.new ≡ map all_released row.old }
+{
+    for outbox in row.iter_mut() {
+        outbox.release();
+    }
 }

@@ -1,19 +1,24 @@
-ghost use Rattle.std.specs.Prelude.{◌≡◌, ◌≤◌, ◌<◌, ℕ, length, map, slice_get, IsTrue, IfOk, IfErr, OnErr};
-ghost use Rattle.std.specs.Option.{option_copied};
+ghost use Rattle.std.specs.Prelude.{◌≡◌, ◌≤◌, ◌<◌, [], ℕ, length, map, slice_get, slice_index_or, IsTrue, IfOk, IfErr, OnErr};
+ghost use Rattle.std.specs.Option.{option_copied, option_map};
 ghost use Rattle.ids.specs.declared.refusal.Refusal.TheVariants.{Memory};
+ghost use Rattle.std.specs.List.{range_with_len};
 ghost use Rattle.model.specs.Steps.{is_own};
+ghost use Rattle.model.specs.View.{new_view};
 ghost use Rattle.model.specs.World.{World, new_world, take_step, is_own_step};
 ghost use Rattle.model.specs.declared.step.Step.TheVariants as step;
-ghost use Rattle.world.specs.Shows.{ShowsWorld, FollowsStep};
+ghost use Rattle.msg.specs.Frames.{plain};
+ghost use Rattle.world.specs.Outboxes.{numbered_bytes};
+ghost use Rattle.world.specs.Rows.{rows_of};
+ghost use Rattle.world.specs.Shows.{ShowsWorld, FollowsStep, IsEventOf, frames_of};
 
 use ids::{NodeId, Refusal, Shape};
 use model::{Event, Outcome, Step};
-use msg::{Frame, decode};
+use msg::{Data, Frame, decode};
 use node::Node;
 use std::alloc::Global;
 use std::marker::Model;
 
-use crate::outbox::Outbox;
+use crate::outbox::{Outbox, new_outboxes, release_all, stage_all};
 
 /// A space of nodes in one thread. It keeps for each node the present one and the one last saved, and
 /// for each ordered pair of nodes the bytes of all frames that were ever released.
@@ -30,9 +35,11 @@ impl Model for Sim {
 
     ghost Value = { Simulated };
 
-    ghost use Rattle.world.specs.InsideSim.{view_of};
+    ghost use Rattle.world.specs.InsideSim.{view_of, IsSound};
 
     ghost view = { view_of };
+
+    ghost invariant = { IsSound };
 }
 
 impl Sim {
@@ -72,14 +79,22 @@ impl Sim {
         self.present.get(usize::from(number))
     }
 
+    /// How many nodes there are.
+    fn count(&self) -> u8
+        ensures { result ≡ length self.now.present }
+    {
+        self.present.len() as u8
+    }
+
     fn act(&mut self, node: u8, event: Event) -> Result<Outcome, Refusal>
         requires own { IsTrue (is_own event) }
         ensures follows { (w : World) → ShowsWorld self.old w → FollowsStep result self.new (take_step w (step.Act node event)) }
         ensures unchanged { OnErr result (self.new ≡ self.old) }
     {
-        let Some(present) = self.present.get_mut(usize::from(node)) else {
+        if node >= self.count() {
             return Err(Refusal::NoNode);
-        };
+        }
+        let present = &mut self.present[usize::from(node)];
         let answer = present.act(event)?;
         Ok(Outcome::Answer(answer))
     }
@@ -88,14 +103,18 @@ impl Sim {
         ensures follows { (w : World) → ShowsWorld self.old w → FollowsStep result self.new (take_step w (step.Save node)) }
         ensures unchanged { OnErr result (self.new ≡ self.old) }
     {
-        let place = usize::from(node);
-        if place >= self.present.len() {
+        if node >= self.count() {
             return Err(Refusal::NoNode);
         }
-        let mut copy = self.present[place].copy(self.alloc)?;
-        stage_all(self.alloc, &mut self.outboxes[place], &copy)?;
-        release_all(&mut self.outboxes[place]);
-        self.present[place].kept();
+        let place = usize::from(node);
+        let alloc = self.alloc;
+        let count = self.count();
+        let mut copy = self.present[place].copy(alloc)?;
+        let row = &mut self.outboxes[place];
+        stage_all(alloc, row, &copy, count)?;
+        release_all(row);
+        let present = &mut self.present[place];
+        present.kept();
         copy.kept();
         self.saved[place] = copy;
         Ok(Outcome::Done)
@@ -105,11 +124,12 @@ impl Sim {
         ensures follows { (w : World) → ShowsWorld self.old w → FollowsStep result self.new (take_step w (step.Restart node)) }
         ensures unchanged { OnErr result (self.new ≡ self.old) }
     {
-        let place = usize::from(node);
-        if place >= self.present.len() {
+        if node >= self.count() {
             return Err(Refusal::NoNode);
         }
-        let copy = self.saved[place].copy(self.alloc)?;
+        let place = usize::from(node);
+        let alloc = self.alloc;
+        let copy = self.saved[place].copy(alloc)?;
         self.present[place] = copy;
         Ok(Outcome::Done)
     }
@@ -118,19 +138,60 @@ impl Sim {
         ensures follows { (w : World) → ShowsWorld self.old w → FollowsStep result self.new (take_step w (step.Deliver from to number)) }
         ensures unchanged { OnErr result (self.new ≡ self.old) }
     {
-        let count = self.present.len();
-        if usize::from(from) >= count || usize::from(to) >= count {
+        let count = self.count();
+        if from >= count || to >= count {
             return Err(Refusal::NoNode);
         }
         if from == to {
             return Ok(Outcome::NoFrame);
         }
-        let outbox = &self.outboxes[usize::from(from)][usize::from(to)];
-        let Some(bytes) = outbox.frame(number) else {
+        let Some(bytes) = released(&self.outboxes, from, to, number) else {
             return Ok(Outcome::NoFrame);
         };
-        let Frame::Data(data) = decode(bytes)?;
-        let answer = self.present[usize::from(to)].act(Event::Data(data))?;
+        let event = event_of(decode(bytes)?);
+        let present = &mut self.present[usize::from(to)];
+        let answer = present.act(event)?;
         Ok(Outcome::Answer(answer))
     }
+}
+
+fn new_nodes(alloc: Global, shape: Shape) -> Result<Vec<Node>, Refusal>
+    ensures made { IfOk result (λ v. v.items ≡ map (new_view shape) (range_with_len 0 shape.nodes)) }
+    ensures refused { IfErr result (λ e. e ≡ Memory) }
+{
+    let mut nodes = Vec::new(alloc);
+    for number in 0..shape.nodes() {
+        nodes.push(Node::new(alloc, shape, NodeId { number })?)?;
+    }
+    Ok(nodes)
+}
+
+/// The bytes of the frame of this number from one node to another, if it was released.
+fn released(rows: &[Vec<Outbox>], from: u8, to: u8, number: u64) -> Option<&[u8]>
+    requires { to < length (slice_index_or (rows_of rows.now) from []) }
+    ensures { option_map (λ b. b.now) result ≡ numbered_bytes (frames_of (rows_of rows.now) from to) number }
+{
+    let row = &rows[usize::from(from)];
+    let outbox = &row[usize::from(to)];
+    outbox.frame(number)
+}
+
+/// The event that a frame brings to its receiver.
+fn event_of(frame: Frame) -> Event
+    ensures { IsEventOf result (plain frame) }
+{
+    let Frame::Data(Data {
+        from,
+        to,
+        number,
+        stamp,
+        body,
+    }) = frame;
+    Event::Data(Data {
+        from,
+        to,
+        number,
+        stamp,
+        body,
+    })
 }

@@ -7,19 +7,21 @@ pub invariant_of-self-2 : goal.invariant_of-self-2
 invariant_of-self-2 c =
     let done = c.in_ok-reference.ensures.done in
     let within = c.in_ok-reference.ensures.within in
-    let old = c.self.invariant in
+    let old = c.self.invariant.node in
     let named : IsWithin c.self.inside.shape c.in_ok-reference.reference = record {
       node = subst (λ n. n < c.self.inside.shape.nodes) (alloc-names _ _ _ _ _ _ _ _ done) old.own;
-      slot = omega (arith, within.0, old.limit);
+      slot = omega (arith, within.0, c.self.invariant.limit);
       generation = within.1;
     } in
     record {
+      node = record {
       shape = old.shape;
       own = old.own;
-      limit = c.in_ok-reference.ensures.limit ∙ old.limit;
       received = old.received;
       linked = old.linked;
       numbers = old.numbers;
       references = alloc-references (IsWithin c.self.inside.shape) _ _ _ _ _ _ _ _ done named old.references;
       messages = old.messages;
+      };
+      limit = c.in_ok-reference.ensures.limit ∙ c.self.invariant.limit;
     }

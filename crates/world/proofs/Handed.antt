@@ -1,0 +1,129 @@
+-- A delivery of the code's space is that of the definitions.
+use Rattle.std.proofs.Common.{◌≡◌, ◌≢◌, ℕ, zero, suc, ◌+◌, ◌-◌, ◌<◌, ◌≤◌, Bool, true, false, ◌&&◌, cond, List, [], ◌∷◌, ◌++◌, length, map, get_or, set, slice_get, Option, Some, None, Result, Ok, Err, ltb, eqb, ◌⊎◌, inl, inr, refl, ap, sym, ◌∙◌, subst, arith, eq-eqb, append-nil}
+use Rattle.std.proofs.lemmas.Bool.{lt-ltb, ne_eqb}
+use Rattle.ids.specs.declared.refusal.Refusal.{Refusal}
+use Rattle.ids.specs.declared.refusal.Refusal.TheVariants.{NoNode}
+use Rattle.msg.specs.Grammar.{Plain, data_frame, spelling, Fits}
+use Rattle.msg.specs.Frames.{plain_data}
+use Rattle.msg.specs.declared.body.Message.{Message}
+use Rattle.msg.specs.declared.frame.Data.{Data}
+use Rattle.msg.proofs.Frames.{no_spelling_begins_another}
+use Rattle.model.specs.declared.event.Event.{Event}
+use Rattle.model.specs.declared.event.Event.TheVariants as event
+use Rattle.model.specs.declared.event.Answer.{Answer}
+use Rattle.model.specs.declared.step.Step.TheVariants as step
+use Rattle.model.specs.declared.step.Outcome.{Outcome}
+use Rattle.model.specs.declared.step.Outcome.TheVariants as outcome
+use Rattle.model.specs.State.{NodeState, node_at, sent_to}
+use Rattle.model.specs.Steps.{act, receive}
+use Rattle.model.specs.View.{NodeView, Shows, Follows, base_of}
+use Rattle.model.specs.World.{World, take_step, moved, released, numbered, handed_over, is_node}
+use Rattle.world.specs.Outboxes.{IsFrameOf, numbered_bytes}
+use Rattle.world.specs.Shows.{Simulated, ShowsWorld, FollowsStep, IsEventOf, frames_of, view_at}
+use Rattle.world.proofs.Shows.{answered, moved-follows, is-node, is-no-node, cond-is, cond-not, read-is}
+
+-- a message that was released, and its frame
+pub record Found (n : Simulated) (w : World) (from to number : ℕ) (bytes : List ℕ) : Type 0 where
+  pub message : Message
+  pub there : released w from to number ≡ Some message
+  pub fits : Fits (data_frame from to number message.stamp message.body)
+  pub spelled : bytes ≡ spelling (data_frame from to number message.stamp message.body)
+
+found-at : (n : Simulated) (w : World) (from to k : ℕ) (bytes : List ℕ) (sent : Option Message) → from ≢ to → slice_get (sent_to (node_at w.saved from) to) k ≡ sent → IsFrameOf from to k sent (Some bytes) → Found n w from to (k + 1) bytes
+found-at n w from to k bytes None apart is h = absurd h
+found-at n w from to k bytes (Some x) apart is h = record {
+  message = x;
+  there = cond-not _ _ _ (ne_eqb from to apart) ∙ cond-is _ _ _ (lt-ltb 0 (k + 1) (omega arith)) ∙ ap (slice_get (sent_to (node_at w.saved from) to)) (let back : k + 1 - 1 ≡ k = omega arith in back) ∙ is;
+  fits = h.0;
+  spelled = h.1;
+}
+
+frame-at : (n : Simulated) (w : World) (from to k : ℕ) (bytes : List ℕ) → ShowsWorld n w → from ≢ to → slice_get (frames_of n.released from to) k ≡ Some bytes → Found n w from to (k + 1) bytes
+frame-at n w from to k bytes h apart there =
+    let one : IsFrameOf from to k (slice_get (sent_to (node_at w.saved from) to) k) (Some bytes) = subst (λ (b : Option (List ℕ)). IsFrameOf from to k (slice_get (sent_to (node_at w.saved from) to) k) b) there (h.released from to k apart) in
+    found-at n w from to k bytes (slice_get (sent_to (node_at w.saved from) to) k) apart refl one
+
+-- what was found under a number is the frame of the message of that number
+pub found : (n : Simulated) (w : World) (from to number : ℕ) (bytes : List ℕ) → ShowsWorld n w → from ≢ to → numbered_bytes (frames_of n.released from to) number ≡ Some bytes → Found n w from to number bytes
+found n w from to zero bytes h apart there = let e : ◌≡◌ {A = Option (List ℕ)} None (Some bytes) = there in absurd cc
+found n w from to (suc k) bytes h apart there =
+    let one : k + 1 ≡ suc k = omega arith in
+    let back : suc k - 1 ≡ k = omega arith in
+    let at : slice_get (frames_of n.released from to) k ≡ Some bytes = ap (slice_get (frames_of n.released from to)) (sym back) ∙ sym (cond-is (ltb 0 (suc k)) _ None (lt-ltb 0 (suc k) (omega arith))) ∙ there in
+    subst (λ (z : ℕ). Found n w from to z bytes) one (frame-at n w from to k bytes h apart at)
+
+-- where there is no frame, nothing was released
+missing-at : (from to k : ℕ) (sent : Option Message) → IsFrameOf from to k sent None → sent ≡ None
+missing-at from to k None h = refl
+missing-at from to k (Some x) h = absurd h
+
+missing : (n : Simulated) (w : World) (from to number : ℕ) → ShowsWorld n w → from ≢ to → numbered_bytes (frames_of n.released from to) number ≡ None → released w from to number ≡ None
+missing n w from to zero h apart there = cond-not _ _ _ (ne_eqb from to apart)
+missing n w from to (suc k) h apart there =
+    let back : suc k - 1 ≡ k = omega arith in
+    let at : slice_get (frames_of n.released from to) k ≡ None = ap (slice_get (frames_of n.released from to)) (sym back) ∙ sym (cond-is (ltb 0 (suc k)) _ None (lt-ltb 0 (suc k) (omega arith))) ∙ there in
+    let one : IsFrameOf from to k (slice_get (sent_to (node_at w.saved from) to) k) None = subst (λ (b : Option (List ℕ)). IsFrameOf from to k (slice_get (sent_to (node_at w.saved from) to) k) b) at (h.released from to k apart) in
+    cond-not _ _ _ (ne_eqb from to apart) ∙ cond-is (ltb 0 (suc k)) _ None (lt-ltb 0 (suc k) (omega arith)) ∙ ap (slice_get (sent_to (node_at w.saved from) to)) back ∙ missing-at from to k _ one
+
+both-nodes : (n : Simulated) (w : World) (from to : ℕ) → ShowsWorld n w → from < length n.present → to < length n.present → (is_node w from && is_node w to) ≡ true
+both-nodes n w from to h f t =
+    let a : is_node w from ≡ true = is-node n w from h f in
+    let b : is_node w to ≡ true = is-node n w to h t in
+    ap (λ (z : Bool). z && is_node w to) a ∙ b
+
+not-both : (a b : Bool) → (a ≡ false) ⊎ (b ≡ false) → (a && b) ≡ false
+not-both true b (inl e) = absurd cc
+not-both true b (inr e) = e
+not-both false b h = refl
+
+pub deliver-no-node : (n : Simulated) (w : World) (from to number : ℕ) → ShowsWorld n w → (length n.present ≤ from) ⊎ (length n.present ≤ to) → FollowsStep (Err NoNode) n (take_step w (step.Deliver from to number))
+unfolding take_step
+deliver-no-node n w from to number h (inl past) = λ ne. cond-not _ _ _ (not-both (is_node w from) (is_node w to) (inl (is-no-node n w from h past)))
+deliver-no-node n w from to number h (inr past) = λ ne. cond-not _ _ _ (not-both (is_node w from) (is_node w to) (inr (is-no-node n w to h past)))
+
+-- nothing was released under the number
+pub deliver-nothing : (n : Simulated) (w : World) (from to number : ℕ) → ShowsWorld n w → from < length n.present → to < length n.present → released w from to number ≡ None → FollowsStep (Ok outcome.NoFrame) n (take_step w (step.Deliver from to number))
+unfolding take_step
+deliver-nothing n w from to number h f t none =
+    (w, cond-is _ _ _ (both-nodes n w from to h f t) ∙ ap (handed_over w from to number) none, h)
+
+pub deliver-to-itself : (n : Simulated) (w : World) (from to number : ℕ) → ShowsWorld n w → from < length n.present → to < length n.present → from ≡ to → FollowsStep (Ok outcome.NoFrame) n (take_step w (step.Deliver from to number))
+deliver-to-itself n w from to number h f t same =
+    deliver-nothing n w from to number h f t (cond-is _ _ _ (eq-eqb from to same))
+
+pub deliver-missing : (n : Simulated) (w : World) (from to number : ℕ) → ShowsWorld n w → from < length n.present → to < length n.present → from ≢ to → numbered_bytes (frames_of n.released from to) number ≡ None → FollowsStep (Ok outcome.NoFrame) n (take_step w (step.Deliver from to number))
+deliver-missing n w from to number h f t apart none =
+    deliver-nothing n w from to number h f t (missing n w from to number h apart none)
+
+-- a node's receipt of a frame
+receive_plain : NodeState → Plain → Result (NodeState × Answer) Refusal
+receive_plain s (data_frame from to number stamp body) = receive s from to number stamp body
+
+act-data : (s : NodeState) (d : Data) → act s (event.Data d) ≡ receive_plain s (plain_data d)
+unfolding act receive receive_plain
+act-data s d = refl
+
+act-receives : (s : NodeState) (e : Event) (from to number : ℕ) (x : Message) → IsEventOf e (data_frame from to number x.stamp x.body) → act s e ≡ receive s from to number x.stamp x.body
+unfolding receive_plain
+act-receives s (event.Data d) from to number x h = act-data s d ∙ ap (receive_plain s) h
+act-receives s (event.Alloc a b) from to number x h = absurd h
+act-receives s (event.Drop a) from to number x h = absurd h
+act-receives s (event.Give a b d) from to number x h = absurd h
+act-receives s (event.Accept a) from to number x h = absurd h
+
+pub delivered-follows : (n : Simulated) (w : World) (from to i number : ℕ) (bytes : List ℕ) (f : Plain) (e : Event) (u v : NodeView) (r : Result Answer Refusal) → ShowsWorld n w → from < length n.present → to < length n.present → from ≢ to → to ≡ i → numbered_bytes (frames_of n.released from to) number ≡ Some bytes → Fits f → bytes ≡ spelling f → IsEventOf e f → u ≡ get_or n.present i u → map base_of v.links ≡ map base_of u.links → ((s : NodeState) → Shows u s → Follows r v (act s e)) → FollowsStep (answered r) (record n { present = set n.present i v }) (take_step w (step.Deliver from to number))
+unfolding take_step
+delivered-follows n w from to i number bytes f e u v r h fr t apart named there fits spelled event read bases follows =
+    let frame : Found n w from to number bytes = found n w from to number bytes h apart there in
+    let x : Message = frame.message in
+    let longer : spelling f ++ [] ≡ spelling (data_frame from to number x.stamp x.body) = append-nil (spelling f) ∙ sym spelled ∙ frame.spelled in
+    let one : f ≡ data_frame from to number x.stamp x.body = (no_spelling_begins_another f (data_frame from to number x.stamp x.body) [] fits frame.fits longer).1 in
+    let brings : IsEventOf e (data_frame from to number x.stamp x.body) = subst (IsEventOf e) one event in
+    let within : i < length n.present = subst (λ (k : ℕ). k < length n.present) named t in
+    let node : u ≡ view_at n.present i = read-is n.present i u within read in
+    let shown : Shows u (node_at w.current i) = subst (λ (z : NodeView). Shows z (node_at w.current i)) (sym node) (h.current.each i) in
+    let same : act (node_at w.current i) e ≡ receive (node_at w.current i) from to number x.stamp x.body = act-receives (node_at w.current i) e from to number x brings in
+    let here : Follows r v (receive (node_at w.current i) from to number x.stamp x.body) = subst (Follows r v) same (follows (node_at w.current i) shown) in
+    let moves : take_step w (step.Deliver from to number) ≡ moved w to (receive (node_at w.current to) from to number x.stamp x.body) = cond-is _ _ _ (both-nodes n w from to h fr t) ∙ ap (handed_over w from to number) frame.there in
+    let at : take_step w (step.Deliver from to number) ≡ moved w i (receive (node_at w.current i) from to number x.stamp x.body) = moves ∙ ap (λ (k : ℕ). moved w k (receive (node_at w.current k) from to number x.stamp x.body)) named in
+    moved-follows n w i (step.Deliver from to number) v r (receive (node_at w.current i) from to number x.stamp x.body) h at (bases ∙ ap (λ (z : NodeView). map base_of z.links) node) here

@@ -1,0 +1,5 @@
+pub mod OutboxLemmas
+pub mod Shows
+pub mod Handed
+pub mod Rows
+pub mod Saved

@@ -1,0 +1,205 @@
+-- A save of the code's space is that of the definitions.
+use Rattle.std.proofs.Common.{◌≡◌, ◌≢◌, ℕ, zero, suc, ◌+◌, ◌-◌, ◌<◌, ◌≤◌, Bool, true, false, cond, List, [], ◌∷◌, ◌++◌, length, map, take, drop, get_or, set, slice_get, Option, Some, None, Ok, ltb, leb, ◌⊎◌, ⊎_elim, refl, ap, sym, ◌∙◌, subst, arith}
+use Rattle.std.proofs.Math.ListN.{get_or-map, get_or-eq_default}
+use Rattle.std.proofs.Math.Seq.{take-length}
+use Rattle.std.proofs.lemmas.Bool.{cases_lt, lt-leb}
+use Rattle.std.proofs.lemmas.List.{length-set, length-map, length-take, set-get_or}
+use Rattle.ids.specs.declared.limits.TheConstants.{GREATEST_NODES}
+use Rattle.msg.specs.declared.body.Message.{Message}
+use Rattle.model.specs.declared.step.Step.TheVariants as step
+use Rattle.model.specs.declared.step.Outcome.TheVariants as outcome
+use Rattle.model.specs.State.{NodeState, node_at, no_node, sent_to}
+use Rattle.model.specs.View.{Link, NodeView, Shows, ShowsSent, no_link, link_to, kept_view, all_kept, used, message_of}
+use Rattle.model.specs.World.{World, KeepsSent, take_step}
+use Rattle.laws.proofs.Lookups.{at_set_if, slice_get-grows, Grows}
+use Rattle.world.specs.Outboxes.{OutboxView, no_outbox, IsFrameOf, IsStaged, released_frames, all_released}
+use Rattle.world.specs.Shows.{Simulated, ShowAll, ShowsWorld, FollowsStep, AreKept, IsPlaced, IsSim, no_view, view_at, frames_of}
+use Rattle.world.proofs.Shows.{show-set, kept-set, grown-by, is-node, cond-is, cond-not, read-is}
+
+-- counting all messages as saved changes nothing else
+kept-shown : (l : Link) (sent : List Message) → ShowsSent l sent → ShowsSent (all_kept l) sent
+kept-shown l sent h = record { within = h.within; window = h.window }
+
+kept-link : (v : NodeView) (j : ℕ) → link_to (kept_view v) j ≡ all_kept (link_to v j)
+kept-link v j = get_or-map all_kept v.links j no_link
+
+pub kept-shows : (v : NodeView) (s : NodeState) → Shows v s → Shows (kept_view v) s
+kept-shows v s h = record {
+  part = h.part;
+  width = length-map v.links all_kept ∙ h.width;
+  links = λ j. subst (λ (l : Link). ShowsSent l (sent_to s j)) (sym (kept-link v j)) (kept-shown (link_to v j) (sent_to s j) (h.links j));
+}
+
+kept-base : (v : NodeView) (j : ℕ) → (link_to (kept_view v) j).base ≡ (link_to v j).base
+kept-base v j = ap (λ (l : Link). l.base) (kept-link v j)
+
+pub kept-placed : (count i : ℕ) (v : NodeView) → IsPlaced count i v → IsPlaced count i (kept_view v)
+kept-placed count i v h = record { own = h.own; nodes = h.nodes; links = length-map v.links all_kept ∙ h.links }
+
+slice_get-drop : {A : Type 0} (xs : List A) (i k : ℕ) → slice_get (drop i xs) k ≡ slice_get xs (i + k)
+slice_get-drop xs zero k = ap (slice_get xs) (let e : k ≡ 0 + k = omega arith in e)
+slice_get-drop [] (suc i) k = refl
+slice_get-drop (x ∷ xs) (suc i) k =
+    let e : suc i + k ≡ suc (i + k) = omega arith in
+    slice_get-drop xs i k ∙ ap (slice_get (x ∷ xs)) (sym e)
+
+-- what the node still keeps under a number is the message of that number
+pub message-shown : (l : Link) (sent : List Message) (k : ℕ) → ShowsSent l sent → l.base ≤ k → message_of l (k + 1) ≡ slice_get sent k
+message-shown l sent k h low =
+    let over : leb (k + 1) l.base ≡ false = lt-leb l.base (k + 1) (omega arith) in
+    let place : k + 1 - l.base - 1 ≡ k - l.base = omega arith in
+    let back : l.base + (k - l.base) ≡ k = omega arith in
+    cond-not (leb (k + 1) l.base) None (slice_get l.window (k + 1 - l.base - 1)) over
+    ∙ ap (slice_get l.window) place ∙ ap (λ (z : List Message). slice_get z (k - l.base)) h.window
+    ∙ slice_get-drop sent l.base (k - l.base) ∙ ap (slice_get sent) back
+
+slice_get-take : {A : Type 0} (xs : List A) (n k : ℕ) → k < length (take n xs) → slice_get xs k ≡ slice_get (take n xs) k
+slice_get-take [] zero k h = absurd (omega arith)
+slice_get-take [] (suc n) k h = absurd (omega arith)
+slice_get-take (x ∷ xs) zero k h = absurd (omega arith)
+slice_get-take (x ∷ xs) (suc n) zero h = refl
+slice_get-take (x ∷ xs) (suc n) (suc k) h = slice_get-take xs n k (omega arith)
+
+slice_get-there : {A : Type 0} (xs : List A) (k : ℕ) → k < length xs → (x : A) × (slice_get xs k ≡ Some x)
+slice_get-there [] k h = absurd (omega arith)
+slice_get-there (x ∷ xs) zero h = (x, refl)
+slice_get-there (x ∷ xs) (suc k) h = slice_get-there xs k (omega arith)
+
+-- what holds at every place of two lists of one length holds after a write to one place of both
+both_set_if : {A B : Type 0} (P : A → B → Type 0) (xs : List A) (ys : List B) (d : A) (e : B) (i : ℕ) (x : A) (y : B) → length xs ≡ length ys → (k : ℕ) → (i ≡ k → P x y) → P (get_or xs k d) (get_or ys k e) → P (get_or (set xs i x) k d) (get_or (set ys i y) k e)
+both_set_if P [] [] d e i x y w k p h = h
+both_set_if P [] (b ∷ ys) d e i x y w k p h = absurd (omega arith)
+both_set_if P (a ∷ xs) [] d e i x y w k p h = absurd (omega arith)
+both_set_if P (a ∷ xs) (b ∷ ys) d e zero x y w zero p h = p refl
+both_set_if P (a ∷ xs) (b ∷ ys) d e zero x y w (suc k) p h = h
+both_set_if P (a ∷ xs) (b ∷ ys) d e (suc i) x y w zero p h = h
+both_set_if P (a ∷ xs) (b ∷ ys) d e (suc i) x y w (suc k) p h = both_set_if P xs ys d e i x y (omega arith) k (λ q. p (ap suc q)) h
+
+-- a longer list of messages has the same message in a place that has a frame
+frame-grows : (i j k : ℕ) (before after : List Message) (x : Option Message) (bytes : List ℕ) → Grows before after → slice_get before k ≡ x → IsFrameOf i j k x (Some bytes) → IsFrameOf i j k (slice_get after k) (Some bytes)
+frame-grows i j k before after None bytes more is h = absurd h
+frame-grows i j k before after (Some x) bytes more is h =
+    subst (λ (o : Option Message). IsFrameOf i j k o (Some bytes)) (sym (slice_get-grows before after k x more is)) h
+
+-- the outboxes of a node, before and after all its frames were made
+pub record Staging (n : Simulated) (i : ℕ) (before after : List OutboxView) : Type 0 where
+  pub row : get_or n.released i [] ≡ map released_frames before
+  pub width : length after ≡ length n.present
+  pub same : map released_frames after ≡ map released_frames before
+  pub staged : (j : ℕ) → j < length n.present → j ≢ i → IsStaged (view_at n.present i) j (get_or before j no_outbox) (get_or after j no_outbox)
+
+abbrev pub new_row : List OutboxView → List (List (List ℕ))
+new_row after = map released_frames (map all_released after)
+
+new-frames : (after : List OutboxView) (j : ℕ) → get_or (new_row after) j [] ≡ (get_or after j no_outbox).frames
+new-frames after j =
+    get_or-map released_frames (map all_released after) j no_outbox
+    ∙ ap released_frames (get_or-map all_released after j no_outbox)
+    ∙ take-length (get_or after j no_outbox).frames
+
+old-frames : (n : Simulated) (i j : ℕ) (before after : List OutboxView) → Staging n i before after → frames_of n.released i j ≡ released_frames (get_or before j no_outbox)
+old-frames n i j before after h =
+    ap (λ (z : List (List (List ℕ))). get_or z j []) h.row ∙ get_or-map released_frames before j no_outbox
+
+same-frames : (n : Simulated) (i j : ℕ) (before after : List OutboxView) → Staging n i before after → released_frames (get_or after j no_outbox) ≡ frames_of n.released i j
+same-frames n i j before after h =
+    sym (get_or-map released_frames after j no_outbox) ∙ ap (λ (z : List (List (List ℕ))). get_or z j []) (h.same ∙ sym h.row)
+
+-- each frame of the new row is that of its message
+new-frame : (n : Simulated) (w : World) (i j k : ℕ) (before after : List OutboxView) → ShowsWorld n w → IsSim n → i < length n.present → Staging n i before after → i ≢ j → IsFrameOf i j k (slice_get (sent_to (node_at w.current i) j) k) (slice_get (get_or (new_row after) j []) k)
+new-frame n w i j k before after h sim within staging apart =
+    let own : (view_at n.present i).part.own ≡ i = (sim.present i within).own in
+    let shows : Shows (view_at n.present i) (node_at w.current i) = h.current.each i in
+    let old : List (List ℕ) = frames_of n.released i j in
+    let made : List (List ℕ) = (get_or after j no_outbox).frames in
+    let kept : released_frames (get_or after j no_outbox) ≡ old = same-frames n i j before after staging in
+    let was : released_frames (get_or before j no_outbox) ≡ old = sym (old-frames n i j before after staging) in
+    let here : IsFrameOf i j k (slice_get (sent_to (node_at w.current i) j) k) (slice_get made k) = ⊎_elim (cases_lt j (length n.present))
+      (λ less. ⊎_elim (cases_lt k (length old))
+        (λ early.
+          let there = slice_get-there old k early in
+          let at : slice_get made k ≡ Some there.0 = slice_get-take made (get_or after j no_outbox).released k (subst (λ (z : List (List ℕ)). k < length z) (sym kept) early) ∙ ap (λ (z : List (List ℕ)). slice_get z k) kept ∙ there.1 in
+          let one : IsFrameOf i j k (slice_get (sent_to (node_at w.saved i) j) k) (Some there.0) = subst (IsFrameOf i j k (slice_get (sent_to (node_at w.saved i) j) k)) there.1 (h.released i j k apart) in
+          subst (IsFrameOf i j k (slice_get (sent_to (node_at w.current i) j) k)) (sym at) (frame-grows i j k (sent_to (node_at w.saved i) j) (sent_to (node_at w.current i) j) (slice_get (sent_to (node_at w.saved i) j) k) there.0 (h.grown.sent i j) refl one))
+        (λ late.
+          let low : (link_to (view_at n.present i) j).base ≤ k = omega (arith, h.present_kept i j) in
+          let one : IsFrameOf (view_at n.present i).part.own j k (message_of (link_to (view_at n.present i) j) (k + 1)) (slice_get made k) = staging.staged j less (λ e. apart (sym e)) k (subst (λ (z : List (List ℕ)). length z ≤ k) (sym was) late) in
+          let two : IsFrameOf i j k (message_of (link_to (view_at n.present i) j) (k + 1)) (slice_get made k) = subst (λ (z : ℕ). IsFrameOf z j k (message_of (link_to (view_at n.present i) j) (k + 1)) (slice_get made k)) own one in
+          subst (λ (o : Option Message). IsFrameOf i j k o (slice_get made k)) (message-shown (link_to (view_at n.present i) j) (sent_to (node_at w.current i) j) k (shows.links j) low) two))
+      (λ past.
+        let none : get_or after j no_outbox ≡ no_outbox = get_or-eq_default after no_outbox (omega (arith, staging.width)) in
+        let nothing : sent_to (node_at w.current i) j ≡ [] = get_or-eq_default (node_at w.current i).sent [] (omega (arith, shows.width, (sim.present i within).links)) in
+        let one : IsFrameOf i j k (slice_get {A = Message} [] k) (slice_get {A = List ℕ} [] k) = tt in
+        let two : IsFrameOf i j k (slice_get (sent_to (node_at w.current i) j) k) (slice_get {A = List ℕ} [] k) = subst (λ (z : List Message). IsFrameOf i j k (slice_get z k) (slice_get {A = List ℕ} [] k)) (sym nothing) one in
+        subst (λ (b : OutboxView). IsFrameOf i j k (slice_get (sent_to (node_at w.current i) j) k) (slice_get b.frames k)) (sym none) two) in
+    subst (λ (z : List (List ℕ)). IsFrameOf i j k (slice_get (sent_to (node_at w.current i) j) k) (slice_get z k)) (sym (new-frames after j)) here
+
+longer : (n : Simulated) (i j : ℕ) (before after : List OutboxView) → Staging n i before after → length (frames_of n.released i j) ≤ length (get_or (new_row after) j [])
+longer n i j before after h =
+    let made : List (List ℕ) = (get_or after j no_outbox).frames in
+    let part : length (take (get_or after j no_outbox).released made) ≤ length made = omega (arith, length-take (get_or after j no_outbox).released made) in
+    omega (arith, part, ap length (same-frames n i j before after h), ap length (new-frames after j))
+
+-- the space after node i was saved: u is the present node
+abbrev pub saved_sim : Simulated → ℕ → NodeView → List OutboxView → Simulated
+saved_sim n i u after =
+    record {
+      present = set n.present i (kept_view u);
+      saved = set n.saved i (kept_view u);
+      released = set n.released i (new_row after);
+    }
+
+show-again : (nodes : List NodeView) (states : List NodeState) (i : ℕ) (v : NodeView) → ShowAll nodes states → Shows v (node_at states i) → ShowAll (set nodes i v) states
+show-again nodes states i v all here =
+    subst (ShowAll (set nodes i v)) (set-get_or states i no_node) (show-set nodes states i v (node_at states i) all here)
+
+kept-both : (nodes : List NodeView) (n : Simulated) (i : ℕ) (u : NodeView) (row : List (List (List ℕ))) → length nodes ≡ length n.released → AreKept nodes n.released → ((j : ℕ) → (link_to u j).base ≤ length (get_or row j [])) → AreKept (set nodes i (kept_view u)) (set n.released i row)
+kept-both nodes n i u row width all here = λ a j.
+    both_set_if (λ (v : NodeView) (r : List (List (List ℕ))). (link_to v j).base ≤ length (get_or r j [])) nodes n.released no_view [] i (kept_view u) row width a
+    (λ e. subst (λ (b : ℕ). b ≤ length (get_or row j [])) (sym (kept-base u j)) (here j))
+    (all a j)
+
+shows-saved : (n : Simulated) (w : World) (i : ℕ) (before after : List OutboxView) → ShowsWorld n w → IsSim n → i < length n.present → Staging n i before after → take_step w (step.Save i) ≡ Ok (record w { saved = set w.saved i (node_at w.current i) }, outcome.Done) → ShowsWorld (saved_sim n i (view_at n.present i) after) (record w { saved = set w.saved i (node_at w.current i) })
+shows-saved n w i before after h sim within staging answer =
+    let u : NodeView = view_at n.present i in
+    let shown : Shows (kept_view u) (node_at w.current i) = kept-shows u (node_at w.current i) (h.current.each i) in
+    let low : (j : ℕ) → (link_to u j).base ≤ length (get_or (new_row after) j []) = λ j. omega (arith, h.present_kept i j, longer n i j before after staging) in
+    record {
+      current = show-again n.present w.current i (kept_view u) h.current shown;
+      saved = show-set n.saved w.saved i (kept_view u) (node_at w.current i) h.saved shown;
+      released = λ a j k apart.
+        both_set_if (λ (r : List (List (List ℕ))) (s : NodeState). IsFrameOf a j k (slice_get (sent_to s j) k) (slice_get (get_or r j []) k)) n.released w.saved [] no_node i (new_row after) (node_at w.current i) (sim.rows ∙ sym sim.saved_width ∙ h.saved.width) a
+        (λ e. subst (λ (z : ℕ). IsFrameOf z j k (slice_get (sent_to (node_at w.current i) j) k) (slice_get (get_or (new_row after) j []) k)) e (new-frame n w i j k before after h sim within staging (λ q. apart (sym e ∙ q))))
+        (h.released a j k apart);
+      grown = grown-by w _ (step.Save i) outcome.Done h.grown answer;
+      present_kept = kept-both n.present n i u (new_row after) (sym sim.rows) h.present_kept low;
+      saved_kept = kept-both n.saved n i u (new_row after) (sim.saved_width ∙ sym sim.rows) h.saved_kept low;
+    }
+
+pub save-follows : (n : Simulated) (w : World) (i : ℕ) (before after : List OutboxView) → ShowsWorld n w → IsSim n → i < length n.present → Staging n i before after → FollowsStep (Ok outcome.Done) (saved_sim n i (view_at n.present i) after) (take_step w (step.Save i))
+unfolding take_step
+save-follows n w i before after h sim within staging =
+    let answer : take_step w (step.Save i) ≡ Ok (record w { saved = set w.saved i (node_at w.current i) }, outcome.Done) = cond-is _ _ _ (is-node n w i h within) in
+    (record w { saved = set w.saved i (node_at w.current i) }, answer, shows-saved n w i before after h sim within staging answer)
+
+placed-set : (count i : ℕ) (nodes : List NodeView) (v : NodeView) (j : ℕ) → IsPlaced count i v → IsPlaced count j (view_at nodes j) → IsPlaced count j (view_at (set nodes i v) j)
+placed-set count i nodes v j here there =
+    at_set_if (IsPlaced count j) nodes i j v no_view (λ e. subst (λ (k : ℕ). IsPlaced count k v) e here) there
+
+pub sim-saved : (n : Simulated) (i : ℕ) (before after : List OutboxView) → IsSim n → i < length n.present → Staging n i before after → IsSim (saved_sim n i (view_at n.present i) after)
+sim-saved n i before after h within staging =
+    let u : NodeView = view_at n.present i in
+    let width : length (set n.present i (kept_view u)) ≡ length n.present = length-set n.present i (kept_view u) in
+    let here : IsPlaced (length n.present) i (kept_view u) = kept-placed (length n.present) i u (h.present i within) in
+    let wide : length (new_row after) ≡ length n.present = length-map (map all_released after) released_frames ∙ length-map after all_released ∙ staging.width in
+    record {
+      small = subst (λ (k : ℕ). k ≤ GREATEST_NODES) (sym width) h.small;
+      saved_width = length-set n.saved i (kept_view u) ∙ h.saved_width ∙ sym width;
+      rows = length-set n.released i (new_row after) ∙ h.rows ∙ sym width;
+      row = λ j less.
+        at_set_if (λ (r : List (List (List ℕ))). length r ≡ length (set n.present i (kept_view u))) n.released i j (new_row after) []
+        (λ e. wide ∙ sym width)
+        (h.row j (subst (λ (k : ℕ). j < k) width less) ∙ sym width);
+      present = λ j less. subst (λ (k : ℕ). IsPlaced k j (view_at (set n.present i (kept_view u)) j)) (sym width) (placed-set (length n.present) i n.present (kept_view u) j here (h.present j (subst (λ (k : ℕ). j < k) width less)));
+      saved = λ j less. subst (λ (k : ℕ). IsPlaced k j (view_at (set n.saved i (kept_view u)) j)) (sym width) (placed-set (length n.present) i n.saved (kept_view u) j here (h.saved j (subst (λ (k : ℕ). j < k) width less)));
+    }

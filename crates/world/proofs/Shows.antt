@@ -1,0 +1,159 @@
+-- Each step of the code's space is the step of the definitions.
+use Rattle.std.proofs.Common.{◌≡◌, ◌≢◌, ℕ, zero, suc, ◌+◌, ◌-◌, ◌<◌, ◌≤◌, Bool, true, false, ◌&&◌, not, cond, List, [], ◌∷◌, ◌++◌, length, map, drop, get_or, set, slice_get, Option, Some, None, Result, Ok, Err, ltb, eqb, refl, ap, sym, ◌∙◌, subst, arith}
+use Rattle.std.proofs.Math.ListN.{get_or-map}
+use Rattle.std.proofs.lemmas.List.{length-set, length-map, get_or_read}
+use Rattle.std.proofs.lemmas.Bool.{lt-ltb, le-ltb}
+use Rattle.ids.specs.declared.refusal.Refusal.{Refusal}
+use Rattle.ids.specs.declared.refusal.Refusal.TheVariants.{NoNode}
+use Rattle.msg.specs.declared.body.Message.{Message}
+use Rattle.model.specs.declared.event.Event.{Event}
+use Rattle.model.specs.declared.event.Answer.{Answer}
+use Rattle.model.specs.declared.step.Step.{Step}
+use Rattle.model.specs.declared.step.Step.TheVariants as step
+use Rattle.model.specs.declared.step.Outcome.{Outcome}
+use Rattle.model.specs.declared.step.Outcome.TheVariants as outcome
+use Rattle.model.specs.State.{NodeState, node_at, no_node, sent_to}
+use Rattle.model.specs.Steps.{act, receive, is_own}
+use Rattle.model.specs.View.{Link, NodeView, Shows, ShowsSent, Follows, no_link, link_to, base_of, kept_view, all_kept, used}
+use Rattle.model.specs.World.{World, KeepsSent, take_step, happens, world_after, moved, is_node}
+use Rattle.model.proofs.Lookups.{both_set}
+use Rattle.laws.proofs.Lookups.{at_set_if}
+use Rattle.laws.proofs.KeepsSent.{keeps-sent}
+use Rattle.ids.specs.Limits.{Shaped}
+use Rattle.ids.specs.declared.limits.TheConstants.{GREATEST_NODES}
+use Rattle.world.specs.Shows.{Simulated, ShowAll, ShowsWorld, FollowsStep, AreKept, IsPlaced, IsSim, no_view, view_at, frames_of}
+
+-- a step that the definitions answer leads to the space that happens
+pub grown-by : (w v : World) (s : Step) (o : Outcome) → KeepsSent w → take_step w s ≡ Ok (v, o) → KeepsSent v
+grown-by w v s o h e =
+    let same : happens w s ≡ v = ap (world_after w) e in
+    subst KeepsSent same (keeps-sent w s h)
+
+pub show-set : (nodes : List NodeView) (states : List NodeState) (i : ℕ) (v : NodeView) (s : NodeState) → ShowAll nodes states → Shows v s → ShowAll (set nodes i v) (set states i s)
+show-set nodes states i v s all here = record {
+  width = length-set nodes i v ∙ all.width ∙ sym (length-set states i s);
+  each = both_set Shows nodes states no_view no_node i v s all.width here all.each;
+}
+
+-- a node let go of nothing
+pub base-same : (v u : NodeView) (j : ℕ) → map base_of v.links ≡ map base_of u.links → (link_to v j).base ≡ (link_to u j).base
+base-same v u j e =
+    sym (get_or-map base_of v.links j no_link) ∙ ap (λ (z : List ℕ). get_or z j 0) e ∙ get_or-map base_of u.links j no_link
+
+pub kept-set : (nodes : List NodeView) (released : List (List (List (List ℕ)))) (i : ℕ) (v : NodeView) → AreKept nodes released → ((j : ℕ) → (link_to v j).base ≤ length (frames_of released i j)) → AreKept (set nodes i v) released
+kept-set nodes released i v all here = λ a j.
+    at_set_if (λ (z : NodeView). (link_to z j).base ≤ length (frames_of released a j)) nodes i a v no_view
+    (λ e. subst (λ (n : ℕ). (link_to v j).base ≤ length (frames_of released n j)) e (here j))
+    (all a j)
+
+-- one node's present state changes
+pub shows-moved : (n : Simulated) (w : World) (i : ℕ) (v : NodeView) (s : NodeState) (e : Step) (o : Outcome) → ShowsWorld n w → take_step w e ≡ Ok (record w { current = set w.current i s }, o) → Shows v s → ((j : ℕ) → (link_to v j).base ≤ length (frames_of n.released i j)) → ShowsWorld (record n { present = set n.present i v }) (record w { current = set w.current i s })
+shows-moved n w i v s e o h answered here kept = record {
+  current = show-set n.present w.current i v s h.current here;
+  saved = h.saved;
+  released = h.released;
+  grown = grown-by w _ e o h.grown answered;
+  present_kept = kept-set n.present n.released i v h.present_kept kept;
+  saved_kept = h.saved_kept;
+}
+
+-- what a node answered, as what became of the step
+abbrev pub answered : Result Answer Refusal → Result Outcome Refusal
+answered (Ok a) = Ok (outcome.Answer a)
+answered (Err e) = Err e
+
+pub moved-follows : (n : Simulated) (w : World) (i : ℕ) (e : Step) (v : NodeView) (r : Result Answer Refusal) (x : Result (NodeState × Answer) Refusal) → ShowsWorld n w → take_step w e ≡ moved w i x → map base_of v.links ≡ map base_of (view_at n.present i).links → Follows r v x → FollowsStep (answered r) (record n { present = set n.present i v }) (take_step w e)
+moved-follows n w i e v (Ok a) x h is bases (s, stepped, shows) =
+    let answer : take_step w e ≡ Ok (record w { current = set w.current i s }, outcome.Answer a) = is ∙ ap (moved w i) stepped in
+    (record w { current = set w.current i s }, answer,
+    shows-moved n w i v s e (outcome.Answer a) h answer shows (λ j. subst (λ (b : ℕ). b ≤ length (frames_of n.released i j)) (sym (base-same v (view_at n.present i) j bases)) (h.present_kept i j)))
+moved-follows n w i e v (Err r) x h is bases f = λ ne. is ∙ ap (moved w i) (f ne)
+
+pub is-node : (n : Simulated) (w : World) (i : ℕ) → ShowsWorld n w → i < length n.present → is_node w i ≡ true
+is-node n w i h within = lt-ltb i (length w.current) (subst (λ (k : ℕ). i < k) h.current.width within)
+
+pub is-no-node : (n : Simulated) (w : World) (i : ℕ) → ShowsWorld n w → length n.present ≤ i → is_node w i ≡ false
+is-no-node n w i h past = le-ltb i (length w.current) (subst (λ (k : ℕ). k ≤ i) h.current.width past)
+
+pub cond-is : {A : Type 0} (b : Bool) (x y : A) → b ≡ true → cond b x y ≡ x
+cond-is b x y e = ap (λ (z : Bool). cond z x y) e
+
+pub cond-not : {A : Type 0} (b : Bool) (x y : A) → b ≡ false → cond b x y ≡ y
+cond-not b x y e = ap (λ (z : Bool). cond z x y) e
+
+-- an event of a node
+pub act-follows : (n : Simulated) (w : World) (i : ℕ) (e : Event) (v : NodeView) (r : Result Answer Refusal) → ShowsWorld n w → i < length n.present → is_own e ≡ true → map base_of v.links ≡ map base_of (view_at n.present i).links → Follows r v (act (node_at w.current i) e) → FollowsStep (answered r) (record n { present = set n.present i v }) (take_step w (step.Act i e))
+unfolding take_step
+act-follows n w i e v r h within own bases follows =
+    moved-follows n w i (step.Act i e) v r (act (node_at w.current i) e) h (cond-is _ _ _ (is-node n w i h within) ∙ cond-is _ _ _ own) bases follows
+
+pub act-no-node : (n : Simulated) (w : World) (i : ℕ) (e : Event) → ShowsWorld n w → length n.present ≤ i → FollowsStep (Err NoNode) n (take_step w (step.Act i e))
+unfolding take_step
+act-no-node n w i e h past = λ ne. cond-not _ _ _ (is-no-node n w i h past)
+
+-- a restart
+pub restart-follows : (n : Simulated) (w : World) (i : ℕ) → ShowsWorld n w → i < length n.present → FollowsStep (Ok outcome.Done) (record n { present = set n.present i (view_at n.saved i) }) (take_step w (step.Restart i))
+unfolding take_step
+restart-follows n w i h within =
+    let answer : take_step w (step.Restart i) ≡ Ok (record w { current = set w.current i (node_at w.saved i) }, outcome.Done) = cond-is _ _ _ (is-node n w i h within) in
+    (record w { current = set w.current i (node_at w.saved i) }, answer,
+    shows-moved n w i (view_at n.saved i) (node_at w.saved i) (step.Restart i) outcome.Done h answer (h.saved.each i) (h.saved_kept i))
+
+pub restart-no-node : (n : Simulated) (w : World) (i : ℕ) → ShowsWorld n w → length n.present ≤ i → FollowsStep (Err NoNode) n (take_step w (step.Restart i))
+unfolding take_step
+restart-no-node n w i h past = λ ne. cond-not _ _ _ (is-no-node n w i h past)
+
+pub save-no-node : (n : Simulated) (w : World) (i : ℕ) → ShowsWorld n w → length n.present ≤ i → FollowsStep (Err NoNode) n (take_step w (step.Save i))
+unfolding take_step
+save-no-node n w i h past = λ ne. cond-not _ _ _ (is-no-node n w i h past)
+
+-- a node that did something stands where it stood
+pub placed-acted : (count i : ℕ) (u v : NodeView) → IsPlaced count i u → (v.part.shape ≡ u.part.shape) × (v.part.own ≡ u.part.own) → map base_of v.links ≡ map base_of u.links → IsPlaced count i v
+placed-acted count i u v h place bases = record {
+  own = place.1 ∙ h.own;
+  nodes = ap (λ (z : Shaped). z.nodes) place.0 ∙ h.nodes;
+  links = sym (length-map v.links base_of) ∙ ap length bases ∙ length-map u.links base_of ∙ h.links;
+}
+
+pub sim-moved : (n : Simulated) (i : ℕ) (v : NodeView) → IsSim n → IsPlaced (length n.present) i v → IsSim (record n { present = set n.present i v })
+sim-moved n i v h here =
+    let width : length (set n.present i v) ≡ length n.present = length-set n.present i v in
+    record {
+      small = subst (λ (k : ℕ). k ≤ GREATEST_NODES) (sym width) h.small;
+      saved_width = h.saved_width ∙ sym width;
+      rows = h.rows ∙ sym width;
+      row = λ j less. h.row j (subst (λ (k : ℕ). j < k) width less) ∙ sym width;
+      present = λ j less. subst (λ (k : ℕ). IsPlaced k j (view_at (set n.present i v) j)) (sym width) (at_set_if (IsPlaced (length n.present) j) n.present i j v no_view (λ e. subst (λ (k : ℕ). IsPlaced (length n.present) k v) e here) (h.present j (subst (λ (k : ℕ). j < k) width less)));
+      saved = λ j less. subst (λ (k : ℕ). IsPlaced k j (view_at n.saved j)) (sym width) (h.saved j (subst (λ (k : ℕ). j < k) width less));
+    }
+
+-- The same as the code has it: u is the node that was read from its place, v the node afterwards.
+pub read-is : (nodes : List NodeView) (i : ℕ) (u : NodeView) → i < length nodes → u ≡ get_or nodes i u → u ≡ view_at nodes i
+read-is nodes i u within read = get_or_read nodes i u within read no_view
+
+pub sim-acted : (n : Simulated) (i : ℕ) (u v : NodeView) → IsSim n → i < length n.present → u ≡ get_or n.present i u → (v.part.shape ≡ u.part.shape) × (v.part.own ≡ u.part.own) → map base_of v.links ≡ map base_of u.links → IsSim (record n { present = set n.present i v })
+sim-acted n i u v h within read place bases =
+    let was : IsPlaced (length n.present) i u = subst (IsPlaced (length n.present) i) (sym (read-is n.present i u within read)) (h.present i within) in
+    sim-moved n i v h (placed-acted (length n.present) i u v was place bases)
+
+pub acted-follows : (n : Simulated) (w : World) (i node : ℕ) (e : Event) (u v : NodeView) (r : Result Answer Refusal) → ShowsWorld n w → i < length n.present → i ≡ node → is_own e ≡ true → u ≡ get_or n.present i u → map base_of v.links ≡ map base_of u.links → ((s : NodeState) → Shows u s → Follows r v (act s e)) → FollowsStep (answered r) (record n { present = set n.present i v }) (take_step w (step.Act node e))
+acted-follows n w i node e u v r h within named own read bases follows =
+    let there : u ≡ view_at n.present i = read-is n.present i u within read in
+    let shown : Shows u (node_at w.current i) = subst (λ (z : NodeView). Shows z (node_at w.current i)) (sym there) (h.current.each i) in
+    let here : FollowsStep (answered r) (record n { present = set n.present i v }) (take_step w (step.Act i e)) = act-follows n w i e v r h within own (bases ∙ ap (λ (z : NodeView). map base_of z.links) there) (follows (node_at w.current i) shown) in
+    subst (λ (k : ℕ). FollowsStep (answered r) (record n { present = set n.present i v }) (take_step w (step.Act k e))) named here
+
+-- a restart as the code has it: u is the saved node, v its copy
+restarted-is : (n : Simulated) (i : ℕ) (u v : NodeView) → IsSim n → i < length n.present → u ≡ get_or n.saved i u → v ≡ u → v ≡ view_at n.saved i
+restarted-is n i u v h within read copy =
+    copy ∙ read-is n.saved i u (subst (λ (k : ℕ). i < k) (sym h.saved_width) within) read
+
+pub sim-restarted : (n : Simulated) (i : ℕ) (u v : NodeView) → IsSim n → i < length n.present → u ≡ get_or n.saved i u → v ≡ u → IsSim (record n { present = set n.present i v })
+sim-restarted n i u v h within read copy =
+    sim-moved n i v h (subst (IsPlaced (length n.present) i) (sym (restarted-is n i u v h within read copy)) (h.saved i within))
+
+pub restarted-follows : (n : Simulated) (w : World) (i node : ℕ) (u v : NodeView) → ShowsWorld n w → IsSim n → i < length n.present → i ≡ node → u ≡ get_or n.saved i u → v ≡ u → FollowsStep (Ok outcome.Done) (record n { present = set n.present i v }) (take_step w (step.Restart node))
+restarted-follows n w i node u v h sim within named read copy =
+    let same : v ≡ view_at n.saved i = restarted-is n i u v sim within read copy in
+    let here : FollowsStep (Ok outcome.Done) (record n { present = set n.present i v }) (take_step w (step.Restart i)) = subst (λ (z : NodeView). FollowsStep (Ok outcome.Done) (record n { present = set n.present i z }) (take_step w (step.Restart i))) (sym same) (restart-follows n w i h within) in
+    subst (λ (k : ℕ). FollowsStep (Ok outcome.Done) (record n { present = set n.present i v }) (take_step w (step.Restart k))) named here
