@@ -16,7 +16,7 @@ use Rattle.model.specs.declared.step.Outcome.{Outcome}
 use Rattle.model.specs.declared.step.Outcome.TheVariants as outcome
 use Rattle.model.specs.State.{NodeState, node_at, sent_to}
 use Rattle.model.specs.Steps.{act, receive}
-use Rattle.model.specs.View.{NodeView, Shows, Follows, base_of}
+use Rattle.model.specs.View.{NodeView, Shows, Follows}
 use Rattle.model.specs.World.{World, take_step, moved, released, numbered, handed_over, is_node}
 use Rattle.world.specs.Outboxes.{IsFrameOf, numbered_bytes}
 use Rattle.world.specs.Shows.{Simulated, ShowsWorld, FollowsStep, IsEventOf, frames_of, view_at}
@@ -111,9 +111,9 @@ act-receives s (event.Drop a) from to number x h = absurd h
 act-receives s (event.Give a b d) from to number x h = absurd h
 act-receives s (event.Accept a) from to number x h = absurd h
 
-pub delivered-follows : (n : Simulated) (w : World) (from to i number : ℕ) (bytes : List ℕ) (f : Plain) (e : Event) (u v : NodeView) (r : Result Answer Refusal) → ShowsWorld n w → from < length n.present → to < length n.present → from ≢ to → to ≡ i → numbered_bytes (frames_of n.released from to) number ≡ Some bytes → Fits f → bytes ≡ spelling f → IsEventOf e f → u ≡ get_or n.present i u → map base_of v.links ≡ map base_of u.links → ((s : NodeState) → Shows u s → Follows r v (act s e)) → FollowsStep (answered r) (record n { present = set n.present i v }) (take_step w (step.Deliver from to number))
+pub delivered-follows : (n : Simulated) (w : World) (from to i number : ℕ) (bytes : List ℕ) (f : Plain) (e : Event) (u v : NodeView) (r : Result Answer Refusal) → ShowsWorld n w → from < length n.present → to < length n.present → from ≢ to → to ≡ i → numbered_bytes (frames_of n.released from to) number ≡ Some bytes → Fits f → bytes ≡ spelling f → IsEventOf e f → u ≡ get_or n.present i u → ((s : NodeState) → Shows u s → Follows r v (act s e)) → FollowsStep (answered r) (record n { present = set n.present i v }) (take_step w (step.Deliver from to number))
 unfolding take_step
-delivered-follows n w from to i number bytes f e u v r h fr t apart named there fits spelled event read bases follows =
+delivered-follows n w from to i number bytes f e u v r h fr t apart named there fits spelled event read follows =
     let frame : Found n w from to number bytes = found n w from to number bytes h apart there in
     let x : Message = frame.message in
     let longer : spelling f ++ [] ≡ spelling (data_frame from to number x.stamp x.body) = append-nil (spelling f) ∙ sym spelled ∙ frame.spelled in
@@ -126,4 +126,4 @@ delivered-follows n w from to i number bytes f e u v r h fr t apart named there 
     let here : Follows r v (receive (node_at w.current i) from to number x.stamp x.body) = subst (Follows r v) same (follows (node_at w.current i) shown) in
     let moves : take_step w (step.Deliver from to number) ≡ moved w to (receive (node_at w.current to) from to number x.stamp x.body) = cond-is _ _ _ (both-nodes n w from to h fr t) ∙ ap (handed_over w from to number) frame.there in
     let at : take_step w (step.Deliver from to number) ≡ moved w i (receive (node_at w.current i) from to number x.stamp x.body) = moves ∙ ap (λ (k : ℕ). moved w k (receive (node_at w.current k) from to number x.stamp x.body)) named in
-    moved-follows n w i (step.Deliver from to number) v r (receive (node_at w.current i) from to number x.stamp x.body) h at (bases ∙ ap (λ (z : NodeView). map base_of z.links) node) here
+    moved-follows n w i (step.Deliver from to number) v r (receive (node_at w.current i) from to number x.stamp x.body) h at here

@@ -3,3 +3,4 @@ pub mod Shows
 pub mod Handed
 pub mod Rows
 pub mod Saved
+pub mod New

@@ -1,22 +1,40 @@
 -- Reading the released frames of a pair of nodes.
-use Rattle.std.proofs.Common.{◌≡◌, ℕ, zero, suc, ◌<◌, List, [], ◌∷◌, arith, length, map, get_or, sym, ◌∙◌, ap}
-use Rattle.std.proofs.lemmas.List.{get_or-map, length-map}
+use Rattle.std.proofs.Common.{◌≡◌, ℕ, zero, suc, ◌<◌, List, [], ◌∷◌, ◌++◌, arith, length, map, take, drop, get_or, set, sym, subst, ◌∙◌, ap}
+use Rattle.std.proofs.lemmas.List.{get_or-map, length-map, map-set, set-get_or}
+use Rattle.std.proofs.Math.Seq.{take-append_seam}
 use Rattle.std.specs.declared.vec.Vec.{Vec}
 use Rattle.std.specs.declared.alloc.Global.{Global}
 use Rattle.world.specs.Outboxes.{OutboxView, released_frames}
 use Rattle.world.specs.Rows.{rows_of}
 use Rattle.world.specs.Shows.{frames_of}
 
+pub row-is : (rows : List (Vec OutboxView Global)) (i : ℕ) (row : Vec OutboxView Global) → i < length rows → row ≡ get_or rows i row → get_or (rows_of rows) i [] ≡ map released_frames row.items
+row-is rows i row within read =
+    get_or-map (λ (r : Vec OutboxView Global). map released_frames r.items) rows i row [] within ∙ ap (λ (r : Vec OutboxView Global). map released_frames r.items) (sym read)
+
 pub frames-read : (rows : List (Vec OutboxView Global)) (from to : ℕ) (row : Vec OutboxView Global) (b : OutboxView) → from < length rows → row ≡ get_or rows from row → to < length row.items → b ≡ get_or row.items to b → frames_of (rows_of rows) from to ≡ released_frames b
 frames-read rows from to row b fewer at less there =
-    ap (λ (z : List (List (List ℕ))). get_or z to []) (get_or-map (λ (r : Vec OutboxView Global). map released_frames r.items) rows from row [] fewer ∙ ap (λ (r : Vec OutboxView Global). map released_frames r.items) (sym at))
+    ap (λ (z : List (List (List ℕ))). get_or z to []) (row-is rows from row fewer at)
     ∙ get_or-map released_frames row.items to b [] less ∙ ap released_frames (sym there)
 
 pub row-length : (rows : List (Vec OutboxView Global)) (from : ℕ) (row : Vec OutboxView Global) → from < length rows → row ≡ get_or rows from row → length (get_or (rows_of rows) from []) ≡ length row.items
-row-length rows from row fewer at =
-    ap length (get_or-map (λ (r : Vec OutboxView Global). map released_frames r.items) rows from row [] fewer ∙ ap (λ (r : Vec OutboxView Global). map released_frames r.items) (sym at)) ∙ length-map row.items released_frames
+row-length rows from row fewer at = ap length (row-is rows from row fewer at) ∙ length-map row.items released_frames
 
 pub row-there : (rows : List (Vec OutboxView Global)) (from to : ℕ) → to < length (get_or (rows_of rows) from []) → from < length rows
 row-there [] from to h = absurd (omega arith)
 row-there (r ∷ rows) zero to h = omega arith
 row-there (r ∷ rows) (suc from) to h = omega (arith, row-there rows from to h)
+
+-- one row changes
+pub rows-set : (rows : List (Vec OutboxView Global)) (i : ℕ) (row : Vec OutboxView Global) (items : List OutboxView) → row.items ≡ items → rows_of (set rows i row) ≡ set (rows_of rows) i (map released_frames items)
+rows-set rows i row items same =
+    map-set (λ (r : Vec OutboxView Global). map released_frames r.items) rows i row ∙ ap (λ (z : List OutboxView). set (rows_of rows) i (map released_frames z)) same
+
+-- one row changes, and has released the same
+pub rows-same : (rows : List (Vec OutboxView Global)) (i : ℕ) (before after : Vec OutboxView Global) (items : List OutboxView) → i < length rows → before ≡ get_or rows i before → after.items ≡ items → map released_frames items ≡ map released_frames before.items → rows_of (set rows i after) ≡ rows_of rows
+rows-same rows i before after items within read same released =
+    rows-set rows i after items same ∙ ap (λ (z : List (List (List ℕ))). set (rows_of rows) i z) (released ∙ sym (row-is rows i before within read)) ∙ set-get_or (rows_of rows) i []
+
+-- a vector that was passed on as a slice has the elements that the slice was left with
+pub refilled : {A : Type 0} (xs ys : List A) (n : ℕ) → length ys ≡ n → take n (ys ++ drop (length ys) xs) ≡ ys
+refilled xs ys n e = subst (λ (k : ℕ). take k (ys ++ drop (length ys) xs) ≡ ys) e (take-append_seam ys (drop (length ys) xs))

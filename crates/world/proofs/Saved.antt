@@ -46,7 +46,7 @@ slice_get-drop (x ∷ xs) (suc i) k =
 -- what the node still keeps under a number is the message of that number
 pub message-shown : (l : Link) (sent : List Message) (k : ℕ) → ShowsSent l sent → l.base ≤ k → message_of l (k + 1) ≡ slice_get sent k
 message-shown l sent k h low =
-    let over : leb (k + 1) l.base ≡ false = lt-leb l.base (k + 1) (omega arith) in
+    let over : leb (k + 1) l.base ≡ false = lt-leb (k + 1) l.base (omega arith) in
     let place : k + 1 - l.base - 1 ≡ k - l.base = omega arith in
     let back : l.base + (k - l.base) ≡ k = omega arith in
     cond-not (leb (k + 1) l.base) None (slice_get l.window (k + 1 - l.base - 1)) over
@@ -114,24 +114,24 @@ new-frame n w i j k before after h sim within staging apart =
     let made : List (List ℕ) = (get_or after j no_outbox).frames in
     let kept : released_frames (get_or after j no_outbox) ≡ old = same-frames n i j before after staging in
     let was : released_frames (get_or before j no_outbox) ≡ old = sym (old-frames n i j before after staging) in
-    let here : IsFrameOf i j k (slice_get (sent_to (node_at w.current i) j) k) (slice_get made k) = ⊎_elim (cases_lt j (length n.present))
-      (λ less. ⊎_elim (cases_lt k (length old))
-        (λ early.
-          let there = slice_get-there old k early in
-          let at : slice_get made k ≡ Some there.0 = slice_get-take made (get_or after j no_outbox).released k (subst (λ (z : List (List ℕ)). k < length z) (sym kept) early) ∙ ap (λ (z : List (List ℕ)). slice_get z k) kept ∙ there.1 in
-          let one : IsFrameOf i j k (slice_get (sent_to (node_at w.saved i) j) k) (Some there.0) = subst (IsFrameOf i j k (slice_get (sent_to (node_at w.saved i) j) k)) there.1 (h.released i j k apart) in
-          subst (IsFrameOf i j k (slice_get (sent_to (node_at w.current i) j) k)) (sym at) (frame-grows i j k (sent_to (node_at w.saved i) j) (sent_to (node_at w.current i) j) (slice_get (sent_to (node_at w.saved i) j) k) there.0 (h.grown.sent i j) refl one))
-        (λ late.
-          let low : (link_to (view_at n.present i) j).base ≤ k = omega (arith, h.present_kept i j) in
-          let one : IsFrameOf (view_at n.present i).part.own j k (message_of (link_to (view_at n.present i) j) (k + 1)) (slice_get made k) = staging.staged j less (λ e. apart (sym e)) k (subst (λ (z : List (List ℕ)). length z ≤ k) (sym was) late) in
-          let two : IsFrameOf i j k (message_of (link_to (view_at n.present i) j) (k + 1)) (slice_get made k) = subst (λ (z : ℕ). IsFrameOf z j k (message_of (link_to (view_at n.present i) j) (k + 1)) (slice_get made k)) own one in
-          subst (λ (o : Option Message). IsFrameOf i j k o (slice_get made k)) (message-shown (link_to (view_at n.present i) j) (sent_to (node_at w.current i) j) k (shows.links j) low) two))
-      (λ past.
-        let none : get_or after j no_outbox ≡ no_outbox = get_or-eq_default after no_outbox (omega (arith, staging.width)) in
-        let nothing : sent_to (node_at w.current i) j ≡ [] = get_or-eq_default (node_at w.current i).sent [] (omega (arith, shows.width, (sim.present i within).links)) in
-        let one : IsFrameOf i j k (slice_get {A = Message} [] k) (slice_get {A = List ℕ} [] k) = tt in
-        let two : IsFrameOf i j k (slice_get (sent_to (node_at w.current i) j) k) (slice_get {A = List ℕ} [] k) = subst (λ (z : List Message). IsFrameOf i j k (slice_get z k) (slice_get {A = List ℕ} [] k)) (sym nothing) one in
-        subst (λ (b : OutboxView). IsFrameOf i j k (slice_get (sent_to (node_at w.current i) j) k) (slice_get b.frames k)) (sym none) two) in
+    let Goal : Type 0 = IsFrameOf i j k (slice_get (sent_to (node_at w.current i) j) k) (slice_get made k) in
+    let old_one : k < length old → Goal = λ early.
+      let there : (x : List ℕ) × (slice_get old k ≡ Some x) = slice_get-there old k early in
+      let at : slice_get made k ≡ Some there.0 = slice_get-take made (get_or after j no_outbox).released k (subst (λ (z : List (List ℕ)). k < length z) (sym kept) early) ∙ ap (λ (z : List (List ℕ)). slice_get z k) kept ∙ there.1 in
+      let one : IsFrameOf i j k (slice_get (sent_to (node_at w.saved i) j) k) (Some there.0) = subst (IsFrameOf i j k (slice_get (sent_to (node_at w.saved i) j) k)) there.1 (h.released i j k apart) in
+      subst (IsFrameOf i j k (slice_get (sent_to (node_at w.current i) j) k)) (sym at) (frame-grows i j k (sent_to (node_at w.saved i) j) (sent_to (node_at w.current i) j) (slice_get (sent_to (node_at w.saved i) j) k) there.0 (h.grown.sent i j) refl one) in
+    let new_one : j < length n.present → length old ≤ k → Goal = λ less late.
+      let low : (link_to (view_at n.present i) j).base ≤ k = omega (arith, sim.present_kept i j) in
+      let one : IsFrameOf (view_at n.present i).part.own j k (message_of (link_to (view_at n.present i) j) (k + 1)) (slice_get made k) = staging.staged j less (λ e. apart (sym e)) k (subst (λ (z : List (List ℕ)). length z ≤ k) (sym was) late) in
+      let two : IsFrameOf i j k (message_of (link_to (view_at n.present i) j) (k + 1)) (slice_get made k) = subst (λ (z : ℕ). IsFrameOf z j k (message_of (link_to (view_at n.present i) j) (k + 1)) (slice_get made k)) own one in
+      subst (λ (o : Option Message). IsFrameOf i j k o (slice_get made k)) (message-shown (link_to (view_at n.present i) j) (sent_to (node_at w.current i) j) k (shows.links j) low) two in
+    let no_one : length n.present ≤ j → Goal = λ past.
+      let none : get_or after j no_outbox ≡ no_outbox = get_or-eq_default after no_outbox (omega (arith, staging.width)) in
+      let nothing : sent_to (node_at w.current i) j ≡ [] = get_or-eq_default (node_at w.current i).sent [] (omega (arith, shows.width, (sim.present i within).links)) in
+      let one : IsFrameOf i j k (slice_get {X = Message} [] k) (slice_get {X = List ℕ} [] k) = tt in
+      let two : IsFrameOf i j k (slice_get (sent_to (node_at w.current i) j) k) (slice_get {X = List ℕ} [] k) = subst (λ (z : List Message). IsFrameOf i j k (slice_get z k) (slice_get {X = List ℕ} [] k)) (sym nothing) one in
+      subst (λ (b : OutboxView). IsFrameOf i j k (slice_get (sent_to (node_at w.current i) j) k) (slice_get b.frames k)) (sym none) two in
+    let here : Goal = ⊎_elim (λ less. ⊎_elim old_one (new_one less) (cases_lt k (length old))) no_one (cases_lt j (length n.present)) in
     subst (λ (z : List (List ℕ)). IsFrameOf i j k (slice_get (sent_to (node_at w.current i) j) k) (slice_get z k)) (sym (new-frames after j)) here
 
 longer : (n : Simulated) (i j : ℕ) (before after : List OutboxView) → Staging n i before after → length (frames_of n.released i j) ≤ length (get_or (new_row after) j [])
@@ -163,7 +163,6 @@ shows-saved : (n : Simulated) (w : World) (i : ℕ) (before after : List OutboxV
 shows-saved n w i before after h sim within staging answer =
     let u : NodeView = view_at n.present i in
     let shown : Shows (kept_view u) (node_at w.current i) = kept-shows u (node_at w.current i) (h.current.each i) in
-    let low : (j : ℕ) → (link_to u j).base ≤ length (get_or (new_row after) j []) = λ j. omega (arith, h.present_kept i j, longer n i j before after staging) in
     record {
       current = show-again n.present w.current i (kept_view u) h.current shown;
       saved = show-set n.saved w.saved i (kept_view u) (node_at w.current i) h.saved shown;
@@ -172,11 +171,9 @@ shows-saved n w i before after h sim within staging answer =
         (λ e. subst (λ (z : ℕ). IsFrameOf z j k (slice_get (sent_to (node_at w.current i) j) k) (slice_get (get_or (new_row after) j []) k)) e (new-frame n w i j k before after h sim within staging (λ q. apart (sym e ∙ q))))
         (h.released a j k apart);
       grown = grown-by w _ (step.Save i) outcome.Done h.grown answer;
-      present_kept = kept-both n.present n i u (new_row after) (sym sim.rows) h.present_kept low;
-      saved_kept = kept-both n.saved n i u (new_row after) (sim.saved_width ∙ sym sim.rows) h.saved_kept low;
     }
 
-pub save-follows : (n : Simulated) (w : World) (i : ℕ) (before after : List OutboxView) → ShowsWorld n w → IsSim n → i < length n.present → Staging n i before after → FollowsStep (Ok outcome.Done) (saved_sim n i (view_at n.present i) after) (take_step w (step.Save i))
+save-follows : (n : Simulated) (w : World) (i : ℕ) (before after : List OutboxView) → ShowsWorld n w → IsSim n → i < length n.present → Staging n i before after → FollowsStep (Ok outcome.Done) (saved_sim n i (view_at n.present i) after) (take_step w (step.Save i))
 unfolding take_step
 save-follows n w i before after h sim within staging =
     let answer : take_step w (step.Save i) ≡ Ok (record w { saved = set w.saved i (node_at w.current i) }, outcome.Done) = cond-is _ _ _ (is-node n w i h within) in
@@ -191,6 +188,7 @@ sim-saved n i before after h within staging =
     let u : NodeView = view_at n.present i in
     let width : length (set n.present i (kept_view u)) ≡ length n.present = length-set n.present i (kept_view u) in
     let here : IsPlaced (length n.present) i (kept_view u) = kept-placed (length n.present) i u (h.present i within) in
+    let low : (j : ℕ) → (link_to u j).base ≤ length (get_or (new_row after) j []) = λ j. omega (arith, h.present_kept i j, longer n i j before after staging) in
     let wide : length (new_row after) ≡ length n.present = length-map (map all_released after) released_frames ∙ length-map after all_released ∙ staging.width in
     record {
       small = subst (λ (k : ℕ). k ≤ GREATEST_NODES) (sym width) h.small;
@@ -202,4 +200,33 @@ sim-saved n i before after h within staging =
         (h.row j (subst (λ (k : ℕ). j < k) width less) ∙ sym width);
       present = λ j less. subst (λ (k : ℕ). IsPlaced k j (view_at (set n.present i (kept_view u)) j)) (sym width) (placed-set (length n.present) i n.present (kept_view u) j here (h.present j (subst (λ (k : ℕ). j < k) width less)));
       saved = λ j less. subst (λ (k : ℕ). IsPlaced k j (view_at (set n.saved i (kept_view u)) j)) (sym width) (placed-set (length n.present) i n.saved (kept_view u) j here (h.saved j (subst (λ (k : ℕ). j < k) width less)));
+      present_kept = kept-both n.present n i u (new_row after) (sym h.rows) h.present_kept low;
+      saved_kept = kept-both n.saved n i u (new_row after) (h.saved_width ∙ sym h.rows) h.saved_kept low;
     }
+
+-- the same as the code has it: u is the node that was read from its place and copied, given the outboxes
+-- that were passed on
+pub staging-from : (n : Simulated) (i count : ℕ) (copy u : NodeView) (given before after : List OutboxView) → IsSim n → i < length n.present → count ≡ length n.present → copy ≡ u → u ≡ get_or n.present i u → get_or n.released i [] ≡ map released_frames before → given ≡ before → map released_frames after ≡ map released_frames given → ((j : ℕ) → j < count → j ≢ copy.part.own → IsStaged copy j (get_or given j no_outbox) (get_or after j no_outbox)) → Staging n i before after
+staging-from n i count copy u given before after h within counted copied read row passed same staged =
+    let there : copy ≡ view_at n.present i = copied ∙ read-is n.present i u within read in
+    let own : copy.part.own ≡ i = ap (λ (v : NodeView). v.part.own) there ∙ (h.present i within).own in
+    let released : map released_frames after ≡ map released_frames before = same ∙ ap (map released_frames) passed in
+    record {
+      row = row;
+      width = sym (length-map after released_frames) ∙ ap length (released ∙ sym row) ∙ h.row i within;
+      same = released;
+      staged = λ j less apart.
+        let one : IsStaged copy j (get_or given j no_outbox) (get_or after j no_outbox) = staged j (subst (λ (k : ℕ). j < k) (sym counted) less) (λ e. apart (e ∙ own)) in
+        let two : IsStaged (view_at n.present i) j (get_or given j no_outbox) (get_or after j no_outbox) = subst (λ (v : NodeView). IsStaged v j (get_or given j no_outbox) (get_or after j no_outbox)) there one in
+        subst (λ (z : List OutboxView). IsStaged (view_at n.present i) j (get_or z j no_outbox) (get_or after j no_outbox)) passed two;
+    }
+
+pub saved-view : (n : Simulated) (i : ℕ) (u v x : NodeView) (released : List (List (List (List ℕ)))) (after : List OutboxView) → v ≡ kept_view u → x ≡ kept_view u → released ≡ set n.released i (new_row after) → ◌≡◌ {A = Simulated} (record { present = set n.present i v; saved = set n.saved i x; released = released }) (saved_sim n i u after)
+saved-view n i u v x released after a b c =
+    let first : ◌≡◌ {A = Simulated} (record { present = set n.present i v; saved = set n.saved i x; released = released }) (record { present = set n.present i (kept_view u); saved = set n.saved i x; released = released }) = ap (λ (z : NodeView). record { present = set n.present i z; saved = set n.saved i x; released = released }) a in
+    let second : ◌≡◌ {A = Simulated} (record { present = set n.present i (kept_view u); saved = set n.saved i x; released = released }) (record { present = set n.present i (kept_view u); saved = set n.saved i (kept_view u); released = released }) = ap (λ (z : NodeView). record { present = set n.present i (kept_view u); saved = set n.saved i z; released = released }) b in
+    first ∙ second ∙ ap (λ (z : List (List (List (List ℕ)))). record { present = set n.present i (kept_view u); saved = set n.saved i (kept_view u); released = z }) c
+
+pub saved-follows : (n : Simulated) (w : World) (i node : ℕ) (before after : List OutboxView) → ShowsWorld n w → IsSim n → i < length n.present → i ≡ node → Staging n i before after → FollowsStep (Ok outcome.Done) (saved_sim n i (view_at n.present i) after) (take_step w (step.Save node))
+saved-follows n w i node before after h sim within named staging =
+    subst (λ (k : ℕ). FollowsStep (Ok outcome.Done) (saved_sim n i (view_at n.present i) after) (take_step w (step.Save k))) named (save-follows n w i before after h sim within staging)

@@ -47,14 +47,12 @@ kept-set nodes released i v all here = λ a j.
     (all a j)
 
 -- one node's present state changes
-pub shows-moved : (n : Simulated) (w : World) (i : ℕ) (v : NodeView) (s : NodeState) (e : Step) (o : Outcome) → ShowsWorld n w → take_step w e ≡ Ok (record w { current = set w.current i s }, o) → Shows v s → ((j : ℕ) → (link_to v j).base ≤ length (frames_of n.released i j)) → ShowsWorld (record n { present = set n.present i v }) (record w { current = set w.current i s })
-shows-moved n w i v s e o h answered here kept = record {
+pub shows-moved : (n : Simulated) (w : World) (i : ℕ) (v : NodeView) (s : NodeState) (e : Step) (o : Outcome) → ShowsWorld n w → take_step w e ≡ Ok (record w { current = set w.current i s }, o) → Shows v s → ShowsWorld (record n { present = set n.present i v }) (record w { current = set w.current i s })
+shows-moved n w i v s e o h answered here = record {
   current = show-set n.present w.current i v s h.current here;
   saved = h.saved;
   released = h.released;
   grown = grown-by w _ e o h.grown answered;
-  present_kept = kept-set n.present n.released i v h.present_kept kept;
-  saved_kept = h.saved_kept;
 }
 
 -- what a node answered, as what became of the step
@@ -62,12 +60,12 @@ abbrev pub answered : Result Answer Refusal → Result Outcome Refusal
 answered (Ok a) = Ok (outcome.Answer a)
 answered (Err e) = Err e
 
-pub moved-follows : (n : Simulated) (w : World) (i : ℕ) (e : Step) (v : NodeView) (r : Result Answer Refusal) (x : Result (NodeState × Answer) Refusal) → ShowsWorld n w → take_step w e ≡ moved w i x → map base_of v.links ≡ map base_of (view_at n.present i).links → Follows r v x → FollowsStep (answered r) (record n { present = set n.present i v }) (take_step w e)
-moved-follows n w i e v (Ok a) x h is bases (s, stepped, shows) =
+pub moved-follows : (n : Simulated) (w : World) (i : ℕ) (e : Step) (v : NodeView) (r : Result Answer Refusal) (x : Result (NodeState × Answer) Refusal) → ShowsWorld n w → take_step w e ≡ moved w i x → Follows r v x → FollowsStep (answered r) (record n { present = set n.present i v }) (take_step w e)
+moved-follows n w i e v (Ok a) x h is (s, stepped, shows) =
     let answer : take_step w e ≡ Ok (record w { current = set w.current i s }, outcome.Answer a) = is ∙ ap (moved w i) stepped in
     (record w { current = set w.current i s }, answer,
-    shows-moved n w i v s e (outcome.Answer a) h answer shows (λ j. subst (λ (b : ℕ). b ≤ length (frames_of n.released i j)) (sym (base-same v (view_at n.present i) j bases)) (h.present_kept i j)))
-moved-follows n w i e v (Err r) x h is bases f = λ ne. is ∙ ap (moved w i) (f ne)
+    shows-moved n w i v s e (outcome.Answer a) h answer shows)
+moved-follows n w i e v (Err r) x h is f = λ ne. is ∙ ap (moved w i) (f ne)
 
 pub is-node : (n : Simulated) (w : World) (i : ℕ) → ShowsWorld n w → i < length n.present → is_node w i ≡ true
 is-node n w i h within = lt-ltb i (length w.current) (subst (λ (k : ℕ). i < k) h.current.width within)
@@ -82,10 +80,10 @@ pub cond-not : {A : Type 0} (b : Bool) (x y : A) → b ≡ false → cond b x y 
 cond-not b x y e = ap (λ (z : Bool). cond z x y) e
 
 -- an event of a node
-pub act-follows : (n : Simulated) (w : World) (i : ℕ) (e : Event) (v : NodeView) (r : Result Answer Refusal) → ShowsWorld n w → i < length n.present → is_own e ≡ true → map base_of v.links ≡ map base_of (view_at n.present i).links → Follows r v (act (node_at w.current i) e) → FollowsStep (answered r) (record n { present = set n.present i v }) (take_step w (step.Act i e))
+pub act-follows : (n : Simulated) (w : World) (i : ℕ) (e : Event) (v : NodeView) (r : Result Answer Refusal) → ShowsWorld n w → i < length n.present → is_own e ≡ true → Follows r v (act (node_at w.current i) e) → FollowsStep (answered r) (record n { present = set n.present i v }) (take_step w (step.Act i e))
 unfolding take_step
-act-follows n w i e v r h within own bases follows =
-    moved-follows n w i (step.Act i e) v r (act (node_at w.current i) e) h (cond-is _ _ _ (is-node n w i h within) ∙ cond-is _ _ _ own) bases follows
+act-follows n w i e v r h within own follows =
+    moved-follows n w i (step.Act i e) v r (act (node_at w.current i) e) h (cond-is _ _ _ (is-node n w i h within) ∙ cond-is _ _ _ own) follows
 
 pub act-no-node : (n : Simulated) (w : World) (i : ℕ) (e : Event) → ShowsWorld n w → length n.present ≤ i → FollowsStep (Err NoNode) n (take_step w (step.Act i e))
 unfolding take_step
@@ -97,7 +95,7 @@ unfolding take_step
 restart-follows n w i h within =
     let answer : take_step w (step.Restart i) ≡ Ok (record w { current = set w.current i (node_at w.saved i) }, outcome.Done) = cond-is _ _ _ (is-node n w i h within) in
     (record w { current = set w.current i (node_at w.saved i) }, answer,
-    shows-moved n w i (view_at n.saved i) (node_at w.saved i) (step.Restart i) outcome.Done h answer (h.saved.each i) (h.saved_kept i))
+    shows-moved n w i (view_at n.saved i) (node_at w.saved i) (step.Restart i) outcome.Done h answer (h.saved.each i))
 
 pub restart-no-node : (n : Simulated) (w : World) (i : ℕ) → ShowsWorld n w → length n.present ≤ i → FollowsStep (Err NoNode) n (take_step w (step.Restart i))
 unfolding take_step
@@ -115,8 +113,8 @@ placed-acted count i u v h place bases = record {
   links = sym (length-map v.links base_of) ∙ ap length bases ∙ length-map u.links base_of ∙ h.links;
 }
 
-pub sim-moved : (n : Simulated) (i : ℕ) (v : NodeView) → IsSim n → IsPlaced (length n.present) i v → IsSim (record n { present = set n.present i v })
-sim-moved n i v h here =
+pub sim-moved : (n : Simulated) (i : ℕ) (v : NodeView) → IsSim n → IsPlaced (length n.present) i v → ((j : ℕ) → (link_to v j).base ≤ length (frames_of n.released i j)) → IsSim (record n { present = set n.present i v })
+sim-moved n i v h here low =
     let width : length (set n.present i v) ≡ length n.present = length-set n.present i v in
     record {
       small = subst (λ (k : ℕ). k ≤ GREATEST_NODES) (sym width) h.small;
@@ -125,6 +123,8 @@ sim-moved n i v h here =
       row = λ j less. h.row j (subst (λ (k : ℕ). j < k) width less) ∙ sym width;
       present = λ j less. subst (λ (k : ℕ). IsPlaced k j (view_at (set n.present i v) j)) (sym width) (at_set_if (IsPlaced (length n.present) j) n.present i j v no_view (λ e. subst (λ (k : ℕ). IsPlaced (length n.present) k v) e here) (h.present j (subst (λ (k : ℕ). j < k) width less)));
       saved = λ j less. subst (λ (k : ℕ). IsPlaced k j (view_at n.saved j)) (sym width) (h.saved j (subst (λ (k : ℕ). j < k) width less));
+      present_kept = kept-set n.present n.released i v h.present_kept low;
+      saved_kept = h.saved_kept;
     }
 
 -- The same as the code has it: u is the node that was read from its place, v the node afterwards.
@@ -133,14 +133,16 @@ read-is nodes i u within read = get_or_read nodes i u within read no_view
 
 pub sim-acted : (n : Simulated) (i : ℕ) (u v : NodeView) → IsSim n → i < length n.present → u ≡ get_or n.present i u → (v.part.shape ≡ u.part.shape) × (v.part.own ≡ u.part.own) → map base_of v.links ≡ map base_of u.links → IsSim (record n { present = set n.present i v })
 sim-acted n i u v h within read place bases =
-    let was : IsPlaced (length n.present) i u = subst (IsPlaced (length n.present) i) (sym (read-is n.present i u within read)) (h.present i within) in
-    sim-moved n i v h (placed-acted (length n.present) i u v was place bases)
+    let there : u ≡ view_at n.present i = read-is n.present i u within read in
+    let was : IsPlaced (length n.present) i u = subst (IsPlaced (length n.present) i) (sym there) (h.present i within) in
+    let low : (j : ℕ) → (link_to v j).base ≤ length (frames_of n.released i j) = λ j. subst (λ (b : ℕ). b ≤ length (frames_of n.released i j)) (sym (base-same v u j bases ∙ ap (λ (z : NodeView). (link_to z j).base) there)) (h.present_kept i j) in
+    sim-moved n i v h (placed-acted (length n.present) i u v was place bases) low
 
-pub acted-follows : (n : Simulated) (w : World) (i node : ℕ) (e : Event) (u v : NodeView) (r : Result Answer Refusal) → ShowsWorld n w → i < length n.present → i ≡ node → is_own e ≡ true → u ≡ get_or n.present i u → map base_of v.links ≡ map base_of u.links → ((s : NodeState) → Shows u s → Follows r v (act s e)) → FollowsStep (answered r) (record n { present = set n.present i v }) (take_step w (step.Act node e))
-acted-follows n w i node e u v r h within named own read bases follows =
+pub acted-follows : (n : Simulated) (w : World) (i node : ℕ) (e : Event) (u v : NodeView) (r : Result Answer Refusal) → ShowsWorld n w → i < length n.present → i ≡ node → is_own e ≡ true → u ≡ get_or n.present i u → ((s : NodeState) → Shows u s → Follows r v (act s e)) → FollowsStep (answered r) (record n { present = set n.present i v }) (take_step w (step.Act node e))
+acted-follows n w i node e u v r h within named own read follows =
     let there : u ≡ view_at n.present i = read-is n.present i u within read in
     let shown : Shows u (node_at w.current i) = subst (λ (z : NodeView). Shows z (node_at w.current i)) (sym there) (h.current.each i) in
-    let here : FollowsStep (answered r) (record n { present = set n.present i v }) (take_step w (step.Act i e)) = act-follows n w i e v r h within own (bases ∙ ap (λ (z : NodeView). map base_of z.links) there) (follows (node_at w.current i) shown) in
+    let here : FollowsStep (answered r) (record n { present = set n.present i v }) (take_step w (step.Act i e)) = act-follows n w i e v r h within own (follows (node_at w.current i) shown) in
     subst (λ (k : ℕ). FollowsStep (answered r) (record n { present = set n.present i v }) (take_step w (step.Act k e))) named here
 
 -- a restart as the code has it: u is the saved node, v its copy
@@ -150,7 +152,8 @@ restarted-is n i u v h within read copy =
 
 pub sim-restarted : (n : Simulated) (i : ℕ) (u v : NodeView) → IsSim n → i < length n.present → u ≡ get_or n.saved i u → v ≡ u → IsSim (record n { present = set n.present i v })
 sim-restarted n i u v h within read copy =
-    sim-moved n i v h (subst (IsPlaced (length n.present) i) (sym (restarted-is n i u v h within read copy)) (h.saved i within))
+    let same : v ≡ view_at n.saved i = restarted-is n i u v h within read copy in
+    sim-moved n i v h (subst (IsPlaced (length n.present) i) (sym same) (h.saved i within)) (λ j. subst (λ (z : NodeView). (link_to z j).base ≤ length (frames_of n.released i j)) (sym same) (h.saved_kept i j))
 
 pub restarted-follows : (n : Simulated) (w : World) (i node : ℕ) (u v : NodeView) → ShowsWorld n w → IsSim n → i < length n.present → i ≡ node → u ≡ get_or n.saved i u → v ≡ u → FollowsStep (Ok outcome.Done) (record n { present = set n.present i v }) (take_step w (step.Restart node))
 restarted-follows n w i node u v h sim within named read copy =

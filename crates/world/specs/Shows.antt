@@ -44,8 +44,6 @@ pub record ShowsWorld (n : Simulated) (w : World) : Type 0 where
   -- each released frame spells the message of its number, and there is one for each
   pub released : (i j k : ℕ) → i ≢ j → IsFrameOf i j k (slice_get (sent_to (node_at w.saved i) j) k) (slice_get (frames_of n.released i j) k)
   pub grown : KeepsSent w
-  pub present_kept : AreKept n.present n.released
-  pub saved_kept : AreKept n.saved n.released
 
 -- What a step answered, and the space after it, against the step of the definitions: an answer is the
 -- definition's, and the code then shows the definition's space; a refusal is the first that applies.
@@ -71,3 +69,5 @@ pub record IsSim (n : Simulated) : Type 0 where
   pub row : (i : ℕ) → i < length n.present → length (slice_index_or n.released i []) ≡ length n.present
   pub present : (i : ℕ) → i < length n.present → IsPlaced (length n.present) i (view_at n.present i)
   pub saved : (i : ℕ) → i < length n.present → IsPlaced (length n.present) i (view_at n.saved i)
+  pub present_kept : AreKept n.present n.released
+  pub saved_kept : AreKept n.saved n.released

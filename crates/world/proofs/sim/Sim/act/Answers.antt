@@ -15,7 +15,7 @@ returns-in_err-answer-clause-follows c = λ w h.
     let within : c.from.result < length c.self.inside.present.items = omega (arith, c.count.ensures, c.from.ensures, ap (λ (n : Simulated). length n.present) c.self.view_is) in
     let seen = subst (λ (n : Simulated). ShowsWorld n w) (sym c.self.view_is) h in
     let p = err_from_is_err_and c.from_residual.result c.from_residual.ensures.1 in
-    rw (p.1, p.2) (acted-follows (view_of c.self.inside) w c.from.result c.args.node c.args.event c.index_mut-present.result.now c.act.new.self (Err c.in_err-answer.field-0.0) seen within c.from.ensures c.requires.own c.index_mut-present.ensures.value c.in_err-answer.ensures.bases c.in_err-answer.ensures.states)
+    rw (p.1, p.2) (acted-follows (view_of c.self.inside) w c.from.result c.args.node c.args.event c.index_mut-present.result.now c.act.new.self (Err c.in_err-answer.field-0.0) seen within c.from.ensures c.requires.own c.index_mut-present.ensures.value c.in_err-answer.ensures.states)
 
 pub invariant_of-self-2 : goal.invariant_of-self-2
 invariant_of-self-2 c =
@@ -26,4 +26,4 @@ pub returns-clause-follows : goal.returns-clause-follows
 returns-clause-follows c = λ w h.
     let within : c.from.result < length c.self.inside.present.items = omega (arith, c.count.ensures, c.from.ensures, ap (λ (n : Simulated). length n.present) c.self.view_is) in
     let seen = subst (λ (n : Simulated). ShowsWorld n w) (sym c.self.view_is) h in
-    acted-follows (view_of c.self.inside) w c.from.result c.args.node c.args.event c.index_mut-present.result.now c.act.new.self (Ok c.in_ok-answer.answer) seen within c.from.ensures c.requires.own c.index_mut-present.ensures.value c.in_ok-answer.ensures.bases c.in_ok-answer.ensures.states
+    acted-follows (view_of c.self.inside) w c.from.result c.args.node c.args.event c.index_mut-present.result.now c.act.new.self (Ok c.in_ok-answer.answer) seen within c.from.ensures c.requires.own c.index_mut-present.ensures.value c.in_ok-answer.ensures.states

@@ -44,7 +44,7 @@ returns-in_err-answer-clause-follows c = λ w h.
     let there : numbered_bytes (frames_of (rows_of c.self.inside.outboxes.items) c.args.from c.args.to) c.args.number ≡ Some c.in-Some.bytes.now = ap (λ rows. numbered_bytes (frames_of (rows_of rows) c.args.from c.args.to) c.args.number) (sym c.deref.ensures.value) ∙ sym c.in-Some.ensures in
     let decoded = c.in_ok-decode.ensures.found in
     let p = err_from_is_err_and c.from_residual-in_err-answer.result c.from_residual-in_err-answer.ensures.1 in
-    rw (p.1, p.2) (delivered-follows (view_of c.self.inside) w c.args.from c.args.to c.from.result c.args.number c.in-Some.bytes.now (plain c.in_ok-decode.field-0) c.event_of-event.result c.index_mut-present.result.now c.act.new.self (Err c.in_err-answer.field-0.0) seen (omega (arith, count)) (omega (arith, count)) c.if-from-to.false (sym c.from.ensures) there decoded.0 decoded.1 c.event_of-event.ensures c.index_mut-present.ensures.value c.in_err-answer.ensures.bases c.in_err-answer.ensures.states)
+    rw (p.1, p.2) (delivered-follows (view_of c.self.inside) w c.args.from c.args.to c.from.result c.args.number c.in-Some.bytes.now (plain c.in_ok-decode.field-0) c.event_of-event.result c.index_mut-present.result.now c.act.new.self (Err c.in_err-answer.field-0.0) seen (omega (arith, count)) (omega (arith, count)) c.if-from-to.false (sym c.from.ensures) there decoded.0 decoded.1 c.event_of-event.ensures c.index_mut-present.ensures.value c.in_err-answer.ensures.states)
 
 pub invariant_of-self-2 : goal.invariant_of-self-2
 invariant_of-self-2 c =
@@ -57,4 +57,4 @@ returns-clause-follows c = λ w h.
     let seen = subst (λ (n : Simulated). ShowsWorld n w) (sym c.self.view_is) h in
     let there : numbered_bytes (frames_of (rows_of c.self.inside.outboxes.items) c.args.from c.args.to) c.args.number ≡ Some c.in-Some.bytes.now = ap (λ rows. numbered_bytes (frames_of (rows_of rows) c.args.from c.args.to) c.args.number) (sym c.deref.ensures.value) ∙ sym c.in-Some.ensures in
     let decoded = c.in_ok-decode.ensures.found in
-    delivered-follows (view_of c.self.inside) w c.args.from c.args.to c.from.result c.args.number c.in-Some.bytes.now (plain c.in_ok-decode.field-0) c.event_of-event.result c.index_mut-present.result.now c.act.new.self (Ok c.in_ok-answer.answer) seen (omega (arith, count)) (omega (arith, count)) c.if-from-to.false (sym c.from.ensures) there decoded.0 decoded.1 c.event_of-event.ensures c.index_mut-present.ensures.value c.in_ok-answer.ensures.bases c.in_ok-answer.ensures.states
+    delivered-follows (view_of c.self.inside) w c.args.from c.args.to c.from.result c.args.number c.in-Some.bytes.now (plain c.in_ok-decode.field-0) c.event_of-event.result c.index_mut-present.result.now c.act.new.self (Ok c.in_ok-answer.answer) seen (omega (arith, count)) (omega (arith, count)) c.if-from-to.false (sym c.from.ensures) there decoded.0 decoded.1 c.event_of-event.ensures c.index_mut-present.ensures.value c.in_ok-answer.ensures.states
