@@ -1,16 +1,23 @@
--- Worked examples, computed: the definitions answer what they should.
-use Rattle.std.proofs.Common.{◌≡◌, ℕ, List, [], ◌∷◌, Some, None, Result, Ok, Err, refl}
+-- Worked examples, computed: the definitions answer what they should. A run of a new space is a table, a
+-- row for each step with what became of it.
+use Rattle.std.proofs.Common.{◌≡◌, ℕ, ◌-◌, List, [], ◌∷◌, map, Option, Some, None, Result, Ok, Err, refl}
 use Rattle.ids.specs.Limits.{Shaped}
 use Rattle.ids.specs.declared.names.Ref.{Ref}
+use Rattle.ids.specs.declared.limits.TheConstants.{GREATEST_NUMBER}
 use Rattle.ids.specs.declared.refusal.Refusal.{Refusal}
-use Rattle.ids.specs.declared.refusal.Refusal.TheVariants.{NoLetter, NoRegister, EmptyRegister, TooManyFields, ArenaFull, NoNode, SelfSend, OutOfOrder}
+use Rattle.ids.specs.declared.refusal.Refusal.TheVariants.{NoLetter, NoRegister, EmptyRegister, TooManyFields, ArenaFull, NoNode, SelfSend, LinkSpent, OutOfOrder, WrongNode}
+use Rattle.msg.specs.declared.body.Body.TheVariants as body
+use Rattle.msg.specs.declared.frame.Data.{Data}
 use Rattle.model.specs.declared.event.Event.TheVariants as event
+use Rattle.model.specs.declared.event.Answer.{Answer}
 use Rattle.model.specs.declared.event.Answer.TheVariants as answer
 use Rattle.model.specs.declared.step.Step.{Step}
 use Rattle.model.specs.declared.step.Step.TheVariants as step
 use Rattle.model.specs.declared.step.Outcome.{Outcome}
 use Rattle.model.specs.declared.step.Outcome.TheVariants as outcome
-use Rattle.model.specs.Steps.{act, receive, allocated, dropped, given, accepted, taken_in, count_in, take_body}
+use Rattle.model.specs.State.{Free, Occupied, Retired, Heap, NodeState, new_heap, new_part, new_node}
+use Rattle.model.specs.Heaps.{heap_alloc}
+use Rattle.model.specs.Steps.{Effect, effect, act, receive, allocated, dropped, given, accepted, taken_in, count_in, take_body}
 use Rattle.model.specs.World.{outcomes, new_world, take_step}
 
 abbrev object : ℕ → ℕ → ℕ → Ref
@@ -31,8 +38,9 @@ give node to label register = step.Act node (event.Give to label register)
 abbrev accept : ℕ → ℕ → Step
 accept node register = step.Act node (event.Accept register)
 
-abbrev Answers : Type 0
-Answers = List (Result Outcome Refusal)
+-- a message that another node may send to node 1
+abbrev message : Data
+message = record { from = 0; to = 1; number = 1; stamp = 0; body = body.Give 1 None; fits = refl }
 
 abbrev made : Ref → Result Outcome Refusal
 made r = Ok (outcome.Answer (answer.New r))
@@ -40,14 +48,14 @@ made r = Ok (outcome.Answer (answer.New r))
 abbrev sent : ℕ → Result Outcome Refusal
 sent number = Ok (outcome.Answer (answer.Sent number))
 
-abbrev done : Result Outcome Refusal
-done = Ok (outcome.Answer answer.Done)
+abbrev dropped_now : Result Outcome Refusal
+dropped_now = Ok (outcome.Answer answer.Done)
 
-abbrev taken_in_now : Result Outcome Refusal
-taken_in_now = Ok (outcome.Answer answer.Received)
+abbrev received : Result Outcome Refusal
+received = Ok (outcome.Answer answer.Received)
 
-abbrev again : Result Outcome Refusal
-again = Ok (outcome.Answer answer.Repeat)
+abbrev repeat : Result Outcome Refusal
+repeat = Ok (outcome.Answer answer.Repeat)
 
 abbrev letter : ℕ → ℕ → Ref → Result Outcome Refusal
 letter from label r = Ok (outcome.Answer (answer.Letter (record { from = from; label = label; reference = Some r })))
@@ -55,32 +63,215 @@ letter from label r = Ok (outcome.Answer (answer.Letter (record { from = from; l
 abbrev empty_letter : ℕ → ℕ → Result Outcome Refusal
 empty_letter from label = Ok (outcome.Answer (answer.Letter (record { from = from; label = label; reference = None })))
 
--- a reference goes from one node to another
-pub one-reference : outcomes (new_world (space 2 4 16)) (alloc 0 0 0 ∷ give 0 1 7 0 ∷ drop_register 0 0 ∷ step.Save 0 ∷ step.Deliver 0 1 1 ∷ accept 1 0 ∷ [])
-    ≡ made (object 0 0 1) ∷ sent 1 ∷ done ∷ Ok outcome.Done ∷ taken_in_now ∷ letter 0 7 (object 0 0 1) ∷ []
+abbrev done : Result Outcome Refusal
+done = Ok outcome.Done
+
+abbrev no_frame : Result Outcome Refusal
+no_frame = Ok outcome.NoFrame
+
+abbrev refused : Refusal → Result Outcome Refusal
+refused e = Err e
+
+-- in a new space of this shape, each step has the outcome that stands beside it
+abbrev Holds : Shaped → List (Step × Result Outcome Refusal) → Type 0
+Holds shape rows = outcomes (new_world shape) (map (λ (r : Step × Result Outcome Refusal). r.0) rows) ≡ map (λ (r : Step × Result Outcome Refusal). r.1) rows
+
+-- a reference goes from one node to another, and on to a third
+pub one-reference : Holds (space 3 4 16) (
+    (alloc 0 0 0, made (object 0 0 1))
+    ∷ (give 0 1 7 0, sent 1)
+    ∷ (drop_register 0 0, dropped_now)
+    ∷ (step.Save 0, done)
+    ∷ (step.Deliver 0 1 1, received)
+    ∷ (accept 1 3, letter 0 7 (object 0 0 1))
+    ∷ (give 1 2 8 3, sent 1)
+    ∷ (step.Save 1, done)
+    ∷ (step.Deliver 1 2 1, received)
+    ∷ (accept 2 0, letter 1 8 (object 0 0 1))
+    ∷ [])
 unfolding take_step act receive allocated dropped given accepted taken_in count_in take_body
 one-reference = refl
 
 -- nothing leaves before it is saved, and nothing is taken in twice
-pub saved-first : outcomes (new_world (space 2 4 16)) (alloc 0 0 0 ∷ give 0 1 7 0 ∷ step.Deliver 0 1 1 ∷ step.Save 0 ∷ step.Deliver 0 1 1 ∷ step.Deliver 0 1 1 ∷ accept 1 0 ∷ accept 1 0 ∷ [])
-    ≡ made (object 0 0 1) ∷ sent 1 ∷ Ok outcome.NoFrame ∷ Ok outcome.Done ∷ taken_in_now ∷ again ∷ letter 0 7 (object 0 0 1) ∷ Err NoLetter ∷ []
+pub saved-first : Holds (space 2 4 16) (
+    (alloc 1 1 0, made (object 1 0 1))
+    ∷ (give 1 0 7 1, sent 1)
+    ∷ (step.Deliver 1 0 1, no_frame)
+    ∷ (step.Save 1, done)
+    ∷ (step.Deliver 1 0 1, received)
+    ∷ (step.Deliver 1 0 1, repeat)
+    ∷ (accept 0 0, letter 1 7 (object 1 0 1))
+    ∷ (accept 0 0, refused NoLetter)
+    ∷ [])
 unfolding take_step act receive allocated dropped given accepted taken_in count_in take_body
 saved-first = refl
 
--- messages are taken in in order
-pub in-order : outcomes (new_world (space 2 4 16)) (alloc 0 0 0 ∷ give 0 1 4 0 ∷ give 0 1 5 0 ∷ step.Save 0 ∷ step.Deliver 0 1 2 ∷ step.Deliver 0 1 1 ∷ step.Deliver 0 1 1 ∷ step.Deliver 0 1 2 ∷ [])
-    ≡ made (object 0 0 1) ∷ sent 1 ∷ sent 2 ∷ Ok outcome.Done ∷ Err OutOfOrder ∷ taken_in_now ∷ again ∷ taken_in_now ∷ []
+-- messages are taken in in order, and letters are read in that order
+pub in-order : Holds (space 3 4 16) (
+    (give 0 2 4 0, sent 1)
+    ∷ (give 0 2 5 0, sent 2)
+    ∷ (step.Save 0, done)
+    ∷ (step.Deliver 0 2 2, refused OutOfOrder)
+    ∷ (step.Deliver 0 2 1, received)
+    ∷ (step.Deliver 0 2 2, received)
+    ∷ (step.Deliver 0 2 1, repeat)
+    ∷ (accept 2 0, empty_letter 0 4)
+    ∷ (accept 2 0, empty_letter 0 5)
+    ∷ [])
 unfolding take_step act receive allocated dropped given accepted taken_in count_in take_body
 in-order = refl
 
+-- a letter without a reference empties the register
+pub emptied : Holds (space 2 4 16) (
+    (give 0 1 9 0, sent 1)
+    ∷ (step.Save 0, done)
+    ∷ (step.Deliver 0 1 1, received)
+    ∷ (alloc 1 2 0, made (object 1 0 1))
+    ∷ (accept 1 2, empty_letter 0 9)
+    ∷ (drop_register 1 2, refused EmptyRegister)
+    ∷ [])
+unfolding take_step act receive allocated dropped given accepted taken_in count_in take_body
+emptied = refl
+
 -- a restart takes back what was not saved, its numbers and slots too
-pub taken-back : outcomes (new_world (space 2 4 16)) (alloc 0 0 0 ∷ give 0 1 6 0 ∷ step.Deliver 0 1 1 ∷ step.Restart 0 ∷ drop_register 0 0 ∷ alloc 0 0 0 ∷ give 0 1 6 0 ∷ [])
-    ≡ made (object 0 0 1) ∷ sent 1 ∷ Ok outcome.NoFrame ∷ Ok outcome.Done ∷ Err EmptyRegister ∷ made (object 0 0 1) ∷ sent 1 ∷ []
+pub taken-back : Holds (space 3 4 16) (
+    (alloc 2 0 0, made (object 2 0 1))
+    ∷ (give 2 0 6 0, sent 1)
+    ∷ (step.Deliver 2 0 1, no_frame)
+    ∷ (step.Restart 2, done)
+    ∷ (drop_register 2 0, refused EmptyRegister)
+    ∷ (alloc 2 3 0, made (object 2 0 1))
+    ∷ (give 2 0 16 3, sent 1)
+    ∷ [])
 unfolding take_step act receive allocated dropped given accepted taken_in count_in take_body
 taken-back = refl
 
--- each refusal, and the order in which they are met
-pub refusals : outcomes (new_world (space 2 2 1)) (alloc 0 2 9 ∷ alloc 0 0 9 ∷ alloc 0 0 8 ∷ alloc 0 1 0 ∷ drop_register 0 2 ∷ drop_register 0 1 ∷ give 0 2 1 9 ∷ give 0 0 1 9 ∷ give 0 1 1 2 ∷ give 0 1 1 1 ∷ accept 0 2 ∷ accept 0 0 ∷ alloc 2 0 0 ∷ step.Deliver 0 2 1 ∷ step.Deliver 1 1 1 ∷ step.Save 0 ∷ step.Deliver 0 1 0 ∷ step.Deliver 0 1 1 ∷ accept 1 0 ∷ [])
-    ≡ Err NoRegister ∷ Err TooManyFields ∷ made (object 0 0 1) ∷ Err ArenaFull ∷ Err NoRegister ∷ Err EmptyRegister ∷ Err NoNode ∷ Err SelfSend ∷ Err NoRegister ∷ sent 1 ∷ Err NoRegister ∷ Err NoLetter ∷ Err NoNode ∷ Err NoNode ∷ Ok outcome.NoFrame ∷ Ok outcome.Done ∷ Ok outcome.NoFrame ∷ taken_in_now ∷ empty_letter 0 1 ∷ []
+-- what was released stays so, and a receiver that forgets it takes it in again
+pub released-again : Holds (space 3 4 16) (
+    (give 2 1 10 0, sent 1)
+    ∷ (step.Save 2, done)
+    ∷ (step.Restart 2, done)
+    ∷ (step.Deliver 2 1 1, received)
+    ∷ (accept 1 0, empty_letter 2 10)
+    ∷ (step.Restart 1, done)
+    ∷ (accept 1 0, refused NoLetter)
+    ∷ (step.Deliver 2 1 1, received)
+    ∷ (step.Save 1, done)
+    ∷ (step.Restart 1, done)
+    ∷ (step.Deliver 2 1 1, repeat)
+    ∷ (accept 1 1, empty_letter 2 10)
+    ∷ [])
+unfolding take_step act receive allocated dropped given accepted taken_in count_in take_body
+released-again = refl
+
+-- refusals, and the order in which they are met
+pub refusals : Holds (space 2 2 1) (
+    (alloc 0 2 9, refused NoRegister)
+    ∷ (alloc 0 0 8, made (object 0 0 1))
+    ∷ (alloc 0 1 9, refused TooManyFields)
+    ∷ (alloc 0 1 8, refused ArenaFull)
+    ∷ (drop_register 0 2, refused NoRegister)
+    ∷ (drop_register 0 1, refused EmptyRegister)
+    ∷ (give 0 2 1 9, refused NoNode)
+    ∷ (give 0 0 1 9, refused SelfSend)
+    ∷ (give 0 1 1 2, refused NoRegister)
+    ∷ (give 0 1 1 1, sent 1)
+    ∷ (accept 0 2, refused NoRegister)
+    ∷ (accept 0 1, refused NoLetter)
+    ∷ (alloc 2 0 0, refused NoNode)
+    ∷ (step.Act 1 (event.Data message), refused WrongNode)
+    ∷ (step.Act 2 (event.Data message), refused NoNode)
+    ∷ (step.Save 2, refused NoNode)
+    ∷ (step.Restart 2, refused NoNode)
+    ∷ (step.Deliver 0 2 1, refused NoNode)
+    ∷ (step.Deliver 2 0 1, refused NoNode)
+    ∷ (step.Save 0, done)
+    ∷ (step.Deliver 1 1 1, no_frame)
+    ∷ (step.Deliver 0 1 0, no_frame)
+    ∷ (step.Deliver 0 1 2, no_frame)
+    ∷ [])
 unfolding take_step act receive allocated dropped given accepted taken_in count_in take_body
 refusals = refl
+
+-- each call answers what stands beside it
+abbrev Answers : List (Result Answer Refusal × Result Answer Refusal) → Type 0
+Answers rows = map (λ (r : Result Answer Refusal × Result Answer Refusal). r.0) rows ≡ map (λ (r : Result Answer Refusal × Result Answer Refusal). r.1) rows
+
+abbrev answer_of : Result (NodeState × Answer) Refusal → Result Answer Refusal
+answer_of (Ok x) = Ok x.1
+answer_of (Err e) = Err e
+
+-- a message is given to a new node 1
+abbrev offered : ℕ → ℕ → ℕ → ℕ → Option Ref → Result Answer Refusal
+offered from to number stamp reference =
+    answer_of (receive (new_node (space 2 4 16) 1) from to number stamp (body.Give 7 reference))
+
+-- messages that a node may not take in
+pub wrong-messages : Answers (
+    (offered 0 1 1 0 (Some (object 1 15 1)), Ok answer.Received)
+    ∷ (offered 0 1 2 0 None, Err OutOfOrder)
+    ∷ (offered 0 0 1 0 None, Err WrongNode)
+    ∷ (offered 0 2 1 0 None, Err WrongNode)
+    ∷ (offered 1 1 1 0 None, Err WrongNode)
+    ∷ (offered 2 1 1 0 None, Err WrongNode)
+    ∷ (offered 2 1 2 0 None, Err WrongNode)
+    ∷ (offered 0 1 1 1 None, Err WrongNode)
+    ∷ (offered 0 1 1 0 (Some (object 2 0 1)), Err WrongNode)
+    ∷ (offered 0 1 1 0 (Some (object 1 16 1)), Err WrongNode)
+    ∷ (offered 0 1 2 1 None, Err OutOfOrder)
+    ∷ (offered 0 1 0 1 (Some (object 2 0 1)), Ok answer.Repeat)
+    ∷ [])
+unfolding receive taken_in count_in take_body
+wrong-messages = refl
+
+abbrev effect_answer : Result Effect Refusal → Result Answer Refusal
+effect_answer (Ok x) = Ok x.answer
+effect_answer (Err e) = Err e
+
+-- node 0 gives to node 1, for which it appended so many messages before
+abbrev given_after : ℕ → Result Answer Refusal
+given_after count = effect_answer (effect (new_part (space 2 4 16) 0) (0 ∷ count ∷ []) (event.Give 1 7 0))
+
+-- the last number is given out, and none after it
+pub numbers : Answers (
+    (given_after 0, Ok (answer.Sent 1))
+    ∷ (given_after (GREATEST_NUMBER - 1), Ok (answer.Sent 281474976710656))
+    ∷ (given_after GREATEST_NUMBER, Err LinkSpent)
+    ∷ [])
+unfolding given
+numbers = refl
+
+-- A heap of three slots whose slots 2 and 0 were freed in this order: slot 0 is used first.
+abbrev freed : Heap
+freed = record (new_heap (space 2 1 3)) { slots = Free 7 ∷ Retired ∷ Free 4 ∷ []; free = 0 ∷ 2 ∷ [] }
+
+-- the slot that was freed last is used first, under its next generation; an object's mark is the cycle
+pub reuse : heap_alloc 3 1 5 freed 0 2
+    ≡ Ok (
+      record {
+        slots = Occupied 7 (record { word = 0; places = None ∷ None ∷ []; mark = 5 }) ∷ Retired ∷ Free 4 ∷ [];
+        free = 2 ∷ [];
+        registers = Some (object 1 0 7) ∷ [];
+        letters = [];
+        grey = [];
+      },
+      object 1 0 7,
+    )
+unfolding heap_alloc
+reuse = refl
+
+-- where no slot is free the next one is fresh, while the limit has one; a retired one is never used again
+abbrev used_up : Heap
+used_up = record (new_heap (space 2 1 3)) { slots = Retired ∷ Retired ∷ [] }
+
+abbrev reference_of : Result (Heap × Ref) Refusal → Result Ref Refusal
+reference_of (Ok x) = Ok x.1
+reference_of (Err e) = Err e
+
+pub fresh : reference_of (heap_alloc 3 1 5 used_up 0 2) ≡ Ok (object 1 2 1)
+unfolding heap_alloc
+fresh = refl
+
+pub none-left : reference_of (heap_alloc 2 1 5 used_up 0 2) ≡ Err ArenaFull
+unfolding heap_alloc
+none-left = refl

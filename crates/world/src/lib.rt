@@ -2,9 +2,11 @@
 //! states, saved states and the frames that saved states released.
 #![tactic(auto)]
 
+mod headline;
 mod outbox;
 mod sim;
 
+pub use headline::laws;
 pub use model::{Answer, Event, Letter, Outcome, Step};
 pub use sim::Sim;
 

@@ -1,0 +1,14 @@
+ghost use Rattle.laws.specs.Statements.{CutsExtend, ReachIsLive};
+
+/// The headline, over every list of steps of every space: events of programs, deliveries, losses,
+/// repeats, reorderings, saves and restarts. This does nothing: its contract is the theorem, and
+/// [`Sim::step`](crate::Sim::step) speaks of the same spaces.
+pub fn laws()
+    // Whatever a run does after some moment, each choice of present and saved states is one of that
+    // moment's choices followed by steps without saves and restarts.
+    ensures cuts_extend { CutsExtend }
+    // In each such choice, every reference that is reachable from a register, a letter or a message in
+    // flight names an object that its owner still has.
+    ensures live { ReachIsLive }
+{
+}
