@@ -20,7 +20,7 @@ use Rattle.model.specs.View.{NodeView, Shows, Follows}
 use Rattle.model.specs.World.{World, take_step, moved, released, numbered, handed_over, is_node}
 use Rattle.world.specs.Outboxes.{IsFrameOf, numbered_bytes}
 use Rattle.world.specs.Shows.{Simulated, ShowsWorld, FollowsStep, IsEventOf, frames_of, view_at}
-use Rattle.world.proofs.Shows.{answered, moved-follows, is-node, is-no-node, cond-is, cond-not, read-is}
+use Rattle.world.proofs.Shows.{answered, moved-follows, node-follows, is-node, is-no-node, cond-is, cond-not, within-seen, shows-seen}
 
 -- a message that was released, and its frame
 pub record Found (n : Simulated) (w : World) (from to number : ℕ) (bytes : List ℕ) : Type 0 where
@@ -111,19 +111,19 @@ act-receives s (event.Drop a) from to number x h = absurd h
 act-receives s (event.Give a b d) from to number x h = absurd h
 act-receives s (event.Accept a) from to number x h = absurd h
 
-pub delivered-follows : (n : Simulated) (w : World) (from to i number : ℕ) (bytes : List ℕ) (f : Plain) (e : Event) (u v : NodeView) (r : Result Answer Refusal) → ShowsWorld n w → from < length n.present → to < length n.present → from ≢ to → to ≡ i → numbered_bytes (frames_of n.released from to) number ≡ Some bytes → Fits f → bytes ≡ spelling f → IsEventOf e f → u ≡ get_or n.present i u → ((s : NodeState) → Shows u s → Follows r v (act s e)) → FollowsStep (answered r) (record n { present = set n.present i v }) (take_step w (step.Deliver from to number))
+-- The same as the code has it: n is the space of its fields and m the one that callers see.
+pub delivered-follows : (n m : Simulated) (w : World) (from to i number : ℕ) (bytes : List ℕ) (f : Plain) (e : Event) (u v : NodeView) (r : Result Answer Refusal) → n ≡ m → ShowsWorld m w → from < length m.present → to < length m.present → from ≢ to → to ≡ i → numbered_bytes (frames_of m.released from to) number ≡ Some bytes → Fits f → bytes ≡ spelling f → IsEventOf e f → u ≡ get_or n.present i u → ((s : NodeState) → Shows u s → Follows r v (act s e)) → FollowsStep (answered r) (record n { present = set n.present i v }) (take_step w (step.Deliver from to number))
 unfolding take_step
-delivered-follows n w from to i number bytes f e u v r h fr t apart named there fits spelled event read follows =
-    let frame : Found n w from to number bytes = found n w from to number bytes h apart there in
+delivered-follows n m w from to i number bytes f e u v r seen shown less_from less_to apart named there fits spelled event read follows =
+    let frame : Found m w from to number bytes = found m w from to number bytes shown apart there in
     let x : Message = frame.message in
     let longer : spelling f ++ [] ≡ spelling (data_frame from to number x.stamp x.body) = append-nil (spelling f) ∙ sym spelled ∙ frame.spelled in
     let one : f ≡ data_frame from to number x.stamp x.body = (no_spelling_begins_another f (data_frame from to number x.stamp x.body) [] fits frame.fits longer).1 in
     let brings : IsEventOf e (data_frame from to number x.stamp x.body) = subst (IsEventOf e) one event in
-    let within : i < length n.present = subst (λ (k : ℕ). k < length n.present) named t in
-    let node : u ≡ view_at n.present i = read-is n.present i u within read in
-    let shown : Shows u (node_at w.current i) = subst (λ (z : NodeView). Shows z (node_at w.current i)) (sym node) (h.current.each i) in
+    let within : i < length n.present = within-seen n m i seen (subst (λ (k : ℕ). k < length m.present) named less_to) in
+    let h : ShowsWorld n w = shows-seen n m w seen shown in
     let same : act (node_at w.current i) e ≡ receive (node_at w.current i) from to number x.stamp x.body = act-receives (node_at w.current i) e from to number x brings in
-    let here : Follows r v (receive (node_at w.current i) from to number x.stamp x.body) = subst (Follows r v) same (follows (node_at w.current i) shown) in
-    let moves : take_step w (step.Deliver from to number) ≡ moved w to (receive (node_at w.current to) from to number x.stamp x.body) = cond-is _ _ _ (both-nodes n w from to h fr t) ∙ ap (handed_over w from to number) frame.there in
+    let here : Follows r v (receive (node_at w.current i) from to number x.stamp x.body) = subst (Follows r v) same (node-follows n w i e u v r h within read follows) in
+    let moves : take_step w (step.Deliver from to number) ≡ moved w to (receive (node_at w.current to) from to number x.stamp x.body) = cond-is _ _ _ (both-nodes m w from to shown less_from less_to) ∙ ap (handed_over w from to number) frame.there in
     let at : take_step w (step.Deliver from to number) ≡ moved w i (receive (node_at w.current i) from to number x.stamp x.body) = moves ∙ ap (λ (k : ℕ). moved w k (receive (node_at w.current k) from to number x.stamp x.body)) named in
     moved-follows n w i (step.Deliver from to number) v r (receive (node_at w.current i) from to number x.stamp x.body) h at here

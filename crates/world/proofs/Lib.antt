@@ -4,3 +4,4 @@ pub mod Handed
 pub mod Rows
 pub mod Saved
 pub mod New
+pub mod Saving

@@ -4,6 +4,7 @@ use Rattle.std.specs.List.{range_with_len}
 use Rattle.std.specs.declared.vec.Vec.{Vec}
 use Rattle.std.specs.declared.alloc.Global.{Global}
 use Rattle.std.proofs.lemmas.List.{length-map, length-replicate, get_or-replicate}
+use Rattle.std.proofs.lemmas.Simd.{map-map}
 use Rattle.std.proofs.lemmas.List.FromFn.{get_or-map-range_with_len, length-map-range_with_len}
 use Rattle.ids.specs.Limits.{Shaped, IsShape}
 use Rattle.ids.specs.declared.limits.TheConstants.{GREATEST_NODES}
@@ -16,6 +17,7 @@ use Rattle.laws.proofs.KeepsSent.{new-keeps-sent}
 use Rattle.world.specs.Outboxes.{OutboxView, no_outbox, released_frames, IsFrameOf}
 use Rattle.world.specs.Rows.{rows_of}
 use Rattle.world.specs.Shows.{Simulated, ShowAll, ShowsWorld, IsPlaced, IsSim, AreKept, no_view, view_at, frames_of}
+use Rattle.world.proofs.Shows.{same-sim}
 
 abbrev pub new_sim : Shaped → Simulated
 new_sim shape =
@@ -104,21 +106,16 @@ new-is-sim shape h =
       saved_kept = new-kept shape;
     }
 
-map-both : {A B C : Type 0} (f : A → B) (g : B → C) (xs : List A) → map (λ x. g (f x)) xs ≡ map g (map f xs)
-map-both f g [] = refl
-map-both f g (x ∷ xs) = ap (λ zs. g (f x) ∷ zs) (map-both f g xs)
-
 map-replicated : {A B : Type 0} (f : A → B) (n : ℕ) (x : A) → map f (replicate n x) ≡ replicate n (f x)
 map-replicated f zero x = refl
 map-replicated f (suc n) x = ap (λ zs. f x ∷ zs) (map-replicated f n x)
 
 -- new outboxes have released nothing
-pub new-rows : (rows : List (Vec OutboxView Global)) (n : ℕ) → map (λ r. r.items) rows ≡ replicate n (replicate n no_outbox) → rows_of rows ≡ replicate n (replicate n [])
+new-rows : (rows : List (Vec OutboxView Global)) (n : ℕ) → map (λ r. r.items) rows ≡ replicate n (replicate n no_outbox) → rows_of rows ≡ replicate n (replicate n [])
 new-rows rows n e =
-    map-both (λ (r : Vec OutboxView Global). r.items) (map released_frames) rows ∙ ap (map (map released_frames)) e ∙ map-replicated (map released_frames) n (replicate n no_outbox) ∙ ap (replicate n) (map-replicated released_frames n no_outbox)
+    sym (map-map (map released_frames) (λ (r : Vec OutboxView Global). r.items) rows) ∙ ap (map (map released_frames)) e ∙ map-replicated (map released_frames) n (replicate n no_outbox) ∙ ap (replicate n) (map-replicated released_frames n no_outbox)
 
-pub new-view : (shape : Shaped) (present saved : List NodeView) (released : List (List (List (List ℕ)))) → present ≡ (new_sim shape).present → saved ≡ (new_sim shape).saved → released ≡ (new_sim shape).released → ◌≡◌ {A = Simulated} (record { present = present; saved = saved; released = released }) (new_sim shape)
-new-view shape present saved released a b c =
-    let first : ◌≡◌ {A = Simulated} (record { present = present; saved = saved; released = released }) (record { present = (new_sim shape).present; saved = saved; released = released }) = ap (λ (z : List NodeView). record { present = z; saved = saved; released = released }) a in
-    let second : ◌≡◌ {A = Simulated} (record { present = (new_sim shape).present; saved = saved; released = released }) (record { present = (new_sim shape).present; saved = (new_sim shape).saved; released = released }) = ap (λ (z : List NodeView). record { present = (new_sim shape).present; saved = z; released = released }) b in
-    first ∙ second ∙ ap (λ (z : List (List (List (List ℕ)))). record { present = (new_sim shape).present; saved = (new_sim shape).saved; released = z }) c
+-- the same as the code makes it
+pub new-made : (shape : Shaped) (present saved : List NodeView) (rows : List (Vec OutboxView Global)) (count : ℕ) → present ≡ (new_sim shape).present → saved ≡ (new_sim shape).saved → map (λ r. r.items) rows ≡ replicate count (replicate count no_outbox) → count ≡ shape.nodes → ◌≡◌ {A = Simulated} (record { present = present; saved = saved; released = rows_of rows }) (new_sim shape)
+new-made shape present saved rows count a b c counted =
+    same-sim present (new_sim shape).present saved (new_sim shape).saved (rows_of rows) (new_sim shape).released a b (new-rows rows count c ∙ ap (λ (n : ℕ). replicate n (replicate n [])) counted)

@@ -1,12 +1,12 @@
 -- Reading the released frames of a pair of nodes.
 use Rattle.std.proofs.Common.{◌≡◌, ℕ, zero, suc, ◌<◌, List, [], ◌∷◌, ◌++◌, arith, length, map, take, drop, get_or, set, sym, subst, ◌∙◌, ap}
 use Rattle.std.proofs.lemmas.List.{get_or-map, length-map, map-set, set-get_or}
-use Rattle.std.proofs.Math.Seq.{take-append_seam}
 use Rattle.std.specs.declared.vec.Vec.{Vec}
 use Rattle.std.specs.declared.alloc.Global.{Global}
 use Rattle.world.specs.Outboxes.{OutboxView, released_frames}
 use Rattle.world.specs.Rows.{rows_of}
-use Rattle.world.specs.Shows.{frames_of}
+use Rattle.world.specs.Shows.{Simulated, IsSim, frames_of}
+use Rattle.world.proofs.Shows.{within-seen}
 
 pub row-is : (rows : List (Vec OutboxView Global)) (i : ℕ) (row : Vec OutboxView Global) → i < length rows → row ≡ get_or rows i row → get_or (rows_of rows) i [] ≡ map released_frames row.items
 row-is rows i row within read =
@@ -35,6 +35,23 @@ pub rows-same : (rows : List (Vec OutboxView Global)) (i : ℕ) (before after : 
 rows-same rows i before after items within read same released =
     rows-set rows i after items same ∙ ap (λ (z : List (List (List ℕ))). set (rows_of rows) i z) (released ∙ sym (row-is rows i before within read)) ∙ set-get_or (rows_of rows) i []
 
--- a vector that was passed on as a slice has the elements that the slice was left with
-pub refilled : {A : Type 0} (xs ys : List A) (n : ℕ) → length ys ≡ n → take n (ys ++ drop (length ys) xs) ≡ ys
-refilled xs ys n e = subst (λ (k : ℕ). take k (ys ++ drop (length ys) xs) ≡ ys) e (take-append_seam ys (drop (length ys) xs))
+-- The same as the code has it: n is the space of its fields, and m the one that callers see.
+pub row-fewer : (n : Simulated) (rows : List (Vec OutboxView Global)) (i : ℕ) → IsSim n → n.released ≡ rows_of rows → i < length n.present → i < length rows
+row-fewer n rows i h released within =
+    omega (arith, within, h.rows, ap length released, length-map rows (λ row. map released_frames row.items))
+
+pub row-width : (n m : Simulated) (rows : List (Vec OutboxView Global)) (i : ℕ) (row : Vec OutboxView Global) → n ≡ m → IsSim n → n.released ≡ rows_of rows → i < length m.present → row ≡ get_or rows i row → length row.items ≡ length m.present
+row-width n m rows i row seen h released less read =
+    let within : i < length n.present = within-seen n m i seen less in
+    sym (row-length rows i row (row-fewer n rows i h released within) read)
+    ∙ ap (λ (z : List (List (List (List ℕ)))). length (get_or z i [])) (sym released)
+    ∙ h.row i within ∙ ap (λ (z : Simulated). length z.present) seen
+
+pub frames-seen : (n m : Simulated) (rows : List (Vec OutboxView Global)) (from to i j : ℕ) (row : Vec OutboxView Global) (b : OutboxView) → n ≡ m → IsSim n → n.released ≡ rows_of rows → i < length m.present → j < length m.present → i ≡ from → j ≡ to → row ≡ get_or rows i row → b ≡ get_or row.items j b → released_frames b ≡ frames_of m.released from to
+frames-seen n m rows from to i j row b seen h released less_from less_to named_from named_to read there =
+    let fewer : i < length rows = row-fewer n rows i h released (within-seen n m i seen less_from) in
+    let less : j < length row.items = omega (arith, less_to, row-width n m rows i row seen h released less_from read) in
+    sym (frames-read rows i j row b fewer read less there)
+    ∙ ap (λ (z : List (List (List (List ℕ)))). frames_of z i j) (sym released)
+    ∙ ap (λ (z : Simulated). frames_of z.released i j) seen
+    ∙ ap (λ (k : ℕ). frames_of m.released k j) named_from ∙ ap (frames_of m.released from) named_to

@@ -4,6 +4,7 @@ use Rattle.std.proofs.Math.ListN.{get_or-map, get_or-eq_default}
 use Rattle.std.proofs.Math.Seq.{take-length}
 use Rattle.std.proofs.lemmas.Bool.{cases_lt, lt-leb}
 use Rattle.std.proofs.lemmas.List.{length-set, length-map, length-take, set-get_or}
+use Rattle.std.proofs.lemmas.Option.{slice_get-get_or}
 use Rattle.ids.specs.declared.limits.TheConstants.{GREATEST_NODES}
 use Rattle.msg.specs.declared.body.Message.{Message}
 use Rattle.model.specs.declared.step.Step.TheVariants as step
@@ -60,11 +61,6 @@ slice_get-take (x ∷ xs) zero k h = absurd (omega arith)
 slice_get-take (x ∷ xs) (suc n) zero h = refl
 slice_get-take (x ∷ xs) (suc n) (suc k) h = slice_get-take xs n k (omega arith)
 
-slice_get-there : {A : Type 0} (xs : List A) (k : ℕ) → k < length xs → (x : A) × (slice_get xs k ≡ Some x)
-slice_get-there [] k h = absurd (omega arith)
-slice_get-there (x ∷ xs) zero h = (x, refl)
-slice_get-there (x ∷ xs) (suc k) h = slice_get-there xs k (omega arith)
-
 -- what holds at every place of two lists of one length holds after a write to one place of both
 both_set_if : {A B : Type 0} (P : A → B → Type 0) (xs : List A) (ys : List B) (d : A) (e : B) (i : ℕ) (x : A) (y : B) → length xs ≡ length ys → (k : ℕ) → (i ≡ k → P x y) → P (get_or xs k d) (get_or ys k e) → P (get_or (set xs i x) k d) (get_or (set ys i y) k e)
 both_set_if P [] [] d e i x y w k p h = h
@@ -116,10 +112,10 @@ new-frame n w i j k before after h sim within staging apart =
     let was : released_frames (get_or before j no_outbox) ≡ old = sym (old-frames n i j before after staging) in
     let Goal : Type 0 = IsFrameOf i j k (slice_get (sent_to (node_at w.current i) j) k) (slice_get made k) in
     let old_one : k < length old → Goal = λ early.
-      let there : (x : List ℕ) × (slice_get old k ≡ Some x) = slice_get-there old k early in
-      let at : slice_get made k ≡ Some there.0 = slice_get-take made (get_or after j no_outbox).released k (subst (λ (z : List (List ℕ)). k < length z) (sym kept) early) ∙ ap (λ (z : List (List ℕ)). slice_get z k) kept ∙ there.1 in
-      let one : IsFrameOf i j k (slice_get (sent_to (node_at w.saved i) j) k) (Some there.0) = subst (IsFrameOf i j k (slice_get (sent_to (node_at w.saved i) j) k)) there.1 (h.released i j k apart) in
-      subst (IsFrameOf i j k (slice_get (sent_to (node_at w.current i) j) k)) (sym at) (frame-grows i j k (sent_to (node_at w.saved i) j) (sent_to (node_at w.current i) j) (slice_get (sent_to (node_at w.saved i) j) k) there.0 (h.grown.sent i j) refl one) in
+      let there : slice_get old k ≡ Some (get_or old k []) = slice_get-get_or old k [] early in
+      let at : slice_get made k ≡ Some (get_or old k []) = slice_get-take made (get_or after j no_outbox).released k (subst (λ (z : List (List ℕ)). k < length z) (sym kept) early) ∙ ap (λ (z : List (List ℕ)). slice_get z k) kept ∙ there in
+      let one : IsFrameOf i j k (slice_get (sent_to (node_at w.saved i) j) k) (Some (get_or old k [])) = subst (IsFrameOf i j k (slice_get (sent_to (node_at w.saved i) j) k)) there (h.released i j k apart) in
+      subst (IsFrameOf i j k (slice_get (sent_to (node_at w.current i) j) k)) (sym at) (frame-grows i j k (sent_to (node_at w.saved i) j) (sent_to (node_at w.current i) j) (slice_get (sent_to (node_at w.saved i) j) k) (get_or old k []) (h.grown.sent i j) refl one) in
     let new_one : j < length n.present → length old ≤ k → Goal = λ less late.
       let low : (link_to (view_at n.present i) j).base ≤ k = omega (arith, sim.present_kept i j) in
       let one : IsFrameOf (view_at n.present i).part.own j k (message_of (link_to (view_at n.present i) j) (k + 1)) (slice_get made k) = staging.staged j less (λ e. apart (sym e)) k (subst (λ (z : List (List ℕ)). length z ≤ k) (sym was) late) in
@@ -173,7 +169,7 @@ shows-saved n w i before after h sim within staging answer =
       grown = grown-by w _ (step.Save i) outcome.Done h.grown answer;
     }
 
-save-follows : (n : Simulated) (w : World) (i : ℕ) (before after : List OutboxView) → ShowsWorld n w → IsSim n → i < length n.present → Staging n i before after → FollowsStep (Ok outcome.Done) (saved_sim n i (view_at n.present i) after) (take_step w (step.Save i))
+pub save-follows : (n : Simulated) (w : World) (i : ℕ) (before after : List OutboxView) → ShowsWorld n w → IsSim n → i < length n.present → Staging n i before after → FollowsStep (Ok outcome.Done) (saved_sim n i (view_at n.present i) after) (take_step w (step.Save i))
 unfolding take_step
 save-follows n w i before after h sim within staging =
     let answer : take_step w (step.Save i) ≡ Ok (record w { saved = set w.saved i (node_at w.current i) }, outcome.Done) = cond-is _ _ _ (is-node n w i h within) in
@@ -203,30 +199,3 @@ sim-saved n i before after h within staging =
       present_kept = kept-both n.present n i u (new_row after) (sym h.rows) h.present_kept low;
       saved_kept = kept-both n.saved n i u (new_row after) (h.saved_width ∙ sym h.rows) h.saved_kept low;
     }
-
--- the same as the code has it: u is the node that was read from its place and copied, given the outboxes
--- that were passed on
-pub staging-from : (n : Simulated) (i count : ℕ) (copy u : NodeView) (given before after : List OutboxView) → IsSim n → i < length n.present → count ≡ length n.present → copy ≡ u → u ≡ get_or n.present i u → get_or n.released i [] ≡ map released_frames before → given ≡ before → map released_frames after ≡ map released_frames given → ((j : ℕ) → j < count → j ≢ copy.part.own → IsStaged copy j (get_or given j no_outbox) (get_or after j no_outbox)) → Staging n i before after
-staging-from n i count copy u given before after h within counted copied read row passed same staged =
-    let there : copy ≡ view_at n.present i = copied ∙ read-is n.present i u within read in
-    let own : copy.part.own ≡ i = ap (λ (v : NodeView). v.part.own) there ∙ (h.present i within).own in
-    let released : map released_frames after ≡ map released_frames before = same ∙ ap (map released_frames) passed in
-    record {
-      row = row;
-      width = sym (length-map after released_frames) ∙ ap length (released ∙ sym row) ∙ h.row i within;
-      same = released;
-      staged = λ j less apart.
-        let one : IsStaged copy j (get_or given j no_outbox) (get_or after j no_outbox) = staged j (subst (λ (k : ℕ). j < k) (sym counted) less) (λ e. apart (e ∙ own)) in
-        let two : IsStaged (view_at n.present i) j (get_or given j no_outbox) (get_or after j no_outbox) = subst (λ (v : NodeView). IsStaged v j (get_or given j no_outbox) (get_or after j no_outbox)) there one in
-        subst (λ (z : List OutboxView). IsStaged (view_at n.present i) j (get_or z j no_outbox) (get_or after j no_outbox)) passed two;
-    }
-
-pub saved-view : (n : Simulated) (i : ℕ) (u v x : NodeView) (released : List (List (List (List ℕ)))) (after : List OutboxView) → v ≡ kept_view u → x ≡ kept_view u → released ≡ set n.released i (new_row after) → ◌≡◌ {A = Simulated} (record { present = set n.present i v; saved = set n.saved i x; released = released }) (saved_sim n i u after)
-saved-view n i u v x released after a b c =
-    let first : ◌≡◌ {A = Simulated} (record { present = set n.present i v; saved = set n.saved i x; released = released }) (record { present = set n.present i (kept_view u); saved = set n.saved i x; released = released }) = ap (λ (z : NodeView). record { present = set n.present i z; saved = set n.saved i x; released = released }) a in
-    let second : ◌≡◌ {A = Simulated} (record { present = set n.present i (kept_view u); saved = set n.saved i x; released = released }) (record { present = set n.present i (kept_view u); saved = set n.saved i (kept_view u); released = released }) = ap (λ (z : NodeView). record { present = set n.present i (kept_view u); saved = set n.saved i z; released = released }) b in
-    first ∙ second ∙ ap (λ (z : List (List (List (List ℕ)))). record { present = set n.present i (kept_view u); saved = set n.saved i (kept_view u); released = z }) c
-
-pub saved-follows : (n : Simulated) (w : World) (i node : ℕ) (before after : List OutboxView) → ShowsWorld n w → IsSim n → i < length n.present → i ≡ node → Staging n i before after → FollowsStep (Ok outcome.Done) (saved_sim n i (view_at n.present i) after) (take_step w (step.Save node))
-saved-follows n w i node before after h sim within named staging =
-    subst (λ (k : ℕ). FollowsStep (Ok outcome.Done) (saved_sim n i (view_at n.present i) after) (take_step w (step.Save k))) named (save-follows n w i before after h sim within staging)

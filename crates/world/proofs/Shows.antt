@@ -46,6 +46,10 @@ kept-set nodes released i v all here = λ a j.
     (λ e. subst (λ (n : ℕ). (link_to v j).base ≤ length (frames_of released n j)) e (here j))
     (all a j)
 
+-- spaces with equal parts
+pub same-sim : (ps qs xs ys : List NodeView) (rs ts : List (List (List (List ℕ)))) → ps ≡ qs → xs ≡ ys → rs ≡ ts → ◌≡◌ {A = Simulated} (record { present = ps; saved = xs; released = rs }) (record { present = qs; saved = ys; released = ts })
+same-sim ps qs xs ys rs ts a b c = cc
+
 -- one node's present state changes
 pub shows-moved : (n : Simulated) (w : World) (i : ℕ) (v : NodeView) (s : NodeState) (e : Step) (o : Outcome) → ShowsWorld n w → take_step w e ≡ Ok (record w { current = set w.current i s }, o) → Shows v s → ShowsWorld (record n { present = set n.present i v }) (record w { current = set w.current i s })
 shows-moved n w i v s e o h answered here = record {
@@ -127,36 +131,50 @@ sim-moved n i v h here low =
       saved_kept = h.saved_kept;
     }
 
--- The same as the code has it: u is the node that was read from its place, v the node afterwards.
+-- The same as the code has it: n is the space of its fields and m the one that callers see, u is the node
+-- that was read from its place, and v the node afterwards.
 pub read-is : (nodes : List NodeView) (i : ℕ) (u : NodeView) → i < length nodes → u ≡ get_or nodes i u → u ≡ view_at nodes i
 read-is nodes i u within read = get_or_read nodes i u within read no_view
 
-pub sim-acted : (n : Simulated) (i : ℕ) (u v : NodeView) → IsSim n → i < length n.present → u ≡ get_or n.present i u → (v.part.shape ≡ u.part.shape) × (v.part.own ≡ u.part.own) → map base_of v.links ≡ map base_of u.links → IsSim (record n { present = set n.present i v })
-sim-acted n i u v h within read place bases =
+pub within-seen : (n m : Simulated) (i : ℕ) → n ≡ m → i < length m.present → i < length n.present
+within-seen n m i same within = subst (λ (z : Simulated). i < length z.present) (sym same) within
+
+pub shows-seen : (n m : Simulated) (w : World) → n ≡ m → ShowsWorld m w → ShowsWorld n w
+shows-seen n m w same h = subst (λ (z : Simulated). ShowsWorld z w) (sym same) h
+
+pub sim-acted : (n m : Simulated) (i : ℕ) (u v : NodeView) → n ≡ m → IsSim n → i < length m.present → u ≡ get_or n.present i u → (v.part.shape ≡ u.part.shape) × (v.part.own ≡ u.part.own) → map base_of v.links ≡ map base_of u.links → IsSim (record n { present = set n.present i v })
+sim-acted n m i u v seen h less read place bases =
+    let within : i < length n.present = within-seen n m i seen less in
     let there : u ≡ view_at n.present i = read-is n.present i u within read in
     let was : IsPlaced (length n.present) i u = subst (IsPlaced (length n.present) i) (sym there) (h.present i within) in
     let low : (j : ℕ) → (link_to v j).base ≤ length (frames_of n.released i j) = λ j. subst (λ (b : ℕ). b ≤ length (frames_of n.released i j)) (sym (base-same v u j bases ∙ ap (λ (z : NodeView). (link_to z j).base) there)) (h.present_kept i j) in
     sim-moved n i v h (placed-acted (length n.present) i u v was place bases) low
 
-pub acted-follows : (n : Simulated) (w : World) (i node : ℕ) (e : Event) (u v : NodeView) (r : Result Answer Refusal) → ShowsWorld n w → i < length n.present → i ≡ node → is_own e ≡ true → u ≡ get_or n.present i u → ((s : NodeState) → Shows u s → Follows r v (act s e)) → FollowsStep (answered r) (record n { present = set n.present i v }) (take_step w (step.Act node e))
-acted-follows n w i node e u v r h within named own read follows =
-    let there : u ≡ view_at n.present i = read-is n.present i u within read in
-    let shown : Shows u (node_at w.current i) = subst (λ (z : NodeView). Shows z (node_at w.current i)) (sym there) (h.current.each i) in
-    let here : FollowsStep (answered r) (record n { present = set n.present i v }) (take_step w (step.Act i e)) = act-follows n w i e v r h within own (follows (node_at w.current i) shown) in
-    subst (λ (k : ℕ). FollowsStep (answered r) (record n { present = set n.present i v }) (take_step w (step.Act k e))) named here
+-- what the node does follows from its state
+pub node-follows : (n : Simulated) (w : World) (i : ℕ) (e : Event) (u v : NodeView) (r : Result Answer Refusal) → ShowsWorld n w → i < length n.present → u ≡ get_or n.present i u → ((s : NodeState) → Shows u s → Follows r v (act s e)) → Follows r v (act (node_at w.current i) e)
+node-follows n w i e u v r h within read follows =
+    follows (node_at w.current i) (subst (λ (z : NodeView). Shows z (node_at w.current i)) (sym (read-is n.present i u within read)) (h.current.each i))
+
+pub acted-follows : (n m : Simulated) (w : World) (i node : ℕ) (e : Event) (u v : NodeView) (r : Result Answer Refusal) → n ≡ m → ShowsWorld m w → i < length m.present → i ≡ node → is_own e ≡ true → u ≡ get_or n.present i u → ((s : NodeState) → Shows u s → Follows r v (act s e)) → FollowsStep (answered r) (record n { present = set n.present i v }) (take_step w (step.Act node e))
+acted-follows n m w i node e u v r seen shown less named own read follows =
+    let within : i < length n.present = within-seen n m i seen less in
+    let h : ShowsWorld n w = shows-seen n m w seen shown in
+    subst (λ (k : ℕ). FollowsStep (answered r) (record n { present = set n.present i v }) (take_step w (step.Act k e))) named (act-follows n w i e v r h within own (node-follows n w i e u v r h within read follows))
 
 -- a restart as the code has it: u is the saved node, v its copy
 restarted-is : (n : Simulated) (i : ℕ) (u v : NodeView) → IsSim n → i < length n.present → u ≡ get_or n.saved i u → v ≡ u → v ≡ view_at n.saved i
 restarted-is n i u v h within read copy =
     copy ∙ read-is n.saved i u (subst (λ (k : ℕ). i < k) (sym h.saved_width) within) read
 
-pub sim-restarted : (n : Simulated) (i : ℕ) (u v : NodeView) → IsSim n → i < length n.present → u ≡ get_or n.saved i u → v ≡ u → IsSim (record n { present = set n.present i v })
-sim-restarted n i u v h within read copy =
+pub sim-restarted : (n m : Simulated) (i : ℕ) (u v : NodeView) → n ≡ m → IsSim n → i < length m.present → u ≡ get_or n.saved i u → v ≡ u → IsSim (record n { present = set n.present i v })
+sim-restarted n m i u v seen h less read copy =
+    let within : i < length n.present = within-seen n m i seen less in
     let same : v ≡ view_at n.saved i = restarted-is n i u v h within read copy in
     sim-moved n i v h (subst (IsPlaced (length n.present) i) (sym same) (h.saved i within)) (λ j. subst (λ (z : NodeView). (link_to z j).base ≤ length (frames_of n.released i j)) (sym same) (h.saved_kept i j))
 
-pub restarted-follows : (n : Simulated) (w : World) (i node : ℕ) (u v : NodeView) → ShowsWorld n w → IsSim n → i < length n.present → i ≡ node → u ≡ get_or n.saved i u → v ≡ u → FollowsStep (Ok outcome.Done) (record n { present = set n.present i v }) (take_step w (step.Restart node))
-restarted-follows n w i node u v h sim within named read copy =
+pub restarted-follows : (n m : Simulated) (w : World) (i node : ℕ) (u v : NodeView) → n ≡ m → ShowsWorld m w → IsSim n → i < length m.present → i ≡ node → u ≡ get_or n.saved i u → v ≡ u → FollowsStep (Ok outcome.Done) (record n { present = set n.present i v }) (take_step w (step.Restart node))
+restarted-follows n m w i node u v seen shown sim less named read copy =
+    let within : i < length n.present = within-seen n m i seen less in
     let same : v ≡ view_at n.saved i = restarted-is n i u v sim within read copy in
-    let here : FollowsStep (Ok outcome.Done) (record n { present = set n.present i v }) (take_step w (step.Restart i)) = subst (λ (z : NodeView). FollowsStep (Ok outcome.Done) (record n { present = set n.present i z }) (take_step w (step.Restart i))) (sym same) (restart-follows n w i h within) in
+    let here : FollowsStep (Ok outcome.Done) (record n { present = set n.present i v }) (take_step w (step.Restart i)) = subst (λ (z : NodeView). FollowsStep (Ok outcome.Done) (record n { present = set n.present i z }) (take_step w (step.Restart i))) (sym same) (restart-follows n w i (shows-seen n m w seen shown) within) in
     subst (λ (k : ℕ). FollowsStep (Ok outcome.Done) (record n { present = set n.present i v }) (take_step w (step.Restart k))) named here

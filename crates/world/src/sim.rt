@@ -1,4 +1,4 @@
-ghost use Rattle.std.specs.Prelude.{◌≡◌, ◌≤◌, ◌<◌, [], ℕ, length, map, slice_get, slice_index_or, IsTrue, IfOk, IfErr, OnErr};
+ghost use Rattle.std.specs.Prelude.{◌≡◌, ◌≤◌, ◌<◌, ℕ, length, map, slice_get, IsTrue, IfOk, IfErr, OnErr};
 ghost use Rattle.std.specs.Option.{option_copied, option_map};
 ghost use Rattle.ids.specs.declared.refusal.Refusal.TheVariants.{Memory};
 ghost use Rattle.std.specs.List.{range_with_len};
@@ -8,7 +8,6 @@ ghost use Rattle.model.specs.World.{World, new_world, take_step, is_own_step};
 ghost use Rattle.model.specs.declared.step.Step.TheVariants as step;
 ghost use Rattle.msg.specs.Frames.{plain};
 ghost use Rattle.world.specs.Outboxes.{numbered_bytes};
-ghost use Rattle.world.specs.Rows.{rows_of};
 ghost use Rattle.world.specs.Shows.{ShowsWorld, FollowsStep, IsEventOf, frames_of};
 
 use ids::{NodeId, Refusal, Shape};
@@ -145,13 +144,24 @@ impl Sim {
         if from == to {
             return Ok(Outcome::NoFrame);
         }
-        let Some(bytes) = released(&self.outboxes, from, to, number) else {
+        let Some(bytes) = self.released(from, to, number) else {
             return Ok(Outcome::NoFrame);
         };
         let event = event_of(decode(bytes)?);
         let present = &mut self.present[usize::from(to)];
         let answer = present.act(event)?;
         Ok(Outcome::Answer(answer))
+    }
+
+    /// The bytes of the frame of this number from one node to another, if it was released.
+    fn released(&self, from: u8, to: u8, number: u64) -> Option<&[u8]>
+        requires from { from < length self.now.present }
+        requires to { to < length self.now.present }
+        ensures { option_map (λ b. b.now) result ≡ numbered_bytes (frames_of self.now.released from to) number }
+    {
+        let row = &self.outboxes[usize::from(from)];
+        let outbox = &row[usize::from(to)];
+        outbox.frame(number)
     }
 }
 
@@ -164,16 +174,6 @@ fn new_nodes(alloc: Global, shape: Shape) -> Result<Vec<Node>, Refusal>
         nodes.push(Node::new(alloc, shape, NodeId { number })?)?;
     }
     Ok(nodes)
-}
-
-/// The bytes of the frame of this number from one node to another, if it was released.
-fn released(rows: &[Vec<Outbox>], from: u8, to: u8, number: u64) -> Option<&[u8]>
-    requires { to < length (slice_index_or (rows_of rows.now) from []) }
-    ensures { option_map (λ b. b.now) result ≡ numbered_bytes (frames_of (rows_of rows.now) from to) number }
-{
-    let row = &rows[usize::from(from)];
-    let outbox = &row[usize::from(to)];
-    outbox.frame(number)
 }
 
 /// The event that a frame brings to its receiver.

@@ -1,0 +1,96 @@
+-- The grammar of a script's lines.
+use Rattle.std.specs.Prelude.{ℕ, ◌^◌, Bool, true, ◌&&◌, nat_lt, nat_le, cond, ◌==◌, List, [], ◌∷◌, length, filter, Option, Some, None, codes, option_map, option_and_then}
+use Rattle.std.specs.Char.{is_ascii_digit}
+use Rattle.std.specs.List.{slice_split, list_all, starts_with}
+use Rattle.std.specs.Str.{bytes_eq}
+use Rattle.std.specs.Str.Parse.{digits_value}
+use Rattle.markring.specs.declared.line.Line.{Line}
+use Rattle.markring.specs.declared.line.Line.TheVariants as line
+use Rattle.markring.specs.declared.line.TheConstants.{MOST_DIGITS}
+use Rattle.model.specs.declared.event.Event.{Event}
+use Rattle.model.specs.declared.event.Event.TheVariants as event
+use Rattle.model.specs.declared.step.Step.{Step}
+use Rattle.model.specs.declared.step.Step.TheVariants as step
+use Rattle.model.specs.World.{is_own_step}
+
+-- the words of a line: what stands between spaces
+abbrev pub words_of : List ℕ → List (List ℕ)
+words_of text = filter (λ word. nat_lt 0 (length word)) (slice_split (λ byte. byte == 32) text)
+
+-- one digit or more, but not too many, and nothing else
+abbrev pub is_number : List ℕ → Bool
+is_number word = nat_lt 0 (length word) && (nat_le (length word) MOST_DIGITS && list_all is_ascii_digit word)
+
+-- the number that a word spells, where it is below the limit
+abbrev pub number_below : ℕ → List ℕ → Option ℕ
+number_below limit word =
+    cond (is_number word) (cond (nat_lt (digits_value 10 word) limit) (Some (digits_value 10 word)) None) None
+
+-- a number of 8, 16, 32 or 64 bits
+abbrev pub byte_of : List ℕ → Option ℕ
+byte_of word = number_below (2 ^ 8) word
+
+abbrev pub short_of : List ℕ → Option ℕ
+short_of word = number_below (2 ^ 16) word
+
+abbrev pub word_of : List ℕ → Option ℕ
+word_of word = number_below (2 ^ 32) word
+
+abbrev pub long_of : List ℕ → Option ℕ
+long_of word = number_below (2 ^ 64) word
+
+-- what a verb says with no operand, with one, with two and with three
+abbrev pub alone : ℕ → List ℕ → Option Step
+alone node verb = cond (bytes_eq verb (codes "save")) (Some (step.Save node)) None
+
+abbrev pub with_one : List ℕ → List ℕ → Option Event
+with_one verb a =
+    cond (bytes_eq verb (codes "drop")) (option_map (λ register. event.Drop register) (short_of a))
+    (cond (bytes_eq verb (codes "accept")) (option_map (λ register. event.Accept register) (short_of a)) None)
+
+abbrev pub with_two : List ℕ → List ℕ → List ℕ → Option Event
+with_two verb a b =
+    cond (bytes_eq verb (codes "alloc"))
+    (option_and_then (λ register. option_map (λ places. event.Alloc register places) (byte_of b)) (short_of a)) None
+
+abbrev pub with_three : List ℕ → List ℕ → List ℕ → List ℕ → Option Event
+with_three verb a b c =
+    cond (bytes_eq verb (codes "give"))
+    (option_and_then (λ to. option_and_then (λ label. option_map (λ register. event.Give to label register) (short_of c)) (word_of b)) (byte_of a)) None
+
+-- what stands after the node's number
+abbrev pub step_of : ℕ → List (List ℕ) → Option Step
+step_of node (verb ∷ []) = alone node verb
+step_of node (verb ∷ a ∷ []) = option_map (λ e. step.Act node e) (with_one verb a)
+step_of node (verb ∷ a ∷ b ∷ []) = option_map (λ e. step.Act node e) (with_two verb a b)
+step_of node (verb ∷ a ∷ b ∷ c ∷ []) = option_map (λ e. step.Act node e) (with_three verb a b c)
+step_of node words = None
+
+-- what stands after `space`
+abbrev pub space_of : List (List ℕ) → Option Line
+space_of (a ∷ b ∷ c ∷ []) =
+    option_and_then (λ nodes. option_and_then (λ registers. option_map (λ slots. line.Space nodes registers slots) (word_of c)) (short_of b)) (byte_of a)
+space_of words = None
+
+-- what stands after `deliver`
+abbrev pub delivery_of : List (List ℕ) → Option Step
+delivery_of (a ∷ b ∷ c ∷ []) =
+    option_and_then (λ from. option_and_then (λ to. option_map (λ number. step.Deliver from to number) (long_of c)) (byte_of b)) (byte_of a)
+delivery_of words = None
+
+abbrev pub command_of : List ℕ → List (List ℕ) → Option Line
+command_of first words =
+    cond (bytes_eq first (codes "space")) (space_of words)
+    (option_map (λ s. line.Step s) (cond (bytes_eq first (codes "deliver")) (delivery_of words)
+    (option_and_then (λ node. step_of node words) (byte_of first))))
+
+-- what a line of these words says, or none where they are outside the grammar
+abbrev pub line_of : List (List ℕ) → Option Line
+line_of [] = Some line.Blank
+line_of (first ∷ words) = cond (starts_with (λ x y. x == y) first (codes "#")) (Some line.Blank) (command_of first words)
+
+-- a line that asks for no message from another node
+abbrev pub is_own_line : Line → Bool
+is_own_line (line.Step s) = is_own_step s
+is_own_line line.Blank = true
+is_own_line (line.Space nodes registers slots) = true

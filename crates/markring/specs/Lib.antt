@@ -1,0 +1,4 @@
+pub mod Grammar
+pub mod Script
+pub mod Space
+pub mod Text

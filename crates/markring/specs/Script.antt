@@ -1,0 +1,124 @@
+-- What a script prints, and the status that it ends with.
+use Rattle.std.specs.Prelude.{◌≡◌, ℕ, ◌+◌, max, List, [], ◌∷◌, ◌++◌, ◌⊎◌, Option, Some, None, IfSome, Result, Ok, Err, codes, decimal}
+use Rattle.std.specs.Io.KnownBytes.{Appends}
+use Rattle.std.specs.Str.Lines.{lines}
+use Rattle.ids.specs.Limits.{Shaped, IsShape}
+use Rattle.ids.specs.declared.refusal.Refusal.{Refusal}
+use Rattle.ids.specs.declared.refusal.Refusal.TheVariants.{Memory}
+use Rattle.model.specs.Checks.{IsFirstRefusal}
+use Rattle.model.specs.World.{World, new_world, take_step}
+use Rattle.model.specs.declared.step.Outcome.{Outcome}
+use Rattle.model.specs.declared.step.Outcome.TheVariants as outcome
+use Rattle.model.specs.declared.step.Step.{Step}
+use Rattle.markring.specs.declared.line.Line.{Line}
+use Rattle.markring.specs.declared.line.Line.TheVariants as line
+use Rattle.markring.specs.declared.script.Reply.{Reply}
+use Rattle.markring.specs.declared.script.Reply.TheVariants as reply
+use Rattle.markring.specs.declared.script.State.{State}
+use Rattle.markring.specs.declared.script.State.TheVariants as state
+use Rattle.markring.specs.Grammar.{line_of, words_of}
+use Rattle.markring.specs.Text.{outcome_text, refusal_text}
+
+-- the space of a script: not asked for yet, refused for want of memory, or there
+pub data Held : Type 0 where
+  awaited : Held
+  denied : Held
+  there : World → Held
+
+-- the program's space shows that of the definitions
+abbrev pub ShowsHeld : {S : Type 0} → (S → World → Type 0) → State S → Held → Type 0
+ShowsHeld shows state.Unopened awaited = Unit {0}
+ShowsHeld shows (state.Refused e) denied = e ≡ Memory
+ShowsHeld shows (state.Open s) (there w) = shows s w
+ShowsHeld shows s h = ⊥
+
+-- what is printed for a step that the definitions answer so, and the space afterwards
+abbrev pub IsStepReply : World → Result (World × Outcome) Refusal → Reply → Held → Type 0
+IsStepReply w stepped (reply.Outcome o) later = (v : World) × (stepped ≡ Ok (v, o)) × (later ≡ there v)
+IsStepReply w stepped (reply.Refused e) later = IsFirstRefusal e stepped × (later ≡ there w)
+IsStepReply w stepped reply.Nothing later = ⊥
+IsStepReply w stepped reply.NoCommand later = ⊥
+
+abbrev pub TakesStep : Held → Step → Reply → Held → Type 0
+TakesStep awaited step r later = (r ≡ reply.NoCommand) × (later ≡ awaited)
+TakesStep denied step r later = (r ≡ reply.Refused Memory) × (later ≡ denied)
+TakesStep (there w) step r later = IsStepReply w (take_step w step) r later
+
+-- a space of these sizes is made, or refused for want of memory
+abbrev pub IsNewReply : Shaped → Reply → Held → Type 0
+IsNewReply sizes r later =
+    ((r ≡ reply.Outcome outcome.Done) × (later ≡ there (new_world sizes))) ⊎ ((r ≡ reply.Refused Memory) × (later ≡ denied))
+
+abbrev pub TakesSpace : Held → Shaped → Reply → Held → Type 0
+TakesSpace awaited sizes r later = IsNewReply sizes r later
+TakesSpace denied sizes r later = (r ≡ reply.NoCommand) × (later ≡ denied)
+TakesSpace (there w) sizes r later = (r ≡ reply.NoCommand) × (later ≡ there w)
+
+-- `space` stands once and first, and its sizes are within the limits
+pub record AsksSpace (h : Held) (sizes : Shaped) (r : Reply) (later : Held) : Type 0 where
+  pub within : IsShape sizes → TakesSpace h sizes r later
+  pub outside : (IsShape sizes → ⊥) → (r ≡ reply.NoCommand) × (later ≡ h)
+
+-- what is printed for a line that says this, and the space afterwards
+abbrev pub TakesLine : Held → Option Line → Reply → Held → Type 0
+TakesLine h None r later = (r ≡ reply.NoCommand) × (later ≡ h)
+TakesLine h (Some line.Blank) r later = (r ≡ reply.Nothing) × (later ≡ h)
+TakesLine h (Some (line.Space nodes registers slots)) r later =
+    AsksSpace h (record { nodes = nodes; registers = registers; slots = slots }) r later
+TakesLine h (Some (line.Step step)) r later = TakesStep h step r later
+
+-- what is printed for the reply to the line of this number
+abbrev pub reply_text : ℕ → Reply → List ℕ
+reply_text number reply.Nothing = []
+reply_text number (reply.Outcome o) = outcome_text o ++ (10 ∷ [])
+reply_text number (reply.Refused e) = refusal_text e ++ (10 ∷ [])
+reply_text number reply.NoCommand = codes "line " ++ (decimal number ++ (codes ": not a command" ++ (10 ∷ [])))
+
+-- what is printed for replies, of which the first is to the line of this number
+abbrev pub printed : ℕ → List Reply → List ℕ
+printed number [] = []
+printed number (r ∷ rs) = reply_text number r ++ printed (number + 1) rs
+
+abbrev pub status_after : Reply → ℕ
+status_after reply.Nothing = 0
+status_after (reply.Outcome o) = 0
+status_after (reply.Refused e) = 1
+status_after reply.NoCommand = 2
+
+-- the status is that of the worst reply
+abbrev pub status_of : List Reply → ℕ
+status_of [] = 0
+status_of (r ∷ rs) = max (status_after r) (status_of rs)
+
+-- a line outside the grammar is the last
+abbrev pub GoesOn : Reply → List Reply → Type 0 → Type 0
+GoesOn reply.NoCommand rs rest = rs ≡ []
+GoesOn r rs rest = rest
+
+-- the replies to the lines, one by one
+abbrev pub Replies : Held → List (List ℕ) → List Reply → Type 0
+Replies h [] rs = rs ≡ []
+Replies h (l ∷ ls) [] = ⊥
+Replies h (l ∷ ls) (r ∷ rs) = (later : Held) × TakesLine h (line_of (words_of l)) r later × GoesOn r rs (Replies later ls rs)
+
+-- the program printed the replies to the script's lines, and ends with the status of the worst; what the
+-- output held before and afterwards is said where it is known
+pub record PrintsReplies (script : List ℕ) (status : ℕ) (old new : Option (List ℕ)) : Type 0 where
+  pub replies : List Reply
+  pub follow : Replies awaited (lines script) replies
+  pub worst : status ≡ status_of replies
+  pub appended : Appends old new (printed 1 replies)
+
+-- the program printed why it could not read the script
+abbrev pub PrintsNoScript : ℕ → Option (List ℕ) → Option (List ℕ) → Type 0
+PrintsNoScript status old new =
+    ((status ≡ 2) × Appends old new (codes "file refused" ++ (10 ∷ []))) ⊎ ((status ≡ 1) × Appends old new (refusal_text Memory ++ (10 ∷ [])))
+
+-- why a run of a script ends with a status; what was read is all that the reader had, where that is known
+pub data IsStatusOf (remaining : Option (List ℕ)) (status : ℕ) : Type 0 where
+  -- the replies to the lines were printed
+  replied : (script : List ℕ) → IfSome remaining (λ bytes. script ≡ bytes) → PrintsReplies script status None None → IsStatusOf remaining status
+  -- the script can't be read
+  unread : status ≡ 2 → IsStatusOf remaining status
+  -- memory was refused, or output failed
+  cut : status ≡ 1 → IsStatusOf remaining status

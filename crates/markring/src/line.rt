@@ -1,0 +1,240 @@
+//! One line of a script.
+ghost use Rattle.std.specs.Prelude.{◌≡◌, ◌≤◌, ◌<◌, ◌∷◌, [], length, map, take, None, IfNone, IfSome, IsTrue, MatchOption};
+ghost use Rattle.std.specs.Char.{is_ascii_digit};
+ghost use Rattle.std.specs.List.{list_all};
+ghost use Rattle.model.specs.Steps.{is_own};
+ghost use Rattle.model.specs.World.{is_own_step};
+ghost use Rattle.markring.specs.Grammar.{alone, byte_of, delivery_of, is_number, is_own_line, line_of, command_of, long_of, short_of, space_of, step_of, with_one, with_three, with_two, word_of, words_of};
+
+use model::{Event, Step};
+
+/// The most words that a command has.
+const MOST_WORDS: usize = 5;
+
+/// The most digits that a number has, leading zeros counted.
+const MOST_DIGITS: usize = 20;
+
+/// What one line of a script says.
+#[derive(Clone, Copy, Debug, PartialEq, Eq)]
+pub enum Line {
+    /// Nothing: no word stands there, or a comment.
+    Blank,
+    /// The sizes of the space, which need not be within the limits.
+    Space {
+        nodes: u8,
+        registers: u16,
+        slots: u32,
+    },
+    /// A step of the space.
+    Step(Step),
+}
+
+impl Line {
+    /// What the line says, or None where it is outside the grammar.
+    pub fn parse(text: &str) -> Option<Line>
+        ensures reads { result ≡ line_of (words_of text.now) }
+    ensures own { IfSome result (λ l. IsTrue (is_own_line l)) }
+    {
+        let Some((first, rest)) = split_word(text) else {
+            return Some(Line::Blank);
+        };
+        if first.starts_with('#') {
+            return Some(Line::Blank);
+        }
+        let mut words = [""; MOST_WORDS];
+        let count = split_words(rest, &mut words)?;
+        command(first, &words[..count])
+    }
+}
+
+/// The first word of the text, and what stands after it. Words are what stands between spaces.
+fn split_word(text: &str) -> Option<(&str, &str)>
+    ensures { MatchOption result (words_of text.now ≡ []) (λ x. words_of text.now ≡ x.0.now ∷ words_of x.1.now) }
+{
+    let mut rest = text;
+    while let Some((word, after)) = rest.split_once(' ') {
+        if !word.is_empty() {
+            return Some((word, after));
+        }
+        rest = after;
+    }
+    if rest.is_empty() {
+        None
+    } else {
+        Some((rest, ""))
+    }
+}
+
+/// Puts the words of the text at the front, and answers their number; None where they don't fit.
+fn split_words<'a>(text: &'a str, words: &mut [&'a str]) -> Option<usize>
+    ensures within { IfSome result (λ n. n ≤ length words.new) }
+    ensures words { IfSome result (λ n. words_of text.now ≡ map (λ w. w.now) (take n words.new)) }
+    ensures many { IfNone result (length words.old < length (words_of text.now)) }
+{
+    let mut count = 0;
+    let mut rest = text;
+    while let Some((word, after)) = split_word(rest) {
+        if count >= words.len() {
+            return None;
+        }
+        words[count] = word;
+        count += 1;
+        rest = after;
+    }
+    Some(count)
+}
+
+fn command(first: &str, words: &[&str]) -> Option<Line>
+    ensures reads { result ≡ command_of first.now (map (λ w. w.now) words.now) }
+    ensures own { IfSome result (λ l. IsTrue (is_own_line l)) }
+{
+    match first {
+        "space" => space(words),
+        "deliver" => Some(Line::Step(delivery(words)?)),
+        node => Some(Line::Step(node_step(read_u8(node)?, words)?)),
+    }
+}
+
+fn space(words: &[&str]) -> Option<Line>
+    ensures reads { result ≡ space_of (map (λ w. w.now) words.now) }
+    ensures own { IfSome result (λ l. IsTrue (is_own_line l)) }
+{
+    let [nodes, registers, slots] = words else {
+        return None;
+    };
+    Some(Line::Space {
+        nodes: read_u8(nodes)?,
+        registers: read_u16(registers)?,
+        slots: read_u32(slots)?,
+    })
+}
+
+fn delivery(words: &[&str]) -> Option<Step>
+    ensures reads { result ≡ delivery_of (map (λ w. w.now) words.now) }
+    ensures own { IfSome result (λ s. IsTrue (is_own_step s)) }
+{
+    let [from, to, number] = words else {
+        return None;
+    };
+    Some(Step::Deliver {
+        from: read_u8(from)?,
+        to: read_u8(to)?,
+        number: read_u64(number)?,
+    })
+}
+
+fn node_step(node: u8, words: &[&str]) -> Option<Step>
+    ensures reads { result ≡ step_of node (map (λ w. w.now) words.now) }
+    ensures own { IfSome result (λ s. IsTrue (is_own_step s)) }
+{
+    match words {
+        [verb] => alone(node, verb),
+        [verb, a] => Some(Step::Act(node, with_one(verb, a)?)),
+        [verb, a, b] => Some(Step::Act(node, with_two(verb, a, b)?)),
+        [verb, a, b, c] => Some(Step::Act(node, with_three(verb, a, b, c)?)),
+        _ => None,
+    }
+}
+
+/// What a verb says with no operand.
+fn alone(node: u8, verb: &str) -> Option<Step>
+    ensures reads { result ≡ alone node verb.now }
+    ensures own { IfSome result (λ s. IsTrue (is_own_step s)) }
+{
+    match verb {
+        "save" => Some(Step::Save(node)),
+        _ => None,
+    }
+}
+
+/// What a verb says with one operand.
+fn with_one(verb: &str, a: &str) -> Option<Event>
+    ensures reads { result ≡ with_one verb.now a.now }
+    ensures own { IfSome result (λ e. IsTrue (is_own e)) }
+{
+    match verb {
+        "drop" => Some(Event::Drop {
+            register: read_u16(a)?,
+        }),
+        "accept" => Some(Event::Accept {
+            register: read_u16(a)?,
+        }),
+        _ => None,
+    }
+}
+
+/// What a verb says with two operands.
+fn with_two(verb: &str, a: &str, b: &str) -> Option<Event>
+    ensures reads { result ≡ with_two verb.now a.now b.now }
+    ensures own { IfSome result (λ e. IsTrue (is_own e)) }
+{
+    match verb {
+        "alloc" => Some(Event::Alloc {
+            register: read_u16(a)?,
+            places: read_u8(b)?,
+        }),
+        _ => None,
+    }
+}
+
+/// What a verb says with three operands.
+fn with_three(verb: &str, a: &str, b: &str, c: &str) -> Option<Event>
+    ensures reads { result ≡ with_three verb.now a.now b.now c.now }
+    ensures own { IfSome result (λ e. IsTrue (is_own e)) }
+{
+    match verb {
+        "give" => Some(Event::Give {
+            to: read_u8(a)?,
+            label: read_u32(b)?,
+            register: read_u16(c)?,
+        }),
+        _ => None,
+    }
+}
+
+/// The number that the word spells, where it fits.
+fn read_u8(word: &str) -> Option<u8>
+    ensures { result ≡ byte_of word.now }
+{
+    u8::try_from(read_u64(word)?).ok()
+}
+
+/// The number that the word spells, where it fits.
+fn read_u16(word: &str) -> Option<u16>
+    ensures { result ≡ short_of word.now }
+{
+    u16::try_from(read_u64(word)?).ok()
+}
+
+/// The number that the word spells, where it fits.
+fn read_u32(word: &str) -> Option<u32>
+    ensures { result ≡ word_of word.now }
+{
+    u32::try_from(read_u64(word)?).ok()
+}
+
+/// The number that the word spells, where it fits.
+fn read_u64(word: &str) -> Option<u64>
+    ensures { result ≡ long_of word.now }
+{
+    if !is_number(word) {
+        return None;
+    }
+    word.parse::<u64>().ok()
+}
+
+/// Whether the word is one digit or more, but not too many, and nothing else.
+fn is_number(word: &str) -> bool
+    ensures { result ≡ is_number word.now }
+{
+    !word.is_empty() && word.len() <= MOST_DIGITS && are_digits(word.as_bytes())
+}
+
+fn are_digits(word: &[u8]) -> bool
+    ensures { result ≡ list_all is_ascii_digit word.now }
+{
+    word.iter().all(|byte| byte.is_ascii_digit())
+}
+
+#[cfg(test)]
+mod tests;

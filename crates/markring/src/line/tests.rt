@@ -1,0 +1,94 @@
+use super::Line;
+use model::{Event, Step};
+
+#[test]
+fn lines_are_read(rt: HostRuntime) {
+    let alloc_step = Step::Act(
+        0,
+        Event::Alloc {
+            register: 3,
+            places: 8,
+        },
+    );
+    let give_step = Step::Act(
+        1,
+        Event::Give {
+            to: 2,
+            label: 4_294_967_295,
+            register: 65_535,
+        },
+    );
+    let delivery = Step::Deliver {
+        from: 0,
+        to: 255,
+        number: 18_446_744_073_709_551_615,
+    };
+    let space = Line::Space {
+        nodes: 2,
+        registers: 4,
+        slots: 16,
+    };
+    for (text, expected) in [
+        ("", Line::Blank),
+        ("   ", Line::Blank),
+        ("# 0 save", Line::Blank),
+        ("  #0 save", Line::Blank),
+        ("# one two three four five six seven", Line::Blank),
+        ("space 2 4 16", space),
+        ("  space   2 4  16 ", space),
+        ("0 alloc 3 8", Line::Step(alloc_step)),
+        ("0 drop 7", Line::Step(Step::Act(0, Event::Drop { register: 7 }))),
+        ("1 give 2 4294967295 65535", Line::Step(give_step)),
+        ("9 accept 0", Line::Step(Step::Act(9, Event::Accept { register: 0 }))),
+        ("00000000000000000255 save", Line::Step(Step::Save(255))),
+        ("deliver 0 255 18446744073709551615", Line::Step(delivery)),
+    ] {
+        assert_eq!(rt; Line::parse(text), Some(expected), "{text:?}");
+    }
+}
+
+#[test]
+fn other_lines_are_no_commands(rt: HostRuntime) {
+    for text in [
+        "save",
+        "0",
+        "0 fly",
+        "0 Save",
+        "0 save 1",
+        "space 2 4",
+        "space 2 4 16 1",
+        "Space 2 4 16",
+        "0 space 2 4 16",
+        "deliver 0 1",
+        "deliver 0 1 1 1",
+        "0 deliver 0 1 1",
+        "0 alloc 1",
+        "0 alloc 1 2 3",
+        "0 drop",
+        "0 give 1 7",
+        "0 give 1 7 0 0",
+        "0 give 1 7 0 0 0",
+        "0 accept",
+        "256 save",
+        "000000000000000000000 save",
+        "space 256 4 16",
+        "space 2 65536 16",
+        "space 2 4 4294967296",
+        "deliver 0 1 18446744073709551616",
+        "deliver 0 1 99999999999999999999",
+        "+0 save",
+        "-0 save",
+        "0x0 save",
+        "0. save",
+        "\u{0663} save",
+        "0\tsave",
+        "0 save\t",
+        "0 save\r",
+        "\u{feff}0 save",
+        "\u{feff}# 0 save",
+        "0\u{a0}save",
+        "0 save #",
+    ] {
+        assert_eq!(rt; Line::parse(text), None, "{text:?}");
+    }
+}

@@ -1,0 +1,200 @@
+//! Runs a script over a space of nodes.
+ghost use Rattle.std.specs.Prelude.{◌≡◌, ◌≤◌, IfOk, IfErr, IsTrue, ◌≢◌};
+ghost use Rattle.ids.specs.declared.refusal.Refusal.TheVariants.{Memory};
+ghost use Rattle.model.specs.World.{World, new_world, is_own_step, take_step};
+ghost use Rattle.markring.specs.Space.{FollowsStep};
+ghost use Rattle.world.specs.Shows.{ShowsWorld};
+ghost use Rattle.markring.specs.Grammar.{line_of, words_of};
+ghost use Rattle.markring.specs.Script.{Held, IsStatusOf, PrintsNoScript, PrintsReplies, ShowsHeld, TakesLine, TakesSpace, TakesStep};
+
+use crate::line::Line;
+use crate::text::{OutcomeText, RefusalText};
+use ids::{Refusal, Shape};
+use model::{Outcome, Step};
+use std::alloc::Global;
+use std::io;
+use std::io::{BufWriter, ErrorKind, Read, Write};
+use world::Sim;
+
+/// The status where all is done.
+pub const DONE: u8 = 0;
+
+/// The status where some line was refused, memory was refused, or output failed.
+pub const REFUSED: u8 = 1;
+
+/// The status where words, a file or a script's line can't be read.
+pub const UNREADABLE: u8 = 2;
+
+/// What a script runs over.
+trait Space: Drop + Sized {
+    /// A space of the definitions that this one shows.
+    ghost shows: { Self → World → Type 0 };
+
+    /// A new space of this shape. `Memory` where a growth was refused.
+    fn new(alloc: Global, shape: Shape) -> Result<Self, Refusal>
+        ensures made { IfOk result (λ s. shows s (new_world shape)) }
+        ensures refused { IfErr result (λ e. e ≡ Memory) };
+
+    /// Takes a step, or refuses it and changes nothing.
+    fn step(&mut self, step: Step) -> Result<Outcome, Refusal>
+        requires own { IsTrue (is_own_step step) }
+        ensures follows { (w : World) → shows self.old w → FollowsStep shows w result self.new (take_step w step) };
+}
+
+impl Space for Sim {
+    ghost shows = { ShowsWorld };
+
+    fn new(alloc: Global, shape: Shape) -> Result<Sim, Refusal> {
+        Sim::new(alloc, shape)
+    }
+
+    fn step(&mut self, step: Step) -> Result<Outcome, Refusal> {
+        Sim::step(self, step)
+    }
+}
+
+/// The space of a script.
+#[derive(Drop)]
+enum State<S> {
+    /// No line asked for it yet.
+    Unopened,
+    Open(S),
+    /// It was refused, and so is each step of it.
+    Refused(Refusal),
+}
+
+/// What a line of a script comes to.
+#[derive(Clone, Copy)]
+enum Reply {
+    /// Nothing is printed.
+    Nothing,
+    Outcome(Outcome),
+    Refused(Refusal),
+    /// It is outside the grammar.
+    NoCommand,
+}
+
+/// Runs a script in one thread, prints what its lines come to, and answers the program's status. The
+/// script is read to its end before its first line is run.
+pub fn sim<R: Read + Drop, W: Write + Drop>(alloc: Global, script: R, mut out: W) -> u8
+    ensures status { IsStatusOf (R.remaining script) result }
+    ensures small { result ≤ 2 }
+{
+    match run::<Sim, R, W>(alloc, script, &mut out) {
+        Ok(status) => status,
+        Err(_) => REFUSED,
+    }
+}
+
+fn run<S: Space, R: Read + Drop, W: Write>(alloc: Global, script: R, out: &mut W) -> io::Result<u8>
+    ensures { IfOk result (IsStatusOf (R.remaining script)) }
+{
+    let text = match io::read_to_string(alloc, script) {
+        Ok(text) => text,
+        Err(error) => return print_unread(out, error.kind()),
+    };
+    let Ok(mut buffered) = BufWriter::new(alloc, &mut *out) else {
+        return print_unread(out, ErrorKind::OutOfMemory);
+    };
+    let status = run_lines::<S, _>(alloc, text.as_str(), &mut buffered)?;
+    buffered.flush()?;
+    Ok(status)
+}
+
+/// Prints that the script could not be read, and answers the status.
+pub fn print_unread<W: Write>(out: &mut W, kind: ErrorKind) -> io::Result<u8>
+    ensures printed { IfOk result (λ status. PrintsNoScript status (W.contents out.old) (W.contents out.new)) }
+    ensures memory { kind ≡ ErrorKind.OutOfMemory → IfOk result (λ status. status ≡ 1) }
+    ensures other { kind ≢ ErrorKind.OutOfMemory → IfOk result (λ status. status ≡ 2) }
+{
+    match kind {
+        ErrorKind::OutOfMemory => {
+            writeln!(out, "{}", RefusalText(Refusal::Memory))?;
+            Ok(REFUSED)
+        }
+        _ => {
+            writeln!(out, "file refused")?;
+            Ok(UNREADABLE)
+        }
+    }
+}
+
+fn run_lines<S: Space, W: Write>(alloc: Global, script: &str, out: &mut W) -> io::Result<u8>
+    ensures { IfOk result (λ status. PrintsReplies script.now status (W.contents out.old) (W.contents out.new)) }
+{
+    let mut state = State::<S>::Unopened;
+    let mut status = DONE;
+    for (index, text) in script.lines().enumerate() {
+        match take_line(alloc, &mut state, text) {
+            Reply::Nothing => {}
+            Reply::Outcome(outcome) => {
+                writeln!(out, "{}", OutcomeText(outcome))?;
+            }
+            Reply::Refused(refusal) => {
+                writeln!(out, "{}", RefusalText(refusal))?;
+                status = REFUSED;
+            }
+            Reply::NoCommand => {
+                writeln!(out, "line {}: not a command", index + 1)?;
+                return Ok(UNREADABLE);
+            }
+        }
+    }
+    Ok(status)
+}
+
+/// Does what the line says.
+fn take_line<S: Space>(alloc: Global, state: &mut State<S>, text: &str) -> Reply
+    ensures { (h : Held) → ShowsHeld S.shows state.old h → (k : Held) × TakesLine h (line_of (words_of text.now)) result k × ShowsHeld S.shows state.new k }
+{
+    match Line::parse(text) {
+        Some(Line::Blank) => Reply::Nothing,
+        Some(Line::Space {
+            nodes,
+            registers,
+            slots,
+        }) => match Shape::new(nodes, registers, slots) {
+            Some(shape) => open(alloc, state, shape),
+            None => Reply::NoCommand,
+        },
+        Some(Line::Step(step)) => take_step(state, step),
+        None => Reply::NoCommand,
+    }
+}
+
+/// Makes the space, where no line asked for it before.
+fn open<S: Space>(alloc: Global, state: &mut State<S>, shape: Shape) -> Reply
+    ensures { (h : Held) → ShowsHeld S.shows state.old h → (k : Held) × TakesSpace h shape result k × ShowsHeld S.shows state.new k }
+{
+    let State::Unopened = state else {
+        return Reply::NoCommand;
+    };
+    match S::new(alloc, shape) {
+        Ok(space) => {
+            *state = State::Open(space);
+            Reply::Outcome(Outcome::Done)
+        }
+        Err(refusal) => {
+            *state = State::Refused(refusal);
+            Reply::Refused(refusal)
+        }
+    }
+}
+
+/// Takes a step of the space, where it was asked for.
+fn take_step<S: Space>(state: &mut State<S>, step: Step) -> Reply
+    requires { IsTrue (is_own_step step) }
+    ensures { (h : Held) → ShowsHeld S.shows state.old h → (k : Held) × TakesStep h step result k × ShowsHeld S.shows state.new k }
+{
+    match state {
+        State::Unopened => Reply::NoCommand,
+        State::Refused(refusal) => Reply::Refused(*refusal),
+        State::Open(space) => match space.step(step) {
+            Ok(outcome) => Reply::Outcome(outcome),
+            Err(refusal) => Reply::Refused(refusal),
+        },
+    }
+}
+
+#[cfg(test)]
+mod tests;

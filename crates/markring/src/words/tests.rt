@@ -1,0 +1,52 @@
+use super::{Command, WordsError};
+use std::alloc::{AllocError, Global};
+use std::test::Fail;
+
+fn owned(alloc: Global, words: &[&str]) -> Result<Vec<String>, AllocError> {
+    let mut all = Vec::new(alloc);
+    for word in words {
+        all.push(String::from_str(alloc, word)?)?;
+    }
+    Ok(all)
+}
+
+#[test]
+fn words_are_read(rt: HostRuntime) -> Result<(), Fail> {
+    let none: [&str; 0] = [];
+    for (words, script) in [
+        (none.as_slice(), None),
+        (["markring"].as_slice(), None),
+        (["markring", "sim"].as_slice(), None),
+        (["markring", "sim", "rows.script"].as_slice(), Some("rows.script")),
+        (["markring", "sim", "sim"].as_slice(), Some("sim")),
+        (["markring", "sim", "--", "-x"].as_slice(), Some("-x")),
+    ] {
+        let words = owned(rt.alloc(), words)?;
+        let command = Command::read(rt.alloc(), words.as_slice())?;
+        assert_eq!(rt; command, Command::Sim { script });
+    }
+    Ok(())
+}
+
+#[test]
+fn other_words_are_unknown(rt: HostRuntime) -> Result<(), Fail> {
+    for words in [
+        ["markring", ""].as_slice(),
+        ["markring", "--"].as_slice(),
+        ["markring", "help"].as_slice(),
+        ["markring", "-h"].as_slice(),
+        ["markring", "--help"].as_slice(),
+        ["markring", "--version"].as_slice(),
+        ["markring", "Sim"].as_slice(),
+        ["markring", "si"].as_slice(),
+        ["markring", "rows.script"].as_slice(),
+        ["markring", "sim", "--help"].as_slice(),
+        ["markring", "sim", "-x"].as_slice(),
+        ["markring", "sim", "one", "two"].as_slice(),
+    ] {
+        let words = owned(rt.alloc(), words)?;
+        let command = Command::read(rt.alloc(), words.as_slice());
+        assert_eq!(rt; command, Err(WordsError::Unknown));
+    }
+    Ok(())
+}
