@@ -6,23 +6,26 @@ use Rattle.std.specs.Result.{result_ok}
 use Rattle.std.specs.Str.Parse.{ParsesUnsigned, digits_value}
 use Rattle.std.proofs.lemmas.Bool.{lt-ltb, ltb-true, and_parts, cond-true, cond-false}
 use Rattle.std.proofs.lemmas.Str.Parse.{IsNumeralModel, numerals_by_value, parse_digits}
-use Rattle.markring.specs.Grammar.{is_number, long_of}
+use Rattle.markring.specs.Grammar.{is_number, u64_of}
 
 digits : IsNumeralModel (λ word. list_all is_ascii_digit word ≡ true) (digits_value 10)
 digits = numerals_by_value _ (search rules)
 
 all_digits : (word : List ℕ) → is_number word ≡ true → list_all is_ascii_digit word ≡ true
+unfolding is_number
 all_digits word number = (and_parts _ _ (and_parts _ _ number).1).1
 
 is_filled : (word : List ℕ) → is_number word ≡ true → 0 < length word
+unfolding is_number
 is_filled word number = ltb-true _ _ (and_parts _ _ number).0
 
 -- the value of a word of digits, where it fits
-pub long_of-parse : {E : Type 0} (word : List ℕ) (r : Result ℕ E) → ParsesUnsigned 64 10 word r → is_number word ≡ true → result_ok r ≡ long_of word
-long_of-parse {E} word (Ok x) parsed number =
+pub u64_of-parse : {E : Type 0} (word : List ℕ) (r : Result ℕ E) → ParsesUnsigned 64 10 word r → is_number word ≡ true → result_ok r ≡ u64_of word
+unfolding u64_of
+u64_of-parse {E} word (Ok x) parsed number =
     let read = parse_digits digits {E = E} 64 word (Ok x) parsed (all_digits word number) in
     ap (λ n. Some n) read.1 ∙ sym (cond-true (is_number word) _ _ number ∙ cond-true (nat_lt (digits_value 10 word) (2 ^ 64)) _ _ (lt-ltb _ _ read.0.1))
-long_of-parse {E} word (Err e) parsed number =
+u64_of-parse {E} word (Err e) parsed number =
     let fails = parse_digits digits {E = E} 64 word (Err e) parsed (all_digits word number) in
     sym (cond-true (is_number word) _ _ number ∙ cond-false (nat_lt (digits_value 10 word) (2 ^ 64)) _ _ (elim (nat_lt (digits_value 10 word) (2 ^ 64)) as (λ b. nat_lt (digits_value 10 word) (2 ^ 64) ≡ b → b ≡ false) [
       | true ↦ λ below. absurd (fails (is_filled word number, ltb-true _ _ below))

@@ -15,7 +15,7 @@ use Rattle.markring.specs.declared.script.Reply.TheVariants as reply
 use Rattle.markring.specs.declared.script.State.{State}
 use Rattle.markring.specs.declared.script.State.TheVariants as state
 use Rattle.markring.specs.Grammar.{line_of, words_of}
-use Rattle.markring.specs.Script.{Held, awaited, ShowsHeld, TakesLine, GoesOn, Replies, PrintsReplies, IsStatusOf, replied, unread, cut, printed, reply_text, status_after, status_of}
+use Rattle.markring.specs.Script.{Held, awaited, ShowsHeld, Moves, TakesLine, GoesOn, Replies, PrintsReplies, IsStatusOf, replied, unread, cut, printed, reply_text, status_after, status_of}
 
 -- a reply after others
 printed_push : (n : ℕ) (rs : List Reply) (r : Reply) → printed n (rs ++ r ∷ []) ≡ printed n rs ++ reply_text (n + length rs) r
@@ -95,7 +95,7 @@ goes_on (reply.Refused e) rs P goes p = p
 
 -- how a line is answered, and the state before and afterwards
 abbrev pub Answers : {S : Type 0} → (S → World → Type 0) → State S → List ℕ → Reply → State S → Type 0
-Answers shows s line r t = (h : Held) → ShowsHeld shows s h → (k : Held) × TakesLine h (line_of (words_of line)) r k × ShowsHeld shows t k
+Answers shows s line r t = Moves shows (λ h later. TakesLine h (line_of (words_of line)) r later) s t
 
 module _ {S : Type 0} (shows : S → World → Type 0) (script : List ℕ) (it later : Enumerate Lines) (s t : State S) (status : ℕ) (old mid new : Option (List ℕ)) (before : PrintedBefore shows script it s status old mid) (index : ℕ) (x : Bor (List ℕ)) (step : enumerate_steps lines_steps it (Some (index, x)) later) where
   appended_push : (r : Reply) → Appends mid new (reply_text (index + 1) r) → Appends old new (printed 1 (before.replies ++ r ∷ []))
@@ -117,8 +117,8 @@ module _ {S : Type 0} (shows : S → World → Type 0) (script : List ℕ) (it l
         left = next.0;
         yields = next.2;
         follow = λ rs follows.
-          subst (Replies awaited (lines script)) (sym (append_assoc before.replies (r ∷ []) rs))
-          (before.follow (r ∷ rs) (subst (λ ls. Replies before.held ls (r ∷ rs)) (sym next.1) (taken.0, taken.1, goes_on r rs _ goes follows)));
+            subst (Replies awaited (lines script)) (sym (append_assoc before.replies (r ∷ []) rs))
+            (before.follow (r ∷ rs) (subst (λ ls. Replies before.held ls (r ∷ rs)) (sym next.1) (taken.0, taken.1, goes_on r rs _ goes follows)));
         worst = most ∙ ap (λ k. max k (status_after r)) before.worst ∙ sym (status_of_push before.replies r);
         small = small;
         appended = appended_push r more;
@@ -143,7 +143,7 @@ printed_all shows script it later s status old new before step =
     record {
       replies = before.replies;
       follow = subst (Replies awaited (lines script)) (append-nil before.replies)
-        (before.follow [] (subst (λ ls. Replies before.held ls []) (sym none) refl));
+          (before.follow [] (subst (λ ls. Replies before.held ls []) (sym none) refl));
       worst = before.worst;
       appended = before.appended;
     }

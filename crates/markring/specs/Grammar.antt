@@ -14,11 +14,11 @@ use Rattle.model.specs.declared.step.Step.TheVariants as step
 use Rattle.model.specs.World.{is_own_step}
 
 -- the words of a line: what stands between spaces
-abbrev pub words_of : List ℕ → List (List ℕ)
+unfoldable pub words_of : List ℕ → List (List ℕ)
 words_of text = filter (λ word. nat_lt 0 (length word)) (slice_split (λ byte. byte == 32) text)
 
 -- one digit or more, but not too many, and nothing else
-abbrev pub is_number : List ℕ → Bool
+unfoldable pub is_number : List ℕ → Bool
 is_number word = nat_lt 0 (length word) && (nat_le (length word) MOST_DIGITS && list_all is_ascii_digit word)
 
 -- the number that a word spells, where it is below the limit
@@ -26,40 +26,40 @@ abbrev pub number_below : ℕ → List ℕ → Option ℕ
 number_below limit word =
     cond (is_number word) (cond (nat_lt (digits_value 10 word) limit) (Some (digits_value 10 word)) None) None
 
--- a number of 8, 16, 32 or 64 bits
-abbrev pub byte_of : List ℕ → Option ℕ
-byte_of word = number_below (2 ^ 8) word
+-- a number that fits the type of this name
+unfoldable pub u8_of : List ℕ → Option ℕ
+u8_of word = number_below (2 ^ 8) word
 
-abbrev pub short_of : List ℕ → Option ℕ
-short_of word = number_below (2 ^ 16) word
+unfoldable pub u16_of : List ℕ → Option ℕ
+u16_of word = number_below (2 ^ 16) word
 
-abbrev pub word_of : List ℕ → Option ℕ
-word_of word = number_below (2 ^ 32) word
+unfoldable pub u32_of : List ℕ → Option ℕ
+u32_of word = number_below (2 ^ 32) word
 
-abbrev pub long_of : List ℕ → Option ℕ
-long_of word = number_below (2 ^ 64) word
+unfoldable pub u64_of : List ℕ → Option ℕ
+u64_of word = number_below (2 ^ 64) word
 
 -- what a verb says with no operand, with one, with two and with three
-abbrev pub alone : ℕ → List ℕ → Option Step
+unfoldable pub alone : ℕ → List ℕ → Option Step
 alone node verb = cond (bytes_eq verb (codes "save")) (Some (step.Save node)) None
 
-abbrev pub with_one : List ℕ → List ℕ → Option Event
+unfoldable pub with_one : List ℕ → List ℕ → Option Event
 with_one verb a =
-    cond (bytes_eq verb (codes "drop")) (option_map (λ register. event.Drop register) (short_of a))
-    (cond (bytes_eq verb (codes "accept")) (option_map (λ register. event.Accept register) (short_of a)) None)
+    cond (bytes_eq verb (codes "drop")) (option_map (λ register. event.Drop register) (u16_of a))
+    (cond (bytes_eq verb (codes "accept")) (option_map (λ register. event.Accept register) (u16_of a)) None)
 
-abbrev pub with_two : List ℕ → List ℕ → List ℕ → Option Event
+unfoldable pub with_two : List ℕ → List ℕ → List ℕ → Option Event
 with_two verb a b =
     cond (bytes_eq verb (codes "alloc"))
-    (option_and_then (λ register. option_map (λ places. event.Alloc register places) (byte_of b)) (short_of a)) None
+    (option_and_then (λ register. option_map (λ places. event.Alloc register places) (u8_of b)) (u16_of a)) None
 
-abbrev pub with_three : List ℕ → List ℕ → List ℕ → List ℕ → Option Event
+unfoldable pub with_three : List ℕ → List ℕ → List ℕ → List ℕ → Option Event
 with_three verb a b c =
     cond (bytes_eq verb (codes "give"))
-    (option_and_then (λ to. option_and_then (λ label. option_map (λ register. event.Give to label register) (short_of c)) (word_of b)) (byte_of a)) None
+    (option_and_then (λ to. option_and_then (λ label. option_map (λ register. event.Give to label register) (u16_of c)) (u32_of b)) (u8_of a)) None
 
 -- what stands after the node's number
-abbrev pub step_of : ℕ → List (List ℕ) → Option Step
+unfoldable pub step_of : ℕ → List (List ℕ) → Option Step
 step_of node (verb ∷ []) = alone node verb
 step_of node (verb ∷ a ∷ []) = option_map (λ e. step.Act node e) (with_one verb a)
 step_of node (verb ∷ a ∷ b ∷ []) = option_map (λ e. step.Act node e) (with_two verb a b)
@@ -67,25 +67,25 @@ step_of node (verb ∷ a ∷ b ∷ c ∷ []) = option_map (λ e. step.Act node e
 step_of node words = None
 
 -- what stands after `space`
-abbrev pub space_of : List (List ℕ) → Option Line
+unfoldable pub space_of : List (List ℕ) → Option Line
 space_of (a ∷ b ∷ c ∷ []) =
-    option_and_then (λ nodes. option_and_then (λ registers. option_map (λ slots. line.Space nodes registers slots) (word_of c)) (short_of b)) (byte_of a)
+    option_and_then (λ nodes. option_and_then (λ registers. option_map (λ slots. line.Space nodes registers slots) (u32_of c)) (u16_of b)) (u8_of a)
 space_of words = None
 
 -- what stands after `deliver`
-abbrev pub delivery_of : List (List ℕ) → Option Step
+unfoldable pub delivery_of : List (List ℕ) → Option Step
 delivery_of (a ∷ b ∷ c ∷ []) =
-    option_and_then (λ from. option_and_then (λ to. option_map (λ number. step.Deliver from to number) (long_of c)) (byte_of b)) (byte_of a)
+    option_and_then (λ from. option_and_then (λ to. option_map (λ number. step.Deliver from to number) (u64_of c)) (u8_of b)) (u8_of a)
 delivery_of words = None
 
-abbrev pub command_of : List ℕ → List (List ℕ) → Option Line
+unfoldable pub command_of : List ℕ → List (List ℕ) → Option Line
 command_of first words =
     cond (bytes_eq first (codes "space")) (space_of words)
     (option_map (λ s. line.Step s) (cond (bytes_eq first (codes "deliver")) (delivery_of words)
-    (option_and_then (λ node. step_of node words) (byte_of first))))
+    (option_and_then (λ node. step_of node words) (u8_of first))))
 
 -- what a line of these words says, or none where they are outside the grammar
-abbrev pub line_of : List (List ℕ) → Option Line
+unfoldable pub line_of : List (List ℕ) → Option Line
 line_of [] = Some line.Blank
 line_of (first ∷ words) = cond (starts_with (λ x y. x == y) first (codes "#")) (Some line.Blank) (command_of first words)
 

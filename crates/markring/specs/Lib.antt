@@ -1,3 +1,4 @@
+pub mod Called
 pub mod Grammar
 pub mod Script
 pub mod Space

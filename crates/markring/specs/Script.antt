@@ -32,6 +32,10 @@ ShowsHeld shows (state.Refused e) denied = e ≡ Memory
 ShowsHeld shows (state.Open s) (there w) = shows s w
 ShowsHeld shows s h = ⊥
 
+-- whatever the old state shows, the new one shows what comes of it
+abbrev pub Moves : {S : Type 0} → (S → World → Type 0) → (Held → Held → Type 0) → State S → State S → Type 0
+Moves shows becomes old new = (h : Held) → ShowsHeld shows old h → (later : Held) × becomes h later × ShowsHeld shows new later
+
 -- what is printed for a step that the definitions answer so, and the space afterwards
 abbrev pub IsStepReply : World → Result (World × Outcome) Refusal → Reply → Held → Type 0
 IsStepReply w stepped (reply.Outcome o) later = (v : World) × (stepped ≡ Ok (v, o)) × (later ≡ there v)

@@ -4,12 +4,12 @@ ghost use Rattle.std.specs.Char.{is_ascii_digit};
 ghost use Rattle.std.specs.List.{list_all};
 ghost use Rattle.model.specs.Steps.{is_own};
 ghost use Rattle.model.specs.World.{is_own_step};
-ghost use Rattle.markring.specs.Grammar.{alone, byte_of, delivery_of, is_number, is_own_line, line_of, command_of, long_of, short_of, space_of, step_of, with_one, with_three, with_two, word_of, words_of};
+ghost use Rattle.markring.specs.Grammar.{alone, u8_of, delivery_of, is_number, is_own_line, line_of, command_of, u64_of, u16_of, space_of, step_of, with_one, with_three, with_two, u32_of, words_of};
 
 use model::{Event, Step};
 
-/// The most words that a command has.
-const MOST_WORDS: usize = 5;
+/// The most words that stand after the first of a command.
+const MOST_WORDS: usize = 4;
 
 /// The most digits that a number has, leading zeros counted.
 const MOST_DIGITS: usize = 20;
@@ -31,9 +31,10 @@ pub enum Line {
 
 impl Line {
     /// What the line says, or None where it is outside the grammar.
+    #[tactic(auto, using(crate::proofs::Shapes::command_of_many), unfolding(crate::specs::Grammar::line_of))]
     pub fn parse(text: &str) -> Option<Line>
         ensures reads { result ≡ line_of (words_of text.now) }
-    ensures own { IfSome result (λ l. IsTrue (is_own_line l)) }
+        ensures own { IfSome result (λ l. IsTrue (is_own_line l)) }
     {
         let Some((first, rest)) = split_word(text) else {
             return Some(Line::Blank);
@@ -84,6 +85,7 @@ fn split_words<'a>(text: &'a str, words: &mut [&'a str]) -> Option<usize>
     Some(count)
 }
 
+#[tactic(auto, unfolding(crate::specs::Grammar::command_of))]
 fn command(first: &str, words: &[&str]) -> Option<Line>
     ensures reads { result ≡ command_of first.now (map (λ w. w.now) words.now) }
     ensures own { IfSome result (λ l. IsTrue (is_own_line l)) }
@@ -95,6 +97,7 @@ fn command(first: &str, words: &[&str]) -> Option<Line>
     }
 }
 
+#[tactic(auto, unfolding(crate::specs::Grammar::space_of))]
 fn space(words: &[&str]) -> Option<Line>
     ensures reads { result ≡ space_of (map (λ w. w.now) words.now) }
     ensures own { IfSome result (λ l. IsTrue (is_own_line l)) }
@@ -109,6 +112,7 @@ fn space(words: &[&str]) -> Option<Line>
     })
 }
 
+#[tactic(auto, unfolding(crate::specs::Grammar::delivery_of))]
 fn delivery(words: &[&str]) -> Option<Step>
     ensures reads { result ≡ delivery_of (map (λ w. w.now) words.now) }
     ensures own { IfSome result (λ s. IsTrue (is_own_step s)) }
@@ -123,6 +127,7 @@ fn delivery(words: &[&str]) -> Option<Step>
     })
 }
 
+#[tactic(auto, unfolding(crate::specs::Grammar::step_of))]
 fn node_step(node: u8, words: &[&str]) -> Option<Step>
     ensures reads { result ≡ step_of node (map (λ w. w.now) words.now) }
     ensures own { IfSome result (λ s. IsTrue (is_own_step s)) }
@@ -137,6 +142,7 @@ fn node_step(node: u8, words: &[&str]) -> Option<Step>
 }
 
 /// What a verb says with no operand.
+#[tactic(auto, unfolding(crate::specs::Grammar::alone))]
 fn alone(node: u8, verb: &str) -> Option<Step>
     ensures reads { result ≡ alone node verb.now }
     ensures own { IfSome result (λ s. IsTrue (is_own_step s)) }
@@ -148,6 +154,7 @@ fn alone(node: u8, verb: &str) -> Option<Step>
 }
 
 /// What a verb says with one operand.
+#[tactic(auto, unfolding(crate::specs::Grammar::with_one))]
 fn with_one(verb: &str, a: &str) -> Option<Event>
     ensures reads { result ≡ with_one verb.now a.now }
     ensures own { IfSome result (λ e. IsTrue (is_own e)) }
@@ -164,6 +171,7 @@ fn with_one(verb: &str, a: &str) -> Option<Event>
 }
 
 /// What a verb says with two operands.
+#[tactic(auto, unfolding(crate::specs::Grammar::with_two))]
 fn with_two(verb: &str, a: &str, b: &str) -> Option<Event>
     ensures reads { result ≡ with_two verb.now a.now b.now }
     ensures own { IfSome result (λ e. IsTrue (is_own e)) }
@@ -178,6 +186,7 @@ fn with_two(verb: &str, a: &str, b: &str) -> Option<Event>
 }
 
 /// What a verb says with three operands.
+#[tactic(auto, unfolding(crate::specs::Grammar::with_three))]
 fn with_three(verb: &str, a: &str, b: &str, c: &str) -> Option<Event>
     ensures reads { result ≡ with_three verb.now a.now b.now c.now }
     ensures own { IfSome result (λ e. IsTrue (is_own e)) }
@@ -193,29 +202,33 @@ fn with_three(verb: &str, a: &str, b: &str, c: &str) -> Option<Event>
 }
 
 /// The number that the word spells, where it fits.
+#[tactic(auto, unfolding(crate::specs::Grammar::u8_of, crate::specs::Grammar::u64_of))]
 fn read_u8(word: &str) -> Option<u8>
-    ensures { result ≡ byte_of word.now }
+    ensures { result ≡ u8_of word.now }
 {
     u8::try_from(read_u64(word)?).ok()
 }
 
 /// The number that the word spells, where it fits.
+#[tactic(auto, unfolding(crate::specs::Grammar::u16_of, crate::specs::Grammar::u64_of))]
 fn read_u16(word: &str) -> Option<u16>
-    ensures { result ≡ short_of word.now }
+    ensures { result ≡ u16_of word.now }
 {
     u16::try_from(read_u64(word)?).ok()
 }
 
 /// The number that the word spells, where it fits.
+#[tactic(auto, unfolding(crate::specs::Grammar::u32_of, crate::specs::Grammar::u64_of))]
 fn read_u32(word: &str) -> Option<u32>
-    ensures { result ≡ word_of word.now }
+    ensures { result ≡ u32_of word.now }
 {
     u32::try_from(read_u64(word)?).ok()
 }
 
 /// The number that the word spells, where it fits.
+#[tactic(auto, unfolding(crate::specs::Grammar::u64_of))]
 fn read_u64(word: &str) -> Option<u64>
-    ensures { result ≡ long_of word.now }
+    ensures { result ≡ u64_of word.now }
 {
     if !is_number(word) {
         return None;
@@ -224,6 +237,7 @@ fn read_u64(word: &str) -> Option<u64>
 }
 
 /// Whether the word is one digit or more, but not too many, and nothing else.
+#[tactic(auto, unfolding(crate::specs::Grammar::is_number))]
 fn is_number(word: &str) -> bool
     ensures { result ≡ is_number word.now }
 {

@@ -1,7 +1,8 @@
 //! The program `markring`.
 #![tactic(auto)]
 
-ghost use Rattle.std.specs.Prelude.{◌≤◌, IfOk};
+ghost use Rattle.std.specs.Prelude.{◌≡◌, ◌≤◌, ◌++◌, ◌∷◌, [], IfOk, OnOk, codes};
+ghost use Rattle.std.specs.Io.KnownBytes.{Appends};
 
 mod line;
 mod script;
@@ -18,12 +19,12 @@ use words::{Command, WordsError};
 fn main(rt: HostRuntime) -> ExitCode {
     let status = match run(&rt) {
         Ok(status) => status,
-        Err(error) => refuse_words(&mut io::writer(&rt), error),
+        Err(error) => print_refused_words(&mut io::writer(&rt), error).unwrap_or(REFUSED),
     };
     ExitCode::from(status)
 }
 
-/// Does what the words say, and answers the program's status.
+/// Does what the program's words say, and answers the status.
 fn run<R: Env + Files + Input + Print + AllocGlobal>(rt: &R) -> Result<u8, WordsError>
     ensures { IfOk result (λ status. status ≤ 2) }
 {
@@ -46,12 +47,16 @@ fn sim_file<R: Files + Print + AllocGlobal>(rt: &R, path: &str) -> u8
     }
 }
 
-/// Prints that the words are no command, and answers the status.
-fn refuse_words<W: Write>(out: &mut W, error: WordsError) -> u8
-    ensures { result ≤ 2 }
+/// Prints that the words are no command, and answers the status: 1 for want of memory, else 2. The error
+/// is that output failed.
+fn print_refused_words<W: Write>(out: &mut W, error: WordsError) -> io::Result<u8>
+    ensures printed { OnOk result (Appends (W.contents out.old) (W.contents out.new) (codes "words refused" ++ 10 ∷ [])) }
+    ensures memory { error ≡ WordsError.OutOfMemory → IfOk result (λ status. status ≡ 1) }
+    ensures unknown { error ≡ WordsError.Unknown → IfOk result (λ status. status ≡ 2) }
 {
-    match (writeln!(out, "words refused"), error) {
-        (Ok(()), WordsError::Unknown) => UNREADABLE,
-        _ => REFUSED,
-    }
+    writeln!(out, "words refused")?;
+    Ok(match error {
+        WordsError::OutOfMemory => REFUSED,
+        WordsError::Unknown => UNREADABLE,
+    })
 }

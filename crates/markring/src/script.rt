@@ -2,10 +2,10 @@
 ghost use Rattle.std.specs.Prelude.{◌≡◌, ◌≤◌, IfOk, IfErr, IsTrue, ◌≢◌};
 ghost use Rattle.ids.specs.declared.refusal.Refusal.TheVariants.{Memory};
 ghost use Rattle.model.specs.World.{World, new_world, is_own_step, take_step};
-ghost use Rattle.markring.specs.Space.{FollowsStep};
 ghost use Rattle.world.specs.Shows.{ShowsWorld};
+ghost use Rattle.markring.specs.Space.{FollowsStep};
 ghost use Rattle.markring.specs.Grammar.{line_of, words_of};
-ghost use Rattle.markring.specs.Script.{Held, IsStatusOf, PrintsNoScript, PrintsReplies, ShowsHeld, TakesLine, TakesSpace, TakesStep};
+ghost use Rattle.markring.specs.Script.{IsStatusOf, Moves, PrintsNoScript, PrintsReplies, TakesLine, TakesSpace, TakesStep};
 
 use crate::line::Line;
 use crate::text::{OutcomeText, RefusalText};
@@ -74,8 +74,10 @@ enum Reply {
     NoCommand,
 }
 
-/// Runs a script in one thread, prints what its lines come to, and answers the program's status. The
-/// script is read to its end before its first line is run.
+/// Runs a script in one thread, prints what its lines come to, and answers the program's status: 0 where
+/// no line was refused; 1 where some was, memory was refused or output failed; 2 where the script can't be
+/// read, or a line is outside the grammar. The script is read to its end before its first line is run, and
+/// a line outside the grammar is the last one that is looked at.
 pub fn sim<R: Read + Drop, W: Write + Drop>(alloc: Global, script: R, mut out: W) -> u8
     ensures status { IsStatusOf (R.remaining script) result }
     ensures small { result ≤ 2 }
@@ -86,6 +88,7 @@ pub fn sim<R: Read + Drop, W: Write + Drop>(alloc: Global, script: R, mut out: W
     }
 }
 
+/// Runs a script, and answers the status; the error is that output failed.
 fn run<S: Space, R: Read + Drop, W: Write>(alloc: Global, script: R, out: &mut W) -> io::Result<u8>
     ensures { IfOk result (IsStatusOf (R.remaining script)) }
 {
@@ -101,7 +104,8 @@ fn run<S: Space, R: Read + Drop, W: Write>(alloc: Global, script: R, out: &mut W
     Ok(status)
 }
 
-/// Prints that the script could not be read, and answers the status.
+/// Prints that a script can't be read, for an error of this kind, and answers the status: 1 for want of
+/// memory, else 2. The error is that output failed.
 pub fn print_unread<W: Write>(out: &mut W, kind: ErrorKind) -> io::Result<u8>
     ensures printed { IfOk result (λ status. PrintsNoScript status (W.contents out.old) (W.contents out.new)) }
     ensures memory { kind ≡ ErrorKind.OutOfMemory → IfOk result (λ status. status ≡ 1) }
@@ -119,6 +123,7 @@ pub fn print_unread<W: Write>(out: &mut W, kind: ErrorKind) -> io::Result<u8>
     }
 }
 
+/// Runs a script's lines, and answers the status; the error is that output failed.
 fn run_lines<S: Space, W: Write>(alloc: Global, script: &str, out: &mut W) -> io::Result<u8>
     ensures { IfOk result (λ status. PrintsReplies script.now status (W.contents out.old) (W.contents out.new)) }
 {
@@ -145,15 +150,17 @@ fn run_lines<S: Space, W: Write>(alloc: Global, script: &str, out: &mut W) -> io
 
 /// Does what the line says.
 fn take_line<S: Space>(alloc: Global, state: &mut State<S>, text: &str) -> Reply
-    ensures { (h : Held) → ShowsHeld S.shows state.old h → (k : Held) × TakesLine h (line_of (words_of text.now)) result k × ShowsHeld S.shows state.new k }
+    ensures { Moves S.shows (λ h later. TakesLine h (line_of (words_of text.now)) result later) state.old state.new }
 {
     match Line::parse(text) {
         Some(Line::Blank) => Reply::Nothing,
-        Some(Line::Space {
-            nodes,
-            registers,
-            slots,
-        }) => match Shape::new(nodes, registers, slots) {
+        Some(
+            Line::Space {
+                nodes,
+                registers,
+                slots,
+            },
+        ) => match Shape::new(nodes, registers, slots) {
             Some(shape) => open(alloc, state, shape),
             None => Reply::NoCommand,
         },
@@ -164,7 +171,7 @@ fn take_line<S: Space>(alloc: Global, state: &mut State<S>, text: &str) -> Reply
 
 /// Makes the space, where no line asked for it before.
 fn open<S: Space>(alloc: Global, state: &mut State<S>, shape: Shape) -> Reply
-    ensures { (h : Held) → ShowsHeld S.shows state.old h → (k : Held) × TakesSpace h shape result k × ShowsHeld S.shows state.new k }
+    ensures { Moves S.shows (λ h later. TakesSpace h shape result later) state.old state.new }
 {
     let State::Unopened = state else {
         return Reply::NoCommand;
@@ -184,7 +191,7 @@ fn open<S: Space>(alloc: Global, state: &mut State<S>, shape: Shape) -> Reply
 /// Takes a step of the space, where it was asked for.
 fn take_step<S: Space>(state: &mut State<S>, step: Step) -> Reply
     requires { IsTrue (is_own_step step) }
-    ensures { (h : Held) → ShowsHeld S.shows state.old h → (k : Held) × TakesStep h step result k × ShowsHeld S.shows state.new k }
+    ensures { Moves S.shows (λ h later. TakesStep h step result later) state.old state.new }
 {
     match state {
         State::Unopened => Reply::NoCommand,

@@ -1,4 +1,12 @@
 //! The words with which the program is called.
+ghost use Rattle.std.specs.Prelude.{◌≡◌, ◌≤◌, None, Ok, length};
+ghost use Rattle.std.specs.IoError.{error_kind};
+ghost use Rattle.clap.specs.Words.{kind_of};
+ghost use Rattle.clap.specs.declared.error.ErrorKind.TheVariants as parse;
+ghost use Rattle.std.specs.declared.io.ErrorKind.TheVariants as io;
+ghost use Rattle.markring.specs.declared.words.WordsError.TheVariants.{OutOfMemory};
+ghost use Rattle.markring.specs.Called.{TellsMemory};
+
 use clap::error::ErrorKind;
 use clap::{Arg, Error};
 use std::alloc::{AllocError, Global};
@@ -21,26 +29,30 @@ pub enum WordsError {
 }
 
 impl From<Error> for WordsError {
+    ghost from_gives = { λ e fault. TellsMemory parse.OutOfMemory (kind_of e) fault };
+
     fn from(error: Error) -> WordsError {
-        if error.kind() == ErrorKind::OutOfMemory {
-            WordsError::OutOfMemory
-        } else {
-            WordsError::Unknown
+        match error.kind() {
+            ErrorKind::OutOfMemory => WordsError::OutOfMemory,
+            _ => WordsError::Unknown,
         }
     }
 }
 
 impl From<io::Error> for WordsError {
+    ghost from_gives = { λ e fault. TellsMemory io.OutOfMemory (error_kind e) fault };
+
     fn from(error: io::Error) -> WordsError {
-        if error.kind() == io::ErrorKind::OutOfMemory {
-            WordsError::OutOfMemory
-        } else {
-            WordsError::Unknown
+        match error.kind() {
+            io::ErrorKind::OutOfMemory => WordsError::OutOfMemory,
+            _ => WordsError::Unknown,
         }
     }
 }
 
 impl From<AllocError> for WordsError {
+    ghost from_gives = { λ _ fault. fault ≡ OutOfMemory };
+
     fn from(_error: AllocError) -> WordsError {
         WordsError::OutOfMemory
     }
@@ -49,7 +61,9 @@ impl From<AllocError> for WordsError {
 impl<'a> Command<'a> {
     /// The command that the words say, of which the first is the program's name. No words beside it
     /// say `sim`.
-    pub fn read(alloc: Global, words: &'a [String]) -> Result<Command<'a>, WordsError> {
+    pub fn read(alloc: Global, words: &'a [String]) -> Result<Command<'a>, WordsError>
+        ensures { length words.now ≤ 1 → result ≡ Ok (Command.Sim None) }
+    {
         if words.len() <= 1 {
             return Ok(Command::Sim { script: None });
         }

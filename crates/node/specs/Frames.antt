@@ -1,5 +1,5 @@
 -- The frames that a node gives out, as plain data.
-use Rattle.std.specs.Prelude.{ℕ, ◌+◌, cond, Option, Some, None}
+use Rattle.std.specs.Prelude.{ℕ, ◌+◌, cond, Option, None}
 use Rattle.std.specs.Option.{option_map}
 use Rattle.msg.specs.Grammar.{Plain, data_frame}
 use Rattle.msg.specs.declared.body.Message.{Message}

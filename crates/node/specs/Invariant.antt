@@ -2,7 +2,7 @@
 use Rattle.std.specs.Prelude.{◌≡◌, ℕ, ◌<◌, ◌≤◌, length, slice_index_or}
 use Rattle.ids.specs.Limits.{IsShape}
 use Rattle.ids.specs.declared.limits.TheConstants.{GREATEST_NUMBER}
-use Rattle.model.specs.State.{Part, got_from}
+use Rattle.model.specs.State.{got_from}
 use Rattle.model.specs.View.{Link, NodeView, used, link_to}
 use Rattle.model.specs.References.{HoldsOnly, IsWithin, IsSendable, no_message}
 

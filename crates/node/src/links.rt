@@ -3,11 +3,10 @@ ghost use Rattle.ids.specs.declared.refusal.Refusal.TheVariants.{LinkSpent, Memo
 ghost use Rattle.model.specs.Steps.{fits};
 ghost use Rattle.model.specs.View.{no_link, used, all_kept, append_to, base_of, kept_of};
 
+use crate::link::Link;
 use ids::Refusal;
 use msg::Message;
 use std::alloc::Global;
-
-use crate::link::Link;
 
 /// Links on which nothing was sent.
 pub fn new_links(alloc: Global, count: u8) -> Result<Vec<Link>, Refusal>

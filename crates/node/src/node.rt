@@ -8,16 +8,15 @@ ghost use Rattle.ids.specs.declared.limits.TheConstants.{GREATEST_NUMBER};
 ghost use Rattle.model.specs.View.{is_other, Shows, Follows, Performs, view_act, new_view, kept_view, link_to, used, base_of, kept_of};
 ghost use Rattle.model.specs.declared.event.Event.TheVariants as event;
 
+use crate::link::Link;
+use crate::links::{append, copy_links, keep_all, new_links};
+use crate::summary::Summary;
 use heap::Heap;
 use ids::{NodeId, Refusal, Shape};
 use model::{Answer, Event, Letter};
 use msg::{Body, Colour, Data, Frame, Message};
 use std::alloc::Global;
 use std::marker::Model;
-
-use crate::link::Link;
-use crate::links::{append, copy_links, keep_all, new_links};
-use crate::summary::Summary;
 
 /// One node: its heap, and for each other node what it sent there and how much it took in from there.
 #[derive(Drop)]

@@ -32,8 +32,16 @@ fn message(rt: &impl Abort, number: u64, stamp: u64, body: Body) -> Data {
 }
 
 fn data_of(frame: Option<Frame>) -> Option<Data> {
-    let Frame::Data(data) = frame?;
-    Some(data)
+    let Frame::Data(
+        Data {
+            from,
+            to,
+            number,
+            stamp,
+            body,
+        },
+    ) = frame?;
+    Data::new(from, to, number, stamp, body)
 }
 
 fn give_event(to: u8, label: u32, register: u16) -> Event {
@@ -105,7 +113,11 @@ fn what_is_saved_is_given_out(rt: HostRuntime) -> Result<(), Refusal> {
         assert_eq!(rt; data_of(sender.frame_at(to, place)), None, "{to} {place}");
     }
     for (to, number) in [(1, 0), (1, 2), (0, 1), (2, 1)] {
-        assert_eq!(rt; data_of(sender.numbered_frame(to, number)), None, "{to} {number}");
+        assert_eq!(rt;
+            data_of(sender.numbered_frame(to, number)),
+            None,
+            "{to} {number}"
+        );
     }
 
     assert_eq!(rt; sender.act(Event::Drop { register: 0 }), Ok(Answer::Done));
@@ -180,7 +192,11 @@ fn wrong_messages_are_refused(rt: HostRuntime) -> Result<(), Refusal> {
     let mut receiver = node(&rt, rt.alloc(), shape, 1)?;
     for wrong in wrong_messages() {
         let wrong = wrong.expect(&rt, "the parts are within the limits");
-        assert_eq!(rt; receiver.act(Event::Data(wrong)), Err(Refusal::WrongNode), "{wrong:?}");
+        assert_eq!(rt;
+            receiver.act(Event::Data(wrong)),
+            Err(Refusal::WrongNode),
+            "{wrong:?}"
+        );
         assert_eq!(rt; receiver.state(), new_summary(shape, 1));
     }
     let edge = Ref {
@@ -230,11 +246,19 @@ fn a_refused_event_changes_nothing(rt: HostRuntime) -> Result<(), Refusal> {
         assert_eq!(rt; acting.appended(1), 2, "{event:?}");
         for place in 0..3 {
             let frame = data_of(acting.frame_at(1, place));
-            assert_eq!(rt; frame, data_of(before.frame_at(1, place)), "{event:?} {place}");
+            assert_eq!(rt;
+                frame,
+                data_of(before.frame_at(1, place)),
+                "{event:?} {place}"
+            );
         }
         for number in 0..4 {
             let frame = data_of(acting.numbered_frame(1, number));
-            assert_eq!(rt; frame, data_of(before.numbered_frame(1, number)), "{event:?} {number}");
+            assert_eq!(rt;
+                frame,
+                data_of(before.numbered_frame(1, number)),
+                "{event:?} {number}"
+            );
         }
     }
     Ok(())

@@ -1,6 +1,6 @@
 -- A delivery of the code's space is that of the definitions.
-use Rattle.std.proofs.Common.{◌≡◌, ◌≢◌, ℕ, zero, suc, ◌+◌, ◌-◌, ◌<◌, ◌≤◌, Bool, true, false, ◌&&◌, cond, List, [], ◌∷◌, ◌++◌, length, map, get_or, set, slice_get, Option, Some, None, Result, Ok, Err, ltb, eqb, ◌⊎◌, inl, inr, refl, ap, sym, ◌∙◌, subst, arith, eq-eqb, append-nil}
-use Rattle.std.proofs.lemmas.Bool.{lt-ltb, ne_eqb}
+use Rattle.std.proofs.Common.{◌≡◌, ◌≢◌, ℕ, zero, suc, ◌+◌, ◌-◌, ◌<◌, ◌≤◌, Bool, true, ◌&&◌, List, [], ◌++◌, length, get_or, set, slice_get, Option, Some, None, Result, Ok, Err, ltb, ◌⊎◌, inl, inr, refl, ap, sym, ◌∙◌, subst, arith, eq-eqb, append-nil}
+use Rattle.std.proofs.lemmas.Bool.{lt-ltb, ne_eqb, cond-true, cond-false, and_left, and_right}
 use Rattle.ids.specs.declared.refusal.Refusal.{Refusal}
 use Rattle.ids.specs.declared.refusal.Refusal.TheVariants.{NoNode}
 use Rattle.msg.specs.Grammar.{Plain, data_frame, spelling, Fits}
@@ -12,15 +12,14 @@ use Rattle.model.specs.declared.event.Event.{Event}
 use Rattle.model.specs.declared.event.Event.TheVariants as event
 use Rattle.model.specs.declared.event.Answer.{Answer}
 use Rattle.model.specs.declared.step.Step.TheVariants as step
-use Rattle.model.specs.declared.step.Outcome.{Outcome}
 use Rattle.model.specs.declared.step.Outcome.TheVariants as outcome
 use Rattle.model.specs.State.{NodeState, node_at, sent_to}
 use Rattle.model.specs.Steps.{act, receive}
 use Rattle.model.specs.View.{NodeView, Shows, Follows}
-use Rattle.model.specs.World.{World, take_step, moved, released, numbered, handed_over, is_node}
+use Rattle.model.specs.World.{World, take_step, moved, released, handed_over, is_node}
 use Rattle.world.specs.Outboxes.{IsFrameOf, numbered_bytes}
-use Rattle.world.specs.Shows.{Simulated, ShowsWorld, FollowsStep, IsEventOf, frames_of, view_at}
-use Rattle.world.proofs.Shows.{answered, moved-follows, node-follows, is-node, is-no-node, cond-is, cond-not, within-seen, shows-seen}
+use Rattle.world.specs.Shows.{Simulated, ShowsWorld, FollowsStep, IsEventOf, frames_of}
+use Rattle.world.proofs.Shows.{answered, moved-follows, node-follows, is-node, is-no-node, within-seen, shows-seen}
 
 -- a message that was released, and its frame
 pub record Found (n : Simulated) (w : World) (from to number : ℕ) (bytes : List ℕ) : Type 0 where
@@ -33,7 +32,7 @@ found-at : (n : Simulated) (w : World) (from to k : ℕ) (bytes : List ℕ) (sen
 found-at n w from to k bytes None apart is h = absurd h
 found-at n w from to k bytes (Some x) apart is h = record {
   message = x;
-  there = cond-not _ _ _ (ne_eqb from to apart) ∙ cond-is _ _ _ (lt-ltb 0 (k + 1) (omega arith)) ∙ ap (slice_get (sent_to (node_at w.saved from) to)) (let back : k + 1 - 1 ≡ k = omega arith in back) ∙ is;
+  there = cond-false _ _ _ (ne_eqb from to apart) ∙ cond-true _ _ _ (lt-ltb 0 (k + 1) (omega arith)) ∙ ap (slice_get (sent_to (node_at w.saved from) to)) (let back : k + 1 - 1 ≡ k = omega arith in back) ∙ is;
   fits = h.0;
   spelled = h.1;
 }
@@ -49,7 +48,7 @@ found n w from to zero bytes h apart there = let e : ◌≡◌ {A = Option (List
 found n w from to (suc k) bytes h apart there =
     let one : k + 1 ≡ suc k = omega arith in
     let back : suc k - 1 ≡ k = omega arith in
-    let at : slice_get (frames_of n.released from to) k ≡ Some bytes = ap (slice_get (frames_of n.released from to)) (sym back) ∙ sym (cond-is (ltb 0 (suc k)) _ None (lt-ltb 0 (suc k) (omega arith))) ∙ there in
+    let at : slice_get (frames_of n.released from to) k ≡ Some bytes = ap (slice_get (frames_of n.released from to)) (sym back) ∙ sym (cond-true (ltb 0 (suc k)) _ None (lt-ltb 0 (suc k) (omega arith))) ∙ there in
     subst (λ (z : ℕ). Found n w from to z bytes) one (frame-at n w from to k bytes h apart at)
 
 -- where there is no frame, nothing was released
@@ -58,12 +57,12 @@ missing-at from to k None h = refl
 missing-at from to k (Some x) h = absurd h
 
 missing : (n : Simulated) (w : World) (from to number : ℕ) → ShowsWorld n w → from ≢ to → numbered_bytes (frames_of n.released from to) number ≡ None → released w from to number ≡ None
-missing n w from to zero h apart there = cond-not _ _ _ (ne_eqb from to apart)
+missing n w from to zero h apart there = cond-false _ _ _ (ne_eqb from to apart)
 missing n w from to (suc k) h apart there =
     let back : suc k - 1 ≡ k = omega arith in
-    let at : slice_get (frames_of n.released from to) k ≡ None = ap (slice_get (frames_of n.released from to)) (sym back) ∙ sym (cond-is (ltb 0 (suc k)) _ None (lt-ltb 0 (suc k) (omega arith))) ∙ there in
+    let at : slice_get (frames_of n.released from to) k ≡ None = ap (slice_get (frames_of n.released from to)) (sym back) ∙ sym (cond-true (ltb 0 (suc k)) _ None (lt-ltb 0 (suc k) (omega arith))) ∙ there in
     let one : IsFrameOf from to k (slice_get (sent_to (node_at w.saved from) to) k) None = subst (λ (b : Option (List ℕ)). IsFrameOf from to k (slice_get (sent_to (node_at w.saved from) to) k) b) at (h.released from to k apart) in
-    cond-not _ _ _ (ne_eqb from to apart) ∙ cond-is (ltb 0 (suc k)) _ None (lt-ltb 0 (suc k) (omega arith)) ∙ ap (slice_get (sent_to (node_at w.saved from) to)) back ∙ missing-at from to k _ one
+    cond-false _ _ _ (ne_eqb from to apart) ∙ cond-true (ltb 0 (suc k)) _ None (lt-ltb 0 (suc k) (omega arith)) ∙ ap (slice_get (sent_to (node_at w.saved from) to)) back ∙ missing-at from to k _ one
 
 both-nodes : (n : Simulated) (w : World) (from to : ℕ) → ShowsWorld n w → from < length n.present → to < length n.present → (is_node w from && is_node w to) ≡ true
 both-nodes n w from to h f t =
@@ -71,25 +70,20 @@ both-nodes n w from to h f t =
     let b : is_node w to ≡ true = is-node n w to h t in
     ap (λ (z : Bool). z && is_node w to) a ∙ b
 
-not-both : (a b : Bool) → (a ≡ false) ⊎ (b ≡ false) → (a && b) ≡ false
-not-both true b (inl e) = absurd cc
-not-both true b (inr e) = e
-not-both false b h = refl
-
 pub deliver-no-node : (n : Simulated) (w : World) (from to number : ℕ) → ShowsWorld n w → (length n.present ≤ from) ⊎ (length n.present ≤ to) → FollowsStep (Err NoNode) n (take_step w (step.Deliver from to number))
 unfolding take_step
-deliver-no-node n w from to number h (inl past) = λ ne. cond-not _ _ _ (not-both (is_node w from) (is_node w to) (inl (is-no-node n w from h past)))
-deliver-no-node n w from to number h (inr past) = λ ne. cond-not _ _ _ (not-both (is_node w from) (is_node w to) (inr (is-no-node n w to h past)))
+deliver-no-node n w from to number h (inl past) = λ ne. cond-false _ _ _ (and_left (is_node w from) (is_node w to) (is-no-node n w from h past))
+deliver-no-node n w from to number h (inr past) = λ ne. cond-false _ _ _ (and_right (is_node w from) (is_node w to) (is-no-node n w to h past))
 
 -- nothing was released under the number
 pub deliver-nothing : (n : Simulated) (w : World) (from to number : ℕ) → ShowsWorld n w → from < length n.present → to < length n.present → released w from to number ≡ None → FollowsStep (Ok outcome.NoFrame) n (take_step w (step.Deliver from to number))
 unfolding take_step
 deliver-nothing n w from to number h f t none =
-    (w, cond-is _ _ _ (both-nodes n w from to h f t) ∙ ap (handed_over w from to number) none, h)
+    (w, cond-true _ _ _ (both-nodes n w from to h f t) ∙ ap (handed_over w from to number) none, h)
 
 pub deliver-to-itself : (n : Simulated) (w : World) (from to number : ℕ) → ShowsWorld n w → from < length n.present → to < length n.present → from ≡ to → FollowsStep (Ok outcome.NoFrame) n (take_step w (step.Deliver from to number))
 deliver-to-itself n w from to number h f t same =
-    deliver-nothing n w from to number h f t (cond-is _ _ _ (eq-eqb from to same))
+    deliver-nothing n w from to number h f t (cond-true _ _ _ (eq-eqb from to same))
 
 pub deliver-missing : (n : Simulated) (w : World) (from to number : ℕ) → ShowsWorld n w → from < length n.present → to < length n.present → from ≢ to → numbered_bytes (frames_of n.released from to) number ≡ None → FollowsStep (Ok outcome.NoFrame) n (take_step w (step.Deliver from to number))
 deliver-missing n w from to number h f t apart none =
@@ -124,6 +118,6 @@ delivered-follows n m w from to i number bytes f e u v r seen shown less_from le
     let h : ShowsWorld n w = shows-seen n m w seen shown in
     let same : act (node_at w.current i) e ≡ receive (node_at w.current i) from to number x.stamp x.body = act-receives (node_at w.current i) e from to number x brings in
     let here : Follows r v (receive (node_at w.current i) from to number x.stamp x.body) = subst (Follows r v) same (node-follows n w i e u v r h within read follows) in
-    let moves : take_step w (step.Deliver from to number) ≡ moved w to (receive (node_at w.current to) from to number x.stamp x.body) = cond-is _ _ _ (both-nodes m w from to shown less_from less_to) ∙ ap (handed_over w from to number) frame.there in
+    let moves : take_step w (step.Deliver from to number) ≡ moved w to (receive (node_at w.current to) from to number x.stamp x.body) = cond-true _ _ _ (both-nodes m w from to shown less_from less_to) ∙ ap (handed_over w from to number) frame.there in
     let at : take_step w (step.Deliver from to number) ≡ moved w i (receive (node_at w.current i) from to number x.stamp x.body) = moves ∙ ap (λ (k : ℕ). moved w k (receive (node_at w.current k) from to number x.stamp x.body)) named in
     moved-follows n w i (step.Deliver from to number) v r (receive (node_at w.current i) from to number x.stamp x.body) h at here

@@ -1,5 +1,5 @@
 -- A new space.
-use Rattle.std.proofs.Common.{◌≡◌, ◌≢◌, ℕ, zero, suc, ◌<◌, ◌≤◌, List, [], ◌∷◌, length, map, get_or, replicate, slice_get, Option, None, refl, ap, sym, ◌∙◌, subst, arith}
+use Rattle.std.proofs.Common.{◌≡◌, ℕ, zero, suc, ◌<◌, List, [], ◌∷◌, length, map, get_or, replicate, slice_get, refl, ap, sym, ◌∙◌, subst, arith}
 use Rattle.std.specs.List.{range_with_len}
 use Rattle.std.specs.declared.vec.Vec.{Vec}
 use Rattle.std.specs.declared.alloc.Global.{Global}
@@ -7,7 +7,6 @@ use Rattle.std.proofs.lemmas.List.{length-map, length-replicate, get_or-replicat
 use Rattle.std.proofs.lemmas.Simd.{map-map}
 use Rattle.std.proofs.lemmas.List.FromFn.{get_or-map-range_with_len, length-map-range_with_len}
 use Rattle.ids.specs.Limits.{Shaped, IsShape}
-use Rattle.ids.specs.declared.limits.TheConstants.{GREATEST_NODES}
 use Rattle.msg.specs.declared.body.Message.{Message}
 use Rattle.model.specs.State.{NodeState, new_node, no_node, node_at, sent_to}
 use Rattle.model.specs.View.{Link, NodeView, Shows, ShowsSent, no_link, link_to, new_view}
@@ -57,9 +56,6 @@ new-all-shown shape = record {
 nothing-sent : (shape : Shaped) (i j : ℕ) → sent_to (node_at (new_nodes shape) i) j ≡ []
 nothing-sent shape i j =
     at_map (λ (s : NodeState). sent_to s j ≡ []) (new_node shape) (range_with_len 0 shape.nodes) i no_node refl (λ x. get_or-replicate_any {A = List Message} shape.nodes j [])
-
-row-empty : (n j : ℕ) (row : List (List (List ℕ))) → row ≡ replicate n [] → get_or row j [] ≡ []
-row-empty n j row e = ap (λ (z : List (List (List ℕ))). get_or z j []) e ∙ get_or-replicate_any {A = List (List ℕ)} n j []
 
 at_replicate : {A : Type 0} (P : A → Type 0) (n i : ℕ) (x d : A) → P x → P d → P (get_or (replicate n x) i d)
 at_replicate P zero i x d p q = q

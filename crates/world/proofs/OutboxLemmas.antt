@@ -3,7 +3,7 @@ use Rattle.std.proofs.Common.{◌≡◌, ◌≢◌, ℕ, zero, suc, ◌+◌, ◌
 use Rattle.std.specs.Option.{option_map}
 use Rattle.std.proofs.lemmas.Option.{slice_get_past}
 use Rattle.std.proofs.lemmas.List.{map-set, set-get_or, get_or-set_same, get_or-set_other, get_or_default}
-use Rattle.std.proofs.lemmas.Bool.{cases_lt}
+use Rattle.std.proofs.lemmas.Bool.{cases_lt, cond-true}
 use Rattle.std.proofs.Math.ListN.{get_or-map}
 use borrow.Author.Count.{below_more}
 use Rattle.msg.specs.Grammar.{Plain, Fits, spelling}
@@ -11,7 +11,6 @@ use Rattle.msg.specs.declared.body.Message.{Message}
 use Rattle.model.specs.View.{Link, NodeView, link_to, is_other, used, message_of}
 use Rattle.node.specs.Frames.{frame_of, numbered_frame}
 use Rattle.world.specs.Outboxes.{OutboxView, no_outbox, released_frames, IsFrameOf, AreFramesFrom, IsStaged}
-use Rattle.world.proofs.Shows.{cond-is}
 
 -- a vector of bytes as a view shows it
 abbrev pub bytes_of : Vec ℕ Global → List ℕ
@@ -44,7 +43,7 @@ spells_message own to place (Some x) p bytes e fits spelled =
 pub frames_more : (first place : ℕ) (n : NodeView) (to : ℕ) (frames : List (List ℕ)) (p : Plain) (bytes : List ℕ) → length frames ≡ place → IsTrue (is_other n.part to) → Some p ≡ numbered_frame n to (place + 1) → Fits p → bytes ≡ spelling p → AreFramesTo place first n to frames → AreFramesTo (place + 1) first n to (frames ++ bytes ∷ [])
 frames_more first place n to frames p bytes count other made fits spelled before =
     let m = message_of (link_to n to) (place + 1) in
-    let here : IsFrameOf n.part.own to place m (Some bytes) = spells_message n.part.own to place m p bytes (made ∙ cond-is _ _ _ other) fits spelled in
+    let here : IsFrameOf n.part.own to place m (Some bytes) = spells_message n.part.own to place m p bytes (made ∙ cond-true _ _ _ other) fits spelled in
     below_more (λ k. first ≤ k → IsFrameOf n.part.own to k (message_of (link_to n to) (k + 1)) (slice_get (frames ++ bytes ∷ []) k)) place
     (λ k below above. subst (IsFrameOf n.part.own to k (message_of (link_to n to) (k + 1))) (sym (slice_get_left frames (bytes ∷ []) k (omega arith))) (before k below above))
     (λ above. subst (IsFrameOf n.part.own to place m) (sym (slice_get_push frames bytes place count)) here)

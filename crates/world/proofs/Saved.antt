@@ -1,8 +1,8 @@
 -- A save of the code's space is that of the definitions.
-use Rattle.std.proofs.Common.{◌≡◌, ◌≢◌, ℕ, zero, suc, ◌+◌, ◌-◌, ◌<◌, ◌≤◌, Bool, true, false, cond, List, [], ◌∷◌, ◌++◌, length, map, take, drop, get_or, set, slice_get, Option, Some, None, Ok, ltb, leb, ◌⊎◌, ⊎_elim, refl, ap, sym, ◌∙◌, subst, arith}
+use Rattle.std.proofs.Common.{◌≡◌, ◌≢◌, ℕ, zero, suc, ◌+◌, ◌-◌, ◌<◌, ◌≤◌, false, List, [], ◌∷◌, length, map, take, drop, get_or, set, slice_get, Option, Some, None, Ok, leb, ⊎_elim, refl, ap, sym, ◌∙◌, subst, arith}
 use Rattle.std.proofs.Math.ListN.{get_or-map, get_or-eq_default}
 use Rattle.std.proofs.Math.Seq.{take-length}
-use Rattle.std.proofs.lemmas.Bool.{cases_lt, lt-leb}
+use Rattle.std.proofs.lemmas.Bool.{cases_lt, lt-leb, cond-true, cond-false}
 use Rattle.std.proofs.lemmas.List.{length-set, length-map, length-take, set-get_or}
 use Rattle.std.proofs.lemmas.Option.{slice_get-get_or}
 use Rattle.ids.specs.declared.limits.TheConstants.{GREATEST_NODES}
@@ -10,12 +10,12 @@ use Rattle.msg.specs.declared.body.Message.{Message}
 use Rattle.model.specs.declared.step.Step.TheVariants as step
 use Rattle.model.specs.declared.step.Outcome.TheVariants as outcome
 use Rattle.model.specs.State.{NodeState, node_at, no_node, sent_to}
-use Rattle.model.specs.View.{Link, NodeView, Shows, ShowsSent, no_link, link_to, kept_view, all_kept, used, message_of}
-use Rattle.model.specs.World.{World, KeepsSent, take_step}
+use Rattle.model.specs.View.{Link, NodeView, Shows, ShowsSent, no_link, link_to, kept_view, all_kept, message_of}
+use Rattle.model.specs.World.{World, take_step}
 use Rattle.laws.proofs.Lookups.{at_set_if, slice_get-grows, Grows}
 use Rattle.world.specs.Outboxes.{OutboxView, no_outbox, IsFrameOf, IsStaged, released_frames, all_released}
 use Rattle.world.specs.Shows.{Simulated, ShowAll, ShowsWorld, FollowsStep, AreKept, IsPlaced, IsSim, no_view, view_at, frames_of}
-use Rattle.world.proofs.Shows.{show-set, kept-set, grown-by, is-node, cond-is, cond-not, read-is}
+use Rattle.world.proofs.Shows.{show-set, grown-by, is-node}
 
 -- counting all messages as saved changes nothing else
 kept-shown : (l : Link) (sent : List Message) → ShowsSent l sent → ShowsSent (all_kept l) sent
@@ -50,7 +50,7 @@ message-shown l sent k h low =
     let over : leb (k + 1) l.base ≡ false = lt-leb (k + 1) l.base (omega arith) in
     let place : k + 1 - l.base - 1 ≡ k - l.base = omega arith in
     let back : l.base + (k - l.base) ≡ k = omega arith in
-    cond-not (leb (k + 1) l.base) None (slice_get l.window (k + 1 - l.base - 1)) over
+    cond-false (leb (k + 1) l.base) None (slice_get l.window (k + 1 - l.base - 1)) over
     ∙ ap (slice_get l.window) place ∙ ap (λ (z : List Message). slice_get z (k - l.base)) h.window
     ∙ slice_get-drop sent l.base (k - l.base) ∙ ap (slice_get sent) back
 
@@ -112,21 +112,21 @@ new-frame n w i j k before after h sim within staging apart =
     let was : released_frames (get_or before j no_outbox) ≡ old = sym (old-frames n i j before after staging) in
     let Goal : Type 0 = IsFrameOf i j k (slice_get (sent_to (node_at w.current i) j) k) (slice_get made k) in
     let old_one : k < length old → Goal = λ early.
-      let there : slice_get old k ≡ Some (get_or old k []) = slice_get-get_or old k [] early in
-      let at : slice_get made k ≡ Some (get_or old k []) = slice_get-take made (get_or after j no_outbox).released k (subst (λ (z : List (List ℕ)). k < length z) (sym kept) early) ∙ ap (λ (z : List (List ℕ)). slice_get z k) kept ∙ there in
-      let one : IsFrameOf i j k (slice_get (sent_to (node_at w.saved i) j) k) (Some (get_or old k [])) = subst (IsFrameOf i j k (slice_get (sent_to (node_at w.saved i) j) k)) there (h.released i j k apart) in
-      subst (IsFrameOf i j k (slice_get (sent_to (node_at w.current i) j) k)) (sym at) (frame-grows i j k (sent_to (node_at w.saved i) j) (sent_to (node_at w.current i) j) (slice_get (sent_to (node_at w.saved i) j) k) (get_or old k []) (h.grown.sent i j) refl one) in
+    let there : slice_get old k ≡ Some (get_or old k []) = slice_get-get_or old k [] early in
+    let at : slice_get made k ≡ Some (get_or old k []) = slice_get-take made (get_or after j no_outbox).released k (subst (λ (z : List (List ℕ)). k < length z) (sym kept) early) ∙ ap (λ (z : List (List ℕ)). slice_get z k) kept ∙ there in
+    let one : IsFrameOf i j k (slice_get (sent_to (node_at w.saved i) j) k) (Some (get_or old k [])) = subst (IsFrameOf i j k (slice_get (sent_to (node_at w.saved i) j) k)) there (h.released i j k apart) in
+    subst (IsFrameOf i j k (slice_get (sent_to (node_at w.current i) j) k)) (sym at) (frame-grows i j k (sent_to (node_at w.saved i) j) (sent_to (node_at w.current i) j) (slice_get (sent_to (node_at w.saved i) j) k) (get_or old k []) (h.grown.sent i j) refl one) in
     let new_one : j < length n.present → length old ≤ k → Goal = λ less late.
-      let low : (link_to (view_at n.present i) j).base ≤ k = omega (arith, sim.present_kept i j) in
-      let one : IsFrameOf (view_at n.present i).part.own j k (message_of (link_to (view_at n.present i) j) (k + 1)) (slice_get made k) = staging.staged j less (λ e. apart (sym e)) k (subst (λ (z : List (List ℕ)). length z ≤ k) (sym was) late) in
-      let two : IsFrameOf i j k (message_of (link_to (view_at n.present i) j) (k + 1)) (slice_get made k) = subst (λ (z : ℕ). IsFrameOf z j k (message_of (link_to (view_at n.present i) j) (k + 1)) (slice_get made k)) own one in
-      subst (λ (o : Option Message). IsFrameOf i j k o (slice_get made k)) (message-shown (link_to (view_at n.present i) j) (sent_to (node_at w.current i) j) k (shows.links j) low) two in
+    let low : (link_to (view_at n.present i) j).base ≤ k = omega (arith, sim.present_kept i j) in
+    let one : IsFrameOf (view_at n.present i).part.own j k (message_of (link_to (view_at n.present i) j) (k + 1)) (slice_get made k) = staging.staged j less (λ e. apart (sym e)) k (subst (λ (z : List (List ℕ)). length z ≤ k) (sym was) late) in
+    let two : IsFrameOf i j k (message_of (link_to (view_at n.present i) j) (k + 1)) (slice_get made k) = subst (λ (z : ℕ). IsFrameOf z j k (message_of (link_to (view_at n.present i) j) (k + 1)) (slice_get made k)) own one in
+    subst (λ (o : Option Message). IsFrameOf i j k o (slice_get made k)) (message-shown (link_to (view_at n.present i) j) (sent_to (node_at w.current i) j) k (shows.links j) low) two in
     let no_one : length n.present ≤ j → Goal = λ past.
-      let none : get_or after j no_outbox ≡ no_outbox = get_or-eq_default after no_outbox (omega (arith, staging.width)) in
-      let nothing : sent_to (node_at w.current i) j ≡ [] = get_or-eq_default (node_at w.current i).sent [] (omega (arith, shows.width, (sim.present i within).links)) in
-      let one : IsFrameOf i j k (slice_get {X = Message} [] k) (slice_get {X = List ℕ} [] k) = tt in
-      let two : IsFrameOf i j k (slice_get (sent_to (node_at w.current i) j) k) (slice_get {X = List ℕ} [] k) = subst (λ (z : List Message). IsFrameOf i j k (slice_get z k) (slice_get {X = List ℕ} [] k)) (sym nothing) one in
-      subst (λ (b : OutboxView). IsFrameOf i j k (slice_get (sent_to (node_at w.current i) j) k) (slice_get b.frames k)) (sym none) two in
+    let none : get_or after j no_outbox ≡ no_outbox = get_or-eq_default after no_outbox (omega (arith, staging.width)) in
+    let nothing : sent_to (node_at w.current i) j ≡ [] = get_or-eq_default (node_at w.current i).sent [] (omega (arith, shows.width, (sim.present i within).links)) in
+    let one : IsFrameOf i j k (slice_get {X = Message} [] k) (slice_get {X = List ℕ} [] k) = tt in
+    let two : IsFrameOf i j k (slice_get (sent_to (node_at w.current i) j) k) (slice_get {X = List ℕ} [] k) = subst (λ (z : List Message). IsFrameOf i j k (slice_get z k) (slice_get {X = List ℕ} [] k)) (sym nothing) one in
+    subst (λ (b : OutboxView). IsFrameOf i j k (slice_get (sent_to (node_at w.current i) j) k) (slice_get b.frames k)) (sym none) two in
     let here : Goal = ⊎_elim (λ less. ⊎_elim old_one (new_one less) (cases_lt k (length old))) no_one (cases_lt j (length n.present)) in
     subst (λ (z : List (List ℕ)). IsFrameOf i j k (slice_get (sent_to (node_at w.current i) j) k) (slice_get z k)) (sym (new-frames after j)) here
 
@@ -163,16 +163,16 @@ shows-saved n w i before after h sim within staging answer =
       current = show-again n.present w.current i (kept_view u) h.current shown;
       saved = show-set n.saved w.saved i (kept_view u) (node_at w.current i) h.saved shown;
       released = λ a j k apart.
-        both_set_if (λ (r : List (List (List ℕ))) (s : NodeState). IsFrameOf a j k (slice_get (sent_to s j) k) (slice_get (get_or r j []) k)) n.released w.saved [] no_node i (new_row after) (node_at w.current i) (sim.rows ∙ sym sim.saved_width ∙ h.saved.width) a
-        (λ e. subst (λ (z : ℕ). IsFrameOf z j k (slice_get (sent_to (node_at w.current i) j) k) (slice_get (get_or (new_row after) j []) k)) e (new-frame n w i j k before after h sim within staging (λ q. apart (sym e ∙ q))))
-        (h.released a j k apart);
+          both_set_if (λ (r : List (List (List ℕ))) (s : NodeState). IsFrameOf a j k (slice_get (sent_to s j) k) (slice_get (get_or r j []) k)) n.released w.saved [] no_node i (new_row after) (node_at w.current i) (sim.rows ∙ sym sim.saved_width ∙ h.saved.width) a
+          (λ e. subst (λ (z : ℕ). IsFrameOf z j k (slice_get (sent_to (node_at w.current i) j) k) (slice_get (get_or (new_row after) j []) k)) e (new-frame n w i j k before after h sim within staging (λ q. apart (sym e ∙ q))))
+          (h.released a j k apart);
       grown = grown-by w _ (step.Save i) outcome.Done h.grown answer;
     }
 
 pub save-follows : (n : Simulated) (w : World) (i : ℕ) (before after : List OutboxView) → ShowsWorld n w → IsSim n → i < length n.present → Staging n i before after → FollowsStep (Ok outcome.Done) (saved_sim n i (view_at n.present i) after) (take_step w (step.Save i))
 unfolding take_step
 save-follows n w i before after h sim within staging =
-    let answer : take_step w (step.Save i) ≡ Ok (record w { saved = set w.saved i (node_at w.current i) }, outcome.Done) = cond-is _ _ _ (is-node n w i h within) in
+    let answer : take_step w (step.Save i) ≡ Ok (record w { saved = set w.saved i (node_at w.current i) }, outcome.Done) = cond-true _ _ _ (is-node n w i h within) in
     (record w { saved = set w.saved i (node_at w.current i) }, answer, shows-saved n w i before after h sim within staging answer)
 
 placed-set : (count i : ℕ) (nodes : List NodeView) (v : NodeView) (j : ℕ) → IsPlaced count i v → IsPlaced count j (view_at nodes j) → IsPlaced count j (view_at (set nodes i v) j)
@@ -191,9 +191,9 @@ sim-saved n i before after h within staging =
       saved_width = length-set n.saved i (kept_view u) ∙ h.saved_width ∙ sym width;
       rows = length-set n.released i (new_row after) ∙ h.rows ∙ sym width;
       row = λ j less.
-        at_set_if (λ (r : List (List (List ℕ))). length r ≡ length (set n.present i (kept_view u))) n.released i j (new_row after) []
-        (λ e. wide ∙ sym width)
-        (h.row j (subst (λ (k : ℕ). j < k) width less) ∙ sym width);
+          at_set_if (λ (r : List (List (List ℕ))). length r ≡ length (set n.present i (kept_view u))) n.released i j (new_row after) []
+          (λ e. wide ∙ sym width)
+          (h.row j (subst (λ (k : ℕ). j < k) width less) ∙ sym width);
       present = λ j less. subst (λ (k : ℕ). IsPlaced k j (view_at (set n.present i (kept_view u)) j)) (sym width) (placed-set (length n.present) i n.present (kept_view u) j here (h.present j (subst (λ (k : ℕ). j < k) width less)));
       saved = λ j less. subst (λ (k : ℕ). IsPlaced k j (view_at (set n.saved i (kept_view u)) j)) (sym width) (placed-set (length n.present) i n.saved (kept_view u) j here (h.saved j (subst (λ (k : ℕ). j < k) width less)));
       present_kept = kept-both n.present n i u (new_row after) (sym h.rows) h.present_kept low;

@@ -16,7 +16,7 @@ use Rattle.world.specs.Rows.{rows_of}
 use Rattle.world.specs.Shows.{Simulated, ShowsWorld, FollowsStep, IsSim, view_at, frames_of}
 use Rattle.world.specs.declared.sim.Sim.TheInside.{Inside}
 use Rattle.world.proofs.Rows.{row-fewer, row-is, rows-same, rows-set}
-use Rattle.world.proofs.Saved.{Staging, new_row, saved_sim, save-follows, sim-saved}
+use Rattle.world.proofs.Saved.{Staging, saved_sim, save-follows, sim-saved}
 use Rattle.world.proofs.Shows.{read-is, same-sim, shows-seen, within-seen}
 
 -- u is the node that was read from its place and copied, given the outboxes that were passed on
@@ -30,9 +30,9 @@ staging-from n i count copy u given before after h within counted copied read ro
       width = sym (length-map after released_frames) ∙ ap length (released ∙ sym row) ∙ h.row i within;
       same = released;
       staged = λ j less apart.
-        let one : IsStaged copy j (get_or given j no_outbox) (get_or after j no_outbox) = staged j (subst (λ (k : ℕ). j < k) (sym counted) less) (λ e. apart (e ∙ own)) in
-        let two : IsStaged (view_at n.present i) j (get_or given j no_outbox) (get_or after j no_outbox) = subst (λ (v : NodeView). IsStaged v j (get_or given j no_outbox) (get_or after j no_outbox)) there one in
-        subst (λ (z : List OutboxView). IsStaged (view_at n.present i) j (get_or z j no_outbox) (get_or after j no_outbox)) passed two;
+          let one : IsStaged copy j (get_or given j no_outbox) (get_or after j no_outbox) = staged j (subst (λ (k : ℕ). j < k) (sym counted) less) (λ e. apart (e ∙ own)) in
+          let two : IsStaged (view_at n.present i) j (get_or given j no_outbox) (get_or after j no_outbox) = subst (λ (v : NodeView). IsStaged v j (get_or given j no_outbox) (get_or after j no_outbox)) there one in
+          subst (λ (z : List OutboxView). IsStaged (view_at n.present i) j (get_or z j no_outbox) (get_or after j no_outbox)) passed two;
     }
 
 -- the copy of the present node
@@ -76,10 +76,10 @@ saved-as s m i count copy u v present saved row given staged again released seen
     record {
       staging = staging-from (view_of s) i count copy u given row.items staged h within (counted ∙ ap (λ (z : Simulated). length z.present) (sym seen)) copied read_first (row-is s.outboxes.items i row fewer there) passed same all;
       view =
-        same-sim _ _ _ _ _ _
-        (ap (set s.present.items i) (present_is ∙ ap kept_view (read-is s.present.items i v within read)))
-        (ap (set s.saved.items i) (saved_is ∙ ap kept_view (copied-is (view_of s) m i copy u seen less copied read_first)))
-        (rows-set s.outboxes.items i (with_items (with_items row staged) released) (map all_released staged) items);
+          same-sim _ _ _ _ _ _
+          (ap (set s.present.items i) (present_is ∙ ap kept_view (read-is s.present.items i v within read)))
+          (ap (set s.saved.items i) (saved_is ∙ ap kept_view (copied-is (view_of s) m i copy u seen less copied read_first)))
+          (rows-set s.outboxes.items i (with_items (with_items row staged) released) (map all_released staged) items);
     }
 
 pub saved-sound : (s : Inside) (m : Simulated) (i : ℕ) (row : Vec OutboxView Global) (staged released : List OutboxView) (present saved : NodeView) → view_of s ≡ m → IsSim (view_of s) → i < length m.present → SavedAs s i row staged released present saved → IsSim (record { present = set s.present.items i present; saved = set s.saved.items i saved; released = rows_of (set s.outboxes.items i (with_items (with_items row staged) released)) })

@@ -1,20 +1,19 @@
 -- Each step of the code's space is the step of the definitions.
-use Rattle.std.proofs.Common.{◌≡◌, ◌≢◌, ℕ, zero, suc, ◌+◌, ◌-◌, ◌<◌, ◌≤◌, Bool, true, false, ◌&&◌, not, cond, List, [], ◌∷◌, ◌++◌, length, map, drop, get_or, set, slice_get, Option, Some, None, Result, Ok, Err, ltb, eqb, refl, ap, sym, ◌∙◌, subst, arith}
+use Rattle.std.proofs.Common.{◌≡◌, ℕ, ◌<◌, ◌≤◌, true, false, List, length, map, get_or, set, Result, Ok, Err, ap, sym, ◌∙◌, subst}
 use Rattle.std.proofs.Math.ListN.{get_or-map}
 use Rattle.std.proofs.lemmas.List.{length-set, length-map, get_or_read}
-use Rattle.std.proofs.lemmas.Bool.{lt-ltb, le-ltb}
+use Rattle.std.proofs.lemmas.Bool.{lt-ltb, le-ltb, cond-true, cond-false}
 use Rattle.ids.specs.declared.refusal.Refusal.{Refusal}
 use Rattle.ids.specs.declared.refusal.Refusal.TheVariants.{NoNode}
-use Rattle.msg.specs.declared.body.Message.{Message}
 use Rattle.model.specs.declared.event.Event.{Event}
 use Rattle.model.specs.declared.event.Answer.{Answer}
 use Rattle.model.specs.declared.step.Step.{Step}
 use Rattle.model.specs.declared.step.Step.TheVariants as step
 use Rattle.model.specs.declared.step.Outcome.{Outcome}
 use Rattle.model.specs.declared.step.Outcome.TheVariants as outcome
-use Rattle.model.specs.State.{NodeState, node_at, no_node, sent_to}
-use Rattle.model.specs.Steps.{act, receive, is_own}
-use Rattle.model.specs.View.{Link, NodeView, Shows, ShowsSent, Follows, no_link, link_to, base_of, kept_view, all_kept, used}
+use Rattle.model.specs.State.{NodeState, node_at, no_node}
+use Rattle.model.specs.Steps.{act, is_own}
+use Rattle.model.specs.View.{NodeView, Shows, Follows, no_link, link_to, base_of}
 use Rattle.model.specs.World.{World, KeepsSent, take_step, happens, world_after, moved, is_node}
 use Rattle.model.proofs.Lookups.{both_set}
 use Rattle.laws.proofs.Lookups.{at_set_if}
@@ -66,9 +65,11 @@ answered (Err e) = Err e
 
 pub moved-follows : (n : Simulated) (w : World) (i : ℕ) (e : Step) (v : NodeView) (r : Result Answer Refusal) (x : Result (NodeState × Answer) Refusal) → ShowsWorld n w → take_step w e ≡ moved w i x → Follows r v x → FollowsStep (answered r) (record n { present = set n.present i v }) (take_step w e)
 moved-follows n w i e v (Ok a) x h is (s, stepped, shows) =
-    let answer : take_step w e ≡ Ok (record w { current = set w.current i s }, outcome.Answer a) = is ∙ ap (moved w i) stepped in
-    (record w { current = set w.current i s }, answer,
-    shows-moved n w i v s e (outcome.Answer a) h answer shows)
+    let answer : take_step w e ≡ Ok (record w { current = set w.current i s }, outcome.Answer a) = is ∙ ap (moved w i) stepped in (
+      record w { current = set w.current i s },
+      answer,
+      shows-moved n w i v s e (outcome.Answer a) h answer shows,
+    )
 moved-follows n w i e v (Err r) x h is f = λ ne. is ∙ ap (moved w i) (f ne)
 
 pub is-node : (n : Simulated) (w : World) (i : ℕ) → ShowsWorld n w → i < length n.present → is_node w i ≡ true
@@ -77,37 +78,33 @@ is-node n w i h within = lt-ltb i (length w.current) (subst (λ (k : ℕ). i < k
 pub is-no-node : (n : Simulated) (w : World) (i : ℕ) → ShowsWorld n w → length n.present ≤ i → is_node w i ≡ false
 is-no-node n w i h past = le-ltb i (length w.current) (subst (λ (k : ℕ). k ≤ i) h.current.width past)
 
-pub cond-is : {A : Type 0} (b : Bool) (x y : A) → b ≡ true → cond b x y ≡ x
-cond-is b x y e = ap (λ (z : Bool). cond z x y) e
-
-pub cond-not : {A : Type 0} (b : Bool) (x y : A) → b ≡ false → cond b x y ≡ y
-cond-not b x y e = ap (λ (z : Bool). cond z x y) e
-
 -- an event of a node
 pub act-follows : (n : Simulated) (w : World) (i : ℕ) (e : Event) (v : NodeView) (r : Result Answer Refusal) → ShowsWorld n w → i < length n.present → is_own e ≡ true → Follows r v (act (node_at w.current i) e) → FollowsStep (answered r) (record n { present = set n.present i v }) (take_step w (step.Act i e))
 unfolding take_step
 act-follows n w i e v r h within own follows =
-    moved-follows n w i (step.Act i e) v r (act (node_at w.current i) e) h (cond-is _ _ _ (is-node n w i h within) ∙ cond-is _ _ _ own) follows
+    moved-follows n w i (step.Act i e) v r (act (node_at w.current i) e) h (cond-true _ _ _ (is-node n w i h within) ∙ cond-true _ _ _ own) follows
 
 pub act-no-node : (n : Simulated) (w : World) (i : ℕ) (e : Event) → ShowsWorld n w → length n.present ≤ i → FollowsStep (Err NoNode) n (take_step w (step.Act i e))
 unfolding take_step
-act-no-node n w i e h past = λ ne. cond-not _ _ _ (is-no-node n w i h past)
+act-no-node n w i e h past = λ ne. cond-false _ _ _ (is-no-node n w i h past)
 
 -- a restart
 pub restart-follows : (n : Simulated) (w : World) (i : ℕ) → ShowsWorld n w → i < length n.present → FollowsStep (Ok outcome.Done) (record n { present = set n.present i (view_at n.saved i) }) (take_step w (step.Restart i))
 unfolding take_step
 restart-follows n w i h within =
-    let answer : take_step w (step.Restart i) ≡ Ok (record w { current = set w.current i (node_at w.saved i) }, outcome.Done) = cond-is _ _ _ (is-node n w i h within) in
-    (record w { current = set w.current i (node_at w.saved i) }, answer,
-    shows-moved n w i (view_at n.saved i) (node_at w.saved i) (step.Restart i) outcome.Done h answer (h.saved.each i))
+    let answer : take_step w (step.Restart i) ≡ Ok (record w { current = set w.current i (node_at w.saved i) }, outcome.Done) = cond-true _ _ _ (is-node n w i h within) in (
+      record w { current = set w.current i (node_at w.saved i) },
+      answer,
+      shows-moved n w i (view_at n.saved i) (node_at w.saved i) (step.Restart i) outcome.Done h answer (h.saved.each i),
+    )
 
 pub restart-no-node : (n : Simulated) (w : World) (i : ℕ) → ShowsWorld n w → length n.present ≤ i → FollowsStep (Err NoNode) n (take_step w (step.Restart i))
 unfolding take_step
-restart-no-node n w i h past = λ ne. cond-not _ _ _ (is-no-node n w i h past)
+restart-no-node n w i h past = λ ne. cond-false _ _ _ (is-no-node n w i h past)
 
 pub save-no-node : (n : Simulated) (w : World) (i : ℕ) → ShowsWorld n w → length n.present ≤ i → FollowsStep (Err NoNode) n (take_step w (step.Save i))
 unfolding take_step
-save-no-node n w i h past = λ ne. cond-not _ _ _ (is-no-node n w i h past)
+save-no-node n w i h past = λ ne. cond-false _ _ _ (is-no-node n w i h past)
 
 -- a node that did something stands where it stood
 pub placed-acted : (count i : ℕ) (u v : NodeView) → IsPlaced count i u → (v.part.shape ≡ u.part.shape) × (v.part.own ≡ u.part.own) → map base_of v.links ≡ map base_of u.links → IsPlaced count i v

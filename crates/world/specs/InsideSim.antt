@@ -1,6 +1,4 @@
 -- What the code's space is made of.
-use Rattle.std.specs.Prelude.{◌≡◌, ℕ, ◌<◌, List, [], map, length, slice_index_or}
-use Rattle.ids.specs.declared.limits.TheConstants.{GREATEST_NODES}
 use Rattle.world.specs.declared.sim.Sim.TheInside.{Inside}
 use Rattle.world.specs.Rows.{rows_of}
 use Rattle.world.specs.Shows.{Simulated, IsSim}

@@ -10,5 +10,4 @@ pub fn laws()
     // In each such choice, every reference that is reachable from a register, a letter or a message in
     // flight names an object that its owner still has.
     ensures live { ReachIsLive }
-{
-}
+{}

@@ -10,14 +10,13 @@ ghost use Rattle.msg.specs.Frames.{plain};
 ghost use Rattle.world.specs.Outboxes.{numbered_bytes};
 ghost use Rattle.world.specs.Shows.{ShowsWorld, FollowsStep, IsEventOf, frames_of};
 
+use crate::outbox::{Outbox, new_outboxes, release_all, stage_all};
 use ids::{NodeId, Refusal, Shape};
 use model::{Event, Outcome, Step};
 use msg::{Data, Frame, decode};
 use node::Node;
 use std::alloc::Global;
 use std::marker::Model;
-
-use crate::outbox::{Outbox, new_outboxes, release_all, stage_all};
 
 /// A space of nodes in one thread. It keeps for each node the present one and the one last saved, and
 /// for each ordered pair of nodes the bytes of all frames that were ever released.
@@ -180,13 +179,15 @@ fn new_nodes(alloc: Global, shape: Shape) -> Result<Vec<Node>, Refusal>
 fn event_of(frame: Frame) -> Event
     ensures { IsEventOf result (plain frame) }
 {
-    let Frame::Data(Data {
-        from,
-        to,
-        number,
-        stamp,
-        body,
-    }) = frame;
+    let Frame::Data(
+        Data {
+            from,
+            to,
+            number,
+            stamp,
+            body,
+        },
+    ) = frame;
     Event::Data(Data {
         from,
         to,

@@ -117,7 +117,11 @@ fn a_step_names_nodes_of_the_space(rt: HostRuntime) -> Result<(), Refusal> {
         let dropped = sim.step(Step::Act(node, Event::Drop { register: 0 }));
         assert_eq!(rt; dropped, Err(Refusal::NoNode), "{node}");
         assert_eq!(rt; sim.step(Step::Save(node)), Err(Refusal::NoNode), "{node}");
-        assert_eq!(rt; sim.step(Step::Restart(node)), Err(Refusal::NoNode), "{node}");
+        assert_eq!(rt;
+            sim.step(Step::Restart(node)),
+            Err(Refusal::NoNode),
+            "{node}"
+        );
         for (from, to) in [(node, 1), (0, node), (node, node)] {
             let delivered = sim.step(Step::Deliver {
                 from,

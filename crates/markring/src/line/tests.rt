@@ -37,9 +37,15 @@ fn lines_are_read(rt: HostRuntime) {
         ("space 2 4 16", space),
         ("  space   2 4  16 ", space),
         ("0 alloc 3 8", Line::Step(alloc_step)),
-        ("0 drop 7", Line::Step(Step::Act(0, Event::Drop { register: 7 }))),
+        (
+            "0 drop 7",
+            Line::Step(Step::Act(0, Event::Drop { register: 7 })),
+        ),
         ("1 give 2 4294967295 65535", Line::Step(give_step)),
-        ("9 accept 0", Line::Step(Step::Act(9, Event::Accept { register: 0 }))),
+        (
+            "9 accept 0",
+            Line::Step(Step::Act(9, Event::Accept { register: 0 })),
+        ),
         ("00000000000000000255 save", Line::Step(Step::Save(255))),
         ("deliver 0 255 18446744073709551615", Line::Step(delivery)),
     ] {

@@ -17,15 +17,18 @@ fn expect(rt: &impl Abort, alloc: Global, script: &[u8], printed: &str, status: 
 
 #[test]
 fn a_reference_travels(rt: HostRuntime) {
-    let script = "space 2 4 16\n0 alloc 0 0\n0 give 1 7 0\n0 drop 0\n0 save\ndeliver 0 1 1\n1 accept 0\n";
+    let script =
+        "space 2 4 16\n0 alloc 0 0\n0 give 1 7 0\n0 drop 0\n0 save\ndeliver 0 1 1\n1 accept 0\n";
     let printed = "ok\n0.0.1\nsent 1\nok\nok\nreceived\nfrom 0 label 7 0.0.1\n";
     expect(&rt, rt.alloc(), script.as_bytes(), printed, 0);
 }
 
 #[test]
 fn unsaved_and_repeated_messages_are_not_taken_in(rt: HostRuntime) {
-    let script = "space 2 4 16\n0 alloc 0 0\n0 give 1 7 0\ndeliver 0 1 1\n0 save\ndeliver 0 1 1\ndeliver 0 1 1\n1 accept 0\n1 accept 0\n";
-    let printed = "ok\n0.0.1\nsent 1\nno frame\nok\nreceived\nrepeat\nfrom 0 label 7 0.0.1\nrefused 8 NoLetter\n";
+    let script =
+        "space 2 4 16\n0 alloc 0 0\n0 give 1 7 0\ndeliver 0 1 1\n0 save\ndeliver 0 1 1\ndeliver 0 1 1\n1 accept 0\n1 accept 0\n";
+    let printed =
+        "ok\n0.0.1\nsent 1\nno frame\nok\nreceived\nrepeat\nfrom 0 label 7 0.0.1\nrefused 8 NoLetter\n";
     expect(&rt, rt.alloc(), script.as_bytes(), printed, 1);
 }
 
@@ -37,7 +40,11 @@ fn line_ends_and_skipped_lines(rt: HostRuntime) {
         ("space 2 4 16", "ok\n", 0),
         ("# first\r\n\r\nspace 2 4 16\r\n  0 save\n", "ok\nok\n", 0),
         ("space 2 4 16\n0 save\r", "ok\nline 2: not a command\n", 2),
-        ("space 2 4 16\n0 save\r\r\n", "ok\nline 2: not a command\n", 2),
+        (
+            "space 2 4 16\n0 save\r\r\n",
+            "ok\nline 2: not a command\n",
+            2,
+        ),
         ("space 2 4 16\n\r", "ok\nline 2: not a command\n", 2),
         ("\u{feff}space 2 4 16\n", "line 1: not a command\n", 2),
     ] {
@@ -56,8 +63,14 @@ fn lines_outside_the_grammar_end_the_program(rt: HostRuntime) {
         ("space 2 257 16\n", "line 1: not a command\n"),
         ("space 2 4 0\n", "line 1: not a command\n"),
         ("space 2 4 1048577\n", "line 1: not a command\n"),
-        ("space 2 4 16\nspace 2 4 16\n", "ok\nline 2: not a command\n"),
-        ("space 2 4 16\n0 accept 0\n0 fly\n0 save\n", "ok\nrefused 8 NoLetter\nline 3: not a command\n"),
+        (
+            "space 2 4 16\nspace 2 4 16\n",
+            "ok\nline 2: not a command\n",
+        ),
+        (
+            "space 2 4 16\n0 accept 0\n0 fly\n0 save\n",
+            "ok\nrefused 8 NoLetter\nline 3: not a command\n",
+        ),
     ] {
         expect(&rt, rt.alloc(), script.as_bytes(), printed, 2);
     }
@@ -65,14 +78,22 @@ fn lines_outside_the_grammar_end_the_program(rt: HostRuntime) {
 
 #[test]
 fn refused_lines_do_not_end_the_program(rt: HostRuntime) {
-    let script = "space 2 4 16\n2 save\ndeliver 0 2 1\ndeliver 0 0 1\n0 give 0 7 0\n0 alloc 4 0\n0 alloc 0 9\n0 save\n";
-    let printed = "ok\nrefused 7 NoNode\nrefused 7 NoNode\nno frame\nrefused 11 SelfSend\nrefused 3 NoRegister\nrefused 10 TooManyFields\nok\n";
+    let script =
+        "space 2 4 16\n2 save\ndeliver 0 2 1\ndeliver 0 0 1\n0 give 0 7 0\n0 alloc 4 0\n0 alloc 0 9\n0 save\n";
+    let printed =
+        "ok\nrefused 7 NoNode\nrefused 7 NoNode\nno frame\nrefused 11 SelfSend\nrefused 3 NoRegister\nrefused 10 TooManyFields\nok\n";
     expect(&rt, rt.alloc(), script.as_bytes(), printed, 1);
 }
 
 #[test]
 fn bytes_that_are_no_text_are_no_script(rt: HostRuntime) {
-    expect(&rt, rt.alloc(), b"space 2 4 16\n\xff\n", "file refused\n", 2);
+    expect(
+        &rt,
+        rt.alloc(),
+        b"space 2 4 16\n\xff\n",
+        "file refused\n",
+        2,
+    );
     expect(&rt, rt.alloc(), b"# \xc3", "file refused\n", 2);
 }
 
@@ -135,10 +156,7 @@ impl Write for Full {
 #[test]
 fn output_that_fails_ends_with_status_1(rt: HostRuntime) -> Result<(), Fail> {
     let alloc = rt.alloc();
-    for (script, printed) in [
-        ("space 2 4 16\n0 save\n", 6),
-        ("space 2 4 16\n0 fly\n", 25),
-    ] {
+    for (script, printed) in [("space 2 4 16\n0 save\n", 6), ("space 2 4 16\n0 fly\n", 25)] {
         for room in 0..printed {
             let answer = sim(alloc, script.as_bytes(), Full { room });
             assert_eq!(rt; answer, 1, "{room}");
@@ -174,11 +192,22 @@ impl Space for NoSpace {
 #[test]
 fn without_a_space_each_step_is_refused(rt: HostRuntime) -> Result<(), Fail> {
     for (script, printed, status) in [
-        ("space 2 4 16\n0 save\n\n0 save\n", "refused 1 Memory\nrefused 1 Memory\nrefused 1 Memory\n", 1),
-        ("space 2 4 16\nspace 2 4 16\n", "refused 1 Memory\nline 2: not a command\n", 2),
+        (
+            "space 2 4 16\n0 save\n\n0 save\n",
+            "refused 1 Memory\nrefused 1 Memory\nrefused 1 Memory\n",
+            1,
+        ),
+        (
+            "space 2 4 16\nspace 2 4 16\n",
+            "refused 1 Memory\nline 2: not a command\n",
+            2,
+        ),
     ] {
         let mut out = Vec::new(rt.alloc());
-        assert_eq!(rt; run::<NoSpace, _, _>(rt.alloc(), script.as_bytes(), &mut out)?, status);
+        assert_eq!(rt;
+            run::<NoSpace, _, _>(rt.alloc(), script.as_bytes(), &mut out)?,
+            status
+        );
         assert_eq!(rt; out.as_slice(), printed.as_bytes());
     }
     Ok(())

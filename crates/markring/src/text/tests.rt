@@ -21,10 +21,19 @@ fn outcomes_have_texts(rt: HostRuntime) -> Result<(), Fail> {
         reference: None,
     };
     for (outcome, expected) in [
-        (Outcome::Answer(Answer::New(reference)), "15.1048575.4294967295"),
+        (
+            Outcome::Answer(Answer::New(reference)),
+            "15.1048575.4294967295",
+        ),
         (Outcome::Answer(Answer::Done), "ok"),
-        (Outcome::Answer(Answer::Sent(281_474_976_710_656)), "sent 281474976710656"),
-        (Outcome::Answer(Answer::Letter(letter)), "from 0 label 7 15.1048575.4294967295"),
+        (
+            Outcome::Answer(Answer::Sent(281_474_976_710_656)),
+            "sent 281474976710656",
+        ),
+        (
+            Outcome::Answer(Answer::Letter(letter)),
+            "from 0 label 7 15.1048575.4294967295",
+        ),
         (Outcome::Answer(Answer::Letter(bare)), "from 12 label 0 -"),
         (Outcome::Answer(Answer::Received), "received"),
         (Outcome::Answer(Answer::Repeat), "repeat"),

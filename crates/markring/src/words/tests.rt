@@ -17,7 +17,10 @@ fn words_are_read(rt: HostRuntime) -> Result<(), Fail> {
         (none.as_slice(), None),
         (["markring"].as_slice(), None),
         (["markring", "sim"].as_slice(), None),
-        (["markring", "sim", "rows.script"].as_slice(), Some("rows.script")),
+        (
+            ["markring", "sim", "rows.script"].as_slice(),
+            Some("rows.script"),
+        ),
         (["markring", "sim", "sim"].as_slice(), Some("sim")),
         (["markring", "sim", "--", "-x"].as_slice(), Some("-x")),
     ] {

@@ -1,7 +1,6 @@
-use Rattle.std.proofs.Common.{arith, ap, sym, ◌∙◌}
+use Rattle.std.proofs.Common.{arith}
 use Rattle.std.proofs.Math.Seq.{map-set_same}
 use Rattle.std.proofs.lemmas.Grind.{common_steps}
-use Rattle.std.proofs.lemmas.List.{get_or_read}
 use Rattle.model.specs.View.{base_of, kept_of, no_link}
 use Rattle.node.proofs.links.append.Goals as goal
 

@@ -1,4 +1,4 @@
-use Rattle.std.proofs.Common.{◌≡◌, arith, sym, ap, ◌∙◌, ◌++◌, [], ◌∷◌, map}
+use Rattle.std.proofs.Common.{arith, sym, ap, ◌∙◌, ◌++◌, [], ◌∷◌, map}
 use Rattle.std.proofs.lemmas.List.FromFn.{map-range_with_len_more}
 use Rattle.model.specs.View.{NodeView, new_view}
 use Rattle.std.specs.List.{range_with_len}

@@ -15,13 +15,13 @@ invariant_of-self-2 c =
     } in
     record {
       node = record {
-      shape = old.shape;
-      own = old.own;
-      received = old.received;
-      linked = old.linked;
-      numbers = old.numbers;
-      references = alloc-references (IsWithin c.self.inside.shape) _ _ _ _ _ _ _ _ done named old.references;
-      messages = old.messages;
+        shape = old.shape;
+        own = old.own;
+        received = old.received;
+        linked = old.linked;
+        numbers = old.numbers;
+        references = alloc-references (IsWithin c.self.inside.shape) _ _ _ _ _ _ _ _ done named old.references;
+        messages = old.messages;
       };
       limit = c.in_ok-reference.ensures.limit ∙ c.self.invariant.limit;
     }

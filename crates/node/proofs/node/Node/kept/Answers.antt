@@ -1,6 +1,6 @@
-use Rattle.std.proofs.Common.{◌≡◌, List, subst, sym, length, ap, ◌∙◌, take, drop, ◌++◌, map}
+use Rattle.std.proofs.Common.{◌≡◌, subst, sym, length, ap, ◌∙◌, take, drop, ◌++◌, map}
 use Rattle.std.proofs.lemmas.List.{length-map}
-use Rattle.model.specs.View.{Link, all_kept}
+use Rattle.model.specs.View.{all_kept}
 use Rattle.node.proofs.Sound.{AllSendable, sendable-kept, refilled}
 use Rattle.node.proofs.node.Node.kept.Goals as goal
 
@@ -13,13 +13,13 @@ invariant_of-self c =
     let same : take links.len (c.keep_all.new.links ++ drop (length c.keep_all.new.links) links.items) ≡ map all_kept links.items = refilled links.items c.keep_all.new.links links.len (width ∙ sym links.ok.0) ∙ wrote in
     record {
       node = record {
-      shape = old.shape;
-      own = old.own;
-      received = old.received;
-      linked = ap length same ∙ length-map links.items all_kept ∙ old.linked;
-      numbers = old.numbers;
-      references = old.references;
-      messages = subst (AllSendable c.self.inside.shape) (sym same) (sendable-kept c.self.inside.shape links.items old.messages);
+        shape = old.shape;
+        own = old.own;
+        received = old.received;
+        linked = ap length same ∙ length-map links.items all_kept ∙ old.linked;
+        numbers = old.numbers;
+        references = old.references;
+        messages = subst (AllSendable c.self.inside.shape) (sym same) (sendable-kept c.self.inside.shape links.items old.messages);
       };
       limit = c.self.invariant.limit;
     }

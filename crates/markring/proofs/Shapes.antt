@@ -1,0 +1,49 @@
+-- Lines of too many words.
+use Rattle.std.proofs.Common.{◌≡◌, ℕ, ◌<◌, true, false, cond, List, [], ◌∷◌, length, Option, Some, None, refl, ap, arith, codes}
+use Rattle.std.specs.Option.{option_map, option_and_then}
+use Rattle.std.specs.Str.{bytes_eq}
+use Rattle.markring.specs.declared.line.TheConstants.{MOST_WORDS}
+use Rattle.markring.specs.declared.line.Line.{Line}
+use Rattle.markring.specs.declared.line.Line.TheVariants as line
+use Rattle.model.specs.declared.step.Step.{Step}
+use Rattle.markring.specs.Grammar.{u8_of, command_of, delivery_of, space_of, step_of}
+
+space_of_many : (words : List (List ℕ)) → MOST_WORDS < length words → space_of words ≡ None
+unfolding space_of
+space_of_many [] many = refl
+space_of_many (a ∷ []) many = refl
+space_of_many (a ∷ b ∷ []) many = refl
+space_of_many (a ∷ b ∷ c ∷ []) many = absurd (omega arith)
+space_of_many (a ∷ b ∷ c ∷ d ∷ words) many = refl
+
+delivery_of_many : (words : List (List ℕ)) → MOST_WORDS < length words → delivery_of words ≡ None
+unfolding delivery_of
+delivery_of_many [] many = refl
+delivery_of_many (a ∷ []) many = refl
+delivery_of_many (a ∷ b ∷ []) many = refl
+delivery_of_many (a ∷ b ∷ c ∷ []) many = absurd (omega arith)
+delivery_of_many (a ∷ b ∷ c ∷ d ∷ words) many = refl
+
+step_of_many : (node : ℕ) (words : List (List ℕ)) → MOST_WORDS < length words → step_of node words ≡ None
+unfolding step_of
+step_of_many node [] many = refl
+step_of_many node (verb ∷ []) many = absurd (omega arith)
+step_of_many node (verb ∷ a ∷ []) many = absurd (omega arith)
+step_of_many node (verb ∷ a ∷ b ∷ []) many = absurd (omega arith)
+step_of_many node (verb ∷ a ∷ b ∷ c ∷ []) many = absurd (omega arith)
+step_of_many node (verb ∷ a ∷ b ∷ c ∷ d ∷ words) many = refl
+
+abbrev stepped : Option Step → Option Line
+stepped o = option_map (λ s. line.Step s) o
+
+-- no command has so many
+pub command_of_many : (first : List ℕ) (words : List (List ℕ)) → MOST_WORDS < length words → command_of first words ≡ None
+unfolding command_of
+command_of_many first words many =
+    elim (bytes_eq first (codes "space")) as (λ b. cond b (space_of words) (stepped (cond (bytes_eq first (codes "deliver")) (delivery_of words) (option_and_then (λ node. step_of node words) (u8_of first)))) ≡ None) [
+      | true ↦ space_of_many words many
+      | false ↦ elim (bytes_eq first (codes "deliver")) as (λ b. stepped (cond b (delivery_of words) (option_and_then (λ node. step_of node words) (u8_of first))) ≡ None) [
+        | true ↦ ap stepped (delivery_of_many words many)
+        | false ↦ elim (u8_of first) as (λ o. stepped (option_and_then (λ node. step_of node words) o) ≡ None) [ None ↦ refl | Some node ↦ ap stepped (step_of_many node words many) ]
+      ]
+    ]
