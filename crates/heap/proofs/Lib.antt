@@ -1,1 +1,2 @@
 mod Allocation
+mod Writes

@@ -1,14 +1,15 @@
 //! A node's heap: its objects in numbered slots, its registers, its letters, and its grey objects.
 #![tactic(auto)]
 
-ghost use Rattle.std.specs.Prelude.{◌≡◌, ◌<◌, ◌≤◌, length, count_by, Ok, Err, OnOk, OnErr, IfOk, IfErr};
+ghost use Rattle.std.specs.Prelude.{◌≡◌, ◌<◌, ◌≤◌, [], ◌∷◌, length, count_by, Ok, Err, OnOk, OnErr, IfOk, IfErr, option_copied};
 ghost use Rattle.ids.specs.Limits.{IsReference};
 ghost use Rattle.ids.specs.declared.limits.TheConstants.{GREATEST_NODES};
 ghost use Rattle.ids.specs.declared.refusal.Refusal.TheVariants as Refusal;
-ghost use Rattle.model.specs.Checks.{IsFirstRefusal};
+ghost use Rattle.model.specs.Checks.{guarded, IsFirstRefusal};
 ghost use Rattle.model.specs.State.{new_heap};
-ghost use Rattle.model.specs.Heaps.{with_letter, heap_alloc, heap_drop, heap_accept, heap_register};
-ghost use Rattle.heap.specs.Heap.{is_occupied, is_live};
+ghost use Rattle.model.specs.Heaps.{named, object_at, place_of, with_place, with_word, with_letter, heap_alloc, heap_drop, heap_accept, heap_register, heap_copy, heap_load, heap_store, heap_clear, heap_word, heap_set_word};
+ghost use Rattle.heap.specs.Heap.{IsSlotted, is_occupied, is_live};
+ghost use Rattle.heap.specs.Tests.{named_tests, place_tests, object_tests};
 
 mod object;
 #[cfg(test)]
@@ -149,6 +150,136 @@ impl Heap {
         }
     }
 
+    /// The register becomes what the register `source` holds.
+    ///
+    /// It answers [`Refusal::NoRegister`] where one of the two is no register, and
+    /// [`Refusal::EmptyRegister`] where `source` is empty. The heap is then as it was.
+    #[tactic(auto, unfolding(model::specs::Heaps::heap_copy, model::specs::Heaps::heap_register))]
+    pub fn copy_register(&mut self, register: u16, source: u16) -> Result<(), Refusal>
+        ensures done { OnOk result (heap_copy self.old.heap register source ≡ Ok self.new.heap) }
+        ensures limit { self.new.limit ≡ self.old.limit }
+
+        ensures refused { IfErr result (λ e. heap_copy self.old.heap register source ≡ Err e) }
+        ensures unchanged { OnErr result (self.new ≡ self.old) }
+    {
+        if register as usize >= self.registers.len() {
+            return Err(Refusal::NoRegister);
+        }
+        let reference = self.register(source)?;
+        if reference.is_none() {
+            return Err(Refusal::EmptyRegister);
+        }
+        self.registers[register as usize] = reference;
+        Ok(())
+    }
+
+    /// Reads a place of the object that the register `object` names: `register` then holds what stands
+    /// there, or nothing where the place is empty. That is the answer too. `own` is the node's number.
+    ///
+    /// It answers [`Refusal::NoRegister`] where one of the two is no register,
+    /// [`Refusal::EmptyRegister`] where `object` is empty, [`Refusal::Remote`] where it names an object
+    /// of another node, and [`Refusal::NoField`] where the object isn't there or has no such place. The
+    /// heap is then as it was.
+    #[tactic(auto, unfolding(model::specs::Heaps::heap_load))]
+    pub fn load(
+        &mut self,
+        own: u8,
+        register: u16,
+        object: u16,
+        place: u8,
+    ) -> Result<Option<Ref>, Refusal>
+        ensures done { IfOk result (λ r. heap_load own self.old.heap register object place ≡ Ok (self.new.heap, r)) }
+        ensures limit { self.new.limit ≡ self.old.limit }
+
+        ensures refused { IfErr result (λ e. heap_load own self.old.heap register object place ≡ Err e) }
+        ensures unchanged { OnErr result (self.new ≡ self.old) }
+    {
+        if register as usize >= self.registers.len() {
+            return Err(Refusal::NoRegister);
+        }
+        let named = self.local(own, object)?;
+        let reference = self.read_place(named, place)?;
+        self.registers[register as usize] = reference;
+        Ok(reference)
+    }
+
+    /// Writes what `register` holds into a place of the object that the register `object` names. `own`
+    /// is the node's number.
+    ///
+    /// It answers [`Refusal::NoRegister`] where one of the two is no register,
+    /// [`Refusal::EmptyRegister`] where one of them is empty, [`Refusal::Remote`] where `object` names
+    /// an object of another node, and [`Refusal::NoField`] where the object isn't there or has no such
+    /// place. The heap is then as it was.
+    #[tactic(auto, unfolding(model::specs::Heaps::heap_store, model::specs::Heaps::heap_register))]
+    pub fn store(&mut self, own: u8, object: u16, place: u8, register: u16) -> Result<(), Refusal>
+        ensures done { OnOk result (heap_store own self.old.heap object place register ≡ Ok self.new.heap) }
+        ensures limit { self.new.limit ≡ self.old.limit }
+
+        ensures refused { IfErr result (λ e. heap_store own self.old.heap object place register ≡ Err e) }
+        ensures unchanged { OnErr result (self.new ≡ self.old) }
+    {
+        let (named, value) = (self.register(object)?, self.register(register)?);
+        let (Some(named), Some(value)) = (named, value) else {
+            return Err(Refusal::EmptyRegister);
+        };
+        if named.node != own {
+            return Err(Refusal::Remote);
+        }
+        self.write_place(named, place, Some(value))
+    }
+
+    /// Empties a place of the object that the register `object` names. `own` is the node's number.
+    ///
+    /// It answers [`Refusal::NoRegister`] where there is no such register, [`Refusal::EmptyRegister`]
+    /// where it is empty, [`Refusal::Remote`] where it names an object of another node, and
+    /// [`Refusal::NoField`] where the object isn't there or has no such place. The heap is then as it
+    /// was.
+    #[tactic(auto, unfolding(model::specs::Heaps::heap_clear))]
+    pub fn clear(&mut self, own: u8, object: u16, place: u8) -> Result<(), Refusal>
+        ensures done { OnOk result (heap_clear own self.old.heap object place ≡ Ok self.new.heap) }
+        ensures limit { self.new.limit ≡ self.old.limit }
+
+        ensures refused { IfErr result (λ e. heap_clear own self.old.heap object place ≡ Err e) }
+        ensures unchanged { OnErr result (self.new ≡ self.old) }
+    {
+        let named = self.local(own, object)?;
+        self.write_place(named, place, None)
+    }
+
+    /// The word of the object that the register `object` names. `own` is the node's number.
+    ///
+    /// It answers [`Refusal::NoRegister`] where there is no such register, [`Refusal::EmptyRegister`]
+    /// where it is empty, [`Refusal::Remote`] where it names an object of another node, and
+    /// [`Refusal::NoField`] where the object isn't there.
+    #[tactic(auto, unfolding(model::specs::Heaps::heap_word))]
+    pub fn word(&self, own: u8, object: u16) -> Result<u64, Refusal>
+        ensures { result ≡ heap_word own self.now.heap object }
+    {
+        let named = self.local(own, object)?;
+        match self.object(named) {
+            Some(object) => Ok(object.word()),
+            None => Err(Refusal::NoField),
+        }
+    }
+
+    /// The word of the object that the register `object` names becomes this one. `own` is the node's
+    /// number.
+    ///
+    /// It answers [`Refusal::NoRegister`] where there is no such register, [`Refusal::EmptyRegister`]
+    /// where it is empty, [`Refusal::Remote`] where it names an object of another node, and
+    /// [`Refusal::NoField`] where the object isn't there. The heap is then as it was.
+    #[tactic(auto, unfolding(model::specs::Heaps::heap_set_word))]
+    pub fn set_word(&mut self, own: u8, object: u16, word: u64) -> Result<(), Refusal>
+        ensures done { OnOk result (heap_set_word own self.old.heap object word ≡ Ok self.new.heap) }
+        ensures limit { self.new.limit ≡ self.old.limit }
+
+        ensures refused { IfErr result (λ e. heap_set_word own self.old.heap object word ≡ Err e) }
+        ensures unchanged { OnErr result (self.new ≡ self.old) }
+    {
+        let named = self.local(own, object)?;
+        self.write_word(named, word)
+    }
+
     /// Takes the oldest letter out. The register then holds the letter's reference, or nothing where
     /// the letter has none.
     ///
@@ -210,5 +341,96 @@ impl Heap {
         ensures { result ≡ is_live self.now.heap slot generation }
     {
         self.objects.get(Key { slot, generation }).is_some()
+    }
+
+    /// What stands in a place of an object of this heap: nothing where the place is empty, or there is
+    /// no such place or object. It doesn't look at the reference's node.
+    pub fn place(&self, object: Ref, place: u8) -> Option<Ref>
+        ensures { result ≡ place_of (object_at self.now.heap object) place }
+    {
+        self.read_place(object, place).unwrap_or(None)
+    }
+
+    /// A place of an object of this heap becomes this. Where there is no such place or object, the heap
+    /// stays as it is. It doesn't look at the reference's node.
+    pub fn set_place(&mut self, object: Ref, place: u8, value: Option<Ref>)
+        ensures { self.new ≡ record self.old { heap = with_place self.old.heap object place value } }
+    {
+        let _absent = self.write_place(object, place, value);
+    }
+
+    /// What holds of every heap, for a caller's proof. It does nothing.
+    pub fn sound(&self)
+        ensures { IsSlotted self.now }
+    {
+        self.objects.sound();
+    }
+
+    // What the register names, where that is an object of the node with this number.
+    #[tactic(auto, unfolding(model::specs::Heaps::heap_register))]
+    fn local(&self, own: u8, register: u16) -> Result<Ref, Refusal>
+        ensures { result ≡ guarded (named_tests own self.now.heap register) (named self.now.heap register) }
+    {
+        let Some(reference) = self.register(register)? else {
+            return Err(Refusal::EmptyRegister);
+        };
+        if reference.node != own {
+            return Err(Refusal::Remote);
+        }
+        Ok(reference)
+    }
+
+    // The object of a reference to this heap's node, while it is there.
+    fn object(&self, reference: Ref) -> Option<&StoredObject>
+        ensures { option_copied result ≡ object_at self.now.heap reference }
+    {
+        self.objects.get(key(reference))
+    }
+
+    // What stands in a place that is there.
+    fn read_place(&self, object: Ref, place: u8) -> Result<Option<Ref>, Refusal>
+        ensures { result ≡ guarded (place_tests self.now.heap object place) (place_of (object_at self.now.heap object) place) }
+    {
+        match self.object(object) {
+            Some(object) => object.place(place),
+            None => Err(Refusal::NoField),
+        }
+    }
+
+    // Writes a place, where it is there.
+    fn write_place(&mut self, object: Ref, place: u8, value: Option<Ref>) -> Result<(), Refusal>
+        ensures done { self.new ≡ record self.old { heap = with_place self.old.heap object place value } }
+        ensures answer { result ≡ guarded (place_tests self.old.heap object place) tt }
+        ensures unchanged { OnErr result (self.new ≡ self.old) }
+    {
+        match self.objects.get_mut(key(object)) {
+            Some(object) => object.set_place(place, value),
+            None => Err(Refusal::NoField),
+        }
+    }
+
+    // Writes the word of an object, where it is there.
+    fn write_word(&mut self, object: Ref, word: u64) -> Result<(), Refusal>
+        ensures done { self.new ≡ record self.old { heap = with_word self.old.heap object word } }
+        ensures answer { result ≡ guarded (object_tests self.old.heap object) tt }
+        ensures unchanged { OnErr result (self.new ≡ self.old) }
+    {
+        match self.objects.get_mut(key(object)) {
+            Some(object) => {
+                object.set_word(word);
+                Ok(())
+            }
+            None => Err(Refusal::NoField),
+        }
+    }
+}
+
+// Where a node's heap keeps the object of this reference.
+fn key(reference: Ref) -> Key
+    ensures { result ≡ record { slot = reference.slot; generation = reference.generation } }
+{
+    Key {
+        slot: reference.slot,
+        generation: reference.generation,
     }
 }

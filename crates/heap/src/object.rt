@@ -1,5 +1,6 @@
-ghost use Rattle.std.specs.Prelude.{◌≡◌, IfOk, IfErr};
+ghost use Rattle.std.specs.Prelude.{◌≡◌, [], ◌∷◌, nat_lt, length, slice_index_or, slice_set, IfOk, IfErr, None};
 ghost use Rattle.ids.specs.declared.refusal.Refusal.TheVariants as Refusal;
+ghost use Rattle.model.specs.Checks.{guarded};
 ghost use Rattle.model.specs.Heaps.{new_object};
 
 use ids::{Ref, Refusal};
@@ -33,6 +34,48 @@ impl StoredObject {
             places: vec![in alloc; None; places as usize]?,
             mark: cycle,
         })
+    }
+
+    /// The program's word.
+    pub(crate) fn word(&self) -> u64
+        ensures { result ≡ self.now.word }
+    {
+        self.word
+    }
+
+    /// The program's word becomes this one.
+    pub(crate) fn set_word(&mut self, word: u64)
+        ensures { self.new ≡ record self.old { word = word } }
+    {
+        self.word = word;
+    }
+
+    /// What stands in the place.
+    ///
+    /// It answers [`Refusal::NoField`] where there is no such place.
+    pub(crate) fn place(&self, place: u8) -> Result<Option<Ref>, Refusal>
+        ensures { result ≡ guarded ((nat_lt place (length self.now.places), Refusal.NoField) ∷ []) (slice_index_or self.now.places place None) }
+    {
+        match self.places.get(place as usize) {
+            Some(reference) => Ok(*reference),
+            None => Err(Refusal::NoField),
+        }
+    }
+
+    /// The place becomes this.
+    ///
+    /// It answers [`Refusal::NoField`] where there is no such place. The object is then as it was.
+    pub(crate) fn set_place(&mut self, place: u8, value: Option<Ref>) -> Result<(), Refusal>
+        ensures done { self.new ≡ record self.old { places = slice_set self.old.places place value } }
+        ensures answer { result ≡ guarded ((nat_lt place (length self.old.places), Refusal.NoField) ∷ []) tt }
+    {
+        match self.places.get_mut(place as usize) {
+            Some(held) => {
+                *held = value;
+                Ok(())
+            }
+            None => Err(Refusal::NoField),
+        }
     }
 }
 

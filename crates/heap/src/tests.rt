@@ -6,6 +6,8 @@ use std::process::Abort;
 
 const OWN: u8 = 1;
 
+const OTHER: u8 = 0;
+
 const CYCLE: u64 = 3;
 
 // The heap of a new node with two registers and two slots.
@@ -101,5 +103,140 @@ fn a_copy_goes_its_own_way(rt: HostRuntime) -> Result<(), Refusal> {
     assert_eq!(rt; heap.letters(), 1);
     assert_eq!(rt; copy.alloc(OWN, CYCLE, 1, 0), Ok(first(1)));
     assert_eq!(rt; (copy.live(), heap.live()), (2, 1));
+    Ok(())
+}
+
+#[test]
+fn what_is_stored_is_loaded(rt: HostRuntime) -> Result<(), Refusal> {
+    let mut heap = small(&rt, rt.alloc())?;
+    heap.alloc(OWN, CYCLE, 0, 2)?;
+    heap.alloc(OWN, CYCLE, 1, 2)?;
+    assert_eq!(rt; heap.store(OWN, 0, 1, 1), Ok(()));
+    assert_eq!(rt; heap.place(first(0), 1), Some(first(1)));
+    assert_eq!(rt; heap.place(first(0), 0), None);
+    assert_eq!(rt; heap.place(first(1), 1), None);
+
+    assert_eq!(rt; heap.load(OWN, 1, 0, 0), Ok(None));
+    assert_eq!(rt; heap.register(1), Ok(None));
+    assert_eq!(rt; heap.load(OWN, 1, 0, 1), Ok(Some(first(1))));
+    assert_eq!(rt; heap.register(1), Ok(Some(first(1))));
+
+    assert_eq!(rt; heap.clear(OWN, 0, 1), Ok(()));
+    assert_eq!(rt; heap.place(first(0), 1), None);
+    assert_eq!(rt; heap.clear(OWN, 0, 1), Ok(()));
+    heap.sound();
+    Ok(())
+}
+
+#[test]
+fn a_copied_register_names_the_same_object(rt: HostRuntime) -> Result<(), Refusal> {
+    let mut heap = small(&rt, rt.alloc())?;
+    heap.alloc(OWN, CYCLE, 0, 0)?;
+    for (register, source, refusal) in [
+        (2, 1, Refusal::NoRegister),
+        (1, 2, Refusal::NoRegister),
+        (0, 1, Refusal::EmptyRegister),
+    ] {
+        assert_eq!(rt; heap.copy_register(register, source), Err(refusal));
+    }
+    assert_eq!(rt; heap.copy_register(1, 0), Ok(()));
+    assert_eq!(rt; heap.register(1), Ok(Some(first(0))));
+    assert_eq!(rt; heap.register(0), Ok(Some(first(0))));
+
+    assert_eq!(rt; heap.word(OWN, 0), Ok(0));
+    assert_eq!(rt; heap.set_word(OWN, 1, 18_446_744_073_709_551_615), Ok(()));
+    assert_eq!(rt; heap.word(OWN, 0), Ok(18_446_744_073_709_551_615));
+    heap.alloc(OWN, CYCLE, 1, 0)?;
+    assert_eq!(rt; heap.set_word(OWN, 1, 7), Ok(()));
+    assert_eq!(rt; heap.word(OWN, 1), Ok(7));
+    assert_eq!(rt; heap.word(OWN, 0), Ok(18_446_744_073_709_551_615));
+    Ok(())
+}
+
+#[test]
+fn the_first_refusal_that_applies_is_answered(rt: HostRuntime) -> Result<(), Refusal> {
+    let mut heap = small(&rt, rt.alloc())?;
+    heap.alloc(OWN, CYCLE, 0, 1)?;
+    for (own, register, object, refusal) in [
+        (OTHER, 2, 1, Refusal::NoRegister),
+        (OTHER, 1, 2, Refusal::NoRegister),
+        (OTHER, 1, 1, Refusal::EmptyRegister),
+        (OTHER, 1, 0, Refusal::Remote),
+        (OWN, 1, 0, Refusal::NoField),
+    ] {
+        assert_eq!(rt; heap.load(own, register, object, 1), Err(refusal));
+    }
+    for (own, object, register, refusal) in [
+        (OTHER, 2, 1, Refusal::NoRegister),
+        (OTHER, 1, 2, Refusal::NoRegister),
+        (OTHER, 1, 0, Refusal::EmptyRegister),
+        (OTHER, 0, 1, Refusal::EmptyRegister),
+        (OTHER, 0, 0, Refusal::Remote),
+        (OWN, 0, 0, Refusal::NoField),
+    ] {
+        assert_eq!(rt; heap.store(own, object, 1, register), Err(refusal));
+    }
+    for (own, object, refusal) in [
+        (OTHER, 2, Refusal::NoRegister),
+        (OTHER, 1, Refusal::EmptyRegister),
+        (OTHER, 0, Refusal::Remote),
+    ] {
+        assert_eq!(rt; heap.clear(own, object, 1), Err(refusal));
+        assert_eq!(rt; heap.word(own, object), Err(refusal));
+        assert_eq!(rt; heap.set_word(own, object, 7), Err(refusal));
+    }
+    assert_eq!(rt; heap.clear(OWN, 0, 1), Err(Refusal::NoField));
+
+    assert_eq!(rt; heap.register(0), Ok(Some(first(0))));
+    assert_eq!(rt; heap.register(1), Ok(None));
+    assert_eq!(rt; heap.place(first(0), 0), None);
+    assert_eq!(rt; heap.word(OWN, 0), Ok(0));
+    Ok(())
+}
+
+#[test]
+fn an_object_of_another_generation_is_not_there(rt: HostRuntime) -> Result<(), Refusal> {
+    let mut heap = small(&rt, rt.alloc())?;
+    heap.alloc(OWN, CYCLE, 1, 1)?;
+    for generation in [0, 2] {
+        let absent = Ref {
+            generation,
+            ..first(0)
+        };
+        heap.add_letter(letter(7, Some(absent)))?;
+        heap.take_letter(0)?;
+        assert_eq!(rt; heap.load(OWN, 1, 0, 0), Err(Refusal::NoField));
+        assert_eq!(rt; heap.store(OWN, 0, 0, 1), Err(Refusal::NoField));
+        assert_eq!(rt; heap.clear(OWN, 0, 0), Err(Refusal::NoField));
+        assert_eq!(rt; heap.word(OWN, 0), Err(Refusal::NoField));
+        assert_eq!(rt; heap.set_word(OWN, 0, 7), Err(Refusal::NoField));
+
+        heap.set_place(absent, 0, Some(first(0)));
+        assert_eq!(rt; heap.place(absent, 0), None);
+        assert_eq!(rt; heap.place(first(0), 0), None);
+    }
+    assert_eq!(rt; heap.word(OWN, 1), Ok(0));
+    Ok(())
+}
+
+#[test]
+fn the_node_of_a_reference_is_not_looked_at(rt: HostRuntime) -> Result<(), Refusal> {
+    let mut heap = small(&rt, rt.alloc())?;
+    heap.alloc(OWN, CYCLE, 0, 1)?;
+    heap.set_place(first(0), 1, Some(first(1)));
+    heap.set_place(first(1), 0, Some(first(1)));
+    assert_eq!(rt; heap.place(first(0), 0), None);
+    assert_eq!(rt; heap.place(first(0), 1), None);
+    assert_eq!(rt; heap.place(first(1), 0), None);
+
+    let remote = Ref {
+        node: OTHER,
+        ..first(0)
+    };
+    heap.set_place(remote, 0, Some(first(1)));
+    assert_eq!(rt; heap.place(first(0), 0), Some(first(1)));
+    assert_eq!(rt; heap.place(remote, 0), Some(first(1)));
+    heap.set_place(first(0), 0, None);
+    assert_eq!(rt; heap.place(first(0), 0), None);
     Ok(())
 }

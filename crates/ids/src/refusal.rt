@@ -13,7 +13,7 @@ pub enum Refusal {
     ArenaFull,
     /// There is no register of that number.
     NoRegister,
-    /// The register that is read is empty.
+    /// The register is empty, where a reference is wanted.
     EmptyRegister,
     /// The object is on another node.
     Remote,
@@ -23,7 +23,7 @@ pub enum Refusal {
     NoNode,
     /// No letter is there.
     NoLetter,
-    /// The object has no such place, or is not live.
+    /// The object has no such place, or no object may have it, or it is not live.
     NoField,
     /// More places than an object may have.
     TooManyFields,
@@ -45,7 +45,7 @@ pub enum Refusal {
     AckBeyond,
     /// The bytes are no frame.
     BadFrame,
-    /// The frame is not for this node, or not now.
+    /// The frame is not for this node, or not now, or says what this node does not follow.
     WrongNode,
     /// The bytes are no saved node.
     BadImage,

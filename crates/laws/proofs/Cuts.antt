@@ -10,7 +10,7 @@ use Rattle.model.specs.declared.step.Step.{Step}
 use Rattle.model.specs.State.{NodeState, no_node, node_at, sent_to, got_from}
 use Rattle.model.specs.Steps.{act, receive, is_own}
 use Rattle.model.specs.World.{World, KeepsSent, released, numbered, new_world, happens, run}
-use Rattle.model.specs.Cuts.{Cut, cut, taken, Becomes, PlainStep, acts, delivers, PlainRun, still, further}
+use Rattle.model.specs.Cuts.{Cut, cut, taken, IsInFlight, Becomes, PlainStep, acts, delivers, PlainRun, still, further}
 use Rattle.laws.specs.Statements.{CutsExtend}
 use Rattle.laws.proofs.Lookups.{at_set_if, Grows, grows-refl, slice_get-grows}
 use Rattle.laws.proofs.StepFacts.{Happening, refused, acted, handed, saved, restarted, happening, Receipt, repeated, next, receipt-cases}
@@ -55,16 +55,16 @@ numbered-at sent k x h =
     let positive : 0 < k + 1 = omega arith in
     ap (slice_get sent) back ∙ sym (cond-true (ltb 0 (k + 1)) (slice_get sent (k + 1 - 1)) None (lt-ltb 0 (k + 1) positive)) ∙ h
 
--- what was released stands at its place among what the sender sent, in each cut
-released-numbered : (own : Bool) (found : Option Message) (x : Message) → cond own None found ≡ Some x → found ≡ Some x
+-- what was released goes to another node, and stands at its place among what the sender sent, in each cut
+pub released-numbered : (own : Bool) (found : Option Message) (x : Message) → cond own None found ≡ Some x → (own ≡ false) × (found ≡ Some x)
 released-numbered true found x h = absurd cc
-released-numbered false found x h = h
+released-numbered false found x h = (refl, h)
 
 cut-released : (w : World) (choice : ℕ → Bool) (from to number : ℕ) (x : Message) → KeepsSent w → released w from to (number + 1) ≡ Some x → slice_get (sent_to (cut w choice from) to) number ≡ Some x
 cut-released w choice from to number x h there =
     let sent : List Message = sent_to (node_at w.saved from) to in
     slice_get-grows sent _ number x (cut-sent w choice from to h)
-    (numbered-at sent number x (released-numbered (from == to) (numbered sent (number + 1)) x there))
+    (numbered-at sent number x (released-numbered (from == to) (numbered sent (number + 1)) x there).1)
 
 -- the cuts before and after
 abbrev Before : World → Cut → Type 0
@@ -85,18 +85,27 @@ same-world w i t choice same =
     let states : set w.current i t ≡ w.current = ap (λ (z : NodeState). set w.current i z) same ∙ set-get_or w.current i no_node in
     subst (λ (z : List NodeState). PlainRun (cut w choice) (cut (record w { current = z }) choice)) (sym states) (still (λ j. refl))
 
--- a message that is taken in is the first in flight
+-- a released message whose turn it is, is the first in flight
+turn-number : (w : World) (choice : ℕ → Bool) (from to number : ℕ) → choice to ≡ false → number ≡ got_from (node_at w.current to).part from + 1 → number ≡ taken (cut w choice) from to + 1
+turn-number w choice from to number chosen turn = turn ∙ ap (λ (z : NodeState). got_from z.part from + 1) (sym (present w choice to chosen))
+
+pub cut-in_flight : (w : World) (from to number : ℕ) (x : Message) (choice : ℕ → Bool) → KeepsSent w → choice to ≡ false → released w from to number ≡ Some x → number ≡ got_from (node_at w.current to).part from + 1 → IsInFlight (cut w choice) from to (taken (cut w choice) from to) x
+cut-in_flight w from to number x choice h chosen there turn = record {
+  later = le_refl _;
+  there = cut-released w choice from to (taken (cut w choice) from to) x h
+      (subst (λ (k : ℕ). released w from to k ≡ Some x) (turn-number w choice from to number chosen turn) there);
+}
+
 cut-received : (w : World) (from to number : ℕ) (x : Message) (t : NodeState) (a : Answer) (choice : ℕ → Bool) → KeepsSent w → choice to ≡ false → released w from to number ≡ Some x → number ≡ got_from (node_at w.current to).part from + 1 → receive (node_at w.current to) from to number x.stamp x.body ≡ Ok (t, a) → Becomes (cut w choice) (cut (record w { current = set w.current to t }) choice) to t → PlainStep (cut w choice) (cut (record w { current = set w.current to t }) choice)
 cut-received w from to number x t a choice h chosen there turn answered becomes =
     let here : node_at w.current to ≡ cut w choice to = sym (present w choice to chosen) in
-    let next_one : number ≡ taken (cut w choice) from to + 1 = turn ∙ ap (λ (z : NodeState). got_from z.part from + 1) here in
-    delivers from to x t a
-    (record { later = le_refl _; there = cut-released w choice from to (taken (cut w choice) from to) x h (subst (λ (k : ℕ). released w from to k ≡ Some x) next_one there) })
-    (subst (λ (k : ℕ). receive (cut w choice to) from to k x.stamp x.body ≡ Ok (t, a)) next_one (subst (λ (z : NodeState). receive z from to number x.stamp x.body ≡ Ok (t, a)) here answered))
+    delivers from to x t a (cut-in_flight w from to number x choice h chosen there turn)
+    (subst (λ (k : ℕ). receive (cut w choice to) from to k x.stamp x.body ≡ Ok (t, a)) (turn-number w choice from to number chosen turn)
+    (subst (λ (z : NodeState). receive z from to number x.stamp x.body ≡ Ok (t, a)) here answered))
     becomes
 
-cut-handed : (w : World) (from to number : ℕ) (x : Message) (t : NodeState) (a : Answer) (choice : ℕ → Bool) → KeepsSent w → to < length w.current → released w from to number ≡ Some x → receive (node_at w.current to) from to number x.stamp x.body ≡ Ok (t, a) → Receipt (node_at w.current to) from to number x.stamp x.body t → Before w (cut (record w { current = set w.current to t }) choice)
-cut-handed w from to number x t a choice h within there answered (repeated same) = (choice, same-world w to t choice same)
+cut-handed : (w : World) (from to number : ℕ) (x : Message) (t : NodeState) (a : Answer) (choice : ℕ → Bool) → KeepsSent w → to < length w.current → released w from to number ≡ Some x → receive (node_at w.current to) from to number x.stamp x.body ≡ Ok (t, a) → Receipt (node_at w.current to) from to number x.stamp x.body t a → Before w (cut (record w { current = set w.current to t }) choice)
+cut-handed w from to number x t a choice h within there answered (repeated same says) = (choice, same-world w to t choice same)
 cut-handed w from to number x t a choice h within there answered (next turn may facts) = (
   choice,
   ⊎_elim {C = PlainRun (cut w choice) (cut (record w { current = set w.current to t }) choice)}
@@ -156,7 +165,7 @@ cut-run w (s ∷ ss) choice h =
     let first = cut-happening w (happens w s) later.0 (happening w s) h in
     (first.0, run-run first.1 later.1)
 
-run-keeps-sent : (w : World) (steps : List Step) → KeepsSent w → KeepsSent (run w steps)
+pub run-keeps-sent : (w : World) (steps : List Step) → KeepsSent w → KeepsSent (run w steps)
 run-keeps-sent w [] h = h
 run-keeps-sent w (s ∷ ss) h = run-keeps-sent (happens w s) ss (keeps-sent w s h)
 

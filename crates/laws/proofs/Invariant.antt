@@ -1,11 +1,12 @@
 -- The invariant of plain runs, one record for each of its clauses: a new space has it, and each plain
 -- step keeps it.
-use Rattle.std.proofs.Common.{◌≡◌, ℕ, ◌<◌, ◌≤◌, List, [], ◌∷◌, length, get_or, Some, None, slice_get}
+use Rattle.std.proofs.Common.{◌≡◌, ℕ, ◌<◌, ◌≤◌, true, List, [], ◌∷◌, length, get_or, Some, None, slice_get}
+use Rattle.ids.specs.Limits.{Shaped}
 use Rattle.ids.specs.declared.names.Ref.{Ref}
 use Rattle.msg.specs.declared.body.Message.{Message}
 use Rattle.model.specs.declared.event.Letter.{Letter}
 use Rattle.model.specs.State.{Object, Slot, Free, Occupied, Heap, register_at, slot_at, no_node, sent_to}
-use Rattle.model.specs.Steps.{carried}
+use Rattle.model.specs.Steps.{carried, may_follow}
 use Rattle.model.specs.Cuts.{Cut, taken, IsInFlight, Among, IsLive}
 
 -- what a program reaches at once: the references in registers and letters
@@ -48,8 +49,22 @@ pub record Closed (c : Cut) : Type 0 where
   pub places : (i k g : ℕ) (o : Object) (r : Ref) → slot_at (c i).part.heap k ≡ Occupied g o → HasPlace o r → IsLive c r
   pub messages : (from to place : ℕ) (x : Message) (r : Ref) → IsInFlight c from to place x → Among r (carried x.body) → IsLive c r
 
+-- a message from before the first cycle, whose body the node may follow
+pub record FitsReceiver (to : ℕ) (x : Message) : Type 0 where
+  pub stamp : x.stamp ≡ 0
+  pub follows : may_follow to x.body ≡ true
+
+-- The nodes have the space's shape, and use no slots past it; none has begun a cycle; and what is in
+-- flight fits its receiver.
+pub record Fitting (shape : Shaped) (c : Cut) : Type 0 where
+  pub shapes : (i : ℕ) → i < shape.nodes → (c i).part.shape ≡ shape
+  pub slots : (i : ℕ) → length (c i).part.heap.slots ≤ (c i).part.shape.slots
+  pub cycles : (i : ℕ) → (c i).part.phases.cycle ≡ 0
+  pub messages : (from to place : ℕ) (x : Message) → IsInFlight c from to place x → FitsReceiver to x
+
 -- all clauses
-pub record Sound (n : ℕ) (c : Cut) : Type 0 where
-  pub base : Base n c
+pub record Sound (shape : Shaped) (c : Cut) : Type 0 where
+  pub base : Base shape.nodes c
   pub free : (i : ℕ) → FreeSlots (c i).part.heap
   pub closed : Closed c
+  pub fitting : Fitting shape c

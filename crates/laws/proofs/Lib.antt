@@ -5,9 +5,11 @@ pub mod Cuts
 pub mod Invariant
 pub mod Facts
 pub mod Turns
+pub mod Fitting
 pub mod Kept
 pub mod OwnEvents
 pub mod Receipts
 pub mod PlainSteps
 pub mod New
 pub mod Live
+pub mod Deliveries

@@ -13,15 +13,15 @@ use Rattle.laws.proofs.Invariant.{is_in_register, is_in_letter, Closed, Sound}
 use Rattle.laws.proofs.New.{new-sound}
 use Rattle.laws.proofs.PlainSteps.{plain-sound}
 
-run-sound : (n : ℕ) (c d : Cut) → PlainRun c d → Sound n c → Sound n d
-run-sound n c d (still same) sound = subst (λ (z : Cut). Sound n z) (sym (fun_ext same)) sound
-run-sound n c d (further {d = between} before s) sound = plain-sound n between d s (run-sound n c between before sound)
+run-sound : (shape : Shaped) (c d : Cut) → PlainRun c d → Sound shape c → Sound shape d
+run-sound shape c d (still same) sound = subst (λ (z : Cut). Sound shape z) (sym (fun_ext same)) sound
+run-sound shape c d (further {d = between} before s) sound = plain-sound shape between d s (run-sound shape c between before sound)
 
 -- every cut of a space has the invariant
-pub all-sound : (shape : Shaped) → IsShape shape → (steps : List Step) (choice : ℕ → Bool) → Sound shape.nodes (cut (run (new_world shape) steps) choice)
+pub all-sound : (shape : Shaped) → IsShape shape → (steps : List Step) (choice : ℕ → Bool) → Sound shape (cut (run (new_world shape) steps) choice)
 all-sound shape within steps choice =
     let before = cuts-extend shape within [] steps choice in
-    run-sound shape.nodes _ _ before.1 (new-sound shape before.0)
+    run-sound shape _ _ before.1 (new-sound shape before.0)
 
 reached-live : (c : Cut) → Closed c → (r : Ref) → Reachable c r → IsLive c r
 reached-live c closed r (in_register i k there) = closed.roots i r (is_in_register k there)

@@ -1,5 +1,6 @@
 -- Look-ups in lists, stated as what holds at each place, with a default past the end and no bounds.
-use Rattle.std.proofs.Common.{◌≡◌, ℕ, zero, suc, List, [], ◌∷◌, ◌++◌, get_or, set, ap, refl, sym, ◌∙◌, append_assoc, append-nil, Some, slice_get, replicate, ltb, ltb-true, ◌<◌, true, arith, subst, ◌⊎◌, inl, inr}
+use Rattle.std.proofs.Common.{◌≡◌, ℕ, zero, suc, List, [], ◌∷◌, ◌++◌, get_or, set, ap, refl, sym, ◌∙◌, append_assoc, append-nil, Option, None, Some, option_to_list, slice_get, replicate, ltb, ltb-true, ◌<◌, true, arith, subst, ◌⊎◌, inl, inr}
+use Rattle.model.specs.Cuts.{Among}
 
 -- what holds at a place still holds after a write, where it holds of what was written if that place was written
 pub at_set_if : {A : Type 0} (P : A → Type 0) (xs : List A) (i k : ℕ) (x d : A) → (i ≡ k → P x) → P (get_or xs k d) → P (get_or (set xs i x) k d)
@@ -43,3 +44,16 @@ get_or-replicate_any (suc n) (suc k) a = get_or-replicate_any n k a
 
 pub nothing-below-zero : (k : ℕ) → ltb k 0 ≡ true → ⊥
 nothing-below-zero k h = let below : k < 0 = ltb-true k 0 h in absurd (omega arith)
+
+-- what stands in a list of one, and in an option as a list
+pub among-one : {A : Type 0} (x y : A) → Among x (y ∷ []) → x ≡ y
+among-one x y (inl e) = e
+among-one x y (inr never) = absurd never
+
+pub among-option : {A : Type 0} (v : Option A) (x : A) → Among x (option_to_list v) → v ≡ Some x
+among-option None x never = absurd never
+among-option (Some y) x among = ap (λ z. Some z) (sym (among-one x y among))
+
+pub option-among : {A : Type 0} (v : Option A) (x : A) → v ≡ Some x → Among x (option_to_list v)
+option-among None x h = absurd cc
+option-among (Some y) x h = inl cc

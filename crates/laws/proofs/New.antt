@@ -45,7 +45,7 @@ new-unsent : (shape : Shaped) (own to place : ℕ) (x : Message) → slice_get (
 new-unsent shape own to place x there =
     absurd (let nothing : None ≡ Some x = subst (λ (z : List Message). slice_get z place ≡ Some x) (get_or-replicate_any {A = List Message} shape.nodes to []) there in cc)
 
-pub new-sound : (shape : Shaped) (choice : ℕ → Bool) → Sound shape.nodes (cut (new_world shape) choice)
+pub new-sound : (shape : Shaped) (choice : ℕ → Bool) → Sound shape (cut (new_world shape) choice)
 new-sound shape choice =
     let c : Cut = cut (new_world shape) choice in
     let new : (i : ℕ) → IsNew (c i) = new-any shape choice in
@@ -60,6 +60,12 @@ new-sound shape choice =
             (λ shape own. subst (λ (k : ℕ). k ≤ length (sent_to (c from) to)) (sym (get_or-replicate_any shape.nodes from 0)) (omega arith));
       };
       free = λ i. at-new (λ s. FreeSlots s.part.heap) (c i) (new i) (λ shape own. record { free = λ k never. absurd never; once = tt });
+      fitting = record {
+        shapes = λ i inside. ap (λ (z : NodeState). z.part.shape) (new-inside shape choice i inside);
+        slots = λ i. at-new (λ s. length s.part.heap.slots ≤ s.part.shape.slots) (c i) (new i) (λ shape own. omega arith);
+        cycles = λ i. at-new (λ s. s.part.phases.cycle ≡ 0) (c i) (new i) (λ shape own. refl);
+        messages = λ from to place x flight. absurd (at-new (λ s. slice_get (sent_to s to) place ≡ Some x → ⊥) (c from) (new from) (λ shape own. new-unsent shape own to place x) flight.there);
+      };
       closed = record {
         roots = λ i r root. absurd (at-new (λ s. Root s.part.heap r → ⊥) (c i) (new i) (λ shape own. new-root shape own r) root);
         places = λ i k g o r there has. absurd (at-new (λ s. slot_at s.part.heap k ≡ Occupied g o → ⊥) (c i) (new i) (λ shape own e. cc) there);

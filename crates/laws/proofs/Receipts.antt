@@ -1,35 +1,57 @@
 -- What taking in a message changes.
-use Rattle.std.proofs.Common.{◌≡◌, ℕ, Option, Some, None, set, refl, inl, option_to_list, true}
+use Rattle.std.proofs.Common.{◌≡◌, ℕ, Option, Some, set, refl, inl, inr, ⊎_elim, ◌⊎◌, true}
 use Rattle.std.proofs.lemmas.Bool.{and_parts}
 use Rattle.ids.specs.declared.names.Ref.{Ref}
 use Rattle.msg.specs.declared.body.Body.{Body}
 use Rattle.msg.specs.declared.body.Body.TheVariants as body
-use Rattle.model.specs.State.{Part, no_node}
+use Rattle.model.specs.State.{Heap, Part, no_node}
+use Rattle.model.specs.Heaps.{object_at, place_of}
 use Rattle.model.specs.Steps.{carried, taken_in, count_in, take_body, is_addressed}
 use Rattle.model.specs.Cuts.{Among}
-use Rattle.laws.proofs.Lookups.{nothing-below-zero}
-use Rattle.laws.proofs.Facts.{EventFacts, heap-letter}
+use Rattle.laws.proofs.Lookups.{nothing-below-zero, among-option, option-among}
+use Rattle.laws.proofs.Facts.{EventFacts, heap-alone, sends-alone, heap-same, heap-letter, heap-place, IsInPlace, found-in-place}
+use Rattle.laws.proofs.Fitting.{FittingFacts, fits-alone, fits-rewritten, fits-sent}
 
--- what the message carries is in hand
-abbrev pub InMessage : Body → Ref → Type 0
-InMessage b r = Among r (carried b)
+-- what a Get asks for
+abbrev pub Asked : Heap → Body → Ref → Type 0
+Asked h (body.Get target place label) r = place_of (object_at h target) place ≡ Some r
+Asked h b r = ⊥
 
-among-some : (v : Option Ref) (r : Ref) → v ≡ Some r → Among r (option_to_list v)
-among-some None r h = absurd cc
-among-some (Some s) r h = inl cc
+-- the references that a message brings: those that it carries, and what it asks for
+abbrev pub InMessage : Part → Body → Ref → Type 0
+InMessage p b r = Among r (carried b) ⊎ Asked p.heap b r
 
-pub receipt-facts : (p : Part) (from number stamp : ℕ) (b : Body) → EventFacts (InMessage b) p (taken_in p from number stamp b).part (taken_in p from number stamp b).sends
+asked-found : (h : Heap) (b : Body) (r : Ref) → Asked h b r → IsInPlace h r
+asked-found h (body.Get target place label) r has = found-in-place h target place r has
+asked-found h b r never = absurd never
+
+-- what isn't carried stands in a place of an object of the node
+pub receipt-hand : (p : Part) (b : Body) (r : Ref) → InMessage p b r → Among r (carried b) ⊎ IsInPlace p.heap r
+receipt-hand p b r held = ⊎_elim {C = Among r (carried b) ⊎ IsInPlace p.heap r} (λ among. inl among) (λ asked. inr (asked-found p.heap b r asked)) held
+
+pub receipt-facts : (p : Part) (from number stamp : ℕ) (b : Body) → EventFacts (InMessage p b) p (taken_in p from number stamp b).part (taken_in p from number stamp b).sends
 unfolding taken_in count_in take_body
-receipt-facts p from number stamp (body.Give label reference) = record {
-  own = refl;
-  nodes = refl;
-  heap = heap-letter (InMessage (body.Give label reference)) p.heap (record { from = from; label = label; reference = reference }) (among-some reference);
-  sent = λ to x r new among. absurd new;
-}
+receipt-facts p from number stamp (body.Give label reference) =
+    heap-alone _ p _ (set p.got from number) (heap-letter _ p.heap (record { from = from; label = label; reference = reference }) (λ r e. inl (option-among reference r e)))
+receipt-facts p from number stamp (body.Put target place reference) =
+    heap-alone _ p _ (set p.got from number) (heap-place _ p.heap target place reference (λ r e. inr (inl (inr (option-among reference r e)))))
+receipt-facts p from number stamp (body.Get target place label) =
+    let held : Option Ref = place_of (object_at p.heap target) place in
+    sends-alone _ p (set p.got from number) from (body.Give label held) (λ r among. inr (inr (among-option held r among)))
+receipt-facts p from number stamp b = heap-alone _ p _ (set p.got from number) (heap-same _ p.heap)
 
+-- nodes and messages fit each other
+pub receipt-fits : (p : Part) (from number stamp : ℕ) (b : Body) → FittingFacts p (taken_in p from number stamp b).part (taken_in p from number stamp b).sends
+unfolding taken_in count_in take_body
+receipt-fits p from number stamp (body.Put target place reference) = fits-rewritten p (set p.got from number) target _
+receipt-fits p from number stamp (body.Get target place label) = fits-sent p (set p.got from number) from (body.Give label (place_of (object_at p.heap target) place)) refl
+receipt-fits p from number stamp b = fits-alone p _ (set p.got from number) (λ within. within)
+
+-- one more message is taken in
 pub receipt-got : (p : Part) (from number stamp : ℕ) (b : Body) → (taken_in p from number stamp b).part.got ≡ set p.got from number
 unfolding taken_in count_in take_body
-receipt-got p from number stamp (body.Give label reference) = refl
+receipt-got p from number stamp (body.Get target place label) = refl
+receipt-got p from number stamp b = refl
 
 -- the node that stands past the end of a list takes nothing in
 pub no-node-takes_nothing : (from to : ℕ) → is_addressed no_node.part from to ≡ true → ⊥

@@ -1,8 +1,8 @@
 -- An answered event, and a step of a space, taken apart once for all.
-use Rattle.std.proofs.Common.{◌≡◌, ℕ, ◌<◌, Bool, true, ltb-true, List, [], ◌∷◌, ◌++◌, length, map, get_or, set, Option, None, Some, Result, Ok, Err, refl, sym, ap, ◌∙◌, ◌+◌, subst, leb-true, leb-false, inl, inr, ⊎_elim, ◌≤◌, length-set, arith}
+use Rattle.std.proofs.Common.{◌≡◌, ℕ, ◌<◌, Bool, true, false, ◌&&◌, ltb-true, List, [], ◌∷◌, ◌++◌, length, map, get_or, set, Option, None, Some, Result, Ok, Err, refl, sym, ap, ◌∙◌, ◌+◌, subst, leb-true, leb-false, inl, inr, ⊎_elim, ◌≤◌, length-set, arith}
 use Rattle.std.proofs.lemmas.Bool.{cond_both, and_parts, cases_Bool, cond-true, cond-false, or_cases, both_ways}
 use Rattle.ids.specs.declared.refusal.Refusal.{Refusal}
-use Rattle.ids.specs.declared.refusal.Refusal.TheVariants.{LinkSpent}
+use Rattle.ids.specs.declared.refusal.Refusal.TheVariants.{LinkSpent, NoNode}
 use Rattle.msg.specs.declared.body.Message.{Message}
 use Rattle.msg.specs.declared.body.Body.{Body}
 use Rattle.model.specs.declared.event.Event.{Event}
@@ -10,10 +10,11 @@ use Rattle.model.specs.declared.event.Answer.{Answer}
 use Rattle.model.specs.declared.event.Answer.TheVariants as answer
 use Rattle.model.specs.declared.step.Step.{Step}
 use Rattle.model.specs.declared.step.Step.TheVariants as step
-use Rattle.model.specs.Checks.{AllPass}
+use Rattle.model.specs.declared.step.Outcome.TheVariants as outcome
+use Rattle.model.specs.Checks.{guarded, AllPass}
 use Rattle.model.specs.State.{NodeState, node_at, sent_to, got_from}
 use Rattle.model.specs.Steps.{Effect, tests, made, receipt_tests, receipt, is_repeat, may_take, taken_in, unchanged, fits, all_tests, checked, after, act, receive, append_all, is_own}
-use Rattle.model.specs.World.{World, released, moved, handed_over, is_node, take_step, world_after, happens}
+use Rattle.model.specs.World.{World, released, moved, handed_over, is_node, take_step, outcome_of, world_after, happens}
 use Rattle.model.proofs.References.{guarded-ok, guarded-passes}
 use Rattle.laws.proofs.Lookups.{at_set_if, Grows, grows-refl, grows-trans}
 
@@ -21,55 +22,63 @@ passed-parts : (ts : List (Bool × Refusal)) (last : Bool × Refusal) → AllPas
 passed-parts [] last h = (tt, h.0)
 passed-parts (t ∷ ts) last h = let rest = passed-parts ts last h.1 in ((h.0, rest.0), rest.1)
 
--- An answered event: the node afterwards, that all tests passed, and that its messages got numbers.
-pub record Stepped (s : NodeState) (ts : List (Bool × Refusal)) (x : Effect) (t : NodeState) : Type 0 where
+-- An answered event: the node afterwards and the answer, that all tests passed, and that its messages got
+-- numbers.
+pub record Stepped (s : NodeState) (ts : List (Bool × Refusal)) (x : Effect) (t : NodeState) (a : Answer) : Type 0 where
   pub state : t ≡ record { part = x.part; sent = append_all s.sent x.sends }
+  pub answer : a ≡ x.answer
   pub passed : AllPass ts
   pub numbered : fits (map length s.sent) x.sends ≡ true
 
-after-ok : (s : NodeState) (r : Result Effect Refusal) (t : NodeState) (a : Answer) → after s r ≡ Ok (t, a) → (x : Effect) × (r ≡ Ok x) × (t ≡ record { part = x.part; sent = append_all s.sent x.sends })
-after-ok s (Ok x) t a h =
-    let both : ◌≡◌ {A = NodeState × Answer} (record { part = x.part; sent = append_all s.sent x.sends }, x.answer) (t, a) = cc in
-    (x, refl, sym (ap (λ (z : NodeState × Answer). z.0) both))
-after-ok s (Err e) t a h = absurd cc
+-- what an effect makes of a node, and the answer
+abbrev effect_on : NodeState → Effect → NodeState × Answer
+effect_on s x = (record { part = x.part; sent = append_all s.sent x.sends }, x.answer)
 
-stepped : (s : NodeState) (ts : List (Bool × Refusal)) (x : Effect) (t : NodeState) (a : Answer) → after s (checked ts (map length s.sent) x) ≡ Ok (t, a) → Stepped s ts x t
+after-ok : (s : NodeState) (r : Result Effect Refusal) (y : NodeState × Answer) → after s r ≡ Ok y → (x : Effect) × (r ≡ Ok x) × (y ≡ effect_on s x)
+after-ok s (Ok x) y h = (x, refl, cc)
+after-ok s (Err e) y h = absurd cc
+
+stepped : (s : NodeState) (ts : List (Bool × Refusal)) (x : Effect) (t : NodeState) (a : Answer) → after s (checked ts (map length s.sent) x) ≡ Ok (t, a) → Stepped s ts x t a
 stepped s ts x t a h =
-    let found = after-ok s (checked ts (map length s.sent) x) t a h in
+    let found = after-ok s (checked ts (map length s.sent) x) (t, a) h in
     let all = all_tests ts (map length s.sent) x in
     let parts = passed-parts ts (fits (map length s.sent) x.sends, LinkSpent) (guarded-passes all x found.0 found.1) in
+    let both : ◌≡◌ {A = NodeState × Answer} (t, a) (effect_on s x) = found.2 ∙ ap (effect_on s) (sym (guarded-ok all x found.0 found.1)) in
     record {
-      state = found.2 ∙ ap (λ (z : Effect). record { part = z.part; sent = append_all s.sent z.sends }) (sym (guarded-ok all x found.0 found.1));
+      state = ap (λ (z : NodeState × Answer). z.0) both;
+      answer = ap (λ (z : NodeState × Answer). z.1) both;
       passed = parts.0;
       numbered = parts.1;
     }
 
 -- an event of a node that was answered
-pub act-ok : (s : NodeState) (e : Event) (t : NodeState) (a : Answer) → act s e ≡ Ok (t, a) → Stepped s (tests s.part e) (made s.part (map length s.sent) e) t
+pub act-ok : (s : NodeState) (e : Event) (t : NodeState) (a : Answer) → act s e ≡ Ok (t, a) → Stepped s (tests s.part e) (made s.part (map length s.sent) e) t a
 unfolding act
 act-ok s e t a h = stepped s (tests s.part e) (made s.part (map length s.sent) e) t a h
 
 -- a message that was taken in, or was a repeat
-pub receive-ok : (s : NodeState) (from to number stamp : ℕ) (b : Body) (t : NodeState) (a : Answer) → receive s from to number stamp b ≡ Ok (t, a) → Stepped s (receipt_tests s.part from to number stamp b) (receipt s.part from number stamp b) t
+pub receive-ok : (s : NodeState) (from to number stamp : ℕ) (b : Body) (t : NodeState) (a : Answer) → receive s from to number stamp b ≡ Ok (t, a) → Stepped s (receipt_tests s.part from to number stamp b) (receipt s.part from number stamp b) t a
 unfolding receive
 receive-ok s from to number stamp b t a h = stepped s (receipt_tests s.part from to number stamp b) (receipt s.part from number stamp b) t a h
 
 -- A message that was answered was taken in before, and changes nothing; or it is the next one, which the
 -- node may take in, and is taken in.
-pub data Receipt (s : NodeState) (from to number stamp : ℕ) (b : Body) (t : NodeState) : Type 0 where
-  repeated : t ≡ s → Receipt s from to number stamp b t
-  next : number ≡ got_from s.part from + 1 → may_take s.part stamp b ≡ true → Stepped s (receipt_tests s.part from to number stamp b) (taken_in s.part from number stamp b) t → Receipt s from to number stamp b t
+pub data Receipt (s : NodeState) (from to number stamp : ℕ) (b : Body) (t : NodeState) (a : Answer) : Type 0 where
+  repeated : t ≡ s → a ≡ answer.Repeat → Receipt s from to number stamp b t a
+  next : number ≡ got_from s.part from + 1 → may_take s.part stamp b ≡ true → Stepped s (receipt_tests s.part from to number stamp b) (taken_in s.part from number stamp b) t a → Receipt s from to number stamp b t a
 
-pub receipt-cases : (s : NodeState) (from to number stamp : ℕ) (b : Body) (t : NodeState) (a : Answer) → receive s from to number stamp b ≡ Ok (t, a) → Receipt s from to number stamp b t
+pub receipt-cases : (s : NodeState) (from to number stamp : ℕ) (b : Body) (t : NodeState) (a : Answer) → receive s from to number stamp b ≡ Ok (t, a) → Receipt s from to number stamp b t a
 receipt-cases s from to number stamp b t a h =
     let found = receive-ok s from to number stamp b t a h in
     let turn : number ≤ got_from s.part from + 1 = leb-true number _ found.passed.1.0 in
-    elim (cases_Bool (is_repeat s.part from number)) as (λ _. Receipt s from to number stamp b t) [
-      | inl again ↦ repeated (found.state ∙ ap (λ (z : Effect). record { part = z.part; sent = append_all s.sent z.sends }) (cond-true (is_repeat s.part from number) (unchanged s.part answer.Repeat) (taken_in s.part from number stamp b) again))
+    let as_found : (x : Effect) → receipt s.part from number stamp b ≡ x → Stepped s (receipt_tests s.part from to number stamp b) x t a =
+    λ x e. subst (λ (z : Effect). Stepped s (receipt_tests s.part from to number stamp b) z t a) e found in
+    elim (cases_Bool (is_repeat s.part from number)) as (λ _. Receipt s from to number stamp b t a) [
+      | inl again ↦ let same = as_found (unchanged s.part answer.Repeat) (cond-true (is_repeat s.part from number) _ _ again) in repeated same.state same.answer
       | inr first ↦ next
           (let later : got_from s.part from < number = leb-false number _ first in omega arith)
           (⊎_elim (λ again. absurd (both_ways _ first again)) (λ may. may) (or_cases _ _ found.passed.1.1.0))
-          (subst (λ (z : Effect). Stepped s (receipt_tests s.part from to number stamp b) z t) (cond-false (is_repeat s.part from number) (unchanged s.part answer.Repeat) (taken_in s.part from number stamp b) first) found)
+          (as_found (taken_in s.part from number stamp b) (cond-false (is_repeat s.part from number) _ _ first))
     ]
 
 -- messages come last in what was sent
@@ -86,17 +95,17 @@ length-append_all sent [] = refl
 length-append_all sent ((to, x) ∷ ms) =
     length-append_all (set sent to (get_or sent to [] ++ x ∷ [])) ms ∙ length-set sent to (get_or sent to [] ++ x ∷ [])
 
-pub stepped-grows : (s : NodeState) (ts : List (Bool × Refusal)) (x : Effect) (t : NodeState) (j : ℕ) → Stepped s ts x t → Grows (sent_to s j) (sent_to t j)
-stepped-grows s ts x t j h =
+pub stepped-grows : (s : NodeState) (ts : List (Bool × Refusal)) (x : Effect) (t : NodeState) (a : Answer) (j : ℕ) → Stepped s ts x t a → Grows (sent_to s j) (sent_to t j)
+stepped-grows s ts x t a j h =
     let more = append_all-grows s.sent x.sends j in
     (more.0, ap (λ (z : NodeState). sent_to z j) h.state ∙ more.1)
 
 -- what a node sent only grows
 pub act-grows : (s : NodeState) (e : Event) (t : NodeState) (a : Answer) (j : ℕ) → act s e ≡ Ok (t, a) → Grows (sent_to s j) (sent_to t j)
-act-grows s e t a j h = stepped-grows s _ _ t j (act-ok s e t a h)
+act-grows s e t a j h = stepped-grows s _ _ t a j (act-ok s e t a h)
 
 pub receive-grows : (s : NodeState) (from to number stamp : ℕ) (b : Body) (t : NodeState) (a : Answer) (j : ℕ) → receive s from to number stamp b ≡ Ok (t, a) → Grows (sent_to s j) (sent_to t j)
-receive-grows s from to number stamp b t a j h = stepped-grows s _ _ t j (receive-ok s from to number stamp b t a h)
+receive-grows s from to number stamp b t a j h = stepped-grows s _ _ t a j (receive-ok s from to number stamp b t a h)
 
 -- what a step of a space does to it
 pub data Happening (w : World) : World → Type 0 where
@@ -130,3 +139,34 @@ happening w (step.Deliver from to number) =
     cond_both _ _ _ (λ r. Happening w (world_after w r))
     (λ within. handed-happening w from to number (released w from to number) (ltb-true _ _ (and_parts (is_node w from) (is_node w to) within).1) refl)
     (λ _. refused)
+
+-- a delivery that was answered
+moved-answer : (w : World) (i : ℕ) (r : Result (NodeState × Answer) Refusal) (a : Answer) → outcome_of (moved w i r) ≡ Ok (outcome.Answer a) → (t : NodeState) × (r ≡ Ok (t, a))
+moved-answer w i (Ok y) a h = let says : y.1 ≡ a = cc in (y.0, ap (λ (z : Answer). Ok (y.0, z)) says)
+moved-answer w i (Err e) a h = absurd cc
+
+pub deliver-answer : (w : World) (from to number : ℕ) (x : Message) (a : Answer) → released w from to number ≡ Some x → outcome_of (take_step w (step.Deliver from to number)) ≡ Ok (outcome.Answer a) → (t : NodeState) × (receive (node_at w.current to) from to number x.stamp x.body ≡ Ok (t, a))
+unfolding take_step
+deliver-answer w from to number x a there h =
+    let found : outcome_of (handed_over w from to number (released w from to number)) ≡ Ok (outcome.Answer a) =
+    cond_both (is_node w from && is_node w to) (handed_over w from to number (released w from to number)) (Err NoNode)
+    (λ z. outcome_of z ≡ Ok (outcome.Answer a) → outcome_of (handed_over w from to number (released w from to number)) ≡ Ok (outcome.Answer a)) (λ _ e. e) (λ _ e. absurd cc) h in
+    moved-answer w to (receive (node_at w.current to) from to number x.stamp x.body) a
+    (subst (λ (z : Option Message). outcome_of (handed_over w from to number z) ≡ Ok (outcome.Answer a)) there found)
+
+-- a message of which every test passes is refused for its numbers alone
+after-err : (s : NodeState) (r : Result Effect Refusal) (e : Refusal) → after s r ≡ Err e → r ≡ Err e
+after-err s (Ok x) e h = absurd cc
+after-err s (Err f) e h = cc
+
+last-refusal : (ts : List (Bool × Refusal)) (last : Bool × Refusal) (x : Effect) (e : Refusal) → AllPass ts → guarded (ts ++ last ∷ []) x ≡ Err e → last.1 ≡ e
+last-refusal [] last x e passed h = cond_both last.0 (Ok x) (Err last.1) (λ z. z ≡ Err e → last.1 ≡ e) (λ _ never. absurd cc) (λ _ same. cc) h
+last-refusal ((true, r) ∷ ts) last x e passed h = last-refusal ts last x e passed.1 h
+last-refusal ((false, r) ∷ ts) last x e passed h = let never = passed.0 in absurd cc
+
+pub receive-passed : (s : NodeState) (from to number stamp : ℕ) (b : Body) (e : Refusal) → AllPass (receipt_tests s.part from to number stamp b) → receive s from to number stamp b ≡ Err e → LinkSpent ≡ e
+unfolding receive
+receive-passed s from to number stamp b e passed h =
+    let x : Effect = receipt s.part from number stamp b in
+    let ts : List (Bool × Refusal) = receipt_tests s.part from to number stamp b in
+    last-refusal ts (fits (map length s.sent) x.sends, LinkSpent) x e passed (after-err s (checked ts (map length s.sent) x) e h)

@@ -1,10 +1,17 @@
 -- What is true of every space of nodes, whatever steps are taken in it: events of programs, deliveries in
 -- any order and any number of times, saves and restarts.
-use Rattle.std.specs.Prelude.{ℕ, Bool, List}
+use Rattle.std.specs.Prelude.{◌≡◌, ◌≢◌, ℕ, ◌+◌, ◌≤◌, Bool, false, List, Some, Ok, Err}
 use Rattle.ids.specs.Limits.{Shaped, IsShape}
 use Rattle.ids.specs.declared.names.Ref.{Ref}
+use Rattle.ids.specs.declared.refusal.Refusal.TheVariants.{WrongNode}
+use Rattle.msg.specs.declared.body.Message.{Message}
+use Rattle.model.specs.declared.event.Answer.TheVariants as answer
 use Rattle.model.specs.declared.step.Step.{Step}
-use Rattle.model.specs.World.{new_world, run}
+use Rattle.model.specs.declared.step.Step.TheVariants as step
+use Rattle.model.specs.declared.step.Outcome.TheVariants as outcome
+use Rattle.model.specs.State.{got_from, node_at}
+use Rattle.model.specs.Steps.{target_of, receive}
+use Rattle.model.specs.World.{new_world, run, released, take_step, outcome_of}
 use Rattle.model.specs.Cuts.{cut, IsLive, Reachable, PlainRun}
 
 -- Saves and restarts show in no cut: what stands in a cut now, whether of present or of saved states, came
@@ -20,3 +27,23 @@ abbrev pub ReachIsLive : Type 0
 ReachIsLive =
     (shape : Shaped) → IsShape shape → (steps : List Step) (choice : ℕ → Bool) (r : Ref)
     → Reachable (cut (run (new_world shape) steps) choice) r → IsLive (cut (run (new_world shape) steps) choice) r
+
+-- A message about an object is taken in by the object's owner, who still has it: a Put finds what it is to
+-- write, and a Get what it is to read, however long they were on their way and whatever was saved and
+-- restarted meanwhile.
+abbrev pub TargetsAreLive : Type 0
+TargetsAreLive =
+    (shape : Shaped) → IsShape shape → (steps : List Step) (from to number : ℕ) (x : Message) (target : Ref)
+    → released (run (new_world shape) steps) from to number ≡ Some x
+    → target_of x.body ≡ Some target
+    → outcome_of (take_step (run (new_world shape) steps) (step.Deliver from to number)) ≡ Ok (outcome.Answer answer.Received)
+    → (target.node ≡ to) × IsLive (cut (run (new_world shape) steps) (λ _. false)) target
+
+-- What was released is for its receiver: given in its turn, or again, it is never refused as a message that
+-- isn't for this node, or that carries what isn't for this space.
+abbrev pub NoneRefusedInTurn : Type 0
+NoneRefusedInTurn =
+    (shape : Shaped) → IsShape shape → (steps : List Step) (from to number : ℕ) (x : Message)
+    → released (run (new_world shape) steps) from to number ≡ Some x
+    → number ≤ got_from (node_at (run (new_world shape) steps).current to).part from + 1
+    → receive (node_at (run (new_world shape) steps).current to) from to number x.stamp x.body ≢ Err WrongNode

@@ -46,17 +46,32 @@ alone node verb = cond (bytes_eq verb (codes "save")) (Some (step.Save node)) No
 unfoldable pub with_one : List ℕ → List ℕ → Option Event
 with_one verb a =
     cond (bytes_eq verb (codes "drop")) (option_map (λ register. event.Drop register) (u16_of a))
-    (cond (bytes_eq verb (codes "accept")) (option_map (λ register. event.Accept register) (u16_of a)) None)
+    (cond (bytes_eq verb (codes "accept")) (option_map (λ register. event.Accept register) (u16_of a))
+    (cond (bytes_eq verb (codes "word")) (option_map (λ object. event.Word object) (u16_of a)) None))
 
 unfoldable pub with_two : List ℕ → List ℕ → List ℕ → Option Event
 with_two verb a b =
     cond (bytes_eq verb (codes "alloc"))
-    (option_and_then (λ register. option_map (λ places. event.Alloc register places) (u8_of b)) (u16_of a)) None
+    (option_and_then (λ register. option_map (λ places. event.Alloc register places) (u8_of b)) (u16_of a))
+    (cond (bytes_eq verb (codes "copy"))
+    (option_and_then (λ register. option_map (λ source. event.Copy register source) (u16_of b)) (u16_of a))
+    (cond (bytes_eq verb (codes "clear"))
+    (option_and_then (λ object. option_map (λ place. event.Clear object place) (u8_of b)) (u16_of a))
+    (cond (bytes_eq verb (codes "setword"))
+    (option_and_then (λ object. option_map (λ word. event.SetWord object word) (u64_of b)) (u16_of a)) None)))
 
 unfoldable pub with_three : List ℕ → List ℕ → List ℕ → List ℕ → Option Event
 with_three verb a b c =
     cond (bytes_eq verb (codes "give"))
-    (option_and_then (λ to. option_and_then (λ label. option_map (λ register. event.Give to label register) (u16_of c)) (u32_of b)) (u8_of a)) None
+    (option_and_then (λ to. option_and_then (λ label. option_map (λ register. event.Give to label register) (u16_of c)) (u32_of b)) (u8_of a))
+    (cond (bytes_eq verb (codes "load"))
+    (option_and_then (λ register. option_and_then (λ object. option_map (λ place. event.Load register object place) (u8_of c)) (u16_of b)) (u16_of a))
+    (cond (bytes_eq verb (codes "store"))
+    (option_and_then (λ object. option_and_then (λ place. option_map (λ register. event.Store object place register) (u16_of c)) (u8_of b)) (u16_of a))
+    (cond (bytes_eq verb (codes "put"))
+    (option_and_then (λ object. option_and_then (λ place. option_map (λ register. event.Put object place register) (u16_of c)) (u8_of b)) (u16_of a))
+    (cond (bytes_eq verb (codes "get"))
+    (option_and_then (λ object. option_and_then (λ place. option_map (λ label. event.Get object place label) (u32_of c)) (u8_of b)) (u16_of a)) None))))
 
 -- what stands after the node's number
 unfoldable pub step_of : ℕ → List (List ℕ) → Option Step

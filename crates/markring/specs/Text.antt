@@ -25,6 +25,8 @@ letter_text l =
 abbrev pub answer_text : Answer → List ℕ
 answer_text (answer.New r) = reference_text r
 answer_text answer.Done = codes "ok"
+answer_text (answer.Value r) = optional_text r
+answer_text (answer.Word n) = decimal n
 answer_text (answer.Sent n) = codes "sent " ++ decimal n
 answer_text (answer.Letter l) = letter_text l
 answer_text answer.Received = codes "received"

@@ -166,6 +166,9 @@ fn with_one(verb: &str, a: &str) -> Option<Event>
         "accept" => Some(Event::Accept {
             register: read_u16(a)?,
         }),
+        "word" => Some(Event::Word {
+            object: read_u16(a)?,
+        }),
         _ => None,
     }
 }
@@ -180,6 +183,18 @@ fn with_two(verb: &str, a: &str, b: &str) -> Option<Event>
         "alloc" => Some(Event::Alloc {
             register: read_u16(a)?,
             places: read_u8(b)?,
+        }),
+        "copy" => Some(Event::Copy {
+            register: read_u16(a)?,
+            source: read_u16(b)?,
+        }),
+        "clear" => Some(Event::Clear {
+            object: read_u16(a)?,
+            place: read_u8(b)?,
+        }),
+        "setword" => Some(Event::SetWord {
+            object: read_u16(a)?,
+            word: read_u64(b)?,
         }),
         _ => None,
     }
@@ -196,6 +211,26 @@ fn with_three(verb: &str, a: &str, b: &str, c: &str) -> Option<Event>
             to: read_u8(a)?,
             label: read_u32(b)?,
             register: read_u16(c)?,
+        }),
+        "load" => Some(Event::Load {
+            register: read_u16(a)?,
+            object: read_u16(b)?,
+            place: read_u8(c)?,
+        }),
+        "store" => Some(Event::Store {
+            object: read_u16(a)?,
+            place: read_u8(b)?,
+            register: read_u16(c)?,
+        }),
+        "put" => Some(Event::Put {
+            object: read_u16(a)?,
+            place: read_u8(b)?,
+            register: read_u16(c)?,
+        }),
+        "get" => Some(Event::Get {
+            object: read_u16(a)?,
+            place: read_u8(b)?,
+            label: read_u32(c)?,
         }),
         _ => None,
     }

@@ -8,9 +8,9 @@ use model::{Answer, Outcome};
 use std::alloc::Global;
 use std::fmt;
 
-/// The text of what became of a step: a reference, `ok`, `sent` and the message's number, `from`, the
-/// sender, `label`, the label and the reference or `-`, `received`, `repeat`, or `no frame`. The only
-/// refusal is [`Refusal::Memory`].
+/// The text of what became of a step: a reference, a reference or `-` for what stood in a place, an
+/// object's word, `ok`, `sent` and the message's number, `from`, the sender, `label`, the label and the
+/// reference or `-`, `received`, `repeat`, or `no frame`. The only refusal is [`Refusal::Memory`].
 pub fn answer_text(alloc: Global, outcome: &Outcome) -> Result<String, Refusal>
     ensures text { IfOk result (λ s. string_bytes s ≡ outcome_text outcome.now) }
     ensures refused { IfErr result (λ e. e ≡ Memory) }
@@ -61,6 +61,8 @@ impl fmt::Display for OutcomeText {
     fn fmt<W: fmt::Write>(&self, f: &mut fmt::Formatter<W>) -> fmt::Result {
         match self.0 {
             Outcome::Answer(Answer::New(reference)) => write!(f, "{}", RefText(reference)),
+            Outcome::Answer(Answer::Value(value)) => write!(f, "{}", OptionalText(value)),
+            Outcome::Answer(Answer::Word(word)) => write!(f, "{word}"),
             Outcome::Answer(Answer::Sent(number)) => write!(f, "sent {number}"),
             Outcome::Answer(Answer::Letter(letter)) => {
                 let reference = OptionalText(letter.reference);

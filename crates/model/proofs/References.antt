@@ -1,11 +1,13 @@
 -- Each change of a heap keeps a property of all references that the heap holds.
-use Rattle.std.proofs.Common.{◌≡◌, ℕ, zero, suc, Bool, true, false, List, [], ◌∷◌, drop, replicate, get_or, Option, None, Ok, refl, sym, subst}
+use Rattle.std.proofs.Common.{◌≡◌, ℕ, zero, suc, Bool, true, false, cond, ◌==◌, List, [], ◌∷◌, drop, replicate, get_or, Option, Some, None, is_some, Ok, refl, sym, subst}
+use Rattle.std.specs.Option.{unwrap_or}
+use Rattle.std.proofs.lemmas.Bool.{cond_both}
 use Rattle.ids.specs.declared.names.Ref.{Ref}
 use Rattle.ids.specs.declared.refusal.Refusal.{Refusal}
 use Rattle.model.specs.declared.event.Letter.{Letter}
 use Rattle.model.specs.Checks.{guarded, AllPass}
-use Rattle.model.specs.State.{Object, Slot, Occupied, Retired, Heap}
-use Rattle.model.specs.Heaps.{with_register, with_object, with_letter, letter_taken, oldest_letter, new_object, no_letter, next_generation, slots_with}
+use Rattle.model.specs.State.{Object, Slot, Free, Occupied, Retired, Heap, register_at}
+use Rattle.model.specs.Heaps.{with_register, with_object, with_letter, letter_taken, oldest_letter, new_object, no_letter, next_generation, slots_with, object_of, object_at, place_of, rewritten, with_rewritten, with_place, with_word, no_reference, named, is_filled}
 use Rattle.model.specs.References.{IfAny, HoldsOnly}
 use Rattle.model.proofs.Lookups.{at_set, at_push}
 
@@ -60,6 +62,48 @@ holds-with_object P h cycle places all = record {
 get_or-drop_one : {A : Type 0} (xs : List A) (k : ℕ) (d : A) → get_or (drop 1 xs) k d ≡ get_or xs (suc k) d
 get_or-drop_one [] k d = refl
 get_or-drop_one (x ∷ xs) k d = refl
+
+-- a rewritten object, where what rewrites it keeps the property of its places
+rewritten_slot : (P : Ref → Type 0) (f : Object → Object) (generation : ℕ) (s : Slot) → ((o : Object) (j : ℕ) → IfAny P (get_or o.places j None) → IfAny P (get_or (f o).places j None)) → SlotHolds P s → SlotHolds P (rewritten f generation s)
+rewritten_slot P f generation (Free k) keeps h g o j e = absurd cc
+rewritten_slot P f generation (Occupied k x) keeps h g o j e =
+    let same : cond (k == generation) (f x) x ≡ o = cc in
+    subst (λ (z : Object). IfAny P (get_or z.places j None)) same
+    (cond_both (k == generation) (f x) x (λ z. IfAny P (get_or z.places j None)) (λ _. keeps x j (h k x j refl)) (λ _. h k x j refl))
+rewritten_slot P f generation Retired keeps h g o j e = absurd cc
+
+holds-with_rewritten : (P : Ref → Type 0) (h : Heap) (r : Ref) (f : Object → Object) → ((o : Object) (j : ℕ) → IfAny P (get_or o.places j None) → IfAny P (get_or (f o).places j None)) → HoldsOnly P h → HoldsOnly P (with_rewritten h r f)
+holds-with_rewritten P h r f keeps all = record {
+  registers = all.registers;
+  letters = all.letters;
+  places = λ k g o j e.
+      at_set (SlotHolds P) h.slots r.slot k (rewritten f r.generation (get_or h.slots r.slot Retired)) Retired
+      (rewritten_slot P f r.generation (get_or h.slots r.slot Retired) keeps (λ g o j. all.places r.slot g o j))
+      (λ g o j. all.places k g o j) g o j e;
+}
+
+pub holds-with_place : (P : Ref → Type 0) (h : Heap) (r : Ref) (place : ℕ) (v : Option Ref) → HoldsOnly P h → IfAny P v → HoldsOnly P (with_place h r place v)
+holds-with_place P h r place v all here = holds-with_rewritten P h r _ (λ o j there. at_set (IfAny P) o.places place j v None here there) all
+
+pub holds-with_word : (P : Ref → Type 0) (h : Heap) (r : Ref) (word : ℕ) → HoldsOnly P h → HoldsOnly P (with_word h r word)
+holds-with_word P h r word all = holds-with_rewritten P h r _ (λ o j there. there) all
+
+place_of-object : (P : Ref → Type 0) (s : Slot) (generation place : ℕ) → SlotHolds P s → IfAny P (place_of (object_of s generation) place)
+place_of-object P (Free g) generation place h = tt
+place_of-object P (Occupied g o) generation place h =
+    cond_both (g == generation) (Some o) None (λ z. IfAny P (place_of z place)) (λ _. h g o place refl) (λ _. tt)
+place_of-object P Retired generation place h = tt
+
+-- what stands in a place has the property
+pub holds-place_of : (P : Ref → Type 0) (h : Heap) (r : Ref) (place : ℕ) → HoldsOnly P h → IfAny P (place_of (object_at h r) place)
+holds-place_of P h r place all = place_of-object P (get_or h.slots r.slot Retired) r.generation place (λ g o j. all.places r.slot g o j)
+
+-- what a register names has it, where the register isn't empty
+pub holds-named : (P : Ref → Type 0) (h : Heap) (k : ℕ) → HoldsOnly P h → is_filled h k ≡ true → P (named h k)
+holds-named P h k all filled = some_holds (register_at h k) filled (all.registers k) where
+  some_holds : (r : Option Ref) → is_some r ≡ true → IfAny P r → P (unwrap_or r no_reference)
+  some_holds None e there = absurd cc
+  some_holds (Some r) e there = there
 
 pub holds-letter_taken : (P : Ref → Type 0) (h : Heap) (register : ℕ) → HoldsOnly P h → HoldsOnly P (letter_taken h register)
 holds-letter_taken P h register all =

@@ -20,60 +20,60 @@ use Rattle.model.specs.Heaps.{heap_alloc}
 use Rattle.model.specs.Steps.{Effect, effect, act, receive, allocated, dropped, given, accepted, taken_in, count_in, take_body}
 use Rattle.model.specs.World.{outcomes, new_world, take_step}
 
-abbrev object : ℕ → ℕ → ℕ → Ref
+abbrev pub object : ℕ → ℕ → ℕ → Ref
 object node slot generation = record { node = node; slot = slot; generation = generation }
 
-abbrev space : ℕ → ℕ → ℕ → Shaped
+abbrev pub space : ℕ → ℕ → ℕ → Shaped
 space nodes registers slots = record { nodes = nodes; registers = registers; slots = slots }
 
-abbrev alloc : ℕ → ℕ → ℕ → Step
+abbrev pub alloc : ℕ → ℕ → ℕ → Step
 alloc node register places = step.Act node (event.Alloc register places)
 
-abbrev drop_register : ℕ → ℕ → Step
+abbrev pub drop_register : ℕ → ℕ → Step
 drop_register node register = step.Act node (event.Drop register)
 
-abbrev give : ℕ → ℕ → ℕ → ℕ → Step
+abbrev pub give : ℕ → ℕ → ℕ → ℕ → Step
 give node to label register = step.Act node (event.Give to label register)
 
-abbrev accept : ℕ → ℕ → Step
+abbrev pub accept : ℕ → ℕ → Step
 accept node register = step.Act node (event.Accept register)
 
 -- a message that another node may send to node 1
 abbrev message : Data
 message = record { from = 0; to = 1; number = 1; stamp = 0; body = body.Give 1 None; fits = refl }
 
-abbrev made : Ref → Result Outcome Refusal
+abbrev pub made : Ref → Result Outcome Refusal
 made r = Ok (outcome.Answer (answer.New r))
 
-abbrev sent : ℕ → Result Outcome Refusal
+abbrev pub sent : ℕ → Result Outcome Refusal
 sent number = Ok (outcome.Answer (answer.Sent number))
 
-abbrev dropped_now : Result Outcome Refusal
+abbrev pub dropped_now : Result Outcome Refusal
 dropped_now = Ok (outcome.Answer answer.Done)
 
-abbrev received : Result Outcome Refusal
+abbrev pub received : Result Outcome Refusal
 received = Ok (outcome.Answer answer.Received)
 
-abbrev repeat : Result Outcome Refusal
+abbrev pub repeat : Result Outcome Refusal
 repeat = Ok (outcome.Answer answer.Repeat)
 
-abbrev letter : ℕ → ℕ → Ref → Result Outcome Refusal
+abbrev pub letter : ℕ → ℕ → Ref → Result Outcome Refusal
 letter from label r = Ok (outcome.Answer (answer.Letter (record { from = from; label = label; reference = Some r })))
 
-abbrev empty_letter : ℕ → ℕ → Result Outcome Refusal
+abbrev pub empty_letter : ℕ → ℕ → Result Outcome Refusal
 empty_letter from label = Ok (outcome.Answer (answer.Letter (record { from = from; label = label; reference = None })))
 
-abbrev done : Result Outcome Refusal
+abbrev pub done : Result Outcome Refusal
 done = Ok outcome.Done
 
-abbrev no_frame : Result Outcome Refusal
+abbrev pub no_frame : Result Outcome Refusal
 no_frame = Ok outcome.NoFrame
 
-abbrev refused : Refusal → Result Outcome Refusal
+abbrev pub refused : Refusal → Result Outcome Refusal
 refused e = Err e
 
 -- in a new space of this shape, each step has the outcome that stands beside it
-abbrev Holds : Shaped → List (Step × Result Outcome Refusal) → Type 0
+abbrev pub Holds : Shaped → List (Step × Result Outcome Refusal) → Type 0
 Holds shape rows = outcomes (new_world shape) (map (λ (r : Step × Result Outcome Refusal). r.0) rows) ≡ map (λ (r : Step × Result Outcome Refusal). r.1) rows
 
 -- a reference goes from one node to another, and on to a third

@@ -1,18 +1,22 @@
 -- What the events do to a node's heap, with the tests that stand before each.
-use Rattle.std.specs.Prelude.{ℕ, Bool, ◌||◌, nat_lt, nat_le, List, [], ◌∷◌, ◌++◌, length, drop, replicate, Option, Some, None, is_some, Result, slice_index_or, slice_set}
+use Rattle.std.specs.Prelude.{ℕ, Bool, false, cond, ◌||◌, ◌==◌, not, nat_lt, nat_le, List, [], ◌∷◌, ◌++◌, length, drop, replicate, Option, Some, None, is_some, Result, slice_index_or, slice_set}
+use Rattle.std.specs.Option.{unwrap_or}
 use Rattle.ids.specs.declared.names.Ref.{Ref}
 use Rattle.ids.specs.declared.limits.TheConstants.{GREATEST_PLACES}
 use Rattle.ids.specs.declared.refusal.Refusal.{Refusal}
-use Rattle.ids.specs.declared.refusal.Refusal.TheVariants.{ArenaFull, NoRegister, EmptyRegister, NoLetter, TooManyFields}
+use Rattle.ids.specs.declared.refusal.Refusal.TheVariants.{ArenaFull, NoRegister, EmptyRegister, Remote, Local, NoLetter, NoField, TooManyFields}
 use Rattle.model.specs.declared.event.Letter.{Letter}
 use Rattle.model.specs.Checks.{guarded}
-use Rattle.model.specs.State.{Object, Slot, Free, Occupied, Retired, Heap, register_at}
+use Rattle.model.specs.State.{Object, Slot, Free, Occupied, Retired, Heap, register_at, slot_at}
 
 abbrev pub is_register : Heap → ℕ → Bool
 is_register h k = nat_lt k (length h.registers)
 
 abbrev pub with_register : Heap → ℕ → Option Ref → Heap
 with_register h k r = record h { registers = slice_set h.registers k r }
+
+abbrev pub is_filled : Heap → ℕ → Bool
+is_filled h k = is_some (register_at h k)
 
 -- reading a register, which may be empty
 abbrev pub register_tests : Heap → ℕ → List (Bool × Refusal)
@@ -58,7 +62,125 @@ alloc_heap own cycle h register places =
     with_register (with_object h (new_object cycle places)) register (Some (new_reference own h))
 
 abbrev pub drop_tests : Heap → ℕ → List (Bool × Refusal)
-drop_tests h register = (is_register h register, NoRegister) ∷ (is_some (register_at h register), EmptyRegister) ∷ []
+drop_tests h register = (is_register h register, NoRegister) ∷ (is_filled h register, EmptyRegister) ∷ []
+
+-- the register becomes what the other one holds
+abbrev pub copy_tests : Heap → ℕ → ℕ → List (Bool × Refusal)
+copy_tests h register source =
+    (is_register h register, NoRegister) ∷ (is_register h source, NoRegister) ∷ (is_filled h source, EmptyRegister) ∷ []
+
+abbrev pub register_copied : Heap → ℕ → ℕ → Heap
+register_copied h register source = with_register h register (register_at h source)
+
+-- What a register names; an empty one names no object, since generations start at 1.
+abbrev pub no_reference : Ref
+no_reference = record { node = 0; slot = 0; generation = 0 }
+
+abbrev pub named : Heap → ℕ → Ref
+named h k = unwrap_or (register_at h k) no_reference
+
+-- the register names an object of the node with this number
+abbrev pub is_local : ℕ → Heap → ℕ → Bool
+is_local own h k = (named h k).node == own
+
+-- the object of a slot, where it has this generation
+abbrev pub object_of : Slot → ℕ → Option Object
+object_of (Free g) generation = None
+object_of (Occupied g o) generation = cond (g == generation) (Some o) None
+object_of Retired generation = None
+
+-- the object of a reference to this heap's node, while it is live
+abbrev pub object_at : Heap → Ref → Option Object
+object_at h r = object_of (slot_at h r.slot) r.generation
+
+abbrev pub has_place : Option Object → ℕ → Bool
+has_place None place = false
+has_place (Some o) place = nat_lt place (length o.places)
+
+-- what stands in a place; nothing where there is no such place, or no object
+abbrev pub place_of : Option Object → ℕ → Option Ref
+place_of None place = None
+place_of (Some o) place = slice_index_or o.places place None
+
+abbrev pub word_of : Option Object → ℕ
+word_of None = 0
+word_of (Some o) = o.word
+
+-- Rewriting a live object. Where it isn't live, nothing changes.
+abbrev pub rewritten : (Object → Object) → ℕ → Slot → Slot
+rewritten f generation (Free g) = Free g
+rewritten f generation (Occupied g o) = Occupied g (cond (g == generation) (f o) o)
+rewritten f generation Retired = Retired
+
+abbrev pub with_rewritten : Heap → Ref → (Object → Object) → Heap
+with_rewritten h r f = record h { slots = slice_set h.slots r.slot (rewritten f r.generation (slot_at h r.slot)) }
+
+-- A live object's place becomes this. Where there is no such place, nothing changes.
+abbrev pub with_place : Heap → Ref → ℕ → Option Ref → Heap
+with_place h r place v = with_rewritten h r (λ o. record o { places = slice_set o.places place v })
+
+abbrev pub with_word : Heap → Ref → ℕ → Heap
+with_word h r word = with_rewritten h r (λ o. record o { word = word })
+
+-- reading a place of the object that a register names into a register
+abbrev pub load_tests : ℕ → Heap → ℕ → ℕ → ℕ → List (Bool × Refusal)
+load_tests own h register object place =
+    (is_register h register, NoRegister)
+    ∷ (is_register h object, NoRegister)
+    ∷ (is_filled h object, EmptyRegister)
+    ∷ (is_local own h object, Remote)
+    ∷ (has_place (object_at h (named h object)) place, NoField)
+    ∷ []
+
+abbrev pub place_loaded : Heap → ℕ → ℕ → Option Ref
+place_loaded h object place = place_of (object_at h (named h object)) place
+
+-- writing what a register holds into a place of the object that another names
+abbrev pub store_tests : ℕ → Heap → ℕ → ℕ → ℕ → List (Bool × Refusal)
+store_tests own h object place register =
+    (is_register h object, NoRegister)
+    ∷ (is_register h register, NoRegister)
+    ∷ (is_filled h object, EmptyRegister)
+    ∷ (is_filled h register, EmptyRegister)
+    ∷ (is_local own h object, Remote)
+    ∷ (has_place (object_at h (named h object)) place, NoField)
+    ∷ []
+
+-- emptying a place
+abbrev pub clear_tests : ℕ → Heap → ℕ → ℕ → List (Bool × Refusal)
+clear_tests own h object place =
+    (is_register h object, NoRegister)
+    ∷ (is_filled h object, EmptyRegister)
+    ∷ (is_local own h object, Remote)
+    ∷ (has_place (object_at h (named h object)) place, NoField)
+    ∷ []
+
+-- reading or writing the word
+abbrev pub word_tests : ℕ → Heap → ℕ → List (Bool × Refusal)
+word_tests own h object =
+    (is_register h object, NoRegister)
+    ∷ (is_filled h object, EmptyRegister)
+    ∷ (is_local own h object, Remote)
+    ∷ (is_some (object_at h (named h object)), NoField)
+    ∷ []
+
+-- asking the owner of an object that isn't this node's to write or to read a place of it
+abbrev pub put_tests : ℕ → Heap → ℕ → ℕ → ℕ → List (Bool × Refusal)
+put_tests own h object place register =
+    (is_register h object, NoRegister)
+    ∷ (is_register h register, NoRegister)
+    ∷ (is_filled h object, EmptyRegister)
+    ∷ (not (is_local own h object), Local)
+    ∷ (nat_lt place GREATEST_PLACES, NoField)
+    ∷ []
+
+abbrev pub get_tests : ℕ → Heap → ℕ → ℕ → List (Bool × Refusal)
+get_tests own h object place =
+    (is_register h object, NoRegister)
+    ∷ (is_filled h object, EmptyRegister)
+    ∷ (not (is_local own h object), Local)
+    ∷ (nat_lt place GREATEST_PLACES, NoField)
+    ∷ []
 
 abbrev pub no_letter : Letter
 no_letter = record { from = 0; label = 0; reference = None }
@@ -90,3 +212,23 @@ heap_accept h register = guarded (accept_tests h register) (letter_taken h regis
 
 unfoldable pub heap_register : Heap → ℕ → Result (Option Ref) Refusal
 heap_register h register = guarded (register_tests h register) (register_at h register)
+
+unfoldable pub heap_copy : Heap → ℕ → ℕ → Result Heap Refusal
+heap_copy h register source = guarded (copy_tests h register source) (register_copied h register source)
+
+unfoldable pub heap_load : ℕ → Heap → ℕ → ℕ → ℕ → Result (Heap × Option Ref) Refusal
+heap_load own h register object place =
+    guarded (load_tests own h register object place) (with_register h register (place_loaded h object place), place_loaded h object place)
+
+unfoldable pub heap_store : ℕ → Heap → ℕ → ℕ → ℕ → Result Heap Refusal
+heap_store own h object place register =
+    guarded (store_tests own h object place register) (with_place h (named h object) place (register_at h register))
+
+unfoldable pub heap_clear : ℕ → Heap → ℕ → ℕ → Result Heap Refusal
+heap_clear own h object place = guarded (clear_tests own h object place) (with_place h (named h object) place None)
+
+unfoldable pub heap_word : ℕ → Heap → ℕ → Result ℕ Refusal
+heap_word own h object = guarded (word_tests own h object) (word_of (object_at h (named h object)))
+
+unfoldable pub heap_set_word : ℕ → Heap → ℕ → ℕ → Result Heap Refusal
+heap_set_word own h object word = guarded (word_tests own h object) (with_word h (named h object) word)

@@ -4,12 +4,13 @@ use Rattle.std.specs.Prelude.{◌≡◌, ℕ, ◌<◌, ◌≤◌, Option, Some, 
 use Rattle.std.specs.List.{AllByRecursion}
 use Rattle.ids.specs.Limits.{Shaped}
 use Rattle.ids.specs.declared.names.Ref.{Ref}
-use Rattle.ids.specs.declared.limits.TheConstants.{GREATEST_CYCLE}
+use Rattle.ids.specs.declared.limits.TheConstants.{GREATEST_CYCLE, GREATEST_PLACES}
+use Rattle.msg.specs.declared.body.Body.{Body}
 use Rattle.msg.specs.declared.body.Body.TheVariants as body
 use Rattle.msg.specs.declared.body.Message.{Message}
 use Rattle.model.specs.State.{Object, Occupied, Heap, register_at, slot_at}
 use Rattle.model.specs.Heaps.{no_letter}
-use Rattle.model.specs.Steps.{carried}
+use Rattle.model.specs.Steps.{mentioned}
 
 -- where there is a reference, it has the property
 abbrev pub IfAny : (P : Ref → Type 0) → Option Ref → Type 0
@@ -32,7 +33,14 @@ pub record IsWithin (shape : Shaped) (r : Ref) : Type 0 where
 abbrev pub no_message : Message
 no_message = record { stamp = 0; body = body.Give 0 None }
 
--- a message whose stamp is a cycle, and whose references the shape has room for
+-- where a message names a place, an object may have it
+abbrev pub IsPlaced : Body → Type 0
+IsPlaced (body.Put target place reference) = place < GREATEST_PLACES
+IsPlaced (body.Get target place label) = place < GREATEST_PLACES
+IsPlaced b = Unit {0}
+
+-- a message whose stamp is a cycle, whose references the shape has room for, and whose place may be one
 pub record IsSendable (shape : Shaped) (x : Message) : Type 0 where
   pub stamp : x.stamp ≤ GREATEST_CYCLE
-  pub references : AllByRecursion (IsWithin shape) (carried x.body)
+  pub references : AllByRecursion (IsWithin shape) (mentioned x.body)
+  pub place : IsPlaced x.body

@@ -1,6 +1,6 @@
 -- What an event does to a node ("Events" in docs/RULES.md). An event is a list of tests in the order of
 -- its refusals, an effect that is total, and one last test: that its messages get numbers.
-use Rattle.std.specs.Prelude.{ℕ, ◌+◌, Bool, true, false, ◌&&◌, ◌||◌, not, cond, nat_lt, nat_le, ◌==◌, List, [], ◌∷◌, ◌++◌, length, map, None, option_to_list, Result, Ok, Err, slice_index_or, slice_set}
+use Rattle.std.specs.Prelude.{ℕ, ◌+◌, Bool, true, false, ◌&&◌, ◌||◌, not, cond, nat_lt, nat_le, ◌==◌, List, [], ◌∷◌, ◌++◌, length, map, Option, Some, None, option_to_list, Result, Ok, Err, slice_index_or, slice_set}
 use Rattle.ids.specs.Limits.{Shaped}
 use Rattle.ids.specs.declared.names.Ref.{Ref}
 use Rattle.ids.specs.declared.limits.TheConstants.{GREATEST_NUMBER}
@@ -15,7 +15,7 @@ use Rattle.model.specs.declared.event.Answer.{Answer}
 use Rattle.model.specs.declared.event.Answer.TheVariants as answer
 use Rattle.model.specs.Checks.{guarded}
 use Rattle.model.specs.State.{Heap, Part, NodeState, register_at, got_from}
-use Rattle.model.specs.Heaps.{with_register, new_reference, oldest_letter, with_letter, alloc_heap, letter_taken, alloc_tests, drop_tests, accept_tests, register_tests}
+use Rattle.model.specs.Heaps.{with_register, with_place, with_word, new_reference, named, object_at, word_of, oldest_letter, with_letter, alloc_heap, register_copied, place_of, place_loaded, letter_taken, alloc_tests, copy_tests, drop_tests, load_tests, store_tests, clear_tests, word_tests, put_tests, get_tests, accept_tests, register_tests}
 
 -- a node's part after some step, and the messages that it appended, each with its receiver, in order
 pub record Work : Type 0 where
@@ -39,27 +39,71 @@ answers w a = record { part = w.part; sends = w.sends; answer = a }
 abbrev pub becomes : Part → Heap → Answer → Effect
 becomes p h a = record { part = record p { heap = h }; sends = []; answer = a }
 
+-- nothing changes
+abbrev pub unchanged : Part → Answer → Effect
+unchanged p a = record { part = p; sends = []; answer = a }
+
+-- a message to another node; counts says for each node how many messages were appended so far
+abbrev pub sends_one : Part → List ℕ → ℕ → Body → Effect
+sends_one p counts to b =
+    record {
+      part = p;
+      sends = (to, record { stamp = p.phases.cycle; body = b }) ∷ [];
+      answer = answer.Sent (slice_index_or counts to 0 + 1);
+    }
+
 -- Alloc
 unfoldable pub allocated : Part → ℕ → ℕ → Effect
 allocated p register places =
     becomes p (alloc_heap p.own p.phases.cycle p.heap register places) (answer.New (new_reference p.own p.heap))
 
+-- Copy
+unfoldable pub copied : Part → ℕ → ℕ → Effect
+copied p register source = becomes p (register_copied p.heap register source) answer.Done
+
 -- Drop
 unfoldable pub dropped : Part → ℕ → Effect
 dropped p register = becomes p (with_register p.heap register None) answer.Done
 
--- Give: a message to another node with what the register holds
+-- Load
+unfoldable pub loaded : Part → ℕ → ℕ → ℕ → Effect
+loaded p register object place =
+    becomes p (with_register p.heap register (place_loaded p.heap object place)) (answer.Value (place_loaded p.heap object place))
+
+-- Store
+unfoldable pub stored : Part → ℕ → ℕ → ℕ → Effect
+stored p object place register =
+    becomes p (with_place p.heap (named p.heap object) place (register_at p.heap register)) answer.Done
+
+-- Clear
+unfoldable pub cleared : Part → ℕ → ℕ → Effect
+cleared p object place = becomes p (with_place p.heap (named p.heap object) place None) answer.Done
+
+-- Word
+unfoldable pub word_read : Part → ℕ → Effect
+word_read p object = unchanged p (answer.Word (word_of (object_at p.heap (named p.heap object))))
+
+-- SetWord
+unfoldable pub word_set : Part → ℕ → ℕ → Effect
+word_set p object word = becomes p (with_word p.heap (named p.heap object) word) answer.Done
+
+-- Give: what the register holds goes to another node
 unfoldable pub given : Part → List ℕ → ℕ → ℕ → ℕ → Effect
-given p counts to label register =
-    record {
-      part = p;
-      sends = (to, record { stamp = p.phases.cycle; body = body.Give label (register_at p.heap register) }) ∷ [];
-      answer = answer.Sent (slice_index_or counts to 0 + 1);
-    }
+given p counts to label register = sends_one p counts to (body.Give label (register_at p.heap register))
 
 -- Accept: the oldest letter leaves
 unfoldable pub accepted : Part → ℕ → Effect
 accepted p register = becomes p (letter_taken p.heap register) (answer.Letter (oldest_letter p.heap))
+
+-- Put: the owner of the object is asked to put what the register holds into a place of it
+unfoldable pub put_asked : Part → List ℕ → ℕ → ℕ → ℕ → Effect
+put_asked p counts object place register =
+    sends_one p counts (named p.heap object).node (body.Put (named p.heap object) place (register_at p.heap register))
+
+-- Get: the owner of the object is asked for what stands in a place of it
+unfoldable pub get_asked : Part → List ℕ → ℕ → ℕ → ℕ → Effect
+get_asked p counts object place label =
+    sends_one p counts (named p.heap object).node (body.Get (named p.heap object) place label)
 
 -- Data: a message comes from another node
 abbrev pub is_addressed : Part → ℕ → ℕ → Bool
@@ -68,9 +112,35 @@ is_addressed p from to = (to == p.own) && (nat_lt from p.shape.nodes && not (fro
 abbrev pub is_repeat : Part → ℕ → ℕ → Bool
 is_repeat p from number = nat_le number (got_from p from)
 
--- the references that a message carries, in the order in which they are shaded
+-- every reference that stands in a message
+abbrev pub mentioned : Body → List Ref
+mentioned body.Begin = []
+mentioned (body.Token token) = []
+mentioned (body.Mark target) = target ∷ []
+mentioned (body.Give label reference) = option_to_list reference
+mentioned (body.Put target place reference) = target ∷ option_to_list reference
+mentioned (body.Get target place label) = target ∷ []
+mentioned body.Ended = []
+mentioned body.Swept = []
+
+-- The references that a message carries, in the order in which they are shaded. A Mark carries none: it
+-- only asks about one.
 abbrev pub carried : Body → List Ref
+carried body.Begin = []
+carried (body.Token token) = []
+carried (body.Mark target) = []
 carried (body.Give label reference) = option_to_list reference
+carried (body.Put target place reference) = target ∷ option_to_list reference
+carried (body.Get target place label) = target ∷ []
+carried body.Ended = []
+carried body.Swept = []
+
+-- the object of the receiver that a message is about
+abbrev pub target_of : Body → Option Ref
+target_of (body.Mark target) = Some target
+target_of (body.Put target place reference) = Some target
+target_of (body.Get target place label) = Some target
+target_of b = None
 
 abbrev pub is_within : Shaped → Ref → Bool
 is_within shape r = nat_lt r.node shape.nodes && nat_lt r.slot shape.slots
@@ -79,27 +149,40 @@ abbrev pub are_within : Shaped → List Ref → Bool
 are_within shape [] = true
 are_within shape (r ∷ rs) = is_within shape r && are_within shape rs
 
+-- A body that the node with this number may follow: what a message is about is the node's own. The
+-- bodies of marking aren't followed yet.
+abbrev pub may_follow : ℕ → Body → Bool
+may_follow own (body.Give label reference) = true
+may_follow own (body.Put target place reference) = target.node == own
+may_follow own (body.Get target place label) = target.node == own
+may_follow own b = false
+
 -- a message that the node may take in, in its turn
 abbrev pub may_take : Part → ℕ → Body → Bool
-may_take p stamp b = nat_le stamp p.phases.cycle && are_within p.shape (carried b)
+may_take p stamp b = nat_le stamp p.phases.cycle && (are_within p.shape (mentioned b) && may_follow p.own b)
 
 -- the message counts as taken in
 unfoldable pub count_in : Part → ℕ → ℕ → Work
 count_in p from number = record { part = record p { got = slice_set p.got from number }; sends = [] }
 
--- what its body asks for
+-- what its body asks for: a letter is added; a place is written; what stands in a place is sent back
 unfoldable pub take_body : ℕ → Body → Part → Work
 take_body from (body.Give label reference) p =
     record {
       part = record p { heap = with_letter p.heap (record { from = from; label = label; reference = reference }) };
       sends = [];
     }
+take_body from (body.Put target place reference) p =
+    record { part = record p { heap = with_place p.heap target place reference }; sends = [] }
+take_body from (body.Get target place label) p =
+    record {
+      part = p;
+      sends = (from, record { stamp = p.phases.cycle; body = body.Give label (place_of (object_at p.heap target) place) }) ∷ [];
+    }
+take_body from b p = record { part = p; sends = [] }
 
 unfoldable pub taken_in : Part → ℕ → ℕ → ℕ → Body → Effect
 taken_in p from number stamp b = answers (then (count_in p from number) (take_body from b)) answer.Received
-
-abbrev pub unchanged : Part → Answer → Effect
-unchanged p a = record { part = p; sends = []; answer = a }
 
 abbrev pub receipt_tests : Part → ℕ → ℕ → ℕ → ℕ → Body → List (Bool × Refusal)
 receipt_tests p from to number stamp b =
@@ -115,17 +198,33 @@ receipt p from number stamp b =
 -- the tests of an event, in the order of its refusals
 abbrev pub tests : Part → Event → List (Bool × Refusal)
 tests p (event.Alloc register places) = alloc_tests p.shape.slots p.heap register places
+tests p (event.Copy register source) = copy_tests p.heap register source
 tests p (event.Drop register) = drop_tests p.heap register
+tests p (event.Load register object place) = load_tests p.own p.heap register object place
+tests p (event.Store object place register) = store_tests p.own p.heap object place register
+tests p (event.Clear object place) = clear_tests p.own p.heap object place
+tests p (event.Word object) = word_tests p.own p.heap object
+tests p (event.SetWord object word) = word_tests p.own p.heap object
 tests p (event.Give to label register) = (nat_lt to p.shape.nodes, NoNode) ∷ (not (to == p.own), SelfSend) ∷ register_tests p.heap register
 tests p (event.Accept register) = accept_tests p.heap register
+tests p (event.Put object place register) = put_tests p.own p.heap object place register
+tests p (event.Get object place label) = get_tests p.own p.heap object place
 tests p (event.Data d) = receipt_tests p d.from d.to d.number d.stamp d.body
 
--- the effect of an event; counts says for each node how many messages were appended so far
+-- the effect of an event
 abbrev pub made : Part → List ℕ → Event → Effect
 made p counts (event.Alloc register places) = allocated p register places
+made p counts (event.Copy register source) = copied p register source
 made p counts (event.Drop register) = dropped p register
+made p counts (event.Load register object place) = loaded p register object place
+made p counts (event.Store object place register) = stored p object place register
+made p counts (event.Clear object place) = cleared p object place
+made p counts (event.Word object) = word_read p object
+made p counts (event.SetWord object word) = word_set p object word
 made p counts (event.Give to label register) = given p counts to label register
 made p counts (event.Accept register) = accepted p register
+made p counts (event.Put object place register) = put_asked p counts object place register
+made p counts (event.Get object place label) = get_asked p counts object place label
 made p counts (event.Data d) = receipt p d.from d.number d.stamp d.body
 
 -- every message gets a number within the limit
@@ -172,7 +271,12 @@ is_own e = true
 
 -- an event that takes no memory, so that it is never refused for want of it
 abbrev pub is_memory_free : Part → Event → Bool
+is_memory_free p (event.Copy register source) = true
 is_memory_free p (event.Drop register) = true
+is_memory_free p (event.Store object place register) = true
+is_memory_free p (event.Clear object place) = true
+is_memory_free p (event.Word object) = true
+is_memory_free p (event.SetWord object word) = true
 is_memory_free p (event.Accept register) = true
 is_memory_free p (event.Data d) = is_repeat p d.from d.number
 is_memory_free p e = false

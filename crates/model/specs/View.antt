@@ -8,7 +8,7 @@ use Rattle.model.specs.declared.event.Event.{Event}
 use Rattle.model.specs.declared.event.Answer.{Answer}
 use Rattle.model.specs.Checks.{IsFirstRefusal}
 use Rattle.model.specs.State.{Part, NodeState, new_part}
-use Rattle.model.specs.Steps.{Effect, effect}
+use Rattle.model.specs.Steps.{Effect, effect, checked}
 
 -- What a node keeps of the messages to another node: the highest number that was acknowledged, the
 -- messages after it, and how many of all its messages a saved node holds.
@@ -50,6 +50,10 @@ append_to links (m ∷ ms) = append_to (slice_set links m.0 (appended (slice_ind
 abbrev pub view_after : NodeView → Result Effect Refusal → Result (NodeView × Answer) Refusal
 view_after n (Ok x) = Ok (record { part = x.part; links = append_to n.links x.sends }, x.answer)
 view_after n (Err e) = Err e
+
+-- an effect of which only the numbers of its messages may be refused
+abbrev pub view_done : NodeView → Effect → Result (NodeView × Answer) Refusal
+view_done n x = view_after n (checked [] (map used n.links) x)
 
 -- an event of the node as it stands
 unfoldable pub view_act : NodeView → Event → Result (NodeView × Answer) Refusal

@@ -10,17 +10,74 @@ pub struct Letter {
     pub reference: Option<Ref>,
 }
 
-/// What one node may be asked to do. A program names objects by its registers alone.
+/// What one node may be asked to do. A program names objects by its registers alone: `object` is the
+/// register that names one.
 #[derive(Clone, Copy, Debug, PartialEq, Eq)]
 pub enum Event {
     /// Makes a new object with this many empty places, and puts its reference into the register.
-    Alloc { register: u16, places: u8 },
+    Alloc {
+        register: u16,
+        places: u8,
+    },
+    /// Puts into the register what the source register holds.
+    Copy {
+        register: u16,
+        source: u16,
+    },
     /// Empties the register.
-    Drop { register: u16 },
-    /// Sends a letter with the register's reference to another node; an empty register sends none.
-    Give { to: u8, label: u32, register: u16 },
+    Drop {
+        register: u16,
+    },
+    /// Puts into the register what stands in a place of the object, also where that is nothing.
+    Load {
+        register: u16,
+        object: u16,
+        place: u8,
+    },
+    /// Puts what the register holds into a place of the object.
+    Store {
+        object: u16,
+        place: u8,
+        register: u16,
+    },
+    /// Empties a place of the object.
+    Clear {
+        object: u16,
+        place: u8,
+    },
+    /// Reads the word of the object. It changes nothing.
+    Word {
+        object: u16,
+    },
+    /// Writes the word of the object.
+    SetWord {
+        object: u16,
+        word: u64,
+    },
+    /// Sends a letter with the register's reference, or with none where that is empty, to another node.
+    Give {
+        to: u8,
+        label: u32,
+        register: u16,
+    },
     /// Takes the oldest letter, and puts its reference, or nothing, into the register.
-    Accept { register: u16 },
+    Accept {
+        register: u16,
+    },
+    /// Asks the owner of an object of another node to put what the register holds into a place of it; an
+    /// empty register empties the place.
+    Put {
+        object: u16,
+        place: u8,
+        register: u16,
+    },
+    /// Asks the owner of an object of another node for what stands in a place of it. The owner sends it
+    /// back in a letter with this label.
+    Get {
+        object: u16,
+        place: u8,
+        label: u32,
+    },
     /// A message from another node.
     Data(Data),
 }
@@ -32,6 +89,10 @@ pub enum Answer {
     New(Ref),
     /// It is done.
     Done,
+    /// What stood in the place.
+    Value(Option<Ref>),
+    /// The object's word.
+    Word(u64),
     /// The number of the message that was appended.
     Sent(u64),
     /// The letter that was taken.

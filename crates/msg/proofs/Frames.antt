@@ -1,5 +1,5 @@
 -- What is read is spelled so, what is spelled so is read, and no spelling begins another.
-use Rattle.std.proofs.Common.{◌≡◌, ℕ, suc, cond, eqb, List, [], ◌∷◌, ◌++◌, length, Option, Some, None, refl, sym, ap, subst, ◌∙◌, arith}
+use Rattle.std.proofs.Common.{◌≡◌, ℕ, ◌<◌, ◌^◌, true, cond, eqb, List, [], ◌∷◌, ◌++◌, length, Option, Some, None, refl, sym, ap, subst, ◌∙◌, arith}
 use Rattle.std.specs.Prelude.{IfOk}
 use Rattle.std.specs.Option.{option_map, ok_or}
 use Rattle.std.specs.Result.{IsOkAnd}
@@ -10,51 +10,80 @@ use Rattle.std.proofs.lemmas.Option.{cond_some}
 use Rattle.ids.specs.declared.refusal.Refusal.{Refusal}
 use Rattle.msg.specs.declared.body.Body.{Body}
 use Rattle.msg.specs.declared.frame.Frame.{Frame}
-use Rattle.msg.specs.Limits.{data_fits}
-use Rattle.msg.specs.Grammar.{Plain, data_frame, body_bytes, spelling, Fits}
+use Rattle.msg.specs.Grammar.{Plain, data_frame, ack_frame, head_bytes, body_bytes, spelling, frame_fits, Fits, IsOfWidth}
 use Rattle.msg.specs.Frames.{plain}
-use Rattle.msg.specs.Reading.{◌>>=◌, byte_at, number_at, body_at, data_at, frame_at, whole}
-use Rattle.msg.proofs.Limits.{data_fits_is}
-use Rattle.msg.proofs.Fields.{IsBytes, bind_some, Takes, Takes-then, Takes-behind, byte_read, number64_read}
-use Rattle.msg.proofs.Bodies.{tagged, body_read}
+use Rattle.msg.specs.Reading.{one_at, three_at, number_at, body_at, head_at, data_at, ack_at, frame_at, whole}
+use Rattle.msg.proofs.Limits.{data_fits_is, ack_fits_is}
+use Rattle.msg.proofs.Fields.{IsBytes, bind_some, Takes, Found, Reads, three_found, three_again, one_found, one_again, kept_found, kept_again, tagged_takes, byte_read, number64_read}
+use Rattle.msg.proofs.Bodies.{body_read}
 
-data_takes : (bytes : List ℕ) (x : Plain × List ℕ) → IsBytes bytes → data_at bytes ≡ Some x → Takes (0x44 ∷ bytes) (spelling x.0) x.1 × Fits x.0
-unfolding data_at
-data_takes bytes x fits e =
-    let a = bind_some (byte_at bytes) (λ from. byte_at from.1 >>= λ to. number_at 8 to.1 >>= λ number. number_at 8 number.1 >>= λ stamp. body_at stamp.1 >>= λ body. cond (data_fits from.0 to.0 number.0 stamp.0 body.0) (Some (data_frame from.0 to.0 number.0 stamp.0 body.0, body.1)) None) x e in
-    let b = bind_some (byte_at a.0.1) (λ to. number_at 8 to.1 >>= λ number. number_at 8 number.1 >>= λ stamp. body_at stamp.1 >>= λ body. cond (data_fits a.0.0 to.0 number.0 stamp.0 body.0) (Some (data_frame a.0.0 to.0 number.0 stamp.0 body.0, body.1)) None) x a.2 in
-    let c = bind_some (number_at 8 b.0.1) (λ number. number_at 8 number.1 >>= λ stamp. body_at stamp.1 >>= λ body. cond (data_fits a.0.0 b.0.0 number.0 stamp.0 body.0) (Some (data_frame a.0.0 b.0.0 number.0 stamp.0 body.0, body.1)) None) x b.2 in
-    let d = bind_some (number_at 8 c.0.1) (λ stamp. body_at stamp.1 >>= λ body. cond (data_fits a.0.0 b.0.0 c.0.0 stamp.0 body.0) (Some (data_frame a.0.0 b.0.0 c.0.0 stamp.0 body.0, body.1)) None) x c.2 in
-    let f = bind_some (body_at d.0.1) (λ body. cond (data_fits a.0.0 b.0.0 c.0.0 d.0.0 body.0) (Some (data_frame a.0.0 b.0.0 c.0.0 d.0.0 body.0, body.1)) None) x d.2 in
-    let made : Plain × List ℕ = (data_frame a.0.0 b.0.0 c.0.0 d.0.0 f.0.0, f.0.1) in
-    let g = cond_some (data_fits a.0.0 b.0.0 c.0.0 d.0.0 f.0.0) made x f.2 in
-    let from = byte_read.takes bytes a.0 fits a.1 in
-    let to = byte_read.takes a.0.1 b.0 from.0.rest_fits b.1 in
-    let number = number64_read.takes b.0.1 c.0 to.0.rest_fits c.1 in
-    let stamp = number64_read.takes c.0.1 d.0 number.0.rest_fits d.1 in
-    let body = body_read.takes d.0.1 f.0 stamp.0.rest_fits f.1 in
-    let t1 = Takes-then c.0.1 (to_be_bytes w64 d.0.0) d.0.1 (body_bytes f.0.0) f.0.1 stamp.0 body.0 in
-    let t2 = Takes-then b.0.1 (to_be_bytes w64 c.0.0) c.0.1 (to_be_bytes w64 d.0.0 ++ body_bytes f.0.0) f.0.1 number.0 t1 in
-    let t3 = Takes-then a.0.1 (b.0.0 ∷ []) b.0.1 (to_be_bytes w64 c.0.0 ++ (to_be_bytes w64 d.0.0 ++ body_bytes f.0.0)) f.0.1 to.0 t2 in
-    let t4 = Takes-then bytes (a.0.0 ∷ []) a.0.1 (b.0.0 ∷ (to_be_bytes w64 c.0.0 ++ (to_be_bytes w64 d.0.0 ++ body_bytes f.0.0))) f.0.1 from.0 t3 in
-    subst (λ (y : Plain × List ℕ). Takes (0x44 ∷ bytes) (spelling y.0) y.1 × Fits y.0) {x = made} g.1 (Takes-behind 0x44 bytes (a.0.0 ∷ (b.0.0 ∷ (to_be_bytes w64 c.0.0 ++ (to_be_bytes w64 d.0.0 ++ body_bytes f.0.0)))) f.0.1 t4, (g.0, body.1))
+-- ---- from, to and number
 
-data_again : (from to number stamp : ℕ) (body : Body) (rest : List ℕ) → Fits (data_frame from to number stamp body) → data_at (from ∷ (to ∷ (to_be_bytes w64 number ++ (to_be_bytes w64 stamp ++ (body_bytes body ++ rest))))) ≡ Some (data_frame from to number stamp body, rest)
+abbrev Head : Type 0
+Head = ℕ × ℕ × ℕ
+
+abbrev spell_head : Head → List ℕ
+spell_head head = head_bytes head.0 head.1 head.2
+
+abbrev IsHeadOfWidth : Head → Type 0
+IsHeadOfWidth head = (head.0 < 256) × (head.1 < 256) × (head.2 < 2 ^ 64)
+
+head_takes : (bytes : List ℕ) (x : Head × List ℕ) → IsBytes bytes → head_at bytes ≡ Some x → Takes bytes (spell_head x.0) x.1 × IsHeadOfWidth x.0
+unfolding head_at
+head_takes bytes x fits e = (three_found byte_read byte_read number64_read [] spell_head IsHeadOfWidth (λ from to number. (from, to, number)) (λ from to number f t n. (refl, (f, t, n)))).takes bytes x fits e
+
+head_again : (head : Head) (rest : List ℕ) → IsHeadOfWidth head → head_at (spell_head head ++ rest) ≡ Some (head, rest)
+unfolding head_at
+head_again head rest fits = three_again byte_read byte_read number64_read (λ from to number. (from, to, number)) head.0 head.1 head.2 rest fits.0 fits.1 fits.2
+
+head_read : Reads Head spell_head IsHeadOfWidth head_at
+head_read = record { takes = head_takes; again = head_again }
+
+-- ---- frames, each behind its first byte
+
+abbrev IsFrameOfWidth : Plain → Type 0
+IsFrameOfWidth (data_frame from to number stamp body) = IsOfWidth body
+IsFrameOfWidth (ack_frame from to number) = Unit
+
+Fits-from : (f : Plain) → frame_fits f ≡ true → IsFrameOfWidth f → Fits f
+Fits-from (data_frame from to number stamp body) h w = (h, w)
+Fits-from (ack_frame from to number) h w = h
+
+data_found : Found Plain (0x44 ∷ []) spelling Fits data_at
 unfolding data_at
-data_again from to number stamp body rest fits =
-    let within = data_fits_is from to number stamp body fits.0 in
-    rw (number64_read.again number (to_be_bytes w64 stamp ++ (body_bytes body ++ rest)) (omega (arith, within.last)), number64_read.again stamp (body_bytes body ++ rest) (omega (arith, within.cycle)), body_read.again body rest fits.1, fits.0) refl
+data_found = kept_found (three_found head_read number64_read body_read (0x44 ∷ []) spelling IsFrameOfWidth (λ head stamp says. data_frame head.0 head.1 head.2 stamp says) (λ head stamp says h s b. (refl, b))) frame_fits Fits Fits-from
+
+ack_found : Found Plain (0x41 ∷ []) spelling Fits ack_at
+unfolding ack_at
+ack_found = kept_found (one_found head_read (0x41 ∷ []) spelling IsFrameOfWidth (λ head. ack_frame head.0 head.1 head.2) (λ head h. (refl, tt))) frame_fits Fits Fits-from
 
 frame_takes : (bytes : List ℕ) (x : Plain × List ℕ) → IsBytes bytes → frame_at bytes ≡ Some x → Takes bytes (spelling x.0) x.1 × Fits x.0
 unfolding frame_at
-frame_takes [] x fits e = absurd cc
-frame_takes (kind ∷ bytes) x fits e =
-    let a = tagged (eqb kind 0x44) (data_at bytes) x e in
-    subst (λ (k : ℕ). Takes (k ∷ bytes) (spelling x.0) x.1 × Fits x.0) (sym (eqb-true _ _ a.0)) (data_takes bytes x (λ i. fits (suc i)) a.1)
+frame_takes bytes x fits e = tagged_takes spelling Fits ((0x44, data_at) ∷ (0x41, ack_at) ∷ []) (data_found, (ack_found, tt)) bytes x fits e
+
+data_again : (from to number stamp : ℕ) (body : Body) (rest : List ℕ) → Fits (data_frame from to number stamp body) → data_at (head_bytes from to number ++ (to_be_bytes w64 stamp ++ (body_bytes body ++ rest))) ≡ Some (data_frame from to number stamp body, rest)
+unfolding data_at
+data_again from to number stamp body rest fits =
+    let within = data_fits_is from to number stamp body fits.0 in
+    let make : Head → ℕ → Body → Plain = λ head stamp says. data_frame head.0 head.1 head.2 stamp says in
+    let head : IsHeadOfWidth (from, to, number) = (omega (arith, within.from_node), omega (arith, within.to_node), omega (arith, within.last)) in
+    let read = three_again head_read number64_read body_read make (from, to, number) stamp body rest head (omega (arith, within.cycle)) fits.1 in
+    kept_again (three_at head_at (number_at 8) body_at make) frame_fits (head_bytes from to number ++ (to_be_bytes w64 stamp ++ (body_bytes body ++ rest))) (data_frame from to number stamp body) rest read fits.0
+
+ack_again : (from to number : ℕ) (rest : List ℕ) → Fits (ack_frame from to number) → ack_at (head_bytes from to number ++ rest) ≡ Some (ack_frame from to number, rest)
+unfolding ack_at
+ack_again from to number rest fits =
+    let within = ack_fits_is from to number fits in
+    let make : Head → Plain = λ head. ack_frame head.0 head.1 head.2 in
+    let head : IsHeadOfWidth (from, to, number) = (omega (arith, within.from_node), omega (arith, within.to_node), omega (arith, within.last)) in
+    kept_again (one_at head_at make) frame_fits (head_bytes from to number ++ rest) (ack_frame from to number) rest (one_again head_read make (from, to, number) rest head) fits
 
 frame_again : (f : Plain) (rest : List ℕ) → Fits f → frame_at (spelling f ++ rest) ≡ Some (f, rest)
 unfolding frame_at
 frame_again (data_frame from to number stamp body) rest fits = data_again from to number stamp body rest fits
+frame_again (ack_frame from to number) rest fits = ack_again from to number rest fits
+
+-- ---- all of the bytes
 
 whole_takes : (bytes : List ℕ) (f : Plain) → IsBytes bytes → whole bytes ≡ Some f → Fits f × (bytes ≡ spelling f)
 unfolding whole

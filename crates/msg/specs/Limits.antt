@@ -1,9 +1,9 @@
 -- What a frame may hold, as tests.
 use Rattle.std.specs.Prelude.{ℕ, ◌==◌, ◌&&◌, nat_lt, nat_le, Bool, true, not, Option, Some, None}
 use Rattle.ids.specs.declared.names.Ref.{Ref}
-use Rattle.ids.specs.declared.limits.TheConstants.{GREATEST_NODES, GREATEST_SLOTS, GREATEST_NUMBER, GREATEST_CYCLE}
+use Rattle.ids.specs.declared.limits.TheConstants.{GREATEST_NODES, GREATEST_SLOTS, GREATEST_PLACES, GREATEST_NUMBER, GREATEST_CYCLE}
 use Rattle.msg.specs.declared.body.Body.{Body}
-use Rattle.msg.specs.declared.body.Body.TheVariants.{Give}
+use Rattle.msg.specs.declared.body.Body.TheVariants as body
 
 -- a reference within the limits
 abbrev pub reference_fits : Ref → Bool
@@ -13,10 +13,29 @@ abbrev pub optional_fits : Option Ref → Bool
 optional_fits None = true
 optional_fits (Some r) = reference_fits r
 
--- a body whose references are within the limits
+-- a place of an object
+abbrev pub place_fits : Ref → ℕ → Bool
+place_fits target place = reference_fits target && nat_lt place GREATEST_PLACES
+
+-- a body whose references and places are within the limits
 abbrev pub body_fits : Body → Bool
-body_fits (Give label reference) = optional_fits reference
+body_fits body.Begin = true
+body_fits (body.Token token) = true
+body_fits (body.Mark target) = reference_fits target
+body_fits (body.Give label reference) = optional_fits reference
+body_fits (body.Put target place reference) = place_fits target place && optional_fits reference
+body_fits (body.Get target place label) = place_fits target place
+body_fits body.Ended = true
+body_fits body.Swept = true
+
+-- two different nodes
+abbrev pub nodes_fit : ℕ → ℕ → Bool
+nodes_fit from to = nat_lt from GREATEST_NODES && (nat_lt to GREATEST_NODES && not (from == to))
 
 -- the parts of a data frame: two different nodes, the message's number, its stamp and its body
 abbrev pub data_fits : ℕ → ℕ → ℕ → ℕ → Body → Bool
-data_fits from to number stamp body = nat_lt from GREATEST_NODES && (nat_lt to GREATEST_NODES && (not (from == to) && (nat_le 1 number && (nat_le number GREATEST_NUMBER && (nat_le stamp GREATEST_CYCLE && body_fits body)))))
+data_fits from to number stamp body = nodes_fit from to && (nat_le 1 number && (nat_le number GREATEST_NUMBER && (nat_le stamp GREATEST_CYCLE && body_fits body)))
+
+-- the parts of an acknowledgement: two different nodes, and a number
+abbrev pub ack_fits : ℕ → ℕ → ℕ → Bool
+ack_fits from to number = nodes_fit from to && nat_le number GREATEST_NUMBER

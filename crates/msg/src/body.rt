@@ -18,8 +18,35 @@ pub struct Token {
 /// What a message says.
 #[derive(Clone, Copy, Debug, PartialEq, Eq)]
 pub enum Body {
+    /// A collection cycle begins.
+    Begin,
+    /// The token is handed on to the receiver.
+    Token(Token),
+    /// Asks the receiver to mark this object of its own.
+    Mark {
+        target: Ref,
+    },
     /// A letter to the receiver's program: a label, and a reference where one is sent.
-    Give { label: u32, reference: Option<Ref> },
+    Give {
+        label: u32,
+        reference: Option<Ref>,
+    },
+    /// Asks the receiver to write the reference, or none, into a place of its object.
+    Put {
+        target: Ref,
+        place: u8,
+        reference: Option<Ref>,
+    },
+    /// Asks the receiver to send back what a place of its object holds, as a letter with this label.
+    Get {
+        target: Ref,
+        place: u8,
+        label: u32,
+    },
+    /// Marking has ended.
+    Ended,
+    /// The sender has swept.
+    Swept,
 }
 
 /// A message as its sender keeps it: the sender's cycle when it was appended, and what it says. Its

@@ -1,9 +1,9 @@
 ghost use Rattle.std.specs.Prelude.{◌≡◌, ◌++◌, [], ℕ, List, IsTrue, IsSome, IfSome, ◌↔◌};
-ghost use Rattle.msg.specs.Limits.{reference_fits, optional_fits, body_fits, data_fits};
-ghost use Rattle.msg.specs.Grammar.{Plain, Fits, spelling, data_frame};
+ghost use Rattle.msg.specs.Limits.{nodes_fit, reference_fits, optional_fits, place_fits, body_fits, data_fits, ack_fits};
+ghost use Rattle.msg.specs.Grammar.{Plain, Fits, spelling, data_frame, ack_frame};
 
 use crate::body::Body;
-use ids::{GREATEST_CYCLE, GREATEST_NODES, GREATEST_NUMBER, GREATEST_SLOTS, Ref};
+use ids::{GREATEST_CYCLE, GREATEST_NODES, GREATEST_NUMBER, GREATEST_PLACES, GREATEST_SLOTS, Ref};
 
 /// A message on its way from one node to another: its number on their link, the sender's cycle when it
 /// was appended, and what it says. The two nodes differ, the number is 1 to [`GREATEST_NUMBER`], the
@@ -18,11 +18,29 @@ pub struct Data {
     pub ghost fits: { IsTrue (data_fits from to number stamp body) },
 }
 
+/// Word from one node to another that the first has taken in and saved all messages of the second up to
+/// this number. The two nodes differ, and the number is at most [`GREATEST_NUMBER`].
+#[derive(Clone, Copy, Debug, PartialEq, Eq)]
+pub struct Ack {
+    pub from: u8,
+    pub to: u8,
+    pub number: u64,
+    pub ghost fits: { IsTrue (ack_fits from to number) },
+}
+
 /// What goes from one node to another at once.
-#[derive(Clone, Copy)]
+#[derive(Clone, Copy, Debug, PartialEq, Eq)]
 pub enum Frame {
     /// A message.
     Data(Data),
+    /// An acknowledgement.
+    Ack(Ack),
+}
+
+fn nodes_fit(from: u8, to: u8) -> bool
+    ensures { result ≡ nodes_fit from to }
+{
+    from < GREATEST_NODES && to < GREATEST_NODES && from != to
 }
 
 fn reference_fits(reference: Ref) -> bool
@@ -31,11 +49,31 @@ fn reference_fits(reference: Ref) -> bool
     reference.node < GREATEST_NODES && reference.slot < GREATEST_SLOTS && reference.generation >= 1
 }
 
+fn optional_fits(reference: Option<Ref>) -> bool
+    ensures { result ≡ optional_fits reference }
+{
+    reference.is_none_or(reference_fits)
+}
+
+fn place_fits(target: Ref, place: u8) -> bool
+    ensures { result ≡ place_fits target place }
+{
+    reference_fits(target) && place < GREATEST_PLACES
+}
+
 fn body_fits(body: Body) -> bool
     ensures { result ≡ body_fits body }
 {
     match body {
-        Body::Give { reference, .. } => reference.is_none_or(reference_fits),
+        Body::Begin | Body::Token(_) | Body::Ended | Body::Swept => true,
+        Body::Mark { target } => reference_fits(target),
+        Body::Give { reference, .. } => optional_fits(reference),
+        Body::Put {
+            target,
+            place,
+            reference,
+        } => place_fits(target, place) && optional_fits(reference),
+        Body::Get { target, place, .. } => place_fits(target, place),
     }
 }
 
@@ -47,9 +85,8 @@ impl Data {
         ensures within { IsSome result ↔ IsTrue (data_fits from to number stamp body) }
         ensures value { IfSome result (λ d. plain_data d ≡ data_frame from to number stamp body) }
     {
-        let nodes_fit = from < GREATEST_NODES && to < GREATEST_NODES && from != to;
         let number_fits = 1 <= number && number <= GREATEST_NUMBER;
-        if nodes_fit && number_fits && stamp <= GREATEST_CYCLE && body_fits(body) {
+        if nodes_fit(from, to) && number_fits && stamp <= GREATEST_CYCLE && body_fits(body) {
             Some(Data {
                 from,
                 to,
@@ -57,6 +94,22 @@ impl Data {
                 stamp,
                 body,
             })
+        } else {
+            None
+        }
+    }
+}
+
+impl Ack {
+    ghost use Rattle.msg.specs.Frames.{plain_ack};
+
+    /// The acknowledgement of these parts, where they are within the limits.
+    pub fn new(from: u8, to: u8, number: u64) -> Option<Ack>
+        ensures within { IsSome result ↔ IsTrue (ack_fits from to number) }
+        ensures value { IfSome result (λ a. plain_ack a ≡ ack_frame from to number) }
+    {
+        if nodes_fit(from, to) && number <= GREATEST_NUMBER {
+            Some(Ack { from, to, number })
         } else {
             None
         }

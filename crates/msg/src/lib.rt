@@ -1,10 +1,23 @@
 //! What nodes say to each other, and how it is spelled as bytes.
 //!
-//! A frame is the whole of its bytes, and its numbers are big-endian. A message is the byte 44 hex, the
-//! sender and the receiver in a byte each, the message's number and stamp in eight bytes each, and a
-//! body: a tag, and what the body says. A letter has tag 4: a label in four bytes, and then the byte 0,
-//! or the byte 1 and a reference. A reference is its node in one byte, and its slot and its generation
-//! in four bytes each.
+//! A frame is the whole of its bytes, and its numbers are big-endian. An acknowledgement is the byte 41
+//! hex, the node that acknowledges and the other node in a byte each, and a number in eight bytes. A
+//! message is the byte 44 hex, the sender, the receiver and the message's number likewise, its stamp in
+//! eight bytes, and a body: a tag, and what the body says.
+//!
+//! | Tag | Body | What it says |
+//! |---|---|---|
+//! | 1 | Begin | |
+//! | 2 | Token | a colour (0 white, 1 black), and q in eight bytes, in two's complement |
+//! | 3 | Mark | a reference |
+//! | 4 | Give | a label in four bytes, and an optional reference |
+//! | 5 | Put | a reference, a place in one byte, and an optional reference |
+//! | 6 | Get | a reference, a place in one byte, and a label in four bytes |
+//! | 7 | Ended | |
+//! | 8 | Swept | |
+//!
+//! A reference is its node in one byte, and its slot and its generation in four bytes each. An optional
+//! one is the byte 0, or the byte 1 and a reference.
 #![tactic(auto)]
 
 mod body;
@@ -14,7 +27,7 @@ mod tags;
 mod writing;
 
 pub use body::{Body, Colour, Message, Token};
-pub use frame::{Data, Frame, grammar};
+pub use frame::{Ack, Data, Frame, grammar};
 pub use reading::decode;
 pub use writing::encode;
 

@@ -3,12 +3,14 @@ ghost use Rattle.std.specs.Option.{option_map};
 ghost use Rattle.std.specs.Result.{IsOkAnd};
 ghost use Rattle.ids.specs.declared.refusal.Refusal.TheVariants.{BadFrame};
 ghost use Rattle.msg.specs.Grammar.{Plain, Fits, spelling};
-ghost use Rattle.msg.specs.Frames.{plain, plain_data};
-ghost use Rattle.msg.specs.Reading.{byte_at, number_at, reference_at, optional_at, give_at, body_at, data_at, frame_at, whole};
+ghost use Rattle.msg.specs.Frames.{plain, plain_data, plain_ack};
+ghost use Rattle.msg.specs.Reading.{byte_at, number_at, signed_at, reference_at, optional_at, colour_at, token_at, give_at, put_at, get_at, body_at, head_at, data_at, ack_at, frame_at, whole};
 
-use crate::body::Body;
-use crate::frame::{Data, Frame};
-use crate::tags::{ABSENT, DATA, GIVE, PRESENT};
+use crate::body::{Body, Colour, Token};
+use crate::frame::{Ack, Data, Frame};
+use crate::tags::{
+    ABSENT, ACK, BEGIN, BLACK, DATA, ENDED, GET, GIVE, MARK, PRESENT, PUT, SWEPT, TOKEN, WHITE,
+};
 use byteorder::{BigEndian, ByteOrder};
 use ids::{Ref, Refusal};
 
@@ -37,6 +39,16 @@ fn u64_at(bytes: &[u8]) -> Option<(u64, &[u8])>
         return None;
     }
     Some((BigEndian::read_u64(bytes), &bytes[8..]))
+}
+
+#[tactic(auto, unfolding(crate::specs::Reading::signed_at))]
+fn i64_at(bytes: &[u8]) -> Option<(i64, &[u8])>
+    ensures { signed_at bytes.now ≡ option_map (λ x. (x.0, x.1.now)) result }
+{
+    if bytes.len() < 8 {
+        return None;
+    }
+    Some((BigEndian::read_i64(bytes), &bytes[8..]))
 }
 
 #[tactic(auto, unfolding(crate::specs::Reading::reference_at))]
@@ -69,6 +81,27 @@ fn optional_at(bytes: &[u8]) -> Option<(Option<Ref>, &[u8])>
     }
 }
 
+#[tactic(auto, unfolding(crate::specs::Reading::colour_at))]
+fn colour_at(bytes: &[u8]) -> Option<(Colour, &[u8])>
+    ensures { colour_at bytes.now ≡ option_map (λ x. (x.0, x.1.now)) result }
+{
+    let (flag, rest) = u8_at(bytes)?;
+    match flag {
+        WHITE => Some((Colour::White, rest)),
+        BLACK => Some((Colour::Black, rest)),
+        _ => None,
+    }
+}
+
+#[tactic(auto, unfolding(crate::specs::Reading::token_at))]
+fn token_at(bytes: &[u8]) -> Option<(Token, &[u8])>
+    ensures { token_at bytes.now ≡ option_map (λ x. (x.0, x.1.now)) result }
+{
+    let (colour, rest) = colour_at(bytes)?;
+    let (q, rest) = i64_at(rest)?;
+    Some((Token { colour, q }, rest))
+}
+
 #[tactic(auto, unfolding(crate::specs::Reading::give_at))]
 fn give_at(bytes: &[u8]) -> Option<(Body, &[u8])>
     ensures { give_at bytes.now ≡ option_map (λ x. (x.0, x.1.now)) result }
@@ -78,28 +111,88 @@ fn give_at(bytes: &[u8]) -> Option<(Body, &[u8])>
     Some((Body::Give { label, reference }, rest))
 }
 
+#[tactic(auto, unfolding(crate::specs::Reading::put_at))]
+fn put_at(bytes: &[u8]) -> Option<(Body, &[u8])>
+    ensures { put_at bytes.now ≡ option_map (λ x. (x.0, x.1.now)) result }
+{
+    let (target, rest) = reference_at(bytes)?;
+    let (place, rest) = u8_at(rest)?;
+    let (reference, rest) = optional_at(rest)?;
+    let body = Body::Put {
+        target,
+        place,
+        reference,
+    };
+    Some((body, rest))
+}
+
+#[tactic(auto, unfolding(crate::specs::Reading::get_at))]
+fn get_at(bytes: &[u8]) -> Option<(Body, &[u8])>
+    ensures { get_at bytes.now ≡ option_map (λ x. (x.0, x.1.now)) result }
+{
+    let (target, rest) = reference_at(bytes)?;
+    let (place, rest) = u8_at(rest)?;
+    let (label, rest) = u32_at(rest)?;
+    let body = Body::Get {
+        target,
+        place,
+        label,
+    };
+    Some((body, rest))
+}
+
 #[tactic(auto, unfolding(crate::specs::Reading::body_at))]
 fn body_at(bytes: &[u8]) -> Option<(Body, &[u8])>
     ensures { body_at bytes.now ≡ option_map (λ x. (x.0, x.1.now)) result }
 {
     let (tag, rest) = u8_at(bytes)?;
     match tag {
+        BEGIN => Some((Body::Begin, rest)),
+        TOKEN => {
+            let (token, rest) = token_at(rest)?;
+            Some((Body::Token(token), rest))
+        }
+        MARK => {
+            let (target, rest) = reference_at(rest)?;
+            Some((Body::Mark { target }, rest))
+        }
         GIVE => give_at(rest),
+        PUT => put_at(rest),
+        GET => get_at(rest),
+        ENDED => Some((Body::Ended, rest)),
+        SWEPT => Some((Body::Swept, rest)),
         _ => None,
     }
+}
+
+#[tactic(auto, unfolding(crate::specs::Reading::head_at))]
+fn head_at(bytes: &[u8]) -> Option<((u8, u8, u64), &[u8])>
+    ensures { head_at bytes.now ≡ option_map (λ x. (x.0, x.1.now)) result }
+{
+    let (from, rest) = u8_at(bytes)?;
+    let (to, rest) = u8_at(rest)?;
+    let (number, rest) = u64_at(rest)?;
+    Some(((from, to, number), rest))
 }
 
 #[tactic(auto, unfolding(crate::specs::Reading::data_at))]
 fn data_at(bytes: &[u8]) -> Option<(Data, &[u8])>
     ensures { data_at bytes.now ≡ option_map (λ x. (plain_data x.0, x.1.now)) result }
 {
-    let (from, rest) = u8_at(bytes)?;
-    let (to, rest) = u8_at(rest)?;
-    let (number, rest) = u64_at(rest)?;
+    let ((from, to, number), rest) = head_at(bytes)?;
     let (stamp, rest) = u64_at(rest)?;
     let (body, rest) = body_at(rest)?;
     let data = Data::new(from, to, number, stamp, body)?;
     Some((data, rest))
+}
+
+#[tactic(auto, unfolding(crate::specs::Reading::ack_at))]
+fn ack_at(bytes: &[u8]) -> Option<(Ack, &[u8])>
+    ensures { ack_at bytes.now ≡ option_map (λ x. (plain_ack x.0, x.1.now)) result }
+{
+    let ((from, to, number), rest) = head_at(bytes)?;
+    let ack = Ack::new(from, to, number)?;
+    Some((ack, rest))
 }
 
 #[tactic(auto, unfolding(crate::specs::Reading::frame_at))]
@@ -111,6 +204,10 @@ fn frame_at(bytes: &[u8]) -> Option<(Frame, &[u8])>
         DATA => {
             let (data, rest) = data_at(rest)?;
             Some((Frame::Data(data), rest))
+        }
+        ACK => {
+            let (ack, rest) = ack_at(rest)?;
+            Some((Frame::Ack(ack), rest))
         }
         _ => None,
     }

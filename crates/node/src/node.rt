@@ -1,18 +1,21 @@
-ghost use Rattle.std.specs.Prelude.{◌≡◌, ◌≢◌, ◌+◌, ◌<◌, ◌≤◌, ℕ, map, Some, IsTrue, IfOk, IfErr, OnErr};
-ghost use Rattle.ids.specs.declared.refusal.Refusal.TheVariants.{Memory, NoNode};
+ghost use Rattle.std.specs.Prelude.{◌≡◌, ◌≢◌, ◌+◌, ◌<◌, ◌≤◌, ℕ, [], ◌∷◌, true, false, map, option_to_list, slice_index_or, Some, IsTrue, IfOk, IfErr, OnErr};
+ghost use Rattle.ids.specs.declared.refusal.Refusal.TheVariants.{LinkSpent, Memory, NoNode};
 ghost use Rattle.model.specs.State.{NodeState};
 ghost use Rattle.model.specs.Checks.{IsFirstRefusal};
-ghost use Rattle.model.specs.Steps.{act, is_addressed, may_take, is_memory_free};
-ghost use Rattle.model.specs.References.{IsSendable};
+ghost use Rattle.std.specs.List.{AllByRecursion};
+ghost use Rattle.model.specs.Steps.{act, fits, answers, then, count_in, take_body, mentioned, is_within, are_within, may_follow, is_addressed, may_take, is_memory_free};
+ghost use Rattle.model.specs.References.{IsWithin, IsSendable};
 ghost use Rattle.ids.specs.declared.limits.TheConstants.{GREATEST_NUMBER};
-ghost use Rattle.model.specs.View.{is_other, Shows, Follows, Performs, view_act, new_view, kept_view, link_to, used, base_of, kept_of};
+ghost use Rattle.model.specs.View.{is_other, Shows, Follows, Performs, view_act, view_done, append_to, new_view, kept_view, link_to, used, base_of, kept_of};
 ghost use Rattle.model.specs.declared.event.Event.TheVariants as event;
+ghost use Rattle.model.specs.declared.event.Answer.TheVariants as answer;
+ghost use Rattle.msg.specs.declared.body.Body.TheVariants as body;
 
 use crate::link::Link;
 use crate::links::{append, copy_links, keep_all, new_links};
 use crate::summary::Summary;
 use heap::Heap;
-use ids::{NodeId, Refusal, Shape};
+use ids::{GREATEST_PLACES, NodeId, Ref, Refusal, Shape};
 use model::{Answer, Event, Letter};
 use msg::{Body, Colour, Data, Frame, Message};
 use std::alloc::Global;
@@ -69,8 +72,9 @@ impl Node {
     }
 
     /// Performs one event. The refusals come in the order in which docs/RULES.md lists them for each
-    /// event; `Memory` where a growth was refused. A refused event changes nothing. `Drop`, `Accept` and
-    /// a message that was taken in before take no memory.
+    /// event; `Memory` where a growth was refused. A refused event changes nothing. `Copy`, `Drop`,
+    /// `Store`, `Clear`, `Word`, `SetWord`, `Accept` and a message that was taken in before take no memory,
+    /// and `Word` and such a message change nothing.
     pub fn act(&mut self, event: Event) -> Result<Answer, Refusal>
         ensures states { (s : NodeState) → Shows self.old s → Follows result self.new (act s event) }
         ensures unchanged { OnErr result (self.new ≡ self.old) }
@@ -92,13 +96,37 @@ impl Node {
     {
         match event {
             Event::Alloc { register, places } => self.allocate(register, places),
+            Event::Copy { register, source } => self.copy_register(register, source),
             Event::Drop { register } => self.drop_register(register),
+            Event::Load {
+                register,
+                object,
+                place,
+            } => self.load(register, object, place),
+            Event::Store {
+                object,
+                place,
+                register,
+            } => self.store(object, place, register),
+            Event::Clear { object, place } => self.clear(object, place),
+            Event::Word { object } => self.word(object),
+            Event::SetWord { object, word } => self.set_word(object, word),
             Event::Give {
                 to,
                 label,
                 register,
             } => self.give(to, label, register),
             Event::Accept { register } => self.accept(register),
+            Event::Put {
+                object,
+                place,
+                register,
+            } => self.put(object, place, register),
+            Event::Get {
+                object,
+                place,
+                label,
+            } => self.get(object, place, label),
             Event::Data(frame) => self.take_in(frame),
         }
     }
@@ -116,6 +144,18 @@ impl Node {
         Ok(Answer::New(reference))
     }
 
+    #[tactic(auto, unfolding(model::specs::View::view_act, model::specs::Steps::copied, model::specs::Heaps::heap_copy))]
+    fn copy_register(&mut self, register: u16, source: u16) -> Result<Answer, Refusal>
+        ensures performs { Performs result self.new (view_act self.old (event.Copy register source)) }
+        ensures unchanged { OnErr result (self.new ≡ self.old) }
+        ensures place { (self.new.part.shape ≡ self.old.part.shape) × (self.new.part.own ≡ self.old.part.own) }
+        ensures memory_free { IfErr result (λ e. e ≢ Memory) }
+        ensures links { self.new.links ≡ self.old.links }
+    {
+        self.heap.copy_register(register, source)?;
+        Ok(Answer::Done)
+    }
+
     #[tactic(auto, unfolding(model::specs::View::view_act, model::specs::Steps::dropped, model::specs::Heaps::heap_drop))]
     fn drop_register(&mut self, register: u16) -> Result<Answer, Refusal>
         ensures performs { Performs result self.new (view_act self.old (event.Drop register)) }
@@ -125,6 +165,66 @@ impl Node {
         ensures links { self.new.links ≡ self.old.links }
     {
         self.heap.drop_register(register)?;
+        Ok(Answer::Done)
+    }
+
+    #[tactic(auto, unfolding(model::specs::View::view_act, model::specs::Steps::loaded, model::specs::Heaps::heap_load))]
+    fn load(&mut self, register: u16, object: u16, place: u8) -> Result<Answer, Refusal>
+        ensures performs { Performs result self.new (view_act self.old (event.Load register object place)) }
+        ensures unchanged { OnErr result (self.new ≡ self.old) }
+        ensures place { (self.new.part.shape ≡ self.old.part.shape) × (self.new.part.own ≡ self.old.part.own) }
+        ensures links { self.new.links ≡ self.old.links }
+    {
+        let own = self.own;
+        let value = self.heap.load(own, register, object, place)?;
+        Ok(Answer::Value(value))
+    }
+
+    #[tactic(auto, using(crate::proofs::Sound::store_references), unfolding(model::specs::View::view_act, model::specs::Steps::stored, model::specs::Heaps::heap_store))]
+    fn store(&mut self, object: u16, place: u8, register: u16) -> Result<Answer, Refusal>
+        ensures performs { Performs result self.new (view_act self.old (event.Store object place register)) }
+        ensures unchanged { OnErr result (self.new ≡ self.old) }
+        ensures place { (self.new.part.shape ≡ self.old.part.shape) × (self.new.part.own ≡ self.old.part.own) }
+        ensures memory_free { IfErr result (λ e. e ≢ Memory) }
+        ensures links { self.new.links ≡ self.old.links }
+    {
+        let own = self.own;
+        self.heap.store(own, object, place, register)?;
+        Ok(Answer::Done)
+    }
+
+    #[tactic(auto, using(crate::proofs::Sound::clear_references), unfolding(model::specs::View::view_act, model::specs::Steps::cleared, model::specs::Heaps::heap_clear))]
+    fn clear(&mut self, object: u16, place: u8) -> Result<Answer, Refusal>
+        ensures performs { Performs result self.new (view_act self.old (event.Clear object place)) }
+        ensures unchanged { OnErr result (self.new ≡ self.old) }
+        ensures place { (self.new.part.shape ≡ self.old.part.shape) × (self.new.part.own ≡ self.old.part.own) }
+        ensures memory_free { IfErr result (λ e. e ≢ Memory) }
+        ensures links { self.new.links ≡ self.old.links }
+    {
+        let own = self.own;
+        self.heap.clear(own, object, place)?;
+        Ok(Answer::Done)
+    }
+
+    #[tactic(auto, unfolding(model::specs::View::view_act, model::specs::Steps::word_read, model::specs::Heaps::heap_word))]
+    fn word(&self, object: u16) -> Result<Answer, Refusal>
+        ensures performs { Performs result self.now (view_act self.now (event.Word object)) }
+        ensures memory_free { IfErr result (λ e. e ≢ Memory) }
+    {
+        let word = self.heap.word(self.own, object)?;
+        Ok(Answer::Word(word))
+    }
+
+    #[tactic(auto, using(crate::proofs::Sound::set_word_references), unfolding(model::specs::View::view_act, model::specs::Steps::word_set, model::specs::Heaps::heap_set_word))]
+    fn set_word(&mut self, object: u16, word: u64) -> Result<Answer, Refusal>
+        ensures performs { Performs result self.new (view_act self.old (event.SetWord object word)) }
+        ensures unchanged { OnErr result (self.new ≡ self.old) }
+        ensures place { (self.new.part.shape ≡ self.old.part.shape) × (self.new.part.own ≡ self.old.part.own) }
+        ensures memory_free { IfErr result (λ e. e ≢ Memory) }
+        ensures links { self.new.links ≡ self.old.links }
+    {
+        let own = self.own;
+        self.heap.set_word(own, object, word)?;
         Ok(Answer::Done)
     }
 
@@ -143,11 +243,7 @@ impl Node {
             return Err(Refusal::SelfSend);
         }
         let reference = self.heap.register(register)?;
-        let message = Message {
-            stamp: self.cycle(),
-            body: Body::Give { label, reference },
-        };
-        let number = append(&mut self.links, to, message)?;
+        let number = self.send(to, Body::Give { label, reference })?;
         Ok(Answer::Sent(number))
     }
 
@@ -163,19 +259,93 @@ impl Node {
         Ok(Answer::Letter(letter))
     }
 
-    #[tactic(auto, unfolding(model::specs::View::view_act, model::specs::Steps::taken_in, model::specs::Steps::count_in, model::specs::Steps::take_body))]
+    #[tactic(auto, unfolding(model::specs::View::view_act, model::specs::Steps::put_asked, model::specs::Heaps::heap_register))]
+    fn put(&mut self, object: u16, place: u8, register: u16) -> Result<Answer, Refusal>
+        ensures performs { Performs result self.new (view_act self.old (event.Put object place register)) }
+        ensures unchanged { OnErr result (self.new ≡ self.old) }
+        ensures place { (self.new.part.shape ≡ self.old.part.shape) × (self.new.part.own ≡ self.old.part.own) }
+        ensures bases { map base_of self.new.links ≡ map base_of self.old.links }
+        ensures kept { map kept_of self.new.links ≡ map kept_of self.old.links }
+    {
+        let target = self.heap.register(object)?;
+        let reference = self.heap.register(register)?;
+        let Some(target) = target else {
+            return Err(Refusal::EmptyRegister);
+        };
+        if target.node == self.own {
+            return Err(Refusal::Local);
+        }
+        if place >= GREATEST_PLACES {
+            return Err(Refusal::NoField);
+        }
+        let body = Body::Put {
+            target,
+            place,
+            reference,
+        };
+        let number = self.send(target.node, body)?;
+        Ok(Answer::Sent(number))
+    }
+
+    #[tactic(auto, unfolding(model::specs::View::view_act, model::specs::Steps::get_asked, model::specs::Heaps::heap_register))]
+    fn get(&mut self, object: u16, place: u8, label: u32) -> Result<Answer, Refusal>
+        ensures performs { Performs result self.new (view_act self.old (event.Get object place label)) }
+        ensures unchanged { OnErr result (self.new ≡ self.old) }
+        ensures place { (self.new.part.shape ≡ self.old.part.shape) × (self.new.part.own ≡ self.old.part.own) }
+        ensures bases { map base_of self.new.links ≡ map base_of self.old.links }
+        ensures kept { map kept_of self.new.links ≡ map kept_of self.old.links }
+    {
+        let Some(target) = self.heap.register(object)? else {
+            return Err(Refusal::EmptyRegister);
+        };
+        if target.node == self.own {
+            return Err(Refusal::Local);
+        }
+        if place >= GREATEST_PLACES {
+            return Err(Refusal::NoField);
+        }
+        let body = Body::Get {
+            target,
+            place,
+            label,
+        };
+        let number = self.send(target.node, body)?;
+        Ok(Answer::Sent(number))
+    }
+
+    /// Appends a message for another node, and gives its number.
+    fn send(&mut self, to: u8, body: Body) -> Result<u64, Refusal>
+        requires there { to < self.old.part.shape.nodes }
+        requires sendable { IsSendable self.old.part.shape (record { stamp = self.old.part.phases.cycle; body = body }) }
+        ensures fits { IfOk result (λ n. fits (map used self.old.links) ((to, record { stamp = self.old.part.phases.cycle; body = body }) ∷ []) ≡ true) }
+        ensures done { IfOk result (λ n. self.new ≡ record self.old { links = append_to self.old.links ((to, record { stamp = self.old.part.phases.cycle; body = body }) ∷ []) }) }
+        ensures number { IfOk result (λ n. n ≡ slice_index_or (map used self.old.links) to 0 + 1) }
+        ensures refused { IfErr result (λ e. e ≢ Memory → (e ≡ LinkSpent) × (fits (map used self.old.links) ((to, record { stamp = self.old.part.phases.cycle; body = body }) ∷ []) ≡ false)) }
+        ensures unchanged { OnErr result (self.new ≡ self.old) }
+        ensures place { (self.new.part.shape ≡ self.old.part.shape) × (self.new.part.own ≡ self.old.part.own) }
+        ensures bases { map base_of self.new.links ≡ map base_of self.old.links }
+        ensures kept { map kept_of self.new.links ≡ map kept_of self.old.links }
+    {
+        let message = Message {
+            stamp: self.cycle(),
+            body,
+        };
+        append(&mut self.links, to, message)
+    }
+
+    #[tactic(auto, unfolding(model::specs::View::view_act, model::specs::Steps::taken_in))]
     fn take_in(&mut self, frame: Data) -> Result<Answer, Refusal>
         ensures performs { Performs result self.new (view_act self.old (event.Data frame)) }
         ensures unchanged { OnErr result (self.new ≡ self.old) }
         ensures place { (self.new.part.shape ≡ self.old.part.shape) × (self.new.part.own ≡ self.old.part.own) }
         ensures memory_free { IsTrue (is_memory_free self.old.part (event.Data frame)) → IfErr result (λ e. e ≢ Memory) }
-        ensures links { self.new.links ≡ self.old.links }
+        ensures bases { map base_of self.new.links ≡ map base_of self.old.links }
+        ensures kept { map kept_of self.new.links ≡ map kept_of self.old.links }
     {
         if !self.is_addressed(frame.from, frame.to) {
             return Err(Refusal::WrongNode);
         }
-        let from = usize::from(frame.from);
-        let got = self.got[from];
+        let got = self.got[usize::from(frame.from)];
         if frame.number <= got {
             return Ok(Answer::Repeat);
         }
@@ -185,14 +355,37 @@ impl Node {
         if !self.may_take(frame.stamp, frame.body) {
             return Err(Refusal::WrongNode);
         }
-        let Body::Give { label, reference } = frame.body;
-        self.heap.add_letter(Letter {
-            from: frame.from,
-            label,
-            reference,
-        })?;
-        self.got[from] = frame.number;
-        Ok(Answer::Received)
+        self.follow(frame.from, frame.number, frame.body)
+    }
+
+    /// Takes in a message that the node may take in, in its turn.
+    fn follow(&mut self, from: u8, number: u64, body: Body) -> Result<Answer, Refusal>
+        requires there { from < self.old.part.shape.nodes }
+        requires number { number ≤ GREATEST_NUMBER }
+        requires within { AllByRecursion (IsWithin self.old.part.shape) (mentioned body) }
+        requires may { IsTrue (may_follow self.old.part.own body) }
+        ensures performs { Performs result self.new (view_done self.old (answers (then (count_in self.old.part from number) (take_body from body)) answer.Received)) }
+        ensures unchanged { OnErr result (self.new ≡ self.old) }
+        ensures place { (self.new.part.shape ≡ self.old.part.shape) × (self.new.part.own ≡ self.old.part.own) }
+        ensures bases { map base_of self.new.links ≡ map base_of self.old.links }
+        ensures kept { map kept_of self.new.links ≡ map kept_of self.old.links }
+    {
+        match body {
+            Body::Give { label, reference } => self.take_give(from, number, label, reference),
+            Body::Put {
+                target,
+                place,
+                reference,
+            } => self.take_put(from, number, target, place, reference),
+            Body::Get {
+                target,
+                place,
+                label,
+            } => self.take_get(from, number, target, place, label),
+            Body::Begin | Body::Token(_) | Body::Mark { .. } | Body::Ended | Body::Swept => {
+                unreachable!()
+            }
+        }
     }
 
     fn is_addressed(&self, from: u8, to: u8) -> bool
@@ -204,14 +397,121 @@ impl Node {
     fn may_take(&self, stamp: u64, body: Body) -> bool
         ensures { result ≡ may_take self.now.part stamp body }
     {
-        let Body::Give { reference, .. } = body;
-        let within = match reference {
-            Some(reference) => {
-                reference.node < self.shape.nodes() && reference.slot < self.shape.slots()
-            }
+        stamp <= self.cycle() && (self.has_room_for(body) && self.may_follow(body))
+    }
+
+    fn may_follow(&self, body: Body) -> bool
+        ensures { result ≡ may_follow self.now.part.own body }
+    {
+        match body {
+            Body::Give { .. } => true,
+            Body::Put { target, .. } | Body::Get { target, .. } => target.node == self.own,
+            Body::Begin | Body::Token(_) | Body::Mark { .. } | Body::Ended | Body::Swept => false,
+        }
+    }
+
+    /// Whether the shape has room for every reference in the body.
+    fn has_room_for(&self, body: Body) -> bool
+        ensures { result ≡ are_within self.now.part.shape (mentioned body) }
+    {
+        match body {
+            Body::Begin | Body::Token(_) | Body::Ended | Body::Swept => true,
+            Body::Mark { target } | Body::Get { target, .. } => self.is_within(target),
+            Body::Give { reference, .. } => self.is_any_within(reference),
+            Body::Put {
+                target,
+                reference,
+                ..
+            } => self.is_within(target) && self.is_any_within(reference),
+        }
+    }
+
+    fn is_any_within(&self, reference: Option<Ref>) -> bool
+        ensures { result ≡ are_within self.now.part.shape (option_to_list reference) }
+    {
+        match reference {
+            Some(reference) => self.is_within(reference),
             None => true,
-        };
-        stamp <= self.cycle() && within
+        }
+    }
+
+    fn is_within(&self, reference: Ref) -> bool
+        ensures { result ≡ is_within self.now.part.shape reference }
+    {
+        reference.node < self.shape.nodes() && reference.slot < self.shape.slots()
+    }
+
+    #[tactic(auto, unfolding(model::specs::Steps::count_in, model::specs::Steps::take_body))]
+    fn take_give(
+        &mut self,
+        from: u8,
+        number: u64,
+        label: u32,
+        reference: Option<Ref>,
+    ) -> Result<Answer, Refusal>
+        requires there { from < self.old.part.shape.nodes }
+        requires number { number ≤ GREATEST_NUMBER }
+        requires within { AllByRecursion (IsWithin self.old.part.shape) (mentioned (body.Give label reference)) }
+        ensures performs { Performs result self.new (view_done self.old (answers (then (count_in self.old.part from number) (take_body from (body.Give label reference))) answer.Received)) }
+        ensures unchanged { OnErr result (self.new ≡ self.old) }
+        ensures place { (self.new.part.shape ≡ self.old.part.shape) × (self.new.part.own ≡ self.old.part.own) }
+        ensures bases { map base_of self.new.links ≡ map base_of self.old.links }
+        ensures kept { map kept_of self.new.links ≡ map kept_of self.old.links }
+    {
+        self.heap.add_letter(Letter {
+            from,
+            label,
+            reference,
+        })?;
+        self.got[usize::from(from)] = number;
+        Ok(Answer::Received)
+    }
+
+    #[tactic(auto, unfolding(model::specs::Steps::count_in, model::specs::Steps::take_body))]
+    fn take_put(
+        &mut self,
+        from: u8,
+        number: u64,
+        target: Ref,
+        place: u8,
+        reference: Option<Ref>,
+    ) -> Result<Answer, Refusal>
+        requires there { from < self.old.part.shape.nodes }
+        requires number { number ≤ GREATEST_NUMBER }
+        requires within { AllByRecursion (IsWithin self.old.part.shape) (mentioned (body.Put target place reference)) }
+        ensures performs { Performs result self.new (view_done self.old (answers (then (count_in self.old.part from number) (take_body from (body.Put target place reference))) answer.Received)) }
+        ensures unchanged { OnErr result (self.new ≡ self.old) }
+        ensures place { (self.new.part.shape ≡ self.old.part.shape) × (self.new.part.own ≡ self.old.part.own) }
+        ensures bases { map base_of self.new.links ≡ map base_of self.old.links }
+        ensures kept { map kept_of self.new.links ≡ map kept_of self.old.links }
+    {
+        self.heap.set_place(target, place, reference);
+        self.got[usize::from(from)] = number;
+        Ok(Answer::Received)
+    }
+
+    #[tactic(auto, unfolding(model::specs::Steps::count_in, model::specs::Steps::take_body))]
+    fn take_get(
+        &mut self,
+        from: u8,
+        number: u64,
+        target: Ref,
+        place: u8,
+        label: u32,
+    ) -> Result<Answer, Refusal>
+        requires there { from < self.old.part.shape.nodes }
+        requires number { number ≤ GREATEST_NUMBER }
+        requires within { AllByRecursion (IsWithin self.old.part.shape) (mentioned (body.Get target place label)) }
+        ensures performs { Performs result self.new (view_done self.old (answers (then (count_in self.old.part from number) (take_body from (body.Get target place label))) answer.Received)) }
+        ensures unchanged { OnErr result (self.new ≡ self.old) }
+        ensures place { (self.new.part.shape ≡ self.old.part.shape) × (self.new.part.own ≡ self.old.part.own) }
+        ensures bases { map base_of self.new.links ≡ map base_of self.old.links }
+        ensures kept { map kept_of self.new.links ≡ map kept_of self.old.links }
+    {
+        let reference = self.heap.place(target, place);
+        self.send(from, Body::Give { label, reference })?;
+        self.got[usize::from(from)] = number;
+        Ok(Answer::Received)
     }
 
     /// The collection cycle that the node has joined: none has begun.

@@ -3,12 +3,11 @@ use Rattle.std.proofs.Common.{◌≡◌, ◌≢◌, ℕ, zero, suc, ◌+◌, ◌
 use Rattle.std.proofs.lemmas.Bool.{lt-ltb, ne_eqb, cond-true, cond-false, and_left, and_right}
 use Rattle.ids.specs.declared.refusal.Refusal.{Refusal}
 use Rattle.ids.specs.declared.refusal.Refusal.TheVariants.{NoNode}
-use Rattle.msg.specs.Grammar.{Plain, data_frame, spelling, Fits}
+use Rattle.msg.specs.Grammar.{Plain, data_frame, ack_frame, spelling, Fits}
 use Rattle.msg.specs.Frames.{plain_data}
 use Rattle.msg.specs.declared.body.Message.{Message}
 use Rattle.msg.specs.declared.frame.Data.{Data}
 use Rattle.msg.proofs.Frames.{no_spelling_begins_another}
-use Rattle.model.specs.declared.event.Event.{Event}
 use Rattle.model.specs.declared.event.Event.TheVariants as event
 use Rattle.model.specs.declared.event.Answer.{Answer}
 use Rattle.model.specs.declared.step.Step.TheVariants as step
@@ -18,7 +17,7 @@ use Rattle.model.specs.Steps.{act, receive}
 use Rattle.model.specs.View.{NodeView, Shows, Follows}
 use Rattle.model.specs.World.{World, take_step, moved, released, handed_over, is_node}
 use Rattle.world.specs.Outboxes.{IsFrameOf, numbered_bytes}
-use Rattle.world.specs.Shows.{Simulated, ShowsWorld, FollowsStep, IsEventOf, frames_of}
+use Rattle.world.specs.Shows.{Simulated, ShowsWorld, FollowsStep, frames_of}
 use Rattle.world.proofs.Shows.{answered, moved-follows, node-follows, is-node, is-no-node, within-seen, shows-seen}
 
 -- a message that was released, and its frame
@@ -89,35 +88,27 @@ pub deliver-missing : (n : Simulated) (w : World) (from to number : ℕ) → Sho
 deliver-missing n w from to number h f t apart none =
     deliver-nothing n w from to number h f t (missing n w from to number h apart none)
 
--- a node's receipt of a frame
+-- a node's receipt of a message's frame
 receive_plain : NodeState → Plain → Result (NodeState × Answer) Refusal
 receive_plain s (data_frame from to number stamp body) = receive s from to number stamp body
+receive_plain s (ack_frame from to number) = Err NoNode
 
-act-data : (s : NodeState) (d : Data) → act s (event.Data d) ≡ receive_plain s (plain_data d)
+act-receives : (s : NodeState) (d : Data) (from to number : ℕ) (x : Message) → plain_data d ≡ data_frame from to number x.stamp x.body → act s (event.Data d) ≡ receive s from to number x.stamp x.body
 unfolding act receive receive_plain
-act-data s d = refl
-
-act-receives : (s : NodeState) (e : Event) (from to number : ℕ) (x : Message) → IsEventOf e (data_frame from to number x.stamp x.body) → act s e ≡ receive s from to number x.stamp x.body
-unfolding receive_plain
-act-receives s (event.Data d) from to number x h = act-data s d ∙ ap (receive_plain s) h
-act-receives s (event.Alloc a b) from to number x h = absurd h
-act-receives s (event.Drop a) from to number x h = absurd h
-act-receives s (event.Give a b d) from to number x h = absurd h
-act-receives s (event.Accept a) from to number x h = absurd h
+act-receives s d from to number x h = ap (receive_plain s) h
 
 -- The same as the code has it: n is the space of its fields and m the one that callers see.
-pub delivered-follows : (n m : Simulated) (w : World) (from to i number : ℕ) (bytes : List ℕ) (f : Plain) (e : Event) (u v : NodeView) (r : Result Answer Refusal) → n ≡ m → ShowsWorld m w → from < length m.present → to < length m.present → from ≢ to → to ≡ i → numbered_bytes (frames_of m.released from to) number ≡ Some bytes → Fits f → bytes ≡ spelling f → IsEventOf e f → u ≡ get_or n.present i u → ((s : NodeState) → Shows u s → Follows r v (act s e)) → FollowsStep (answered r) (record n { present = set n.present i v }) (take_step w (step.Deliver from to number))
+pub delivered-follows : (n m : Simulated) (w : World) (from to i number : ℕ) (bytes : List ℕ) (d : Data) (u v : NodeView) (r : Result Answer Refusal) → n ≡ m → ShowsWorld m w → from < length m.present → to < length m.present → from ≢ to → to ≡ i → numbered_bytes (frames_of m.released from to) number ≡ Some bytes → Fits (plain_data d) → bytes ≡ spelling (plain_data d) → u ≡ get_or n.present i u → ((s : NodeState) → Shows u s → Follows r v (act s (event.Data d))) → FollowsStep (answered r) (record n { present = set n.present i v }) (take_step w (step.Deliver from to number))
 unfolding take_step
-delivered-follows n m w from to i number bytes f e u v r seen shown less_from less_to apart named there fits spelled event read follows =
+delivered-follows n m w from to i number bytes d u v r seen shown less_from less_to apart named there fits spelled read follows =
     let frame : Found m w from to number bytes = found m w from to number bytes shown apart there in
     let x : Message = frame.message in
-    let longer : spelling f ++ [] ≡ spelling (data_frame from to number x.stamp x.body) = append-nil (spelling f) ∙ sym spelled ∙ frame.spelled in
-    let one : f ≡ data_frame from to number x.stamp x.body = (no_spelling_begins_another f (data_frame from to number x.stamp x.body) [] fits frame.fits longer).1 in
-    let brings : IsEventOf e (data_frame from to number x.stamp x.body) = subst (IsEventOf e) one event in
+    let longer : spelling (plain_data d) ++ [] ≡ spelling (data_frame from to number x.stamp x.body) = append-nil (spelling (plain_data d)) ∙ sym spelled ∙ frame.spelled in
+    let one : plain_data d ≡ data_frame from to number x.stamp x.body = (no_spelling_begins_another (plain_data d) (data_frame from to number x.stamp x.body) [] fits frame.fits longer).1 in
     let within : i < length n.present = within-seen n m i seen (subst (λ (k : ℕ). k < length m.present) named less_to) in
     let h : ShowsWorld n w = shows-seen n m w seen shown in
-    let same : act (node_at w.current i) e ≡ receive (node_at w.current i) from to number x.stamp x.body = act-receives (node_at w.current i) e from to number x brings in
-    let here : Follows r v (receive (node_at w.current i) from to number x.stamp x.body) = subst (Follows r v) same (node-follows n w i e u v r h within read follows) in
+    let same : act (node_at w.current i) (event.Data d) ≡ receive (node_at w.current i) from to number x.stamp x.body = act-receives (node_at w.current i) d from to number x one in
+    let here : Follows r v (receive (node_at w.current i) from to number x.stamp x.body) = subst (Follows r v) same (node-follows n w i (event.Data d) u v r h within read follows) in
     let moves : take_step w (step.Deliver from to number) ≡ moved w to (receive (node_at w.current to) from to number x.stamp x.body) = cond-true _ _ _ (both-nodes m w from to shown less_from less_to) ∙ ap (handed_over w from to number) frame.there in
     let at : take_step w (step.Deliver from to number) ≡ moved w i (receive (node_at w.current i) from to number x.stamp x.body) = moves ∙ ap (λ (k : ℕ). moved w k (receive (node_at w.current k) from to number x.stamp x.body)) named in
     moved-follows n w i (step.Deliver from to number) v r (receive (node_at w.current i) from to number x.stamp x.body) h at here

@@ -2,10 +2,6 @@
 use Rattle.std.specs.Prelude.{◌≡◌, ◌≢◌, ℕ, ◌<◌, ◌≤◌, List, [], length, slice_get, slice_index_or, Result, Ok, Err}
 use Rattle.ids.specs.declared.refusal.Refusal.{Refusal}
 use Rattle.ids.specs.declared.limits.TheConstants.{GREATEST_NODES}
-use Rattle.msg.specs.Grammar.{Plain}
-use Rattle.msg.specs.Frames.{plain_data}
-use Rattle.model.specs.declared.event.Event.{Event}
-use Rattle.model.specs.declared.event.Event.TheVariants as event
 use Rattle.model.specs.declared.step.Outcome.{Outcome}
 use Rattle.model.specs.Checks.{IsFirstRefusal}
 use Rattle.model.specs.State.{NodeState, node_at, sent_to}
@@ -50,11 +46,6 @@ pub record ShowsWorld (n : Simulated) (w : World) : Type 0 where
 abbrev pub FollowsStep : Result Outcome Refusal → Simulated → Result (World × Outcome) Refusal → Type 0
 FollowsStep (Ok o) new stepped = (w : World) × (stepped ≡ Ok (w, o)) × ShowsWorld new w
 FollowsStep (Err e) new stepped = IsFirstRefusal e stepped
-
--- an event that brings the parts of a frame
-abbrev pub IsEventOf : Event → Plain → Type 0
-IsEventOf (event.Data d) f = plain_data d ≡ f
-IsEventOf e f = ⊥
 
 -- each node stands at its number, and all have the shape of the space
 pub record IsPlaced (count i : ℕ) (n : NodeView) : Type 0 where

@@ -1,7 +1,7 @@
-ghost use Rattle.laws.specs.Statements.{CutsExtend, ReachIsLive};
+ghost use Rattle.laws.specs.Statements.{CutsExtend, ReachIsLive, TargetsAreLive, NoneRefusedInTurn};
 
 /// The headline, over every list of steps of every space: events of programs, deliveries, losses,
-/// repeats, reorderings, saves and restarts. This does nothing: its contract is the theorem, and
+/// repeats, reorderings, saves and restarts. This does nothing: its contract is the theorems, and
 /// [`Sim::step`](crate::Sim::step) speaks of the same spaces.
 pub fn laws()
     // Whatever a run does after some moment, each choice of present and saved states is one of that
@@ -10,4 +10,8 @@ pub fn laws()
     // In each such choice, every reference that is reachable from a register, a letter or a message in
     // flight names an object that its owner still has.
     ensures live { ReachIsLive }
+    // A Put or Get that is taken in finds the object that it is about at its receiver, and live.
+    ensures targets { TargetsAreLive }
+    // No released message, given in its turn or again, is refused as one for another node or space.
+    ensures in_turn { NoneRefusedInTurn }
 {}

@@ -6,14 +6,13 @@ ghost use Rattle.model.specs.Steps.{is_own};
 ghost use Rattle.model.specs.View.{new_view};
 ghost use Rattle.model.specs.World.{World, new_world, take_step, is_own_step};
 ghost use Rattle.model.specs.declared.step.Step.TheVariants as step;
-ghost use Rattle.msg.specs.Frames.{plain};
 ghost use Rattle.world.specs.Outboxes.{numbered_bytes};
-ghost use Rattle.world.specs.Shows.{ShowsWorld, FollowsStep, IsEventOf, frames_of};
+ghost use Rattle.world.specs.Shows.{ShowsWorld, FollowsStep, frames_of};
 
 use crate::outbox::{Outbox, new_outboxes, release_all, stage_all};
 use ids::{NodeId, Refusal, Shape};
 use model::{Event, Outcome, Step};
-use msg::{Data, Frame, decode};
+use msg::{Frame, decode};
 use node::Node;
 use std::alloc::Global;
 use std::marker::Model;
@@ -146,9 +145,12 @@ impl Sim {
         let Some(bytes) = self.released(from, to, number) else {
             return Ok(Outcome::NoFrame);
         };
-        let event = event_of(decode(bytes)?);
+        // Messages alone are released, so other bytes never stand here.
+        let Frame::Data(message) = decode(bytes)? else {
+            return Err(Refusal::BadFrame);
+        };
         let present = &mut self.present[usize::from(to)];
-        let answer = present.act(event)?;
+        let answer = present.act(Event::Data(message))?;
         Ok(Outcome::Answer(answer))
     }
 
@@ -173,26 +175,4 @@ fn new_nodes(alloc: Global, shape: Shape) -> Result<Vec<Node>, Refusal>
         nodes.push(Node::new(alloc, shape, NodeId { number })?)?;
     }
     Ok(nodes)
-}
-
-/// The event that a frame brings to its receiver.
-fn event_of(frame: Frame) -> Event
-    ensures { IsEventOf result (plain frame) }
-{
-    let Frame::Data(
-        Data {
-            from,
-            to,
-            number,
-            stamp,
-            body,
-        },
-    ) = frame;
-    Event::Data(Data {
-        from,
-        to,
-        number,
-        stamp,
-        body,
-    })
 }

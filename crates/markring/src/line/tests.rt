@@ -54,6 +54,69 @@ fn lines_are_read(rt: HostRuntime) {
 }
 
 #[test]
+fn lines_about_objects_are_read(rt: HostRuntime) {
+    for (text, event) in [
+        (
+            "3 copy 1 65535",
+            Event::Copy {
+                register: 1,
+                source: 65_535,
+            },
+        ),
+        (
+            "3 load 1 2 255",
+            Event::Load {
+                register: 1,
+                object: 2,
+                place: 255,
+            },
+        ),
+        (
+            "3 store 1 2 300",
+            Event::Store {
+                object: 1,
+                place: 2,
+                register: 300,
+            },
+        ),
+        (
+            "3 clear 300 2",
+            Event::Clear {
+                object: 300,
+                place: 2,
+            },
+        ),
+        ("3 word 300", Event::Word { object: 300 }),
+        (
+            "3 setword 300 18446744073709551615",
+            Event::SetWord {
+                object: 300,
+                word: 18_446_744_073_709_551_615,
+            },
+        ),
+        (
+            "3 put 1 2 300",
+            Event::Put {
+                object: 1,
+                place: 2,
+                register: 300,
+            },
+        ),
+        (
+            "3 get 300 2 4294967295",
+            Event::Get {
+                object: 300,
+                place: 2,
+                label: 4_294_967_295,
+            },
+        ),
+    ] {
+        let expected = Some(Line::Step(Step::Act(3, event)));
+        assert_eq!(rt; Line::parse(text), expected, "{text:?}");
+    }
+}
+
+#[test]
 fn other_lines_are_no_commands(rt: HostRuntime) {
     for text in [
         "save",
@@ -75,6 +138,24 @@ fn other_lines_are_no_commands(rt: HostRuntime) {
         "0 give 1 7 0 0",
         "0 give 1 7 0 0 0",
         "0 accept",
+        "0 copy 1",
+        "0 copy 1 65536",
+        "0 load 1 2",
+        "0 load 1 2 256",
+        "0 store 1 2",
+        "0 store 1 256 1",
+        "0 clear 1",
+        "0 clear 1 256",
+        "0 word",
+        "0 word 1 1",
+        "0 word 65536",
+        "0 setword 1",
+        "0 setword 1 18446744073709551616",
+        "0 put 1 2",
+        "0 put 1 256 1",
+        "0 get 1 2",
+        "0 get 1 256 1",
+        "0 get 1 2 4294967296",
         "256 save",
         "000000000000000000000 save",
         "space 256 4 16",

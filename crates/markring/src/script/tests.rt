@@ -15,6 +15,25 @@ fn expect(rt: &impl Abort, alloc: Global, script: &[u8], printed: &str, status: 
     assert_eq!(rt; answer, status);
 }
 
+/// Runs the lines as one script, and compares what each prints.
+fn expect_lines(
+    rt: &impl Abort,
+    alloc: Global,
+    lines: &[(&str, &str)],
+    status: u8,
+) -> Result<(), Fail> {
+    let mut script = String::new(alloc);
+    let mut printed = String::new(alloc);
+    for (line, answer) in lines {
+        script.push_str(line)?;
+        script.push_str("\n")?;
+        printed.push_str(answer)?;
+        printed.push_str("\n")?;
+    }
+    expect(rt, alloc, script.as_bytes(), printed.as_str(), status);
+    Ok(())
+}
+
 #[test]
 fn a_reference_travels(rt: HostRuntime) {
     let script =
@@ -30,6 +49,127 @@ fn unsaved_and_repeated_messages_are_not_taken_in(rt: HostRuntime) {
     let printed =
         "ok\n0.0.1\nsent 1\nno frame\nok\nreceived\nrepeat\nfrom 0 label 7 0.0.1\nrefused 8 NoLetter\n";
     expect(&rt, rt.alloc(), script.as_bytes(), printed, 1);
+}
+
+#[test]
+fn a_place_of_another_node_is_written_and_read(rt: HostRuntime) -> Result<(), Fail> {
+    let lines = [
+        ("space 2 4 16", "ok"),
+        ("1 alloc 0 2", "1.0.1"),
+        ("1 give 0 1 0", "sent 1"),
+        ("1 save", "ok"),
+        ("deliver 1 0 1", "received"),
+        ("0 accept 0", "from 1 label 1 1.0.1"),
+        ("0 alloc 1 0", "0.0.1"),
+        ("0 put 0 1 1", "sent 1"),
+        ("0 get 0 1 9", "sent 2"),
+        ("0 get 0 2 10", "sent 3"),
+        ("0 save", "ok"),
+        ("deliver 0 1 1", "received"),
+        ("deliver 0 1 2", "received"),
+        ("deliver 0 1 3", "received"),
+        ("1 load 1 0 1", "0.0.1"),
+        ("1 save", "ok"),
+        ("deliver 1 0 2", "received"),
+        ("deliver 1 0 3", "received"),
+        ("0 accept 2", "from 1 label 9 0.0.1"),
+        ("0 accept 2", "from 1 label 10 -"),
+        ("0 accept 3", "refused 8 NoLetter"),
+        ("0 put 1 0 0", "refused 6 Local"),
+    ];
+    expect_lines(&rt, rt.alloc(), &lines, 1)
+}
+
+#[test]
+fn refusals_come_in_their_order(rt: HostRuntime) -> Result<(), Fail> {
+    let lines = [
+        ("space 2 256 16", "ok"),
+        ("0 load 0 256 0", "refused 3 NoRegister"),
+        ("0 load 0 1 0", "refused 4 EmptyRegister"),
+        ("1 alloc 0 0", "1.0.1"),
+        ("1 give 0 1 0", "sent 1"),
+        ("1 save", "ok"),
+        ("deliver 1 0 1", "received"),
+        ("0 accept 2", "from 1 label 1 1.0.1"),
+        ("0 load 0 2 0", "refused 5 Remote"),
+        ("0 alloc 0 9", "refused 10 TooManyFields"),
+        ("0 alloc 0 8", "0.0.1"),
+        ("0 load 1 0 8", "refused 9 NoField"),
+        ("0 give 0 1 0", "refused 11 SelfSend"),
+    ];
+    expect_lines(&rt, rt.alloc(), &lines, 1)
+}
+
+#[test]
+fn objects_are_read_and_written(rt: HostRuntime) -> Result<(), Fail> {
+    let lines = [
+        ("space 2 4 16", "ok"),
+        ("0 alloc 0 2", "0.0.1"),
+        ("0 alloc 1 0", "0.1.1"),
+        ("0 store 0 1 1", "ok"),
+        ("0 load 2 0 1", "0.1.1"),
+        ("0 load 2 0 0", "-"),
+        ("0 drop 2", "refused 4 EmptyRegister"),
+        ("0 copy 2 0", "ok"),
+        ("0 clear 2 1", "ok"),
+        ("0 clear 2 1", "ok"),
+        ("0 load 3 0 1", "-"),
+        ("0 word 0", "0"),
+        ("0 setword 0 18446744073709551615", "ok"),
+        ("0 word 2", "18446744073709551615"),
+        ("0 word 1", "0"),
+    ];
+    expect_lines(&rt, rt.alloc(), &lines, 1)
+}
+
+/// Each refusal that a line about an object can meet, and where two apply the one that comes first. Node 0
+/// has another node's object in register 0, its own object of one place in register 1, and nothing in
+/// register 2, its last.
+#[test]
+fn each_line_has_its_refusals(rt: HostRuntime) -> Result<(), Fail> {
+    let lines = [
+        ("space 2 3 16", "ok"),
+        ("1 alloc 0 1", "1.0.1"),
+        ("1 give 0 1 0", "sent 1"),
+        ("1 save", "ok"),
+        ("deliver 1 0 1", "received"),
+        ("0 accept 0", "from 1 label 1 1.0.1"),
+        ("0 alloc 1 1", "0.0.1"),
+        ("0 copy 3 2", "refused 3 NoRegister"),
+        ("0 copy 2 3", "refused 3 NoRegister"),
+        ("0 copy 1 2", "refused 4 EmptyRegister"),
+        ("0 load 3 2 9", "refused 3 NoRegister"),
+        ("0 load 2 2 9", "refused 4 EmptyRegister"),
+        ("0 load 2 0 9", "refused 5 Remote"),
+        ("0 load 2 1 1", "refused 9 NoField"),
+        ("0 store 2 9 3", "refused 3 NoRegister"),
+        ("0 store 0 9 2", "refused 4 EmptyRegister"),
+        ("0 store 2 9 0", "refused 4 EmptyRegister"),
+        ("0 store 0 9 1", "refused 5 Remote"),
+        ("0 store 1 1 0", "refused 9 NoField"),
+        ("0 clear 3 9", "refused 3 NoRegister"),
+        ("0 clear 2 9", "refused 4 EmptyRegister"),
+        ("0 clear 0 9", "refused 5 Remote"),
+        ("0 clear 1 1", "refused 9 NoField"),
+        ("0 word 3", "refused 3 NoRegister"),
+        ("0 word 2", "refused 4 EmptyRegister"),
+        ("0 word 0", "refused 5 Remote"),
+        ("0 setword 3 1", "refused 3 NoRegister"),
+        ("0 setword 2 1", "refused 4 EmptyRegister"),
+        ("0 setword 0 1", "refused 5 Remote"),
+        ("0 put 2 9 3", "refused 3 NoRegister"),
+        ("0 put 2 9 2", "refused 4 EmptyRegister"),
+        ("0 put 1 9 2", "refused 6 Local"),
+        ("0 put 0 8 2", "refused 9 NoField"),
+        ("0 get 3 9 1", "refused 3 NoRegister"),
+        ("0 get 2 9 1", "refused 4 EmptyRegister"),
+        ("0 get 1 9 1", "refused 6 Local"),
+        ("0 get 0 8 1", "refused 9 NoField"),
+        ("2 get 0 8 1", "refused 7 NoNode"),
+        ("0 put 0 7 2", "sent 1"),
+        ("0 get 0 7 1", "sent 2"),
+    ];
+    expect_lines(&rt, rt.alloc(), &lines, 1)
 }
 
 #[test]

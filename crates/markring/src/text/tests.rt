@@ -27,6 +27,15 @@ fn outcomes_have_texts(rt: HostRuntime) -> Result<(), Fail> {
         ),
         (Outcome::Answer(Answer::Done), "ok"),
         (
+            Outcome::Answer(Answer::Value(Some(reference))),
+            "15.1048575.4294967295",
+        ),
+        (Outcome::Answer(Answer::Value(None)), "-"),
+        (
+            Outcome::Answer(Answer::Word(18_446_744_073_709_551_615)),
+            "18446744073709551615",
+        ),
+        (
             Outcome::Answer(Answer::Sent(281_474_976_710_656)),
             "sent 281474976710656",
         ),

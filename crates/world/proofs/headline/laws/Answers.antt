@@ -1,5 +1,6 @@
 use Rattle.laws.proofs.Cuts.{cuts-extend}
 use Rattle.laws.proofs.Live.{reach-is-live}
+use Rattle.laws.proofs.Deliveries.{targets-are-live, none-refused-in-turn}
 use Rattle.world.proofs.headline.laws.Goals as goal
 
 pub returns-clause-cuts_extend : goal.returns-clause-cuts_extend
@@ -7,3 +8,9 @@ returns-clause-cuts_extend c = cuts-extend
 
 pub returns-clause-live : goal.returns-clause-live
 returns-clause-live c = reach-is-live
+
+pub returns-clause-targets : goal.returns-clause-targets
+returns-clause-targets c = targets-are-live
+
+pub returns-clause-in_turn : goal.returns-clause-in_turn
+returns-clause-in_turn c = none-refused-in-turn

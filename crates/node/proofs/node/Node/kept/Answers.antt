@@ -1,7 +1,8 @@
-use Rattle.std.proofs.Common.{◌≡◌, subst, sym, length, ap, ◌∙◌, take, drop, ◌++◌, map}
-use Rattle.std.proofs.lemmas.List.{length-map}
+use Rattle.std.proofs.Common.{◌≡◌, subst, sym, length, ap, ◌∙◌, map}
+use Rattle.std.proofs.lemmas.List.{length-map, with_items_is}
+use Rattle.std.specs.Vec.{with_items}
 use Rattle.model.specs.View.{all_kept}
-use Rattle.node.proofs.Sound.{AllSendable, sendable-kept, refilled}
+use Rattle.node.proofs.Sound.{AllSendable, sendable-kept}
 use Rattle.node.proofs.node.Node.kept.Goals as goal
 
 pub invariant_of-self : goal.invariant_of-self
@@ -10,7 +11,7 @@ invariant_of-self c =
     let links = c.self.inside.links in
     let wrote : c.keep_all.new.links ≡ map all_kept links.items = c.keep_all.ensures ∙ ap (map all_kept) c.deref_mut.ensures.value in
     let width : length c.keep_all.new.links ≡ length links.items = ap length wrote ∙ length-map links.items all_kept in
-    let same : take links.len (c.keep_all.new.links ++ drop (length c.keep_all.new.links) links.items) ≡ map all_kept links.items = refilled links.items c.keep_all.new.links links.len (width ∙ sym links.ok.0) ∙ wrote in
+    let same : (with_items links c.keep_all.new.links).items ≡ map all_kept links.items = with_items_is links c.keep_all.new.links (width ∙ sym links.ok.0) ∙ wrote in
     record {
       node = record {
         shape = old.shape;

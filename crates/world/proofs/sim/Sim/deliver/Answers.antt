@@ -1,7 +1,8 @@
-use Rattle.std.proofs.Common.{◌≤◌, Ok, Err, ◌⊎◌, inl, inr, length, sym, arith}
+use Rattle.std.proofs.Common.{◌≡◌, ◌≤◌, Ok, Err, ◌⊎◌, inl, inr, length, sym, subst, arith}
 use Rattle.std.proofs.lemmas.Result.{err_from_is_err_and}
-use Rattle.msg.specs.Grammar.{data_frame}
-use Rattle.msg.specs.Frames.{plain}
+use Rattle.msg.specs.Grammar.{data_frame, spelling, Fits}
+use Rattle.msg.specs.Frames.{plain, plain_ack}
+use Rattle.msg.specs.declared.frame.Frame.{Frame}
 use Rattle.world.specs.InsideSim.{view_of}
 use Rattle.world.proofs.Shows.{sim-acted}
 use Rattle.world.proofs.Handed.{deliver-no-node, deliver-to-itself, deliver-missing, delivered-follows, found}
@@ -20,16 +21,22 @@ pub returns-in_default-clause-follows : goal.returns-in_default-clause-follows
 returns-in_default-clause-follows c = λ w h.
     deliver-missing c.args.self.now w c.args.from c.args.to c.args.number h (omega (arith, c.count-count.ensures)) (omega (arith, c.count-count.ensures)) c.if-from-to.false (sym c.in_default.ensures)
 
-pub returns-in_err-decode-clause-follows : goal.returns-in_err-decode-clause-follows
-returns-in_err-decode-clause-follows c = λ w h.
+pub returns-in_err-message-clause-follows : goal.returns-in_err-message-clause-follows
+returns-in_err-message-clause-follows c = λ w h.
     let frame = found c.args.self.now w c.args.from c.args.to c.args.number c.in-Some.bytes.now h c.if-from-to.false (sym c.in-Some.ensures) in
-    absurd (c.in_err-decode.ensures.only (data_frame c.args.from c.args.to c.args.number frame.message.stamp frame.message.body) frame.fits frame.spelled)
+    absurd (c.in_err-message.ensures.only (data_frame c.args.from c.args.to c.args.number frame.message.stamp frame.message.body) frame.fits frame.spelled)
+
+pub returns-in_default-2-clause-follows : goal.returns-in_default-2-clause-follows
+returns-in_default-2-clause-follows c = λ w h.
+    let frame = found c.args.self.now w c.args.from c.args.to c.args.number c.in-Some.bytes.now h c.if-from-to.false (sym c.in-Some.ensures) in
+    let read = c.in_ok-message.ensures.only (data_frame c.args.from c.args.to c.args.number frame.message.stamp frame.message.body) frame.fits frame.spelled in
+    absurd (let wrong : plain_ack c.in_default-2.field-0 ≡ data_frame c.args.from c.args.to c.args.number frame.message.stamp frame.message.body = subst (λ (f : Frame). plain f ≡ data_frame c.args.from c.args.to c.args.number frame.message.stamp frame.message.body) c.in_default-2.is read in cc)
 
 pub returns-in_err-answer-clause-follows : goal.returns-in_err-answer-clause-follows
 returns-in_err-answer-clause-follows c = λ w h.
-    let decoded = c.in_ok-decode.ensures.found in
+    let decoded = subst (λ (f : Frame). Fits (plain f) × (c.in-Some.bytes.now ≡ spelling (plain f))) c.in-Data.is c.in_ok-message.ensures.found in
     let p = err_from_is_err_and c.from_residual-in_err-answer.result c.from_residual-in_err-answer.ensures.1 in
-    rw (p.1, p.2) (delivered-follows (view_of c.self.inside) c.args.self.now w c.args.from c.args.to c.from.result c.args.number c.in-Some.bytes.now (plain c.in_ok-decode.field-0) c.event_of-event.result c.index_mut-present.result.now c.act.new.self (Err c.in_err-answer.field-0.0) c.self.view_is h (omega (arith, c.count-count.ensures)) (omega (arith, c.count-count.ensures)) c.if-from-to.false (sym c.from.ensures) (sym c.in-Some.ensures) decoded.0 decoded.1 c.event_of-event.ensures c.index_mut-present.ensures.value c.in_err-answer.ensures.states)
+    rw (p.1, p.2) (delivered-follows (view_of c.self.inside) c.args.self.now w c.args.from c.args.to c.from.result c.args.number c.in-Some.bytes.now c.in-Data.message c.index_mut-present.result.now c.act.new.self (Err c.in_err-answer.field-0.0) c.self.view_is h (omega (arith, c.count-count.ensures)) (omega (arith, c.count-count.ensures)) c.if-from-to.false (sym c.from.ensures) (sym c.in-Some.ensures) decoded.0 decoded.1 c.index_mut-present.ensures.value c.in_err-answer.ensures.states)
 
 pub invariant_of-self-2 : goal.invariant_of-self-2
 invariant_of-self-2 c =
@@ -37,5 +44,5 @@ invariant_of-self-2 c =
 
 pub returns-clause-follows : goal.returns-clause-follows
 returns-clause-follows c = λ w h.
-    let decoded = c.in_ok-decode.ensures.found in
-    delivered-follows (view_of c.self.inside) c.args.self.now w c.args.from c.args.to c.from.result c.args.number c.in-Some.bytes.now (plain c.in_ok-decode.field-0) c.event_of-event.result c.index_mut-present.result.now c.act.new.self (Ok c.in_ok-answer.answer) c.self.view_is h (omega (arith, c.count-count.ensures)) (omega (arith, c.count-count.ensures)) c.if-from-to.false (sym c.from.ensures) (sym c.in-Some.ensures) decoded.0 decoded.1 c.event_of-event.ensures c.index_mut-present.ensures.value c.in_ok-answer.ensures.states
+    let decoded = subst (λ (f : Frame). Fits (plain f) × (c.in-Some.bytes.now ≡ spelling (plain f))) c.in-Data.is c.in_ok-message.ensures.found in
+    delivered-follows (view_of c.self.inside) c.args.self.now w c.args.from c.args.to c.from.result c.args.number c.in-Some.bytes.now c.in-Data.message c.index_mut-present.result.now c.act.new.self (Ok c.in_ok-answer.answer) c.self.view_is h (omega (arith, c.count-count.ensures)) (omega (arith, c.count-count.ensures)) c.if-from-to.false (sym c.from.ensures) (sym c.in-Some.ensures) decoded.0 decoded.1 c.index_mut-present.ensures.value c.in_ok-answer.ensures.states

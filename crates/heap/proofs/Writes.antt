@@ -1,0 +1,96 @@
+-- What a write to an object through the arena makes of the heap that shows it.
+use Rattle.std.proofs.Common.{◌≡◌, ℕ, List, [], ◌∷◌, length, map, set, get_or, Option, Some, None, OnErr, Bool, true, false, cond, nat_lt, eqb, refl, sym, ap, ◌∙◌, inl, inr}
+use Rattle.std.proofs.lemmas.Bool.{eq-eqb, ltb-false}
+use Rattle.std.proofs.lemmas.Bool.Decides.{eqb_tells}
+use Rattle.std.proofs.lemmas.List.{map-set, set-get_or}
+use Rattle.std.proofs.Math.ListN.{get_or-map}
+use Rattle.std.proofs.Math.Seq.{set_out}
+use Rattle.ids.specs.declared.names.Ref.{Ref}
+use Rattle.ids.specs.declared.refusal.Refusal.{Refusal}
+use Rattle.ids.specs.declared.refusal.Refusal.TheVariants.{NoField}
+use Rattle.arena.specs.Arena.{value_of, get, with_value}
+use Rattle.arena.specs.declared.Key.{Key}
+use Rattle.arena.specs.declared.Slot.{Slot}
+use Rattle.arena.specs.declared.Slot.TheVariants.{Free, Occupied, Retired}
+use Rattle.model.specs.Checks.{guarded}
+use Rattle.model.specs.State.{Object, Heap, slot_at}
+use Rattle.model.specs.State as state
+use Rattle.model.specs.Heaps.{object_of, object_at, has_place, rewritten, with_rewritten, with_place}
+use Rattle.heap.specs.Heap.{HeapView}
+use Rattle.heap.specs.Stored.{slot_of, view_of}
+use Rattle.heap.specs.declared.Heap.TheInside.{Inside}
+
+-- where the arena keeps the object of this reference
+abbrev pub key_of : Ref → Key
+key_of r = record { slot = r.slot; generation = r.generation }
+
+found : (s : Slot Object) (g : ℕ) (o : Object) → value_of s g ≡ Some o → s ≡ Occupied g o
+found (Free own) g o h = absurd cc
+found Retired g o h = absurd cc
+found (Occupied own x) g o h =
+    elim (eqb_tells own g) [
+      | inl same ↦ let is : Some x ≡ Some o = rw same.0 at h in cc
+      | inr differs ↦ let is : None ≡ Some o = rw differs.0 at h in absurd cc
+    ]
+
+rewritten-slots : (slots : List (Slot Object)) (i g : ℕ) (f : Object → Object) (o : Object) → value_of (get_or slots i Retired) g ≡ Some o → map slot_of (set slots i (Occupied g (f o))) ≡ set (map slot_of slots) i (rewritten f g (get_or (map slot_of slots) i state.Retired))
+rewritten-slots slots i g f o there =
+    rw (map-set slot_of slots i (Occupied g (f o)), get_or-map slot_of slots i Retired, found (get_or slots i Retired) g o there, eq-eqb g g refl) refl
+
+-- the object under a key becomes another one
+pub rewritten-stored : (h : Inside) (r : Ref) (key : Key) (f : Object → Object) (o x : Object) → key ≡ key_of r → Some o ≡ get h.objects key → x ≡ f o → view_of (record h { objects = with_value h.objects key x }) ≡ record (view_of h) { heap = with_rewritten (view_of h).heap r f }
+rewritten-stored h r key f o x name there made =
+    rw (name, made) (ap (λ slots. record (view_of h) { heap = record (view_of h).heap { slots = slots } }) (rewritten-slots h.objects.slots r.slot r.generation f o (sym (rw name at there))))
+
+-- the object of a reference, where it is stored
+object_of-stored : (s : Slot Object) (g : ℕ) → object_of (slot_of s) g ≡ value_of s g
+object_of-stored (Free own) g = refl
+object_of-stored (Occupied own x) g = refl
+object_of-stored Retired g = refl
+
+object_at-stored : (h : Inside) (r : Ref) (key : Key) → key ≡ key_of r → object_at (view_of h).heap r ≡ get h.objects key
+object_at-stored h r key name =
+    rw (name, get_or-map slot_of h.objects.slots r.slot Retired) (object_of-stored (get_or h.objects.slots r.slot Retired) r.generation)
+
+rewritten-kept : (s : state.Slot) (g : ℕ) (f : Object → Object) → ((o : Object) → object_of s g ≡ Some o → f o ≡ o) → rewritten f g s ≡ s
+rewritten-kept (state.Free own) g f same = refl
+rewritten-kept (state.Occupied own x) g f same =
+    elim (eqb own g) as (λ b. ((o : Object) → cond b (Some x) None ≡ Some o → f o ≡ o) → state.Occupied own (cond b (f x) x) ≡ state.Occupied own x) [
+      | true ↦ λ same. ap (state.Occupied own) (same x refl)
+      | false ↦ λ same. refl
+    ] same
+rewritten-kept state.Retired g f same = refl
+
+-- where there is no such object, or it stays the same, so does the heap
+pub with_rewritten-kept : (h : Heap) (r : Ref) (f : Object → Object) → ((o : Object) → object_at h r ≡ Some o → f o ≡ o) → with_rewritten h r f ≡ h
+with_rewritten-kept h r f same =
+    rw (rewritten-kept (slot_at h r.slot) r.generation f same, set-get_or h.slots r.slot state.Retired) refl
+
+-- an object without such a place
+kept-past : (found : Option Object) (place : ℕ) (v : Option Ref) → has_place found place ≡ false → (o : Object) → found ≡ Some o → record o { places = set o.places place v } ≡ o
+kept-past None place v past o is = absurd cc
+kept-past (Some x) place v past o is =
+    let same : x ≡ o = cc in
+    rw (← same) (ap (λ places. record x { places = places }) (set_out x.places place v (ltb-false place (length x.places) past)))
+
+-- where there is no such place, nothing changes
+pub with_place-kept : (h : Heap) (r : Ref) (place : ℕ) (v : Option Ref) → has_place (object_at h r) place ≡ false → with_place h r place v ≡ h
+with_place-kept h r place v past =
+    with_rewritten-kept h r (λ o. record o { places = set o.places place v }) (kept-past (object_at h r) place v past)
+
+-- there is no object under the key
+pub absent-stored : (h : Inside) (r : Ref) (key : Key) (f : Object → Object) → key ≡ key_of r → None ≡ get h.objects key → view_of h ≡ record (view_of h) { heap = with_rewritten (view_of h).heap r f }
+absent-stored h r key f name absent =
+    let none : object_at (view_of h).heap r ≡ None = object_at-stored h r key name ∙ sym absent in
+    ap (λ heap. record (view_of h) { heap = heap }) (sym (with_rewritten-kept (view_of h).heap r f (λ o there. absurd cc)))
+
+-- what is shown where a test fails
+on_refused : (b : Bool) (e : Refusal) (P : Type 0) → (b ≡ false → P) → OnErr (guarded {A = Unit {0}} ((b, e) ∷ []) tt) P
+on_refused true e P p = tt
+on_refused false e P p = p refl
+
+-- the object under the key has no such place
+pub placeless-stored : (h : Inside) (before after : HeapView) (r : Ref) (key : Key) (o : Object) (place : ℕ) (v : Option Ref) → view_of h ≡ before → key ≡ key_of r → Some o ≡ get h.objects key → after ≡ record before { heap = with_place before.heap r place v } → OnErr (guarded {A = Unit {0}} ((nat_lt place (length o.places), NoField) ∷ []) tt) (after ≡ before)
+placeless-stored h before after r key o place v view name there done =
+    let is : object_at before.heap r ≡ Some o = rw (← view) (object_at-stored h r key name ∙ sym there) in
+    on_refused (nat_lt place (length o.places)) NoField (after ≡ before) (λ past. rw done (ap (λ heap. record before { heap = heap }) (with_place-kept before.heap r place v (rw is past))))
