@@ -1,5 +1,7 @@
 mod Rows
 mod ObjectRows
+mod LinkRows
+pub mod Checks
 pub mod Lookups
 pub mod Shown
 pub mod References
