@@ -13,4 +13,3 @@ pub mod PlainSteps
 pub mod New
 pub mod Live
 pub mod Deliveries
-pub mod Acknowledged

@@ -2,6 +2,14 @@
 use Rattle.std.proofs.Common.{◌≡◌, ℕ, zero, suc, List, [], ◌∷◌, ◌++◌, get_or, set, ap, refl, sym, ◌∙◌, append_assoc, append-nil, Option, None, Some, option_to_list, slice_get, replicate, ltb, ltb-true, ◌<◌, true, arith, subst, ◌⊎◌, inl, inr}
 use Rattle.model.specs.Cuts.{Among}
 
+-- what holds at a place still holds after a write, where it holds of what was written if that place was written
+pub at_set_if : {A : Type 0} (P : A → Type 0) (xs : List A) (i k : ℕ) (x d : A) → (i ≡ k → P x) → P (get_or xs k d) → P (get_or (set xs i x) k d)
+at_set_if P [] i k x d p h = h
+at_set_if P (a ∷ xs) zero zero x d p h = p refl
+at_set_if P (a ∷ xs) zero (suc k) x d p h = h
+at_set_if P (a ∷ xs) (suc i) zero x d p h = h
+at_set_if P (a ∷ xs) (suc i) (suc k) x d p h = at_set_if P xs i k x d (λ e. p (ap suc e)) h
+
 -- a list, and the same with more after it
 abbrev pub Grows : {A : Type 0} → List A → List A → Type 0
 Grows {A = A} xs ys = (more : List A) × (ys ≡ xs ++ more)
@@ -27,6 +35,12 @@ slice_get-push [] y zero x h = inr cc
 slice_get-push [] y (suc k) x h = absurd cc
 slice_get-push (a ∷ xs) y zero x h = inl h
 slice_get-push (a ∷ xs) y (suc k) x h = slice_get-push xs y k x h
+
+-- a list of one value has it everywhere, and past the end
+pub get_or-replicate_any : {A : Type 0} (n k : ℕ) (a : A) → get_or (replicate n a) k a ≡ a
+get_or-replicate_any zero k a = refl
+get_or-replicate_any (suc n) zero a = refl
+get_or-replicate_any (suc n) (suc k) a = get_or-replicate_any n k a
 
 pub nothing-below-zero : (k : ℕ) → ltb k 0 ≡ true → ⊥
 nothing-below-zero k h = let below : k < 0 = ltb-true k 0 h in absurd (omega arith)

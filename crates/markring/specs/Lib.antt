@@ -1,5 +1,4 @@
 pub mod Called
-pub mod Frames
 pub mod Grammar
 pub mod Script
 pub mod Space

@@ -1,7 +1,5 @@
 mod Rows
 mod ObjectRows
-mod LinkRows
-pub mod Checks
 pub mod Lookups
 pub mod Shown
 pub mod References

@@ -1,5 +1,5 @@
 -- Two lists that are looked up side by side.
-use Rattle.std.proofs.Common.{◌≡◌, ℕ, zero, suc, List, [], ◌∷◌, ◌++◌, length, map, get_or, set, replicate, ap, refl, arith}
+use Rattle.std.proofs.Common.{◌≡◌, ℕ, zero, suc, List, [], ◌∷◌, ◌++◌, length, map, get_or, set, refl, arith}
 
 -- what holds at every place of two lists of one length holds after a write to one place of both
 pub both_set : {A B : Type 0} (P : A → B → Type 0) (xs : List A) (ys : List B) (d : A) (e : B) (i : ℕ) (x : A) (y : B) → length xs ≡ length ys → P x y → ((k : ℕ) → P (get_or xs k d) (get_or ys k e)) → (k : ℕ) → P (get_or (set xs i x) k d) (get_or (set ys i y) k e)
@@ -21,33 +21,17 @@ maps_agree f g (a ∷ xs) (b ∷ ys) d e w h =
     let others : map f xs ≡ map g ys = maps_agree f g xs ys d e (omega arith) (λ j. h (suc j)) in
     cc
 
--- what holds at a place still holds after a write, where it holds of what was written if that place was written
-pub at_set_if : {A : Type 0} (P : A → Type 0) (xs : List A) (i k : ℕ) (x d : A) → (i ≡ k → P x) → P (get_or xs k d) → P (get_or (set xs i x) k d)
-at_set_if P [] i k x d p h = h
-at_set_if P (a ∷ xs) zero zero x d p h = p refl
-at_set_if P (a ∷ xs) zero (suc k) x d p h = h
-at_set_if P (a ∷ xs) (suc i) zero x d p h = h
-at_set_if P (a ∷ xs) (suc i) (suc k) x d p h = at_set_if P xs i k x d (λ e. p (ap suc e)) h
-
--- the same where it holds of what was written, wherever that went
+-- what holds of each place holds after a write of something of which it holds
 pub at_set : {A : Type 0} (P : A → Type 0) (xs : List A) (i k : ℕ) (x d : A) → P x → P (get_or xs k d) → P (get_or (set xs i x) k d)
-at_set P xs i k x d p h = at_set_if P xs i k x d (λ _. p) h
+at_set P [] i k x d p h = h
+at_set P (a ∷ xs) zero zero x d p h = p
+at_set P (a ∷ xs) zero (suc k) x d p h = h
+at_set P (a ∷ xs) (suc i) zero x d p h = h
+at_set P (a ∷ xs) (suc i) (suc k) x d p h = at_set P xs i k x d p h
 
--- what holds at each place holds for one more element at the end
+-- the same for one more element at the end
 pub at_push : {A : Type 0} (P : A → Type 0) (xs : List A) (k : ℕ) (x d : A) → P x → P d → P (get_or xs k d) → P (get_or (xs ++ x ∷ []) k d)
 at_push P [] zero x d p q h = p
 at_push P [] (suc k) x d p q h = q
 at_push P (a ∷ xs) zero x d p q h = h
 at_push P (a ∷ xs) (suc k) x d p q h = at_push P xs k x d p q h
-
--- a write that a function can't tell from what stood there
-pub map-set_same : {A B : Type 0} (f : A → B) (xs : List A) (i : ℕ) (x d : A) → f x ≡ f (get_or xs i d) → map f (set xs i x) ≡ map f xs
-map-set_same f [] i x d h = refl
-map-set_same {B = B} f (a ∷ xs) zero x d h = ap (λ (z : B). z ∷ map f xs) h
-map-set_same {B = B} f (a ∷ xs) (suc i) x d h = ap (λ (z : List B). f a ∷ z) (map-set_same f xs i x d h)
-
--- a list of one value has it everywhere, and past the end
-pub get_or-replicate_any : {A : Type 0} (n k : ℕ) (a : A) → get_or (replicate n a) k a ≡ a
-get_or-replicate_any zero k a = refl
-get_or-replicate_any (suc n) zero a = refl
-get_or-replicate_any (suc n) (suc k) a = get_or-replicate_any n k a

@@ -1,5 +1,5 @@
 use ids::Ref;
-use msg::{Ack, Data};
+use msg::Data;
 
 /// A received message that waits for the program: who sent it, its label, and its reference where one
 /// was sent.
@@ -15,35 +15,71 @@ pub struct Letter {
 #[derive(Clone, Copy, Debug, PartialEq, Eq)]
 pub enum Event {
     /// Makes a new object with this many empty places, and puts its reference into the register.
-    Alloc { register: u16, places: u8 },
+    Alloc {
+        register: u16,
+        places: u8,
+    },
     /// Puts into the register what the source register holds.
-    Copy { register: u16, source: u16 },
+    Copy {
+        register: u16,
+        source: u16,
+    },
     /// Empties the register.
-    Drop { register: u16 },
+    Drop {
+        register: u16,
+    },
     /// Puts into the register what stands in a place of the object, also where that is nothing.
-    Load { register: u16, object: u16, place: u8 },
+    Load {
+        register: u16,
+        object: u16,
+        place: u8,
+    },
     /// Puts what the register holds into a place of the object.
-    Store { object: u16, place: u8, register: u16 },
+    Store {
+        object: u16,
+        place: u8,
+        register: u16,
+    },
     /// Empties a place of the object.
-    Clear { object: u16, place: u8 },
+    Clear {
+        object: u16,
+        place: u8,
+    },
     /// Reads the word of the object. It changes nothing.
-    Word { object: u16 },
+    Word {
+        object: u16,
+    },
     /// Writes the word of the object.
-    SetWord { object: u16, word: u64 },
+    SetWord {
+        object: u16,
+        word: u64,
+    },
     /// Sends a letter with the register's reference, or with none where that is empty, to another node.
-    Give { to: u8, label: u32, register: u16 },
+    Give {
+        to: u8,
+        label: u32,
+        register: u16,
+    },
     /// Takes the oldest letter, and puts its reference, or nothing, into the register.
-    Accept { register: u16 },
+    Accept {
+        register: u16,
+    },
     /// Asks the owner of an object of another node to put what the register holds into a place of it; an
     /// empty register empties the place.
-    Put { object: u16, place: u8, register: u16 },
+    Put {
+        object: u16,
+        place: u8,
+        register: u16,
+    },
     /// Asks the owner of an object of another node for what stands in a place of it. The owner sends it
     /// back in a letter with this label.
-    Get { object: u16, place: u8, label: u32 },
+    Get {
+        object: u16,
+        place: u8,
+        label: u32,
+    },
     /// A message from another node.
     Data(Data),
-    /// Another node acknowledges the messages that it has taken in and saved.
-    Ack(Ack),
 }
 
 /// What a node answers to an event that it was not refused.

@@ -1,2 +1,1 @@
 mod Sound
-mod Nodes

@@ -2,6 +2,7 @@
 //! node shows, and a refused event changes nothing.
 #![tactic(auto)]
 
+mod link;
 mod links;
 mod node;
 mod summary;

@@ -1,2 +1,0 @@
-pub mod Receivers
-pub mod Senders
