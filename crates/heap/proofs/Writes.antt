@@ -1,10 +1,9 @@
 -- What a write to an object through the arena makes of the heap that shows it.
-use Rattle.std.proofs.Common.{◌≡◌, ℕ, List, [], ◌∷◌, length, map, set, get_or, Option, Some, None, OnErr, Bool, true, false, cond, nat_lt, eqb, refl, sym, ap, ◌∙◌, inl, inr}
-use Rattle.std.proofs.lemmas.Bool.{eq-eqb, ltb-false}
+use Rattle.std.proofs.Common.{◌≡◌, ℕ, List, [], ◌∷◌, length, map, set, get_or, Option, Some, None, OnErr, Bool, true, false, nat_lt, refl, sym, ap, ◌∙◌, inl, inr}
+use Rattle.std.proofs.lemmas.Bool.{eq-eqb}
 use Rattle.std.proofs.lemmas.Bool.Decides.{eqb_tells}
-use Rattle.std.proofs.lemmas.List.{map-set, set-get_or}
+use Rattle.std.proofs.lemmas.List.{map-set}
 use Rattle.std.proofs.Math.ListN.{get_or-map}
-use Rattle.std.proofs.Math.Seq.{set_out}
 use Rattle.ids.specs.declared.names.Ref.{Ref}
 use Rattle.ids.specs.declared.refusal.Refusal.{Refusal}
 use Rattle.ids.specs.declared.refusal.Refusal.TheVariants.{NoField}
@@ -15,7 +14,8 @@ use Rattle.arena.specs.declared.Slot.TheVariants.{Free, Occupied, Retired}
 use Rattle.model.specs.Checks.{guarded}
 use Rattle.model.specs.State.{Object, Heap, slot_at}
 use Rattle.model.specs.State as state
-use Rattle.model.specs.Heaps.{object_of, object_at, has_place, rewritten, with_rewritten, with_place}
+use Rattle.model.specs.Heaps.{object_of, object_at, rewritten, with_rewritten, with_place}
+use Rattle.model.proofs.IdleWrites.{with_rewritten-kept, with_place-kept}
 use Rattle.heap.specs.Heap.{HeapView}
 use Rattle.heap.specs.Stored.{slot_of, view_of}
 use Rattle.heap.specs.declared.Heap.TheInside.{Inside}
@@ -51,32 +51,6 @@ object_of-stored Retired g = refl
 object_at-stored : (h : Inside) (r : Ref) (key : Key) → key ≡ key_of r → object_at (view_of h).heap r ≡ get h.objects key
 object_at-stored h r key name =
     rw (name, get_or-map slot_of h.objects.slots r.slot Retired) (object_of-stored (get_or h.objects.slots r.slot Retired) r.generation)
-
-rewritten-kept : (s : state.Slot) (g : ℕ) (f : Object → Object) → ((o : Object) → object_of s g ≡ Some o → f o ≡ o) → rewritten f g s ≡ s
-rewritten-kept (state.Free own) g f same = refl
-rewritten-kept (state.Occupied own x) g f same =
-    elim (eqb own g) as (λ b. ((o : Object) → cond b (Some x) None ≡ Some o → f o ≡ o) → state.Occupied own (cond b (f x) x) ≡ state.Occupied own x) [
-      | true ↦ λ same. ap (state.Occupied own) (same x refl)
-      | false ↦ λ same. refl
-    ] same
-rewritten-kept state.Retired g f same = refl
-
--- where there is no such object, or it stays the same, so does the heap
-pub with_rewritten-kept : (h : Heap) (r : Ref) (f : Object → Object) → ((o : Object) → object_at h r ≡ Some o → f o ≡ o) → with_rewritten h r f ≡ h
-with_rewritten-kept h r f same =
-    rw (rewritten-kept (slot_at h r.slot) r.generation f same, set-get_or h.slots r.slot state.Retired) refl
-
--- an object without such a place
-kept-past : (found : Option Object) (place : ℕ) (v : Option Ref) → has_place found place ≡ false → (o : Object) → found ≡ Some o → record o { places = set o.places place v } ≡ o
-kept-past None place v past o is = absurd cc
-kept-past (Some x) place v past o is =
-    let same : x ≡ o = cc in
-    rw (← same) (ap (λ places. record x { places = places }) (set_out x.places place v (ltb-false place (length x.places) past)))
-
--- where there is no such place, nothing changes
-pub with_place-kept : (h : Heap) (r : Ref) (place : ℕ) (v : Option Ref) → has_place (object_at h r) place ≡ false → with_place h r place v ≡ h
-with_place-kept h r place v past =
-    with_rewritten-kept h r (λ o. record o { places = set o.places place v }) (kept-past (object_at h r) place v past)
 
 -- there is no object under the key
 pub absent-stored : (h : Inside) (r : Ref) (key : Key) (f : Object → Object) → key ≡ key_of r → None ≡ get h.objects key → view_of h ≡ record (view_of h) { heap = with_rewritten (view_of h).heap r f }

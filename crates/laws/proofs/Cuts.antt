@@ -12,8 +12,9 @@ use Rattle.model.specs.Steps.{act, receive, is_own}
 use Rattle.model.specs.World.{World, KeepsSent, released, numbered, new_world, happens, run}
 use Rattle.model.specs.Cuts.{Cut, cut, taken, IsInFlight, Becomes, PlainStep, acts, delivers, PlainRun, still, further}
 use Rattle.laws.specs.Statements.{CutsExtend}
-use Rattle.laws.proofs.Lookups.{at_set_if, Grows, grows-refl, slice_get-grows}
-use Rattle.laws.proofs.StepFacts.{Happening, refused, acted, handed, saved, restarted, happening, Receipt, repeated, next, receipt-cases}
+use Rattle.model.proofs.Lookups.{at_set_if}
+use Rattle.laws.proofs.Lookups.{Grows, grows-refl, slice_get-grows}
+use Rattle.laws.proofs.StepFacts.{Happening, nothing, acted, handed, saved, restarted, happening, Receipt, repeated, next, receipt-cases}
 use Rattle.laws.proofs.KeepsSent.{keeps-sent, new-keeps-sent}
 
 -- one plain run after another
@@ -148,7 +149,7 @@ cut-restarted w i choice within j = ⊎_elim
     (cases_eq j i)
 
 cut-happening : (w v : World) (choice : ℕ → Bool) → Happening w v → KeepsSent w → Before w (cut v choice)
-cut-happening w v choice refused h = (choice, still (λ j. refl))
+cut-happening w v choice nothing h = (choice, still (λ j. refl))
 cut-happening w v choice (acted i e t a within own answered) h = cut-acted w i e t a choice within own answered
 cut-happening w v choice (handed from to number x t a within there answered) h =
     cut-handed w from to number x t a choice h within there answered (receipt-cases (node_at w.current to) from to number x.stamp x.body t a answered)

@@ -4,7 +4,7 @@ use Rattle.ids.specs.Limits.{Shaped}
 use Rattle.ids.specs.declared.names.Ref.{Ref}
 use Rattle.msg.specs.declared.body.Body.{Body}
 use Rattle.msg.specs.declared.body.Message.{Message}
-use Rattle.model.specs.State.{Object, Heap, Part, slot_at}
+use Rattle.model.specs.State.{Object, Heap, Ring, Part, slot_at}
 use Rattle.model.specs.Heaps.{rewritten, with_rewritten}
 use Rattle.model.specs.Steps.{may_follow}
 use Rattle.model.specs.Cuts.{Cut, Among}
@@ -33,19 +33,19 @@ kept-fitting shape c d i p ms turn facts fitting = record {
       (flew c d i p ms turn from to place x flight);
 }
 
--- the heap alone changes, beside what was taken in, and nothing is sent
-pub fits-alone : (p : Part) (h : Heap) (got : List ℕ) → (length p.heap.slots ≤ p.shape.slots → length h.slots ≤ p.shape.slots) → FittingFacts p (record p { heap = h; got = got }) []
-fits-alone p h got slots = record { shape = refl; phases = refl; slots = slots; sent = λ to x new. absurd new }
+-- the heap alone changes, beside what was taken in and counted, and nothing is sent
+pub fits-alone : {ring : Ring} {got : List ℕ} (p : Part) (h : Heap) → (length p.heap.slots ≤ p.shape.slots → length h.slots ≤ p.shape.slots) → FittingFacts p (record p { heap = h; ring = ring; got = got }) []
+fits-alone p h slots = record { shape = refl; phases = refl; slots = slots; sent = λ to x new. absurd new }
 
-pub fits-rewritten : (p : Part) (got : List ℕ) (r : Ref) (f : Object → Object) → FittingFacts p (record p { heap = with_rewritten p.heap r f; got = got }) []
-fits-rewritten p got r f =
-    fits-alone p (with_rewritten p.heap r f) got
+pub fits-rewritten : {ring : Ring} {got : List ℕ} (p : Part) (r : Ref) (f : Object → Object) → FittingFacts p (record p { heap = with_rewritten p.heap r f; ring = ring; got = got }) []
+fits-rewritten p r f =
+    fits-alone p (with_rewritten p.heap r f)
     (λ within. subst (λ (n : ℕ). n ≤ p.shape.slots) (sym (length-set p.heap.slots r.slot (rewritten f r.generation (slot_at p.heap r.slot)))) within)
 
--- nothing changes beside what was taken in, and one message is sent
+-- nothing changes beside what was taken in and counted, and one message is sent
 fits-one : (p : Part) (to : ℕ) (b : Body) → may_follow to b ≡ true → (other : ℕ) (x : Message) → Among {A = ℕ × Message} (other, x) ((to, record { stamp = p.phases.cycle; body = b }) ∷ []) → p.phases.cycle ≡ 0 → FitsReceiver other x
 fits-one p to b follows other x among start =
     subst (λ (z : ℕ × Message). FitsReceiver z.0 z.1) (sym (among-one (other, x) (to, record { stamp = p.phases.cycle; body = b }) among)) (record { stamp = start; follows = follows })
 
-pub fits-sent : (p : Part) (got : List ℕ) (to : ℕ) (b : Body) → may_follow to b ≡ true → FittingFacts p (record p { got = got }) ((to, record { stamp = p.phases.cycle; body = b }) ∷ [])
-fits-sent p got to b follows = record { shape = refl; phases = refl; slots = λ within. within; sent = fits-one p to b follows }
+pub fits-sent : {ring : Ring} {got : List ℕ} (p : Part) (to : ℕ) (b : Body) → may_follow to b ≡ true → FittingFacts p (record p { ring = ring; got = got }) ((to, record { stamp = p.phases.cycle; body = b }) ∷ [])
+fits-sent p to b follows = record { shape = refl; phases = refl; slots = λ within. within; sent = fits-one p to b follows }

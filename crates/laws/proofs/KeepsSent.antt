@@ -4,8 +4,9 @@ use Rattle.ids.specs.Limits.{Shaped}
 use Rattle.model.specs.declared.step.Step.{Step}
 use Rattle.model.specs.State.{NodeState, no_node, node_at, sent_to}
 use Rattle.model.specs.World.{World, KeepsSent, new_world, happens}
-use Rattle.laws.proofs.Lookups.{at_set_if, Grows, grows-refl, grows-trans}
-use Rattle.laws.proofs.StepFacts.{Happening, refused, acted, handed, saved, restarted, happening, act-grows, receive-grows}
+use Rattle.model.proofs.Lookups.{at_set_if}
+use Rattle.laws.proofs.Lookups.{Grows, grows-refl, grows-trans}
+use Rattle.laws.proofs.StepFacts.{Happening, nothing, acted, handed, saved, restarted, happening, act-grows, receive-grows}
 
 -- a node changes to one that sent more
 keeps-changed : (w : World) (i : ℕ) (t : NodeState) → KeepsSent w → ((j : ℕ) → Grows (sent_to (node_at w.current i) j) (sent_to t j)) → KeepsSent (record w { current = set w.current i t })
@@ -36,7 +37,7 @@ keeps-restarted w i h = record {
 }
 
 keeps-happening : (w v : World) → Happening w v → KeepsSent w → KeepsSent v
-keeps-happening w v refused h = h
+keeps-happening w v nothing h = h
 keeps-happening w v (acted i e t a within own answered) h = keeps-changed w i t h (λ j. act-grows (node_at w.current i) e t a j answered)
 keeps-happening w v (handed from to number x t a within there answered) h = keeps-changed w to t h (λ j. receive-grows (node_at w.current to) from to number x.stamp x.body t a j answered)
 keeps-happening w v (saved i within) h = keeps-saved w i h

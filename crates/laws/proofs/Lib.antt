@@ -13,3 +13,4 @@ pub mod PlainSteps
 pub mod New
 pub mod Live
 pub mod Deliveries
+pub mod Acknowledged

@@ -9,7 +9,7 @@ use Rattle.msg.specs.declared.body.Message.{Message}
 use Rattle.model.specs.State.{Occupied, NodeState, new_node, no_node, node_at, slot_at, got_from, sent_to}
 use Rattle.model.specs.World.{new_world, new_nodes}
 use Rattle.model.specs.Cuts.{Cut, cut}
-use Rattle.laws.proofs.Lookups.{get_or-replicate_any}
+use Rattle.model.proofs.Lookups.{get_or-replicate_any}
 use Rattle.laws.proofs.Invariant.{Root, is_in_register, is_in_letter, FreeSlots, Sound}
 
 -- a node that has done nothing yet

@@ -10,7 +10,8 @@ use Rattle.model.specs.State.{Object, Slot, Occupied, Retired, Heap, Part, no_no
 use Rattle.model.specs.Heaps.{slots_with, next_generation, with_register, with_object, new_object, new_reference, is_filled, no_reference, named, place_loaded, oldest_letter, letter_taken}
 use Rattle.model.specs.Steps.{is_own, tests, made, allocated, copied, dropped, loaded, stored, cleared, word_read, word_set, given, accepted, put_asked, get_asked}
 use Rattle.model.specs.Cuts.{Among}
-use Rattle.laws.proofs.Lookups.{get_or-replicate_any, nothing-below-zero, among-one, among-option}
+use Rattle.model.proofs.Lookups.{get_or-replicate_any}
+use Rattle.laws.proofs.Lookups.{nothing-below-zero, among-one, among-option}
 use Rattle.laws.proofs.Invariant.{is_in_register, HasPlace, FreeSlots}
 use Rattle.laws.proofs.Facts.{Known, heap-alone, sends-alone, IsOccupied, HeapFacts, EventFacts, heap-same, heap-then, heap-register, heap-letter_gone, oldest-root, heap-object, new-object-there, heap-place, heap-word, IsInPlace, found-in-place}
 use Rattle.laws.proofs.Fitting.{FittingFacts, fits-alone, fits-rewritten, fits-sent}
@@ -56,21 +57,22 @@ put-known K h object register filled r among = ⊎_elim {C = Known K h r} (λ e.
 
 pub own-facts : (p : Part) (counts : List ℕ) (e : Event) → is_own e ≡ true → AllPass (tests p e) → FreeSlots p.heap → EventFacts (InHand p e) p (made p counts e).part (made p counts e).sends
 unfolding allocated copied dropped loaded stored cleared word_read word_set given accepted put_asked get_asked
-own-facts p counts (event.Alloc register places) own passed f = heap-alone _ p _ p.got (alloc-heap p.own p.phases.cycle p.heap register places f)
-own-facts p counts (event.Copy register source) own passed f = heap-alone _ p _ p.got (heap-register _ p.heap register (register_at p.heap source) (λ r e. inl (is_in_register source e)))
-own-facts p counts (event.Drop register) own passed f = heap-alone _ p _ p.got (heap-register _ p.heap register None (λ r e. absurd cc))
-own-facts p counts (event.Load register object place) own passed f = heap-alone _ p _ p.got (heap-register _ p.heap register (place_loaded p.heap object place) (λ r e. inr e))
-own-facts p counts (event.Store object place register) own passed f = heap-alone _ p _ p.got (heap-place _ p.heap (named p.heap object) place (register_at p.heap register) (λ r e. inl (is_in_register register e)))
-own-facts p counts (event.Clear object place) own passed f = heap-alone _ p _ p.got (heap-place _ p.heap (named p.heap object) place None (λ r e. absurd cc))
-own-facts p counts (event.Word object) own passed f = heap-alone _ p _ p.got (heap-same _ p.heap)
-own-facts p counts (event.SetWord object word) own passed f = heap-alone _ p _ p.got (heap-word _ p.heap (named p.heap object) word)
-own-facts p counts (event.Give to label register) own passed f = sends-alone _ p p.got to (body.Give label (register_at p.heap register)) (give-known _ p.heap register)
-own-facts p counts (event.Accept register) own passed f = heap-alone _ p _ p.got (accept-heap p.heap register)
+own-facts p counts (event.Alloc register places) own passed f = heap-alone _ p _ (alloc-heap p.own p.phases.cycle p.heap register places f)
+own-facts p counts (event.Copy register source) own passed f = heap-alone _ p _ (heap-register _ p.heap register (register_at p.heap source) (λ r e. inl (is_in_register source e)))
+own-facts p counts (event.Drop register) own passed f = heap-alone _ p _ (heap-register _ p.heap register None (λ r e. absurd cc))
+own-facts p counts (event.Load register object place) own passed f = heap-alone _ p _ (heap-register _ p.heap register (place_loaded p.heap object place) (λ r e. inr e))
+own-facts p counts (event.Store object place register) own passed f = heap-alone _ p _ (heap-place _ p.heap (named p.heap object) place (register_at p.heap register) (λ r e. inl (is_in_register register e)))
+own-facts p counts (event.Clear object place) own passed f = heap-alone _ p _ (heap-place _ p.heap (named p.heap object) place None (λ r e. absurd cc))
+own-facts p counts (event.Word object) own passed f = heap-alone _ p _ (heap-same _ p.heap)
+own-facts p counts (event.SetWord object word) own passed f = heap-alone _ p _ (heap-word _ p.heap (named p.heap object) word)
+own-facts p counts (event.Give to label register) own passed f = sends-alone _ p to (body.Give label (register_at p.heap register)) (give-known _ p.heap register)
+own-facts p counts (event.Accept register) own passed f = heap-alone _ p _ (accept-heap p.heap register)
 own-facts p counts (event.Put object place register) own passed f =
-    sends-alone _ p p.got (named p.heap object).node (body.Put (named p.heap object) place (register_at p.heap register)) (put-known _ p.heap object register passed.1.1.0)
+    sends-alone _ p (named p.heap object).node (body.Put (named p.heap object) place (register_at p.heap register)) (put-known _ p.heap object register passed.1.1.0)
 own-facts p counts (event.Get object place label) own passed f =
-    sends-alone _ p p.got (named p.heap object).node (body.Get (named p.heap object) place label) (named-known _ p.heap object passed.1.0)
+    sends-alone _ p (named p.heap object).node (body.Get (named p.heap object) place label) (named-known _ p.heap object passed.1.0)
 own-facts p counts (event.Data d) own passed f = absurd cc
+own-facts p counts (event.Ack a) own passed f = absurd cc
 
 -- nodes and messages fit each other
 fits-object : (free : List ℕ) (slots : List Slot) (o : Object) (limit : ℕ) → (ltb 0 (length free) || ltb (length slots) limit) ≡ true → length slots ≤ limit → length (slots_with free slots o) ≤ limit
@@ -81,16 +83,17 @@ fits-object (k ∷ free) slots o limit room within = omega (arith, within, lengt
 
 pub own-fits : (p : Part) (counts : List ℕ) (e : Event) → is_own e ≡ true → AllPass (tests p e) → FittingFacts p (made p counts e).part (made p counts e).sends
 unfolding allocated copied dropped loaded stored cleared word_read word_set given accepted put_asked get_asked
-own-fits p counts (event.Alloc register places) own passed = fits-alone p _ p.got (fits-object p.heap.free p.heap.slots (new_object p.phases.cycle places) p.shape.slots passed.1.1.0)
-own-fits p counts (event.Store object place register) own passed = fits-rewritten p p.got (named p.heap object) _
-own-fits p counts (event.Clear object place) own passed = fits-rewritten p p.got (named p.heap object) _
-own-fits p counts (event.SetWord object word) own passed = fits-rewritten p p.got (named p.heap object) _
-own-fits p counts (event.Give to label register) own passed = fits-sent p p.got to (body.Give label (register_at p.heap register)) refl
+own-fits p counts (event.Alloc register places) own passed = fits-alone p _ (fits-object p.heap.free p.heap.slots (new_object p.phases.cycle places) p.shape.slots passed.1.1.0)
+own-fits p counts (event.Store object place register) own passed = fits-rewritten p (named p.heap object) _
+own-fits p counts (event.Clear object place) own passed = fits-rewritten p (named p.heap object) _
+own-fits p counts (event.SetWord object word) own passed = fits-rewritten p (named p.heap object) _
+own-fits p counts (event.Give to label register) own passed = fits-sent p to (body.Give label (register_at p.heap register)) refl
 own-fits p counts (event.Put object place register) own passed =
-    fits-sent p p.got (named p.heap object).node (body.Put (named p.heap object) place (register_at p.heap register)) (eq-eqb _ _ refl)
-own-fits p counts (event.Get object place label) own passed = fits-sent p p.got (named p.heap object).node (body.Get (named p.heap object) place label) (eq-eqb _ _ refl)
+    fits-sent p (named p.heap object).node (body.Put (named p.heap object) place (register_at p.heap register)) (eq-eqb _ _ refl)
+own-fits p counts (event.Get object place label) own passed = fits-sent p (named p.heap object).node (body.Get (named p.heap object) place label) (eq-eqb _ _ refl)
 own-fits p counts (event.Data d) own passed = absurd cc
-own-fits p counts e own passed = fits-alone p _ p.got (λ within. within)
+own-fits p counts (event.Ack a) own passed = absurd cc
+own-fits p counts e own passed = fits-alone p _ (λ within. within)
 
 -- What an event brings is a new object of the node, or stands in a place of an object there.
 abbrev pub Found : Part → Heap → Ref → Type 0
@@ -109,9 +112,11 @@ own-hand p counts e f r never = absurd never
 pub own-got : (p : Part) (counts : List ℕ) (e : Event) → is_own e ≡ true → (made p counts e).part.got ≡ p.got
 unfolding allocated copied dropped loaded stored cleared word_read word_set given accepted put_asked get_asked
 own-got p counts (event.Data d) own = absurd cc
+own-got p counts (event.Ack a) own = absurd cc
 own-got p counts e own = refl
 
 -- the node that stands past the end of a list refuses every event
 pub no-node-refuses : (e : Event) → is_own e ≡ true → AllPass (tests no_node.part e) → ⊥
 no-node-refuses (event.Data d) own passed = absurd cc
+no-node-refuses (event.Ack a) own passed = absurd cc
 no-node-refuses e own passed = nothing-below-zero _ passed.0

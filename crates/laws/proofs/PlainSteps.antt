@@ -12,7 +12,7 @@ use Rattle.model.specs.Checks.{AllPass}
 use Rattle.model.specs.State.{NodeState, no_node, slot_at, sent_to}
 use Rattle.model.specs.Steps.{Effect, act, tests, made, taken_in, append_all, is_own, is_addressed}
 use Rattle.model.specs.Cuts.{Cut, taken, IsInFlight, IsLive, Becomes, PlainStep, acts, delivers}
-use Rattle.laws.proofs.Lookups.{at_set_if}
+use Rattle.model.proofs.Lookups.{at_set_if}
 use Rattle.laws.proofs.StepFacts.{act-ok, Receipt, repeated, next, receipt-cases}
 use Rattle.laws.proofs.Invariant.{Base, Closed, Sound}
 use Rattle.laws.proofs.Facts.{IsOccupied, IsInPlace}

@@ -32,20 +32,20 @@ receipt-hand p b r held = ⊎_elim {C = Among r (carried b) ⊎ IsInPlace p.heap
 pub receipt-facts : (p : Part) (from number stamp : ℕ) (b : Body) → EventFacts (InMessage p b) p (taken_in p from number stamp b).part (taken_in p from number stamp b).sends
 unfolding taken_in count_in take_body
 receipt-facts p from number stamp (body.Give label reference) =
-    heap-alone _ p _ (set p.got from number) (heap-letter _ p.heap (record { from = from; label = label; reference = reference }) (λ r e. inl (option-among reference r e)))
+    heap-alone _ p _ (heap-letter _ p.heap (record { from = from; label = label; reference = reference }) (λ r e. inl (option-among reference r e)))
 receipt-facts p from number stamp (body.Put target place reference) =
-    heap-alone _ p _ (set p.got from number) (heap-place _ p.heap target place reference (λ r e. inr (inl (inr (option-among reference r e)))))
+    heap-alone _ p _ (heap-place _ p.heap target place reference (λ r e. inr (inl (inr (option-among reference r e)))))
 receipt-facts p from number stamp (body.Get target place label) =
     let held : Option Ref = place_of (object_at p.heap target) place in
-    sends-alone _ p (set p.got from number) from (body.Give label held) (λ r among. inr (inr (among-option held r among)))
-receipt-facts p from number stamp b = heap-alone _ p _ (set p.got from number) (heap-same _ p.heap)
+    sends-alone _ p from (body.Give label held) (λ r among. inr (inr (among-option held r among)))
+receipt-facts p from number stamp b = heap-alone _ p _ (heap-same _ p.heap)
 
 -- nodes and messages fit each other
 pub receipt-fits : (p : Part) (from number stamp : ℕ) (b : Body) → FittingFacts p (taken_in p from number stamp b).part (taken_in p from number stamp b).sends
 unfolding taken_in count_in take_body
-receipt-fits p from number stamp (body.Put target place reference) = fits-rewritten p (set p.got from number) target _
-receipt-fits p from number stamp (body.Get target place label) = fits-sent p (set p.got from number) from (body.Give label (place_of (object_at p.heap target) place)) refl
-receipt-fits p from number stamp b = fits-alone p _ (set p.got from number) (λ within. within)
+receipt-fits p from number stamp (body.Put target place reference) = fits-rewritten p target _
+receipt-fits p from number stamp (body.Get target place label) = fits-sent p from (body.Give label (place_of (object_at p.heap target) place)) refl
+receipt-fits p from number stamp b = fits-alone p _ (λ within. within)
 
 -- one more message is taken in
 pub receipt-got : (p : Part) (from number stamp : ℕ) (b : Body) → (taken_in p from number stamp b).part.got ≡ set p.got from number

@@ -1,8 +1,8 @@
 -- An answered event, and a step of a space, taken apart once for all.
-use Rattle.std.proofs.Common.{◌≡◌, ℕ, ◌<◌, Bool, true, false, ◌&&◌, ltb-true, List, [], ◌∷◌, ◌++◌, length, map, get_or, set, Option, None, Some, Result, Ok, Err, refl, sym, ap, ◌∙◌, ◌+◌, subst, leb-true, leb-false, inl, inr, ⊎_elim, ◌≤◌, length-set, arith}
+use Rattle.std.proofs.Common.{◌≡◌, ℕ, ◌<◌, Bool, true, false, ◌==◌, ◌&&◌, ltb-true, List, [], ◌∷◌, ◌++◌, length, map, get_or, set, Option, None, Some, Result, Ok, Err, refl, sym, ap, ◌∙◌, ◌+◌, subst, leb, leb-true, leb-false, inl, inr, ⊎_elim, ◌≤◌, length-set, arith}
 use Rattle.std.proofs.lemmas.Bool.{cond_both, and_parts, cases_Bool, cond-true, cond-false, or_cases, both_ways}
 use Rattle.ids.specs.declared.refusal.Refusal.{Refusal}
-use Rattle.ids.specs.declared.refusal.Refusal.TheVariants.{LinkSpent, NoNode}
+use Rattle.ids.specs.declared.refusal.Refusal.TheVariants.{LinkSpent, NoNode, AckBeyond}
 use Rattle.msg.specs.declared.body.Message.{Message}
 use Rattle.msg.specs.declared.body.Body.{Body}
 use Rattle.model.specs.declared.event.Event.{Event}
@@ -10,17 +10,15 @@ use Rattle.model.specs.declared.event.Answer.{Answer}
 use Rattle.model.specs.declared.event.Answer.TheVariants as answer
 use Rattle.model.specs.declared.step.Step.{Step}
 use Rattle.model.specs.declared.step.Step.TheVariants as step
+use Rattle.model.specs.declared.step.Outcome.{Outcome}
 use Rattle.model.specs.declared.step.Outcome.TheVariants as outcome
 use Rattle.model.specs.Checks.{guarded, AllPass}
 use Rattle.model.specs.State.{NodeState, node_at, sent_to, got_from}
 use Rattle.model.specs.Steps.{Effect, tests, made, receipt_tests, receipt, is_repeat, may_take, taken_in, unchanged, fits, all_tests, checked, after, act, receive, append_all, is_own}
-use Rattle.model.specs.World.{World, released, moved, handed_over, is_node, take_step, outcome_of, world_after, happens}
-use Rattle.model.proofs.References.{guarded-ok, guarded-passes}
-use Rattle.laws.proofs.Lookups.{at_set_if, Grows, grows-refl, grows-trans}
-
-passed-parts : (ts : List (Bool × Refusal)) (last : Bool × Refusal) → AllPass (ts ++ last ∷ []) → AllPass ts × (last.0 ≡ true)
-passed-parts [] last h = (tt, h.0)
-passed-parts (t ∷ ts) last h = let rest = passed-parts ts last h.1 in ((h.0, rest.0), rest.1)
+use Rattle.model.specs.World.{World, released, acknowledged, release_count, moved, handed_over, is_node, take_step, outcome_of, world_after, happens}
+use Rattle.model.proofs.Checks.{guarded-ok, guarded-passes, passed-parts}
+use Rattle.model.proofs.Lookups.{at_set_if}
+use Rattle.laws.proofs.Lookups.{Grows, grows-refl, grows-trans}
 
 -- An answered event: the node afterwards and the answer, that all tests passed, and that its messages got
 -- numbers.
@@ -42,13 +40,13 @@ stepped : (s : NodeState) (ts : List (Bool × Refusal)) (x : Effect) (t : NodeSt
 stepped s ts x t a h =
     let found = after-ok s (checked ts (map length s.sent) x) (t, a) h in
     let all = all_tests ts (map length s.sent) x in
-    let parts = passed-parts ts (fits (map length s.sent) x.sends, LinkSpent) (guarded-passes all x found.0 found.1) in
+    let parts = passed-parts ts ((fits (map length s.sent) x.sends, LinkSpent) ∷ []) (guarded-passes all x found.0 found.1) in
     let both : ◌≡◌ {A = NodeState × Answer} (t, a) (effect_on s x) = found.2 ∙ ap (effect_on s) (sym (guarded-ok all x found.0 found.1)) in
     record {
       state = ap (λ (z : NodeState × Answer). z.0) both;
       answer = ap (λ (z : NodeState × Answer). z.1) both;
       passed = parts.0;
-      numbered = parts.1;
+      numbered = parts.1.0;
     }
 
 -- an event of a node that was answered
@@ -109,7 +107,7 @@ receive-grows s from to number stamp b t a j h = stepped-grows s _ _ t a j (rece
 
 -- what a step of a space does to it
 pub data Happening (w : World) : World → Type 0 where
-  refused : Happening w w
+  nothing : Happening w w
   acted : (i : ℕ) (e : Event) (t : NodeState) (a : Answer) → i < length w.current → is_own e ≡ true → act (node_at w.current i) e ≡ Ok (t, a) → Happening w (record w { current = set w.current i t })
   handed : (from to number : ℕ) (x : Message) (t : NodeState) (a : Answer) → to < length w.current → released w from to number ≡ Some x → receive (node_at w.current to) from to number x.stamp x.body ≡ Ok (t, a) → Happening w (record w { current = set w.current to t })
   saved : (i : ℕ) → i < length w.current → Happening w (record w { saved = set w.saved i (node_at w.current i) })
@@ -117,11 +115,17 @@ pub data Happening (w : World) : World → Type 0 where
 
 moved-happening : (w : World) (i : ℕ) (r : Result (NodeState × Answer) Refusal) → ((t : NodeState) (a : Answer) → r ≡ Ok (t, a) → Happening w (record w { current = set w.current i t })) → Happening w (world_after w (moved w i r))
 moved-happening w i (Ok x) h = h x.0 x.1 refl
-moved-happening w i (Err e) h = refused
+moved-happening w i (Err e) h = nothing
 
 handed-happening : (w : World) (from to number : ℕ) (found : Option Message) → to < length w.current → released w from to number ≡ found → Happening w (world_after w (handed_over w from to number found))
-handed-happening w from to number None within there = refused
+handed-happening w from to number None within there = nothing
 handed-happening w from to number (Some x) within there = moved-happening w to (receive (node_at w.current to) from to number x.stamp x.body) (λ t a h. handed from to number x t a within there h)
+
+-- what is only tested leaves the space as it was
+tested-happening : (w : World) (cs : List (Bool × Refusal)) (o : Outcome) → Happening w (world_after w (guarded cs (w, o)))
+tested-happening w [] o = nothing
+tested-happening w ((true, r) ∷ cs) o = tested-happening w cs o
+tested-happening w ((false, r) ∷ cs) o = nothing
 
 pub happening : (w : World) (s : Step) → Happening w (happens w s)
 unfolding take_step
@@ -129,16 +133,22 @@ happening w (step.Act i e) =
     cond_both (is_node w i) _ _ (λ r. Happening w (world_after w r))
     (λ within. cond_both (is_own e) _ _ (λ r. Happening w (world_after w r))
     (λ own. moved-happening w i (act (node_at w.current i) e) (λ t a h. acted i e t a (ltb-true _ _ within) own h))
-    (λ _. refused))
-    (λ _. refused)
+    (λ _. nothing))
+    (λ _. nothing)
 happening w (step.Save i) =
-    cond_both (is_node w i) _ _ (λ r. Happening w (world_after w r)) (λ within. saved i (ltb-true _ _ within)) (λ _. refused)
+    cond_both (is_node w i) _ _ (λ r. Happening w (world_after w r)) (λ within. saved i (ltb-true _ _ within)) (λ _. nothing)
 happening w (step.Restart i) =
-    cond_both (is_node w i) _ _ (λ r. Happening w (world_after w r)) (λ within. restarted i (ltb-true _ _ within)) (λ _. refused)
+    cond_both (is_node w i) _ _ (λ r. Happening w (world_after w r)) (λ within. restarted i (ltb-true _ _ within)) (λ _. nothing)
 happening w (step.Deliver from to number) =
     cond_both _ _ _ (λ r. Happening w (world_after w r))
     (λ within. handed-happening w from to number (released w from to number) (ltb-true _ _ (and_parts (is_node w from) (is_node w to) within).1) refl)
-    (λ _. refused)
+    (λ _. nothing)
+happening w (step.Hand from to) =
+    cond_both (is_node w from && is_node w to) _ _ (λ r. Happening w (world_after w r))
+    (λ _. cond_both (from == to) _ _ (λ r. Happening w (world_after w r))
+    (λ _. nothing)
+    (λ _. tested-happening w ((leb (acknowledged w from to) (release_count w from to), AckBeyond) ∷ []) (outcome.Handed (acknowledged w from to))))
+    (λ _. nothing)
 
 -- a delivery that was answered
 moved-answer : (w : World) (i : ℕ) (r : Result (NodeState × Answer) Refusal) (a : Answer) → outcome_of (moved w i r) ≡ Ok (outcome.Answer a) → (t : NodeState) × (r ≡ Ok (t, a))

@@ -5,7 +5,8 @@ use Rattle.msg.specs.declared.body.Message.{Message}
 use Rattle.model.specs.State.{Part, NodeState, got_from, sent_to}
 use Rattle.model.specs.Steps.{append_all}
 use Rattle.model.specs.Cuts.{Cut, taken, IsInFlight, Among, Becomes}
-use Rattle.laws.proofs.Lookups.{at_set_if, slice_get-push}
+use Rattle.model.proofs.Lookups.{at_set_if}
+use Rattle.laws.proofs.Lookups.{slice_get-push}
 use Rattle.laws.proofs.StepFacts.{append_all-grows}
 
 -- The node i has a new part and sent the messages; it forgot none that it had taken in.

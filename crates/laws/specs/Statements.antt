@@ -3,7 +3,7 @@
 use Rattle.std.specs.Prelude.{◌≡◌, ◌≢◌, ℕ, ◌+◌, ◌≤◌, Bool, false, List, Some, Ok, Err}
 use Rattle.ids.specs.Limits.{Shaped, IsShape}
 use Rattle.ids.specs.declared.names.Ref.{Ref}
-use Rattle.ids.specs.declared.refusal.Refusal.TheVariants.{WrongNode}
+use Rattle.ids.specs.declared.refusal.Refusal.TheVariants.{AckBeyond, WrongNode}
 use Rattle.msg.specs.declared.body.Message.{Message}
 use Rattle.model.specs.declared.event.Answer.TheVariants as answer
 use Rattle.model.specs.declared.step.Step.{Step}
@@ -11,7 +11,7 @@ use Rattle.model.specs.declared.step.Step.TheVariants as step
 use Rattle.model.specs.declared.step.Outcome.TheVariants as outcome
 use Rattle.model.specs.State.{got_from, node_at}
 use Rattle.model.specs.Steps.{target_of, receive}
-use Rattle.model.specs.World.{new_world, run, released, take_step, outcome_of}
+use Rattle.model.specs.World.{new_world, run, released, acknowledged, release_count, take_step, outcome_of}
 use Rattle.model.specs.Cuts.{cut, IsLive, Reachable, PlainRun}
 
 -- Saves and restarts show in no cut: what stands in a cut now, whether of present or of saved states, came
@@ -47,3 +47,16 @@ NoneRefusedInTurn =
     → released (run (new_world shape) steps) from to number ≡ Some x
     → number ≤ got_from (node_at (run (new_world shape) steps).current to).part from + 1
     → receive (node_at (run (new_world shape) steps).current to) from to number x.stamp x.body ≢ Err WrongNode
+
+-- Nothing is acknowledged that wasn't released: of one node's messages to another, the receiver's saved
+-- state has taken in no more than the sender's saved state holds, whatever was saved and restarted meanwhile.
+abbrev pub NoneBeyond : Type 0
+NoneBeyond =
+    (shape : Shaped) → IsShape shape → (steps : List Step) (from to : ℕ)
+    → acknowledged (run (new_world shape) steps) from to ≤ release_count (run (new_world shape) steps) from to
+
+-- So no acknowledgement that a space hands to a sender is refused as one of more than was released.
+abbrev pub NoneRefusedBeyond : Type 0
+NoneRefusedBeyond =
+    (shape : Shaped) → IsShape shape → (steps : List Step) (from to : ℕ)
+    → take_step (run (new_world shape) steps) (step.Hand from to) ≢ Err AckBeyond

@@ -1,6 +1,6 @@
 -- How a text is cut into words.
-use Rattle.std.proofs.Common.{◌≡◌, ℕ, ◌<◌, ◌==◌, nat_lt, false, cond, List, [], ◌∷◌, length, Some, None, Bor, refl, ◌∙◌, ap, arith, lit<}
-use Rattle.std.specs.List.{position_or_len, slice_split, before_first, after_first, filter}
+use Rattle.std.proofs.Common.{◌≡◌, ℕ, ◌<◌, ◌==◌, nat_lt, false, List, [], ◌∷◌, length, Some, None, Bor, refl, ◌∙◌, ap, arith, lit<}
+use Rattle.std.specs.List.{slice_split, filter}
 use Rattle.std.proofs.lemmas.Bool.{lt-ltb, le-ltb, cond-true, cond-false}
 use Rattle.std.proofs.lemmas.List.Elements.{All-from_get_or}
 use Rattle.std.proofs.lemmas.List.Splits.{slice_split_first, slice_split_none}

@@ -34,6 +34,7 @@ status_of_le : (rs : List Reply) → status_of rs ≤ 2
 status_of_le [] = omega arith
 status_of_le (reply.Nothing ∷ rs) = omega (arith, status_of_le rs)
 status_of_le (reply.Outcome o ∷ rs) = omega (arith, status_of_le rs)
+status_of_le (reply.Summary s ∷ rs) = omega (arith, status_of_le rs)
 status_of_le (reply.Refused e ∷ rs) = omega (arith, status_of_le rs)
 status_of_le (reply.NoCommand ∷ rs) = omega (arith, status_of_le rs)
 
@@ -85,12 +86,14 @@ abbrev pub is_command : Reply → Bool
 is_command reply.NoCommand = false
 is_command reply.Nothing = true
 is_command (reply.Outcome o) = true
+is_command (reply.Summary s) = true
 is_command (reply.Refused e) = true
 
 goes_on : (r : Reply) (rs : List Reply) (P : Type 0) → is_command r ≡ true → P → GoesOn r rs P
 goes_on reply.NoCommand rs P goes p = absurd (let same : false ≡ true = goes in cc)
 goes_on reply.Nothing rs P goes p = p
 goes_on (reply.Outcome o) rs P goes p = p
+goes_on (reply.Summary s) rs P goes p = p
 goes_on (reply.Refused e) rs P goes p = p
 
 -- how a line is answered, and the state before and afterwards

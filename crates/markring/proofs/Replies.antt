@@ -1,5 +1,5 @@
 -- How a script's space follows the definitions.
-use Rattle.std.proofs.Common.{◌≡◌, Result, Ok, Err, refl, inl}
+use Rattle.std.proofs.Common.{Result, Ok, Err, refl, inl}
 use Rattle.ids.specs.Limits.{Shaped}
 use Rattle.ids.specs.declared.refusal.Refusal.{Refusal}
 use Rattle.model.specs.World.{World, new_world, take_step}

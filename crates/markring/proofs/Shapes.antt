@@ -6,7 +6,7 @@ use Rattle.markring.specs.declared.line.TheConstants.{MOST_WORDS}
 use Rattle.markring.specs.declared.line.Line.{Line}
 use Rattle.markring.specs.declared.line.Line.TheVariants as line
 use Rattle.model.specs.declared.step.Step.{Step}
-use Rattle.markring.specs.Grammar.{u8_of, command_of, delivery_of, space_of, step_of}
+use Rattle.markring.specs.Grammar.{u8_of, command_of, delivery_of, hand_of, node_line_of, space_of}
 
 space_of_many : (words : List (List ℕ)) → MOST_WORDS < length words → space_of words ≡ None
 unfolding space_of
@@ -24,26 +24,44 @@ delivery_of_many (a ∷ b ∷ []) many = refl
 delivery_of_many (a ∷ b ∷ c ∷ []) many = absurd (omega arith)
 delivery_of_many (a ∷ b ∷ c ∷ d ∷ words) many = refl
 
-step_of_many : (node : ℕ) (words : List (List ℕ)) → MOST_WORDS < length words → step_of node words ≡ None
-unfolding step_of
-step_of_many node [] many = refl
-step_of_many node (verb ∷ []) many = absurd (omega arith)
-step_of_many node (verb ∷ a ∷ []) many = absurd (omega arith)
-step_of_many node (verb ∷ a ∷ b ∷ []) many = absurd (omega arith)
-step_of_many node (verb ∷ a ∷ b ∷ c ∷ []) many = absurd (omega arith)
-step_of_many node (verb ∷ a ∷ b ∷ c ∷ d ∷ words) many = refl
+hand_of_many : (words : List (List ℕ)) → MOST_WORDS < length words → hand_of words ≡ None
+unfolding hand_of
+hand_of_many [] many = refl
+hand_of_many (a ∷ []) many = refl
+hand_of_many (a ∷ b ∷ []) many = absurd (omega arith)
+hand_of_many (a ∷ b ∷ c ∷ words) many = refl
+
+node_line_of_many : (node : ℕ) (words : List (List ℕ)) → MOST_WORDS < length words → node_line_of node words ≡ None
+unfolding node_line_of
+node_line_of_many node [] many = refl
+node_line_of_many node (verb ∷ []) many = absurd (omega arith)
+node_line_of_many node (verb ∷ a ∷ []) many = absurd (omega arith)
+node_line_of_many node (verb ∷ a ∷ b ∷ []) many = absurd (omega arith)
+node_line_of_many node (verb ∷ a ∷ b ∷ c ∷ []) many = absurd (omega arith)
+node_line_of_many node (verb ∷ a ∷ b ∷ c ∷ d ∷ words) many = refl
 
 abbrev stepped : Option Step → Option Line
 stepped o = option_map (λ s. line.Step s) o
+
+-- what stands after a first word that is neither `space` nor `deliver`
+abbrev others : List ℕ → List (List ℕ) → Option Line
+others first words = cond (bytes_eq first (codes "ack")) (stepped (hand_of words)) (option_and_then (λ node. node_line_of node words) (u8_of first))
+
+others_many : (first : List ℕ) (words : List (List ℕ)) → MOST_WORDS < length words → others first words ≡ None
+others_many first words many =
+    elim (bytes_eq first (codes "ack")) as (λ b. cond b (stepped (hand_of words)) (option_and_then (λ node. node_line_of node words) (u8_of first)) ≡ None) [
+      | true ↦ ap stepped (hand_of_many words many)
+      | false ↦ elim (u8_of first) as (λ o. option_and_then (λ node. node_line_of node words) o ≡ None) [ None ↦ refl | Some node ↦ node_line_of_many node words many ]
+    ]
 
 -- no command has so many
 pub command_of_many : (first : List ℕ) (words : List (List ℕ)) → MOST_WORDS < length words → command_of first words ≡ None
 unfolding command_of
 command_of_many first words many =
-    elim (bytes_eq first (codes "space")) as (λ b. cond b (space_of words) (stepped (cond (bytes_eq first (codes "deliver")) (delivery_of words) (option_and_then (λ node. step_of node words) (u8_of first)))) ≡ None) [
+    elim (bytes_eq first (codes "space")) as (λ b. cond b (space_of words) (cond (bytes_eq first (codes "deliver")) (stepped (delivery_of words)) (others first words)) ≡ None) [
       | true ↦ space_of_many words many
-      | false ↦ elim (bytes_eq first (codes "deliver")) as (λ b. stepped (cond b (delivery_of words) (option_and_then (λ node. step_of node words) (u8_of first))) ≡ None) [
+      | false ↦ elim (bytes_eq first (codes "deliver")) as (λ b. cond b (stepped (delivery_of words)) (others first words) ≡ None) [
         | true ↦ ap stepped (delivery_of_many words many)
-        | false ↦ elim (u8_of first) as (λ o. stepped (option_and_then (λ node. step_of node words) o) ≡ None) [ None ↦ refl | Some node ↦ ap stepped (step_of_many node words many) ]
+        | false ↦ others_many first words many
       ]
     ]

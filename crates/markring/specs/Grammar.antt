@@ -40,8 +40,10 @@ unfoldable pub u64_of : List ℕ → Option ℕ
 u64_of word = number_below (2 ^ 64) word
 
 -- what a verb says with no operand, with one, with two and with three
-unfoldable pub alone : ℕ → List ℕ → Option Step
-alone node verb = cond (bytes_eq verb (codes "save")) (Some (step.Save node)) None
+unfoldable pub alone : ℕ → List ℕ → Option Line
+alone node verb =
+    cond (bytes_eq verb (codes "save")) (Some (line.Step (step.Save node)))
+    (cond (bytes_eq verb (codes "state")) (Some (line.State node)) None)
 
 unfoldable pub with_one : List ℕ → List ℕ → Option Event
 with_one verb a =
@@ -73,13 +75,13 @@ with_three verb a b c =
     (cond (bytes_eq verb (codes "get"))
     (option_and_then (λ object. option_and_then (λ place. option_map (λ label. event.Get object place label) (u32_of c)) (u8_of b)) (u16_of a)) None))))
 
--- what stands after the node's number
-unfoldable pub step_of : ℕ → List (List ℕ) → Option Step
-step_of node (verb ∷ []) = alone node verb
-step_of node (verb ∷ a ∷ []) = option_map (λ e. step.Act node e) (with_one verb a)
-step_of node (verb ∷ a ∷ b ∷ []) = option_map (λ e. step.Act node e) (with_two verb a b)
-step_of node (verb ∷ a ∷ b ∷ c ∷ []) = option_map (λ e. step.Act node e) (with_three verb a b c)
-step_of node words = None
+-- what stands after a node's number
+unfoldable pub node_line_of : ℕ → List (List ℕ) → Option Line
+node_line_of node (verb ∷ []) = alone node verb
+node_line_of node (verb ∷ a ∷ []) = option_map (λ e. line.Step (step.Act node e)) (with_one verb a)
+node_line_of node (verb ∷ a ∷ b ∷ []) = option_map (λ e. line.Step (step.Act node e)) (with_two verb a b)
+node_line_of node (verb ∷ a ∷ b ∷ c ∷ []) = option_map (λ e. line.Step (step.Act node e)) (with_three verb a b c)
+node_line_of node words = None
 
 -- what stands after `space`
 unfoldable pub space_of : List (List ℕ) → Option Line
@@ -93,19 +95,26 @@ delivery_of (a ∷ b ∷ c ∷ []) =
     option_and_then (λ from. option_and_then (λ to. option_map (λ number. step.Deliver from to number) (u64_of c)) (u8_of b)) (u8_of a)
 delivery_of words = None
 
+-- what stands after `ack`
+unfoldable pub hand_of : List (List ℕ) → Option Step
+hand_of (a ∷ b ∷ []) = option_and_then (λ from. option_map (λ to. step.Hand from to) (u8_of b)) (u8_of a)
+hand_of words = None
+
 unfoldable pub command_of : List ℕ → List (List ℕ) → Option Line
 command_of first words =
     cond (bytes_eq first (codes "space")) (space_of words)
-    (option_map (λ s. line.Step s) (cond (bytes_eq first (codes "deliver")) (delivery_of words)
-    (option_and_then (λ node. step_of node words) (u8_of first))))
+    (cond (bytes_eq first (codes "deliver")) (option_map (λ s. line.Step s) (delivery_of words))
+    (cond (bytes_eq first (codes "ack")) (option_map (λ s. line.Step s) (hand_of words))
+    (option_and_then (λ node. node_line_of node words) (u8_of first))))
 
 -- what a line of these words says, or none where they are outside the grammar
 unfoldable pub line_of : List (List ℕ) → Option Line
 line_of [] = Some line.Blank
 line_of (first ∷ words) = cond (starts_with (λ x y. x == y) first (codes "#")) (Some line.Blank) (command_of first words)
 
--- a line that asks for no message from another node
+-- a line that asks for no event from another node
 abbrev pub is_own_line : Line → Bool
 is_own_line (line.Step s) = is_own_step s
 is_own_line line.Blank = true
 is_own_line (line.Space nodes registers slots) = true
+is_own_line (line.State node) = true

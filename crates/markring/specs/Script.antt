@@ -1,10 +1,10 @@
 -- What a script prints, and the status that it ends with.
-use Rattle.std.specs.Prelude.{◌≡◌, ℕ, ◌+◌, max, List, [], ◌∷◌, ◌++◌, ◌⊎◌, Option, Some, None, IfSome, Result, Ok, Err, codes, decimal}
+use Rattle.std.specs.Prelude.{◌≡◌, ℕ, ◌+◌, max, List, [], ◌∷◌, ◌++◌, ◌⊎◌, Option, Some, None, IfSome, Result, Ok, codes, decimal}
 use Rattle.std.specs.Io.KnownBytes.{Appends}
 use Rattle.std.specs.Str.Lines.{lines}
 use Rattle.ids.specs.Limits.{Shaped, IsShape}
 use Rattle.ids.specs.declared.refusal.Refusal.{Refusal}
-use Rattle.ids.specs.declared.refusal.Refusal.TheVariants.{Memory}
+use Rattle.ids.specs.declared.refusal.Refusal.TheVariants.{Memory, NoNode}
 use Rattle.model.specs.Checks.{IsFirstRefusal}
 use Rattle.model.specs.World.{World, new_world, take_step}
 use Rattle.model.specs.declared.step.Outcome.{Outcome}
@@ -17,7 +17,9 @@ use Rattle.markring.specs.declared.script.Reply.TheVariants as reply
 use Rattle.markring.specs.declared.script.State.{State}
 use Rattle.markring.specs.declared.script.State.TheVariants as state
 use Rattle.markring.specs.Grammar.{line_of, words_of}
-use Rattle.markring.specs.Text.{outcome_text, refusal_text}
+use Rattle.world.specs.Shows.{summary_at}
+use Rattle.markring.specs.Text.{outcome_text, refusal_text, summary_text}
+use Rattle.node.specs.declared.summary.Summary.{Summary}
 
 -- the space of a script: not asked for yet, refused for want of memory, or there
 pub data Held : Type 0 where
@@ -41,12 +43,23 @@ abbrev pub IsStepReply : World → Result (World × Outcome) Refusal → Reply �
 IsStepReply w stepped (reply.Outcome o) later = (v : World) × (stepped ≡ Ok (v, o)) × (later ≡ there v)
 IsStepReply w stepped (reply.Refused e) later = IsFirstRefusal e stepped × (later ≡ there w)
 IsStepReply w stepped reply.Nothing later = ⊥
+IsStepReply w stepped (reply.Summary s) later = ⊥
 IsStepReply w stepped reply.NoCommand later = ⊥
 
 abbrev pub TakesStep : Held → Step → Reply → Held → Type 0
 TakesStep awaited step r later = (r ≡ reply.NoCommand) × (later ≡ awaited)
 TakesStep denied step r later = (r ≡ reply.Refused Memory) × (later ≡ denied)
 TakesStep (there w) step r later = IsStepReply w (take_step w step) r later
+
+-- what is printed for a node in numbers, where there is such a node
+abbrev pub state_reply : Option Summary → Reply
+state_reply (Some s) = reply.Summary s
+state_reply None = reply.Refused NoNode
+
+abbrev pub TakesState : Held → ℕ → Reply → Held → Type 0
+TakesState awaited node r later = (r ≡ reply.NoCommand) × (later ≡ awaited)
+TakesState denied node r later = (r ≡ reply.Refused Memory) × (later ≡ denied)
+TakesState (there w) node r later = (r ≡ state_reply (summary_at w node)) × (later ≡ there w)
 
 -- a space of these sizes is made, or refused for want of memory
 abbrev pub IsNewReply : Shaped → Reply → Held → Type 0
@@ -70,11 +83,13 @@ TakesLine h (Some line.Blank) r later = (r ≡ reply.Nothing) × (later ≡ h)
 TakesLine h (Some (line.Space nodes registers slots)) r later =
     AsksSpace h (record { nodes = nodes; registers = registers; slots = slots }) r later
 TakesLine h (Some (line.Step step)) r later = TakesStep h step r later
+TakesLine h (Some (line.State node)) r later = TakesState h node r later
 
 -- what is printed for the reply to the line of this number
 abbrev pub reply_text : ℕ → Reply → List ℕ
 reply_text number reply.Nothing = []
 reply_text number (reply.Outcome o) = outcome_text o ++ (10 ∷ [])
+reply_text number (reply.Summary s) = summary_text s ++ (10 ∷ [])
 reply_text number (reply.Refused e) = refusal_text e ++ (10 ∷ [])
 reply_text number reply.NoCommand = codes "line " ++ (decimal number ++ (codes ": not a command" ++ (10 ∷ [])))
 
@@ -86,6 +101,7 @@ printed number (r ∷ rs) = reply_text number r ++ printed (number + 1) rs
 abbrev pub status_after : Reply → ℕ
 status_after reply.Nothing = 0
 status_after (reply.Outcome o) = 0
+status_after (reply.Summary s) = 0
 status_after (reply.Refused e) = 1
 status_after reply.NoCommand = 2
 

@@ -4,7 +4,7 @@ ghost use Rattle.std.specs.Char.{is_ascii_digit};
 ghost use Rattle.std.specs.List.{list_all};
 ghost use Rattle.model.specs.Steps.{is_own};
 ghost use Rattle.model.specs.World.{is_own_step};
-ghost use Rattle.markring.specs.Grammar.{alone, u8_of, delivery_of, is_number, is_own_line, line_of, command_of, u64_of, u16_of, space_of, step_of, with_one, with_three, with_two, u32_of, words_of};
+ghost use Rattle.markring.specs.Grammar.{alone, u8_of, delivery_of, hand_of, is_number, is_own_line, line_of, command_of, u64_of, u16_of, node_line_of, space_of, with_one, with_three, with_two, u32_of, words_of};
 
 use model::{Event, Step};
 
@@ -27,6 +27,8 @@ pub enum Line {
     },
     /// A step of the space.
     Step(Step),
+    /// Asks for the node in numbers.
+    State(u8),
 }
 
 impl Line {
@@ -93,7 +95,8 @@ fn command(first: &str, words: &[&str]) -> Option<Line>
     match first {
         "space" => space(words),
         "deliver" => Some(Line::Step(delivery(words)?)),
-        node => Some(Line::Step(node_step(read_u8(node)?, words)?)),
+        "ack" => Some(Line::Step(hand(words)?)),
+        node => node_line(read_u8(node)?, words),
     }
 }
 
@@ -127,28 +130,43 @@ fn delivery(words: &[&str]) -> Option<Step>
     })
 }
 
-#[tactic(auto, unfolding(crate::specs::Grammar::step_of))]
-fn node_step(node: u8, words: &[&str]) -> Option<Step>
-    ensures reads { result ≡ step_of node (map (λ w. w.now) words.now) }
+#[tactic(auto, unfolding(crate::specs::Grammar::hand_of))]
+fn hand(words: &[&str]) -> Option<Step>
+    ensures reads { result ≡ hand_of (map (λ w. w.now) words.now) }
     ensures own { IfSome result (λ s. IsTrue (is_own_step s)) }
 {
-    match words {
-        [verb] => alone(node, verb),
-        [verb, a] => Some(Step::Act(node, with_one(verb, a)?)),
-        [verb, a, b] => Some(Step::Act(node, with_two(verb, a, b)?)),
-        [verb, a, b, c] => Some(Step::Act(node, with_three(verb, a, b, c)?)),
-        _ => None,
-    }
+    let [from, to] = words else {
+        return None;
+    };
+    let (from, to) = (read_u8(from)?, read_u8(to)?);
+    Some(Step::Hand { from, to })
+}
+
+/// What stands after a node's number.
+#[tactic(auto, unfolding(crate::specs::Grammar::node_line_of))]
+fn node_line(node: u8, words: &[&str]) -> Option<Line>
+    ensures reads { result ≡ node_line_of node (map (λ w. w.now) words.now) }
+    ensures own { IfSome result (λ l. IsTrue (is_own_line l)) }
+{
+    let event = match words {
+        [verb] => return alone(node, verb),
+        [verb, a] => with_one(verb, a)?,
+        [verb, a, b] => with_two(verb, a, b)?,
+        [verb, a, b, c] => with_three(verb, a, b, c)?,
+        _ => return None,
+    };
+    Some(Line::Step(Step::Act(node, event)))
 }
 
 /// What a verb says with no operand.
 #[tactic(auto, unfolding(crate::specs::Grammar::alone))]
-fn alone(node: u8, verb: &str) -> Option<Step>
+fn alone(node: u8, verb: &str) -> Option<Line>
     ensures reads { result ≡ alone node verb.now }
-    ensures own { IfSome result (λ s. IsTrue (is_own_step s)) }
+    ensures own { IfSome result (λ l. IsTrue (is_own_line l)) }
 {
     match verb {
-        "save" => Some(Step::Save(node)),
+        "save" => Some(Line::Step(Step::Save(node))),
+        "state" => Some(Line::State(node)),
         _ => None,
     }
 }

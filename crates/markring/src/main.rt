@@ -1,20 +1,20 @@
 //! The program `markring`.
 #![tactic(auto)]
 
-ghost use Rattle.std.specs.Prelude.{◌≡◌, ◌≤◌, ◌++◌, ◌∷◌, [], IfOk, OnOk, codes};
-ghost use Rattle.std.specs.Io.KnownBytes.{Appends};
+ghost use Rattle.std.specs.Prelude.{◌≤◌, IfOk};
 
+mod frames;
 mod line;
 mod script;
 mod text;
 mod words;
 
-use script::{REFUSED, UNREADABLE, print_unread, sim};
-use std::io::Write;
+use frames::decode;
+use script::{REFUSED, print_unread, sim};
 use std::process::ExitCode;
 use std::rt::{Env, Files};
 use std::{env, fs, io};
-use words::{Command, WordsError};
+use words::{Command, WordsError, print_refused_words};
 
 fn main(rt: HostRuntime) -> ExitCode {
     let status = match run(&rt) {
@@ -33,6 +33,7 @@ fn run<R: Env + Files + Input + Print + AllocGlobal>(rt: &R) -> Result<u8, Words
     match Command::read(alloc, words.as_slice())? {
         Command::Sim { script: None } => Ok(sim(alloc, rt.reader(), io::writer(rt))),
         Command::Sim { script: Some(path) } => Ok(sim_file(rt, path)),
+        Command::Decode { hex } => Ok(decode(alloc, hex, &mut io::writer(rt)).unwrap_or(REFUSED)),
     }
 }
 
@@ -45,18 +46,4 @@ fn sim_file<R: Files + Print + AllocGlobal>(rt: &R, path: &str) -> u8
         Ok(file) => sim(rt.alloc(), file, out),
         Err(error) => print_unread(&mut out, error.kind()).unwrap_or(REFUSED),
     }
-}
-
-/// Prints that the words are no command, and answers the status: 1 for want of memory, else 2. The error
-/// is that output failed.
-fn print_refused_words<W: Write>(out: &mut W, error: WordsError) -> io::Result<u8>
-    ensures printed { OnOk result (Appends (W.contents out.old) (W.contents out.new) (codes "words refused" ++ 10 ∷ [])) }
-    ensures memory { error ≡ WordsError.OutOfMemory → IfOk result (λ status. status ≡ 1) }
-    ensures unknown { error ≡ WordsError.Unknown → IfOk result (λ status. status ≡ 2) }
-{
-    writeln!(out, "words refused")?;
-    Ok(match error {
-        WordsError::OutOfMemory => REFUSED,
-        WordsError::Unknown => UNREADABLE,
-    })
 }

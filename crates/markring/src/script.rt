@@ -2,15 +2,16 @@
 ghost use Rattle.std.specs.Prelude.{◌≡◌, ◌≤◌, IfOk, IfErr, IsTrue, ◌≢◌};
 ghost use Rattle.ids.specs.declared.refusal.Refusal.TheVariants.{Memory};
 ghost use Rattle.model.specs.World.{World, new_world, is_own_step, take_step};
-ghost use Rattle.world.specs.Shows.{ShowsWorld};
+ghost use Rattle.world.specs.Shows.{ShowsWorld, summary_at};
 ghost use Rattle.markring.specs.Space.{FollowsStep};
 ghost use Rattle.markring.specs.Grammar.{line_of, words_of};
-ghost use Rattle.markring.specs.Script.{IsStatusOf, Moves, PrintsNoScript, PrintsReplies, TakesLine, TakesSpace, TakesStep};
+ghost use Rattle.markring.specs.Script.{IsStatusOf, Moves, PrintsNoScript, PrintsReplies, TakesLine, TakesSpace, TakesState, TakesStep};
 
 use crate::line::Line;
-use crate::text::{OutcomeText, RefusalText};
+use crate::text::{OutcomeText, RefusalText, SummaryText};
 use ids::{Refusal, Shape};
 use model::{Outcome, Step};
+use node::Summary;
 use std::alloc::Global;
 use std::io;
 use std::io::{BufWriter, ErrorKind, Read, Write};
@@ -39,6 +40,10 @@ trait Space: Drop + Sized {
     fn step(&mut self, step: Step) -> Result<Outcome, Refusal>
         requires own { IsTrue (is_own_step step) }
         ensures follows { (w : World) → shows self.old w → FollowsStep shows w result self.new (take_step w step) };
+
+    /// The node of this number in numbers, if there is one.
+    fn state(&self, number: u8) -> Option<Summary>
+        ensures shown { (w : World) → shows self.now w → result ≡ summary_at w number };
 }
 
 impl Space for Sim {
@@ -50,6 +55,10 @@ impl Space for Sim {
 
     fn step(&mut self, step: Step) -> Result<Outcome, Refusal> {
         Sim::step(self, step)
+    }
+
+    fn state(&self, number: u8) -> Option<Summary> {
+        Sim::state(self, number)
     }
 }
 
@@ -69,6 +78,7 @@ enum Reply {
     /// Nothing is printed.
     Nothing,
     Outcome(Outcome),
+    Summary(Summary),
     Refused(Refusal),
     /// It is outside the grammar.
     NoCommand,
@@ -135,6 +145,9 @@ fn run_lines<S: Space, W: Write>(alloc: Global, script: &str, out: &mut W) -> io
             Reply::Outcome(outcome) => {
                 writeln!(out, "{}", OutcomeText(outcome))?;
             }
+            Reply::Summary(summary) => {
+                writeln!(out, "{}", SummaryText(summary))?;
+            }
             Reply::Refused(refusal) => {
                 writeln!(out, "{}", RefusalText(refusal))?;
                 status = REFUSED;
@@ -165,6 +178,7 @@ fn take_line<S: Space>(alloc: Global, state: &mut State<S>, text: &str) -> Reply
             None => Reply::NoCommand,
         },
         Some(Line::Step(step)) => take_step(state, step),
+        Some(Line::State(node)) => show_state(state, node),
         None => Reply::NoCommand,
     }
 }
@@ -199,6 +213,20 @@ fn take_step<S: Space>(state: &mut State<S>, step: Step) -> Reply
         State::Open(space) => match space.step(step) {
             Ok(outcome) => Reply::Outcome(outcome),
             Err(refusal) => Reply::Refused(refusal),
+        },
+    }
+}
+
+/// Looks at a node, where the space was asked for. `NoNode` where it has none of that number.
+fn show_state<S: Space>(state: &State<S>, node: u8) -> Reply
+    ensures { Moves S.shows (λ h later. TakesState h node result later) state.now state.now }
+{
+    match state {
+        State::Unopened => Reply::NoCommand,
+        State::Refused(refusal) => Reply::Refused(*refusal),
+        State::Open(space) => match space.state(node) {
+            Some(summary) => Reply::Summary(summary),
+            None => Reply::Refused(Refusal::NoNode),
         },
     }
 }

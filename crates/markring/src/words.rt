@@ -1,5 +1,6 @@
 //! The words with which the program is called.
-ghost use Rattle.std.specs.Prelude.{◌≡◌, ◌≤◌, None, Ok, length};
+ghost use Rattle.std.specs.Prelude.{◌≡◌, ◌≤◌, ◌++◌, ◌∷◌, [], None, Ok, IfOk, OnOk, codes, length};
+ghost use Rattle.std.specs.Io.KnownBytes.{Appends};
 ghost use Rattle.std.specs.IoError.{error_kind};
 ghost use Rattle.clap.specs.Words.{kind_of};
 ghost use Rattle.clap.specs.declared.error.ErrorKind.TheVariants as parse;
@@ -7,16 +8,20 @@ ghost use Rattle.std.specs.declared.io.ErrorKind.TheVariants as io;
 ghost use Rattle.markring.specs.declared.words.WordsError.TheVariants.{OutOfMemory};
 ghost use Rattle.markring.specs.Called.{TellsMemory};
 
+use crate::script::{REFUSED, UNREADABLE};
 use clap::error::ErrorKind;
 use clap::{Arg, Error};
 use std::alloc::{AllocError, Global};
 use std::io;
+use std::io::Write;
 
 /// What the program is asked to do.
 #[derive(Clone, Copy, Debug, PartialEq, Eq)]
 pub enum Command<'a> {
     /// Runs the script of this file, or of standard input.
     Sim { script: Option<&'a str> },
+    /// Prints the frame whose bytes this word spells in hexadecimal digits.
+    Decode { hex: &'a str },
 }
 
 /// Why words are no command.
@@ -72,6 +77,9 @@ impl<'a> Command<'a> {
             Some(("sim", sim)) => Ok(Command::Sim {
                 script: sim.get_str("script"),
             }),
+            Some(("decode", decode)) => Ok(Command::Decode {
+                hex: decode.get_str("hex").ok_or(WordsError::Unknown)?,
+            }),
             _ => Err(WordsError::Unknown),
         }
     }
@@ -81,9 +89,26 @@ impl<'a> Command<'a> {
 fn known<'a>(alloc: Global) -> Result<clap::Command<'a>, AllocError> {
     let script = Arg::new(alloc, "script");
     let sim = clap::Command::new(alloc, "sim").arg(script)?;
+    let hex = Arg::new(alloc, "hex").required(true);
+    let decode = clap::Command::new(alloc, "decode").arg(hex)?;
     clap::Command::new(alloc, "markring")
         .subcommand_required(true)
-        .subcommand(sim)
+        .subcommand(sim)?
+        .subcommand(decode)
+}
+
+/// Prints that the words are no command, and answers the status: 1 for want of memory, else 2. The error
+/// is that output failed.
+pub fn print_refused_words<W: Write>(out: &mut W, error: WordsError) -> io::Result<u8>
+    ensures printed { OnOk result (Appends (W.contents out.old) (W.contents out.new) (codes "words refused" ++ 10 ∷ [])) }
+    ensures memory { error ≡ WordsError.OutOfMemory → IfOk result (λ status. status ≡ 1) }
+    ensures unknown { error ≡ WordsError.Unknown → IfOk result (λ status. status ≡ 2) }
+{
+    writeln!(out, "words refused")?;
+    Ok(match error {
+        WordsError::OutOfMemory => REFUSED,
+        WordsError::Unknown => UNREADABLE,
+    })
 }
 
 #[cfg(test)]

@@ -1,6 +1,9 @@
 mod Rows
 mod ObjectRows
+mod LinkRows
+pub mod Checks
 pub mod Lookups
+pub mod IdleWrites
 pub mod Shown
 pub mod References
 pub mod Messages

@@ -1,26 +1,14 @@
 -- Each change of a heap keeps a property of all references that the heap holds.
-use Rattle.std.proofs.Common.{◌≡◌, ℕ, zero, suc, Bool, true, false, cond, ◌==◌, List, [], ◌∷◌, drop, replicate, get_or, Option, Some, None, is_some, Ok, refl, sym, subst}
+use Rattle.std.proofs.Common.{◌≡◌, ℕ, zero, suc, true, cond, ◌==◌, List, [], ◌∷◌, drop, replicate, get_or, Option, Some, None, is_some, refl, sym, subst}
 use Rattle.std.specs.Option.{unwrap_or}
 use Rattle.std.proofs.lemmas.Bool.{cond_both}
+use Rattle.ids.specs.Limits.{Shaped}
 use Rattle.ids.specs.declared.names.Ref.{Ref}
-use Rattle.ids.specs.declared.refusal.Refusal.{Refusal}
 use Rattle.model.specs.declared.event.Letter.{Letter}
-use Rattle.model.specs.Checks.{guarded, AllPass}
-use Rattle.model.specs.State.{Object, Slot, Free, Occupied, Retired, Heap, register_at}
+use Rattle.model.specs.State.{Object, Slot, Free, Occupied, Retired, Heap, register_at, new_heap}
 use Rattle.model.specs.Heaps.{with_register, with_object, with_letter, letter_taken, oldest_letter, new_object, no_letter, next_generation, slots_with, object_of, object_at, place_of, rewritten, with_rewritten, with_place, with_word, no_reference, named, is_filled}
 use Rattle.model.specs.References.{IfAny, HoldsOnly}
 use Rattle.model.proofs.Lookups.{at_set, at_push}
-
--- what passed every test is the value
-pub guarded-ok : {A : Type 0} (cs : List (Bool × Refusal)) (x y : A) → guarded cs x ≡ Ok y → x ≡ y
-guarded-ok [] x y h = cc
-guarded-ok ((true, r) ∷ cs) x y h = guarded-ok cs x y h
-guarded-ok ((false, r) ∷ cs) x y h = absurd cc
-
-pub guarded-passes : {A : Type 0} (cs : List (Bool × Refusal)) (x y : A) → guarded cs x ≡ Ok y → AllPass cs
-guarded-passes [] x y h = tt
-guarded-passes ((true, r) ∷ cs) x y h = (refl, guarded-passes cs x y h)
-guarded-passes ((false, r) ∷ cs) x y h = absurd cc
 
 pub holds-with_register : (P : Ref → Type 0) (h : Heap) (k : ℕ) (r : Option Ref) → HoldsOnly P h → IfAny P r → HoldsOnly P (with_register h k r)
 holds-with_register P h k r all here = record {
@@ -33,6 +21,10 @@ empty_place : (P : Ref → Type 0) (n j : ℕ) → IfAny P (get_or (replicate n 
 empty_place P zero j = tt
 empty_place P (suc n) zero = tt
 empty_place P (suc n) (suc j) = empty_place P n j
+
+-- a new heap holds none
+pub holds-new_heap : (P : Ref → Type 0) (shape : Shaped) → HoldsOnly P (new_heap shape)
+holds-new_heap P shape = record { registers = λ k. empty_place P shape.registers k; letters = λ k. tt; places = λ k g o j e. absurd cc }
 
 -- every object of the slot, if it has one, holds only such references
 abbrev SlotHolds : (P : Ref → Type 0) → Slot → Type 0

@@ -1,6 +1,6 @@
 -- What an event does to a node ("Events" in docs/RULES.md). An event is a list of tests in the order of
 -- its refusals, an effect that is total, and one last test: that its messages get numbers.
-use Rattle.std.specs.Prelude.{ℕ, ◌+◌, Bool, true, false, ◌&&◌, ◌||◌, not, cond, nat_lt, nat_le, ◌==◌, List, [], ◌∷◌, ◌++◌, length, map, Option, Some, None, option_to_list, Result, Ok, Err, slice_index_or, slice_set}
+use Rattle.std.specs.Prelude.{ℕ, pos, ◌+◌, ◌+ℤ◌, ◌-ℤ◌, Bool, true, false, ◌&&◌, ◌||◌, not, cond, nat_lt, nat_le, ◌==◌, List, [], ◌∷◌, ◌++◌, length, map, Option, Some, None, option_to_list, Result, Ok, Err, slice_index_or, slice_set}
 use Rattle.ids.specs.Limits.{Shaped}
 use Rattle.ids.specs.declared.names.Ref.{Ref}
 use Rattle.ids.specs.declared.limits.TheConstants.{GREATEST_NUMBER}
@@ -9,12 +9,14 @@ use Rattle.ids.specs.declared.refusal.Refusal.TheVariants.{NoNode, SelfSend, Lin
 use Rattle.msg.specs.declared.body.Body.{Body}
 use Rattle.msg.specs.declared.body.Body.TheVariants as body
 use Rattle.msg.specs.declared.body.Message.{Message}
+use Rattle.msg.specs.declared.body.Colour.TheVariants.{Black}
+use Rattle.msg.specs.declared.frame.Ack.{Ack}
 use Rattle.model.specs.declared.event.Event.{Event}
 use Rattle.model.specs.declared.event.Event.TheVariants as event
 use Rattle.model.specs.declared.event.Answer.{Answer}
 use Rattle.model.specs.declared.event.Answer.TheVariants as answer
 use Rattle.model.specs.Checks.{guarded}
-use Rattle.model.specs.State.{Heap, Part, NodeState, register_at, got_from}
+use Rattle.model.specs.State.{Heap, Ring, Part, NodeState, register_at, got_from}
 use Rattle.model.specs.Heaps.{with_register, with_place, with_word, new_reference, named, object_at, word_of, oldest_letter, with_letter, alloc_heap, register_copied, place_of, place_loaded, letter_taken, alloc_tests, copy_tests, drop_tests, load_tests, store_tests, clear_tests, word_tests, put_tests, get_tests, accept_tests, register_tests}
 
 -- a node's part after some step, and the messages that it appended, each with its receiver, in order
@@ -43,11 +45,17 @@ becomes p h a = record { part = record p { heap = h }; sends = []; answer = a }
 abbrev pub unchanged : Part → Answer → Effect
 unchanged p a = record { part = p; sends = []; answer = a }
 
--- a message to another node; counts says for each node how many messages were appended so far
+-- The messages that carry references are counted: one that is sent counts one up at its sender, with those
+-- of the present cycle.
+abbrev pub counted_up : Part → Part
+counted_up p = record p { ring = record p.ring { recent = p.ring.recent +ℤ pos 1 } }
+
+-- a message that carries references to another node; counts says for each node how many messages were
+-- appended so far
 abbrev pub sends_one : Part → List ℕ → ℕ → Body → Effect
 sends_one p counts to b =
     record {
-      part = p;
+      part = counted_up p;
       sends = (to, record { stamp = p.phases.cycle; body = b }) ∷ [];
       answer = answer.Sent (slice_index_or counts to 0 + 1);
     }
@@ -161,9 +169,29 @@ may_follow own b = false
 abbrev pub may_take : Part → ℕ → Body → Bool
 may_take p stamp b = nat_le stamp p.phases.cycle && (are_within p.shape (mentioned b) && may_follow p.own b)
 
+-- a body that is counted: it carries references, whether or not the one that may be left out is there
+abbrev pub is_reference : Body → Bool
+is_reference (body.Give label reference) = true
+is_reference (body.Put target place reference) = true
+is_reference (body.Get target place label) = true
+is_reference b = false
+
+-- A counted message that is taken in counts one down: with those of the present cycle where it was sent in
+-- that cycle. One of an earlier cycle counts with those, and makes the node black.
+abbrev pub counted_down : ℕ → ℕ → Ring → Ring
+counted_down cycle stamp r =
+    cond (nat_lt stamp cycle) (record r { colour = Black; earlier = r.earlier -ℤ pos 1 }) (record r { recent = r.recent -ℤ pos 1 })
+
 -- the message counts as taken in
-unfoldable pub count_in : Part → ℕ → ℕ → Work
-count_in p from number = record { part = record p { got = slice_set p.got from number }; sends = [] }
+unfoldable pub count_in : Part → ℕ → ℕ → ℕ → Body → Work
+count_in p from number stamp b =
+    record {
+      part = record p {
+        got = slice_set p.got from number;
+        ring = cond (is_reference b) (counted_down p.phases.cycle stamp p.ring) p.ring;
+      };
+      sends = [];
+    }
 
 -- what its body asks for: a letter is added; a place is written; what stands in a place is sent back
 unfoldable pub take_body : ℕ → Body → Part → Work
@@ -176,13 +204,13 @@ take_body from (body.Put target place reference) p =
     record { part = record p { heap = with_place p.heap target place reference }; sends = [] }
 take_body from (body.Get target place label) p =
     record {
-      part = p;
+      part = counted_up p;
       sends = (from, record { stamp = p.phases.cycle; body = body.Give label (place_of (object_at p.heap target) place) }) ∷ [];
     }
 take_body from b p = record { part = p; sends = [] }
 
 unfoldable pub taken_in : Part → ℕ → ℕ → ℕ → Body → Effect
-taken_in p from number stamp b = answers (then (count_in p from number) (take_body from b)) answer.Received
+taken_in p from number stamp b = answers (then (count_in p from number stamp b) (take_body from b)) answer.Received
 
 abbrev pub receipt_tests : Part → ℕ → ℕ → ℕ → ℕ → Body → List (Bool × Refusal)
 receipt_tests p from to number stamp b =
@@ -210,6 +238,7 @@ tests p (event.Accept register) = accept_tests p.heap register
 tests p (event.Put object place register) = put_tests p.own p.heap object place register
 tests p (event.Get object place label) = get_tests p.own p.heap object place
 tests p (event.Data d) = receipt_tests p d.from d.to d.number d.stamp d.body
+tests p (event.Ack a) = (is_addressed p a.from a.to, WrongNode) ∷ []
 
 -- the effect of an event
 abbrev pub made : Part → List ℕ → Event → Effect
@@ -226,6 +255,7 @@ made p counts (event.Accept register) = accepted p register
 made p counts (event.Put object place register) = put_asked p counts object place register
 made p counts (event.Get object place label) = get_asked p counts object place label
 made p counts (event.Data d) = receipt p d.from d.number d.stamp d.body
+made p counts (event.Ack a) = unchanged p answer.Done
 
 -- every message gets a number within the limit
 abbrev pub fits : List ℕ → List (ℕ × Message) → Bool
@@ -264,9 +294,16 @@ unfoldable pub receive : NodeState → ℕ → ℕ → ℕ → ℕ → Body → 
 receive s from to number stamp b =
     after s (received s.part (map length s.sent) from to number stamp b)
 
--- an event that is no message from another node
+-- The acknowledgement that an event brings. It changes no state: a state has all that was ever sent, and
+-- doesn't know what was let go of.
+abbrev pub ack_of : Event → Option Ack
+ack_of (event.Ack a) = Some a
+ack_of e = None
+
+-- an event that comes from no other node
 abbrev pub is_own : Event → Bool
 is_own (event.Data d) = false
+is_own (event.Ack a) = false
 is_own e = true
 
 -- an event that takes no memory, so that it is never refused for want of it
@@ -279,4 +316,5 @@ is_memory_free p (event.Word object) = true
 is_memory_free p (event.SetWord object word) = true
 is_memory_free p (event.Accept register) = true
 is_memory_free p (event.Data d) = is_repeat p d.from d.number
+is_memory_free p (event.Ack a) = true
 is_memory_free p e = false

@@ -1,14 +1,16 @@
 -- How a node that keeps only windows of what it sent shows a node's state.
-use Rattle.std.specs.Prelude.{◌≡◌, ℕ, ◌+◌, ◌-◌, ◌≤◌, Bool, cond, nat_lt, nat_le, not, ◌==◌, ◌&&◌, List, [], ◌∷◌, ◌++◌, length, map, drop, replicate, Option, None, Result, Ok, Err, slice_index_or, slice_get, slice_set}
+use Rattle.std.specs.Prelude.{◌≡◌, ◌≢◌, ℕ, min, ◌+◌, ◌-◌, ◌≤◌, Bool, cond, nat_lt, nat_le, not, ◌==◌, ◌&&◌, List, [], ◌∷◌, ◌++◌, length, map, drop, replicate, Option, Some, None, Result, Ok, Err, slice_index_or, slice_get, slice_set}
 use Rattle.ids.specs.Limits.{Shaped}
 use Rattle.ids.specs.declared.limits.TheConstants.{WINDOW}
 use Rattle.ids.specs.declared.refusal.Refusal.{Refusal}
+use Rattle.ids.specs.declared.refusal.Refusal.TheVariants.{AckBeyond}
+use Rattle.msg.specs.declared.frame.Ack.{Ack}
 use Rattle.msg.specs.declared.body.Message.{Message}
 use Rattle.model.specs.declared.event.Event.{Event}
 use Rattle.model.specs.declared.event.Answer.{Answer}
 use Rattle.model.specs.Checks.{IsFirstRefusal}
 use Rattle.model.specs.State.{Part, NodeState, new_part}
-use Rattle.model.specs.Steps.{Effect, effect, checked}
+use Rattle.model.specs.Steps.{Effect, checked, tests, made, ack_of}
 
 -- What a node keeps of the messages to another node: the highest number that was acknowledged, the
 -- messages after it, and how many of all its messages a saved node holds.
@@ -21,6 +23,8 @@ pub record Link : Type 0 where
 pub record NodeView : Type 0 where
   pub part : Part
   pub links : List Link
+  -- for each node, how many of its messages a saved node has taken in: so many are acknowledged
+  pub acks : List ℕ
 
 abbrev pub no_link : Link
 no_link = record { base = 0; window = []; kept = 0 }
@@ -32,11 +36,11 @@ link_to n i = slice_index_or n.links i no_link
 abbrev pub used : Link → ℕ
 used l = l.base + length l.window
 
--- what neither an event nor counting as saved moves
+-- what an acknowledgement alone moves
 abbrev pub base_of : Link → ℕ
 base_of l = l.base
 
--- what an event leaves
+-- what every event leaves
 abbrev pub kept_of : Link → ℕ
 kept_of l = l.kept
 
@@ -47,28 +51,42 @@ abbrev pub append_to : List Link → List (ℕ × Message) → List Link
 append_to links [] = links
 append_to links (m ∷ ms) = append_to (slice_set links m.0 (appended (slice_index_or links m.0 no_link) m.1)) ms
 
-abbrev pub view_after : NodeView → Result Effect Refusal → Result (NodeView × Answer) Refusal
-view_after n (Ok x) = Ok (record { part = x.part; links = append_to n.links x.sends }, x.answer)
-view_after n (Err e) = Err e
+-- An acknowledgement acknowledges no more than was released, which is what a saved node holds.
+abbrev pub ack_tests : NodeView → Option Ack → List (Bool × Refusal)
+ack_tests n None = []
+ack_tests n (Some a) = (nat_le a.number (link_to n a.from).kept, AckBeyond) ∷ []
+
+-- The messages up to the number are let go of; none where that number was acknowledged before.
+abbrev pub trimmed : Link → ℕ → Link
+trimmed l number = record l { base = l.base + min (number - l.base) (length l.window); window = drop (number - l.base) l.window }
+
+abbrev pub let_go : List Link → Option Ack → List Link
+let_go links None = links
+let_go links (Some a) = slice_set links a.from (trimmed (slice_index_or links a.from no_link) a.number)
+
+abbrev pub view_after : NodeView → List Link → Result Effect Refusal → Result (NodeView × Answer) Refusal
+view_after n links (Ok x) = Ok (record n { part = x.part; links = append_to links x.sends }, x.answer)
+view_after n links (Err e) = Err e
 
 -- an effect of which only the numbers of its messages may be refused
 abbrev pub view_done : NodeView → Effect → Result (NodeView × Answer) Refusal
-view_done n x = view_after n (checked [] (map used n.links) x)
+view_done n x = view_after n n.links (checked [] (map used n.links) x)
 
 -- an event of the node as it stands
 unfoldable pub view_act : NodeView → Event → Result (NodeView × Answer) Refusal
-view_act n e = view_after n (effect n.part (map used n.links) e)
+view_act n e =
+    view_after n (let_go n.links (ack_of e)) (checked (tests n.part e ++ ack_tests n (ack_of e)) (map used n.links) (made n.part (map used n.links) e))
 
 -- all messages count as saved
 abbrev pub all_kept : Link → Link
 all_kept l = record l { kept = used l }
 
 abbrev pub kept_view : NodeView → NodeView
-kept_view n = record n { links = map all_kept n.links }
+kept_view n = record n { links = map all_kept n.links; acks = n.part.got }
 
 -- a new node
 abbrev pub new_view : Shaped → ℕ → NodeView
-new_view shape own = record { part = new_part shape own; links = replicate shape.nodes no_link }
+new_view shape own = record { part = new_part shape own; links = replicate shape.nodes no_link; acks = replicate shape.nodes 0 }
 
 -- another node of the shape
 abbrev pub is_other : Part → ℕ → Bool
@@ -93,11 +111,17 @@ pub record Shows (n : NodeView) (s : NodeState) : Type 0 where
   pub width : length n.links ≡ length s.sent
   pub links : (i : ℕ) → ShowsSent (slice_index_or n.links i no_link) (slice_index_or s.sent i [])
 
--- What a call answered, and the node after it, against the event on the state: an answer is the event's,
--- and the node then shows the event's state; a refusal is the first that applies.
-abbrev pub Follows : Result Answer Refusal → NodeView → Result (NodeState × Answer) Refusal → Type 0
-Follows (Ok a) new stepped = (s : NodeState) × (stepped ≡ Ok (s, a)) × Shows new s
-Follows (Err e) new stepped = IsFirstRefusal e stepped
+-- a state can't tell that an acknowledgement goes too far, since it doesn't know what was released
+abbrev pub IsTold : Option Ack → Refusal → Type 0
+IsTold None e = Unit {0}
+IsTold (Some a) e = e ≢ AckBeyond
+
+-- What a call answered to an event, and the node after it, against the event on the state: an answer is the
+-- event's, and the node then shows the event's state; a refusal that the state can tell is the first that
+-- applies.
+abbrev pub Follows : Event → Result Answer Refusal → NodeView → Result (NodeState × Answer) Refusal → Type 0
+Follows e (Ok a) new stepped = (s : NodeState) × (stepped ≡ Ok (s, a)) × Shows new s
+Follows e (Err r) new stepped = IsTold (ack_of e) r → IsFirstRefusal r stepped
 
 -- the same against the event on the node as it stood
 abbrev pub Performs : Result Answer Refusal → NodeView → Result (NodeView × Answer) Refusal → Type 0

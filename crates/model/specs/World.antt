@@ -1,16 +1,17 @@
 -- A space of nodes: for each its present state and the one last saved ("A space" in docs/RULES.md).
-use Rattle.std.specs.Prelude.{◌++◌, ◌≡◌, ℕ, ◌-◌, Bool, true, cond, nat_lt, ◌==◌, ◌&&◌, List, [], ◌∷◌, length, map, Option, Some, None, Result, Ok, Err, slice_get, slice_set}
+use Rattle.std.specs.Prelude.{◌++◌, ◌≡◌, ℕ, ◌-◌, Bool, true, cond, nat_lt, nat_le, ◌==◌, ◌&&◌, List, [], ◌∷◌, length, map, Option, Some, None, Result, Ok, Err, slice_get, slice_set}
 use Rattle.std.specs.List.{range_with_len}
 use Rattle.ids.specs.Limits.{Shaped}
 use Rattle.ids.specs.declared.refusal.Refusal.{Refusal}
-use Rattle.ids.specs.declared.refusal.Refusal.TheVariants.{NoNode, WrongNode}
+use Rattle.ids.specs.declared.refusal.Refusal.TheVariants.{NoNode, AckBeyond, WrongNode}
 use Rattle.msg.specs.declared.body.Message.{Message}
 use Rattle.model.specs.declared.event.Answer.{Answer}
 use Rattle.model.specs.declared.step.Step.{Step}
 use Rattle.model.specs.declared.step.Step.TheVariants as step
 use Rattle.model.specs.declared.step.Outcome.{Outcome}
 use Rattle.model.specs.declared.step.Outcome.TheVariants as outcome
-use Rattle.model.specs.State.{NodeState, new_node, node_at, sent_to}
+use Rattle.model.specs.Checks.{guarded}
+use Rattle.model.specs.State.{NodeState, new_node, node_at, got_from, sent_to}
 use Rattle.model.specs.Steps.{act, receive, is_own}
 
 pub record World : Type 0 where
@@ -41,6 +42,19 @@ abbrev pub handed_over : World → ℕ → ℕ → ℕ → Option Message → Re
 handed_over w from to number None = Ok (w, outcome.NoFrame)
 handed_over w from to number (Some x) = moved w to (receive (node_at w.current to) from to number x.stamp x.body)
 
+-- What a node has taken in of another's messages is acknowledged once a saved state of it holds that.
+abbrev pub acknowledged : World → ℕ → ℕ → ℕ
+acknowledged w from to = got_from (node_at w.saved to).part from
+
+-- how many messages of one node to another are released
+abbrev pub release_count : World → ℕ → ℕ → ℕ
+release_count w from to = length (sent_to (node_at w.saved from) to)
+
+-- an acknowledgement is handed to the sender; it changes no state
+abbrev pub handed_back : World → ℕ → ℕ → Result (World × Outcome) Refusal
+handed_back w from to =
+    guarded ((nat_le (acknowledged w from to) (release_count w from to), AckBeyond) ∷ []) (w, outcome.Handed (acknowledged w from to))
+
 abbrev pub is_node : World → ℕ → Bool
 is_node w i = nat_lt i (length w.current)
 
@@ -51,6 +65,8 @@ take_step w (step.Save i) = cond (is_node w i) (Ok (record w { saved = slice_set
 take_step w (step.Restart i) = cond (is_node w i) (Ok (record w { current = slice_set w.current i (node_at w.saved i) }, outcome.Done)) (Err NoNode)
 take_step w (step.Deliver from to number) =
     cond (is_node w from && is_node w to) (handed_over w from to number (released w from to number)) (Err NoNode)
+take_step w (step.Hand from to) =
+    cond (is_node w from && is_node w to) (cond (from == to) (Ok (w, outcome.NoFrame)) (handed_back w from to)) (Err NoNode)
 
 abbrev pub world_after : World → Result (World × Outcome) Refusal → World
 world_after w (Ok x) = x.0
@@ -79,9 +95,10 @@ pub record KeepsSent (w : World) : Type 0 where
   pub width : length w.saved ≡ length w.current
   pub sent : (i j : ℕ) → (more : List Message) × (sent_to (node_at w.current i) j ≡ sent_to (node_at w.saved i) j ++ more)
 
--- a step whose event is no message from another node
+-- a step whose event comes from no other node
 abbrev pub is_own_step : Step → Bool
 is_own_step (step.Act i e) = is_own e
 is_own_step (step.Save i) = true
 is_own_step (step.Restart i) = true
 is_own_step (step.Deliver from to number) = true
+is_own_step (step.Hand from to) = true

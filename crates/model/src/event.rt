@@ -1,5 +1,5 @@
 use ids::Ref;
-use msg::Data;
+use msg::{Ack, Data};
 
 /// A received message that waits for the program: who sent it, its label, and its reference where one
 /// was sent.
@@ -80,6 +80,8 @@ pub enum Event {
     },
     /// A message from another node.
     Data(Data),
+    /// Another node acknowledges the messages that it has taken in and saved.
+    Ack(Ack),
 }
 
 /// What a node answers to an event that it was not refused.

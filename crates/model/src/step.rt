@@ -3,7 +3,7 @@ use crate::event::{Answer, Event};
 /// One step of a space of nodes in one thread.
 #[derive(Clone, Copy, Debug, PartialEq, Eq)]
 pub enum Step {
-    /// An event of the node, which is no message from another node.
+    /// An event of the node, which comes from no other node.
     Act(u8, Event),
     /// The node's present state becomes its saved one.
     Save(u8),
@@ -11,6 +11,8 @@ pub enum Step {
     Restart(u8),
     /// The message of this number, if it was ever released, is given to its receiver.
     Deliver { from: u8, to: u8, number: u64 },
+    /// What the node `to`, as it was saved, has taken in from the node `from` is acknowledged to that one.
+    Hand { from: u8, to: u8 },
 }
 
 /// What became of a step that was not refused.
@@ -20,6 +22,8 @@ pub enum Outcome {
     Answer(Answer),
     /// The node was saved, or restarted.
     Done,
+    /// The acknowledgement of this number was handed over.
+    Handed(u64),
     /// No such message was ever released.
     NoFrame,
 }

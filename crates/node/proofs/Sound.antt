@@ -11,10 +11,11 @@ use Rattle.std.specs.List.{AllByRecursion}
 use Rattle.std.specs.Option.{option_to_list}
 use Rattle.model.specs.State.{Heap, register_at}
 use Rattle.model.specs.Steps.{mentioned}
-use Rattle.model.specs.Heaps.{with_place, heap_alloc, alloc_tests, alloc_heap, with_object, new_object, new_reference, named, heap_store, heap_clear, heap_set_word, store_tests, clear_tests, word_tests}
+use Rattle.model.specs.Heaps.{with_place, heap_alloc, alloc_tests, alloc_heap, with_object, new_object, new_reference, named, heap_load, load_tests, place_loaded, with_register, heap_store, heap_clear, heap_set_word, store_tests, clear_tests, word_tests}
 use Rattle.model.specs.View.{Link, no_link, all_kept, message_of, released_at}
 use Rattle.model.specs.References.{IfAny, HoldsOnly, IsSendable, no_message}
-use Rattle.model.proofs.References.{guarded-ok, holds-with_register, holds-with_object, holds-with_place, holds-with_word}
+use Rattle.model.proofs.Checks.{guarded-ok}
+use Rattle.model.proofs.References.{holds-with_register, holds-with_object, holds-with_place, holds-with_word, holds-place_of}
 
 pub alloc-references : (P : Ref → Type 0) (limit own cycle : ℕ) (h : Heap) (register places : ℕ) (g : Heap) (r : Ref) → heap_alloc limit own cycle h register places ≡ Ok (g, r) → P r → HoldsOnly P h → HoldsOnly P g
 unfolding heap_alloc
@@ -29,6 +30,12 @@ unfolding heap_alloc
 alloc-names limit own cycle h register places g r e =
     let both : ◌≡◌ {A = Heap × Ref} (alloc_heap own cycle h register places, new_reference own h) (g, r) = guarded-ok (alloc_tests limit h register places) _ _ e in
     ap (λ (z : Heap × Ref). z.1.node) both
+
+pub load-references : (P : Ref → Type 0) (own : ℕ) (h : Heap) (register object place : ℕ) (g : Heap) (v : Option Ref) → heap_load own h register object place ≡ Ok (g, v) → HoldsOnly P h → HoldsOnly P g
+unfolding heap_load
+load-references P own h register object place g v e all =
+    let both : ◌≡◌ {A = Heap × Option Ref} (with_register h register (place_loaded h object place), place_loaded h object place) (g, v) = guarded-ok (load_tests own h register object place) _ _ e in
+    subst (HoldsOnly P) (ap (λ (z : Heap × Option Ref). z.0) both) (holds-with_register P h register (place_loaded h object place) all (holds-place_of P h (named h object) place all))
 
 pub store_references : (P : Ref → Type 0) (own : ℕ) (h : Heap) (object place register : ℕ) (g : Heap) → heap_store own h object place register ≡ Ok g → HoldsOnly P h → HoldsOnly P g
 unfolding heap_store

@@ -1,7 +1,7 @@
 -- The frames that a node gives out, as plain data.
-use Rattle.std.specs.Prelude.{ℕ, ◌+◌, cond, Option, None}
+use Rattle.std.specs.Prelude.{ℕ, ◌+◌, cond, Option, Some, None, slice_index_or}
 use Rattle.std.specs.Option.{option_map}
-use Rattle.msg.specs.Grammar.{Plain, data_frame}
+use Rattle.msg.specs.Grammar.{Plain, data_frame, ack_frame}
 use Rattle.msg.specs.declared.body.Message.{Message}
 use Rattle.model.specs.View.{NodeView, link_to, is_other, message_of, released_at}
 
@@ -17,3 +17,7 @@ numbered_frame n to number =
 abbrev pub released_frame : NodeView → ℕ → ℕ → Option Plain
 released_frame n to place =
     cond (is_other n.part to) (option_map (frame_of n.part.own to ((link_to n to).base + 1 + place)) (released_at (link_to n to) place)) None
+
+-- the acknowledgement of what a saved node has taken in from another one
+abbrev pub acknowledgement : NodeView → ℕ → Option Plain
+acknowledgement n from = cond (is_other n.part from) (Some (ack_frame n.part.own from (slice_index_or n.acks from 0))) None

@@ -1,20 +1,28 @@
 -- What is true of every node that stands ("Well-formed nodes" in docs/RULES.md).
-use Rattle.std.specs.Prelude.{◌≡◌, ℕ, ◌<◌, ◌≤◌, length, slice_index_or}
+use Rattle.std.specs.Prelude.{◌≡◌, ℕ, pos, neg_ℤ, ◌<◌, ◌≤◌, ◌≤ℤ◌, length, slice_index_or}
+use Rattle.std.specs.List.{sum_by}
 use Rattle.ids.specs.Limits.{IsShape}
 use Rattle.ids.specs.declared.limits.TheConstants.{GREATEST_NUMBER}
 use Rattle.model.specs.State.{got_from}
-use Rattle.model.specs.View.{Link, NodeView, used, link_to}
+use Rattle.model.specs.View.{NodeView, used, link_to}
+use Rattle.link.specs.Senders.{IsLink}
 use Rattle.model.specs.References.{HoldsOnly, IsWithin, IsSendable, no_message}
 
-pub record IsLink (l : Link) : Type 0 where
-  pub within : used l ≤ GREATEST_NUMBER
-  pub kept : l.kept ≤ used l
+-- The balance is at most what was sent and at least less what was taken in, so it fits its type.
+pub record IsBalanced (n : NodeView) : Type 0 where
+  pub least : neg_ℤ (pos (sum_by (λ (k : ℕ). k) n.part.got)) ≤ℤ n.part.ring.recent
+  pub most : n.part.ring.recent ≤ℤ pos (sum_by used n.links)
 
 pub record IsNode (n : NodeView) : Type 0 where
   pub shape : IsShape n.part.shape
   pub own : n.part.own < n.part.shape.nodes
   pub received : length n.part.got ≡ n.part.shape.nodes
   pub linked : length n.links ≡ n.part.shape.nodes
+  pub acked : length n.acks ≡ n.part.shape.nodes
   pub numbers : (i : ℕ) → got_from n.part i ≤ GREATEST_NUMBER
+  -- what is acknowledged was taken in
+  pub acks : (i : ℕ) → slice_index_or n.acks i 0 ≤ got_from n.part i
+  pub links : (i : ℕ) → IsLink (link_to n i)
+  pub balance : IsBalanced n
   pub references : HoldsOnly (IsWithin n.part.shape) n.part.heap
   pub messages : (i k : ℕ) → IsSendable n.part.shape (slice_index_or (link_to n i).window k no_message)

@@ -2,7 +2,6 @@
 //! node shows, and a refused event changes nothing.
 #![tactic(auto)]
 
-mod link;
 mod links;
 mod node;
 mod summary;

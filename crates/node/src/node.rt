@@ -1,9 +1,9 @@
-ghost use Rattle.std.specs.Prelude.{◌≡◌, ◌≢◌, ◌+◌, ◌<◌, ◌≤◌, ℕ, [], ◌∷◌, true, false, map, option_to_list, slice_index_or, Some, IsTrue, IfOk, IfErr, OnErr};
+ghost use Rattle.std.specs.Prelude.{◌≡◌, ◌≢◌, ◌+◌, ◌+ℤ◌, ◌-ℤ◌, ◌≤ℤ◌, ◌^◌, ◌<◌, ◌≤◌, ℕ, pos, neg_ℤ, [], ◌∷◌, true, false, map, option_to_list, slice_index_or, slice_set, Some, None, IsTrue, IfOk, IfErr, OnErr};
 ghost use Rattle.ids.specs.declared.refusal.Refusal.TheVariants.{LinkSpent, Memory, NoNode};
-ghost use Rattle.model.specs.State.{NodeState};
+ghost use Rattle.model.specs.State.{NodeState, got_from};
 ghost use Rattle.model.specs.Checks.{IsFirstRefusal};
 ghost use Rattle.std.specs.List.{AllByRecursion};
-ghost use Rattle.model.specs.Steps.{act, fits, answers, then, count_in, take_body, mentioned, is_within, are_within, may_follow, is_addressed, may_take, is_memory_free};
+ghost use Rattle.model.specs.Steps.{act, fits, answers, then, counted_up, ack_of, count_in, take_body, mentioned, is_within, are_within, may_follow, is_addressed, may_take, is_memory_free};
 ghost use Rattle.model.specs.References.{IsWithin, IsSendable};
 ghost use Rattle.ids.specs.declared.limits.TheConstants.{GREATEST_NUMBER};
 ghost use Rattle.model.specs.View.{is_other, Shows, Follows, Performs, view_act, view_done, append_to, new_view, kept_view, link_to, used, base_of, kept_of};
@@ -11,13 +11,13 @@ ghost use Rattle.model.specs.declared.event.Event.TheVariants as event;
 ghost use Rattle.model.specs.declared.event.Answer.TheVariants as answer;
 ghost use Rattle.msg.specs.declared.body.Body.TheVariants as body;
 
-use crate::link::Link;
-use crate::links::{append, copy_links, keep_all, new_links};
+use crate::links::{append, copy_links, keep_all, keep_received, new_links, new_receivers, trim};
 use crate::summary::Summary;
 use heap::Heap;
 use ids::{GREATEST_PLACES, NodeId, Ref, Refusal, Shape};
+use link::{Offer, Receiver, Sender};
 use model::{Answer, Event, Letter};
-use msg::{Body, Colour, Data, Frame, Message};
+use msg::{Ack, Body, Colour, Data, Frame, Message};
 use std::alloc::Global;
 use std::marker::Model;
 
@@ -27,8 +27,10 @@ pub struct Node {
     shape: Shape,
     own: u8,
     heap: Heap,
-    got: Vec<u64>,
-    links: Vec<Link>,
+    receivers: Vec<Receiver>,
+    links: Vec<Sender>,
+    // Messages with references that were sent less those taken in.
+    recent: i64,
 }
 
 impl Model for Node {
@@ -46,7 +48,7 @@ impl Model for Node {
 impl Node {
     ghost use Rattle.std.specs.Option.{option_map};
     ghost use Rattle.msg.specs.Frames.{plain};
-    ghost use Rattle.node.specs.Frames.{frame_of, numbered_frame, released_frame};
+    ghost use Rattle.node.specs.Frames.{frame_of, numbered_frame, released_frame, acknowledgement};
     ghost use Rattle.node.specs.Summaries.{summary_of};
     ghost use Rattle.node.specs.Invariant.{IsNode};
 
@@ -60,28 +62,31 @@ impl Node {
             return Err(Refusal::NoNode);
         }
         let heap = Heap::new(alloc, shape)?;
-        let got = vec![in alloc; 0u64; usize::from(shape.nodes())]?;
+        let receivers = new_receivers(alloc, shape.nodes())?;
         let links = new_links(alloc, shape.nodes())?;
         Ok(Node {
             shape,
             own: own.number,
             heap,
-            got,
+            receivers,
             links,
+            recent: 0,
         })
     }
 
     /// Performs one event. The refusals come in the order in which docs/RULES.md lists them for each
     /// event; `Memory` where a growth was refused. A refused event changes nothing. `Copy`, `Drop`,
-    /// `Store`, `Clear`, `Word`, `SetWord`, `Accept` and a message that was taken in before take no memory,
-    /// and `Word` and such a message change nothing.
+    /// `Store`, `Clear`, `Word`, `SetWord`, `Accept`, `Ack` and a message that was taken in before take no
+    /// memory, and `Word` and such a message change nothing.
     pub fn act(&mut self, event: Event) -> Result<Answer, Refusal>
-        ensures states { (s : NodeState) → Shows self.old s → Follows result self.new (act s event) }
+        ensures performs { Performs result self.new (view_act self.old event) }
+        ensures states { (s : NodeState) → Shows self.old s → Follows event result self.new (act s event) }
         ensures unchanged { OnErr result (self.new ≡ self.old) }
         ensures place { (self.new.part.shape ≡ self.old.part.shape) × (self.new.part.own ≡ self.old.part.own) }
         ensures memory_free { IsTrue (is_memory_free self.old.part event) → IfErr result (λ e. e ≢ Memory) }
-        ensures bases { map base_of self.new.links ≡ map base_of self.old.links }
+        ensures bases { ack_of event ≡ None → map base_of self.new.links ≡ map base_of self.old.links }
         ensures kept { map kept_of self.new.links ≡ map kept_of self.old.links }
+        ensures acks { self.new.acks ≡ self.old.acks }
     {
         self.perform(event)
     }
@@ -91,8 +96,9 @@ impl Node {
         ensures unchanged { OnErr result (self.new ≡ self.old) }
         ensures place { (self.new.part.shape ≡ self.old.part.shape) × (self.new.part.own ≡ self.old.part.own) }
         ensures memory_free { IsTrue (is_memory_free self.old.part event) → IfErr result (λ e. e ≢ Memory) }
-        ensures bases { map base_of self.new.links ≡ map base_of self.old.links }
+        ensures bases { ack_of event ≡ None → map base_of self.new.links ≡ map base_of self.old.links }
         ensures kept { map kept_of self.new.links ≡ map kept_of self.old.links }
+        ensures acks { self.new.acks ≡ self.old.acks }
     {
         match event {
             Event::Alloc { register, places } => self.allocate(register, places),
@@ -128,6 +134,7 @@ impl Node {
                 label,
             } => self.get(object, place, label),
             Event::Data(frame) => self.take_in(frame),
+            Event::Ack(ack) => self.acknowledge(ack),
         }
     }
 
@@ -137,6 +144,7 @@ impl Node {
         ensures unchanged { OnErr result (self.new ≡ self.old) }
         ensures place { (self.new.part.shape ≡ self.old.part.shape) × (self.new.part.own ≡ self.old.part.own) }
         ensures links { self.new.links ≡ self.old.links }
+        ensures acks { self.new.acks ≡ self.old.acks }
     {
         let own = self.own;
         let cycle = self.cycle();
@@ -151,6 +159,7 @@ impl Node {
         ensures place { (self.new.part.shape ≡ self.old.part.shape) × (self.new.part.own ≡ self.old.part.own) }
         ensures memory_free { IfErr result (λ e. e ≢ Memory) }
         ensures links { self.new.links ≡ self.old.links }
+        ensures acks { self.new.acks ≡ self.old.acks }
     {
         self.heap.copy_register(register, source)?;
         Ok(Answer::Done)
@@ -163,6 +172,7 @@ impl Node {
         ensures place { (self.new.part.shape ≡ self.old.part.shape) × (self.new.part.own ≡ self.old.part.own) }
         ensures memory_free { IfErr result (λ e. e ≢ Memory) }
         ensures links { self.new.links ≡ self.old.links }
+        ensures acks { self.new.acks ≡ self.old.acks }
     {
         self.heap.drop_register(register)?;
         Ok(Answer::Done)
@@ -174,6 +184,7 @@ impl Node {
         ensures unchanged { OnErr result (self.new ≡ self.old) }
         ensures place { (self.new.part.shape ≡ self.old.part.shape) × (self.new.part.own ≡ self.old.part.own) }
         ensures links { self.new.links ≡ self.old.links }
+        ensures acks { self.new.acks ≡ self.old.acks }
     {
         let own = self.own;
         let value = self.heap.load(own, register, object, place)?;
@@ -187,6 +198,7 @@ impl Node {
         ensures place { (self.new.part.shape ≡ self.old.part.shape) × (self.new.part.own ≡ self.old.part.own) }
         ensures memory_free { IfErr result (λ e. e ≢ Memory) }
         ensures links { self.new.links ≡ self.old.links }
+        ensures acks { self.new.acks ≡ self.old.acks }
     {
         let own = self.own;
         self.heap.store(own, object, place, register)?;
@@ -200,6 +212,7 @@ impl Node {
         ensures place { (self.new.part.shape ≡ self.old.part.shape) × (self.new.part.own ≡ self.old.part.own) }
         ensures memory_free { IfErr result (λ e. e ≢ Memory) }
         ensures links { self.new.links ≡ self.old.links }
+        ensures acks { self.new.acks ≡ self.old.acks }
     {
         let own = self.own;
         self.heap.clear(own, object, place)?;
@@ -222,6 +235,7 @@ impl Node {
         ensures place { (self.new.part.shape ≡ self.old.part.shape) × (self.new.part.own ≡ self.old.part.own) }
         ensures memory_free { IfErr result (λ e. e ≢ Memory) }
         ensures links { self.new.links ≡ self.old.links }
+        ensures acks { self.new.acks ≡ self.old.acks }
     {
         let own = self.own;
         self.heap.set_word(own, object, word)?;
@@ -235,6 +249,7 @@ impl Node {
         ensures place { (self.new.part.shape ≡ self.old.part.shape) × (self.new.part.own ≡ self.old.part.own) }
         ensures bases { map base_of self.new.links ≡ map base_of self.old.links }
         ensures kept { map kept_of self.new.links ≡ map kept_of self.old.links }
+        ensures acks { self.new.acks ≡ self.old.acks }
     {
         if to >= self.shape.nodes() {
             return Err(Refusal::NoNode);
@@ -254,6 +269,7 @@ impl Node {
         ensures place { (self.new.part.shape ≡ self.old.part.shape) × (self.new.part.own ≡ self.old.part.own) }
         ensures memory_free { IfErr result (λ e. e ≢ Memory) }
         ensures links { self.new.links ≡ self.old.links }
+        ensures acks { self.new.acks ≡ self.old.acks }
     {
         let letter = self.heap.take_letter(register)?;
         Ok(Answer::Letter(letter))
@@ -266,6 +282,7 @@ impl Node {
         ensures place { (self.new.part.shape ≡ self.old.part.shape) × (self.new.part.own ≡ self.old.part.own) }
         ensures bases { map base_of self.new.links ≡ map base_of self.old.links }
         ensures kept { map kept_of self.new.links ≡ map kept_of self.old.links }
+        ensures acks { self.new.acks ≡ self.old.acks }
     {
         let target = self.heap.register(object)?;
         let reference = self.heap.register(register)?;
@@ -294,6 +311,7 @@ impl Node {
         ensures place { (self.new.part.shape ≡ self.old.part.shape) × (self.new.part.own ≡ self.old.part.own) }
         ensures bases { map base_of self.new.links ≡ map base_of self.old.links }
         ensures kept { map kept_of self.new.links ≡ map kept_of self.old.links }
+        ensures acks { self.new.acks ≡ self.old.acks }
     {
         let Some(target) = self.heap.register(object)? else {
             return Err(Refusal::EmptyRegister);
@@ -318,19 +336,22 @@ impl Node {
         requires there { to < self.old.part.shape.nodes }
         requires sendable { IsSendable self.old.part.shape (record { stamp = self.old.part.phases.cycle; body = body }) }
         ensures fits { IfOk result (λ n. fits (map used self.old.links) ((to, record { stamp = self.old.part.phases.cycle; body = body }) ∷ []) ≡ true) }
-        ensures done { IfOk result (λ n. self.new ≡ record self.old { links = append_to self.old.links ((to, record { stamp = self.old.part.phases.cycle; body = body }) ∷ []) }) }
+        ensures done { IfOk result (λ n. self.new ≡ record self.old { part = counted_up self.old.part; links = append_to self.old.links ((to, record { stamp = self.old.part.phases.cycle; body = body }) ∷ []) }) }
         ensures number { IfOk result (λ n. n ≡ slice_index_or (map used self.old.links) to 0 + 1) }
         ensures refused { IfErr result (λ e. e ≢ Memory → (e ≡ LinkSpent) × (fits (map used self.old.links) ((to, record { stamp = self.old.part.phases.cycle; body = body }) ∷ []) ≡ false)) }
         ensures unchanged { OnErr result (self.new ≡ self.old) }
         ensures place { (self.new.part.shape ≡ self.old.part.shape) × (self.new.part.own ≡ self.old.part.own) }
         ensures bases { map base_of self.new.links ≡ map base_of self.old.links }
         ensures kept { map kept_of self.new.links ≡ map kept_of self.old.links }
+        ensures acks { self.new.acks ≡ self.old.acks }
     {
         let message = Message {
             stamp: self.cycle(),
             body,
         };
-        append(&mut self.links, to, message)
+        let number = append(&mut self.links, to, message)?;
+        self.recent = one_more(self.recent);
+        Ok(number)
     }
 
     #[tactic(auto, unfolding(model::specs::View::view_act, model::specs::Steps::taken_in))]
@@ -341,47 +362,48 @@ impl Node {
         ensures memory_free { IsTrue (is_memory_free self.old.part (event.Data frame)) → IfErr result (λ e. e ≢ Memory) }
         ensures bases { map base_of self.new.links ≡ map base_of self.old.links }
         ensures kept { map kept_of self.new.links ≡ map kept_of self.old.links }
+        ensures acks { self.new.acks ≡ self.old.acks }
     {
         if !self.is_addressed(frame.from, frame.to) {
             return Err(Refusal::WrongNode);
         }
-        let got = self.got[usize::from(frame.from)];
-        if frame.number <= got {
-            return Ok(Answer::Repeat);
-        }
-        if frame.number - got > 1 {
-            return Err(Refusal::OutOfOrder);
+        let receiver = &self.receivers[usize::from(frame.from)];
+        match receiver.offer(frame.number)? {
+            Offer::Repeat => return Ok(Answer::Repeat),
+            Offer::Next => {}
         }
         if !self.may_take(frame.stamp, frame.body) {
             return Err(Refusal::WrongNode);
         }
-        self.follow(frame.from, frame.number, frame.body)
+        self.follow(frame.from, frame.stamp, frame.body)
     }
 
     /// Takes in a message that the node may take in, in its turn.
-    fn follow(&mut self, from: u8, number: u64, body: Body) -> Result<Answer, Refusal>
+    fn follow(&mut self, from: u8, stamp: u64, body: Body) -> Result<Answer, Refusal>
         requires there { from < self.old.part.shape.nodes }
-        requires number { number ≤ GREATEST_NUMBER }
+        requires room { got_from self.old.part from < GREATEST_NUMBER }
+        requires joined { self.old.part.phases.cycle ≤ stamp }
         requires within { AllByRecursion (IsWithin self.old.part.shape) (mentioned body) }
         requires may { IsTrue (may_follow self.old.part.own body) }
-        ensures performs { Performs result self.new (view_done self.old (answers (then (count_in self.old.part from number) (take_body from body)) answer.Received)) }
+        ensures performs { Performs result self.new (view_done self.old (answers (then (count_in self.old.part from (got_from self.old.part from + 1) stamp body) (take_body from body)) answer.Received)) }
         ensures unchanged { OnErr result (self.new ≡ self.old) }
         ensures place { (self.new.part.shape ≡ self.old.part.shape) × (self.new.part.own ≡ self.old.part.own) }
         ensures bases { map base_of self.new.links ≡ map base_of self.old.links }
         ensures kept { map kept_of self.new.links ≡ map kept_of self.old.links }
+        ensures acks { self.new.acks ≡ self.old.acks }
     {
         match body {
-            Body::Give { label, reference } => self.take_give(from, number, label, reference),
+            Body::Give { label, reference } => self.take_give(from, stamp, label, reference),
             Body::Put {
                 target,
                 place,
                 reference,
-            } => self.take_put(from, number, target, place, reference),
+            } => self.take_put(from, stamp, target, place, reference),
             Body::Get {
                 target,
                 place,
                 label,
-            } => self.take_get(from, number, target, place, label),
+            } => self.take_get(from, stamp, target, place, label),
             Body::Begin | Body::Token(_) | Body::Mark { .. } | Body::Ended | Body::Swept => {
                 unreachable!()
             }
@@ -445,25 +467,27 @@ impl Node {
     fn take_give(
         &mut self,
         from: u8,
-        number: u64,
+        stamp: u64,
         label: u32,
         reference: Option<Ref>,
     ) -> Result<Answer, Refusal>
         requires there { from < self.old.part.shape.nodes }
-        requires number { number ≤ GREATEST_NUMBER }
+        requires room { got_from self.old.part from < GREATEST_NUMBER }
+        requires joined { self.old.part.phases.cycle ≤ stamp }
         requires within { AllByRecursion (IsWithin self.old.part.shape) (mentioned (body.Give label reference)) }
-        ensures performs { Performs result self.new (view_done self.old (answers (then (count_in self.old.part from number) (take_body from (body.Give label reference))) answer.Received)) }
+        ensures performs { Performs result self.new (view_done self.old (answers (then (count_in self.old.part from (got_from self.old.part from + 1) stamp (body.Give label reference)) (take_body from (body.Give label reference))) answer.Received)) }
         ensures unchanged { OnErr result (self.new ≡ self.old) }
         ensures place { (self.new.part.shape ≡ self.old.part.shape) × (self.new.part.own ≡ self.old.part.own) }
         ensures bases { map base_of self.new.links ≡ map base_of self.old.links }
         ensures kept { map kept_of self.new.links ≡ map kept_of self.old.links }
+        ensures acks { self.new.acks ≡ self.old.acks }
     {
         self.heap.add_letter(Letter {
             from,
             label,
             reference,
         })?;
-        self.got[usize::from(from)] = number;
+        self.count_in(from);
         Ok(Answer::Received)
     }
 
@@ -471,22 +495,24 @@ impl Node {
     fn take_put(
         &mut self,
         from: u8,
-        number: u64,
+        stamp: u64,
         target: Ref,
         place: u8,
         reference: Option<Ref>,
     ) -> Result<Answer, Refusal>
         requires there { from < self.old.part.shape.nodes }
-        requires number { number ≤ GREATEST_NUMBER }
+        requires room { got_from self.old.part from < GREATEST_NUMBER }
+        requires joined { self.old.part.phases.cycle ≤ stamp }
         requires within { AllByRecursion (IsWithin self.old.part.shape) (mentioned (body.Put target place reference)) }
-        ensures performs { Performs result self.new (view_done self.old (answers (then (count_in self.old.part from number) (take_body from (body.Put target place reference))) answer.Received)) }
+        ensures performs { Performs result self.new (view_done self.old (answers (then (count_in self.old.part from (got_from self.old.part from + 1) stamp (body.Put target place reference)) (take_body from (body.Put target place reference))) answer.Received)) }
         ensures unchanged { OnErr result (self.new ≡ self.old) }
         ensures place { (self.new.part.shape ≡ self.old.part.shape) × (self.new.part.own ≡ self.old.part.own) }
         ensures bases { map base_of self.new.links ≡ map base_of self.old.links }
         ensures kept { map kept_of self.new.links ≡ map kept_of self.old.links }
+        ensures acks { self.new.acks ≡ self.old.acks }
     {
         self.heap.set_place(target, place, reference);
-        self.got[usize::from(from)] = number;
+        self.count_in(from);
         Ok(Answer::Received)
     }
 
@@ -494,24 +520,53 @@ impl Node {
     fn take_get(
         &mut self,
         from: u8,
-        number: u64,
+        stamp: u64,
         target: Ref,
         place: u8,
         label: u32,
     ) -> Result<Answer, Refusal>
         requires there { from < self.old.part.shape.nodes }
-        requires number { number ≤ GREATEST_NUMBER }
+        requires room { got_from self.old.part from < GREATEST_NUMBER }
+        requires joined { self.old.part.phases.cycle ≤ stamp }
         requires within { AllByRecursion (IsWithin self.old.part.shape) (mentioned (body.Get target place label)) }
-        ensures performs { Performs result self.new (view_done self.old (answers (then (count_in self.old.part from number) (take_body from (body.Get target place label))) answer.Received)) }
+        ensures performs { Performs result self.new (view_done self.old (answers (then (count_in self.old.part from (got_from self.old.part from + 1) stamp (body.Get target place label)) (take_body from (body.Get target place label))) answer.Received)) }
         ensures unchanged { OnErr result (self.new ≡ self.old) }
         ensures place { (self.new.part.shape ≡ self.old.part.shape) × (self.new.part.own ≡ self.old.part.own) }
         ensures bases { map base_of self.new.links ≡ map base_of self.old.links }
         ensures kept { map kept_of self.new.links ≡ map kept_of self.old.links }
+        ensures acks { self.new.acks ≡ self.old.acks }
     {
         let reference = self.heap.place(target, place);
         self.send(from, Body::Give { label, reference })?;
-        self.got[usize::from(from)] = number;
+        self.count_in(from);
         Ok(Answer::Received)
+    }
+
+    /// Counts a message with references as taken in.
+    fn count_in(&mut self, from: u8)
+        requires there { from < self.old.part.shape.nodes }
+        requires room { got_from self.old.part from < GREATEST_NUMBER }
+        ensures { self.new ≡ record self.old { part = record self.old.part { got = slice_set self.old.part.got from (got_from self.old.part from + 1); ring = record self.old.part.ring { recent = self.old.part.ring.recent -ℤ pos 1 } } } }
+    {
+        self.receivers[usize::from(from)].take_next();
+        self.recent = one_less(self.recent);
+    }
+
+    /// Lets go of the messages that were acknowledged.
+    #[tactic(auto, unfolding(model::specs::View::view_act))]
+    fn acknowledge(&mut self, ack: Ack) -> Result<Answer, Refusal>
+        ensures performs { Performs result self.new (view_act self.old (event.Ack ack)) }
+        ensures unchanged { OnErr result (self.new ≡ self.old) }
+        ensures place { (self.new.part.shape ≡ self.old.part.shape) × (self.new.part.own ≡ self.old.part.own) }
+        ensures memory_free { IfErr result (λ e. e ≢ Memory) }
+        ensures kept { map kept_of self.new.links ≡ map kept_of self.old.links }
+        ensures acks { self.new.acks ≡ self.old.acks }
+    {
+        if !self.is_addressed(ack.from, ack.to) {
+            return Err(Refusal::WrongNode);
+        }
+        trim(&mut self.links, ack.from, ack.number)?;
+        Ok(Answer::Done)
     }
 
     /// The collection cycle that the node has joined: none has begun.
@@ -527,6 +582,7 @@ impl Node {
         ensures { self.new ≡ kept_view self.old }
     {
         keep_all(&mut self.links);
+        keep_received(&mut self.receivers);
     }
 
     /// The frame in this place of the window to another node, if a saved node holds its message: the
@@ -539,8 +595,21 @@ impl Node {
             return None;
         }
         let link = &self.links[usize::from(to)];
-        let message = link.released(place)?;
+        let message = link.window(place)?;
         self.frame(to, link.base() + 1 + u64::from(place), message)
+    }
+
+    /// The acknowledgement to another node of all its messages that a saved node has taken in. None where
+    /// `from` is no other node of the space.
+    pub fn ack_for(&self, from: u8) -> Option<Frame>
+        ensures { option_map plain result ≡ acknowledgement self.now from }
+    {
+        if !self.is_other(from) {
+            return None;
+        }
+        let number = self.receivers[usize::from(from)].ack_number();
+        let ack = Ack::new(self.own, from, number)?;
+        Some(Frame::Ack(ack))
     }
 
     /// The frame of the message of this number to another node, released or not, while the node keeps
@@ -588,7 +657,7 @@ impl Node {
             swept: 0,
             colour: Colour::White,
             earlier: 0,
-            recent: 0,
+            recent: self.recent,
             grey: self.heap.grey(),
             live: self.heap.live(),
             has_token: false,
@@ -612,8 +681,9 @@ impl Node {
             shape: self.shape,
             own: self.own,
             heap: self.heap.copy(alloc)?,
-            got: Vec::from_slice(alloc, &self.got)?,
+            receivers: Vec::from_slice(alloc, &self.receivers)?,
             links: copy_links(alloc, &self.links)?,
+            recent: self.recent,
         })
     }
 
@@ -622,4 +692,20 @@ impl Node {
     {
         node < self.shape.nodes() && node != self.own
     }
+}
+
+/// A balance after one more message.
+fn one_more(balance: i64) -> i64
+    requires { balance ≤ℤ pos (2 ^ 53) }
+    ensures { result ≡ balance +ℤ pos 1 }
+{
+    balance + 1
+}
+
+/// A balance after one less.
+fn one_less(balance: i64) -> i64
+    requires { neg_ℤ (pos (2 ^ 53)) ≤ℤ balance }
+    ensures { result ≡ balance -ℤ pos 1 }
+{
+    balance - 1
 }

@@ -1,6 +1,6 @@
 use crate::{Answer, Event, Letter, Node, Summary};
 use ids::{NodeId, Ref, Refusal, Shape};
-use msg::{Body, Colour, Data, Frame, Token};
+use msg::{Ack, Body, Colour, Data, Frame, Token};
 use std::alloc::Global;
 use std::process::Abort;
 
@@ -29,6 +29,11 @@ fn first(slot: u32) -> Ref {
 // A message from node 0 to node 1.
 fn message(rt: &impl Abort, number: u64, stamp: u64, body: Body) -> Data {
     Data::new(0, 1, number, stamp, body).expect(rt, "the parts are within the limits")
+}
+
+fn ack(rt: &impl Abort, from: u8, to: u8, number: u64) -> Event {
+    let ack = Ack::new(from, to, number);
+    Event::Ack(ack.expect(rt, "the parts are within the limits"))
 }
 
 fn give_body(label: u32, reference: Option<Ref>) -> Body {
@@ -213,6 +218,7 @@ fn what_is_saved_is_given_out(rt: HostRuntime) -> Result<(), Refusal> {
     assert_eq!(rt; sender.appended(1), 1);
     let live = Summary {
         live: 1,
+        recent: 1,
         ..new_summary(shape, 0)
     };
     assert_eq!(rt; sender.state(), live);
@@ -250,15 +256,19 @@ fn messages_are_taken_in_in_order_and_once(rt: HostRuntime) -> Result<(), Refusa
     assert_eq!(rt; receiver.act(next), Ok(Answer::Repeat));
     let later = Event::Data(message(&rt, 3, 0, give_body(8, None)));
     assert_eq!(rt; receiver.act(later), Err(Refusal::OutOfOrder));
+    let taken = Summary {
+        recent: -1,
+        ..new_summary(shape, 1)
+    };
     let waiting = Summary {
         letters: 1,
-        ..new_summary(shape, 1)
+        ..taken
     };
     assert_eq!(rt; receiver.state(), waiting);
 
     assert_eq!(rt; receiver.act(accept(2)), Ok(letter(0, 7, reference)));
     assert_eq!(rt; receiver.act(accept(2)), Err(Refusal::NoLetter));
-    assert_eq!(rt; receiver.state(), new_summary(shape, 1));
+    assert_eq!(rt; receiver.state(), taken);
 
     assert_eq!(rt; receiver.act(give(0, 9, 2)), Ok(Answer::Sent(1)));
     let back = Data::new(1, 0, 1, 0, give_body(9, reference));
@@ -597,6 +607,25 @@ fn a_place_is_written_and_read_by_messages(rt: HostRuntime) -> Result<(), Refusa
     Ok(())
 }
 
+#[test]
+fn the_node_that_asked_is_answered(rt: HostRuntime) -> Result<(), Refusal> {
+    let shape = Shape::new(3, 4, 16).expect(&rt, "the shape is within the limits");
+    let mut owner = node(&rt, rt.alloc(), shape, 1)?;
+    let own = object(1, 0, 1);
+    let read = Data::new(2, 1, 1, 0, get_body(own, 0, 9));
+    let read = read.expect(&rt, "the parts are within the limits");
+    let rows = [
+        (alloc(0, 1), Answer::New(own)),
+        (store(0, 0, 0), Answer::Done),
+        (Event::Data(read), Answer::Received),
+    ];
+    answer_all(&rt, &mut owner, &rows);
+    assert_eq!(rt; (owner.appended(0), owner.appended(2)), (0, 1));
+    let sent = Data::new(1, 2, 1, 0, give_body(9, Some(own)));
+    assert_eq!(rt; owner.numbered_frame(2, 1), sent.map(Frame::Data));
+    Ok(())
+}
+
 // The first object of node 1 has one place, which holds its own reference; there is no other object. The
 // places asked for are of that object, of a later one in its slot, and of a slot that was never used.
 #[test]
@@ -627,6 +656,7 @@ fn a_place_that_is_not_there_holds_nothing(rt: HostRuntime) -> Result<(), Refusa
     }
     let live = Summary {
         live: 1,
+        recent: -4,
         ..new_summary(space(&rt, 4, 16), 1)
     };
     assert_eq!(rt; owner.state(), live);
@@ -655,21 +685,135 @@ fn a_repeat_is_not_followed_again(rt: HostRuntime) -> Result<(), Refusal> {
     Ok(())
 }
 
-#[test]
-fn a_window_has_thirty_two_places(rt: HostRuntime) -> Result<(), Refusal> {
-    let shape = space(&rt, 1, 1);
-    let mut sender = node(&rt, rt.alloc(), shape, 0)?;
+// Node 0 of two nodes after 33 messages to node 1, all of them saved.
+fn full_window(rt: &impl Abort, memory: Global) -> Result<Node, Refusal> {
+    let mut sender = node(rt, memory, space(rt, 1, 1), 0)?;
     for number in 1..34 {
         let answer = sender.act(give(1, 7, 0));
         assert_eq!(rt; answer, Ok(Answer::Sent(number)));
     }
     sender.kept();
+    Ok(sender)
+}
+
+#[test]
+fn a_window_has_thirty_two_places(rt: HostRuntime) -> Result<(), Refusal> {
+    let sender = full_window(&rt, rt.alloc())?;
     assert_eq!(rt; sender.appended(1), 33);
     let last = Frame::Data(message(&rt, 32, 0, give_body(7, None)));
     assert_eq!(rt; sender.frame_at(1, 31), Some(last));
     assert_eq!(rt; sender.frame_at(1, 32), None);
     let beyond = Frame::Data(message(&rt, 33, 0, give_body(7, None)));
     assert_eq!(rt; sender.numbered_frame(1, 33), Some(beyond));
+    Ok(())
+}
+
+#[test]
+fn an_acknowledgement_moves_the_window(rt: HostRuntime) -> Result<(), Refusal> {
+    let mut sender = full_window(&rt, rt.alloc())?;
+    let before = sender.state();
+    assert_eq!(rt; sender.act(ack(&rt, 1, 0, 1)), Ok(Answer::Done));
+    assert_eq!(rt; sender.state(), before);
+    assert_eq!(rt; sender.appended(1), 33);
+    assert_eq!(rt; sender.numbered_frame(1, 1), None);
+    for (place, number) in [(0, 2), (30, 32), (31, 33)] {
+        let sent = Frame::Data(message(&rt, number, 0, give_body(7, None)));
+        assert_eq!(rt; sender.frame_at(1, place), Some(sent), "{place}");
+        assert_eq!(rt; sender.numbered_frame(1, number), Some(sent), "{number}");
+    }
+    let moved = shown(&sender, 1);
+    for number in [0, 1] {
+        assert_eq!(rt;
+            sender.act(ack(&rt, 1, 0, number)),
+            Ok(Answer::Done),
+            "{number}"
+        );
+        assert_eq!(rt; shown(&sender, 1), moved, "{number}");
+    }
+    assert_eq!(rt; sender.act(ack(&rt, 1, 0, 33)), Ok(Answer::Done));
+    assert_eq!(rt; sender.state(), before);
+    assert_eq!(rt; sender.frame_at(1, 0), None);
+    assert_eq!(rt; sender.numbered_frame(1, 33), None);
+    assert_eq!(rt; sender.act(give(1, 8, 0)), Ok(Answer::Sent(34)));
+    Ok(())
+}
+
+// One of the two messages of node 0 to node 1 is released.
+#[test]
+fn wrong_acknowledgements_are_refused(rt: HostRuntime) -> Result<(), Refusal> {
+    let mut sender = node(&rt, rt.alloc(), space(&rt, 1, 1), 0)?;
+    sender.act(give(1, 7, 0))?;
+    sender.kept();
+    sender.act(give(1, 8, 0))?;
+    let rows = [
+        (ack(&rt, 0, 1, 1), Refusal::WrongNode),
+        (ack(&rt, 1, 2, 1), Refusal::WrongNode),
+        (ack(&rt, 2, 0, 0), Refusal::WrongNode),
+        (ack(&rt, 0, 1, 3), Refusal::WrongNode),
+        (ack(&rt, 1, 0, 2), Refusal::AckBeyond),
+        (ack(&rt, 1, 0, 3), Refusal::AckBeyond),
+    ];
+    refuse_all(&rt, &mut sender, 1, &rows);
+    assert_eq!(rt; sender.act(ack(&rt, 1, 0, 1)), Ok(Answer::Done));
+    Ok(())
+}
+
+#[test]
+fn an_acknowledgement_is_of_one_link(rt: HostRuntime) -> Result<(), Refusal> {
+    let shape = Shape::new(3, 1, 1).expect(&rt, "the shape is within the limits");
+    let mut sender = node(&rt, rt.alloc(), shape, 0)?;
+    sender.act(give(1, 7, 0))?;
+    sender.act(give(2, 8, 0))?;
+    sender.kept();
+    let other = shown(&sender, 1);
+    assert_eq!(rt; sender.act(ack(&rt, 2, 0, 1)), Ok(Answer::Done));
+    assert_eq!(rt; sender.frame_at(2, 0), None);
+    assert_eq!(rt; shown(&sender, 1), other);
+    let sent = Frame::Data(message(&rt, 1, 0, give_body(7, None)));
+    assert_eq!(rt; sender.frame_at(1, 0), Some(sent));
+    Ok(())
+}
+
+#[test]
+fn what_was_saved_is_acknowledged(rt: HostRuntime) -> Result<(), Refusal> {
+    let mut receiver = node(&rt, rt.alloc(), space(&rt, 4, 16), 1)?;
+    let none = Ack::new(1, 0, 0).map(Frame::Ack);
+    let one = Ack::new(1, 0, 1).map(Frame::Ack);
+    assert_eq!(rt; receiver.ack_for(0), none);
+    let taken = Event::Data(message(&rt, 1, 0, give_body(7, None)));
+    assert_eq!(rt; receiver.act(taken), Ok(Answer::Received));
+    assert_eq!(rt; receiver.ack_for(0), none);
+    receiver.kept();
+    assert_eq!(rt; receiver.ack_for(0), one);
+    let taken = Event::Data(message(&rt, 2, 0, give_body(8, None)));
+    assert_eq!(rt; receiver.act(taken), Ok(Answer::Received));
+    assert_eq!(rt; receiver.ack_for(0), one);
+    let copy = receiver.copy(rt.alloc())?;
+    assert_eq!(rt; copy.ack_for(0), one);
+    for from in [1, 2, 16, 255] {
+        assert_eq!(rt; receiver.ack_for(from), None, "{from}");
+    }
+    Ok(())
+}
+
+// Node 0 has taken in the one message of node 1.
+#[test]
+fn messages_are_counted(rt: HostRuntime) -> Result<(), Refusal> {
+    let (mut asking, mut owner) = two_nodes(&rt, rt.alloc())?;
+    assert_eq!(rt; (asking.state().recent, owner.state().recent), (-1, 1));
+    for (event, recent) in [(give(1, 7, 1), 0), (put(0, 0, 1), 1), (get(0, 0, 9), 2)] {
+        asking.act(event)?;
+        assert_eq!(rt; asking.state().recent, recent, "{event:?}");
+    }
+    // A read is taken in, and answered by a message.
+    for (number, recent) in [(1, 0), (1, 0), (2, -1), (3, -1), (3, -1)] {
+        deliver(&rt, &asking, &mut owner, number)?;
+        assert_eq!(rt; owner.state().recent, recent, "{number}");
+    }
+    asking.kept();
+    assert_eq!(rt; asking.act(ack(&rt, 1, 0, 3)), Ok(Answer::Done));
+    assert_eq!(rt; asking.act(alloc(1, 0)), Ok(Answer::New(first(0))));
+    assert_eq!(rt; asking.state().recent, 2);
     Ok(())
 }
 

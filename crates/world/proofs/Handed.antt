@@ -1,5 +1,5 @@
 -- A delivery of the code's space is that of the definitions.
-use Rattle.std.proofs.Common.{◌≡◌, ◌≢◌, ℕ, zero, suc, ◌+◌, ◌-◌, ◌<◌, ◌≤◌, Bool, true, ◌&&◌, List, [], ◌++◌, length, get_or, set, slice_get, Option, Some, None, Result, Ok, Err, ltb, ◌⊎◌, inl, inr, refl, ap, sym, ◌∙◌, subst, arith, eq-eqb, append-nil}
+use Rattle.std.proofs.Common.{◌≡◌, ◌≢◌, ℕ, zero, suc, ◌+◌, ◌-◌, ◌<◌, ◌≤◌, Bool, true, ◌&&◌, List, [], ◌++◌, length, map, get_or, set, slice_get, Option, Some, None, Result, Ok, Err, ltb, ◌⊎◌, inl, inr, refl, ap, sym, ◌∙◌, subst, arith, eq-eqb, append-nil}
 use Rattle.std.proofs.lemmas.Bool.{lt-ltb, ne_eqb, cond-true, cond-false, and_left, and_right}
 use Rattle.ids.specs.declared.refusal.Refusal.{Refusal}
 use Rattle.ids.specs.declared.refusal.Refusal.TheVariants.{NoNode}
@@ -14,11 +14,11 @@ use Rattle.model.specs.declared.step.Step.TheVariants as step
 use Rattle.model.specs.declared.step.Outcome.TheVariants as outcome
 use Rattle.model.specs.State.{NodeState, node_at, sent_to}
 use Rattle.model.specs.Steps.{act, receive}
-use Rattle.model.specs.View.{NodeView, Shows, Follows}
+use Rattle.model.specs.View.{NodeView, Shows, Follows, kept_of}
 use Rattle.model.specs.World.{World, take_step, moved, released, handed_over, is_node}
 use Rattle.world.specs.Outboxes.{IsFrameOf, numbered_bytes}
 use Rattle.world.specs.Shows.{Simulated, ShowsWorld, FollowsStep, frames_of}
-use Rattle.world.proofs.Shows.{answered, moved-follows, node-follows, is-node, is-no-node, within-seen, shows-seen}
+use Rattle.world.proofs.Shows.{answered, moved-follows, node-follows, counted-read, is-node, is-no-node, within-seen, shows-seen}
 
 -- a message that was released, and its frame
 pub record Found (n : Simulated) (w : World) (from to number : ℕ) (bytes : List ℕ) : Type 0 where
@@ -63,7 +63,7 @@ missing n w from to (suc k) h apart there =
     let one : IsFrameOf from to k (slice_get (sent_to (node_at w.saved from) to) k) None = subst (λ (b : Option (List ℕ)). IsFrameOf from to k (slice_get (sent_to (node_at w.saved from) to) k) b) at (h.released from to k apart) in
     cond-false _ _ _ (ne_eqb from to apart) ∙ cond-true (ltb 0 (suc k)) _ None (lt-ltb 0 (suc k) (omega arith)) ∙ ap (slice_get (sent_to (node_at w.saved from) to)) back ∙ missing-at from to k _ one
 
-both-nodes : (n : Simulated) (w : World) (from to : ℕ) → ShowsWorld n w → from < length n.present → to < length n.present → (is_node w from && is_node w to) ≡ true
+pub both-nodes : (n : Simulated) (w : World) (from to : ℕ) → ShowsWorld n w → from < length n.present → to < length n.present → (is_node w from && is_node w to) ≡ true
 both-nodes n w from to h f t =
     let a : is_node w from ≡ true = is-node n w from h f in
     let b : is_node w to ≡ true = is-node n w to h t in
@@ -98,9 +98,9 @@ unfolding act receive receive_plain
 act-receives s d from to number x h = ap (receive_plain s) h
 
 -- The same as the code has it: n is the space of its fields and m the one that callers see.
-pub delivered-follows : (n m : Simulated) (w : World) (from to i number : ℕ) (bytes : List ℕ) (d : Data) (u v : NodeView) (r : Result Answer Refusal) → n ≡ m → ShowsWorld m w → from < length m.present → to < length m.present → from ≢ to → to ≡ i → numbered_bytes (frames_of m.released from to) number ≡ Some bytes → Fits (plain_data d) → bytes ≡ spelling (plain_data d) → u ≡ get_or n.present i u → ((s : NodeState) → Shows u s → Follows r v (act s (event.Data d))) → FollowsStep (answered r) (record n { present = set n.present i v }) (take_step w (step.Deliver from to number))
+pub delivered-follows : (n m : Simulated) (w : World) (from to i number : ℕ) (bytes : List ℕ) (d : Data) (u v : NodeView) (r : Result Answer Refusal) → n ≡ m → ShowsWorld m w → from < length m.present → to < length m.present → from ≢ to → to ≡ i → numbered_bytes (frames_of m.released from to) number ≡ Some bytes → Fits (plain_data d) → bytes ≡ spelling (plain_data d) → u ≡ get_or n.present i u → map kept_of v.links ≡ map kept_of u.links → ((s : NodeState) → Shows u s → Follows (event.Data d) r v (act s (event.Data d))) → FollowsStep (answered r) (record n { present = set n.present i v }) (take_step w (step.Deliver from to number))
 unfolding take_step
-delivered-follows n m w from to i number bytes d u v r seen shown less_from less_to apart named there fits spelled read follows =
+delivered-follows n m w from to i number bytes d u v r seen shown less_from less_to apart named there fits spelled read kept follows =
     let frame : Found m w from to number bytes = found m w from to number bytes shown apart there in
     let x : Message = frame.message in
     let longer : spelling (plain_data d) ++ [] ≡ spelling (data_frame from to number x.stamp x.body) = append-nil (spelling (plain_data d)) ∙ sym spelled ∙ frame.spelled in
@@ -108,7 +108,7 @@ delivered-follows n m w from to i number bytes d u v r seen shown less_from less
     let within : i < length n.present = within-seen n m i seen (subst (λ (k : ℕ). k < length m.present) named less_to) in
     let h : ShowsWorld n w = shows-seen n m w seen shown in
     let same : act (node_at w.current i) (event.Data d) ≡ receive (node_at w.current i) from to number x.stamp x.body = act-receives (node_at w.current i) d from to number x one in
-    let here : Follows r v (receive (node_at w.current i) from to number x.stamp x.body) = subst (Follows r v) same (node-follows n w i (event.Data d) u v r h within read follows) in
+    let here : Follows (event.Data d) r v (receive (node_at w.current i) from to number x.stamp x.body) = subst (Follows (event.Data d) r v) same (node-follows n w i (event.Data d) u v r h within read follows) in
     let moves : take_step w (step.Deliver from to number) ≡ moved w to (receive (node_at w.current to) from to number x.stamp x.body) = cond-true _ _ _ (both-nodes m w from to shown less_from less_to) ∙ ap (handed_over w from to number) frame.there in
     let at : take_step w (step.Deliver from to number) ≡ moved w i (receive (node_at w.current i) from to number x.stamp x.body) = moves ∙ ap (λ (k : ℕ). moved w k (receive (node_at w.current k) from to number x.stamp x.body)) named in
-    moved-follows n w i (step.Deliver from to number) v r (receive (node_at w.current i) from to number x.stamp x.body) h at here
+    moved-follows n w i (step.Deliver from to number) (event.Data d) v r (receive (node_at w.current i) from to number x.stamp x.body) h (counted-read n w i u v h within read kept) refl at here

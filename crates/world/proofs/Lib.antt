@@ -1,6 +1,8 @@
 pub mod OutboxLemmas
 pub mod Shows
 pub mod Handed
+pub mod Acked
+pub mod Looks
 pub mod Rows
 pub mod Saved
 pub mod New

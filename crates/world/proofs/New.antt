@@ -11,11 +11,11 @@ use Rattle.msg.specs.declared.body.Message.{Message}
 use Rattle.model.specs.State.{NodeState, new_node, no_node, node_at, sent_to}
 use Rattle.model.specs.View.{Link, NodeView, Shows, ShowsSent, no_link, link_to, new_view}
 use Rattle.model.specs.World.{new_nodes, new_world}
-use Rattle.laws.proofs.Lookups.{get_or-replicate_any}
+use Rattle.model.proofs.Lookups.{get_or-replicate_any}
 use Rattle.laws.proofs.KeepsSent.{new-keeps-sent}
 use Rattle.world.specs.Outboxes.{OutboxView, no_outbox, released_frames, IsFrameOf}
 use Rattle.world.specs.Rows.{rows_of}
-use Rattle.world.specs.Shows.{Simulated, ShowAll, ShowsWorld, IsPlaced, IsSim, AreKept, no_view, view_at, frames_of}
+use Rattle.world.specs.Shows.{Simulated, ShowAll, ShowsWorld, IsPlaced, IsSim, AreKept, no_view, view_at, frames_of, AreCounted}
 use Rattle.world.proofs.Shows.{same-sim}
 
 abbrev pub new_sim : Shaped → Simulated
@@ -71,12 +71,21 @@ no-frames i j k sent frames a b =
     let none : IsFrameOf i j k (slice_get {X = Message} [] k) (slice_get {X = List ℕ} [] k) = tt in
     subst (λ (z : List Message). IsFrameOf i j k (slice_get z k) (slice_get frames k)) (sym a) (subst (λ (z : List (List ℕ)). IsFrameOf i j k (slice_get {X = Message} [] k) (slice_get z k)) (sym b) none)
 
+-- nothing is released
+new-counted : (shape : Shaped) → AreCounted (new_sim shape).present (new_nodes shape)
+new-counted shape = λ i j.
+    let zero-kept : (link_to (view_at (new_sim shape).present i) j).kept ≡ 0 = at_map (λ (v : NodeView). (link_to v j).kept ≡ 0) (new_view shape) (range_with_len 0 shape.nodes) i no_view refl (λ x. ap (λ (l : Link). l.kept) (get_or-replicate_any shape.nodes j no_link)) in
+    zero-kept ∙ sym (ap length (nothing-sent shape i j))
+
 pub new-shows : (shape : Shaped) → ShowsWorld (new_sim shape) (new_world shape)
 new-shows shape = record {
   current = new-all-shown shape;
   saved = new-all-shown shape;
   released = λ i j k apart. no-frames i j k (sent_to (node_at (new_nodes shape) i) j) (frames_of (new_sim shape).released i j) (nothing-sent shape i j) (nothing-released shape i j);
   grown = new-keeps-sent shape;
+  present_counted = new-counted shape;
+  saved_counted = new-counted shape;
+  acked = λ i. both_map (λ (v : NodeView) (s : NodeState). v.acks ≡ s.part.got) (new_view shape) (new_node shape) (range_with_len 0 shape.nodes) i no_view no_node refl (λ x. refl);
 }
 
 new-placed : (shape : Shaped) (i : ℕ) → i < shape.nodes → IsPlaced shape.nodes i (view_at (new_sim shape).present i)

@@ -9,6 +9,7 @@ use borrow.Author.Count.{below_more}
 use Rattle.msg.specs.Grammar.{Plain, Fits, spelling}
 use Rattle.msg.specs.declared.body.Message.{Message}
 use Rattle.model.specs.View.{Link, NodeView, link_to, is_other, used, message_of}
+use Rattle.model.proofs.Lookups.{slice_get-left}
 use Rattle.node.specs.Frames.{frame_of, numbered_frame}
 use Rattle.world.specs.Outboxes.{OutboxView, no_outbox, released_frames, IsFrameOf, AreFramesFrom, IsStaged}
 
@@ -20,11 +21,6 @@ bytes_of v = v.items
 abbrev pub AreFramesTo : ℕ → ℕ → NodeView → ℕ → List (List ℕ) → Type 0
 AreFramesTo end first n to frames =
     (k : ℕ) → k < end → first ≤ k → IsFrameOf n.part.own to k (message_of (link_to n to) (k + 1)) (slice_get frames k)
-
-slice_get_left : {X : Type 0} (xs ys : List X) (k : ℕ) → k < length xs → slice_get (xs ++ ys) k ≡ slice_get xs k
-slice_get_left [] ys k h = absurd (omega arith)
-slice_get_left (x ∷ xs) ys zero h = refl
-slice_get_left (x ∷ xs) ys (suc k) h = slice_get_left xs ys k (omega arith)
 
 slice_get_push : {X : Type 0} (xs : List X) (y : X) (k : ℕ) → length xs ≡ k → slice_get (xs ++ y ∷ []) k ≡ Some y
 slice_get_push [] y zero h = refl
@@ -45,7 +41,7 @@ frames_more first place n to frames p bytes count other made fits spelled before
     let m = message_of (link_to n to) (place + 1) in
     let here : IsFrameOf n.part.own to place m (Some bytes) = spells_message n.part.own to place m p bytes (made ∙ cond-true _ _ _ other) fits spelled in
     below_more (λ k. first ≤ k → IsFrameOf n.part.own to k (message_of (link_to n to) (k + 1)) (slice_get (frames ++ bytes ∷ []) k)) place
-    (λ k below above. subst (IsFrameOf n.part.own to k (message_of (link_to n to) (k + 1))) (sym (slice_get_left frames (bytes ∷ []) k (omega arith))) (before k below above))
+    (λ k below above. subst (IsFrameOf n.part.own to k (message_of (link_to n to) (k + 1))) (sym (slice_get-left frames (bytes ∷ []) k (omega arith))) (before k below above))
     (λ above. subst (IsFrameOf n.part.own to place m) (sym (slice_get_push frames bytes place count)) here)
 
 none_by_both : {X : Type 0} (b : Bool) (o : Option X) → o ≡ None → cond b None o ≡ None

@@ -1,21 +1,22 @@
 -- A save of the code's space is that of the definitions.
-use Rattle.std.proofs.Common.{◌≡◌, ◌≢◌, ℕ, zero, suc, ◌+◌, ◌-◌, ◌<◌, ◌≤◌, false, List, [], ◌∷◌, length, map, take, drop, get_or, set, slice_get, Option, Some, None, Ok, leb, ⊎_elim, refl, ap, sym, ◌∙◌, subst, arith}
+use Rattle.std.proofs.Common.{◌≡◌, ◌≢◌, ℕ, ◌+◌, ◌-◌, ◌<◌, ◌≤◌, false, List, [], length, map, take, get_or, set, slice_get, Option, Some, None, Ok, leb, ⊎_elim, refl, ap, sym, ◌∙◌, subst, arith}
 use Rattle.std.proofs.Math.ListN.{get_or-map, get_or-eq_default}
 use Rattle.std.proofs.Math.Seq.{take-length}
 use Rattle.std.proofs.lemmas.Bool.{cases_lt, lt-leb, cond-true, cond-false}
-use Rattle.std.proofs.lemmas.List.{length-set, length-map, length-take, set-get_or}
+use Rattle.std.proofs.lemmas.List.{length-set, length-map, length-take, length-drop}
 use Rattle.std.proofs.lemmas.Option.{slice_get-get_or}
 use Rattle.ids.specs.declared.limits.TheConstants.{GREATEST_NODES}
 use Rattle.msg.specs.declared.body.Message.{Message}
 use Rattle.model.specs.declared.step.Step.TheVariants as step
 use Rattle.model.specs.declared.step.Outcome.TheVariants as outcome
-use Rattle.model.specs.State.{NodeState, node_at, no_node, sent_to}
-use Rattle.model.specs.View.{Link, NodeView, Shows, ShowsSent, no_link, link_to, kept_view, all_kept, message_of}
+use Rattle.model.specs.State.{Part, NodeState, node_at, no_node, sent_to}
+use Rattle.model.specs.View.{Link, NodeView, Shows, ShowsSent, no_link, link_to, used, kept_view, all_kept, message_of}
 use Rattle.model.specs.World.{World, take_step}
-use Rattle.laws.proofs.Lookups.{at_set_if, slice_get-grows, Grows}
+use Rattle.model.proofs.Lookups.{at_set_if, both_set_if, slice_get-take, slice_get-drop}
+use Rattle.laws.proofs.Lookups.{slice_get-grows, Grows}
 use Rattle.world.specs.Outboxes.{OutboxView, no_outbox, IsFrameOf, IsStaged, released_frames, all_released}
-use Rattle.world.specs.Shows.{Simulated, ShowAll, ShowsWorld, FollowsStep, AreKept, IsPlaced, IsSim, no_view, view_at, frames_of}
-use Rattle.world.proofs.Shows.{show-set, grown-by, is-node}
+use Rattle.world.specs.Shows.{Simulated, ShowsWorld, FollowsStep, AreCounted, AreKept, IsPlaced, IsSim, no_view, view_at, frames_of}
+use Rattle.world.proofs.Shows.{show-set, show-again, grown-by, is-node}
 
 -- counting all messages as saved changes nothing else
 kept-shown : (l : Link) (sent : List Message) → ShowsSent l sent → ShowsSent (all_kept l) sent
@@ -31,18 +32,21 @@ kept-shows v s h = record {
   links = λ j. subst (λ (l : Link). ShowsSent l (sent_to s j)) (sym (kept-link v j)) (kept-shown (link_to v j) (sent_to s j) (h.links j));
 }
 
+-- then so many are released as were sent
+kept-count : (v : NodeView) (s : NodeState) (j : ℕ) → Shows v s → (link_to (kept_view v) j).kept ≡ length (sent_to s j)
+kept-count v s j h =
+    let l : ShowsSent (link_to v j) (sent_to s j) = h.links j in
+    ap (λ (z : Link). z.kept) (kept-link v j) ∙ (let all : used (link_to v j) ≡ length (sent_to s j) = omega (arith, l.within, ap length l.window, length-drop (link_to v j).base (sent_to s j)) in all)
+
+counted-saved : (nodes : List NodeView) (states : List NodeState) (i : ℕ) (v : NodeView) (s : NodeState) → length nodes ≡ length states → AreCounted nodes states → Shows v s → AreCounted (set nodes i (kept_view v)) (set states i s)
+counted-saved nodes states i v s width all here = λ a j.
+    both_set_if (λ (z : NodeView) (t : NodeState). (link_to z j).kept ≡ length (sent_to t j)) nodes states no_view no_node i (kept_view v) s width a (λ e. kept-count v s j here) (all a j)
+
 kept-base : (v : NodeView) (j : ℕ) → (link_to (kept_view v) j).base ≡ (link_to v j).base
 kept-base v j = ap (λ (l : Link). l.base) (kept-link v j)
 
 pub kept-placed : (count i : ℕ) (v : NodeView) → IsPlaced count i v → IsPlaced count i (kept_view v)
 kept-placed count i v h = record { own = h.own; nodes = h.nodes; links = length-map v.links all_kept ∙ h.links }
-
-slice_get-drop : {A : Type 0} (xs : List A) (i k : ℕ) → slice_get (drop i xs) k ≡ slice_get xs (i + k)
-slice_get-drop xs zero k = ap (slice_get xs) (let e : k ≡ 0 + k = omega arith in e)
-slice_get-drop [] (suc i) k = refl
-slice_get-drop (x ∷ xs) (suc i) k =
-    let e : suc i + k ≡ suc (i + k) = omega arith in
-    slice_get-drop xs i k ∙ ap (slice_get (x ∷ xs)) (sym e)
 
 -- what the node still keeps under a number is the message of that number
 pub message-shown : (l : Link) (sent : List Message) (k : ℕ) → ShowsSent l sent → l.base ≤ k → message_of l (k + 1) ≡ slice_get sent k
@@ -53,23 +57,6 @@ message-shown l sent k h low =
     cond-false (leb (k + 1) l.base) None (slice_get l.window (k + 1 - l.base - 1)) over
     ∙ ap (slice_get l.window) place ∙ ap (λ (z : List Message). slice_get z (k - l.base)) h.window
     ∙ slice_get-drop sent l.base (k - l.base) ∙ ap (slice_get sent) back
-
-slice_get-take : {A : Type 0} (xs : List A) (n k : ℕ) → k < length (take n xs) → slice_get xs k ≡ slice_get (take n xs) k
-slice_get-take [] zero k h = absurd (omega arith)
-slice_get-take [] (suc n) k h = absurd (omega arith)
-slice_get-take (x ∷ xs) zero k h = absurd (omega arith)
-slice_get-take (x ∷ xs) (suc n) zero h = refl
-slice_get-take (x ∷ xs) (suc n) (suc k) h = slice_get-take xs n k (omega arith)
-
--- what holds at every place of two lists of one length holds after a write to one place of both
-both_set_if : {A B : Type 0} (P : A → B → Type 0) (xs : List A) (ys : List B) (d : A) (e : B) (i : ℕ) (x : A) (y : B) → length xs ≡ length ys → (k : ℕ) → (i ≡ k → P x y) → P (get_or xs k d) (get_or ys k e) → P (get_or (set xs i x) k d) (get_or (set ys i y) k e)
-both_set_if P [] [] d e i x y w k p h = h
-both_set_if P [] (b ∷ ys) d e i x y w k p h = absurd (omega arith)
-both_set_if P (a ∷ xs) [] d e i x y w k p h = absurd (omega arith)
-both_set_if P (a ∷ xs) (b ∷ ys) d e zero x y w zero p h = p refl
-both_set_if P (a ∷ xs) (b ∷ ys) d e zero x y w (suc k) p h = h
-both_set_if P (a ∷ xs) (b ∷ ys) d e (suc i) x y w zero p h = h
-both_set_if P (a ∷ xs) (b ∷ ys) d e (suc i) x y w (suc k) p h = both_set_if P xs ys d e i x y (omega arith) k (λ q. p (ap suc q)) h
 
 -- a longer list of messages has the same message in a place that has a frame
 frame-grows : (i j k : ℕ) (before after : List Message) (x : Option Message) (bytes : List ℕ) → Grows before after → slice_get before k ≡ x → IsFrameOf i j k x (Some bytes) → IsFrameOf i j k (slice_get after k) (Some bytes)
@@ -145,10 +132,6 @@ saved_sim n i u after =
       released = set n.released i (new_row after);
     }
 
-show-again : (nodes : List NodeView) (states : List NodeState) (i : ℕ) (v : NodeView) → ShowAll nodes states → Shows v (node_at states i) → ShowAll (set nodes i v) states
-show-again nodes states i v all here =
-    subst (ShowAll (set nodes i v)) (set-get_or states i no_node) (show-set nodes states i v (node_at states i) all here)
-
 kept-both : (nodes : List NodeView) (n : Simulated) (i : ℕ) (u : NodeView) (row : List (List (List ℕ))) → length nodes ≡ length n.released → AreKept nodes n.released → ((j : ℕ) → (link_to u j).base ≤ length (get_or row j [])) → AreKept (set nodes i (kept_view u)) (set n.released i row)
 kept-both nodes n i u row width all here = λ a j.
     both_set_if (λ (v : NodeView) (r : List (List (List ℕ))). (link_to v j).base ≤ length (get_or r j [])) nodes n.released no_view [] i (kept_view u) row width a
@@ -167,6 +150,11 @@ shows-saved n w i before after h sim within staging answer =
           (λ e. subst (λ (z : ℕ). IsFrameOf z j k (slice_get (sent_to (node_at w.current i) j) k) (slice_get (get_or (new_row after) j []) k)) e (new-frame n w i j k before after h sim within staging (λ q. apart (sym e ∙ q))))
           (h.released a j k apart);
       grown = grown-by w _ (step.Save i) outcome.Done h.grown answer;
+      present_counted = counted-saved n.present w.saved i u (node_at w.current i) (h.current.width ∙ sym h.grown.width) h.present_counted (h.current.each i);
+      saved_counted = counted-saved n.saved w.saved i u (node_at w.current i) h.saved.width h.saved_counted (h.current.each i);
+      acked = λ a.
+          both_set_if (λ (z : NodeView) (t : NodeState). z.acks ≡ t.part.got) n.saved w.saved no_view no_node i (kept_view u) (node_at w.current i) h.saved.width a
+          (λ e. ap (λ (p : Part). p.got) (h.current.each i).part) (h.acked a);
     }
 
 pub save-follows : (n : Simulated) (w : World) (i : ℕ) (before after : List OutboxView) → ShowsWorld n w → IsSim n → i < length n.present → Staging n i before after → FollowsStep (Ok outcome.Done) (saved_sim n i (view_at n.present i) after) (take_step w (step.Save i))

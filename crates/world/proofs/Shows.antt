@@ -1,26 +1,27 @@
 -- Each step of the code's space is the step of the definitions.
-use Rattle.std.proofs.Common.{◌≡◌, ℕ, ◌<◌, ◌≤◌, true, false, List, length, map, get_or, set, Result, Ok, Err, ap, sym, ◌∙◌, subst}
+use Rattle.std.proofs.Common.{◌≡◌, ℕ, ◌<◌, ◌≤◌, true, false, List, length, map, get_or, set, Option, None, Result, Ok, Err, ap, refl, sym, ◌∙◌, subst}
 use Rattle.std.proofs.Math.ListN.{get_or-map}
-use Rattle.std.proofs.lemmas.List.{length-set, length-map, get_or_read}
+use Rattle.std.proofs.lemmas.List.{length-set, length-map, get_or_read, set-get_or}
 use Rattle.std.proofs.lemmas.Bool.{lt-ltb, le-ltb, cond-true, cond-false}
 use Rattle.ids.specs.declared.refusal.Refusal.{Refusal}
 use Rattle.ids.specs.declared.refusal.Refusal.TheVariants.{NoNode}
+use Rattle.msg.specs.declared.frame.Ack.{Ack}
 use Rattle.model.specs.declared.event.Event.{Event}
+use Rattle.model.specs.declared.event.Event.TheVariants as event
 use Rattle.model.specs.declared.event.Answer.{Answer}
 use Rattle.model.specs.declared.step.Step.{Step}
 use Rattle.model.specs.declared.step.Step.TheVariants as step
 use Rattle.model.specs.declared.step.Outcome.{Outcome}
 use Rattle.model.specs.declared.step.Outcome.TheVariants as outcome
-use Rattle.model.specs.State.{NodeState, node_at, no_node}
-use Rattle.model.specs.Steps.{act, is_own}
-use Rattle.model.specs.View.{NodeView, Shows, Follows, no_link, link_to, base_of}
+use Rattle.model.specs.State.{NodeState, node_at, no_node, sent_to}
+use Rattle.model.specs.Steps.{act, is_own, ack_of}
+use Rattle.model.specs.View.{Link, NodeView, Shows, IsTold, Follows, no_link, link_to, base_of, kept_of}
 use Rattle.model.specs.World.{World, KeepsSent, take_step, happens, world_after, moved, is_node}
-use Rattle.model.proofs.Lookups.{both_set}
-use Rattle.laws.proofs.Lookups.{at_set_if}
+use Rattle.model.proofs.Lookups.{both_set, at_set_if}
 use Rattle.laws.proofs.KeepsSent.{keeps-sent}
 use Rattle.ids.specs.Limits.{Shaped}
 use Rattle.ids.specs.declared.limits.TheConstants.{GREATEST_NODES}
-use Rattle.world.specs.Shows.{Simulated, ShowAll, ShowsWorld, FollowsStep, AreKept, IsPlaced, IsSim, no_view, view_at, frames_of}
+use Rattle.world.specs.Shows.{Simulated, ShowAll, ShowsWorld, FollowsStep, AreCounted, AreKept, IsPlaced, IsSim, no_view, view_at, frames_of}
 
 -- a step that the definitions answer leads to the space that happens
 pub grown-by : (w v : World) (s : Step) (o : Outcome) → KeepsSent w → take_step w s ≡ Ok (v, o) → KeepsSent v
@@ -34,10 +35,15 @@ show-set nodes states i v s all here = record {
   each = both_set Shows nodes states no_view no_node i v s all.width here all.each;
 }
 
--- a node let go of nothing
-pub base-same : (v u : NodeView) (j : ℕ) → map base_of v.links ≡ map base_of u.links → (link_to v j).base ≡ (link_to u j).base
-base-same v u j e =
-    sym (get_or-map base_of v.links j no_link) ∙ ap (λ (z : List ℕ). get_or z j 0) e ∙ get_or-map base_of u.links j no_link
+-- a node that shows the same state again
+pub show-again : (nodes : List NodeView) (states : List NodeState) (i : ℕ) (v : NodeView) → ShowAll nodes states → Shows v (node_at states i) → ShowAll (set nodes i v) states
+show-again nodes states i v all here =
+    subst (ShowAll (set nodes i v)) (set-get_or states i no_node) (show-set nodes states i v (node_at states i) all here)
+
+-- a number of each link that stayed
+pub link-same : (f : Link → ℕ) (v u : NodeView) (j : ℕ) → map f v.links ≡ map f u.links → f (link_to v j) ≡ f (link_to u j)
+link-same f v u j e =
+    sym (get_or-map f v.links j no_link) ∙ ap (λ (z : List ℕ). get_or z j (f no_link)) e ∙ get_or-map f u.links j no_link
 
 pub kept-set : (nodes : List NodeView) (released : List (List (List (List ℕ)))) (i : ℕ) (v : NodeView) → AreKept nodes released → ((j : ℕ) → (link_to v j).base ≤ length (frames_of released i j)) → AreKept (set nodes i v) released
 kept-set nodes released i v all here = λ a j.
@@ -49,13 +55,30 @@ kept-set nodes released i v all here = λ a j.
 pub same-sim : (ps qs xs ys : List NodeView) (rs ts : List (List (List (List ℕ)))) → ps ≡ qs → xs ≡ ys → rs ≡ ts → ◌≡◌ {A = Simulated} (record { present = ps; saved = xs; released = rs }) (record { present = qs; saved = ys; released = ts })
 same-sim ps qs xs ys rs ts a b c = cc
 
+-- what a node counts as released
+abbrev pub IsCounted : World → ℕ → NodeView → Type 0
+IsCounted w i v = (j : ℕ) → (link_to v j).kept ≡ length (sent_to (node_at w.saved i) j)
+
+-- it is what it was
+pub counted-as : (n : Simulated) (w : World) (i : ℕ) (v : NodeView) → ShowsWorld n w → map kept_of v.links ≡ map kept_of (view_at n.present i).links → IsCounted w i v
+counted-as n w i v h same = λ j. link-same kept_of v (view_at n.present i) j same ∙ h.present_counted i j
+
+pub counted-set : (nodes : List NodeView) (states : List NodeState) (i : ℕ) (v : NodeView) → AreCounted nodes states → ((j : ℕ) → (link_to v j).kept ≡ length (sent_to (node_at states i) j)) → AreCounted (set nodes i v) states
+counted-set nodes states i v all here = λ a j.
+    at_set_if (λ (z : NodeView). (link_to z j).kept ≡ length (sent_to (node_at states a) j)) nodes i a v no_view
+    (λ e. subst (λ (k : ℕ). (link_to v j).kept ≡ length (sent_to (node_at states k) j)) e (here j))
+    (all a j)
+
 -- one node's present state changes
-pub shows-moved : (n : Simulated) (w : World) (i : ℕ) (v : NodeView) (s : NodeState) (e : Step) (o : Outcome) → ShowsWorld n w → take_step w e ≡ Ok (record w { current = set w.current i s }, o) → Shows v s → ShowsWorld (record n { present = set n.present i v }) (record w { current = set w.current i s })
-shows-moved n w i v s e o h answered here = record {
+pub shows-moved : (n : Simulated) (w : World) (i : ℕ) (v : NodeView) (s : NodeState) (e : Step) (o : Outcome) → ShowsWorld n w → IsCounted w i v → take_step w e ≡ Ok (record w { current = set w.current i s }, o) → Shows v s → ShowsWorld (record n { present = set n.present i v }) (record w { current = set w.current i s })
+shows-moved n w i v s e o h counted answered here = record {
   current = show-set n.present w.current i v s h.current here;
   saved = h.saved;
   released = h.released;
   grown = grown-by w _ e o h.grown answered;
+  present_counted = counted-set n.present w.saved i v h.present_counted counted;
+  saved_counted = h.saved_counted;
+  acked = h.acked;
 }
 
 -- what a node answered, as what became of the step
@@ -63,14 +86,14 @@ abbrev pub answered : Result Answer Refusal → Result Outcome Refusal
 answered (Ok a) = Ok (outcome.Answer a)
 answered (Err e) = Err e
 
-pub moved-follows : (n : Simulated) (w : World) (i : ℕ) (e : Step) (v : NodeView) (r : Result Answer Refusal) (x : Result (NodeState × Answer) Refusal) → ShowsWorld n w → take_step w e ≡ moved w i x → Follows r v x → FollowsStep (answered r) (record n { present = set n.present i v }) (take_step w e)
-moved-follows n w i e v (Ok a) x h is (s, stepped, shows) =
+pub moved-follows : (n : Simulated) (w : World) (i : ℕ) (e : Step) (f : Event) (v : NodeView) (r : Result Answer Refusal) (x : Result (NodeState × Answer) Refusal) → ShowsWorld n w → IsCounted w i v → ack_of f ≡ None → take_step w e ≡ moved w i x → Follows f r v x → FollowsStep (answered r) (record n { present = set n.present i v }) (take_step w e)
+moved-follows n w i e f v (Ok a) x h counted none is (s, stepped, shows) =
     let answer : take_step w e ≡ Ok (record w { current = set w.current i s }, outcome.Answer a) = is ∙ ap (moved w i) stepped in (
       record w { current = set w.current i s },
       answer,
-      shows-moved n w i v s e (outcome.Answer a) h answer shows,
+      shows-moved n w i v s e (outcome.Answer a) h counted answer shows,
     )
-moved-follows n w i e v (Err r) x h is f = λ ne. is ∙ ap (moved w i) (f ne)
+moved-follows n w i e f v (Err r) x h counted none is refused = λ ne. is ∙ ap (moved w i) (refused (subst (λ (o : Option Ack). IsTold o r) (sym none) tt) ne)
 
 pub is-node : (n : Simulated) (w : World) (i : ℕ) → ShowsWorld n w → i < length n.present → is_node w i ≡ true
 is-node n w i h within = lt-ltb i (length w.current) (subst (λ (k : ℕ). i < k) h.current.width within)
@@ -78,11 +101,28 @@ is-node n w i h within = lt-ltb i (length w.current) (subst (λ (k : ℕ). i < k
 pub is-no-node : (n : Simulated) (w : World) (i : ℕ) → ShowsWorld n w → length n.present ≤ i → is_node w i ≡ false
 is-no-node n w i h past = le-ltb i (length w.current) (subst (λ (k : ℕ). k ≤ i) h.current.width past)
 
+-- a node's own event is no acknowledgement
+pub own-none : (e : Event) → is_own e ≡ true → ack_of e ≡ None
+own-none (event.Ack a) own = absurd cc
+own-none (event.Data d) own = refl
+own-none (event.Alloc register places) own = refl
+own-none (event.Copy register source) own = refl
+own-none (event.Drop register) own = refl
+own-none (event.Load register object place) own = refl
+own-none (event.Store object place register) own = refl
+own-none (event.Clear object place) own = refl
+own-none (event.Word object) own = refl
+own-none (event.SetWord object word) own = refl
+own-none (event.Give to label register) own = refl
+own-none (event.Accept register) own = refl
+own-none (event.Put object place register) own = refl
+own-none (event.Get object place label) own = refl
+
 -- an event of a node
-pub act-follows : (n : Simulated) (w : World) (i : ℕ) (e : Event) (v : NodeView) (r : Result Answer Refusal) → ShowsWorld n w → i < length n.present → is_own e ≡ true → Follows r v (act (node_at w.current i) e) → FollowsStep (answered r) (record n { present = set n.present i v }) (take_step w (step.Act i e))
+pub act-follows : (n : Simulated) (w : World) (i : ℕ) (e : Event) (v : NodeView) (r : Result Answer Refusal) → ShowsWorld n w → IsCounted w i v → i < length n.present → is_own e ≡ true → Follows e r v (act (node_at w.current i) e) → FollowsStep (answered r) (record n { present = set n.present i v }) (take_step w (step.Act i e))
 unfolding take_step
-act-follows n w i e v r h within own follows =
-    moved-follows n w i (step.Act i e) v r (act (node_at w.current i) e) h (cond-true _ _ _ (is-node n w i h within) ∙ cond-true _ _ _ own) follows
+act-follows n w i e v r h counted within own follows =
+    moved-follows n w i (step.Act i e) e v r (act (node_at w.current i) e) h counted (own-none e own) (cond-true _ _ _ (is-node n w i h within) ∙ cond-true _ _ _ own) follows
 
 pub act-no-node : (n : Simulated) (w : World) (i : ℕ) (e : Event) → ShowsWorld n w → length n.present ≤ i → FollowsStep (Err NoNode) n (take_step w (step.Act i e))
 unfolding take_step
@@ -95,7 +135,7 @@ restart-follows n w i h within =
     let answer : take_step w (step.Restart i) ≡ Ok (record w { current = set w.current i (node_at w.saved i) }, outcome.Done) = cond-true _ _ _ (is-node n w i h within) in (
       record w { current = set w.current i (node_at w.saved i) },
       answer,
-      shows-moved n w i (view_at n.saved i) (node_at w.saved i) (step.Restart i) outcome.Done h answer (h.saved.each i),
+      shows-moved n w i (view_at n.saved i) (node_at w.saved i) (step.Restart i) outcome.Done h (h.saved_counted i) answer (h.saved.each i),
     )
 
 pub restart-no-node : (n : Simulated) (w : World) (i : ℕ) → ShowsWorld n w → length n.present ≤ i → FollowsStep (Err NoNode) n (take_step w (step.Restart i))
@@ -144,19 +184,24 @@ sim-acted n m i u v seen h less read place bases =
     let within : i < length n.present = within-seen n m i seen less in
     let there : u ≡ view_at n.present i = read-is n.present i u within read in
     let was : IsPlaced (length n.present) i u = subst (IsPlaced (length n.present) i) (sym there) (h.present i within) in
-    let low : (j : ℕ) → (link_to v j).base ≤ length (frames_of n.released i j) = λ j. subst (λ (b : ℕ). b ≤ length (frames_of n.released i j)) (sym (base-same v u j bases ∙ ap (λ (z : NodeView). (link_to z j).base) there)) (h.present_kept i j) in
+    let low : (j : ℕ) → (link_to v j).base ≤ length (frames_of n.released i j) = λ j. subst (λ (b : ℕ). b ≤ length (frames_of n.released i j)) (sym (link-same base_of v u j bases ∙ ap (λ (z : NodeView). (link_to z j).base) there)) (h.present_kept i j) in
     sim-moved n i v h (placed-acted (length n.present) i u v was place bases) low
 
+-- what the node counts as released, as it was read from its place
+pub counted-read : (n : Simulated) (w : World) (i : ℕ) (u v : NodeView) → ShowsWorld n w → i < length n.present → u ≡ get_or n.present i u → map kept_of v.links ≡ map kept_of u.links → IsCounted w i v
+counted-read n w i u v h within read kept =
+    counted-as n w i v h (kept ∙ ap (λ (z : NodeView). map kept_of z.links) (read-is n.present i u within read))
+
 -- what the node does follows from its state
-pub node-follows : (n : Simulated) (w : World) (i : ℕ) (e : Event) (u v : NodeView) (r : Result Answer Refusal) → ShowsWorld n w → i < length n.present → u ≡ get_or n.present i u → ((s : NodeState) → Shows u s → Follows r v (act s e)) → Follows r v (act (node_at w.current i) e)
+pub node-follows : (n : Simulated) (w : World) (i : ℕ) (e : Event) (u v : NodeView) (r : Result Answer Refusal) → ShowsWorld n w → i < length n.present → u ≡ get_or n.present i u → ((s : NodeState) → Shows u s → Follows e r v (act s e)) → Follows e r v (act (node_at w.current i) e)
 node-follows n w i e u v r h within read follows =
     follows (node_at w.current i) (subst (λ (z : NodeView). Shows z (node_at w.current i)) (sym (read-is n.present i u within read)) (h.current.each i))
 
-pub acted-follows : (n m : Simulated) (w : World) (i node : ℕ) (e : Event) (u v : NodeView) (r : Result Answer Refusal) → n ≡ m → ShowsWorld m w → i < length m.present → i ≡ node → is_own e ≡ true → u ≡ get_or n.present i u → ((s : NodeState) → Shows u s → Follows r v (act s e)) → FollowsStep (answered r) (record n { present = set n.present i v }) (take_step w (step.Act node e))
-acted-follows n m w i node e u v r seen shown less named own read follows =
+pub acted-follows : (n m : Simulated) (w : World) (i node : ℕ) (e : Event) (u v : NodeView) (r : Result Answer Refusal) → n ≡ m → ShowsWorld m w → i < length m.present → i ≡ node → is_own e ≡ true → u ≡ get_or n.present i u → map kept_of v.links ≡ map kept_of u.links → ((s : NodeState) → Shows u s → Follows e r v (act s e)) → FollowsStep (answered r) (record n { present = set n.present i v }) (take_step w (step.Act node e))
+acted-follows n m w i node e u v r seen shown less named own read kept follows =
     let within : i < length n.present = within-seen n m i seen less in
     let h : ShowsWorld n w = shows-seen n m w seen shown in
-    subst (λ (k : ℕ). FollowsStep (answered r) (record n { present = set n.present i v }) (take_step w (step.Act k e))) named (act-follows n w i e v r h within own (node-follows n w i e u v r h within read follows))
+    subst (λ (k : ℕ). FollowsStep (answered r) (record n { present = set n.present i v }) (take_step w (step.Act k e))) named (act-follows n w i e v r h (counted-read n w i u v h within read kept) within own (node-follows n w i e u v r h within read follows))
 
 -- a restart as the code has it: u is the saved node, v its copy
 restarted-is : (n : Simulated) (i : ℕ) (u v : NodeView) → IsSim n → i < length n.present → u ≡ get_or n.saved i u → v ≡ u → v ≡ view_at n.saved i

@@ -1,12 +1,14 @@
 -- How the code's space shows a space of the definitions.
-use Rattle.std.specs.Prelude.{◌≡◌, ◌≢◌, ℕ, ◌<◌, ◌≤◌, List, [], length, slice_get, slice_index_or, Result, Ok, Err}
+use Rattle.std.specs.Prelude.{◌≡◌, ◌≢◌, ℕ, ◌<◌, ◌≤◌, List, [], length, cond, slice_get, slice_index_or, Option, Some, None, Result, Ok, Err}
 use Rattle.ids.specs.declared.refusal.Refusal.{Refusal}
 use Rattle.ids.specs.declared.limits.TheConstants.{GREATEST_NODES}
 use Rattle.model.specs.declared.step.Outcome.{Outcome}
 use Rattle.model.specs.Checks.{IsFirstRefusal}
 use Rattle.model.specs.State.{NodeState, node_at, sent_to}
 use Rattle.model.specs.View.{NodeView, Shows, new_view, link_to}
-use Rattle.model.specs.World.{World, KeepsSent}
+use Rattle.model.specs.World.{World, KeepsSent, is_node}
+use Rattle.node.specs.Summaries.{summary_of}
+use Rattle.node.specs.declared.summary.Summary.{Summary}
 use Rattle.world.specs.Outboxes.{IsFrameOf}
 
 -- the present nodes, the saved ones, and for each ordered pair of nodes the frames that were released
@@ -34,12 +36,20 @@ pub record ShowAll (nodes : List NodeView) (states : List NodeState) : Type 0 wh
 abbrev pub AreKept : List NodeView → List (List (List (List ℕ))) → Type 0
 AreKept nodes released = (i j : ℕ) → (link_to (view_at nodes i) j).base ≤ length (frames_of released i j)
 
+-- what a node counts as released is what its saved state has sent
+abbrev pub AreCounted : List NodeView → List NodeState → Type 0
+AreCounted nodes states = (i j : ℕ) → (link_to (view_at nodes i) j).kept ≡ length (sent_to (node_at states i) j)
+
 pub record ShowsWorld (n : Simulated) (w : World) : Type 0 where
   pub current : ShowAll n.present w.current
   pub saved : ShowAll n.saved w.saved
   -- each released frame spells the message of its number, and there is one for each
   pub released : (i j k : ℕ) → i ≢ j → IsFrameOf i j k (slice_get (sent_to (node_at w.saved i) j) k) (slice_get (frames_of n.released i j) k)
   pub grown : KeepsSent w
+  pub present_counted : AreCounted n.present w.saved
+  pub saved_counted : AreCounted n.saved w.saved
+  -- a saved node acknowledges what its state has taken in
+  pub acked : (i : ℕ) → (view_at n.saved i).acks ≡ (node_at w.saved i).part.got
 
 -- What a step answered, and the space after it, against the step of the definitions: an answer is the
 -- definition's, and the code then shows the definition's space; a refusal is the first that applies.
@@ -62,3 +72,7 @@ pub record IsSim (n : Simulated) : Type 0 where
   pub saved : (i : ℕ) → i < length n.present → IsPlaced (length n.present) i (view_at n.saved i)
   pub present_kept : AreKept n.present n.released
   pub saved_kept : AreKept n.saved n.released
+
+-- the present node of a number, in numbers
+abbrev pub summary_at : World → ℕ → Option Summary
+summary_at w i = cond (is_node w i) (Some (summary_of (node_at w.current i).part)) None

@@ -1,4 +1,4 @@
-ghost use Rattle.laws.specs.Statements.{CutsExtend, ReachIsLive, TargetsAreLive, NoneRefusedInTurn};
+ghost use Rattle.laws.specs.Statements.{CutsExtend, ReachIsLive, TargetsAreLive, NoneRefusedInTurn, NoneBeyond, NoneRefusedBeyond};
 
 /// The headline, over every list of steps of every space: events of programs, deliveries, losses,
 /// repeats, reorderings, saves and restarts. This does nothing: its contract is the theorems, and
@@ -14,4 +14,8 @@ pub fn laws()
     ensures targets { TargetsAreLive }
     // No released message, given in its turn or again, is refused as one for another node or space.
     ensures in_turn { NoneRefusedInTurn }
+    // What a saved node has taken in, its sender's saved state has sent; so no acknowledgement is refused
+    // as one of more than was released.
+    ensures within { NoneBeyond }
+    ensures acknowledged { NoneRefusedBeyond }
 {}

@@ -53,6 +53,13 @@ impl Outbox {
         }
     }
 
+    /// How many frames were released.
+    pub fn released(&self) -> u64
+        ensures { result ≡ length (released_frames self.now) }
+    {
+        self.released as u64
+    }
+
     /// Makes the frames of all messages to the node `to` that follow the released ones, and releases none.
     /// `Memory` where a growth was refused.
     pub fn stage(&mut self, alloc: Global, node: &Node, to: u8) -> Result<(), Refusal>

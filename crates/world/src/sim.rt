@@ -1,4 +1,4 @@
-ghost use Rattle.std.specs.Prelude.{◌≡◌, ◌≤◌, ◌<◌, ℕ, length, map, slice_get, IsTrue, IfOk, IfErr, OnErr};
+ghost use Rattle.std.specs.Prelude.{◌≡◌, ◌≤◌, ◌<◌, ℕ, length, map, slice_get, IsTrue, IfOk, IfErr, OnErr, ◌≢◌, slice_index_or};
 ghost use Rattle.std.specs.Option.{option_copied, option_map};
 ghost use Rattle.ids.specs.declared.refusal.Refusal.TheVariants.{Memory};
 ghost use Rattle.std.specs.List.{range_with_len};
@@ -7,13 +7,13 @@ ghost use Rattle.model.specs.View.{new_view};
 ghost use Rattle.model.specs.World.{World, new_world, take_step, is_own_step};
 ghost use Rattle.model.specs.declared.step.Step.TheVariants as step;
 ghost use Rattle.world.specs.Outboxes.{numbered_bytes};
-ghost use Rattle.world.specs.Shows.{ShowsWorld, FollowsStep, frames_of};
+ghost use Rattle.world.specs.Shows.{ShowsWorld, FollowsStep, view_at, summary_at, frames_of};
 
 use crate::outbox::{Outbox, new_outboxes, release_all, stage_all};
 use ids::{NodeId, Refusal, Shape};
 use model::{Event, Outcome, Step};
-use msg::{Frame, decode};
-use node::Node;
+use msg::{Ack, Frame, decode, encode};
+use node::{Node, Summary};
 use std::alloc::Global;
 use std::marker::Model;
 
@@ -66,6 +66,7 @@ impl Sim {
             Step::Save(node) => self.save(node),
             Step::Restart(node) => self.restart(node),
             Step::Deliver { from, to, number } => self.deliver(from, to, number),
+            Step::Hand { from, to } => self.hand(from, to),
         }
     }
 
@@ -74,6 +75,13 @@ impl Sim {
         ensures { option_copied result ≡ slice_get self.now.present number }
     {
         self.present.get(usize::from(number))
+    }
+
+    /// The present node of this number, in numbers.
+    pub fn state(&self, number: u8) -> Option<Summary>
+        ensures { (w : World) → ShowsWorld self.now w → result ≡ summary_at w number }
+    {
+        Some(self.node(number)?.state())
     }
 
     /// How many nodes there are.
@@ -152,6 +160,56 @@ impl Sim {
         let present = &mut self.present[usize::from(to)];
         let answer = present.act(Event::Data(message))?;
         Ok(Outcome::Answer(answer))
+    }
+
+    fn hand(&mut self, from: u8, to: u8) -> Result<Outcome, Refusal>
+        ensures follows { (w : World) → ShowsWorld self.old w → FollowsStep result self.new (take_step w (step.Hand from to)) }
+        ensures unchanged { OnErr result (self.new ≡ self.old) }
+    {
+        let count = self.count();
+        if from >= count || to >= count {
+            return Err(Refusal::NoNode);
+        }
+        if from == to {
+            return Ok(Outcome::NoFrame);
+        }
+        let ack = self.acknowledgement(from, to)?;
+        if ack.number > self.release_count(from, to) {
+            return Err(Refusal::AckBeyond);
+        }
+        let present = &mut self.present[usize::from(from)];
+        present.act(Event::Ack(ack))?;
+        Ok(Outcome::Handed(ack.number))
+    }
+
+    /// What the saved node `to` acknowledges to the node `from`, as it is read from its frame's bytes.
+    fn acknowledgement(&self, from: u8, to: u8) -> Result<Ack, Refusal>
+        requires from { from < length self.now.present }
+        requires to { to < length self.now.present }
+        requires apart { from ≢ to }
+        ensures found { IfOk result (λ a. (a.from ≡ to) × (a.to ≡ from) × (a.number ≡ slice_index_or (view_at self.now.saved to).acks from 0)) }
+        ensures refused { IfErr result (λ e. e ≡ Memory) }
+    {
+        let saved = &self.saved[usize::from(to)];
+        let Some(frame) = saved.ack_for(from) else {
+            unreachable!()
+        };
+        let bytes = encode(self.alloc, &frame)?;
+        match decode(&bytes) {
+            Ok(Frame::Ack(ack)) => Ok(ack),
+            _ => unreachable!(),
+        }
+    }
+
+    /// How many messages of one node to another are released.
+    fn release_count(&self, from: u8, to: u8) -> u64
+        requires from { from < length self.now.present }
+        requires to { to < length self.now.present }
+        ensures { result ≡ length (frames_of self.now.released from to) }
+    {
+        let row = &self.outboxes[usize::from(from)];
+        let outbox = &row[usize::from(to)];
+        outbox.released()
     }
 
     /// The bytes of the frame of this number from one node to another, if it was released.

@@ -1,5 +1,7 @@
 use crate::{Answer, Event, Letter, Outcome, Sim, Step, laws};
 use ids::{Ref, Refusal, Shape};
+use msg::Colour;
+use node::Summary;
 use std::alloc::Global;
 use std::process::Abort;
 
@@ -46,6 +48,37 @@ fn deliver(sim: &mut Sim, number: u64) -> Result<Outcome, Refusal> {
         to: 1,
         number,
     })
+}
+
+// Node 0 is handed what the saved node 1 acknowledges.
+fn hand(sim: &mut Sim) -> Result<Outcome, Refusal> {
+    sim.step(Step::Hand { from: 0, to: 1 })
+}
+
+// Whether node 0 keeps its message of this number to node 1.
+fn keeps(sim: &Sim, number: u64) -> bool {
+    let Some(node) = sim.node(0) else {
+        return false;
+    };
+    node.numbered_frame(1, number).is_some()
+}
+
+// The numbers of a new node of two nodes.
+fn new_summary(shape: Shape, own: u8) -> Summary {
+    Summary {
+        shape,
+        own,
+        cycle: 0,
+        ended: 0,
+        swept: 0,
+        colour: Colour::White,
+        earlier: 0,
+        recent: 0,
+        grey: 0,
+        live: 0,
+        has_token: false,
+        letters: 0,
+    }
 }
 
 fn answer(answer: Answer) -> Result<Outcome, Refusal> {
@@ -109,6 +142,94 @@ fn messages_are_delivered_in_order(rt: HostRuntime) -> Result<(), Refusal> {
 }
 
 #[test]
+fn what_is_saved_is_acknowledged(rt: HostRuntime) -> Result<(), Refusal> {
+    let mut sim = space(&rt, rt.alloc())?;
+    give(&mut sim)?;
+    assert_eq!(rt; hand(&mut sim), Ok(Outcome::Handed(0)));
+    sim.step(Step::Save(0))?;
+    assert_eq!(rt; hand(&mut sim), Ok(Outcome::Handed(0)));
+    assert_eq!(rt; deliver(&mut sim, 1), answer(Answer::Received));
+    assert_eq!(rt; hand(&mut sim), Ok(Outcome::Handed(0)));
+    assert!(rt; keeps(&sim, 1));
+
+    sim.step(Step::Save(1))?;
+    assert!(rt; keeps(&sim, 1));
+    for _turn in 0..2 {
+        assert_eq!(rt; hand(&mut sim), Ok(Outcome::Handed(1)));
+        assert!(rt; !keeps(&sim, 1));
+        assert_eq!(rt; deliver(&mut sim, 1), answer(Answer::Repeat));
+    }
+    let back = sim.step(Step::Hand { from: 1, to: 0 });
+    assert_eq!(rt; back, Ok(Outcome::Handed(0)));
+    assert_eq!(rt; give(&mut sim), answer(Answer::Sent(2)));
+    assert_eq!(rt; deliver(&mut sim, 2), Ok(Outcome::NoFrame));
+    Ok(())
+}
+
+#[test]
+fn acknowledgements_outlast_restarts(rt: HostRuntime) -> Result<(), Refusal> {
+    let mut sim = space(&rt, rt.alloc())?;
+    for _turn in 0..3 {
+        give(&mut sim)?;
+    }
+    sim.step(Step::Save(0))?;
+    deliver(&mut sim, 1)?;
+    sim.step(Step::Save(1))?;
+    deliver(&mut sim, 2)?;
+    assert_eq!(rt; hand(&mut sim), Ok(Outcome::Handed(1)));
+
+    sim.step(Step::Restart(1))?;
+    assert_eq!(rt; hand(&mut sim), Ok(Outcome::Handed(1)));
+    assert!(rt; !keeps(&sim, 1) && keeps(&sim, 2) && keeps(&sim, 3));
+    assert_eq!(rt; deliver(&mut sim, 3), Err(Refusal::OutOfOrder));
+    assert_eq!(rt; deliver(&mut sim, 2), answer(Answer::Received));
+    sim.step(Step::Save(1))?;
+    assert_eq!(rt; hand(&mut sim), Ok(Outcome::Handed(2)));
+    assert!(rt; !keeps(&sim, 2) && keeps(&sim, 3));
+
+    // The saved node 0 was handed nothing yet.
+    sim.step(Step::Restart(0))?;
+    assert!(rt; keeps(&sim, 1));
+    assert_eq!(rt; hand(&mut sim), Ok(Outcome::Handed(2)));
+    assert!(rt; !keeps(&sim, 2) && keeps(&sim, 3));
+    assert_eq!(rt; deliver(&mut sim, 1), answer(Answer::Repeat));
+    assert_eq!(rt; deliver(&mut sim, 3), answer(Answer::Received));
+    Ok(())
+}
+
+#[test]
+fn present_nodes_are_shown_in_numbers(rt: HostRuntime) -> Result<(), Refusal> {
+    let shape = Shape::new(2, 4, 16).expect(&rt, "the shape is within the limits");
+    let mut sim = Sim::new(rt.alloc(), shape)?;
+    assert_eq!(rt; sim.state(0), Some(new_summary(shape, 0)));
+    alloc(&mut sim)?;
+    give(&mut sim)?;
+    sim.step(Step::Save(0))?;
+    deliver(&mut sim, 1)?;
+    let sender = Summary {
+        recent: 1,
+        live: 1,
+        ..new_summary(shape, 0)
+    };
+    assert_eq!(rt; sim.state(0), Some(sender));
+    let receiver = Summary {
+        recent: -1,
+        letters: 1,
+        ..new_summary(shape, 1)
+    };
+    assert_eq!(rt; sim.state(1), Some(receiver));
+    for node in [2, 255] {
+        assert_eq!(rt; sim.state(node), None, "{node}");
+    }
+    let unhanded = sim.state(0);
+    hand(&mut sim)?;
+    assert_eq!(rt; sim.state(0), unhanded);
+    sim.step(Step::Restart(1))?;
+    assert_eq!(rt; sim.state(1), Some(new_summary(shape, 1)));
+    Ok(())
+}
+
+#[test]
 fn a_step_names_nodes_of_the_space(rt: HostRuntime) -> Result<(), Refusal> {
     let mut sim = space(&rt, rt.alloc())?;
     give(&mut sim)?;
@@ -129,6 +250,8 @@ fn a_step_names_nodes_of_the_space(rt: HostRuntime) -> Result<(), Refusal> {
                 number: 1,
             });
             assert_eq!(rt; delivered, Err(Refusal::NoNode), "{from} {to}");
+            let handed = sim.step(Step::Hand { from, to });
+            assert_eq!(rt; handed, Err(Refusal::NoNode), "{from} {to}");
         }
         assert!(rt; sim.node(node).is_none(), "{node}");
     }
@@ -147,6 +270,13 @@ fn there_is_no_frame_that_was_not_released(rt: HostRuntime) -> Result<(), Refusa
     for (from, to, number) in [(0, 0, 1), (1, 1, 1), (1, 0, 1), (0, 1, 0), (0, 1, 2)] {
         let delivered = sim.step(Step::Deliver { from, to, number });
         assert_eq!(rt; delivered, Ok(Outcome::NoFrame), "{from} {to} {number}");
+    }
+    for node in [0, 1] {
+        let handed = sim.step(Step::Hand {
+            from: node,
+            to: node,
+        });
+        assert_eq!(rt; handed, Ok(Outcome::NoFrame), "{node}");
     }
     laws();
     Ok(())

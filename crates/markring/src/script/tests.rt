@@ -1,6 +1,7 @@
 use super::{Space, run, sim};
 use ids::{Refusal, Shape};
 use model::{Outcome, Step};
+use node::Summary;
 use std::alloc::Global;
 use std::io;
 use std::io::{Error, ErrorKind, Read, Write};
@@ -172,6 +173,58 @@ fn each_line_has_its_refusals(rt: HostRuntime) -> Result<(), Fail> {
     expect_lines(&rt, rt.alloc(), &lines, 1)
 }
 
+/// A message is acknowledged once its receiver is saved, and its number is not used again.
+#[test]
+fn acknowledgements_wait_for_a_save(rt: HostRuntime) -> Result<(), Fail> {
+    let lines = [
+        ("space 2 4 16", "ok"),
+        ("0 give 1 1 0", "sent 1"),
+        ("ack 0 1", "ack 0"),
+        ("0 save", "ok"),
+        ("deliver 0 1 1", "received"),
+        ("ack 0 1", "ack 0"),
+        ("1 save", "ok"),
+        ("ack 0 1", "ack 1"),
+        ("deliver 0 1 1", "repeat"),
+        ("0 give 1 2 0", "sent 2"),
+        ("deliver 0 1 2", "no frame"),
+    ];
+    expect_lines(&rt, rt.alloc(), &lines, 0)
+}
+
+#[test]
+fn repeats_count_once(rt: HostRuntime) -> Result<(), Fail> {
+    let lines = [
+        ("space 2 4 16", "ok"),
+        ("0 alloc 0 0", "0.0.1"),
+        ("0 give 1 4 0", "sent 1"),
+        ("0 give 1 5 0", "sent 2"),
+        ("0 save", "ok"),
+        ("deliver 0 1 2", "refused 17 OutOfOrder"),
+        ("deliver 0 1 1", "received"),
+        ("deliver 0 1 1", "repeat"),
+        ("deliver 0 1 1", "repeat"),
+        ("deliver 0 1 2", "received"),
+        (
+            "1 state",
+            "cycle 0 ended 0 swept 0 colour white old 0 cur -2 grey 0 live 0 token no letters 2",
+        ),
+    ];
+    expect_lines(&rt, rt.alloc(), &lines, 1)
+}
+
+#[test]
+fn lines_about_nodes_that_are_not_there(rt: HostRuntime) -> Result<(), Fail> {
+    let lines = [
+        ("space 2 4 16", "ok"),
+        ("ack 0 0", "no frame"),
+        ("ack 0 2", "refused 7 NoNode"),
+        ("ack 2 2", "refused 7 NoNode"),
+        ("2 state", "refused 7 NoNode"),
+    ];
+    expect_lines(&rt, rt.alloc(), &lines, 1)
+}
+
 #[test]
 fn line_ends_and_skipped_lines(rt: HostRuntime) {
     for (script, printed, status) in [
@@ -327,14 +380,18 @@ impl Space for NoSpace {
     fn step(&mut self, _step: Step) -> Result<Outcome, Refusal> {
         Ok(Outcome::Done)
     }
+
+    fn state(&self, _number: u8) -> Option<Summary> {
+        None
+    }
 }
 
 #[test]
 fn without_a_space_each_step_is_refused(rt: HostRuntime) -> Result<(), Fail> {
     for (script, printed, status) in [
         (
-            "space 2 4 16\n0 save\n\n0 save\n",
-            "refused 1 Memory\nrefused 1 Memory\nrefused 1 Memory\n",
+            "space 2 4 16\n0 save\n\n0 save\n0 state\nack 0 1\n",
+            "refused 1 Memory\nrefused 1 Memory\nrefused 1 Memory\nrefused 1 Memory\nrefused 1 Memory\n",
             1,
         ),
         (
@@ -342,6 +399,8 @@ fn without_a_space_each_step_is_refused(rt: HostRuntime) -> Result<(), Fail> {
             "refused 1 Memory\nline 2: not a command\n",
             2,
         ),
+        ("0 state\n", "line 1: not a command\n", 2),
+        ("ack 0 1\n", "line 1: not a command\n", 2),
     ] {
         let mut out = Vec::new(rt.alloc());
         assert_eq!(rt;

@@ -1,6 +1,8 @@
-use super::{RefusalText, answer_text};
-use ids::{Ref, Refusal};
+use super::{FrameText, RefusalText, SummaryText, answer_text};
+use ids::{Ref, Refusal, Shape};
 use model::{Answer, Letter, Outcome};
+use msg::{Ack, Body, Colour, Data, Frame, Token};
+use node::Summary;
 use std::test::Fail;
 
 #[test]
@@ -47,6 +49,8 @@ fn outcomes_have_texts(rt: HostRuntime) -> Result<(), Fail> {
         (Outcome::Answer(Answer::Received), "received"),
         (Outcome::Answer(Answer::Repeat), "repeat"),
         (Outcome::Done, "ok"),
+        (Outcome::Handed(0), "ack 0"),
+        (Outcome::Handed(281_474_976_710_656), "ack 281474976710656"),
         (Outcome::NoFrame, "no frame"),
     ] {
         let text = answer_text(rt.alloc(), &outcome)?;
@@ -63,6 +67,135 @@ fn refusals_have_texts(rt: HostRuntime) -> Result<(), Fail> {
         (Refusal::Closed, "refused 24 Closed"),
     ] {
         let text = format!(in rt.alloc(); "{}", RefusalText(refusal))?;
+        assert_eq!(rt; text.as_str(), expected);
+    }
+    Ok(())
+}
+
+#[test]
+fn messages_have_texts(rt: HostRuntime) -> Result<(), Fail> {
+    let target = Ref {
+        node: 15,
+        slot: 1_048_575,
+        generation: 4_294_967_295,
+    };
+    let other = Ref {
+        node: 0,
+        slot: 0,
+        generation: 1,
+    };
+    let white = Token {
+        colour: Colour::White,
+        q: 9_223_372_036_854_775_807,
+    };
+    let black = Token {
+        colour: Colour::Black,
+        q: -9_223_372_036_854_775_808,
+    };
+    for (body, expected) in [
+        (Body::Begin, "begin"),
+        (Body::Token(white), "token white 9223372036854775807"),
+        (Body::Token(black), "token black -9223372036854775808"),
+        (Body::Mark { target }, "mark 15.1048575.4294967295"),
+        (
+            Body::Give {
+                label: 4_294_967_295,
+                reference: Some(other),
+            },
+            "give 4294967295 0.0.1",
+        ),
+        (
+            Body::Give {
+                label: 0,
+                reference: None,
+            },
+            "give 0 -",
+        ),
+        (
+            Body::Put {
+                target,
+                place: 7,
+                reference: Some(other),
+            },
+            "put 15.1048575.4294967295 7 0.0.1",
+        ),
+        (
+            Body::Put {
+                target: other,
+                place: 0,
+                reference: None,
+            },
+            "put 0.0.1 0 -",
+        ),
+        (
+            Body::Get {
+                target: other,
+                place: 6,
+                label: 5,
+            },
+            "get 0.0.1 6 5",
+        ),
+        (Body::Ended, "ended"),
+        (Body::Swept, "swept"),
+    ] {
+        let message = Data::new(3, 4, 5, 6, body).ok_or("the parts are within the limits")?;
+        let text = format!(in rt.alloc(); "{}", FrameText(Frame::Data(message)))?;
+        let expected = format!(in rt.alloc(); "data 3 to 4 number 5 stamp 6 {expected}")?;
+        assert_eq!(rt; text.as_str(), expected.as_str());
+    }
+    Ok(())
+}
+
+#[test]
+fn acknowledgements_have_texts(rt: HostRuntime) -> Result<(), Fail> {
+    let ack = Ack::new(15, 0, 281_474_976_710_656).ok_or("the parts are within the limits")?;
+    let text = format!(in rt.alloc(); "{}", FrameText(Frame::Ack(ack)))?;
+    assert_eq!(rt; text.as_str(), "ack 15 to 0 number 281474976710656");
+    Ok(())
+}
+
+#[test]
+fn summaries_have_texts(rt: HostRuntime) -> Result<(), Fail> {
+    let shape = Shape::new(16, 1, 1).ok_or("the sizes are within the limits")?;
+    let new = Summary {
+        shape,
+        own: 15,
+        cycle: 0,
+        ended: 0,
+        swept: 0,
+        colour: Colour::White,
+        earlier: 0,
+        recent: 0,
+        grey: 0,
+        live: 0,
+        has_token: false,
+        letters: 0,
+    };
+    let used = Summary {
+        shape,
+        own: 14,
+        cycle: 1,
+        ended: 2,
+        swept: 3,
+        colour: Colour::Black,
+        earlier: -4,
+        recent: 5,
+        grey: 6,
+        live: 7,
+        has_token: true,
+        letters: 8,
+    };
+    for (summary, expected) in [
+        (
+            new,
+            "cycle 0 ended 0 swept 0 colour white old 0 cur 0 grey 0 live 0 token no letters 0",
+        ),
+        (
+            used,
+            "cycle 1 ended 2 swept 3 colour black old -4 cur 5 grey 6 live 7 token yes letters 8",
+        ),
+    ] {
+        let text = format!(in rt.alloc(); "{}", SummaryText(summary))?;
         assert_eq!(rt; text.as_str(), expected);
     }
     Ok(())

@@ -32,6 +32,23 @@ fn words_are_read(rt: HostRuntime) -> Result<(), Fail> {
 }
 
 #[test]
+fn words_to_decode_are_read(rt: HostRuntime) -> Result<(), Fail> {
+    for (words, hex) in [
+        (["markring", "decode", ""].as_slice(), ""),
+        (["markring", "decode", "41"].as_slice(), "41"),
+        (["markring", "decode", "0x4"].as_slice(), "0x4"),
+        (["markring", "decode", " "].as_slice(), " "),
+        (["markring", "decode", "decode"].as_slice(), "decode"),
+        (["markring", "decode", "--", "-x"].as_slice(), "-x"),
+    ] {
+        let words = owned(rt.alloc(), words)?;
+        let command = Command::read(rt.alloc(), words.as_slice())?;
+        assert_eq!(rt; command, Command::Decode { hex });
+    }
+    Ok(())
+}
+
+#[test]
 fn other_words_are_unknown(rt: HostRuntime) -> Result<(), Fail> {
     for words in [
         ["markring", ""].as_slice(),
@@ -46,6 +63,12 @@ fn other_words_are_unknown(rt: HostRuntime) -> Result<(), Fail> {
         ["markring", "sim", "--help"].as_slice(),
         ["markring", "sim", "-x"].as_slice(),
         ["markring", "sim", "one", "two"].as_slice(),
+        ["markring", "decode"].as_slice(),
+        ["markring", "decode", "--"].as_slice(),
+        ["markring", "decode", "-41"].as_slice(),
+        ["markring", "decode", "41", "00"].as_slice(),
+        ["markring", "decode", "41", ""].as_slice(),
+        ["markring", "Decode", "41"].as_slice(),
     ] {
         let words = owned(rt.alloc(), words)?;
         let command = Command::read(rt.alloc(), words.as_slice());

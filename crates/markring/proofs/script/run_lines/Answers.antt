@@ -1,9 +1,7 @@
-use Rattle.std.proofs.Common.{◌≡◌, ◌+◌, arith, refl, subst, sym, ap, ◌∙◌}
+use Rattle.std.proofs.Common.{◌≡◌, arith, refl, ap, ◌∙◌}
 use Rattle.std.proofs.KnownBytes.{Appends-nil}
-use Rattle.std.specs.Io.KnownBytes.{Appends}
 use Rattle.std.specs.Str.Iter.{lines_rest}
 use Rattle.markring.specs.declared.script.Reply.TheVariants as reply
-use Rattle.markring.specs.Script.{reply_text}
 use Rattle.markring.proofs.Printing.{printed_nothing, printed_more, printed_last, printed_all}
 use Rattle.markring.proofs.script.run_lines.Goals as goal
 
@@ -34,6 +32,16 @@ loop-index-preserved-in-Continue-1 g c =
     c.loop-index.status (contents c.args.out.now) (contents c.loop-index.out) (contents c.writeln.new.self) before
     c.in-Some.index c.in-Some.text c.in-Some.ensures.steps (reply.Outcome c.in-Outcome.outcome) c.loop-index.status c.in-Outcome.ensures refl (omega arith) before.small
     c.in_ok-writeln-in-Outcome.ensures.bytes
+
+-- a node in numbers
+pub loop-index-preserved-in-Continue-branch-2 : goal.loop-index-preserved-in-Continue-branch-2
+loop-index-preserved-in-Continue-branch-2 g c =
+    let before = c.loop-index.invariant in
+    let contents = g.W.Write.contents in
+    printed_more g.S.Space.shows c.args.script.now c.loop-index.index-iterator c.next.new.self c.loop-index.state c.take_line.new.state
+    c.loop-index.status (contents c.args.out.now) (contents c.loop-index.out) (contents c.writeln-in-Summary.new.self) before
+    c.in-Some.index c.in-Some.text c.in-Some.ensures.steps (reply.Summary c.in-Summary.summary) c.loop-index.status c.in-Summary.ensures refl (omega arith) before.small
+    c.in_ok-writeln-in-Summary.ensures.bytes
 
 -- one that was refused
 pub loop-index-preserved : goal.loop-index-preserved

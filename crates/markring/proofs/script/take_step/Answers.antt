@@ -1,4 +1,4 @@
-use Rattle.std.proofs.Common.{subst, Ok, Err, sym}
+use Rattle.std.proofs.Common.{subst, Ok, Err}
 use Rattle.markring.specs.Script.{ShowsHeld}
 use Rattle.markring.proofs.Replies.{step_shows}
 use Rattle.markring.proofs.script.take_step.Goals as goal

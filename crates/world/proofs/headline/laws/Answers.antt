@@ -1,5 +1,6 @@
 use Rattle.laws.proofs.Cuts.{cuts-extend}
 use Rattle.laws.proofs.Live.{reach-is-live}
+use Rattle.laws.proofs.Acknowledged.{none-beyond, none-refused-beyond}
 use Rattle.laws.proofs.Deliveries.{targets-are-live, none-refused-in-turn}
 use Rattle.world.proofs.headline.laws.Goals as goal
 
@@ -14,3 +15,9 @@ returns-clause-targets c = targets-are-live
 
 pub returns-clause-in_turn : goal.returns-clause-in_turn
 returns-clause-in_turn c = none-refused-in-turn
+
+pub returns-clause-within : goal.returns-clause-within
+returns-clause-within c = none-beyond
+
+pub returns-clause-acknowledged : goal.returns-clause-acknowledged
+returns-clause-acknowledged c = none-refused-beyond

@@ -1,6 +1,8 @@
 use Rattle.std.proofs.Common.{◌<◌, arith, ◌∙◌, subst}
 use Rattle.model.specs.References.{IsWithin}
+use Rattle.node.specs.Inside.{view_of}
 use Rattle.node.proofs.Sound.{alloc-references, alloc-names}
+use Rattle.node.proofs.Nodes.{node-heap}
 use Rattle.node.proofs.node.Node.allocate.Goals as goal
 
 pub invariant_of-self-2 : goal.invariant_of-self-2
@@ -14,14 +16,6 @@ invariant_of-self-2 c =
       generation = within.1;
     } in
     record {
-      node = record {
-        shape = old.shape;
-        own = old.own;
-        received = old.received;
-        linked = old.linked;
-        numbers = old.numbers;
-        references = alloc-references (IsWithin c.self.inside.shape) _ _ _ _ _ _ _ _ done named old.references;
-        messages = old.messages;
-      };
+      node = node-heap (view_of c.self.inside) c.alloc.new.self.heap old (alloc-references (IsWithin c.self.inside.shape) _ _ _ _ _ _ _ _ done named old.references);
       limit = c.in_ok-reference.ensures.limit ∙ c.self.invariant.limit;
     }

@@ -1,0 +1,94 @@
+ghost use Rattle.std.specs.Prelude.{◌≡◌, ◌+◌, ◌<◌};
+ghost use Rattle.ids.specs.declared.limits.TheConstants.{GREATEST_NUMBER};
+ghost use Rattle.link.specs.Receivers.{IsReceived, new_received, offered, taken_next, all_saved};
+
+use ids::Refusal;
+use std::marker::Model;
+
+/// What a message that is offered is to its receiver.
+#[derive(Clone, Copy, Debug, PartialEq, Eq)]
+pub enum Offer {
+    /// The next one of the link.
+    Next,
+    /// One that was taken in before.
+    Repeat,
+}
+
+/// How much a node has taken in of the messages of another one, and how much of that a saved node holds.
+#[derive(Clone, Copy)]
+pub struct Receiver {
+    taken: u64,
+    saved: u64,
+}
+
+impl Model for Receiver {
+    ghost use Rattle.link.specs.Receivers.{Received, IsReceived};
+
+    ghost Value = { Received };
+
+    ghost view = { λ r. record { taken = r.taken; saved = r.saved } };
+
+    ghost inverse = { λ r. record { taken = r.taken; saved = r.saved } };
+
+    ghost invariant = { λ r. IsReceived (record { taken = r.taken; saved = r.saved }) };
+}
+
+impl Receiver {
+    /// A receiver that has taken in nothing.
+    pub fn new() -> Receiver
+        ensures { result ≡ new_received }
+    {
+        Receiver { taken: 0, saved: 0 }
+    }
+
+    /// What the message of this number is: the next one, or a repeat, which is one that was taken in
+    /// before. [`Refusal::OutOfOrder`] where it is a later one than the next. It takes no memory, and
+    /// changes nothing.
+    pub fn offer(&self, number: u64) -> Result<Offer, Refusal>
+        ensures { result ≡ offered self.now number }
+    {
+        if number <= self.taken {
+            Ok(Offer::Repeat)
+        } else if number - self.taken == 1 {
+            Ok(Offer::Next)
+        } else {
+            Err(Refusal::OutOfOrder)
+        }
+    }
+
+    /// Counts the next message as taken in.
+    pub fn take_next(&mut self)
+        requires { self.old.taken < GREATEST_NUMBER }
+        ensures { self.new ≡ taken_next self.old }
+    {
+        self.taken += 1;
+    }
+
+    /// The number of the message that was taken in last; 0 where none was.
+    pub fn taken(&self) -> u64
+        ensures { result ≡ self.now.taken }
+    {
+        self.taken
+    }
+
+    /// The number up to which a saved node has taken in the messages: so many may be acknowledged.
+    pub fn ack_number(&self) -> u64
+        ensures { result ≡ self.now.saved }
+    {
+        self.saved
+    }
+
+    /// Counts all that was taken in as held by a saved node. It is called after a save.
+    pub fn kept(&mut self)
+        ensures { self.new ≡ all_saved self.old }
+    {
+        self.saved = self.taken;
+    }
+
+    /// Nothing: its contract says what is true of every receiver.
+    pub fn sound(&self)
+        ensures { IsReceived self.now }
+    {
+        let _taken = self.taken;
+    }
+}

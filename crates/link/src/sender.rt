@@ -1,0 +1,155 @@
+ghost use Rattle.std.specs.Prelude.{◌≡◌, ◌≢◌, ◌<◌, ◌≤◌, ◌+◌, IfSome, IfOk, IfErr, OnOk, OnErr};
+ghost use Rattle.ids.specs.declared.limits.TheConstants.{GREATEST_NUMBER};
+ghost use Rattle.ids.specs.declared.refusal.Refusal.TheVariants.{AckBeyond, LinkSpent, Memory};
+ghost use Rattle.model.specs.View.{used, appended, trimmed, all_kept, message_of, released_at, no_link};
+ghost use Rattle.link.specs.Senders.{IsLink};
+
+use ids::{GREATEST_NUMBER, Refusal, WINDOW};
+use msg::Message;
+use std::alloc::Global;
+use std::collections::VecDeque;
+use std::marker::Model;
+
+/// What a node keeps of its messages to another one: how many were acknowledged, the messages after those,
+/// first one first, and how many of all messages a saved node holds.
+#[derive(Drop)]
+pub struct Sender {
+    base: u64,
+    window: VecDeque<Message>,
+    kept: u64,
+}
+
+impl Model for Sender {
+    ghost use Rattle.model.specs.View.{Link};
+
+    ghost Value = { Link };
+
+    ghost use Rattle.link.specs.Senders.{IsLink};
+
+    ghost view = { λ s. record { base = s.base; window = s.window.items; kept = s.kept } };
+
+    ghost invariant = { λ s. IsLink (record { base = s.base; window = s.window.items; kept = s.kept }) };
+}
+
+impl Sender {
+    /// A sender that has sent nothing.
+    pub fn new(alloc: Global) -> Sender
+        ensures { result ≡ no_link }
+    {
+        Sender {
+            base: 0,
+            window: VecDeque::new(alloc),
+            kept: 0,
+        }
+    }
+
+    /// How many messages were ever appended: the number of the last one.
+    pub fn used(&self) -> u64
+        ensures value { result ≡ used self.now }
+        ensures within { result ≤ GREATEST_NUMBER }
+    {
+        self.base + self.window.len() as u64
+    }
+
+    /// The highest number that was acknowledged; 0 where none was.
+    pub fn base(&self) -> u64
+        ensures { result ≡ self.now.base }
+    {
+        self.base
+    }
+
+    /// How many messages were released, which are those that a saved node holds: the number of the last
+    /// one.
+    pub fn released(&self) -> u64
+        ensures { result ≡ self.now.kept }
+    {
+        self.kept
+    }
+
+    /// Appends a message, and gives its number. [`Refusal::LinkSpent`] where no number is left,
+    /// [`Refusal::Memory`] where a growth was refused; the sender is then as it was.
+    pub fn append(&mut self, message: Message) -> Result<u64, Refusal>
+        ensures done { IfOk result (λ n. (used self.old < GREATEST_NUMBER) × (self.new ≡ appended self.old message) × (n ≡ used self.old + 1)) }
+        ensures refused { IfErr result (λ e. e ≢ Memory → (e ≡ LinkSpent) × (GREATEST_NUMBER ≤ used self.old)) }
+        ensures unchanged { OnErr result (self.new ≡ self.old) }
+    {
+        let number = self.used();
+        if number >= GREATEST_NUMBER {
+            return Err(Refusal::LinkSpent);
+        }
+        self.window.push_back(message)?;
+        Ok(number + 1)
+    }
+
+    /// Lets go of the messages up to this number, which was acknowledged. A smaller number than before
+    /// changes nothing. [`Refusal::AckBeyond`] where it is above what was released; the sender is then as
+    /// it was. It takes no memory, and time for each message that is let go of.
+    pub fn trim(&mut self, number: u64) -> Result<(), Refusal>
+        ensures done { OnOk result ((number ≤ self.old.kept) × (self.new ≡ trimmed self.old number)) }
+        ensures refused { IfErr result (λ e. (e ≡ AckBeyond) × (self.old.kept < number)) }
+        ensures unchanged { OnErr result (self.new ≡ self.old) }
+        ensures kept { self.new.kept ≡ self.old.kept }
+    {
+        if number > self.kept {
+            return Err(Refusal::AckBeyond);
+        }
+        if number > self.base {
+            self.window.drain(..(number - self.base) as usize);
+            self.base = number;
+        }
+        Ok(())
+    }
+
+    /// Counts every message as held by a saved node. It is called after a save, and releases them.
+    pub fn kept(&mut self)
+        ensures { self.new ≡ all_kept self.old }
+    {
+        self.kept = self.used();
+    }
+
+    /// The message of this number, released or not; None where none was appended under it, or it was let
+    /// go of.
+    pub fn message(&self, number: u64) -> Option<Message>
+        ensures value { result ≡ message_of self.now number }
+        ensures within { IfSome result (λ _. number ≤ GREATEST_NUMBER) }
+    {
+        if number <= self.base {
+            return None;
+        }
+        let place = number - self.base - 1;
+        self.window.get(place as usize).copied()
+    }
+
+    /// The message in this place of the window, which has [`WINDOW`] places and shows released messages
+    /// alone: in the first place is the one after the last acknowledged.
+    pub fn window(&self, place: u8) -> Option<Message>
+        ensures value { result ≡ released_at self.now place }
+        ensures within { IfSome result (λ _. self.now.base + 1 + place ≤ GREATEST_NUMBER) }
+    {
+        if place < WINDOW && self.base + u64::from(place) < self.kept {
+            self.window.get(usize::from(place)).copied()
+        } else {
+            None
+        }
+    }
+
+    /// A sender that is equal to this one. [`Refusal::Memory`] where a growth was refused.
+    pub fn copy(&self, alloc: Global) -> Result<Sender, Refusal>
+        ensures copied { IfOk result (λ s. s ≡ self.now) }
+        ensures refused { IfErr result (λ e. e ≡ Memory) }
+    {
+        let _alloc = alloc;
+        Ok(Sender {
+            base: self.base,
+            window: self.window.clone()?,
+            kept: self.kept,
+        })
+    }
+
+    /// Nothing: its contract says what is true of every sender.
+    pub fn sound(&self)
+        ensures { IsLink self.now }
+    {
+        let _base = self.base;
+    }
+}

@@ -1,0 +1,173 @@
+use crate::{Offer, Receiver, Sender};
+use ids::Refusal;
+use msg::{Body, Message};
+use std::alloc::Global;
+
+// The message that the tests append under this number: its label is the number.
+fn letter(number: u32) -> Message {
+    Message {
+        stamp: 0,
+        body: Body::Give {
+            label: number,
+            reference: None,
+        },
+    }
+}
+
+// A sender of this many messages, none of them released.
+fn waiting(alloc: Global, count: u32) -> Result<Sender, Refusal> {
+    let mut sender = Sender::new(alloc);
+    for number in 0..count {
+        sender.append(letter(number + 1))?;
+    }
+    Ok(sender)
+}
+
+// A sender of this many messages, all of them released.
+fn released(alloc: Global, count: u32) -> Result<Sender, Refusal> {
+    let mut sender = waiting(alloc, count)?;
+    sender.kept();
+    Ok(sender)
+}
+
+// What a sender shows: its three numbers, the messages 0 to 3, and the first and last places of its
+// window.
+fn shown(sender: &Sender) -> ([u64; 3], [Option<Message>; 4], [Option<Message>; 4]) {
+    (
+        [sender.base(), sender.released(), sender.used()],
+        [0, 1, 2, 3].map(|number| sender.message(number)),
+        [0, 1, 31, 32].map(|place| sender.window(place)),
+    )
+}
+
+#[test]
+fn a_new_sender_has_no_messages(rt: HostRuntime) -> Result<(), Refusal> {
+    let mut sender = Sender::new(rt.alloc());
+    let empty = ([0, 0, 0], [None; 4], [None; 4]);
+    assert_eq!(rt; shown(&sender), empty);
+    sender.kept();
+    assert_eq!(rt; shown(&sender), empty);
+    assert_eq!(rt; sender.trim(0), Ok(()));
+    assert_eq!(rt; sender.trim(1), Err(Refusal::AckBeyond));
+    assert_eq!(rt; shown(&sender), empty);
+    Ok(())
+}
+
+#[test]
+fn messages_are_numbered_from_one(rt: HostRuntime) -> Result<(), Refusal> {
+    let mut sender = Sender::new(rt.alloc());
+    for number in [1, 2, 3] {
+        let given = sender.append(letter(number));
+        assert_eq!(rt; given, Ok(u64::from(number)));
+        assert_eq!(rt; sender.used(), u64::from(number));
+    }
+    let messages = [None, Some(letter(1)), Some(letter(2)), Some(letter(3))];
+    assert_eq!(rt; shown(&sender), ([0, 0, 3], messages, [None; 4]));
+    assert_eq!(rt; sender.message(4), None);
+    assert_eq!(rt; sender.message(u64::MAX), None);
+    Ok(())
+}
+
+#[test]
+fn a_window_shows_released_messages(rt: HostRuntime) -> Result<(), Refusal> {
+    let mut sender = released(rt.alloc(), 1)?;
+    assert_eq!(rt; sender.append(letter(2)), Ok(2));
+    let messages = [None, Some(letter(1)), Some(letter(2)), None];
+    let window = [Some(letter(1)), None, None, None];
+    assert_eq!(rt; shown(&sender), ([0, 1, 2], messages, window));
+    sender.kept();
+    let window = [Some(letter(1)), Some(letter(2)), None, None];
+    assert_eq!(rt; shown(&sender), ([0, 2, 2], messages, window));
+    Ok(())
+}
+
+#[test]
+fn a_window_has_thirty_two_places(rt: HostRuntime) -> Result<(), Refusal> {
+    let mut sender = released(rt.alloc(), 33)?;
+    let messages = [None, Some(letter(1)), Some(letter(2)), Some(letter(3))];
+    let window = [Some(letter(1)), Some(letter(2)), Some(letter(32)), None];
+    let full = ([0, 33, 33], messages, window);
+    assert_eq!(rt; shown(&sender), full);
+    assert_eq!(rt; sender.message(33), Some(letter(33)));
+    assert_eq!(rt; sender.trim(34), Err(Refusal::AckBeyond));
+    assert_eq!(rt; shown(&sender), full);
+
+    assert_eq!(rt; sender.trim(1), Ok(()));
+    let messages = [None, None, Some(letter(2)), Some(letter(3))];
+    let window = [Some(letter(2)), Some(letter(3)), Some(letter(33)), None];
+    let moved = ([1, 33, 33], messages, window);
+    assert_eq!(rt; shown(&sender), moved);
+    for number in [0, 1] {
+        assert_eq!(rt; sender.trim(number), Ok(()), "{number}");
+        assert_eq!(rt; shown(&sender), moved, "{number}");
+    }
+    Ok(())
+}
+
+#[test]
+fn an_unreleased_message_is_not_let_go_of(rt: HostRuntime) -> Result<(), Refusal> {
+    let mut sender = released(rt.alloc(), 2)?;
+    assert_eq!(rt; sender.append(letter(3)), Ok(3));
+    assert_eq!(rt; sender.trim(3), Err(Refusal::AckBeyond));
+    assert_eq!(rt; sender.trim(2), Ok(()));
+    let messages = [None, None, None, Some(letter(3))];
+    assert_eq!(rt; shown(&sender), ([2, 2, 3], messages, [None; 4]));
+    assert_eq!(rt; sender.append(letter(4)), Ok(4));
+    sender.kept();
+    let window = [Some(letter(3)), Some(letter(4)), None, None];
+    assert_eq!(rt; shown(&sender), ([2, 4, 4], messages, window));
+    assert_eq!(rt; sender.message(4), Some(letter(4)));
+    Ok(())
+}
+
+#[test]
+fn a_copy_goes_its_own_way(rt: HostRuntime) -> Result<(), Refusal> {
+    let mut original = released(rt.alloc(), 2)?;
+    original.trim(1)?;
+    original.append(letter(3))?;
+    let mut copy = original.copy(rt.alloc())?;
+    assert_eq!(rt; shown(&copy), shown(&original));
+    let messages = [None, None, Some(letter(2)), Some(letter(3))];
+    let window = [Some(letter(2)), None, None, None];
+    assert_eq!(rt; shown(&copy), ([1, 2, 3], messages, window));
+
+    assert_eq!(rt; copy.append(letter(4)), Ok(4));
+    copy.kept();
+    assert_eq!(rt; copy.trim(4), Ok(()));
+    assert_eq!(rt; shown(&copy), ([4, 4, 4], [None; 4], [None; 4]));
+    assert_eq!(rt; shown(&original), ([1, 2, 3], messages, window));
+    Ok(())
+}
+
+// What a receiver is offered as messages 0 to 3.
+fn offers(receiver: &Receiver) -> [Result<Offer, Refusal>; 4] {
+    [0, 1, 2, 3].map(|number| receiver.offer(number))
+}
+
+#[test]
+fn messages_are_taken_in_in_order(rt: HostRuntime) {
+    let mut receiver = Receiver::new();
+    let (next, repeat) = (Ok(Offer::Next), Ok(Offer::Repeat));
+    let early = Err(Refusal::OutOfOrder);
+    assert_eq!(rt; receiver.taken(), 0);
+    assert_eq!(rt; offers(&receiver), [repeat, next, early, early]);
+    assert_eq!(rt; receiver.offer(u64::MAX), early);
+    receiver.take_next();
+    assert_eq!(rt; receiver.taken(), 1);
+    assert_eq!(rt; offers(&receiver), [repeat, repeat, next, early]);
+    receiver.take_next();
+    assert_eq!(rt; receiver.taken(), 2);
+    assert_eq!(rt; offers(&receiver), [repeat, repeat, repeat, next]);
+}
+
+#[test]
+fn what_was_saved_is_acknowledged(rt: HostRuntime) {
+    let mut receiver = Receiver::new();
+    receiver.take_next();
+    receiver.take_next();
+    assert_eq!(rt; (receiver.taken(), receiver.ack_number()), (2, 0));
+    receiver.kept();
+    assert_eq!(rt; (receiver.taken(), receiver.ack_number()), (2, 2));
+    receiver.take_next();
+    assert_eq!(rt; (receiver.taken(), receiver.ack_number()), (3, 2));
+}

@@ -1,0 +1,180 @@
+-- An acknowledgement that the code's space hands over is that of the definitions.
+use Rattle.std.proofs.Common.{◌≡◌, ◌≢◌, ℕ, zero, suc, ◌-◌, ◌<◌, ◌≤◌, Bool, true, false, cond, List, [], ◌∷◌, length, map, get_or, set, slice_get, Option, Some, None, Result, Ok, Err, ◌⊎◌, inl, inr, refl, ap, sym, ◌∙◌, subst, arith, eq-eqb, eqb, ltb, lt-ltb}
+use Rattle.std.proofs.lemmas.List.{length-set}
+use Rattle.ids.specs.Limits.{Shaped}
+use Rattle.std.proofs.Math.Nat.{min-le_left}
+use Rattle.std.proofs.lemmas.Bool.{ne_eqb, le-leb, lt-leb, cond-true, cond-false, and_left, and_right}
+use Rattle.ids.specs.declared.refusal.Refusal.{Refusal}
+use Rattle.ids.specs.declared.refusal.Refusal.TheVariants.{NoNode, AckBeyond}
+use Rattle.msg.specs.declared.body.Message.{Message}
+use Rattle.msg.specs.declared.frame.Ack.{Ack}
+use Rattle.msg.specs.Frames.{plain_ack}
+use Rattle.msg.specs.Grammar.{Plain, ack_frame}
+use Rattle.node.specs.Frames.{acknowledgement}
+use Rattle.model.specs.declared.event.Event.TheVariants as event
+use Rattle.model.specs.declared.event.Answer.{Answer}
+use Rattle.model.specs.declared.step.Step.TheVariants as step
+use Rattle.model.specs.declared.step.Outcome.{Outcome}
+use Rattle.model.specs.declared.step.Outcome.TheVariants as outcome
+use Rattle.model.specs.State.{node_at, sent_to}
+use Rattle.model.specs.Steps.{is_addressed}
+use Rattle.model.specs.View.{Link, NodeView, Shows, Performs, no_link, link_to, is_other, trimmed, view_act, kept_of}
+use Rattle.model.specs.World.{World, take_step, acknowledged, release_count, handed_back, is_node}
+use Rattle.model.proofs.Lookups.{at_set_if}
+use Rattle.model.proofs.Shown.{act-shown, ack-done, ack-refused}
+use Rattle.laws.proofs.StepFacts.{act-ok}
+use Rattle.world.specs.Outboxes.{IsFrameOf}
+use Rattle.world.specs.Shows.{Simulated, ShowsWorld, FollowsStep, IsSim, IsPlaced, view_at, frames_of}
+use Rattle.world.proofs.Handed.{both-nodes}
+use Rattle.world.proofs.Shows.{is-no-node, show-again, counted-set, counted-as, sim-moved, read-is, within-seen, shows-seen}
+
+-- two lists of one length: the same places have something
+abbrev Both : {A B : Type 0} → Option A → Option B → Type 0
+Both None None = Unit {0}
+Both None (Some b) = ⊥
+Both (Some a) None = ⊥
+Both (Some a) (Some b) = Unit {0}
+
+same-length : {A B : Type 0} (xs : List A) (ys : List B) → ((k : ℕ) → Both (slice_get xs k) (slice_get ys k)) → length xs ≡ length ys
+same-length [] [] h = refl
+same-length [] (b ∷ ys) h = absurd (h zero)
+same-length (a ∷ xs) [] h = absurd (h zero)
+same-length (a ∷ xs) (b ∷ ys) h = ap suc (same-length xs ys (λ k. h (suc k)))
+
+frame-both : (from to place : ℕ) (x : Option Message) (y : Option (List ℕ)) → IsFrameOf from to place x y → Both x y
+frame-both from to place None None h = tt
+frame-both from to place None (Some b) h = absurd h
+frame-both from to place (Some x) None h = absurd h
+frame-both from to place (Some x) (Some b) h = tt
+
+-- there is a frame for each message that is released
+pub frames-counted : (n : Simulated) (w : World) (from to : ℕ) → ShowsWorld n w → from ≢ to → length (frames_of n.released from to) ≡ release_count w from to
+frames-counted n w from to h apart =
+    sym (same-length (sent_to (node_at w.saved from) to) (frames_of n.released from to) (λ k. frame-both from to k _ _ (h.released from to k apart)))
+
+-- what is acknowledged
+pub number-counted : (n : Simulated) (w : World) (from to : ℕ) → ShowsWorld n w → get_or (view_at n.saved to).acks from 0 ≡ acknowledged w from to
+number-counted n w from to h = ap (λ (z : List ℕ). get_or z from 0) (h.acked to)
+
+pub hand-no-node : (n : Simulated) (w : World) (from to : ℕ) → ShowsWorld n w → (length n.present ≤ from) ⊎ (length n.present ≤ to) → FollowsStep (Err NoNode) n (take_step w (step.Hand from to))
+unfolding take_step
+hand-no-node n w from to h (inl past) = λ ne. cond-false _ _ _ (and_left (is_node w from) (is_node w to) (is-no-node n w from h past))
+hand-no-node n w from to h (inr past) = λ ne. cond-false _ _ _ (and_right (is_node w from) (is_node w to) (is-no-node n w to h past))
+
+pub hand-to-itself : (n : Simulated) (w : World) (from to : ℕ) → ShowsWorld n w → from < length n.present → to < length n.present → from ≡ to → FollowsStep (Ok outcome.NoFrame) n (take_step w (step.Hand from to))
+unfolding take_step
+hand-to-itself n w from to h f t same =
+    (w, cond-true _ _ _ (both-nodes n w from to h f t) ∙ cond-true _ _ _ (eq-eqb from to same), h)
+
+-- what the step comes to between two nodes
+handed : (n : Simulated) (w : World) (from to : ℕ) → ShowsWorld n w → from < length n.present → to < length n.present → from ≢ to → take_step w (step.Hand from to) ≡ handed_back w from to
+unfolding take_step
+handed n w from to h f t apart = cond-true _ _ _ (both-nodes n w from to h f t) ∙ cond-false _ _ _ (ne_eqb from to apart)
+
+handed-within : (w : World) (from to : ℕ) → acknowledged w from to ≤ release_count w from to → handed_back w from to ≡ Ok (w, outcome.Handed (acknowledged w from to))
+handed-within w from to within = cond-true _ _ _ (le-leb _ _ within)
+
+handed-beyond : (w : World) (from to : ℕ) → release_count w from to < acknowledged w from to → handed_back w from to ≡ Err AckBeyond
+handed-beyond w from to beyond = cond-false _ _ _ (lt-leb _ _ beyond)
+
+-- more is acknowledged than was released
+pub hand-beyond : (n : Simulated) (w : World) (from to number : ℕ) → ShowsWorld n w → from < length n.present → to < length n.present → from ≢ to → number ≡ get_or (view_at n.saved to).acks from 0 → length (frames_of n.released from to) < number → FollowsStep (Err AckBeyond) n (take_step w (step.Hand from to))
+hand-beyond n w from to number h f t apart same beyond = λ ne.
+    handed n w from to h f t apart ∙ handed-beyond w from to (let far : release_count w from to < acknowledged w from to = omega (arith, beyond, same, number-counted n w from to h, frames-counted n w from to h apart) in far)
+
+-- what became of a step by which this number was acknowledged
+abbrev pub handed_as : ℕ → Result Answer Refusal → Result Outcome Refusal
+handed_as number (Ok a) = Ok (outcome.Handed number)
+handed_as number (Err e) = Err e
+
+-- the space after its node let go of messages
+shows-acked : (n : Simulated) (w : World) (from : ℕ) (a : Ack) (v : NodeView) (x : Answer) → ShowsWorld n w → map kept_of v.links ≡ map kept_of (view_at n.present from).links → Performs (Ok x) v (view_act (view_at n.present from) (event.Ack a)) → ShowsWorld (record n { present = set n.present from v }) w
+shows-acked n w from a v x h kept performs =
+    let after = act-shown (view_at n.present from) v (event.Ack a) (Ok x) performs (node_at w.current from) (h.current.each from) in
+    let same : after.0 ≡ node_at w.current from = (act-ok (node_at w.current from) (event.Ack a) after.0 x after.1).state in
+    let again : Shows v (node_at w.current from) = subst (Shows v) same after.2 in
+    record {
+      current = show-again n.present w.current from v h.current again;
+      saved = h.saved;
+      released = h.released;
+      grown = h.grown;
+      present_counted = counted-set n.present w.saved from v h.present_counted (counted-as n w from v h kept);
+      saved_counted = h.saved_counted;
+      acked = h.acked;
+    }
+
+pub hand-follows : (n : Simulated) (w : World) (from to : ℕ) (a : Ack) (v : NodeView) (r : Result Answer Refusal) → ShowsWorld n w → from < length n.present → to < length n.present → from ≢ to → is_addressed (view_at n.present from).part a.from a.to ≡ true → a.from ≡ to → a.number ≡ acknowledged w from to → map kept_of v.links ≡ map kept_of (view_at n.present from).links → Performs r v (view_act (view_at n.present from) (event.Ack a)) → FollowsStep (handed_as a.number r) (record n { present = set n.present from v }) (take_step w (step.Hand from to))
+hand-follows n w from to a v (Ok x) h f t apart addressed sender number kept performs =
+    let released : a.number ≤ (link_to (view_at n.present from) a.from).kept = (ack-done (view_at n.present from) v a x performs).0 in
+    let count : (link_to (view_at n.present from) a.from).kept ≡ release_count w from to = ap (λ (k : ℕ). (link_to (view_at n.present from) k).kept) sender ∙ h.present_counted from to in
+    let within : acknowledged w from to ≤ release_count w from to = omega (arith, released, count, number) in
+    (w, handed n w from to h f t apart ∙ handed-within w from to within ∙ ap (λ (k : ℕ). Ok (w, outcome.Handed k)) (sym number), shows-acked n w from a v x h kept performs)
+hand-follows n w from to a v (Err e) h f t apart addressed sender number kept performs = λ ne.
+    let told = ack-refused (view_at n.present from) a e addressed (performs ne) in
+    let count : (link_to (view_at n.present from) a.from).kept ≡ release_count w from to = ap (λ (k : ℕ). (link_to (view_at n.present from) k).kept) sender ∙ h.present_counted from to in
+    handed n w from to h f t apart ∙ handed-beyond w from to (let far : release_count w from to < acknowledged w from to = omega (arith, told.1, count, number) in far) ∙ ap (λ (z : Refusal). Err z) (sym told.0)
+
+-- ---- as the code has it: n is the space of its fields and m the one that callers see
+
+-- the node from which the acknowledgement comes is another one
+addressed-to : (n : Simulated) (from to : ℕ) (a : Ack) → IsSim n → from < length n.present → to < length n.present → from ≢ to → a.from ≡ to → a.to ≡ from → is_addressed (view_at n.present from).part a.from a.to ≡ true
+addressed-to n from to a sim f t apart sender receiver =
+    let placed : IsPlaced (length n.present) from (view_at n.present from) = sim.present from f in
+    let own : (eqb a.to (view_at n.present from).part.own) ≡ true = eq-eqb a.to (view_at n.present from).part.own (receiver ∙ sym placed.own) in
+    let there : ltb a.from (view_at n.present from).part.shape.nodes ≡ true = lt-ltb a.from (view_at n.present from).part.shape.nodes (let less : a.from < (view_at n.present from).part.shape.nodes = omega (arith, sender, t, placed.nodes) in less) in
+    let other : eqb a.from (view_at n.present from).part.own ≡ false = ne_eqb a.from (view_at n.present from).part.own (λ (e : a.from ≡ (view_at n.present from).part.own). apart (sym (sym sender ∙ e ∙ placed.own))) in
+    rw (own, there, other) refl
+
+-- what the node let go of has frames
+low-acked : (released : List (List (List (List ℕ)))) (from : ℕ) (u v : NodeView) (a : Ack) → ((j : ℕ) → (link_to u j).base ≤ length (frames_of released from j)) → a.number ≤ length (frames_of released from a.from) → v ≡ record u { links = set u.links a.from (trimmed (link_to u a.from) a.number) } → (j : ℕ) → (link_to v j).base ≤ length (frames_of released from j)
+low-acked released from u v a low within same = λ j.
+    subst (λ (z : NodeView). (link_to z j).base ≤ length (frames_of released from j)) (sym same)
+    (at_set_if (λ (l : Link). l.base ≤ length (frames_of released from j)) u.links a.from j (trimmed (link_to u a.from) a.number) no_link
+    (λ e. subst (λ (k : ℕ). (trimmed (link_to u a.from) a.number).base ≤ length (frames_of released from k)) e
+    (let here = low a.from in let some = min-le_left (a.number - (link_to u a.from).base) (length (link_to u a.from).window) in omega (arith, here, some, within)))
+    (low j))
+
+pub sim-acked : (n m : Simulated) (i from to : ℕ) (a : Ack) (u v : NodeView) (x : Answer) → n ≡ m → IsSim n → from < length m.present → i ≡ from → u ≡ get_or n.present i u → a.from ≡ to → a.number ≤ length (frames_of m.released from to) → (v.part.shape ≡ u.part.shape) × (v.part.own ≡ u.part.own) → Performs (Ok x) v (view_act u (event.Ack a)) → IsSim (record n { present = set n.present i v })
+sim-acked n m i from to a u v x seen h less named read sender within place performs =
+    let inside : i < length n.present = within-seen n m i seen (subst (λ (k : ℕ). k < length m.present) (sym named) less) in
+    let there : u ≡ view_at n.present i = read-is n.present i u inside read in
+    let done = (ack-done u v a x performs).1 in
+    let width : length v.links ≡ length u.links = ap (λ (z : NodeView). length z.links) done ∙ length-set u.links a.from (trimmed (link_to u a.from) a.number) in
+    let was : IsPlaced (length n.present) i u = subst (IsPlaced (length n.present) i) (sym there) (h.present i inside) in
+    let placed : IsPlaced (length n.present) i v = record { own = place.1 ∙ was.own; nodes = ap (λ (z : Shaped). z.nodes) place.0 ∙ was.nodes; links = width ∙ was.links } in
+    let before : (j : ℕ) → (link_to u j).base ≤ length (frames_of n.released i j) = λ j. subst (λ (z : NodeView). (link_to z j).base ≤ length (frames_of n.released i j)) (sym there) (h.present_kept i j) in
+    let few : a.number ≤ length (frames_of n.released i a.from) =
+    subst (λ (k : ℕ). a.number ≤ length (frames_of n.released i k)) (sym sender)
+    (subst (λ (k : ℕ). a.number ≤ length (frames_of n.released k to)) (sym named) (subst (λ (z : Simulated). a.number ≤ length (frames_of z.released from to)) (sym seen) within)) in
+    sim-moved n i v h placed (low-acked n.released i u v a before few done)
+
+pub handed-follows : (n m : Simulated) (w : World) (i from to : ℕ) (a : Ack) (u v : NodeView) (r : Result Answer Refusal) → n ≡ m → ShowsWorld m w → IsSim n → from < length m.present → to < length m.present → from ≢ to → i ≡ from → u ≡ get_or n.present i u → a.from ≡ to → a.to ≡ from → a.number ≡ get_or (view_at m.saved to).acks from 0 → map kept_of v.links ≡ map kept_of u.links → Performs r v (view_act u (event.Ack a)) → FollowsStep (handed_as a.number r) (record n { present = set n.present i v }) (take_step w (step.Hand from to))
+handed-follows n m w i from to a u v r seen shown sim f t apart named read sender receiver number kept performs =
+    let h : ShowsWorld n w = shows-seen n m w seen shown in
+    let fn : from < length n.present = within-seen n m from seen f in
+    let tn : to < length n.present = within-seen n m to seen t in
+    let inside : i < length n.present = subst (λ (k : ℕ). k < length n.present) (sym named) fn in
+    let there : u ≡ view_at n.present from = read-is n.present i u inside read ∙ ap (view_at n.present) named in
+    let same : map kept_of v.links ≡ map kept_of (view_at n.present from).links = kept ∙ ap (λ (z : NodeView). map kept_of z.links) there in
+    let acts : Performs r v (view_act (view_at n.present from) (event.Ack a)) = subst (λ (z : NodeView). Performs r v (view_act z (event.Ack a))) there performs in
+    let told : a.number ≡ acknowledged w from to = number ∙ number-counted m w from to shown in
+    subst (λ (k : ℕ). FollowsStep (handed_as a.number r) (record n { present = set n.present k v }) (take_step w (step.Hand from to))) (sym named)
+    (hand-follows n w from to a v r h fn tn apart (addressed-to n from to a sim fn tn apart sender receiver) sender told same acts)
+
+given-ack : (b : Bool) (f g : Plain) → ◌≡◌ {A = Option Plain} (Some f) (cond b (Some g) None) → f ≡ g
+given-ack true f g e = cc
+given-ack false f g e = absurd cc
+
+same-parts : (a b c d e f : ℕ) → ack_frame a b c ≡ ack_frame d e f → (a ≡ d) × (b ≡ e) × (c ≡ f)
+same-parts a b c d e f same = (cc, cc, cc)
+
+-- what is read is what the saved node acknowledges
+pub acknowledged-as : (n m : Simulated) (i from to : ℕ) (v : NodeView) (a : Ack) (f : Plain) → n ≡ m → IsSim n → to < length m.present → i ≡ to → v ≡ get_or n.saved i v → Some f ≡ acknowledgement v from → plain_ack a ≡ f → (a.from ≡ to) × (a.to ≡ from) × (a.number ≡ get_or (view_at m.saved to).acks from 0)
+acknowledged-as n m i from to v a f seen sim less named read given same =
+    let inside : i < length n.present = within-seen n m i seen (subst (λ (k : ℕ). k < length m.present) (sym named) less) in
+    let within : i < length n.saved = subst (λ (k : ℕ). i < k) (sym sim.saved_width) inside in
+    let there : v ≡ view_at n.saved i = read-is n.saved i v within read in
+    let own : v.part.own ≡ to = ap (λ (z : NodeView). z.part.own) there ∙ (sim.saved i inside).own ∙ named in
+    let parts = same-parts a.from a.to a.number v.part.own from (get_or v.acks from 0) (same ∙ given-ack (is_other v.part from) f (ack_frame v.part.own from (get_or v.acks from 0)) given) in
+    let number : get_or v.acks from 0 ≡ get_or (view_at m.saved to).acks from 0 = ap (λ (z : NodeView). get_or z.acks from 0) (there ∙ ap (view_at n.saved) named ∙ ap (λ (z : Simulated). view_at z.saved to) seen) in
+    (parts.0 ∙ own, parts.1, parts.2 ∙ number)
