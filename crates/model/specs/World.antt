@@ -1,5 +1,5 @@
 -- A space of nodes: for each its present state and the one last saved ("A space" in docs/RULES.md).
-use Rattle.std.specs.Prelude.{◌++◌, ◌≡◌, ℕ, ◌-◌, Bool, true, cond, nat_lt, nat_le, ◌==◌, ◌&&◌, List, [], ◌∷◌, length, map, Option, Some, None, Result, Ok, Err, slice_get, slice_set}
+use Rattle.std.specs.Prelude.{◌++◌, ◌≡◌, ℕ, ◌-◌, Bool, true, false, cond, nat_lt, nat_le, ◌==◌, ◌&&◌, List, [], ◌∷◌, length, map, Option, Some, None, Result, Ok, Err, slice_get, slice_set}
 use Rattle.std.specs.List.{range_with_len}
 use Rattle.ids.specs.Limits.{Shaped}
 use Rattle.ids.specs.declared.refusal.Refusal.{Refusal}
@@ -12,7 +12,7 @@ use Rattle.model.specs.declared.step.Outcome.{Outcome}
 use Rattle.model.specs.declared.step.Outcome.TheVariants as outcome
 use Rattle.model.specs.Checks.{guarded}
 use Rattle.model.specs.State.{NodeState, new_node, node_at, got_from, sent_to}
-use Rattle.model.specs.Steps.{act, receive, is_own}
+use Rattle.model.specs.Steps.{act, receive, is_own, is_repeat, is_memory_free}
 
 pub record World : Type 0 where
   pub current : List NodeState
@@ -102,3 +102,9 @@ is_own_step (step.Save i) = true
 is_own_step (step.Restart i) = true
 is_own_step (step.Deliver from to number) = true
 is_own_step (step.Hand from to) = true
+
+-- a step that takes no memory, so that it is never refused for want of it
+abbrev pub is_step_memory_free : World → Step → Bool
+is_step_memory_free w (step.Act i e) = is_memory_free (node_at w.current i).part e
+is_step_memory_free w (step.Deliver from to number) = is_repeat (node_at w.current to).part from number
+is_step_memory_free w s = false

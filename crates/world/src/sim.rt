@@ -4,7 +4,7 @@ ghost use Rattle.ids.specs.declared.refusal.Refusal.TheVariants.{Memory};
 ghost use Rattle.std.specs.List.{range_with_len};
 ghost use Rattle.model.specs.Steps.{is_own};
 ghost use Rattle.model.specs.View.{new_view};
-ghost use Rattle.model.specs.World.{World, new_world, take_step, is_own_step};
+ghost use Rattle.model.specs.World.{World, new_world, take_step, is_own_step, is_step_memory_free};
 ghost use Rattle.model.specs.declared.step.Step.TheVariants as step;
 ghost use Rattle.world.specs.Outboxes.{numbered_bytes};
 ghost use Rattle.world.specs.Shows.{ShowsWorld, FollowsStep, view_at, summary_at, frames_of};
@@ -55,10 +55,12 @@ impl Sim {
 
     /// Takes one step. `NoNode` where the step names a node that the space doesn't have, before anything
     /// else; else what the node refuses, and `Memory` where a growth was refused. A refused step changes
-    /// nothing.
+    /// nothing. An event that takes no memory of its node takes none here, and neither does a delivery of
+    /// a message that was taken in before.
     pub fn step(&mut self, step: Step) -> Result<Outcome, Refusal>
         requires own { IsTrue (is_own_step step) }
         ensures follows { (w : World) → ShowsWorld self.old w → FollowsStep result self.new (take_step w step) }
+        ensures memory_free { (w : World) → ShowsWorld self.old w → IsTrue (is_step_memory_free w step) → IfErr result (λ e. e ≢ Memory) }
         ensures unchanged { OnErr result (self.new ≡ self.old) }
     {
         match step {
@@ -94,6 +96,7 @@ impl Sim {
     fn act(&mut self, node: u8, event: Event) -> Result<Outcome, Refusal>
         requires own { IsTrue (is_own event) }
         ensures follows { (w : World) → ShowsWorld self.old w → FollowsStep result self.new (take_step w (step.Act node event)) }
+        ensures memory_free { (w : World) → ShowsWorld self.old w → IsTrue (is_step_memory_free w (step.Act node event)) → IfErr result (λ e. e ≢ Memory) }
         ensures unchanged { OnErr result (self.new ≡ self.old) }
     {
         if node >= self.count() {
@@ -141,6 +144,7 @@ impl Sim {
 
     fn deliver(&mut self, from: u8, to: u8, number: u64) -> Result<Outcome, Refusal>
         ensures follows { (w : World) → ShowsWorld self.old w → FollowsStep result self.new (take_step w (step.Deliver from to number)) }
+        ensures memory_free { (w : World) → ShowsWorld self.old w → IsTrue (is_step_memory_free w (step.Deliver from to number)) → IfErr result (λ e. e ≢ Memory) }
         ensures unchanged { OnErr result (self.new ≡ self.old) }
     {
         let count = self.count();
