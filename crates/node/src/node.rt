@@ -51,6 +51,7 @@ impl Node {
     ghost use Rattle.node.specs.Frames.{frame_of, numbered_frame, released_frame, acknowledgement};
     ghost use Rattle.node.specs.Summaries.{summary_of};
     ghost use Rattle.node.specs.Invariant.{IsNode};
+    ghost use Rattle.heap.specs.Heap.{IsSlotted};
 
     /// A new node of the shape: nothing allocated, nothing sent, nothing received. `NoNode` where the
     /// shape has no such node, `Memory` where a growth was refused.
@@ -665,11 +666,12 @@ impl Node {
         }
     }
 
-    /// Nothing: its contract says what is true of every node.
+    /// Nothing: its contract says what is true of every node, and of its slots.
     pub fn sound(&self)
-        ensures { IsNode self.now }
+        ensures node { IsNode self.now }
+        ensures slots { IsSlotted (record { heap = self.now.part.heap; limit = self.now.part.shape.slots }) }
     {
-        let _shape = &self.shape;
+        self.heap.sound();
     }
 
     /// A node that is equal to this one.
