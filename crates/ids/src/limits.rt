@@ -25,7 +25,7 @@ pub const GREATEST_NUMBER: u64 = 281_474_976_710_656;
 /// The greatest number of a collection cycle, 2^48; 0 stands for "none yet".
 pub const GREATEST_CYCLE: u64 = 281_474_976_710_656;
 
-/// How many messages of a link may be on their way without an acknowledgement.
+/// How many messages of a link its window shows: the first released ones after the last acknowledged.
 pub const WINDOW: u8 = 32;
 
 /// The greatest size of a saved node, in bytes.

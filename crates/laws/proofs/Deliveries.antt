@@ -92,15 +92,19 @@ flight-taken shape c from to place x sound inside flight =
     (subst (λ (z : Shaped). are_within z (mentioned x.body) ≡ true) (sym (sound.fitting.shapes to inside)) all)
     (subst (λ (z : ℕ). may_follow z x.body ≡ true) (sym (sound.base.own to inside)) fits.follows))
 
+-- what comes from another node to this one
+pub addressed-between : (p : Part) (from to count : ℕ) → p.own ≡ to → p.shape.nodes ≡ count → from < count → from ≢ to → is_addressed p from to ≡ true
+addressed-between p from to count own nodes there apart =
+    and_from _ _ (eq-eqb to p.own (sym own))
+    (and_from _ _ (lt-ltb from p.shape.nodes (omega (arith, there, nodes))) (not_from_false _ (ne_eqb from p.own (λ e. apart (e ∙ own)))))
+
 -- the tests of a receipt
 turn-passes : (shape : Shaped) (w : World) (from to number : ℕ) (x : Message) → KeepsSent w → Sound shape (cut w (λ _. false)) → (from < shape.nodes) × (to < shape.nodes) × (from ≢ to) → released w from to number ≡ Some x → number ≤ got_from (node_at w.current to).part from + 1 → AllPass (receipt_tests (node_at w.current to).part from to number x.stamp x.body)
 turn-passes shape w from to number x h sound between there turn =
     let p : Part = (node_at w.current to).part in
     let own : p.own ≡ to = sound.base.own to between.1 in
     let nodes : p.shape.nodes ≡ shape.nodes = sound.base.nodes to between.1 in
-    let addressed : is_addressed p from to ≡ true =
-    and_from _ _ (eq-eqb to p.own (sym own))
-    (and_from _ _ (lt-ltb from p.shape.nodes (omega (arith, between.0, nodes))) (not_from_false _ (ne_eqb from p.own (λ e. between.2 (e ∙ own))))) in
+    let addressed : is_addressed p from to ≡ true = addressed-between p from to shape.nodes own nodes between.0 between.2 in
     let may : (is_repeat p from number || may_take p x.stamp x.body) ≡ true = ⊎_elim {C = (is_repeat p from number || may_take p x.stamp x.body) ≡ true}
     (λ again. or_left _ _ again)
     (λ first.

@@ -1,50 +1,50 @@
 -- What a node's saved state sent stays sent: no step of a space takes any of it back.
-use Rattle.std.proofs.Common.{ℕ, set, refl, sym, ◌∙◌, subst, length-set}
+use Rattle.std.proofs.Common.{◌≡◌, ℕ, List, [], ◌∷◌, length, refl, sym, ◌∙◌, length-set}
 use Rattle.ids.specs.Limits.{Shaped}
 use Rattle.model.specs.declared.step.Step.{Step}
-use Rattle.model.specs.State.{NodeState, no_node, node_at, sent_to}
-use Rattle.model.specs.World.{World, KeepsSent, new_world, happens}
-use Rattle.model.proofs.Lookups.{at_set_if}
+use Rattle.model.specs.State.{NodeState, node_at, sent_to}
+use Rattle.model.specs.World.{World, KeepsSent, new_world, happens, run}
 use Rattle.laws.proofs.Lookups.{Grows, grows-refl, grows-trans}
 use Rattle.laws.proofs.StepFacts.{Happening, nothing, acted, handed, saved, restarted, happening, act-grows, receive-grows}
+use Rattle.laws.proofs.Onward.{Onward, new-behind, step-behind}
 
--- a node changes to one that sent more
-keeps-changed : (w : World) (i : ℕ) (t : NodeState) → KeepsSent w → ((j : ℕ) → Grows (sent_to (node_at w.current i) j) (sent_to t j)) → KeepsSent (record w { current = set w.current i t })
-keeps-changed w i t h more = record {
-  width = h.width ∙ sym (length-set w.current i t);
-  sent = λ k j. at_set_if (λ z. Grows (sent_to (node_at w.saved k) j) (sent_to z j)) w.current i k t no_node
-      (λ e. grows-trans (sent_to (node_at w.saved k) j) (sent_to (node_at w.current k) j) (sent_to t j) (h.sent k j)
-      (subst (λ (n : ℕ). Grows (sent_to (node_at w.current n) j) (sent_to t j)) e (more j)))
-      (h.sent k j);
+-- to every node the same messages were sent, and perhaps more
+abbrev SentMore : NodeState → NodeState → Type 0
+SentMore s t = (j : ℕ) → Grows (sent_to s j) (sent_to t j)
+
+sent-onward : Onward SentMore
+sent-onward = record {
+  same = λ s j. grows-refl _;
+  both = λ s t u g h j. grows-trans (sent_to s j) (sent_to t j) (sent_to u j) (g j) (h j);
+  acts = λ s e t a own answered j. act-grows s e t a j answered;
+  receives = λ s from to number stamp b t a answered j. receive-grows s from to number stamp b t a j answered;
 }
 
--- a node is saved
-keeps-saved : (w : World) (i : ℕ) → KeepsSent w → KeepsSent (record w { saved = set w.saved i (node_at w.current i) })
-keeps-saved w i h = record {
-  width = length-set w.saved i (node_at w.current i) ∙ h.width;
-  sent = λ k j. at_set_if (λ z. Grows (sent_to z j) (sent_to (node_at w.current k) j)) w.saved i k (node_at w.current i) no_node
-      (λ e. subst (λ (n : ℕ). Grows (sent_to (node_at w.current i) j) (sent_to (node_at w.current n) j)) e (grows-refl _))
-      (h.sent k j);
-}
+-- there are as many nodes as before
+count-stays : (w v : World) → Happening w v → length v.current ≡ length w.current
+count-stays w v nothing = refl
+count-stays w v (acted i e t a within own answered) = length-set w.current i t
+count-stays w v (handed from to number x t a within there answered) = length-set w.current to t
+count-stays w v (saved i within) = refl
+count-stays w v (restarted i within) = length-set w.current i (node_at w.saved i)
 
--- a node is restarted
-keeps-restarted : (w : World) (i : ℕ) → KeepsSent w → KeepsSent (record w { current = set w.current i (node_at w.saved i) })
-keeps-restarted w i h = record {
-  width = h.width ∙ sym (length-set w.current i (node_at w.saved i));
-  sent = λ k j. at_set_if (λ z. Grows (sent_to (node_at w.saved k) j) (sent_to z j)) w.current i k (node_at w.saved i) no_node
-      (λ e. subst (λ (n : ℕ). Grows (sent_to (node_at w.saved n) j) (sent_to (node_at w.saved i) j)) e (grows-refl _))
-      (h.sent k j);
-}
+pub run-count : (w : World) (steps : List Step) → length (run w steps).current ≡ length w.current
+run-count w [] = refl
+run-count w (s ∷ ss) = run-count (happens w s) ss ∙ count-stays w (happens w s) (happening w s)
 
-keeps-happening : (w v : World) → Happening w v → KeepsSent w → KeepsSent v
-keeps-happening w v nothing h = h
-keeps-happening w v (acted i e t a within own answered) h = keeps-changed w i t h (λ j. act-grows (node_at w.current i) e t a j answered)
-keeps-happening w v (handed from to number x t a within there answered) h = keeps-changed w to t h (λ j. receive-grows (node_at w.current to) from to number x.stamp x.body t a j answered)
-keeps-happening w v (saved i within) h = keeps-saved w i h
-keeps-happening w v (restarted i within) h = keeps-restarted w i h
+-- as many saved states as present ones
+width-stays : (w v : World) → Happening w v → length w.saved ≡ length w.current → length v.saved ≡ length v.current
+width-stays w v nothing h = h
+width-stays w v (acted i e t a within own answered) h = h ∙ sym (length-set w.current i t)
+width-stays w v (handed from to number x t a within there answered) h = h ∙ sym (length-set w.current to t)
+width-stays w v (saved i within) h = length-set w.saved i (node_at w.current i) ∙ h
+width-stays w v (restarted i within) h = h ∙ sym (length-set w.current i (node_at w.saved i))
 
 pub keeps-sent : (w : World) (s : Step) → KeepsSent w → KeepsSent (happens w s)
-keeps-sent w s h = keeps-happening w (happens w s) (happening w s) h
+keeps-sent w s h = record {
+  width = width-stays w (happens w s) (happening w s) h.width;
+  sent = step-behind sent-onward w s h.sent;
+}
 
 pub new-keeps-sent : (shape : Shaped) → KeepsSent (new_world shape)
-new-keeps-sent shape = record { width = refl; sent = λ i j. grows-refl _ }
+new-keeps-sent shape = record { width = refl; sent = new-behind sent-onward shape }

@@ -1,5 +1,6 @@
 pub mod Lookups
 pub mod StepFacts
+pub mod Onward
 pub mod KeepsSent
 pub mod Cuts
 pub mod Invariant

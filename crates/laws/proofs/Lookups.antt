@@ -1,8 +1,8 @@
 -- Look-ups in lists, stated as what holds at each place, with a default past the end and no bounds.
-use Rattle.std.proofs.Common.{◌≡◌, ℕ, zero, suc, List, [], ◌∷◌, ◌++◌, ap, sym, ◌∙◌, append_assoc, append-nil, Option, None, Some, option_to_list, slice_get, ltb, ltb-true, ◌<◌, true, arith, subst, ◌⊎◌, inl, inr}
+use Rattle.std.proofs.Common.{◌≡◌, ℕ, zero, suc, List, [], ◌∷◌, ◌++◌, ap, sym, ◌∙◌, append_assoc, append-nil, Option, None, Some, option_to_list, slice_get, ltb, ltb-true, get_or, set, ◌<◌, ◌≤◌, le_refl, true, arith, subst, ◌⊎◌, inl, inr}
 use Rattle.std.proofs.lemmas.Option.{slice_get_within}
 use Rattle.model.specs.Cuts.{Among}
-use Rattle.model.proofs.Lookups.{slice_get-left}
+use Rattle.model.proofs.Lookups.{slice_get-left, at_set_if}
 
 -- a list, and the same with more after it
 abbrev pub Grows : {A : Type 0} → List A → List A → Type 0
@@ -27,6 +27,11 @@ slice_get-push [] y zero x h = inr cc
 slice_get-push [] y (suc k) x h = absurd cc
 slice_get-push (a ∷ xs) y zero x h = inl h
 slice_get-push (a ∷ xs) y (suc k) x h = slice_get-push xs y k x h
+
+-- after a write of no smaller number, no number is smaller than before
+pub set-no_fewer : (xs : List ℕ) (i n : ℕ) → get_or xs i 0 ≤ n → (k : ℕ) → get_or xs k 0 ≤ get_or (set xs i n) k 0
+set-no_fewer xs i n more k =
+    at_set_if (λ z. get_or xs k 0 ≤ z) xs i k n 0 (λ e. subst (λ (j : ℕ). get_or xs j 0 ≤ n) e more) (le_refl _)
 
 pub nothing-below-zero : (k : ℕ) → ltb k 0 ≡ true → ⊥
 nothing-below-zero k h = let below : k < 0 = ltb-true k 0 h in absurd (omega arith)

@@ -1,12 +1,12 @@
 -- What a node's own events change.
-use Rattle.std.proofs.Common.{◌≡◌, ℕ, ◌<◌, ◌≤◌, true, eq-eqb, is_some, ◌∙◌, ⊎_elim, ◌||◌, ltb, ltb-true, length, length-append, length-set, get_or, arith, List, [], ◌∷◌, Option, Some, None, refl, ap, sym, subst, option_to_list, inl, inr, ◌⊎◌}
+use Rattle.std.proofs.Common.{◌≡◌, ℕ, ◌<◌, ◌≤◌, true, eq-eqb, is_some, ◌∙◌, ⊎_elim, ◌||◌, ltb, ltb-true, length, length-append, length-set, get_or, le_of_eq, arith, List, [], ◌∷◌, Option, Some, None, refl, ap, sym, subst, option_to_list, inl, inr, ◌⊎◌}
 use Rattle.std.specs.Option.{unwrap_or}
 use Rattle.ids.specs.declared.names.Ref.{Ref}
 use Rattle.msg.specs.declared.body.Body.TheVariants as body
 use Rattle.model.specs.declared.event.Event.{Event}
 use Rattle.model.specs.declared.event.Event.TheVariants as event
 use Rattle.model.specs.Checks.{AllPass}
-use Rattle.model.specs.State.{Object, Slot, Occupied, Retired, Heap, Part, no_node, register_at, slot_at}
+use Rattle.model.specs.State.{Object, Slot, Occupied, Retired, Heap, Part, no_node, register_at, slot_at, got_from}
 use Rattle.model.specs.Heaps.{slots_with, next_generation, with_register, with_object, new_object, new_reference, is_filled, no_reference, named, place_loaded, oldest_letter, letter_taken}
 use Rattle.model.specs.Steps.{is_own, tests, made, allocated, copied, dropped, loaded, stored, cleared, word_read, word_set, given, accepted, put_asked, get_asked}
 use Rattle.model.specs.Cuts.{Among}
@@ -114,6 +114,9 @@ unfolding allocated copied dropped loaded stored cleared word_read word_set give
 own-got p counts (event.Data d) own = absurd cc
 own-got p counts (event.Ack a) own = absurd cc
 own-got p counts e own = refl
+
+pub own-heard : (p : Part) (counts : List ℕ) (e : Event) → is_own e ≡ true → (from : ℕ) → got_from p from ≤ got_from (made p counts e).part from
+own-heard p counts e own from = le_of_eq (ap (λ (z : List ℕ). get_or z from 0) (sym (own-got p counts e own)))
 
 -- the node that stands past the end of a list refuses every event
 pub no-node-refuses : (e : Event) → is_own e ≡ true → AllPass (tests no_node.part e) → ⊥

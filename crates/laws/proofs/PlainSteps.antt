@@ -1,5 +1,5 @@
 -- Each plain step keeps the invariant.
-use Rattle.std.proofs.Common.{◌≡◌, ℕ, ◌+◌, ◌<◌, ◌≤◌, true, List, length, map, get_or, set, Ok, refl, sym, ap, ◌∙◌, subst, le_of_eq, le_refl, inl, inr, ⊎_elim, ◌⊎◌, length-set, arith}
+use Rattle.std.proofs.Common.{◌≡◌, ℕ, ◌+◌, ◌<◌, ◌≤◌, true, List, length, map, get_or, set, Ok, refl, sym, ap, ◌∙◌, subst, inl, inr, ⊎_elim, ◌⊎◌, length-set, arith}
 use Rattle.std.proofs.lemmas.Bool.{cases_lt}
 use Rattle.std.proofs.lemmas.Option.{slice_get_within}
 use Rattle.std.proofs.Math.Path.{fun_ext}
@@ -18,8 +18,8 @@ use Rattle.laws.proofs.Invariant.{Base, Closed, Sound}
 use Rattle.laws.proofs.Facts.{IsOccupied, IsInPlace}
 use Rattle.laws.proofs.Turns.{at_becomes}
 use Rattle.laws.proofs.Kept.{kept}
-use Rattle.laws.proofs.OwnEvents.{InHand, own-facts, own-fits, own-hand, own-got, no-node-refuses}
-use Rattle.laws.proofs.Receipts.{InMessage, receipt-hand, receipt-facts, receipt-fits, receipt-got, no-node-takes_nothing}
+use Rattle.laws.proofs.OwnEvents.{InHand, own-facts, own-fits, own-hand, own-got, own-heard, no-node-refuses}
+use Rattle.laws.proofs.Receipts.{InMessage, receipt-hand, receipt-facts, receipt-fits, receipt-got, receipt-heard, no-node-takes_nothing}
 
 -- what the node past the end doesn't have, only nodes of the space have
 pub inside-where : (n : ℕ) (c : Cut) (i : ℕ) (P : NodeState → Type 0) → Base n c → P (c i) → (P no_node → ⊥) → i < n
@@ -49,7 +49,7 @@ act-sound shape c d i e t a own answered becomes sound =
     let became : Becomes c d i (record { part = x.part; sent = append_all (c i).sent x.sends }) = subst (λ (z : NodeState). Becomes c d i z) found.state becomes in
     kept shape (InHand (c i).part e) c d i x.part x.sends (record {
       inside = inside;
-      turn = record { becomes = became; heard = λ from. le_of_eq (ap (λ (z : List ℕ). get_or z from 0) (sym got)) };
+      turn = record { becomes = became; heard = own-heard (c i).part counts e own };
       facts = own-facts (c i).part counts e own found.passed (sound.free i);
       fits = own-fits (c i).part counts e own found.passed;
       width = ap length got;
@@ -74,11 +74,7 @@ receive-sound shape c d from to x t a flight (next turn may found) becomes sound
     let there : taken c from to < length (sent_to (c from) to) = slice_get_within (sent_to (c from) to) (taken c from to) x flight.there in
     kept shape (InMessage (c to).part x.body) c d to y.part y.sends (record {
       inside = inside;
-      turn = record {
-        becomes = became;
-        heard = λ j. subst (λ (z : List ℕ). taken c j to ≤ get_or z j 0) (sym got)
-            (at_set_if (λ z. taken c j to ≤ z) (c to).part.got from j number 0 (λ e. subst (λ (k : ℕ). taken c k to ≤ number) e (omega arith)) (le_refl _));
-      };
+      turn = record { becomes = became; heard = receipt-heard (c to).part from number x.stamp x.body (omega arith) };
       facts = receipt-facts (c to).part from number x.stamp x.body;
       fits = receipt-fits (c to).part from number x.stamp x.body;
       width = ap length got ∙ length-set (c to).part.got from number;

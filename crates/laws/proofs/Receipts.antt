@@ -1,14 +1,14 @@
 -- What taking in a message changes.
-use Rattle.std.proofs.Common.{◌≡◌, ℕ, Option, Some, set, refl, inl, inr, ⊎_elim, ◌⊎◌, true}
+use Rattle.std.proofs.Common.{◌≡◌, ℕ, ◌≤◌, List, get_or, Option, Some, set, refl, sym, subst, inl, inr, ⊎_elim, ◌⊎◌, true}
 use Rattle.std.proofs.lemmas.Bool.{and_parts}
 use Rattle.ids.specs.declared.names.Ref.{Ref}
 use Rattle.msg.specs.declared.body.Body.{Body}
 use Rattle.msg.specs.declared.body.Body.TheVariants as body
-use Rattle.model.specs.State.{Heap, Part, no_node}
+use Rattle.model.specs.State.{Heap, Part, no_node, got_from}
 use Rattle.model.specs.Heaps.{object_at, place_of}
 use Rattle.model.specs.Steps.{carried, taken_in, count_in, take_body, is_addressed}
 use Rattle.model.specs.Cuts.{Among}
-use Rattle.laws.proofs.Lookups.{nothing-below-zero, among-option, option-among}
+use Rattle.laws.proofs.Lookups.{set-no_fewer, nothing-below-zero, among-option, option-among}
 use Rattle.laws.proofs.Facts.{EventFacts, heap-alone, sends-alone, heap-same, heap-letter, heap-place, IsInPlace, found-in-place}
 use Rattle.laws.proofs.Fitting.{FittingFacts, fits-alone, fits-rewritten, fits-sent}
 
@@ -52,6 +52,10 @@ pub receipt-got : (p : Part) (from number stamp : ℕ) (b : Body) → (taken_in 
 unfolding taken_in count_in take_body
 receipt-got p from number stamp (body.Get target place label) = refl
 receipt-got p from number stamp b = refl
+
+pub receipt-heard : (p : Part) (from number stamp : ℕ) (b : Body) → got_from p from ≤ number → (j : ℕ) → got_from p j ≤ got_from (taken_in p from number stamp b).part j
+receipt-heard p from number stamp b more j =
+    subst (λ (z : List ℕ). got_from p j ≤ get_or z j 0) (sym (receipt-got p from number stamp b)) (set-no_fewer p.got from number more j)
 
 -- the node that stands past the end of a list takes nothing in
 pub no-node-takes_nothing : (from to : ℕ) → is_addressed no_node.part from to ≡ true → ⊥

@@ -2,7 +2,7 @@
 use Rattle.std.proofs.Common.{◌≡◌, ℕ, ◌<◌, Bool, true, false, ◌==◌, ◌&&◌, ltb-true, List, [], ◌∷◌, ◌++◌, length, map, get_or, set, Option, None, Some, Result, Ok, Err, refl, sym, ap, ◌∙◌, ◌+◌, subst, leb, leb-true, leb-false, inl, inr, ⊎_elim, ◌≤◌, length-set, arith}
 use Rattle.std.proofs.lemmas.Bool.{cond_both, and_parts, cases_Bool, cond-true, cond-false, or_cases, both_ways}
 use Rattle.ids.specs.declared.refusal.Refusal.{Refusal}
-use Rattle.ids.specs.declared.refusal.Refusal.TheVariants.{LinkSpent, NoNode, AckBeyond}
+use Rattle.ids.specs.declared.refusal.Refusal.TheVariants.{LinkSpent, NoNode, AckBeyond, WrongNode}
 use Rattle.msg.specs.declared.body.Message.{Message}
 use Rattle.msg.specs.declared.body.Body.{Body}
 use Rattle.model.specs.declared.event.Event.{Event}
@@ -14,7 +14,7 @@ use Rattle.model.specs.declared.step.Outcome.{Outcome}
 use Rattle.model.specs.declared.step.Outcome.TheVariants as outcome
 use Rattle.model.specs.Checks.{guarded, AllPass}
 use Rattle.model.specs.State.{NodeState, node_at, sent_to, got_from}
-use Rattle.model.specs.Steps.{Effect, tests, made, receipt_tests, receipt, is_repeat, may_take, taken_in, unchanged, fits, all_tests, checked, after, act, receive, append_all, is_own}
+use Rattle.model.specs.Steps.{Effect, tests, made, receipt_tests, receipt, is_addressed, is_repeat, may_take, taken_in, unchanged, fits, all_tests, checked, after, act, receive, append_all, is_own}
 use Rattle.model.specs.World.{World, released, acknowledged, release_count, moved, handed_over, is_node, take_step, outcome_of, world_after, happens}
 use Rattle.model.proofs.Checks.{guarded-ok, guarded-passes, passed-parts}
 use Rattle.model.proofs.Lookups.{at_set_if}
@@ -147,7 +147,7 @@ happening w (step.Hand from to) =
     cond_both (is_node w from && is_node w to) _ _ (λ r. Happening w (world_after w r))
     (λ _. cond_both (from == to) _ _ (λ r. Happening w (world_after w r))
     (λ _. nothing)
-    (λ _. tested-happening w ((leb (acknowledged w from to) (release_count w from to), AckBeyond) ∷ []) (outcome.Handed (acknowledged w from to))))
+    (λ _. tested-happening w ((is_addressed (node_at w.current from).part to from, WrongNode) ∷ (leb (acknowledged w from to) (release_count w from to), AckBeyond) ∷ []) (outcome.Handed (acknowledged w from to))))
     (λ _. nothing)
 
 -- a delivery that was answered

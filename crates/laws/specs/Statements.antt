@@ -1,9 +1,9 @@
 -- What is true of every space of nodes, whatever steps are taken in it: events of programs, deliveries in
--- any order and any number of times, saves and restarts.
-use Rattle.std.specs.Prelude.{◌≡◌, ◌≢◌, ℕ, ◌+◌, ◌≤◌, Bool, false, List, Some, Ok, Err}
+-- any order and any number of times, acknowledgements, saves and restarts.
+use Rattle.std.specs.Prelude.{◌≡◌, ◌≢◌, ℕ, ◌+◌, ◌<◌, ◌≤◌, Bool, false, List, Some, Ok, Err}
 use Rattle.ids.specs.Limits.{Shaped, IsShape}
 use Rattle.ids.specs.declared.names.Ref.{Ref}
-use Rattle.ids.specs.declared.refusal.Refusal.TheVariants.{AckBeyond, WrongNode}
+use Rattle.ids.specs.declared.refusal.Refusal.TheVariants.{WrongNode}
 use Rattle.msg.specs.declared.body.Message.{Message}
 use Rattle.model.specs.declared.event.Answer.TheVariants as answer
 use Rattle.model.specs.declared.step.Step.{Step}
@@ -55,8 +55,23 @@ NoneBeyond =
     (shape : Shaped) → IsShape shape → (steps : List Step) (from to : ℕ)
     → acknowledged (run (new_world shape) steps) from to ≤ release_count (run (new_world shape) steps) from to
 
--- So no acknowledgement that a space hands to a sender is refused as one of more than was released.
-abbrev pub NoneRefusedBeyond : Type 0
-NoneRefusedBeyond =
+-- So between any two nodes what is acknowledged may be handed over at any time: the sender refuses it
+-- neither as one for another node nor as one of more than was released.
+abbrev pub HandsGoThrough : Type 0
+HandsGoThrough =
+    (shape : Shaped) → IsShape shape → (steps : List Step) (from to : ℕ) → from < shape.nodes → to < shape.nodes → from ≢ to
+    → take_step (run (new_world shape) steps) (step.Hand from to) ≡ Ok (run (new_world shape) steps, outcome.Handed (acknowledged (run (new_world shape) steps) from to))
+
+-- What was acknowledged once is acknowledged ever after: a later saved state of the receiver has taken in no
+-- fewer of the sender's messages, whatever was saved and restarted meanwhile.
+abbrev pub AcknowledgedStays : Type 0
+AcknowledgedStays =
+    (shape : Shaped) → IsShape shape → (earlier later : List Step) (from to : ℕ)
+    → acknowledged (run (new_world shape) earlier) from to ≤ acknowledged (run (run (new_world shape) earlier) later) from to
+
+-- And the receiver's present state has taken in what is acknowledged, also after a restart. So no message
+-- that was acknowledged is ever wanted again.
+abbrev pub AcknowledgedIsTakenIn : Type 0
+AcknowledgedIsTakenIn =
     (shape : Shaped) → IsShape shape → (steps : List Step) (from to : ℕ)
-    → take_step (run (new_world shape) steps) (step.Hand from to) ≢ Err AckBeyond
+    → acknowledged (run (new_world shape) steps) from to ≤ got_from (node_at (run (new_world shape) steps).current to).part from

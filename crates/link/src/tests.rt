@@ -50,6 +50,7 @@ fn a_new_sender_has_no_messages(rt: HostRuntime) -> Result<(), Refusal> {
     assert_eq!(rt; sender.trim(0), Ok(()));
     assert_eq!(rt; sender.trim(1), Err(Refusal::AckBeyond));
     assert_eq!(rt; shown(&sender), empty);
+    sender.sound();
     Ok(())
 }
 
@@ -158,6 +159,7 @@ fn messages_are_taken_in_in_order(rt: HostRuntime) {
     receiver.take_next();
     assert_eq!(rt; receiver.taken(), 2);
     assert_eq!(rt; offers(&receiver), [repeat, repeat, repeat, next]);
+    receiver.sound();
 }
 
 #[test]

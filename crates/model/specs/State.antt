@@ -44,9 +44,9 @@ pub record Phases : Type 0 where
 -- the node's part of the ring that finds the end of marking
 pub record Ring : Type 0 where
   pub colour : Colour
-  -- counted messages sent less those received, of the present cycle
+  -- messages sent less those received, of those that count in the present cycle
   pub earlier : ℤ
-  -- messages with the stamp of the present cycle sent less those received, which the next cycle counts
+  -- the same of those that the next cycle counts: the ones with references and the present cycle's stamp
   pub recent : ℤ
   pub token : Option Token
 

@@ -1,5 +1,5 @@
 -- A space of nodes: for each its present state and the one last saved ("A space" in docs/RULES.md).
-use Rattle.std.specs.Prelude.{◌++◌, ◌≡◌, ℕ, ◌-◌, Bool, true, false, cond, nat_lt, nat_le, ◌==◌, ◌&&◌, List, [], ◌∷◌, length, map, Option, Some, None, Result, Ok, Err, slice_get, slice_set}
+use Rattle.std.specs.Prelude.{◌++◌, ◌≡◌, ℕ, ◌-◌, Bool, true, cond, nat_lt, nat_le, ◌==◌, ◌&&◌, ◌||◌, not, is_some, List, [], ◌∷◌, length, map, Option, Some, None, Result, Ok, Err, slice_get, slice_set}
 use Rattle.std.specs.List.{range_with_len}
 use Rattle.ids.specs.Limits.{Shaped}
 use Rattle.ids.specs.declared.refusal.Refusal.{Refusal}
@@ -12,7 +12,7 @@ use Rattle.model.specs.declared.step.Outcome.{Outcome}
 use Rattle.model.specs.declared.step.Outcome.TheVariants as outcome
 use Rattle.model.specs.Checks.{guarded}
 use Rattle.model.specs.State.{NodeState, new_node, node_at, got_from, sent_to}
-use Rattle.model.specs.Steps.{act, receive, is_own, is_repeat, is_memory_free}
+use Rattle.model.specs.Steps.{act, receive, is_own, is_addressed, is_repeat, is_memory_free}
 
 pub record World : Type 0 where
   pub current : List NodeState
@@ -50,10 +50,10 @@ acknowledged w from to = got_from (node_at w.saved to).part from
 abbrev pub release_count : World → ℕ → ℕ → ℕ
 release_count w from to = length (sent_to (node_at w.saved from) to)
 
--- an acknowledgement is handed to the sender; it changes no state
+-- an acknowledgement is handed to the sender, who tests it as its event Ack; it changes no state
 abbrev pub handed_back : World → ℕ → ℕ → Result (World × Outcome) Refusal
 handed_back w from to =
-    guarded ((nat_le (acknowledged w from to) (release_count w from to), AckBeyond) ∷ []) (w, outcome.Handed (acknowledged w from to))
+    guarded ((is_addressed (node_at w.current from).part to from, WrongNode) ∷ (nat_le (acknowledged w from to) (release_count w from to), AckBeyond) ∷ []) (w, outcome.Handed (acknowledged w from to))
 
 abbrev pub is_node : World → ℕ → Bool
 is_node w i = nat_lt i (length w.current)
@@ -105,6 +105,9 @@ is_own_step (step.Hand from to) = true
 
 -- a step that takes no memory, so that it is never refused for want of it
 abbrev pub is_step_memory_free : World → Step → Bool
-is_step_memory_free w (step.Act i e) = is_memory_free (node_at w.current i).part e
-is_step_memory_free w (step.Deliver from to number) = is_repeat (node_at w.current to).part from number
-is_step_memory_free w s = false
+is_step_memory_free w (step.Act i e) = not (is_node w i) || is_memory_free (node_at w.current i).part e
+is_step_memory_free w (step.Save i) = not (is_node w i)
+is_step_memory_free w (step.Restart i) = not (is_node w i)
+is_step_memory_free w (step.Deliver from to number) =
+    not (is_node w from && is_node w to) || (not (is_some (released w from to number)) || is_repeat (node_at w.current to).part from number)
+is_step_memory_free w (step.Hand from to) = true

@@ -192,6 +192,7 @@ fn marks_and_what_is_no_frame(rt: HostRuntime) -> Result<(), Fail> {
     let mut longer = Vec::from_slice(rt.alloc(), &MARK)?;
     longer.push(0)?;
     assert!(rt; is_bad(&longer));
+    grammar();
     Ok(())
 }
 

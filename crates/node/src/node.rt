@@ -21,7 +21,8 @@ use msg::{Ack, Body, Colour, Data, Frame, Message};
 use std::alloc::Global;
 use std::marker::Model;
 
-/// One node: its heap, and for each other node what it sent there and how much it took in from there.
+/// One node: its heap, and for each other node its messages to there that aren't acknowledged and how much
+/// it took in from there.
 #[derive(Drop)]
 pub struct Node {
     shape: Shape,

@@ -1,8 +1,9 @@
 -- An acknowledgement that the code's space hands over is that of the definitions.
-use Rattle.std.proofs.Common.{◌≡◌, ◌≢◌, ℕ, zero, suc, ◌-◌, ◌<◌, ◌≤◌, Bool, true, false, cond, List, [], ◌∷◌, length, map, get_or, set, slice_get, Option, Some, None, Result, Ok, Err, ◌⊎◌, inl, inr, refl, ap, sym, ◌∙◌, subst, arith, eq-eqb, eqb, ltb, lt-ltb}
-use Rattle.std.proofs.lemmas.List.{length-set}
+use Rattle.std.proofs.Common.{◌≡◌, ◌≢◌, ℕ, zero, suc, ◌+◌, ◌-◌, max, ◌<◌, ◌≤◌, Bool, true, false, cond, List, [], ◌∷◌, length, map, get_or, set, slice_get, Option, Some, None, Result, Ok, Err, ◌⊎◌, inl, inr, refl, ap, sym, ◌∙◌, subst, arith, eq-eqb}
+use Rattle.std.proofs.lemmas.List.{length-set, map-set}
+use Rattle.std.proofs.Math.ListN.{get_or-map}
 use Rattle.ids.specs.Limits.{Shaped}
-use Rattle.std.proofs.Math.Nat.{min-le_left}
+use Rattle.std.proofs.Math.Nat.{min-le_left, min-eq_left, sub-add-eq-max}
 use Rattle.std.proofs.lemmas.Bool.{ne_eqb, le-leb, lt-leb, cond-true, cond-false, and_left, and_right}
 use Rattle.ids.specs.declared.refusal.Refusal.{Refusal}
 use Rattle.ids.specs.declared.refusal.Refusal.TheVariants.{NoNode, AckBeyond}
@@ -11,22 +12,24 @@ use Rattle.msg.specs.declared.frame.Ack.{Ack}
 use Rattle.msg.specs.Frames.{plain_ack}
 use Rattle.msg.specs.Grammar.{Plain, ack_frame}
 use Rattle.node.specs.Frames.{acknowledgement}
+use Rattle.node.specs.Invariant.{IsNode}
 use Rattle.model.specs.declared.event.Event.TheVariants as event
 use Rattle.model.specs.declared.event.Answer.{Answer}
 use Rattle.model.specs.declared.step.Step.TheVariants as step
 use Rattle.model.specs.declared.step.Outcome.{Outcome}
 use Rattle.model.specs.declared.step.Outcome.TheVariants as outcome
-use Rattle.model.specs.State.{node_at, sent_to}
+use Rattle.model.specs.State.{Part, node_at, sent_to}
 use Rattle.model.specs.Steps.{is_addressed}
-use Rattle.model.specs.View.{Link, NodeView, Shows, Performs, no_link, link_to, is_other, trimmed, view_act, kept_of}
+use Rattle.model.specs.View.{Link, NodeView, Shows, Performs, no_link, link_to, is_other, used, trimmed, view_act, kept_of, base_of}
 use Rattle.model.specs.World.{World, take_step, acknowledged, release_count, handed_back, is_node}
 use Rattle.model.proofs.Lookups.{at_set_if}
 use Rattle.model.proofs.Shown.{act-shown, ack-done, ack-refused}
 use Rattle.laws.proofs.StepFacts.{act-ok}
+use Rattle.laws.proofs.Deliveries.{addressed-between}
 use Rattle.world.specs.Outboxes.{IsFrameOf}
-use Rattle.world.specs.Shows.{Simulated, ShowsWorld, FollowsStep, IsSim, IsPlaced, view_at, frames_of}
+use Rattle.world.specs.Shows.{Simulated, ShowsWorld, FollowsStep, IsSim, IsPlaced, no_view, view_at, frames_of, bases, let_go, let_go_after}
 use Rattle.world.proofs.Handed.{both-nodes}
-use Rattle.world.proofs.Shows.{is-no-node, show-again, counted-set, counted-as, sim-moved, read-is, within-seen, shows-seen}
+use Rattle.world.proofs.Shows.{is-no-node, show-again, counted-set, counted-as, acked-set, sim-moved, read-is, within-seen, shows-seen, row_of}
 
 -- two lists of one length: the same places have something
 abbrev Both : {A B : Type 0} → Option A → Option B → Type 0
@@ -54,7 +57,7 @@ frames-counted n w from to h apart =
 
 -- what is acknowledged
 pub number-counted : (n : Simulated) (w : World) (from to : ℕ) → ShowsWorld n w → get_or (view_at n.saved to).acks from 0 ≡ acknowledged w from to
-number-counted n w from to h = ap (λ (z : List ℕ). get_or z from 0) (h.acked to)
+number-counted n w from to h = ap (λ (z : List ℕ). get_or z from 0) (h.saved_acked to)
 
 pub hand-no-node : (n : Simulated) (w : World) (from to : ℕ) → ShowsWorld n w → (length n.present ≤ from) ⊎ (length n.present ≤ to) → FollowsStep (Err NoNode) n (take_step w (step.Hand from to))
 unfolding take_step
@@ -71,16 +74,16 @@ handed : (n : Simulated) (w : World) (from to : ℕ) → ShowsWorld n w → from
 unfolding take_step
 handed n w from to h f t apart = cond-true _ _ _ (both-nodes n w from to h f t) ∙ cond-false _ _ _ (ne_eqb from to apart)
 
-handed-within : (w : World) (from to : ℕ) → acknowledged w from to ≤ release_count w from to → handed_back w from to ≡ Ok (w, outcome.Handed (acknowledged w from to))
-handed-within w from to within = cond-true _ _ _ (le-leb _ _ within)
+handed-within : (w : World) (from to : ℕ) → is_addressed (node_at w.current from).part to from ≡ true → acknowledged w from to ≤ release_count w from to → handed_back w from to ≡ Ok (w, outcome.Handed (acknowledged w from to))
+handed-within w from to addressed within = cond-true _ _ _ addressed ∙ cond-true _ _ _ (le-leb _ _ within)
 
-handed-beyond : (w : World) (from to : ℕ) → release_count w from to < acknowledged w from to → handed_back w from to ≡ Err AckBeyond
-handed-beyond w from to beyond = cond-false _ _ _ (lt-leb _ _ beyond)
+handed-beyond : (w : World) (from to : ℕ) → is_addressed (node_at w.current from).part to from ≡ true → release_count w from to < acknowledged w from to → handed_back w from to ≡ Err AckBeyond
+handed-beyond w from to addressed beyond = cond-true _ _ _ addressed ∙ cond-false _ _ _ (lt-leb _ _ beyond)
 
 -- more is acknowledged than was released
-pub hand-beyond : (n : Simulated) (w : World) (from to number : ℕ) → ShowsWorld n w → from < length n.present → to < length n.present → from ≢ to → number ≡ get_or (view_at n.saved to).acks from 0 → length (frames_of n.released from to) < number → FollowsStep (Err AckBeyond) n (take_step w (step.Hand from to))
-hand-beyond n w from to number h f t apart same beyond = λ ne.
-    handed n w from to h f t apart ∙ handed-beyond w from to (let far : release_count w from to < acknowledged w from to = omega (arith, beyond, same, number-counted n w from to h, frames-counted n w from to h apart) in far)
+pub hand-beyond : (n : Simulated) (w : World) (from to number : ℕ) → ShowsWorld n w → from < length n.present → to < length n.present → from ≢ to → is_addressed (node_at w.current from).part to from ≡ true → number ≡ get_or (view_at n.saved to).acks from 0 → length (frames_of n.released from to) < number → FollowsStep (Err AckBeyond) n (take_step w (step.Hand from to))
+hand-beyond n w from to number h f t apart addressed same beyond = λ ne.
+    handed n w from to h f t apart ∙ handed-beyond w from to addressed (let far : release_count w from to < acknowledged w from to = omega (arith, beyond, same, number-counted n w from to h, frames-counted n w from to h apart) in far)
 
 -- what became of a step by which this number was acknowledged
 abbrev pub handed_as : ℕ → Result Answer Refusal → Result Outcome Refusal
@@ -88,8 +91,9 @@ handed_as number (Ok a) = Ok (outcome.Handed number)
 handed_as number (Err e) = Err e
 
 -- the space after its node let go of messages
-shows-acked : (n : Simulated) (w : World) (from : ℕ) (a : Ack) (v : NodeView) (x : Answer) → ShowsWorld n w → map kept_of v.links ≡ map kept_of (view_at n.present from).links → Performs (Ok x) v (view_act (view_at n.present from) (event.Ack a)) → ShowsWorld (record n { present = set n.present from v }) w
-shows-acked n w from a v x h kept performs =
+shows-acked : (n : Simulated) (w : World) (from : ℕ) (a : Ack) (v : NodeView) (x : Answer) → ShowsWorld n w → map kept_of v.links ≡ map kept_of (view_at n.present from).links → v.acks ≡ (view_at n.present from).acks → Performs (Ok x) v (view_act (view_at n.present from) (event.Ack a)) → ShowsWorld (record n { present = set n.present from v }) w
+shows-acked n w from a v x h kept acks performs =
+    let counted = counted-as n w from v h kept acks in
     let after = act-shown (view_at n.present from) v (event.Ack a) (Ok x) performs (node_at w.current from) (h.current.each from) in
     let same : after.0 ≡ node_at w.current from = (act-ok (node_at w.current from) (event.Ack a) after.0 x after.1).state in
     let again : Shows v (node_at w.current from) = subst (Shows v) same after.2 in
@@ -98,32 +102,38 @@ shows-acked n w from a v x h kept performs =
       saved = h.saved;
       released = h.released;
       grown = h.grown;
-      present_counted = counted-set n.present w.saved from v h.present_counted (counted-as n w from v h kept);
+      present_counted = counted-set n.present w.saved from v h.present_counted counted.kept;
       saved_counted = h.saved_counted;
-      acked = h.acked;
+      present_acked = acked-set n.present w.saved from v h.present_acked counted.acks;
+      saved_acked = h.saved_acked;
     }
 
-pub hand-follows : (n : Simulated) (w : World) (from to : ℕ) (a : Ack) (v : NodeView) (r : Result Answer Refusal) → ShowsWorld n w → from < length n.present → to < length n.present → from ≢ to → is_addressed (view_at n.present from).part a.from a.to ≡ true → a.from ≡ to → a.number ≡ acknowledged w from to → map kept_of v.links ≡ map kept_of (view_at n.present from).links → Performs r v (view_act (view_at n.present from) (event.Ack a)) → FollowsStep (handed_as a.number r) (record n { present = set n.present from v }) (take_step w (step.Hand from to))
-hand-follows n w from to a v (Ok x) h f t apart addressed sender number kept performs =
+-- the state shown tests the addresses as the node does
+addressed-state : (n : Simulated) (w : World) (from to : ℕ) → ShowsWorld n w → is_addressed (view_at n.present from).part to from ≡ true → is_addressed (node_at w.current from).part to from ≡ true
+addressed-state n w from to h addressed = subst (λ (p : Part). is_addressed p to from ≡ true) (h.current.each from).part addressed
+
+pub hand-follows : (n : Simulated) (w : World) (from to : ℕ) (a : Ack) (v : NodeView) (r : Result Answer Refusal) → ShowsWorld n w → from < length n.present → to < length n.present → from ≢ to → is_addressed (view_at n.present from).part to from ≡ true → a.from ≡ to → a.to ≡ from → a.number ≡ acknowledged w from to → map kept_of v.links ≡ map kept_of (view_at n.present from).links → v.acks ≡ (view_at n.present from).acks → Performs r v (view_act (view_at n.present from) (event.Ack a)) → FollowsStep (handed_as a.number r) (record n { present = set n.present from v }) (take_step w (step.Hand from to))
+hand-follows n w from to a v (Ok x) h f t apart addressed sender receiver number kept acks performs =
     let released : a.number ≤ (link_to (view_at n.present from) a.from).kept = (ack-done (view_at n.present from) v a x performs).0 in
     let count : (link_to (view_at n.present from) a.from).kept ≡ release_count w from to = ap (λ (k : ℕ). (link_to (view_at n.present from) k).kept) sender ∙ h.present_counted from to in
     let within : acknowledged w from to ≤ release_count w from to = omega (arith, released, count, number) in
-    (w, handed n w from to h f t apart ∙ handed-within w from to within ∙ ap (λ (k : ℕ). Ok (w, outcome.Handed k)) (sym number), shows-acked n w from a v x h kept performs)
-hand-follows n w from to a v (Err e) h f t apart addressed sender number kept performs = λ ne.
-    let told = ack-refused (view_at n.present from) a e addressed (performs ne) in
+    (w, handed n w from to h f t apart ∙ handed-within w from to (addressed-state n w from to h addressed) within ∙ ap (λ (k : ℕ). Ok (w, outcome.Handed k)) (sym number), shows-acked n w from a v x h kept acks performs)
+hand-follows n w from to a v (Err e) h f t apart addressed sender receiver number kept acks performs = λ ne.
+    let told = ack-refused (view_at n.present from) a e (subst (λ (k : ℕ). is_addressed (view_at n.present from).part a.from k ≡ true) (sym receiver) (subst (λ (k : ℕ). is_addressed (view_at n.present from).part k from ≡ true) (sym sender) addressed)) (performs ne) in
     let count : (link_to (view_at n.present from) a.from).kept ≡ release_count w from to = ap (λ (k : ℕ). (link_to (view_at n.present from) k).kept) sender ∙ h.present_counted from to in
-    handed n w from to h f t apart ∙ handed-beyond w from to (let far : release_count w from to < acknowledged w from to = omega (arith, told.1, count, number) in far) ∙ ap (λ (z : Refusal). Err z) (sym told.0)
+    handed n w from to h f t apart ∙ handed-beyond w from to (addressed-state n w from to h addressed) (let far : release_count w from to < acknowledged w from to = omega (arith, told.1, count, number) in far) ∙ ap (λ (z : Refusal). Err z) (sym told.0)
 
 -- ---- as the code has it: n is the space of its fields and m the one that callers see
 
 -- the node from which the acknowledgement comes is another one
-addressed-to : (n : Simulated) (from to : ℕ) (a : Ack) → IsSim n → from < length n.present → to < length n.present → from ≢ to → a.from ≡ to → a.to ≡ from → is_addressed (view_at n.present from).part a.from a.to ≡ true
-addressed-to n from to a sim f t apart sender receiver =
+addressed-from : (n : Simulated) (from to : ℕ) → IsSim n → from < length n.present → to < length n.present → from ≢ to → is_addressed (view_at n.present from).part to from ≡ true
+addressed-from n from to sim f t apart =
     let placed : IsPlaced (length n.present) from (view_at n.present from) = sim.present from f in
-    let own : (eqb a.to (view_at n.present from).part.own) ≡ true = eq-eqb a.to (view_at n.present from).part.own (receiver ∙ sym placed.own) in
-    let there : ltb a.from (view_at n.present from).part.shape.nodes ≡ true = lt-ltb a.from (view_at n.present from).part.shape.nodes (let less : a.from < (view_at n.present from).part.shape.nodes = omega (arith, sender, t, placed.nodes) in less) in
-    let other : eqb a.from (view_at n.present from).part.own ≡ false = ne_eqb a.from (view_at n.present from).part.own (λ (e : a.from ≡ (view_at n.present from).part.own). apart (sym (sym sender ∙ e ∙ placed.own))) in
-    rw (own, there, other) refl
+    addressed-between (view_at n.present from).part to from (length n.present) placed.own placed.nodes t (λ e. apart (sym e))
+
+pub addressed-seen : (n m : Simulated) (w : World) (from to : ℕ) → n ≡ m → IsSim n → ShowsWorld m w → from < length m.present → to < length m.present → from ≢ to → is_addressed (node_at w.current from).part to from ≡ true
+addressed-seen n m w from to seen sim shown f t apart =
+    addressed-state n w from to (shows-seen n m w seen shown) (addressed-from n from to sim (within-seen n m from seen f) (within-seen n m to seen t) apart)
 
 -- what the node let go of has frames
 low-acked : (released : List (List (List (List ℕ)))) (from : ℕ) (u v : NodeView) (a : Ack) → ((j : ℕ) → (link_to u j).base ≤ length (frames_of released from j)) → a.number ≤ length (frames_of released from a.from) → v ≡ record u { links = set u.links a.from (trimmed (link_to u a.from) a.number) } → (j : ℕ) → (link_to v j).base ≤ length (frames_of released from j)
@@ -148,8 +158,8 @@ sim-acked n m i from to a u v x seen h less named read sender within place perfo
     (subst (λ (k : ℕ). a.number ≤ length (frames_of n.released k to)) (sym named) (subst (λ (z : Simulated). a.number ≤ length (frames_of z.released from to)) (sym seen) within)) in
     sim-moved n i v h placed (low-acked n.released i u v a before few done)
 
-pub handed-follows : (n m : Simulated) (w : World) (i from to : ℕ) (a : Ack) (u v : NodeView) (r : Result Answer Refusal) → n ≡ m → ShowsWorld m w → IsSim n → from < length m.present → to < length m.present → from ≢ to → i ≡ from → u ≡ get_or n.present i u → a.from ≡ to → a.to ≡ from → a.number ≡ get_or (view_at m.saved to).acks from 0 → map kept_of v.links ≡ map kept_of u.links → Performs r v (view_act u (event.Ack a)) → FollowsStep (handed_as a.number r) (record n { present = set n.present i v }) (take_step w (step.Hand from to))
-handed-follows n m w i from to a u v r seen shown sim f t apart named read sender receiver number kept performs =
+pub handed-follows : (n m : Simulated) (w : World) (i from to : ℕ) (a : Ack) (u v : NodeView) (r : Result Answer Refusal) → n ≡ m → ShowsWorld m w → IsSim n → from < length m.present → to < length m.present → from ≢ to → i ≡ from → u ≡ get_or n.present i u → a.from ≡ to → a.to ≡ from → a.number ≡ get_or (view_at m.saved to).acks from 0 → map kept_of v.links ≡ map kept_of u.links → v.acks ≡ u.acks → Performs r v (view_act u (event.Ack a)) → FollowsStep (handed_as a.number r) (record n { present = set n.present i v }) (take_step w (step.Hand from to))
+handed-follows n m w i from to a u v r seen shown sim f t apart named read sender receiver number kept acks performs =
     let h : ShowsWorld n w = shows-seen n m w seen shown in
     let fn : from < length n.present = within-seen n m from seen f in
     let tn : to < length n.present = within-seen n m to seen t in
@@ -159,7 +169,7 @@ handed-follows n m w i from to a u v r seen shown sim f t apart named read sende
     let acts : Performs r v (view_act (view_at n.present from) (event.Ack a)) = subst (λ (z : NodeView). Performs r v (view_act z (event.Ack a))) there performs in
     let told : a.number ≡ acknowledged w from to = number ∙ number-counted m w from to shown in
     subst (λ (k : ℕ). FollowsStep (handed_as a.number r) (record n { present = set n.present k v }) (take_step w (step.Hand from to))) (sym named)
-    (hand-follows n w from to a v r h fn tn apart (addressed-to n from to a sim fn tn apart sender receiver) sender told same acts)
+    (hand-follows n w from to a v r h fn tn apart (addressed-from n from to sim fn tn apart) sender receiver told same (acks ∙ ap (λ (z : NodeView). z.acks) there) acts)
 
 given-ack : (b : Bool) (f g : Plain) → ◌≡◌ {A = Option Plain} (Some f) (cond b (Some g) None) → f ≡ g
 given-ack true f g e = cc
@@ -178,3 +188,28 @@ acknowledged-as n m i from to v a f seen sim less named read given same =
     let parts = same-parts a.from a.to a.number v.part.own from (get_or v.acks from 0) (same ∙ given-ack (is_other v.part from) f (ack_frame v.part.own from (get_or v.acks from 0)) given) in
     let number : get_or v.acks from 0 ≡ get_or (view_at m.saved to).acks from 0 = ap (λ (z : NodeView). get_or z.acks from 0) (there ∙ ap (view_at n.saved) named ∙ ap (λ (z : Simulated). view_at z.saved to) seen) in
     (parts.0 ∙ own, parts.1, parts.2 ∙ number)
+
+-- ---- what an acknowledgement lets go of
+
+-- letting go moves the base to the number, where that is above
+base-moved : (l : Link) (number : ℕ) → l.kept ≤ used l → number ≤ l.kept → (trimmed l number).base ≡ max number l.base
+base-moved l number held few =
+    ap (λ (k : ℕ). l.base + k) (min-eq_left (let some : number - l.base ≤ length l.window = omega (arith, held, few) in some))
+    ∙ (let other : l.base + (number - l.base) ≡ number - l.base + l.base = omega arith in other) ∙ sub-add-eq-max number l.base
+
+row-trimmed : (u : NodeView) (i number : ℕ) → (link_to u i).kept ≤ used (link_to u i) → number ≤ (link_to u i).kept → map base_of (set u.links i (trimmed (link_to u i) number)) ≡ set (row_of u) i (max number (get_or (row_of u) i 0))
+row-trimmed u i number held few =
+    map-set base_of u.links i (trimmed (link_to u i) number)
+    ∙ ap (set (row_of u) i) (base-moved (link_to u i) number held few ∙ ap (max number) (sym (get_or-map base_of u.links i no_link)))
+
+pub handed-lets-go : (n m : Simulated) (i from to : ℕ) (a : Ack) (u v : NodeView) (x : Answer) → n ≡ m → from < length m.present → i ≡ from → u ≡ get_or n.present i u → a.from ≡ to → IsNode u → Performs (Ok x) v (view_act u (event.Ack a)) → let_go (record n { present = set n.present i v }) ≡ let_go_after (let_go m) (step.Hand from to) (outcome.Handed a.number)
+handed-lets-go n m i from to a u v x seen less named read sender sound performs =
+    let inside : i < length n.present = within-seen n m i seen (subst (λ (k : ℕ). k < length m.present) (sym named) less) in
+    let there : u ≡ view_at n.present i = read-is n.present i u inside read in
+    let done = ack-done u v a x performs in
+    let row : row_of u ≡ get_or (bases n.present) i [] = ap row_of there ∙ sym (get_or-map row_of n.present i no_view) in
+    let moved : row_of v ≡ set (row_of u) a.from (max a.number (get_or (row_of u) a.from 0)) = ap row_of done.1 ∙ row-trimmed u a.from a.number (sound.links a.from).kept done.0 in
+    let here : row_of v ≡ set (get_or (bases n.present) i []) to (max a.number (get_or (get_or (bases n.present) i []) to 0)) = moved ∙ ap (λ (z : List ℕ). set z a.from (max a.number (get_or z a.from 0))) row ∙ ap (λ (k : ℕ). set (get_or (bases n.present) i []) k (max a.number (get_or (get_or (bases n.present) i []) k 0))) sender in
+    ap (λ (b : List (List ℕ)). record (let_go n) { present = b }) (map-set row_of n.present i v ∙ ap (set (bases n.present) i) here)
+    ∙ ap (λ (k : ℕ). let_go_after (let_go n) (step.Hand k to) (outcome.Handed a.number)) named
+    ∙ ap (λ (z : Simulated). let_go_after (let_go z) (step.Hand from to) (outcome.Handed a.number)) seen

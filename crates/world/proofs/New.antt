@@ -15,7 +15,7 @@ use Rattle.model.proofs.Lookups.{get_or-replicate_any}
 use Rattle.laws.proofs.KeepsSent.{new-keeps-sent}
 use Rattle.world.specs.Outboxes.{OutboxView, no_outbox, released_frames, IsFrameOf}
 use Rattle.world.specs.Rows.{rows_of}
-use Rattle.world.specs.Shows.{Simulated, ShowAll, ShowsWorld, IsPlaced, IsSim, AreKept, no_view, view_at, frames_of, AreCounted}
+use Rattle.world.specs.Shows.{Simulated, ShowAll, ShowsWorld, IsPlaced, IsSim, AreKept, no_view, view_at, frames_of, AreCounted, AreAcked}
 use Rattle.world.proofs.Shows.{same-sim}
 
 abbrev pub new_sim : Shaped → Simulated
@@ -77,6 +77,10 @@ new-counted shape = λ i j.
     let zero-kept : (link_to (view_at (new_sim shape).present i) j).kept ≡ 0 = at_map (λ (v : NodeView). (link_to v j).kept ≡ 0) (new_view shape) (range_with_len 0 shape.nodes) i no_view refl (λ x. ap (λ (l : Link). l.kept) (get_or-replicate_any shape.nodes j no_link)) in
     zero-kept ∙ sym (ap length (nothing-sent shape i j))
 
+-- and nothing acknowledged
+new-acked : (shape : Shaped) → AreAcked (new_sim shape).present (new_nodes shape)
+new-acked shape = λ i. both_map (λ (v : NodeView) (s : NodeState). v.acks ≡ s.part.got) (new_view shape) (new_node shape) (range_with_len 0 shape.nodes) i no_view no_node refl (λ x. refl)
+
 pub new-shows : (shape : Shaped) → ShowsWorld (new_sim shape) (new_world shape)
 new-shows shape = record {
   current = new-all-shown shape;
@@ -85,7 +89,8 @@ new-shows shape = record {
   grown = new-keeps-sent shape;
   present_counted = new-counted shape;
   saved_counted = new-counted shape;
-  acked = λ i. both_map (λ (v : NodeView) (s : NodeState). v.acks ≡ s.part.got) (new_view shape) (new_node shape) (range_with_len 0 shape.nodes) i no_view no_node refl (λ x. refl);
+  present_acked = new-acked shape;
+  saved_acked = new-acked shape;
 }
 
 new-placed : (shape : Shaped) (i : ℕ) → i < shape.nodes → IsPlaced shape.nodes i (view_at (new_sim shape).present i)

@@ -3,20 +3,21 @@ use Rattle.std.proofs.Common.{◌≡◌, ◌≢◌, ℕ, ◌+◌, ◌-◌, ◌<�
 use Rattle.std.proofs.Math.ListN.{get_or-map, get_or-eq_default}
 use Rattle.std.proofs.Math.Seq.{take-length}
 use Rattle.std.proofs.lemmas.Bool.{cases_lt, lt-leb, cond-true, cond-false}
-use Rattle.std.proofs.lemmas.List.{length-set, length-map, length-take, length-drop}
+use Rattle.std.proofs.lemmas.List.{length-set, length-map, length-take, length-drop, map-set}
+use Rattle.std.proofs.lemmas.Simd.{map-map}
 use Rattle.std.proofs.lemmas.Option.{slice_get-get_or}
 use Rattle.ids.specs.declared.limits.TheConstants.{GREATEST_NODES}
 use Rattle.msg.specs.declared.body.Message.{Message}
 use Rattle.model.specs.declared.step.Step.TheVariants as step
 use Rattle.model.specs.declared.step.Outcome.TheVariants as outcome
 use Rattle.model.specs.State.{Part, NodeState, node_at, no_node, sent_to}
-use Rattle.model.specs.View.{Link, NodeView, Shows, ShowsSent, no_link, link_to, used, kept_view, all_kept, message_of}
+use Rattle.model.specs.View.{Link, NodeView, Shows, ShowsSent, no_link, link_to, used, kept_view, all_kept, base_of, message_of}
 use Rattle.model.specs.World.{World, take_step}
-use Rattle.model.proofs.Lookups.{at_set_if, both_set_if, slice_get-take, slice_get-drop}
+use Rattle.model.proofs.Lookups.{at_set_if, both_set_if, map-set_same, slice_get-take, slice_get-drop}
 use Rattle.laws.proofs.Lookups.{slice_get-grows, Grows}
 use Rattle.world.specs.Outboxes.{OutboxView, no_outbox, IsFrameOf, IsStaged, released_frames, all_released}
-use Rattle.world.specs.Shows.{Simulated, ShowsWorld, FollowsStep, AreCounted, AreKept, IsPlaced, IsSim, no_view, view_at, frames_of}
-use Rattle.world.proofs.Shows.{show-set, show-again, grown-by, is-node}
+use Rattle.world.specs.Shows.{Simulated, ShowsWorld, FollowsStep, AreCounted, AreAcked, AreKept, IsPlaced, IsSim, no_view, view_at, frames_of, bases, let_go, let_go_after}
+use Rattle.world.proofs.Shows.{show-set, show-again, grown-by, is-node, row_of}
 
 -- counting all messages as saved changes nothing else
 kept-shown : (l : Link) (sent : List Message) → ShowsSent l sent → ShowsSent (all_kept l) sent
@@ -138,6 +139,12 @@ kept-both nodes n i u row width all here = λ a j.
     (λ e. subst (λ (b : ℕ). b ≤ length (get_or row j [])) (sym (kept-base u j)) (here j))
     (all a j)
 
+-- what a saved node has taken in is acknowledged
+acked-saved : (nodes : List NodeView) (states : List NodeState) (i : ℕ) (v : NodeView) (s : NodeState) → length nodes ≡ length states → AreAcked nodes states → Shows v s → AreAcked (set nodes i (kept_view v)) (set states i s)
+acked-saved nodes states i v s width all shown = λ a.
+    both_set_if (λ (z : NodeView) (t : NodeState). z.acks ≡ t.part.got) nodes states no_view no_node i (kept_view v) s width a
+    (λ e. ap (λ (p : Part). p.got) shown.part) (all a)
+
 shows-saved : (n : Simulated) (w : World) (i : ℕ) (before after : List OutboxView) → ShowsWorld n w → IsSim n → i < length n.present → Staging n i before after → take_step w (step.Save i) ≡ Ok (record w { saved = set w.saved i (node_at w.current i) }, outcome.Done) → ShowsWorld (saved_sim n i (view_at n.present i) after) (record w { saved = set w.saved i (node_at w.current i) })
 shows-saved n w i before after h sim within staging answer =
     let u : NodeView = view_at n.present i in
@@ -152,9 +159,8 @@ shows-saved n w i before after h sim within staging answer =
       grown = grown-by w _ (step.Save i) outcome.Done h.grown answer;
       present_counted = counted-saved n.present w.saved i u (node_at w.current i) (h.current.width ∙ sym h.grown.width) h.present_counted (h.current.each i);
       saved_counted = counted-saved n.saved w.saved i u (node_at w.current i) h.saved.width h.saved_counted (h.current.each i);
-      acked = λ a.
-          both_set_if (λ (z : NodeView) (t : NodeState). z.acks ≡ t.part.got) n.saved w.saved no_view no_node i (kept_view u) (node_at w.current i) h.saved.width a
-          (λ e. ap (λ (p : Part). p.got) (h.current.each i).part) (h.acked a);
+      present_acked = acked-saved n.present w.saved i u (node_at w.current i) (h.current.width ∙ sym h.grown.width) h.present_acked (h.current.each i);
+      saved_acked = acked-saved n.saved w.saved i u (node_at w.current i) h.saved.width h.saved_acked (h.current.each i);
     }
 
 pub save-follows : (n : Simulated) (w : World) (i : ℕ) (before after : List OutboxView) → ShowsWorld n w → IsSim n → i < length n.present → Staging n i before after → FollowsStep (Ok outcome.Done) (saved_sim n i (view_at n.present i) after) (take_step w (step.Save i))
@@ -187,3 +193,14 @@ sim-saved n i before after h within staging =
       present_kept = kept-both n.present n i u (new_row after) (sym h.rows) h.present_kept low;
       saved_kept = kept-both n.saved n i u (new_row after) (h.saved_width ∙ sym h.rows) h.saved_kept low;
     }
+
+-- counting all messages as saved lets go of none
+row-kept : (v : NodeView) → row_of (kept_view v) ≡ row_of v
+row-kept v = map-map base_of all_kept v.links
+
+pub saved-lets-go : (n : Simulated) (i : ℕ) (after : List OutboxView) → let_go (saved_sim n i (view_at n.present i) after) ≡ let_go_after (let_go n) (step.Save i) outcome.Done
+saved-lets-go n i after =
+    let u : NodeView = view_at n.present i in
+    let row : row_of (kept_view u) ≡ get_or (bases n.present) i [] = row-kept u ∙ sym (get_or-map row_of n.present i no_view) in
+    ap (λ (b : List (List ℕ)). record (let_go (saved_sim n i u after)) { present = b }) (map-set_same row_of n.present i (kept_view u) no_view (row-kept u))
+    ∙ ap (λ (b : List (List ℕ)). record (let_go n) { saved = b }) (map-set row_of n.saved i (kept_view u) ∙ ap (set (bases n.saved) i) row)

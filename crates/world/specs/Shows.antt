@@ -1,11 +1,14 @@
 -- How the code's space shows a space of the definitions.
-use Rattle.std.specs.Prelude.{◌≡◌, ◌≢◌, ℕ, ◌<◌, ◌≤◌, List, [], length, cond, slice_get, slice_index_or, Option, Some, None, Result, Ok, Err}
+use Rattle.std.specs.Prelude.{◌≡◌, ◌≢◌, ℕ, ◌<◌, ◌≤◌, List, [], length, map, max, cond, slice_get, slice_set, slice_index_or, Option, Some, None, Result, Ok, Err}
 use Rattle.ids.specs.declared.refusal.Refusal.{Refusal}
 use Rattle.ids.specs.declared.limits.TheConstants.{GREATEST_NODES}
+use Rattle.model.specs.declared.step.Step.{Step}
+use Rattle.model.specs.declared.step.Step.TheVariants as step
 use Rattle.model.specs.declared.step.Outcome.{Outcome}
+use Rattle.model.specs.declared.step.Outcome.TheVariants as outcome
 use Rattle.model.specs.Checks.{IsFirstRefusal}
 use Rattle.model.specs.State.{NodeState, node_at, sent_to}
-use Rattle.model.specs.View.{NodeView, Shows, new_view, link_to}
+use Rattle.model.specs.View.{NodeView, Shows, new_view, link_to, base_of}
 use Rattle.model.specs.World.{World, KeepsSent, is_node}
 use Rattle.node.specs.Summaries.{summary_of}
 use Rattle.node.specs.declared.summary.Summary.{Summary}
@@ -40,6 +43,10 @@ AreKept nodes released = (i j : ℕ) → (link_to (view_at nodes i) j).base ≤ 
 abbrev pub AreCounted : List NodeView → List NodeState → Type 0
 AreCounted nodes states = (i j : ℕ) → (link_to (view_at nodes i) j).kept ≡ length (sent_to (node_at states i) j)
 
+-- what a node acknowledges is what its saved state has taken in
+abbrev pub AreAcked : List NodeView → List NodeState → Type 0
+AreAcked nodes states = (i : ℕ) → (view_at nodes i).acks ≡ (node_at states i).part.got
+
 pub record ShowsWorld (n : Simulated) (w : World) : Type 0 where
   pub current : ShowAll n.present w.current
   pub saved : ShowAll n.saved w.saved
@@ -48,8 +55,9 @@ pub record ShowsWorld (n : Simulated) (w : World) : Type 0 where
   pub grown : KeepsSent w
   pub present_counted : AreCounted n.present w.saved
   pub saved_counted : AreCounted n.saved w.saved
-  -- a saved node acknowledges what its state has taken in
-  pub acked : (i : ℕ) → (view_at n.saved i).acks ≡ (node_at w.saved i).part.got
+  -- a node acknowledges what its saved state has taken in
+  pub present_acked : AreAcked n.present w.saved
+  pub saved_acked : AreAcked n.saved w.saved
 
 -- What a step answered, and the space after it, against the step of the definitions: an answer is the
 -- definition's, and the code then shows the definition's space; a refusal is the first that applies.
@@ -72,6 +80,27 @@ pub record IsSim (n : Simulated) : Type 0 where
   pub saved : (i : ℕ) → i < length n.present → IsPlaced (length n.present) i (view_at n.saved i)
   pub present_kept : AreKept n.present n.released
   pub saved_kept : AreKept n.saved n.released
+
+-- Of each link of each node how many messages the node has let go of, which are those that were
+-- acknowledged to it. With the state that it shows it says what the node keeps.
+abbrev pub bases : List NodeView → List (List ℕ)
+bases nodes = map (λ n. map base_of n.links) nodes
+
+pub record LetGo : Type 0 where
+  pub present : List (List ℕ)
+  pub saved : List (List ℕ)
+
+abbrev pub let_go : Simulated → LetGo
+let_go n = record { present = bases n.present; saved = bases n.saved }
+
+-- The same after a step that was answered. A node lets go of messages by an acknowledgement alone, up to its
+-- number; a save and a restart make two nodes alike.
+abbrev pub let_go_after : LetGo → Step → Outcome → LetGo
+let_go_after b (step.Save i) o = record b { saved = slice_set b.saved i (slice_index_or b.present i []) }
+let_go_after b (step.Restart i) o = record b { present = slice_set b.present i (slice_index_or b.saved i []) }
+let_go_after b (step.Hand from to) (outcome.Handed number) =
+    record b { present = slice_set b.present from (slice_set (slice_index_or b.present from []) to (max number (slice_index_or (slice_index_or b.present from []) to 0))) }
+let_go_after b s o = b
 
 -- the present node of a number, in numbers
 abbrev pub summary_at : World → ℕ → Option Summary

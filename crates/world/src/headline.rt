@@ -1,8 +1,8 @@
-ghost use Rattle.laws.specs.Statements.{CutsExtend, ReachIsLive, TargetsAreLive, NoneRefusedInTurn, NoneBeyond, NoneRefusedBeyond};
+ghost use Rattle.laws.specs.Statements.{CutsExtend, ReachIsLive, TargetsAreLive, NoneRefusedInTurn, NoneBeyond, HandsGoThrough, AcknowledgedStays, AcknowledgedIsTakenIn};
 
 /// The headline, over every list of steps of every space: events of programs, deliveries, losses,
-/// repeats, reorderings, saves and restarts. This does nothing: its contract is the theorems, and
-/// [`Sim::step`](crate::Sim::step) speaks of the same spaces.
+/// repeats, reorderings, acknowledgements, saves and restarts. This does nothing: its contract is the
+/// theorems, and [`Sim::step`](crate::Sim::step) speaks of the same spaces.
 pub fn laws()
     // Whatever a run does after some moment, each choice of present and saved states is one of that
     // moment's choices followed by steps without saves and restarts.
@@ -14,8 +14,11 @@ pub fn laws()
     ensures targets { TargetsAreLive }
     // No released message, given in its turn or again, is refused as one for another node or space.
     ensures in_turn { NoneRefusedInTurn }
-    // What a saved node has taken in, its sender's saved state has sent; so no acknowledgement is refused
-    // as one of more than was released.
+    // What a saved node has taken in, its sender's saved state has sent; so what is acknowledged may be
+    // handed over at any time, and is never refused.
     ensures within { NoneBeyond }
-    ensures acknowledged { NoneRefusedBeyond }
+    ensures hands { HandsGoThrough }
+    // What was acknowledged once stays so, and the receiver's present state has taken it in.
+    ensures stays { AcknowledgedStays }
+    ensures taken_in { AcknowledgedIsTakenIn }
 {}

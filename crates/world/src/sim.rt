@@ -7,12 +7,12 @@ ghost use Rattle.model.specs.View.{new_view};
 ghost use Rattle.model.specs.World.{World, new_world, take_step, is_own_step, is_step_memory_free};
 ghost use Rattle.model.specs.declared.step.Step.TheVariants as step;
 ghost use Rattle.world.specs.Outboxes.{numbered_bytes};
-ghost use Rattle.world.specs.Shows.{ShowsWorld, FollowsStep, view_at, summary_at, frames_of};
+ghost use Rattle.world.specs.Shows.{ShowsWorld, FollowsStep, let_go, let_go_after, view_at, summary_at, frames_of};
 
 use crate::outbox::{Outbox, new_outboxes, release_all, stage_all};
 use ids::{NodeId, Refusal, Shape};
 use model::{Event, Outcome, Step};
-use msg::{Ack, Frame, decode, encode};
+use msg::{Ack, Frame, decode};
 use node::{Node, Summary};
 use std::alloc::Global;
 use std::marker::Model;
@@ -55,12 +55,14 @@ impl Sim {
 
     /// Takes one step. `NoNode` where the step names a node that the space doesn't have, before anything
     /// else; else what the node refuses, and `Memory` where a growth was refused. A refused step changes
-    /// nothing. An event that takes no memory of its node takes none here, and neither does a delivery of
-    /// a message that was taken in before.
+    /// nothing. No growth is wanted by an event that its node never refuses memory, by the delivery of
+    /// nothing or of a message that was taken in before, and by an acknowledgement. That alone lets go of
+    /// messages, of those up to its number.
     pub fn step(&mut self, step: Step) -> Result<Outcome, Refusal>
         requires own { IsTrue (is_own_step step) }
         ensures follows { (w : World) → ShowsWorld self.old w → FollowsStep result self.new (take_step w step) }
         ensures memory_free { (w : World) → ShowsWorld self.old w → IsTrue (is_step_memory_free w step) → IfErr result (λ e. e ≢ Memory) }
+        ensures lets_go { IfOk result (λ o. let_go self.new ≡ let_go_after (let_go self.old) step o) }
         ensures unchanged { OnErr result (self.new ≡ self.old) }
     {
         match step {
@@ -97,6 +99,7 @@ impl Sim {
         requires own { IsTrue (is_own event) }
         ensures follows { (w : World) → ShowsWorld self.old w → FollowsStep result self.new (take_step w (step.Act node event)) }
         ensures memory_free { (w : World) → ShowsWorld self.old w → IsTrue (is_step_memory_free w (step.Act node event)) → IfErr result (λ e. e ≢ Memory) }
+        ensures lets_go { IfOk result (λ o. let_go self.new ≡ let_go_after (let_go self.old) (step.Act node event) o) }
         ensures unchanged { OnErr result (self.new ≡ self.old) }
     {
         if node >= self.count() {
@@ -109,6 +112,8 @@ impl Sim {
 
     fn save(&mut self, node: u8) -> Result<Outcome, Refusal>
         ensures follows { (w : World) → ShowsWorld self.old w → FollowsStep result self.new (take_step w (step.Save node)) }
+        ensures memory_free { (w : World) → ShowsWorld self.old w → IsTrue (is_step_memory_free w (step.Save node)) → IfErr result (λ e. e ≢ Memory) }
+        ensures lets_go { IfOk result (λ o. let_go self.new ≡ let_go_after (let_go self.old) (step.Save node) o) }
         ensures unchanged { OnErr result (self.new ≡ self.old) }
     {
         if node >= self.count() {
@@ -130,6 +135,8 @@ impl Sim {
 
     fn restart(&mut self, node: u8) -> Result<Outcome, Refusal>
         ensures follows { (w : World) → ShowsWorld self.old w → FollowsStep result self.new (take_step w (step.Restart node)) }
+        ensures memory_free { (w : World) → ShowsWorld self.old w → IsTrue (is_step_memory_free w (step.Restart node)) → IfErr result (λ e. e ≢ Memory) }
+        ensures lets_go { IfOk result (λ o. let_go self.new ≡ let_go_after (let_go self.old) (step.Restart node) o) }
         ensures unchanged { OnErr result (self.new ≡ self.old) }
     {
         if node >= self.count() {
@@ -145,6 +152,7 @@ impl Sim {
     fn deliver(&mut self, from: u8, to: u8, number: u64) -> Result<Outcome, Refusal>
         ensures follows { (w : World) → ShowsWorld self.old w → FollowsStep result self.new (take_step w (step.Deliver from to number)) }
         ensures memory_free { (w : World) → ShowsWorld self.old w → IsTrue (is_step_memory_free w (step.Deliver from to number)) → IfErr result (λ e. e ≢ Memory) }
+        ensures lets_go { IfOk result (λ o. let_go self.new ≡ let_go_after (let_go self.old) (step.Deliver from to number) o) }
         ensures unchanged { OnErr result (self.new ≡ self.old) }
     {
         let count = self.count();
@@ -168,6 +176,8 @@ impl Sim {
 
     fn hand(&mut self, from: u8, to: u8) -> Result<Outcome, Refusal>
         ensures follows { (w : World) → ShowsWorld self.old w → FollowsStep result self.new (take_step w (step.Hand from to)) }
+        ensures memory_free { (w : World) → ShowsWorld self.old w → IsTrue (is_step_memory_free w (step.Hand from to)) → IfErr result (λ e. e ≢ Memory) }
+        ensures lets_go { IfOk result (λ o. let_go self.new ≡ let_go_after (let_go self.old) (step.Hand from to) o) }
         ensures unchanged { OnErr result (self.new ≡ self.old) }
     {
         let count = self.count();
@@ -177,30 +187,28 @@ impl Sim {
         if from == to {
             return Ok(Outcome::NoFrame);
         }
-        let ack = self.acknowledgement(from, to)?;
+        let ack = self.acknowledgement(from, to);
+        // The node makes this test too; made here, no node lets go of a message that has no frame, whatever
+        // the nodes show.
         if ack.number > self.release_count(from, to) {
             return Err(Refusal::AckBeyond);
         }
         let present = &mut self.present[usize::from(from)];
+        present.sound();
         present.act(Event::Ack(ack))?;
         Ok(Outcome::Handed(ack.number))
     }
 
-    /// What the saved node `to` acknowledges to the node `from`, as it is read from its frame's bytes.
-    fn acknowledgement(&self, from: u8, to: u8) -> Result<Ack, Refusal>
+    /// What the saved node `to` acknowledges to the node `from`.
+    fn acknowledgement(&self, from: u8, to: u8) -> Ack
         requires from { from < length self.now.present }
         requires to { to < length self.now.present }
         requires apart { from ≢ to }
-        ensures found { IfOk result (λ a. (a.from ≡ to) × (a.to ≡ from) × (a.number ≡ slice_index_or (view_at self.now.saved to).acks from 0)) }
-        ensures refused { IfErr result (λ e. e ≡ Memory) }
+        ensures { (result.from ≡ to) × (result.to ≡ from) × (result.number ≡ slice_index_or (view_at self.now.saved to).acks from 0) }
     {
         let saved = &self.saved[usize::from(to)];
-        let Some(frame) = saved.ack_for(from) else {
-            unreachable!()
-        };
-        let bytes = encode(self.alloc, &frame)?;
-        match decode(&bytes) {
-            Ok(Frame::Ack(ack)) => Ok(ack),
+        match saved.ack_for(from) {
+            Some(Frame::Ack(ack)) => ack,
             _ => unreachable!(),
         }
     }

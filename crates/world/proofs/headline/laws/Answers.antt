@@ -1,6 +1,6 @@
 use Rattle.laws.proofs.Cuts.{cuts-extend}
 use Rattle.laws.proofs.Live.{reach-is-live}
-use Rattle.laws.proofs.Acknowledged.{none-beyond, none-refused-beyond}
+use Rattle.laws.proofs.Acknowledged.{none-beyond, hands-go-through, acknowledged-stays, acknowledged-is-taken-in}
 use Rattle.laws.proofs.Deliveries.{targets-are-live, none-refused-in-turn}
 use Rattle.world.proofs.headline.laws.Goals as goal
 
@@ -19,5 +19,11 @@ returns-clause-in_turn c = none-refused-in-turn
 pub returns-clause-within : goal.returns-clause-within
 returns-clause-within c = none-beyond
 
-pub returns-clause-acknowledged : goal.returns-clause-acknowledged
-returns-clause-acknowledged c = none-refused-beyond
+pub returns-clause-hands : goal.returns-clause-hands
+returns-clause-hands c = hands-go-through
+
+pub returns-clause-stays : goal.returns-clause-stays
+returns-clause-stays c = acknowledged-stays
+
+pub returns-clause-taken_in : goal.returns-clause-taken_in
+returns-clause-taken_in c = acknowledged-is-taken-in
