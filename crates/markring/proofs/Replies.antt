@@ -1,12 +1,13 @@
 -- How a script's space follows the definitions.
-use Rattle.std.proofs.Common.{Result, Ok, Err, refl, inl}
+use Rattle.std.proofs.Common.{◌≡◌, ◌≢◌, true, Ok, refl, inl}
 use Rattle.ids.specs.Limits.{Shaped}
 use Rattle.ids.specs.declared.refusal.Refusal.{Refusal}
-use Rattle.model.specs.World.{World, new_world, take_step}
+use Rattle.ids.specs.declared.refusal.Refusal.TheVariants.{Memory}
+use Rattle.model.specs.Checks.{IsFirstRefusal}
+use Rattle.model.specs.World.{World, new_world, is_step_memory_free, take_step}
 use Rattle.model.specs.declared.step.Step.{Step}
 use Rattle.model.specs.declared.step.Outcome.{Outcome}
 use Rattle.model.specs.declared.step.Outcome.TheVariants as outcome
-use Rattle.markring.specs.declared.script.Reply.{Reply}
 use Rattle.markring.specs.declared.script.Reply.TheVariants as reply
 use Rattle.markring.specs.declared.script.State.TheVariants as state
 use Rattle.markring.specs.Script.{Held, awaited, denied, there, ShowsHeld, TakesSpace, TakesStep}
@@ -18,13 +19,14 @@ module _ {S : Type 0} (shows : S → World → Type 0) where
   made_shows denied sizes x shown made = absurd shown
   made_shows (there w) sizes x shown made = absurd shown
 
-  -- what is printed for a step's result
-  abbrev pub reply_of : Result Outcome Refusal → Reply
-  reply_of (Ok o) = reply.Outcome o
-  reply_of (Err e) = reply.Refused e
+  -- a step that was taken
+  pub outcome_shows : (h : Held) (step : Step) (x y : S) (o : Outcome) → ShowsHeld shows (state.Open x) h → ((w : World) → shows x w → FollowsStep shows w (Ok o) y (take_step w step)) → (k : Held) × TakesStep h step (reply.Outcome o) k × ShowsHeld shows (state.Open y) k
+  outcome_shows awaited step x y o shown follows = absurd shown
+  outcome_shows denied step x y o shown follows = absurd shown
+  outcome_shows (there w) step x y o shown follows = let f = follows w shown in (there f.0, (f.0, f.1, refl), f.2)
 
-  pub step_shows : (h : Held) (step : Step) (x y : S) (r : Result Outcome Refusal) → ShowsHeld shows (state.Open x) h → ((w : World) → shows x w → FollowsStep shows w r y (take_step w step)) → (k : Held) × TakesStep h step (reply_of r) k × ShowsHeld shows (state.Open y) k
-  step_shows awaited step x y r shown follows = absurd shown
-  step_shows denied step x y r shown follows = absurd shown
-  step_shows (there w) step x y (Ok o) shown follows = let f = follows w shown in (there f.0, (f.0, f.1, refl), f.2)
-  step_shows (there w) step x y (Err e) shown follows = let f = follows w shown in (there w, (f.0, refl), f.1)
+  -- one that was refused
+  pub refusal_shows : (h : Held) (step : Step) (x y : S) (e : Refusal) → ShowsHeld shows (state.Open x) h → ((w : World) → shows x w → IsFirstRefusal e (take_step w step)) → ((w : World) → shows x w → is_step_memory_free w step ≡ true → e ≢ Memory) → ((w : World) → shows x w → shows y w) → (k : Held) × TakesStep h step (reply.Refused e) k × ShowsHeld shows (state.Open y) k
+  refusal_shows awaited step x y e shown first free same = absurd shown
+  refusal_shows denied step x y e shown first free same = absurd shown
+  refusal_shows (there w) step x y e shown first free same = (there w, (first w shown, free w shown, refl), same w shown)

@@ -1,13 +1,11 @@
 -- What a script prints, and the status that it ends with.
-use Rattle.std.specs.Prelude.{◌≡◌, ℕ, ◌+◌, max, List, [], ◌∷◌, ◌++◌, ◌⊎◌, Option, Some, None, IfSome, Result, Ok, codes, decimal}
+use Rattle.std.specs.Prelude.{◌≡◌, ◌≢◌, ℕ, ◌+◌, true, max, List, [], ◌∷◌, ◌++◌, ◌⊎◌, Option, Some, None, IfSome, Ok, codes, decimal}
 use Rattle.std.specs.Io.KnownBytes.{Appends}
 use Rattle.std.specs.Str.Lines.{lines}
 use Rattle.ids.specs.Limits.{Shaped, IsShape}
-use Rattle.ids.specs.declared.refusal.Refusal.{Refusal}
 use Rattle.ids.specs.declared.refusal.Refusal.TheVariants.{Memory, NoNode}
 use Rattle.model.specs.Checks.{IsFirstRefusal}
-use Rattle.model.specs.World.{World, new_world, take_step}
-use Rattle.model.specs.declared.step.Outcome.{Outcome}
+use Rattle.model.specs.World.{World, new_world, is_step_memory_free, take_step}
 use Rattle.model.specs.declared.step.Outcome.TheVariants as outcome
 use Rattle.model.specs.declared.step.Step.{Step}
 use Rattle.markring.specs.declared.line.Line.{Line}
@@ -38,18 +36,20 @@ ShowsHeld shows s h = ⊥
 abbrev pub Moves : {S : Type 0} → (S → World → Type 0) → (Held → Held → Type 0) → State S → State S → Type 0
 Moves shows becomes old new = (h : Held) → ShowsHeld shows old h → (later : Held) × becomes h later × ShowsHeld shows new later
 
--- what is printed for a step that the definitions answer so, and the space afterwards
-abbrev pub IsStepReply : World → Result (World × Outcome) Refusal → Reply → Held → Type 0
-IsStepReply w stepped (reply.Outcome o) later = (v : World) × (stepped ≡ Ok (v, o)) × (later ≡ there v)
-IsStepReply w stepped (reply.Refused e) later = IsFirstRefusal e stepped × (later ≡ there w)
-IsStepReply w stepped reply.Nothing later = ⊥
-IsStepReply w stepped (reply.Summary s) later = ⊥
-IsStepReply w stepped reply.NoCommand later = ⊥
+-- what is printed for a step of a space that is there, and the space afterwards; a step that takes no
+-- memory is not refused for want of it
+abbrev pub IsStepReply : World → Step → Reply → Held → Type 0
+IsStepReply w step (reply.Outcome o) later = (v : World) × (take_step w step ≡ Ok (v, o)) × (later ≡ there v)
+IsStepReply w step (reply.Refused e) later =
+    IsFirstRefusal e (take_step w step) × (is_step_memory_free w step ≡ true → e ≢ Memory) × (later ≡ there w)
+IsStepReply w step reply.Nothing later = ⊥
+IsStepReply w step (reply.Summary s) later = ⊥
+IsStepReply w step reply.NoCommand later = ⊥
 
 abbrev pub TakesStep : Held → Step → Reply → Held → Type 0
 TakesStep awaited step r later = (r ≡ reply.NoCommand) × (later ≡ awaited)
 TakesStep denied step r later = (r ≡ reply.Refused Memory) × (later ≡ denied)
-TakesStep (there w) step r later = IsStepReply w (take_step w step) r later
+TakesStep (there w) step r later = IsStepReply w step r later
 
 -- what is printed for a node in numbers, where there is such a node
 abbrev pub state_reply : Option Summary → Reply

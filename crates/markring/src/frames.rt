@@ -1,5 +1,5 @@
 //! Frames, read from the words that spell their bytes.
-ghost use Rattle.std.specs.Prelude.{◌≡◌, ◌∷◌, [], ◌++◌, IfOk};
+ghost use Rattle.std.specs.Prelude.{◌≡◌, ◌≤◌, ◌∷◌, [], ◌++◌, ◌⊎◌, IfOk};
 ghost use Rattle.std.specs.Io.KnownBytes.{Appends};
 ghost use Rattle.markring.specs.Frames.{PrintsDecoded, PrintsSpelled};
 ghost use Rattle.markring.specs.Text.{refusal_text};
@@ -14,11 +14,22 @@ use std::io;
 use std::io::Write;
 
 /// Prints the frame that the word spells, two hexadecimal digits of either case for each byte, and
-/// answers the status: 0. Where the bytes spell no frame, as no bytes at all, it prints the refusal
-/// [`Refusal::BadFrame`]; where memory is refused, [`Refusal::Memory`]; and the status is 1. Where the
-/// word is no hexadecimal digits or an odd number of them, it says that words are refused, and the status
-/// is 2. The error is that output failed.
-pub fn decode<W: Write>(alloc: Global, word: &str, out: &mut W) -> io::Result<u8>
+/// answers the program's status: 0. Where the bytes spell no frame, as no bytes at all, it prints the
+/// refusal [`Refusal::BadFrame`]; where memory is refused, [`Refusal::Memory`]; and the status is 1. Where
+/// the word is no hexadecimal digits or an odd number of them, it says that words are refused, and the
+/// status is 2. Where output failed, the status is 1, whatever was printed.
+pub fn decode<W: Write>(alloc: Global, word: &str, out: &mut W) -> u8
+    ensures status { PrintsDecoded word.now result (W.contents out.old) (W.contents out.new) ⊎ (result ≡ 1) }
+    ensures small { result ≤ 2 }
+{
+    match print_decoded(alloc, word, out) {
+        Ok(status) => status,
+        Err(_) => REFUSED,
+    }
+}
+
+/// Prints what the word spells, and answers the status; the error is that output failed.
+fn print_decoded<W: Write>(alloc: Global, word: &str, out: &mut W) -> io::Result<u8>
     ensures { IfOk result (λ status. PrintsDecoded word.now status (W.contents out.old) (W.contents out.new)) }
 {
     match hex::decode(alloc, word) {

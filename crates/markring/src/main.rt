@@ -33,7 +33,7 @@ fn run<R: Env + Files + Input + Print + AllocGlobal>(rt: &R) -> Result<u8, Words
     match Command::read(alloc, words.as_slice())? {
         Command::Sim { script: None } => Ok(sim(alloc, rt.reader(), io::writer(rt))),
         Command::Sim { script: Some(path) } => Ok(sim_file(rt, path)),
-        Command::Decode { hex } => Ok(decode(alloc, hex, &mut io::writer(rt)).unwrap_or(REFUSED)),
+        Command::Decode { hex } => Ok(decode(alloc, hex, &mut io::writer(rt))),
     }
 }
 

@@ -1,7 +1,7 @@
 //! Runs a script over a space of nodes.
 ghost use Rattle.std.specs.Prelude.{◌≡◌, ◌≤◌, IfOk, IfErr, IsTrue, ◌≢◌};
 ghost use Rattle.ids.specs.declared.refusal.Refusal.TheVariants.{Memory};
-ghost use Rattle.model.specs.World.{World, new_world, is_own_step, take_step};
+ghost use Rattle.model.specs.World.{World, new_world, is_own_step, is_step_memory_free, take_step};
 ghost use Rattle.world.specs.Shows.{ShowsWorld, summary_at};
 ghost use Rattle.markring.specs.Space.{FollowsStep};
 ghost use Rattle.markring.specs.Grammar.{line_of, words_of};
@@ -36,10 +36,12 @@ trait Space: Drop + Sized {
         ensures made { IfOk result (λ s. shows s (new_world shape)) }
         ensures refused { IfErr result (λ e. e ≡ Memory) };
 
-    /// Takes a step, or refuses it and changes nothing.
+    /// Takes a step, or refuses it and changes nothing. A step that takes no memory is not refused for
+    /// want of it.
     fn step(&mut self, step: Step) -> Result<Outcome, Refusal>
         requires own { IsTrue (is_own_step step) }
-        ensures follows { (w : World) → shows self.old w → FollowsStep shows w result self.new (take_step w step) };
+        ensures follows { (w : World) → shows self.old w → FollowsStep shows w result self.new (take_step w step) }
+        ensures memory_free { (w : World) → shows self.old w → IsTrue (is_step_memory_free w step) → IfErr result (λ e. e ≢ Memory) };
 
     /// The node of this number in numbers, if there is one.
     fn state(&self, number: u8) -> Option<Summary>

@@ -696,12 +696,20 @@ fn full_window(rt: &impl Abort, memory: Global) -> Result<Node, Refusal> {
     Ok(sender)
 }
 
+// These places of its window have the messages of the numbers beside them.
+fn find_all(rt: &impl Abort, sender: &Node, rows: &[(u8, u64)]) {
+    for (place, number) in rows {
+        let sent = Frame::Data(message(rt, *number, 0, give_body(7, None)));
+        assert_eq!(rt; sender.frame_at(1, *place), Some(sent), "{place}");
+        assert_eq!(rt; sender.numbered_frame(1, *number), Some(sent), "{number}");
+    }
+}
+
 #[test]
 fn a_window_has_thirty_two_places(rt: HostRuntime) -> Result<(), Refusal> {
     let sender = full_window(&rt, rt.alloc())?;
     assert_eq!(rt; sender.appended(1), 33);
-    let last = Frame::Data(message(&rt, 32, 0, give_body(7, None)));
-    assert_eq!(rt; sender.frame_at(1, 31), Some(last));
+    find_all(&rt, &sender, &[(0, 1), (31, 32)]);
     assert_eq!(rt; sender.frame_at(1, 32), None);
     let beyond = Frame::Data(message(&rt, 33, 0, give_body(7, None)));
     assert_eq!(rt; sender.numbered_frame(1, 33), Some(beyond));
@@ -712,15 +720,14 @@ fn a_window_has_thirty_two_places(rt: HostRuntime) -> Result<(), Refusal> {
 fn an_acknowledgement_moves_the_window(rt: HostRuntime) -> Result<(), Refusal> {
     let mut sender = full_window(&rt, rt.alloc())?;
     let before = sender.state();
+    let beyond = [(ack(&rt, 1, 0, 34), Refusal::AckBeyond)];
+    refuse_all(&rt, &mut sender, 1, &beyond);
+    find_all(&rt, &sender, &[(0, 1), (31, 32)]);
     assert_eq!(rt; sender.act(ack(&rt, 1, 0, 1)), Ok(Answer::Done));
     assert_eq!(rt; sender.state(), before);
     assert_eq!(rt; sender.appended(1), 33);
     assert_eq!(rt; sender.numbered_frame(1, 1), None);
-    for (place, number) in [(0, 2), (30, 32), (31, 33)] {
-        let sent = Frame::Data(message(&rt, number, 0, give_body(7, None)));
-        assert_eq!(rt; sender.frame_at(1, place), Some(sent), "{place}");
-        assert_eq!(rt; sender.numbered_frame(1, number), Some(sent), "{number}");
-    }
+    find_all(&rt, &sender, &[(0, 2), (30, 32), (31, 33)]);
     let moved = shown(&sender, 1);
     for number in [0, 1] {
         assert_eq!(rt;
@@ -729,6 +736,7 @@ fn an_acknowledgement_moves_the_window(rt: HostRuntime) -> Result<(), Refusal> {
             "{number}"
         );
         assert_eq!(rt; shown(&sender, 1), moved, "{number}");
+        find_all(&rt, &sender, &[(0, 2), (31, 33)]);
     }
     assert_eq!(rt; sender.act(ack(&rt, 1, 0, 33)), Ok(Answer::Done));
     assert_eq!(rt; sender.state(), before);
@@ -837,5 +845,6 @@ fn a_copy_goes_its_own_way(rt: HostRuntime) -> Result<(), Refusal> {
     assert_eq!(rt; (copy.state().live, original.state().live), (2, 1));
     assert_eq!(rt; copy.act(set_word(1, 5)), Ok(Answer::Done));
     assert_eq!(rt; original.act(word(1)), Ok(Answer::Word(0)));
+    copy.sound();
     Ok(())
 }

@@ -1,4 +1,4 @@
-use super::{Command, WordsError};
+use super::{Command, WordsError, print_refused_words};
 use std::alloc::{AllocError, Global};
 use std::test::Fail;
 
@@ -73,6 +73,16 @@ fn other_words_are_unknown(rt: HostRuntime) -> Result<(), Fail> {
         let words = owned(rt.alloc(), words)?;
         let command = Command::read(rt.alloc(), words.as_slice());
         assert_eq!(rt; command, Err(WordsError::Unknown));
+    }
+    Ok(())
+}
+
+#[test]
+fn refused_words_have_a_text_and_a_status(rt: HostRuntime) -> Result<(), Fail> {
+    for (error, status) in [(WordsError::OutOfMemory, 1), (WordsError::Unknown, 2)] {
+        let mut out = Vec::new(rt.alloc());
+        assert_eq!(rt; print_refused_words(&mut out, error)?, status);
+        assert_eq!(rt; out.as_slice(), b"words refused\n".as_slice());
     }
     Ok(())
 }

@@ -50,7 +50,7 @@ loop-index-preserved g c =
     let contents = g.W.Write.contents in
     printed_more g.S.Space.shows c.args.script.now c.loop-index.index-iterator c.next.new.self c.loop-index.state c.take_line.new.state
     c.loop-index.status (contents c.args.out.now) (contents c.loop-index.out) (contents c.writeln-in-Refused.new.self) before
-    c.in-Some.index c.in-Some.text c.in-Some.ensures.steps (reply.Refused c.in-Refused.refusal) 1 c.in-Refused.ensures refl (omega (arith, before.small)) (omega arith)
+    c.in-Some.index c.in-Some.text c.in-Some.ensures.steps (reply.Refused c.in-Refused.refusal) _ c.in-Refused.ensures refl (omega (arith, before.small)) (omega arith)
     c.in_ok-writeln-in-Refused.ensures.bytes
 
 -- a line outside the grammar

@@ -1,4 +1,4 @@
-use Rattle.std.proofs.Common.{◌≡◌, List, subst, sym, ◌∙◌, true}
+use Rattle.std.proofs.Common.{◌≡◌, ◌<◌, List, subst, sym, ◌∙◌, true, arith}
 use Rattle.model.specs.Steps.{is_addressed}
 use Rattle.model.specs.View.{Link, NodeView}
 use Rattle.node.specs.Inside.{view_of}
@@ -11,7 +11,8 @@ invariant_of-self-2 c =
     let n : NodeView = view_of c.self.inside in
     let done = c.in_ok-trim.ensures.done in
     let addressed : is_addressed n.part c.args.ack.from c.args.ack.to ≡ true = subst (λ (m : NodeView). is_addressed m.part c.args.ack.from c.args.ack.to ≡ true) (sym c.self.view_is) (sym c.is_addressed.ensures ∙ c.if-not-is_addressed.false) in
+    let there : c.args.ack.from < n.part.shape.nodes = addressed-from n c.args.ack.from c.args.ack.to addressed in
     record {
-      node = subst (λ (ls : List Link). IsNode (record n { links = ls })) (sym done.1) (node-trimmed n c.args.ack.from c.args.ack.number c.self.invariant.node (addressed-from n c.args.ack.from c.args.ack.to addressed) done.0);
+      node = subst (λ (ls : List Link). IsNode (record n { links = ls })) (sym done.1) (node-trimmed n _ _ c.self.invariant.node (omega (arith, there)) done.0);
       limit = c.self.invariant.limit;
     }
