@@ -1,7 +1,7 @@
 -- What each change of an arena's slots keeps.
 use Rattle.std.proofs.Common.{◌≡◌, ◌≢◌, ◌⊎◌, ℕ, zero, suc, ◌<◌, ◌≤◌, List, [], ◌∷◌, ◌++◌, length, get_or, set, refl, ap, subst, inl, inr, arith}
 use Rattle.std.proofs.lemmas.Bool.{cases_eq}
-use Rattle.std.proofs.lemmas.List.{get_or-set_same, get_or-set_other, length-set, length_push}
+use Rattle.std.proofs.lemmas.List.{get_or-set_same, get_or-set_other, length-set}
 use Rattle.arena.specs.Arena.{Has, plain, IsFree, IsBorn, IsSound}
 use Rattle.arena.specs.declared.Slot.{Slot}
 use Rattle.arena.specs.declared.Slot.TheVariants.{Free, Occupied, Retired}
@@ -92,28 +92,6 @@ module _ {T : Type 0} where
         ];
         listed = λ i free. elim (at_set slots k i s Retired within) [
           | inl here ↦ absurd (stays (subst IsFree here.1 free))
-          | inr there ↦ sound.listed i (subst IsFree there.1 free)
-        ];
-        once = sound.once;
-      }
-
-  -- a fresh slot gets a value
-  pub IsSound-push : (slots : List (Slot T)) (ks : List ℕ) (limit : ℕ) (x : T) → length slots < limit → IsSound (plain slots ks limit) → IsSound (plain (slots ++ Occupied FIRST_GENERATION x ∷ []) ks limit)
-  IsSound-push slots ks limit x room sound =
-      let s = Occupied FIRST_GENERATION x in
-      record {
-        small = sound.small;
-        within = rw length_push (omega arith);
-        born = λ i. elim (at_push slots s Retired i) [
-          | inl here ↦ rw here.1 (omega arith)
-          | inr there ↦ rw there.1 (sound.born i)
-        ];
-        named = λ i has. elim (at_push slots s Retired i) [
-          | inl here ↦ absurd (omega (arith, free_within slots i (sound.named i has)))
-          | inr there ↦ rw there.1 (sound.named i has)
-        ];
-        listed = λ i free. elim (at_push slots s Retired i) [
-          | inl here ↦ absurd (subst IsFree here.1 free)
           | inr there ↦ sound.listed i (subst IsFree there.1 free)
         ];
         once = sound.once;

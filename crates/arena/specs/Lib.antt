@@ -3,4 +3,3 @@ pub mod Entry
 pub mod LendsItem
 pub mod LendsValue
 pub mod Row
-pub mod Seen

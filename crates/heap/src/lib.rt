@@ -1,7 +1,7 @@
 //! A node's heap: its objects in numbered slots, its registers, its letters, and its grey objects.
 #![tactic(auto)]
 
-ghost use Rattle.std.specs.Prelude.{◌≡◌, ◌<◌, ◌≤◌, [], ◌∷◌, length, count_by, Ok, Err, OnOk, OnErr, IfOk, IfErr, option_copied};
+ghost use Rattle.std.specs.Prelude.{◌≡◌, ◌<◌, ◌≤◌, length, count_by, Ok, Err, OnOk, OnErr, IfOk, IfErr, option_copied};
 ghost use Rattle.ids.specs.Limits.{IsReference};
 ghost use Rattle.ids.specs.declared.limits.TheConstants.{GREATEST_NODES};
 ghost use Rattle.ids.specs.declared.refusal.Refusal.TheVariants as Refusal;

@@ -6,4 +6,3 @@ pub mod Lookups
 pub mod IdleWrites
 pub mod Shown
 pub mod References
-pub mod Messages

@@ -1,12 +1,10 @@
 -- Each change of a heap keeps a property of all references that the heap holds.
-use Rattle.std.proofs.Common.{◌≡◌, ℕ, zero, suc, true, cond, ◌==◌, List, [], ◌∷◌, drop, replicate, get_or, Option, Some, None, is_some, refl, sym, subst}
-use Rattle.std.specs.Option.{unwrap_or}
+use Rattle.std.proofs.Common.{◌≡◌, ℕ, zero, suc, cond, ◌==◌, List, [], ◌∷◌, replicate, get_or, Option, Some, None, refl, subst}
 use Rattle.std.proofs.lemmas.Bool.{cond_both}
 use Rattle.ids.specs.Limits.{Shaped}
 use Rattle.ids.specs.declared.names.Ref.{Ref}
-use Rattle.model.specs.declared.event.Letter.{Letter}
-use Rattle.model.specs.State.{Object, Slot, Free, Occupied, Retired, Heap, register_at, new_heap}
-use Rattle.model.specs.Heaps.{with_register, with_object, with_letter, letter_taken, oldest_letter, new_object, no_letter, next_generation, slots_with, object_of, object_at, place_of, rewritten, with_rewritten, with_place, with_word, no_reference, named, is_filled}
+use Rattle.model.specs.State.{Object, Slot, Free, Occupied, Retired, Heap, new_heap}
+use Rattle.model.specs.Heaps.{with_register, with_object, new_object, next_generation, slots_with, object_of, object_at, place_of, rewritten, with_rewritten, with_place, with_word}
 use Rattle.model.specs.References.{IfAny, HoldsOnly}
 use Rattle.model.proofs.Lookups.{at_set, at_push}
 
@@ -51,10 +49,6 @@ holds-with_object P h cycle places all = record {
   places = λ k g o j e. places-slots_with P h.free h.slots cycle places k (λ g o j. all.places k g o j) g o j e;
 }
 
-get_or-drop_one : {A : Type 0} (xs : List A) (k : ℕ) (d : A) → get_or (drop 1 xs) k d ≡ get_or xs (suc k) d
-get_or-drop_one [] k d = refl
-get_or-drop_one (x ∷ xs) k d = refl
-
 -- a rewritten object, where what rewrites it keeps the property of its places
 rewritten_slot : (P : Ref → Type 0) (f : Object → Object) (generation : ℕ) (s : Slot) → ((o : Object) (j : ℕ) → IfAny P (get_or o.places j None) → IfAny P (get_or (f o).places j None)) → SlotHolds P s → SlotHolds P (rewritten f generation s)
 rewritten_slot P f generation (Free k) keeps h g o j e = absurd cc
@@ -89,25 +83,3 @@ place_of-object P Retired generation place h = tt
 -- what stands in a place has the property
 pub holds-place_of : (P : Ref → Type 0) (h : Heap) (r : Ref) (place : ℕ) → HoldsOnly P h → IfAny P (place_of (object_at h r) place)
 holds-place_of P h r place all = place_of-object P (get_or h.slots r.slot Retired) r.generation place (λ g o j. all.places r.slot g o j)
-
--- what a register names has it, where the register isn't empty
-pub holds-named : (P : Ref → Type 0) (h : Heap) (k : ℕ) → HoldsOnly P h → is_filled h k ≡ true → P (named h k)
-holds-named P h k all filled = some_holds (register_at h k) filled (all.registers k) where
-  some_holds : (r : Option Ref) → is_some r ≡ true → IfAny P r → P (unwrap_or r no_reference)
-  some_holds None e there = absurd cc
-  some_holds (Some r) e there = there
-
-pub holds-letter_taken : (P : Ref → Type 0) (h : Heap) (register : ℕ) → HoldsOnly P h → HoldsOnly P (letter_taken h register)
-holds-letter_taken P h register all =
-    holds-with_register P (record h { letters = drop 1 h.letters }) register (oldest_letter h).reference (record {
-      registers = all.registers;
-      letters = λ k. subst (λ (z : Letter). IfAny P z.reference) (sym (get_or-drop_one h.letters k no_letter)) (all.letters (suc k));
-      places = all.places;
-    }) (all.letters 0)
-
-pub holds-with_letter : (P : Ref → Type 0) (h : Heap) (l : Letter) → HoldsOnly P h → IfAny P l.reference → HoldsOnly P (with_letter h l)
-holds-with_letter P h l all here = record {
-  registers = all.registers;
-  letters = λ k. at_push (λ (z : Letter). IfAny P z.reference) h.letters k l no_letter here tt (all.letters k);
-  places = all.places;
-}

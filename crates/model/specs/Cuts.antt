@@ -1,5 +1,5 @@
 -- What can be reached in a space ("Cuts and reach" in docs/RULES.md).
-use Rattle.std.specs.Prelude.{◌≡◌, ◌≢◌, ℕ, ◌+◌, ◌≤◌, Bool, true, cond, List, [], ◌∷◌, drop, Some, None, Ok, slice_get, slice_index_or, ◌⊎◌}
+use Rattle.std.specs.Prelude.{◌≡◌, ◌≢◌, ℕ, ◌+◌, ◌≤◌, Bool, true, cond, List, [], ◌∷◌, Some, None, Ok, slice_get, slice_index_or, ◌⊎◌}
 use Rattle.ids.specs.declared.names.Ref.{Ref}
 use Rattle.msg.specs.declared.body.Message.{Message}
 use Rattle.model.specs.declared.event.Event.{Event}
@@ -20,10 +20,6 @@ cut w saved i = cond (saved i) (node_at w.saved i) (node_at w.current i)
 -- how many messages of one node another has taken in
 abbrev pub taken : Cut → ℕ → ℕ → ℕ
 taken c from to = got_from (c to).part from
-
--- the messages that were sent and not taken in, first one first
-abbrev pub in_flight : Cut → ℕ → ℕ → List Message
-in_flight c from to = drop (taken c from to) (sent_to (c from) to)
 
 -- The message stands in flight at its place among all that were ever sent on its link: appending
 -- messages and taking others in doesn't move it.

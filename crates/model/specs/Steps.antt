@@ -120,6 +120,9 @@ is_addressed p from to = (to == p.own) && (nat_lt from p.shape.nodes && not (fro
 abbrev pub is_repeat : Part → ℕ → ℕ → Bool
 is_repeat p from number = nat_le number (got_from p from)
 
+abbrev pub is_next : Part → ℕ → ℕ → Bool
+is_next p from number = number == got_from p from + 1
+
 -- every reference that stands in a message
 abbrev pub mentioned : Body → List Ref
 mentioned body.Begin = []
@@ -306,7 +309,7 @@ is_own (event.Data d) = false
 is_own (event.Ack a) = false
 is_own e = true
 
--- an event that takes no memory, so that it is never refused for want of it
+-- An event that is never refused for want of memory. A message may want some in its turn alone.
 abbrev pub is_memory_free : Part → Event → Bool
 is_memory_free p (event.Copy register source) = true
 is_memory_free p (event.Drop register) = true
@@ -315,6 +318,6 @@ is_memory_free p (event.Clear object place) = true
 is_memory_free p (event.Word object) = true
 is_memory_free p (event.SetWord object word) = true
 is_memory_free p (event.Accept register) = true
-is_memory_free p (event.Data d) = is_repeat p d.from d.number
+is_memory_free p (event.Data d) = not (is_next p d.from d.number)
 is_memory_free p (event.Ack a) = true
 is_memory_free p e = false

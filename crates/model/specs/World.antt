@@ -12,7 +12,7 @@ use Rattle.model.specs.declared.step.Outcome.{Outcome}
 use Rattle.model.specs.declared.step.Outcome.TheVariants as outcome
 use Rattle.model.specs.Checks.{guarded}
 use Rattle.model.specs.State.{NodeState, new_node, node_at, got_from, sent_to}
-use Rattle.model.specs.Steps.{act, receive, is_own, is_addressed, is_repeat, is_memory_free}
+use Rattle.model.specs.Steps.{act, receive, is_own, is_addressed, is_next, is_memory_free}
 
 pub record World : Type 0 where
   pub current : List NodeState
@@ -103,11 +103,11 @@ is_own_step (step.Restart i) = true
 is_own_step (step.Deliver from to number) = true
 is_own_step (step.Hand from to) = true
 
--- a step that takes no memory, so that it is never refused for want of it
+-- a step that is never refused for want of memory
 abbrev pub is_step_memory_free : World → Step → Bool
 is_step_memory_free w (step.Act i e) = not (is_node w i) || is_memory_free (node_at w.current i).part e
 is_step_memory_free w (step.Save i) = not (is_node w i)
 is_step_memory_free w (step.Restart i) = not (is_node w i)
 is_step_memory_free w (step.Deliver from to number) =
-    not (is_node w from && is_node w to) || (not (is_some (released w from to number)) || is_repeat (node_at w.current to).part from number)
+    not (is_node w from && is_node w to) || (not (is_some (released w from to number)) || not (is_next (node_at w.current to).part from number))
 is_step_memory_free w (step.Hand from to) = true

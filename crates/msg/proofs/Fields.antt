@@ -45,9 +45,6 @@ pub record Takes (bytes text rest : List ℕ) : Type 0 where
 pub Takes-then : (a x b y c : List ℕ) → Takes a x b → Takes b y c → Takes a (x ++ y) c
 Takes-then a x b y c p q = record { parts = p.parts ∙ ap (λ (t : List ℕ). x ++ t) q.parts ∙ sym (append_assoc x y c); rest_fits = q.rest_fits }
 
-pub Takes-behind : (tag : ℕ) (bytes text rest : List ℕ) → Takes bytes text rest → Takes (tag ∷ bytes) (tag ∷ text) rest
-Takes-behind tag bytes text rest t = record { parts = ap (λ (u : List ℕ). tag ∷ u) t.parts; rest_fits = t.rest_fits }
-
 pub Takes-front : (front bytes text rest spelled : List ℕ) → spelled ≡ front ++ text → Takes bytes text rest → Takes (front ++ bytes) spelled rest
 Takes-front front bytes text rest spelled same t = record { parts = ap (λ (u : List ℕ). front ++ u) t.parts ∙ sym (append_assoc front text rest) ∙ ap (λ (u : List ℕ). u ++ rest) (sym same); rest_fits = t.rest_fits }
 

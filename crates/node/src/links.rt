@@ -1,4 +1,4 @@
-ghost use Rattle.std.specs.Prelude.{◌≡◌, ◌≢◌, ◌+◌, ◌<◌, ◌≤◌, [], ◌∷◌, true, false, vec_len, map, replicate, slice_index_or, slice_set, IsTrue, IfOk, IfErr, OnOk, OnErr};
+ghost use Rattle.std.specs.Prelude.{◌≡◌, ◌≢◌, ◌+◌, ◌<◌, ◌≤◌, [], ◌∷◌, true, false, vec_len, map, replicate, slice_index_or, slice_set, IfOk, IfErr, OnOk, OnErr};
 ghost use Rattle.ids.specs.declared.refusal.Refusal.TheVariants.{AckBeyond, LinkSpent, Memory};
 ghost use Rattle.model.specs.Steps.{fits};
 ghost use Rattle.model.specs.View.{no_link, used, all_kept, trimmed, append_to, base_of, kept_of};

@@ -1,7 +1,6 @@
-ghost use Rattle.std.specs.Prelude.{◌≡◌, ◌≢◌, ◌+◌, ◌+ℤ◌, ◌-ℤ◌, ◌≤ℤ◌, ◌^◌, ◌<◌, ◌≤◌, ℕ, pos, neg_ℤ, [], ◌∷◌, true, false, map, option_to_list, slice_index_or, slice_set, Some, None, IsTrue, IfOk, IfErr, OnErr};
+ghost use Rattle.std.specs.Prelude.{◌≡◌, ◌≢◌, ◌+◌, ◌+ℤ◌, ◌-ℤ◌, ◌≤ℤ◌, ◌^◌, ◌<◌, ◌≤◌, pos, neg_ℤ, [], ◌∷◌, true, false, map, option_to_list, slice_index_or, slice_set, Some, None, IsTrue, IfOk, IfErr, OnErr};
 ghost use Rattle.ids.specs.declared.refusal.Refusal.TheVariants.{LinkSpent, Memory, NoNode};
 ghost use Rattle.model.specs.State.{NodeState, got_from};
-ghost use Rattle.model.specs.Checks.{IsFirstRefusal};
 ghost use Rattle.std.specs.List.{AllByRecursion};
 ghost use Rattle.model.specs.Steps.{act, fits, answers, then, counted_up, ack_of, count_in, take_body, mentioned, is_within, are_within, may_follow, is_addressed, may_take, is_memory_free};
 ghost use Rattle.model.specs.References.{IsWithin, IsSendable};
@@ -78,8 +77,8 @@ impl Node {
 
     /// Performs one event. The refusals come in the order in which docs/RULES.md lists them for each
     /// event; `Memory` where a growth was refused. A refused event changes nothing. `Copy`, `Drop`,
-    /// `Store`, `Clear`, `Word`, `SetWord`, `Accept`, `Ack` and a message that was taken in before take no
-    /// memory, and `Word` and such a message change nothing.
+    /// `Store`, `Clear`, `Word`, `SetWord`, `Accept`, `Ack` and a message that isn't the next one are never
+    /// refused memory. `Word` and a message that was taken in before change nothing.
     pub fn act(&mut self, event: Event) -> Result<Answer, Refusal>
         ensures performs { Performs result self.new (view_act self.old event) }
         ensures states { (s : NodeState) → Shows self.old s → Follows event result self.new (act s event) }

@@ -27,7 +27,7 @@ use Rattle.model.proofs.Shown.{act-shown, ack-done, ack-refused}
 use Rattle.laws.proofs.StepFacts.{act-ok}
 use Rattle.laws.proofs.Deliveries.{addressed-between}
 use Rattle.world.specs.Outboxes.{IsFrameOf}
-use Rattle.world.specs.Shows.{Simulated, ShowsWorld, FollowsStep, IsSim, IsPlaced, no_view, view_at, frames_of, bases, let_go, let_go_after}
+use Rattle.world.specs.Shows.{Simulated, ShowsWorld, FollowsStep, IsSim, IsPlaced, no_view, view_at, frames_of, bases, bases_of, bases_after}
 use Rattle.world.proofs.Handed.{both-nodes}
 use Rattle.world.proofs.Shows.{is-no-node, show-again, counted-set, counted-as, acked-set, sim-moved, read-is, within-seen, shows-seen, row_of}
 
@@ -202,7 +202,7 @@ row-trimmed u i number held few =
     map-set base_of u.links i (trimmed (link_to u i) number)
     ∙ ap (set (row_of u) i) (base-moved (link_to u i) number held few ∙ ap (max number) (sym (get_or-map base_of u.links i no_link)))
 
-pub handed-lets-go : (n m : Simulated) (i from to : ℕ) (a : Ack) (u v : NodeView) (x : Answer) → n ≡ m → from < length m.present → i ≡ from → u ≡ get_or n.present i u → a.from ≡ to → IsNode u → Performs (Ok x) v (view_act u (event.Ack a)) → let_go (record n { present = set n.present i v }) ≡ let_go_after (let_go m) (step.Hand from to) (outcome.Handed a.number)
+pub handed-lets-go : (n m : Simulated) (i from to : ℕ) (a : Ack) (u v : NodeView) (x : Answer) → n ≡ m → from < length m.present → i ≡ from → u ≡ get_or n.present i u → a.from ≡ to → IsNode u → Performs (Ok x) v (view_act u (event.Ack a)) → bases_of (record n { present = set n.present i v }) ≡ bases_after (bases_of m) (step.Hand from to) (outcome.Handed a.number)
 handed-lets-go n m i from to a u v x seen less named read sender sound performs =
     let inside : i < length n.present = within-seen n m i seen (subst (λ (k : ℕ). k < length m.present) (sym named) less) in
     let there : u ≡ view_at n.present i = read-is n.present i u inside read in
@@ -210,6 +210,6 @@ handed-lets-go n m i from to a u v x seen less named read sender sound performs 
     let row : row_of u ≡ get_or (bases n.present) i [] = ap row_of there ∙ sym (get_or-map row_of n.present i no_view) in
     let moved : row_of v ≡ set (row_of u) a.from (max a.number (get_or (row_of u) a.from 0)) = ap row_of done.1 ∙ row-trimmed u a.from a.number (sound.links a.from).kept done.0 in
     let here : row_of v ≡ set (get_or (bases n.present) i []) to (max a.number (get_or (get_or (bases n.present) i []) to 0)) = moved ∙ ap (λ (z : List ℕ). set z a.from (max a.number (get_or z a.from 0))) row ∙ ap (λ (k : ℕ). set (get_or (bases n.present) i []) k (max a.number (get_or (get_or (bases n.present) i []) k 0))) sender in
-    ap (λ (b : List (List ℕ)). record (let_go n) { present = b }) (map-set row_of n.present i v ∙ ap (set (bases n.present) i) here)
-    ∙ ap (λ (k : ℕ). let_go_after (let_go n) (step.Hand k to) (outcome.Handed a.number)) named
-    ∙ ap (λ (z : Simulated). let_go_after (let_go z) (step.Hand from to) (outcome.Handed a.number)) seen
+    ap (λ (b : List (List ℕ)). record (bases_of n) { present = b }) (map-set row_of n.present i v ∙ ap (set (bases n.present) i) here)
+    ∙ ap (λ (k : ℕ). bases_after (bases_of n) (step.Hand k to) (outcome.Handed a.number)) named
+    ∙ ap (λ (z : Simulated). bases_after (bases_of z) (step.Hand from to) (outcome.Handed a.number)) seen

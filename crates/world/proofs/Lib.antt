@@ -2,7 +2,6 @@ pub mod OutboxLemmas
 pub mod Shows
 pub mod Handed
 pub mod Acked
-pub mod Looks
 pub mod Rows
 pub mod Saved
 pub mod New

@@ -1,5 +1,5 @@
 -- Reading the released frames of a pair of nodes.
-use Rattle.std.proofs.Common.{◌≡◌, ℕ, zero, suc, ◌<◌, List, [], ◌∷◌, arith, length, map, get_or, set, sym, ◌∙◌, ap}
+use Rattle.std.proofs.Common.{◌≡◌, ℕ, ◌<◌, List, [], arith, length, map, get_or, set, sym, ◌∙◌, ap}
 use Rattle.std.proofs.lemmas.List.{get_or-map, length-map, map-set, set-get_or}
 use Rattle.std.specs.declared.vec.Vec.{Vec}
 use Rattle.std.specs.declared.alloc.Global.{Global}
@@ -19,11 +19,6 @@ frames-read rows from to row b fewer at less there =
 
 pub row-length : (rows : List (Vec OutboxView Global)) (from : ℕ) (row : Vec OutboxView Global) → from < length rows → row ≡ get_or rows from row → length (get_or (rows_of rows) from []) ≡ length row.items
 row-length rows from row fewer at = ap length (row-is rows from row fewer at) ∙ length-map row.items released_frames
-
-pub row-there : (rows : List (Vec OutboxView Global)) (from to : ℕ) → to < length (get_or (rows_of rows) from []) → from < length rows
-row-there [] from to h = absurd (omega arith)
-row-there (r ∷ rows) zero to h = omega arith
-row-there (r ∷ rows) (suc from) to h = omega (arith, row-there rows from to h)
 
 -- one row changes
 pub rows-set : (rows : List (Vec OutboxView Global)) (i : ℕ) (row : Vec OutboxView Global) (items : List OutboxView) → row.items ≡ items → rows_of (set rows i row) ≡ set (rows_of rows) i (map released_frames items)

@@ -16,7 +16,7 @@ use Rattle.model.specs.World.{World, take_step}
 use Rattle.model.proofs.Lookups.{at_set_if, both_set_if, map-set_same, slice_get-take, slice_get-drop}
 use Rattle.laws.proofs.Lookups.{slice_get-grows, Grows}
 use Rattle.world.specs.Outboxes.{OutboxView, no_outbox, IsFrameOf, IsStaged, released_frames, all_released}
-use Rattle.world.specs.Shows.{Simulated, ShowsWorld, FollowsStep, AreCounted, AreAcked, AreKept, IsPlaced, IsSim, no_view, view_at, frames_of, bases, let_go, let_go_after}
+use Rattle.world.specs.Shows.{Simulated, ShowsWorld, FollowsStep, AreCounted, AreAcked, AreKept, IsPlaced, IsSim, no_view, view_at, frames_of, bases, bases_of, bases_after}
 use Rattle.world.proofs.Shows.{show-set, show-again, grown-by, is-node, row_of}
 
 -- counting all messages as saved changes nothing else
@@ -198,9 +198,9 @@ sim-saved n i before after h within staging =
 row-kept : (v : NodeView) → row_of (kept_view v) ≡ row_of v
 row-kept v = map-map base_of all_kept v.links
 
-pub saved-lets-go : (n : Simulated) (i : ℕ) (after : List OutboxView) → let_go (saved_sim n i (view_at n.present i) after) ≡ let_go_after (let_go n) (step.Save i) outcome.Done
+pub saved-lets-go : (n : Simulated) (i : ℕ) (after : List OutboxView) → bases_of (saved_sim n i (view_at n.present i) after) ≡ bases_after (bases_of n) (step.Save i) outcome.Done
 saved-lets-go n i after =
     let u : NodeView = view_at n.present i in
     let row : row_of (kept_view u) ≡ get_or (bases n.present) i [] = row-kept u ∙ sym (get_or-map row_of n.present i no_view) in
-    ap (λ (b : List (List ℕ)). record (let_go (saved_sim n i u after)) { present = b }) (map-set_same row_of n.present i (kept_view u) no_view (row-kept u))
-    ∙ ap (λ (b : List (List ℕ)). record (let_go n) { saved = b }) (map-set row_of n.saved i (kept_view u) ∙ ap (set (bases n.saved) i) row)
+    ap (λ (b : List (List ℕ)). record (bases_of (saved_sim n i u after)) { present = b }) (map-set_same row_of n.present i (kept_view u) no_view (row-kept u))
+    ∙ ap (λ (b : List (List ℕ)). record (bases_of n) { saved = b }) (map-set row_of n.saved i (kept_view u) ∙ ap (set (bases n.saved) i) row)

@@ -13,7 +13,7 @@ use Rattle.model.specs.World.{World, take_step}
 use Rattle.world.specs.InsideSim.{view_of}
 use Rattle.world.specs.Outboxes.{OutboxView, no_outbox, released_frames, all_released, IsStaged}
 use Rattle.world.specs.Rows.{rows_of}
-use Rattle.world.specs.Shows.{Simulated, ShowsWorld, FollowsStep, IsSim, view_at, frames_of, let_go, let_go_after}
+use Rattle.world.specs.Shows.{Simulated, ShowsWorld, FollowsStep, IsSim, view_at, frames_of, bases_of, bases_after}
 use Rattle.world.specs.declared.sim.Sim.TheInside.{Inside}
 use Rattle.world.proofs.Rows.{row-fewer, row-is, rows-same, rows-set}
 use Rattle.world.proofs.Saved.{Staging, saved_sim, save-follows, sim-saved, saved-lets-go}
@@ -92,8 +92,8 @@ saved-follows s m w i node row staged released present saved seen h shown less n
     let there : FollowsStep (Ok outcome.Done) (saved_sim (view_of s) i (view_at s.present.items i) staged) (take_step w (step.Save node)) = subst (λ (k : ℕ). FollowsStep (Ok outcome.Done) (saved_sim (view_of s) i (view_at s.present.items i) staged) (take_step w (step.Save k))) named here in
     subst (λ (n : Simulated). FollowsStep (Ok outcome.Done) n (take_step w (step.Save node))) (sym saving.view) there
 
-pub saved-let-go : (s : Inside) (m : Simulated) (i node : ℕ) (row : Vec OutboxView Global) (staged released : List OutboxView) (present saved : NodeView) → view_of s ≡ m → i ≡ node → SavedAs s i row staged released present saved → let_go (record { present = set s.present.items i present; saved = set s.saved.items i saved; released = rows_of (set s.outboxes.items i (with_items (with_items row staged) released)) }) ≡ let_go_after (let_go m) (step.Save node) outcome.Done
+pub saved-let-go : (s : Inside) (m : Simulated) (i node : ℕ) (row : Vec OutboxView Global) (staged released : List OutboxView) (present saved : NodeView) → view_of s ≡ m → i ≡ node → SavedAs s i row staged released present saved → bases_of (record { present = set s.present.items i present; saved = set s.saved.items i saved; released = rows_of (set s.outboxes.items i (with_items (with_items row staged) released)) }) ≡ bases_after (bases_of m) (step.Save node) outcome.Done
 saved-let-go s m i node row staged released present saved seen named saving =
-    ap let_go saving.view ∙ saved-lets-go (view_of s) i staged
-    ∙ ap (λ (z : Simulated). let_go_after (let_go z) (step.Save i) outcome.Done) seen
-    ∙ ap (λ (k : ℕ). let_go_after (let_go m) (step.Save k) outcome.Done) named
+    ap bases_of saving.view ∙ saved-lets-go (view_of s) i staged
+    ∙ ap (λ (z : Simulated). bases_after (bases_of z) (step.Save i) outcome.Done) seen
+    ∙ ap (λ (k : ℕ). bases_after (bases_of m) (step.Save k) outcome.Done) named

@@ -21,7 +21,7 @@ use Rattle.model.proofs.Lookups.{both_set, at_set_if, map-set_same}
 use Rattle.laws.proofs.KeepsSent.{keeps-sent}
 use Rattle.ids.specs.Limits.{Shaped}
 use Rattle.ids.specs.declared.limits.TheConstants.{GREATEST_NODES}
-use Rattle.world.specs.Shows.{Simulated, ShowAll, ShowsWorld, FollowsStep, AreCounted, AreAcked, AreKept, IsPlaced, IsSim, no_view, view_at, frames_of, bases, let_go, let_go_after}
+use Rattle.world.specs.Shows.{Simulated, ShowAll, ShowsWorld, FollowsStep, AreCounted, AreAcked, AreKept, IsPlaced, IsSim, no_view, view_at, frames_of, bases, bases_of, bases_after}
 
 -- a step that the definitions answer leads to the space that happens
 pub grown-by : (w v : World) (s : Step) (o : Outcome) → KeepsSent w → take_step w s ≡ Ok (v, o) → KeepsSent v
@@ -239,14 +239,14 @@ restarted-follows n m w i node u v seen shown sim less named read copy =
 abbrev pub row_of : NodeView → List ℕ
 row_of v = map base_of v.links
 
-pub acted-lets-go : (n m : Simulated) (i : ℕ) (u v : NodeView) → n ≡ m → i < length m.present → u ≡ get_or n.present i u → map base_of v.links ≡ map base_of u.links → let_go (record n { present = set n.present i v }) ≡ let_go m
+pub acted-lets-go : (n m : Simulated) (i : ℕ) (u v : NodeView) → n ≡ m → i < length m.present → u ≡ get_or n.present i u → map base_of v.links ≡ map base_of u.links → bases_of (record n { present = set n.present i v }) ≡ bases_of m
 acted-lets-go n m i u v seen less read same =
     let there : u ≡ view_at n.present i = read-is n.present i u (within-seen n m i seen less) read in
-    ap (λ (b : List (List ℕ)). record (let_go n) { present = b }) (map-set_same row_of n.present i v no_view (same ∙ ap row_of there)) ∙ ap let_go seen
+    ap (λ (b : List (List ℕ)). record (bases_of n) { present = b }) (map-set_same row_of n.present i v no_view (same ∙ ap row_of there)) ∙ ap bases_of seen
 
-pub restarted-lets-go : (n m : Simulated) (i node : ℕ) (u v : NodeView) → n ≡ m → IsSim n → i < length m.present → i ≡ node → u ≡ get_or n.saved i u → v ≡ u → let_go (record n { present = set n.present i v }) ≡ let_go_after (let_go m) (step.Restart node) outcome.Done
+pub restarted-lets-go : (n m : Simulated) (i node : ℕ) (u v : NodeView) → n ≡ m → IsSim n → i < length m.present → i ≡ node → u ≡ get_or n.saved i u → v ≡ u → bases_of (record n { present = set n.present i v }) ≡ bases_after (bases_of m) (step.Restart node) outcome.Done
 restarted-lets-go n m i node u v seen sim less named read copy =
     let same : v ≡ view_at n.saved i = restarted-is n i u v sim (within-seen n m i seen less) read copy in
     let row : row_of v ≡ get_or (bases n.saved) i [] = ap row_of same ∙ sym (get_or-map row_of n.saved i no_view) in
-    let here : let_go (record n { present = set n.present i v }) ≡ let_go_after (let_go n) (step.Restart i) outcome.Done = ap (λ (b : List (List ℕ)). record (let_go n) { present = b }) (map-set row_of n.present i v ∙ ap (set (bases n.present) i) row) in
-    here ∙ ap (λ (z : Simulated). let_go_after (let_go z) (step.Restart i) outcome.Done) seen ∙ ap (λ (k : ℕ). let_go_after (let_go m) (step.Restart k) outcome.Done) named
+    let here : bases_of (record n { present = set n.present i v }) ≡ bases_after (bases_of n) (step.Restart i) outcome.Done = ap (λ (b : List (List ℕ)). record (bases_of n) { present = b }) (map-set row_of n.present i v ∙ ap (set (bases n.present) i) row) in
+    here ∙ ap (λ (z : Simulated). bases_after (bases_of z) (step.Restart i) outcome.Done) seen ∙ ap (λ (k : ℕ). bases_after (bases_of m) (step.Restart k) outcome.Done) named

@@ -81,26 +81,26 @@ pub record IsSim (n : Simulated) : Type 0 where
   pub present_kept : AreKept n.present n.released
   pub saved_kept : AreKept n.saved n.released
 
--- Of each link of each node how many messages the node has let go of, which are those that were
--- acknowledged to it. With the state that it shows it says what the node keeps.
+-- Of each link of each node how many messages the node has let go of. These and the state that the node
+-- shows say what it keeps.
 abbrev pub bases : List NodeView → List (List ℕ)
 bases nodes = map (λ n. map base_of n.links) nodes
 
-pub record LetGo : Type 0 where
+pub record Bases : Type 0 where
   pub present : List (List ℕ)
   pub saved : List (List ℕ)
 
-abbrev pub let_go : Simulated → LetGo
-let_go n = record { present = bases n.present; saved = bases n.saved }
+abbrev pub bases_of : Simulated → Bases
+bases_of n = record { present = bases n.present; saved = bases n.saved }
 
 -- The same after a step that was answered. A node lets go of messages by an acknowledgement alone, up to its
 -- number; a save and a restart make two nodes alike.
-abbrev pub let_go_after : LetGo → Step → Outcome → LetGo
-let_go_after b (step.Save i) o = record b { saved = slice_set b.saved i (slice_index_or b.present i []) }
-let_go_after b (step.Restart i) o = record b { present = slice_set b.present i (slice_index_or b.saved i []) }
-let_go_after b (step.Hand from to) (outcome.Handed number) =
+abbrev pub bases_after : Bases → Step → Outcome → Bases
+bases_after b (step.Save i) o = record b { saved = slice_set b.saved i (slice_index_or b.present i []) }
+bases_after b (step.Restart i) o = record b { present = slice_set b.present i (slice_index_or b.saved i []) }
+bases_after b (step.Hand from to) (outcome.Handed number) =
     record b { present = slice_set b.present from (slice_set (slice_index_or b.present from []) to (max number (slice_index_or (slice_index_or b.present from []) to 0))) }
-let_go_after b s o = b
+bases_after b s o = b
 
 -- the present node of a number, in numbers
 abbrev pub summary_at : World → ℕ → Option Summary

@@ -1,4 +1,4 @@
-ghost use Rattle.std.specs.Prelude.{◌≡◌, ◌≤◌, ◌<◌, ℕ, length, map, slice_get, IsTrue, IfOk, IfErr, OnErr, ◌≢◌, slice_index_or};
+ghost use Rattle.std.specs.Prelude.{◌≡◌, ◌<◌, length, map, slice_get, IsTrue, IfOk, IfErr, OnErr, ◌≢◌, slice_index_or};
 ghost use Rattle.std.specs.Option.{option_copied, option_map};
 ghost use Rattle.ids.specs.declared.refusal.Refusal.TheVariants.{Memory};
 ghost use Rattle.std.specs.List.{range_with_len};
@@ -7,7 +7,7 @@ ghost use Rattle.model.specs.View.{new_view};
 ghost use Rattle.model.specs.World.{World, new_world, take_step, is_own_step, is_step_memory_free};
 ghost use Rattle.model.specs.declared.step.Step.TheVariants as step;
 ghost use Rattle.world.specs.Outboxes.{numbered_bytes};
-ghost use Rattle.world.specs.Shows.{ShowsWorld, FollowsStep, let_go, let_go_after, view_at, summary_at, frames_of};
+ghost use Rattle.world.specs.Shows.{ShowsWorld, FollowsStep, bases_of, bases_after, view_at, summary_at, frames_of};
 
 use crate::outbox::{Outbox, new_outboxes, release_all, stage_all};
 use ids::{NodeId, Refusal, Shape};
@@ -55,14 +55,14 @@ impl Sim {
 
     /// Takes one step. `NoNode` where the step names a node that the space doesn't have, before anything
     /// else; else what the node refuses, and `Memory` where a growth was refused. A refused step changes
-    /// nothing. No growth is wanted by an event that its node never refuses memory, by the delivery of
-    /// nothing or of a message that was taken in before, and by an acknowledgement. That alone lets go of
-    /// messages, of those up to its number.
+    /// nothing. Never refused memory are the events that a node never refuses it, the delivery of nothing or
+    /// of a message that isn't the next one, and an acknowledgement. An acknowledgement alone lets go of
+    /// messages: those up to its number.
     pub fn step(&mut self, step: Step) -> Result<Outcome, Refusal>
         requires own { IsTrue (is_own_step step) }
         ensures follows { (w : World) → ShowsWorld self.old w → FollowsStep result self.new (take_step w step) }
         ensures memory_free { (w : World) → ShowsWorld self.old w → IsTrue (is_step_memory_free w step) → IfErr result (λ e. e ≢ Memory) }
-        ensures lets_go { IfOk result (λ o. let_go self.new ≡ let_go_after (let_go self.old) step o) }
+        ensures lets_go { IfOk result (λ o. bases_of self.new ≡ bases_after (bases_of self.old) step o) }
         ensures unchanged { OnErr result (self.new ≡ self.old) }
     {
         match step {
@@ -99,7 +99,7 @@ impl Sim {
         requires own { IsTrue (is_own event) }
         ensures follows { (w : World) → ShowsWorld self.old w → FollowsStep result self.new (take_step w (step.Act node event)) }
         ensures memory_free { (w : World) → ShowsWorld self.old w → IsTrue (is_step_memory_free w (step.Act node event)) → IfErr result (λ e. e ≢ Memory) }
-        ensures lets_go { IfOk result (λ o. let_go self.new ≡ let_go_after (let_go self.old) (step.Act node event) o) }
+        ensures lets_go { IfOk result (λ o. bases_of self.new ≡ bases_after (bases_of self.old) (step.Act node event) o) }
         ensures unchanged { OnErr result (self.new ≡ self.old) }
     {
         if node >= self.count() {
@@ -113,7 +113,7 @@ impl Sim {
     fn save(&mut self, node: u8) -> Result<Outcome, Refusal>
         ensures follows { (w : World) → ShowsWorld self.old w → FollowsStep result self.new (take_step w (step.Save node)) }
         ensures memory_free { (w : World) → ShowsWorld self.old w → IsTrue (is_step_memory_free w (step.Save node)) → IfErr result (λ e. e ≢ Memory) }
-        ensures lets_go { IfOk result (λ o. let_go self.new ≡ let_go_after (let_go self.old) (step.Save node) o) }
+        ensures lets_go { IfOk result (λ o. bases_of self.new ≡ bases_after (bases_of self.old) (step.Save node) o) }
         ensures unchanged { OnErr result (self.new ≡ self.old) }
     {
         if node >= self.count() {
@@ -136,7 +136,7 @@ impl Sim {
     fn restart(&mut self, node: u8) -> Result<Outcome, Refusal>
         ensures follows { (w : World) → ShowsWorld self.old w → FollowsStep result self.new (take_step w (step.Restart node)) }
         ensures memory_free { (w : World) → ShowsWorld self.old w → IsTrue (is_step_memory_free w (step.Restart node)) → IfErr result (λ e. e ≢ Memory) }
-        ensures lets_go { IfOk result (λ o. let_go self.new ≡ let_go_after (let_go self.old) (step.Restart node) o) }
+        ensures lets_go { IfOk result (λ o. bases_of self.new ≡ bases_after (bases_of self.old) (step.Restart node) o) }
         ensures unchanged { OnErr result (self.new ≡ self.old) }
     {
         if node >= self.count() {
@@ -152,7 +152,7 @@ impl Sim {
     fn deliver(&mut self, from: u8, to: u8, number: u64) -> Result<Outcome, Refusal>
         ensures follows { (w : World) → ShowsWorld self.old w → FollowsStep result self.new (take_step w (step.Deliver from to number)) }
         ensures memory_free { (w : World) → ShowsWorld self.old w → IsTrue (is_step_memory_free w (step.Deliver from to number)) → IfErr result (λ e. e ≢ Memory) }
-        ensures lets_go { IfOk result (λ o. let_go self.new ≡ let_go_after (let_go self.old) (step.Deliver from to number) o) }
+        ensures lets_go { IfOk result (λ o. bases_of self.new ≡ bases_after (bases_of self.old) (step.Deliver from to number) o) }
         ensures unchanged { OnErr result (self.new ≡ self.old) }
     {
         let count = self.count();
@@ -177,7 +177,7 @@ impl Sim {
     fn hand(&mut self, from: u8, to: u8) -> Result<Outcome, Refusal>
         ensures follows { (w : World) → ShowsWorld self.old w → FollowsStep result self.new (take_step w (step.Hand from to)) }
         ensures memory_free { (w : World) → ShowsWorld self.old w → IsTrue (is_step_memory_free w (step.Hand from to)) → IfErr result (λ e. e ≢ Memory) }
-        ensures lets_go { IfOk result (λ o. let_go self.new ≡ let_go_after (let_go self.old) (step.Hand from to) o) }
+        ensures lets_go { IfOk result (λ o. bases_of self.new ≡ bases_after (bases_of self.old) (step.Hand from to) o) }
         ensures unchanged { OnErr result (self.new ≡ self.old) }
     {
         let count = self.count();
@@ -188,12 +188,13 @@ impl Sim {
             return Ok(Outcome::NoFrame);
         }
         let ack = self.acknowledgement(from, to);
-        // The node makes this test too; made here, no node lets go of a message that has no frame, whatever
-        // the nodes show.
+        // The node makes this test by its own count. By the count of frames the space keeps what holds of it
+        // by itself: no node lets go of a message that has no frame.
         if ack.number > self.release_count(from, to) {
             return Err(Refusal::AckBeyond);
         }
         let present = &mut self.present[usize::from(from)];
+        // So what counts as saved is no more than was appended.
         present.sound();
         present.act(Event::Ack(ack))?;
         Ok(Outcome::Handed(ack.number))
