@@ -29,7 +29,7 @@ use Rattle.laws.proofs.Deliveries.{addressed-between}
 use Rattle.world.specs.Outboxes.{IsFrameOf}
 use Rattle.world.specs.Shows.{Simulated, ShowsWorld, FollowsStep, IsSim, IsPlaced, no_view, view_at, frames_of, bases, bases_of, bases_after}
 use Rattle.world.proofs.Handed.{both-nodes}
-use Rattle.world.proofs.Shows.{is-no-node, show-again, counted-set, counted-as, acked-set, sim-moved, read-is, within-seen, shows-seen, row_of}
+use Rattle.world.proofs.Shows.{is-no-node, show-again, counted-set, counted-as, acked-set, keeps-set, sim-moved, read-is, within-seen, shows-seen, row_of}
 
 -- two lists of one length: the same places have something
 abbrev Both : {A B : Type 0} → Option A → Option B → Type 0
@@ -90,10 +90,19 @@ abbrev pub handed_as : ℕ → Result Answer Refusal → Result Outcome Refusal
 handed_as number (Ok a) = Ok (outcome.Handed number)
 handed_as number (Err e) = Err e
 
+-- what the node has let go of is within a bound that the number is within
+low-acked : (B : ℕ → ℕ) (u v : NodeView) (a : Ack) → ((j : ℕ) → (link_to u j).base ≤ B j) → a.number ≤ B a.from → v ≡ record u { links = set u.links a.from (trimmed (link_to u a.from) a.number) } → (j : ℕ) → (link_to v j).base ≤ B j
+low-acked B u v a low within same = λ j.
+    subst (λ (z : NodeView). (link_to z j).base ≤ B j) (sym same)
+    (at_set_if (λ (l : Link). l.base ≤ B j) u.links a.from j (trimmed (link_to u a.from) a.number) no_link
+    (λ e. subst (λ (k : ℕ). (trimmed (link_to u a.from) a.number).base ≤ B k) e
+    (let here = low a.from in let some = min-le_left (a.number - (link_to u a.from).base) (length (link_to u a.from).window) in omega (arith, here, some, within)))
+    (low j))
+
 -- the space after its node let go of messages
-shows-acked : (n : Simulated) (w : World) (from : ℕ) (a : Ack) (v : NodeView) (x : Answer) → ShowsWorld n w → map kept_of v.links ≡ map kept_of (view_at n.present from).links → v.acks ≡ (view_at n.present from).acks → Performs (Ok x) v (view_act (view_at n.present from) (event.Ack a)) → ShowsWorld (record n { present = set n.present from v }) w
-shows-acked n w from a v x h kept acks performs =
-    let counted = counted-as n w from v h kept acks in
+shows-acked : (n : Simulated) (w : World) (from : ℕ) (a : Ack) (v : NodeView) (x : Answer) → ShowsWorld n w → a.number ≤ acknowledged w from a.from → map kept_of v.links ≡ map kept_of (view_at n.present from).links → v.acks ≡ (view_at n.present from).acks → Performs (Ok x) v (view_act (view_at n.present from) (event.Ack a)) → ShowsWorld (record n { present = set n.present from v }) w
+shows-acked n w from a v x h told kept acks performs =
+    let counted = counted-as n w from v h kept acks (low-acked (acknowledged w from) (view_at n.present from) v a (h.present_keeps from) told (ack-done (view_at n.present from) v a x performs).1) in
     let after = act-shown (view_at n.present from) v (event.Ack a) (Ok x) performs (node_at w.current from) (h.current.each from) in
     let same : after.0 ≡ node_at w.current from = (act-ok (node_at w.current from) (event.Ack a) after.0 x after.1).state in
     let again : Shows v (node_at w.current from) = subst (Shows v) same after.2 in
@@ -106,6 +115,8 @@ shows-acked n w from a v x h kept acks performs =
       saved_counted = h.saved_counted;
       present_acked = acked-set n.present w.saved from v h.present_acked counted.acks;
       saved_acked = h.saved_acked;
+      present_keeps = keeps-set n.present w from v h.present_keeps counted.base;
+      saved_keeps = h.saved_keeps;
     }
 
 -- the state shown tests the addresses as the node does
@@ -117,7 +128,7 @@ hand-follows n w from to a v (Ok x) h f t apart addressed sender receiver number
     let released : a.number ≤ (link_to (view_at n.present from) a.from).kept = (ack-done (view_at n.present from) v a x performs).0 in
     let count : (link_to (view_at n.present from) a.from).kept ≡ release_count w from to = ap (λ (k : ℕ). (link_to (view_at n.present from) k).kept) sender ∙ h.present_counted from to in
     let within : acknowledged w from to ≤ release_count w from to = omega (arith, released, count, number) in
-    (w, handed n w from to h f t apart ∙ handed-within w from to (addressed-state n w from to h addressed) within ∙ ap (λ (k : ℕ). Ok (w, outcome.Handed k)) (sym number), shows-acked n w from a v x h kept acks performs)
+    (w, handed n w from to h f t apart ∙ handed-within w from to (addressed-state n w from to h addressed) within ∙ ap (λ (k : ℕ). Ok (w, outcome.Handed k)) (sym number), shows-acked n w from a v x h (let named : acknowledged w from a.from ≡ acknowledged w from to = ap (acknowledged w from) sender in omega (arith, named, number)) kept acks performs)
 hand-follows n w from to a v (Err e) h f t apart addressed sender receiver number kept acks performs = λ ne.
     let told = ack-refused (view_at n.present from) a e (subst (λ (k : ℕ). is_addressed (view_at n.present from).part a.from k ≡ true) (sym receiver) (subst (λ (k : ℕ). is_addressed (view_at n.present from).part k from ≡ true) (sym sender) addressed)) (performs ne) in
     let count : (link_to (view_at n.present from) a.from).kept ≡ release_count w from to = ap (λ (k : ℕ). (link_to (view_at n.present from) k).kept) sender ∙ h.present_counted from to in
@@ -135,15 +146,6 @@ pub addressed-seen : (n m : Simulated) (w : World) (from to : ℕ) → n ≡ m �
 addressed-seen n m w from to seen sim shown f t apart =
     addressed-state n w from to (shows-seen n m w seen shown) (addressed-from n from to sim (within-seen n m from seen f) (within-seen n m to seen t) apart)
 
--- what the node let go of has frames
-low-acked : (released : List (List (List (List ℕ)))) (from : ℕ) (u v : NodeView) (a : Ack) → ((j : ℕ) → (link_to u j).base ≤ length (frames_of released from j)) → a.number ≤ length (frames_of released from a.from) → v ≡ record u { links = set u.links a.from (trimmed (link_to u a.from) a.number) } → (j : ℕ) → (link_to v j).base ≤ length (frames_of released from j)
-low-acked released from u v a low within same = λ j.
-    subst (λ (z : NodeView). (link_to z j).base ≤ length (frames_of released from j)) (sym same)
-    (at_set_if (λ (l : Link). l.base ≤ length (frames_of released from j)) u.links a.from j (trimmed (link_to u a.from) a.number) no_link
-    (λ e. subst (λ (k : ℕ). (trimmed (link_to u a.from) a.number).base ≤ length (frames_of released from k)) e
-    (let here = low a.from in let some = min-le_left (a.number - (link_to u a.from).base) (length (link_to u a.from).window) in omega (arith, here, some, within)))
-    (low j))
-
 pub sim-acked : (n m : Simulated) (i from to : ℕ) (a : Ack) (u v : NodeView) (x : Answer) → n ≡ m → IsSim n → from < length m.present → i ≡ from → u ≡ get_or n.present i u → a.from ≡ to → a.number ≤ length (frames_of m.released from to) → (v.part.shape ≡ u.part.shape) × (v.part.own ≡ u.part.own) → Performs (Ok x) v (view_act u (event.Ack a)) → IsSim (record n { present = set n.present i v })
 sim-acked n m i from to a u v x seen h less named read sender within place performs =
     let inside : i < length n.present = within-seen n m i seen (subst (λ (k : ℕ). k < length m.present) (sym named) less) in
@@ -156,7 +158,7 @@ sim-acked n m i from to a u v x seen h less named read sender within place perfo
     let few : a.number ≤ length (frames_of n.released i a.from) =
     subst (λ (k : ℕ). a.number ≤ length (frames_of n.released i k)) (sym sender)
     (subst (λ (k : ℕ). a.number ≤ length (frames_of n.released k to)) (sym named) (subst (λ (z : Simulated). a.number ≤ length (frames_of z.released from to)) (sym seen) within)) in
-    sim-moved n i v h placed (low-acked n.released i u v a before few done)
+    sim-moved n i v h placed (low-acked (λ (j : ℕ). length (frames_of n.released i j)) u v a before few done)
 
 pub handed-follows : (n m : Simulated) (w : World) (i from to : ℕ) (a : Ack) (u v : NodeView) (r : Result Answer Refusal) → n ≡ m → ShowsWorld m w → IsSim n → from < length m.present → to < length m.present → from ≢ to → i ≡ from → u ≡ get_or n.present i u → a.from ≡ to → a.to ≡ from → a.number ≡ get_or (view_at m.saved to).acks from 0 → map kept_of v.links ≡ map kept_of u.links → v.acks ≡ u.acks → Performs r v (view_act u (event.Ack a)) → FollowsStep (handed_as a.number r) (record n { present = set n.present i v }) (take_step w (step.Hand from to))
 handed-follows n m w i from to a u v r seen shown sim f t apart named read sender receiver number kept acks performs =

@@ -14,7 +14,7 @@ use Rattle.model.specs.declared.step.Step.TheVariants as step
 use Rattle.model.specs.declared.step.Outcome.TheVariants as outcome
 use Rattle.model.specs.State.{NodeState, node_at, sent_to}
 use Rattle.model.specs.Steps.{act, receive}
-use Rattle.model.specs.View.{NodeView, Shows, Follows, kept_of}
+use Rattle.model.specs.View.{NodeView, Shows, Follows, kept_of, base_of}
 use Rattle.model.specs.World.{World, take_step, moved, released, handed_over, is_node}
 use Rattle.world.specs.Outboxes.{IsFrameOf, numbered_bytes}
 use Rattle.world.specs.Shows.{Simulated, ShowsWorld, FollowsStep, frames_of}
@@ -98,9 +98,9 @@ unfolding act receive receive_plain
 act-receives s d from to number x h = ap (receive_plain s) h
 
 -- The same as the code has it: n is the space of its fields and m the one that callers see.
-pub delivered-follows : (n m : Simulated) (w : World) (from to i number : ℕ) (bytes : List ℕ) (d : Data) (u v : NodeView) (r : Result Answer Refusal) → n ≡ m → ShowsWorld m w → from < length m.present → to < length m.present → from ≢ to → to ≡ i → numbered_bytes (frames_of m.released from to) number ≡ Some bytes → Fits (plain_data d) → bytes ≡ spelling (plain_data d) → u ≡ get_or n.present i u → map kept_of v.links ≡ map kept_of u.links → v.acks ≡ u.acks → ((s : NodeState) → Shows u s → Follows (event.Data d) r v (act s (event.Data d))) → FollowsStep (answered r) (record n { present = set n.present i v }) (take_step w (step.Deliver from to number))
+pub delivered-follows : (n m : Simulated) (w : World) (from to i number : ℕ) (bytes : List ℕ) (d : Data) (u v : NodeView) (r : Result Answer Refusal) → n ≡ m → ShowsWorld m w → from < length m.present → to < length m.present → from ≢ to → to ≡ i → numbered_bytes (frames_of m.released from to) number ≡ Some bytes → Fits (plain_data d) → bytes ≡ spelling (plain_data d) → u ≡ get_or n.present i u → map kept_of v.links ≡ map kept_of u.links → v.acks ≡ u.acks → map base_of v.links ≡ map base_of u.links → ((s : NodeState) → Shows u s → Follows (event.Data d) r v (act s (event.Data d))) → FollowsStep (answered r) (record n { present = set n.present i v }) (take_step w (step.Deliver from to number))
 unfolding take_step
-delivered-follows n m w from to i number bytes d u v r seen shown less_from less_to apart named there fits spelled read kept acks follows =
+delivered-follows n m w from to i number bytes d u v r seen shown less_from less_to apart named there fits spelled read kept acks bases follows =
     let frame : Found m w from to number bytes = found m w from to number bytes shown apart there in
     let x : Message = frame.message in
     let longer : spelling (plain_data d) ++ [] ≡ spelling (data_frame from to number x.stamp x.body) = append-nil (spelling (plain_data d)) ∙ sym spelled ∙ frame.spelled in
@@ -111,4 +111,4 @@ delivered-follows n m w from to i number bytes d u v r seen shown less_from less
     let here : Follows (event.Data d) r v (receive (node_at w.current i) from to number x.stamp x.body) = subst (Follows (event.Data d) r v) same (node-follows n w i (event.Data d) u v r h within read follows) in
     let moves : take_step w (step.Deliver from to number) ≡ moved w to (receive (node_at w.current to) from to number x.stamp x.body) = cond-true _ _ _ (both-nodes m w from to shown less_from less_to) ∙ ap (handed_over w from to number) frame.there in
     let at : take_step w (step.Deliver from to number) ≡ moved w i (receive (node_at w.current i) from to number x.stamp x.body) = moves ∙ ap (λ (k : ℕ). moved w k (receive (node_at w.current k) from to number x.stamp x.body)) named in
-    moved-follows n w i (step.Deliver from to number) (event.Data d) v r (receive (node_at w.current i) from to number x.stamp x.body) h (counted-read n w i u v h within read kept acks) refl at here
+    moved-follows n w i (step.Deliver from to number) (event.Data d) v r (receive (node_at w.current i) from to number x.stamp x.body) h (counted-read n w i u v h within read kept acks bases) refl at here

@@ -15,7 +15,7 @@ use Rattle.model.proofs.Lookups.{get_or-replicate_any}
 use Rattle.laws.proofs.KeepsSent.{new-keeps-sent}
 use Rattle.world.specs.Outboxes.{OutboxView, no_outbox, released_frames, IsFrameOf}
 use Rattle.world.specs.Rows.{rows_of}
-use Rattle.world.specs.Shows.{Simulated, ShowAll, ShowsWorld, IsPlaced, IsSim, AreKept, no_view, view_at, frames_of, AreCounted, AreAcked}
+use Rattle.world.specs.Shows.{Simulated, ShowAll, ShowsWorld, IsPlaced, IsSim, AreKept, no_view, view_at, frames_of, AreCounted, AreAcked, KeepUnacknowledged}
 use Rattle.world.proofs.Shows.{same-sim}
 
 abbrev pub new_sim : Shaped → Simulated
@@ -77,6 +77,13 @@ new-counted shape = λ i j.
     let zero-kept : (link_to (view_at (new_sim shape).present i) j).kept ≡ 0 = at_map (λ (v : NodeView). (link_to v j).kept ≡ 0) (new_view shape) (range_with_len 0 shape.nodes) i no_view refl (λ x. ap (λ (l : Link). l.kept) (get_or-replicate_any shape.nodes j no_link)) in
     zero-kept ∙ sym (ap length (nothing-sent shape i j))
 
+-- nothing is let go of
+new-base : (shape : Shaped) (i j : ℕ) → (link_to (view_at (new_sim shape).present i) j).base ≡ 0
+new-base shape i j = at_map (λ (v : NodeView). (link_to v j).base ≡ 0) (new_view shape) (range_with_len 0 shape.nodes) i no_view refl (λ x. ap (λ (l : Link). l.base) (get_or-replicate_any shape.nodes j no_link))
+
+new-keeps : (shape : Shaped) → KeepUnacknowledged (new_sim shape).present (new_world shape)
+new-keeps shape = λ i j. omega (arith, new-base shape i j)
+
 -- and nothing acknowledged
 new-acked : (shape : Shaped) → AreAcked (new_sim shape).present (new_nodes shape)
 new-acked shape = λ i. both_map (λ (v : NodeView) (s : NodeState). v.acks ≡ s.part.got) (new_view shape) (new_node shape) (range_with_len 0 shape.nodes) i no_view no_node refl (λ x. refl)
@@ -91,6 +98,8 @@ new-shows shape = record {
   saved_counted = new-counted shape;
   present_acked = new-acked shape;
   saved_acked = new-acked shape;
+  present_keeps = new-keeps shape;
+  saved_keeps = new-keeps shape;
 }
 
 new-placed : (shape : Shaped) (i : ℕ) → i < shape.nodes → IsPlaced shape.nodes i (view_at (new_sim shape).present i)
@@ -98,9 +107,7 @@ new-placed shape i less =
     subst (IsPlaced shape.nodes i) (sym (get_or-map-range_with_len (new_view shape) 0 shape.nodes i i no_view less (omega arith))) (record { own = refl; nodes = refl; links = length-replicate shape.nodes no_link })
 
 new-kept : (shape : Shaped) → AreKept (new_sim shape).present (new_sim shape).released
-new-kept shape = λ i j.
-    let zero-base : (link_to (view_at (new_sim shape).present i) j).base ≡ 0 = at_map (λ (v : NodeView). (link_to v j).base ≡ 0) (new_view shape) (range_with_len 0 shape.nodes) i no_view refl (λ x. ap (λ (l : Link). l.base) (get_or-replicate_any shape.nodes j no_link)) in
-    omega (arith, zero-base)
+new-kept shape = λ i j. omega (arith, new-base shape i j)
 
 pub new-is-sim : (shape : Shaped) → IsShape shape → IsSim (new_sim shape)
 new-is-sim shape h =

@@ -1,5 +1,5 @@
 -- A save of the code's space is that of the definitions.
-use Rattle.std.proofs.Common.{◌≡◌, ◌≢◌, ℕ, ◌+◌, ◌-◌, ◌<◌, ◌≤◌, false, List, [], length, map, take, get_or, set, slice_get, Option, Some, None, Ok, leb, ⊎_elim, refl, ap, sym, ◌∙◌, subst, arith}
+use Rattle.std.proofs.Common.{◌≡◌, ◌≢◌, ℕ, ◌+◌, ◌-◌, ◌<◌, ◌≤◌, false, List, [], length, map, take, get_or, set, slice_get, Option, Some, None, Ok, leb, ⊎_elim, le_refl, le_trans, refl, ap, sym, ◌∙◌, subst, arith}
 use Rattle.std.proofs.Math.ListN.{get_or-map, get_or-eq_default}
 use Rattle.std.proofs.Math.Seq.{take-length}
 use Rattle.std.proofs.lemmas.Bool.{cases_lt, lt-leb, cond-true, cond-false}
@@ -10,14 +10,14 @@ use Rattle.ids.specs.declared.limits.TheConstants.{GREATEST_NODES}
 use Rattle.msg.specs.declared.body.Message.{Message}
 use Rattle.model.specs.declared.step.Step.TheVariants as step
 use Rattle.model.specs.declared.step.Outcome.TheVariants as outcome
-use Rattle.model.specs.State.{Part, NodeState, node_at, no_node, sent_to}
+use Rattle.model.specs.State.{Part, NodeState, node_at, no_node, got_from, sent_to}
 use Rattle.model.specs.View.{Link, NodeView, Shows, ShowsSent, no_link, link_to, used, kept_view, all_kept, base_of, message_of}
-use Rattle.model.specs.World.{World, take_step}
+use Rattle.model.specs.World.{World, acknowledged, take_step}
 use Rattle.model.proofs.Lookups.{at_set_if, both_set_if, map-set_same, slice_get-take, slice_get-drop}
 use Rattle.laws.proofs.Lookups.{slice_get-grows, Grows}
 use Rattle.world.specs.Outboxes.{OutboxView, no_outbox, IsFrameOf, IsStaged, released_frames, all_released}
-use Rattle.world.specs.Shows.{Simulated, ShowsWorld, FollowsStep, AreCounted, AreAcked, AreKept, IsPlaced, IsSim, no_view, view_at, frames_of, bases, bases_of, bases_after}
-use Rattle.world.proofs.Shows.{show-set, show-again, grown-by, is-node, row_of}
+use Rattle.world.specs.Shows.{Simulated, ShowsWorld, FollowsStep, AreCounted, AreAcked, AreKept, KeepUnacknowledged, IsPlaced, IsSim, no_view, view_at, frames_of, bases, bases_of, bases_after}
+use Rattle.world.proofs.Shows.{show-set, show-again, keeps-set, grown-by, is-node, row_of}
 
 -- counting all messages as saved changes nothing else
 kept-shown : (l : Link) (sent : List Message) → ShowsSent l sent → ShowsSent (all_kept l) sent
@@ -145,8 +145,21 @@ acked-saved nodes states i v s width all shown = λ a.
     both_set_if (λ (z : NodeView) (t : NodeState). z.acks ≡ t.part.got) nodes states no_view no_node i (kept_view v) s width a
     (λ e. ap (λ (p : Part). p.got) shown.part) (all a)
 
-shows-saved : (n : Simulated) (w : World) (i : ℕ) (before after : List OutboxView) → ShowsWorld n w → IsSim n → i < length n.present → Staging n i before after → take_step w (step.Save i) ≡ Ok (record w { saved = set w.saved i (node_at w.current i) }, outcome.Done) → ShowsWorld (saved_sim n i (view_at n.present i) after) (record w { saved = set w.saved i (node_at w.current i) })
-shows-saved n w i before after h sim within staging answer =
+-- a save acknowledges no less than before, where the present node has taken in what it acknowledges
+acknowledged-more : (w : World) (i : ℕ) → ((a : ℕ) → acknowledged w a i ≤ got_from (node_at w.current i).part a) → (a j : ℕ) → acknowledged w a j ≤ acknowledged (record w { saved = set w.saved i (node_at w.current i) }) a j
+acknowledged-more w i heard a j =
+    at_set_if (λ (s : NodeState). acknowledged w a j ≤ got_from s.part a) w.saved i j (node_at w.current i) no_node
+    (λ e. subst (λ (k : ℕ). acknowledged w a k ≤ got_from (node_at w.current i).part a) e (heard a))
+    (le_refl _)
+
+keeps-saved : (nodes : List NodeView) (w : World) (i : ℕ) (u : NodeView) → KeepUnacknowledged nodes w → ((j : ℕ) → (link_to u j).base ≤ acknowledged w i j) → ((a : ℕ) → acknowledged w a i ≤ got_from (node_at w.current i).part a) → KeepUnacknowledged (set nodes i (kept_view u)) (record w { saved = set w.saved i (node_at w.current i) })
+keeps-saved nodes w i u all here heard =
+    keeps-set nodes (record w { saved = set w.saved i (node_at w.current i) }) i (kept_view u)
+    (λ a j. le_trans (all a j) (acknowledged-more w i heard a j))
+    (λ j. le_trans (subst (λ (b : ℕ). b ≤ acknowledged w i j) (sym (kept-base u j)) (here j)) (acknowledged-more w i heard i j))
+
+shows-saved : (n : Simulated) (w : World) (i : ℕ) (before after : List OutboxView) → ShowsWorld n w → IsSim n → i < length n.present → ((a : ℕ) → acknowledged w a i ≤ got_from (node_at w.current i).part a) → Staging n i before after → take_step w (step.Save i) ≡ Ok (record w { saved = set w.saved i (node_at w.current i) }, outcome.Done) → ShowsWorld (saved_sim n i (view_at n.present i) after) (record w { saved = set w.saved i (node_at w.current i) })
+shows-saved n w i before after h sim within heard staging answer =
     let u : NodeView = view_at n.present i in
     let shown : Shows (kept_view u) (node_at w.current i) = kept-shows u (node_at w.current i) (h.current.each i) in
     record {
@@ -161,13 +174,21 @@ shows-saved n w i before after h sim within staging answer =
       saved_counted = counted-saved n.saved w.saved i u (node_at w.current i) h.saved.width h.saved_counted (h.current.each i);
       present_acked = acked-saved n.present w.saved i u (node_at w.current i) (h.current.width ∙ sym h.grown.width) h.present_acked (h.current.each i);
       saved_acked = acked-saved n.saved w.saved i u (node_at w.current i) h.saved.width h.saved_acked (h.current.each i);
+      present_keeps = keeps-saved n.present w i u h.present_keeps (h.present_keeps i) heard;
+      saved_keeps = keeps-saved n.saved w i u h.saved_keeps (h.present_keeps i) heard;
     }
 
-pub save-follows : (n : Simulated) (w : World) (i : ℕ) (before after : List OutboxView) → ShowsWorld n w → IsSim n → i < length n.present → Staging n i before after → FollowsStep (Ok outcome.Done) (saved_sim n i (view_at n.present i) after) (take_step w (step.Save i))
+-- what is acknowledged was taken in
+heard-shown : (n : Simulated) (w : World) (i : ℕ) → ShowsWorld n w → ((a : ℕ) → get_or (view_at n.present i).acks a 0 ≤ got_from (view_at n.present i).part a) → (a : ℕ) → acknowledged w a i ≤ got_from (node_at w.current i).part a
+heard-shown n w i h sound a =
+    subst (λ (g : List ℕ). get_or g a 0 ≤ got_from (node_at w.current i).part a) (h.present_acked i)
+    (subst (λ (p : Part). get_or (view_at n.present i).acks a 0 ≤ got_from p a) (h.current.each i).part (sound a))
+
+pub save-follows : (n : Simulated) (w : World) (i : ℕ) (before after : List OutboxView) → ShowsWorld n w → IsSim n → i < length n.present → ((a : ℕ) → get_or (view_at n.present i).acks a 0 ≤ got_from (view_at n.present i).part a) → Staging n i before after → FollowsStep (Ok outcome.Done) (saved_sim n i (view_at n.present i) after) (take_step w (step.Save i))
 unfolding take_step
-save-follows n w i before after h sim within staging =
+save-follows n w i before after h sim within sound staging =
     let answer : take_step w (step.Save i) ≡ Ok (record w { saved = set w.saved i (node_at w.current i) }, outcome.Done) = cond-true _ _ _ (is-node n w i h within) in
-    (record w { saved = set w.saved i (node_at w.current i) }, answer, shows-saved n w i before after h sim within staging answer)
+    (record w { saved = set w.saved i (node_at w.current i) }, answer, shows-saved n w i before after h sim within (heard-shown n w i h sound) staging answer)
 
 placed-set : (count i : ℕ) (nodes : List NodeView) (v : NodeView) (j : ℕ) → IsPlaced count i v → IsPlaced count j (view_at nodes j) → IsPlaced count j (view_at (set nodes i v) j)
 placed-set count i nodes v j here there =

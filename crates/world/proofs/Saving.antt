@@ -8,8 +8,10 @@ use Rattle.std.proofs.lemmas.List.{length-map, with_items_is}
 use Rattle.std.proofs.Math.ListN.{get_or-map}
 use Rattle.model.specs.declared.step.Step.TheVariants as step
 use Rattle.model.specs.declared.step.Outcome.TheVariants as outcome
+use Rattle.model.specs.State.{got_from}
 use Rattle.model.specs.View.{NodeView, link_to, kept_view}
 use Rattle.model.specs.World.{World, take_step}
+use Rattle.node.specs.Invariant.{IsNode}
 use Rattle.world.specs.InsideSim.{view_of}
 use Rattle.world.specs.Outboxes.{OutboxView, no_outbox, released_frames, all_released, IsStaged}
 use Rattle.world.specs.Rows.{rows_of}
@@ -86,9 +88,9 @@ pub saved-sound : (s : Inside) (m : Simulated) (i : ℕ) (row : Vec OutboxView G
 saved-sound s m i row staged released present saved seen h less saving =
     subst IsSim (sym saving.view) (sim-saved (view_of s) i row.items staged h (within-seen (view_of s) m i seen less) saving.staging)
 
-pub saved-follows : (s : Inside) (m : Simulated) (w : World) (i node : ℕ) (row : Vec OutboxView Global) (staged released : List OutboxView) (present saved : NodeView) → view_of s ≡ m → IsSim (view_of s) → ShowsWorld m w → i < length m.present → i ≡ node → SavedAs s i row staged released present saved → FollowsStep (Ok outcome.Done) (record { present = set s.present.items i present; saved = set s.saved.items i saved; released = rows_of (set s.outboxes.items i (with_items (with_items row staged) released)) }) (take_step w (step.Save node))
-saved-follows s m w i node row staged released present saved seen h shown less named saving =
-    let here : FollowsStep (Ok outcome.Done) (saved_sim (view_of s) i (view_at s.present.items i) staged) (take_step w (step.Save i)) = save-follows (view_of s) w i row.items staged (shows-seen (view_of s) m w seen shown) h (within-seen (view_of s) m i seen less) saving.staging in
+pub saved-follows : (s : Inside) (m : Simulated) (w : World) (i node : ℕ) (row : Vec OutboxView Global) (staged released : List OutboxView) (present saved : NodeView) → view_of s ≡ m → IsSim (view_of s) → ShowsWorld m w → i < length m.present → i ≡ node → ((a : ℕ) → get_or (view_at s.present.items i).acks a 0 ≤ got_from (view_at s.present.items i).part a) → SavedAs s i row staged released present saved → FollowsStep (Ok outcome.Done) (record { present = set s.present.items i present; saved = set s.saved.items i saved; released = rows_of (set s.outboxes.items i (with_items (with_items row staged) released)) }) (take_step w (step.Save node))
+saved-follows s m w i node row staged released present saved seen h shown less named sound saving =
+    let here : FollowsStep (Ok outcome.Done) (saved_sim (view_of s) i (view_at s.present.items i) staged) (take_step w (step.Save i)) = save-follows (view_of s) w i row.items staged (shows-seen (view_of s) m w seen shown) h (within-seen (view_of s) m i seen less) sound saving.staging in
     let there : FollowsStep (Ok outcome.Done) (saved_sim (view_of s) i (view_at s.present.items i) staged) (take_step w (step.Save node)) = subst (λ (k : ℕ). FollowsStep (Ok outcome.Done) (saved_sim (view_of s) i (view_at s.present.items i) staged) (take_step w (step.Save k))) named here in
     subst (λ (n : Simulated). FollowsStep (Ok outcome.Done) n (take_step w (step.Save node))) (sym saving.view) there
 
@@ -97,3 +99,8 @@ saved-let-go s m i node row staged released present saved seen named saving =
     ap bases_of saving.view ∙ saved-lets-go (view_of s) i staged
     ∙ ap (λ (z : Simulated). bases_after (bases_of z) (step.Save i) outcome.Done) seen
     ∙ ap (λ (k : ℕ). bases_after (bases_of m) (step.Save k) outcome.Done) named
+
+-- what the copy acknowledges it has taken in, and so has the node that was copied
+pub heard-copied : (s : Inside) (m : Simulated) (i : ℕ) (copy u : NodeView) → view_of s ≡ m → i < length m.present → copy ≡ u → u ≡ get_or s.present.items i u → IsNode copy → (a : ℕ) → get_or (view_at s.present.items i).acks a 0 ≤ got_from (view_at s.present.items i).part a
+heard-copied s m i copy u seen less copied read sound a =
+    subst (λ (v : NodeView). get_or v.acks a 0 ≤ got_from v.part a) (copied-is (view_of s) m i copy u seen less copied read) (sound.acks a)

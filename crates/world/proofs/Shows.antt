@@ -16,12 +16,12 @@ use Rattle.model.specs.declared.step.Outcome.TheVariants as outcome
 use Rattle.model.specs.State.{NodeState, node_at, no_node, sent_to}
 use Rattle.model.specs.Steps.{act, is_own, ack_of}
 use Rattle.model.specs.View.{Link, NodeView, Shows, IsTold, Follows, no_link, link_to, base_of, kept_of}
-use Rattle.model.specs.World.{World, KeepsSent, take_step, happens, world_after, moved, is_node}
+use Rattle.model.specs.World.{World, KeepsSent, acknowledged, take_step, happens, world_after, moved, is_node}
 use Rattle.model.proofs.Lookups.{both_set, at_set_if, map-set_same}
 use Rattle.laws.proofs.KeepsSent.{keeps-sent}
 use Rattle.ids.specs.Limits.{Shaped}
 use Rattle.ids.specs.declared.limits.TheConstants.{GREATEST_NODES}
-use Rattle.world.specs.Shows.{Simulated, ShowAll, ShowsWorld, FollowsStep, AreCounted, AreAcked, AreKept, IsPlaced, IsSim, no_view, view_at, frames_of, bases, bases_of, bases_after}
+use Rattle.world.specs.Shows.{Simulated, ShowAll, ShowsWorld, FollowsStep, AreCounted, AreAcked, AreKept, KeepUnacknowledged, IsPlaced, IsSim, no_view, view_at, frames_of, bases, bases_of, bases_after}
 
 -- a step that the definitions answer leads to the space that happens
 pub grown-by : (w v : World) (s : Step) (o : Outcome) → KeepsSent w → take_step w s ≡ Ok (v, o) → KeepsSent v
@@ -55,16 +55,18 @@ kept-set nodes released i v all here = λ a j.
 pub same-sim : (ps qs xs ys : List NodeView) (rs ts : List (List (List (List ℕ)))) → ps ≡ qs → xs ≡ ys → rs ≡ ts → ◌≡◌ {A = Simulated} (record { present = ps; saved = xs; released = rs }) (record { present = qs; saved = ys; released = ts })
 same-sim ps qs xs ys rs ts a b c = cc
 
--- what a node counts as released, and acknowledges
+-- what a node counts as released, acknowledges, and has let go of
 pub record IsCounted (w : World) (i : ℕ) (v : NodeView) : Type 0 where
   pub kept : (j : ℕ) → (link_to v j).kept ≡ length (sent_to (node_at w.saved i) j)
   pub acks : v.acks ≡ (node_at w.saved i).part.got
+  pub base : (j : ℕ) → (link_to v j).base ≤ acknowledged w i j
 
 -- it is what it was
-pub counted-as : (n : Simulated) (w : World) (i : ℕ) (v : NodeView) → ShowsWorld n w → map kept_of v.links ≡ map kept_of (view_at n.present i).links → v.acks ≡ (view_at n.present i).acks → IsCounted w i v
-counted-as n w i v h same acks = record {
+pub counted-as : (n : Simulated) (w : World) (i : ℕ) (v : NodeView) → ShowsWorld n w → map kept_of v.links ≡ map kept_of (view_at n.present i).links → v.acks ≡ (view_at n.present i).acks → ((j : ℕ) → (link_to v j).base ≤ acknowledged w i j) → IsCounted w i v
+counted-as n w i v h same acks base = record {
   kept = λ j. link-same kept_of v (view_at n.present i) j same ∙ h.present_counted i j;
   acks = acks ∙ h.present_acked i;
+  base = base;
 }
 
 pub counted-set : (nodes : List NodeView) (states : List NodeState) (i : ℕ) (v : NodeView) → AreCounted nodes states → ((j : ℕ) → (link_to v j).kept ≡ length (sent_to (node_at states i) j)) → AreCounted (set nodes i v) states
@@ -79,6 +81,12 @@ acked-set nodes states i v all here = λ a.
     (λ e. subst (λ (k : ℕ). v.acks ≡ (node_at states k).part.got) e here)
     (all a)
 
+pub keeps-set : (nodes : List NodeView) (w : World) (i : ℕ) (v : NodeView) → KeepUnacknowledged nodes w → ((j : ℕ) → (link_to v j).base ≤ acknowledged w i j) → KeepUnacknowledged (set nodes i v) w
+keeps-set nodes w i v all here = λ a j.
+    at_set_if (λ (z : NodeView). (link_to z j).base ≤ acknowledged w a j) nodes i a v no_view
+    (λ e. subst (λ (k : ℕ). (link_to v j).base ≤ acknowledged w k j) e (here j))
+    (all a j)
+
 -- one node's present state changes
 pub shows-moved : (n : Simulated) (w : World) (i : ℕ) (v : NodeView) (s : NodeState) (e : Step) (o : Outcome) → ShowsWorld n w → IsCounted w i v → take_step w e ≡ Ok (record w { current = set w.current i s }, o) → Shows v s → ShowsWorld (record n { present = set n.present i v }) (record w { current = set w.current i s })
 shows-moved n w i v s e o h counted answered here = record {
@@ -90,6 +98,8 @@ shows-moved n w i v s e o h counted answered here = record {
   saved_counted = h.saved_counted;
   present_acked = acked-set n.present w.saved i v h.present_acked counted.acks;
   saved_acked = h.saved_acked;
+  present_keeps = keeps-set n.present w i v h.present_keeps counted.base;
+  saved_keeps = h.saved_keeps;
 }
 
 -- what a node answered, as what became of the step
@@ -146,7 +156,7 @@ restart-follows n w i h within =
     let answer : take_step w (step.Restart i) ≡ Ok (record w { current = set w.current i (node_at w.saved i) }, outcome.Done) = cond-true _ _ _ (is-node n w i h within) in (
       record w { current = set w.current i (node_at w.saved i) },
       answer,
-      shows-moved n w i (view_at n.saved i) (node_at w.saved i) (step.Restart i) outcome.Done h (record { kept = h.saved_counted i; acks = h.saved_acked i }) answer (h.saved.each i),
+      shows-moved n w i (view_at n.saved i) (node_at w.saved i) (step.Restart i) outcome.Done h (record { kept = h.saved_counted i; acks = h.saved_acked i; base = h.saved_keeps i }) answer (h.saved.each i),
     )
 
 pub restart-no-node : (n : Simulated) (w : World) (i : ℕ) → ShowsWorld n w → length n.present ≤ i → FollowsStep (Err NoNode) n (take_step w (step.Restart i))
@@ -199,21 +209,21 @@ sim-acted n m i u v seen h less read place bases =
     sim-moved n i v h (placed-acted (length n.present) i u v was place bases) low
 
 -- what the node counts as released, as it was read from its place
-pub counted-read : (n : Simulated) (w : World) (i : ℕ) (u v : NodeView) → ShowsWorld n w → i < length n.present → u ≡ get_or n.present i u → map kept_of v.links ≡ map kept_of u.links → v.acks ≡ u.acks → IsCounted w i v
-counted-read n w i u v h within read kept acks =
+pub counted-read : (n : Simulated) (w : World) (i : ℕ) (u v : NodeView) → ShowsWorld n w → i < length n.present → u ≡ get_or n.present i u → map kept_of v.links ≡ map kept_of u.links → v.acks ≡ u.acks → map base_of v.links ≡ map base_of u.links → IsCounted w i v
+counted-read n w i u v h within read kept acks bases =
     let there : u ≡ view_at n.present i = read-is n.present i u within read in
-    counted-as n w i v h (kept ∙ ap (λ (z : NodeView). map kept_of z.links) there) (acks ∙ ap (λ (z : NodeView). z.acks) there)
+    counted-as n w i v h (kept ∙ ap (λ (z : NodeView). map kept_of z.links) there) (acks ∙ ap (λ (z : NodeView). z.acks) there) (λ j. subst (λ (b : ℕ). b ≤ acknowledged w i j) (sym (link-same base_of v u j bases ∙ ap (λ (z : NodeView). (link_to z j).base) there)) (h.present_keeps i j))
 
 -- what the node does follows from its state
 pub node-follows : (n : Simulated) (w : World) (i : ℕ) (e : Event) (u v : NodeView) (r : Result Answer Refusal) → ShowsWorld n w → i < length n.present → u ≡ get_or n.present i u → ((s : NodeState) → Shows u s → Follows e r v (act s e)) → Follows e r v (act (node_at w.current i) e)
 node-follows n w i e u v r h within read follows =
     follows (node_at w.current i) (subst (λ (z : NodeView). Shows z (node_at w.current i)) (sym (read-is n.present i u within read)) (h.current.each i))
 
-pub acted-follows : (n m : Simulated) (w : World) (i node : ℕ) (e : Event) (u v : NodeView) (r : Result Answer Refusal) → n ≡ m → ShowsWorld m w → i < length m.present → i ≡ node → is_own e ≡ true → u ≡ get_or n.present i u → map kept_of v.links ≡ map kept_of u.links → v.acks ≡ u.acks → ((s : NodeState) → Shows u s → Follows e r v (act s e)) → FollowsStep (answered r) (record n { present = set n.present i v }) (take_step w (step.Act node e))
-acted-follows n m w i node e u v r seen shown less named own read kept acks follows =
+pub acted-follows : (n m : Simulated) (w : World) (i node : ℕ) (e : Event) (u v : NodeView) (r : Result Answer Refusal) → n ≡ m → ShowsWorld m w → i < length m.present → i ≡ node → is_own e ≡ true → u ≡ get_or n.present i u → map kept_of v.links ≡ map kept_of u.links → v.acks ≡ u.acks → map base_of v.links ≡ map base_of u.links → ((s : NodeState) → Shows u s → Follows e r v (act s e)) → FollowsStep (answered r) (record n { present = set n.present i v }) (take_step w (step.Act node e))
+acted-follows n m w i node e u v r seen shown less named own read kept acks bases follows =
     let within : i < length n.present = within-seen n m i seen less in
     let h : ShowsWorld n w = shows-seen n m w seen shown in
-    subst (λ (k : ℕ). FollowsStep (answered r) (record n { present = set n.present i v }) (take_step w (step.Act k e))) named (act-follows n w i e v r h (counted-read n w i u v h within read kept acks) within own (node-follows n w i e u v r h within read follows))
+    subst (λ (k : ℕ). FollowsStep (answered r) (record n { present = set n.present i v }) (take_step w (step.Act k e))) named (act-follows n w i e v r h (counted-read n w i u v h within read kept acks bases) within own (node-follows n w i e u v r h within read follows))
 
 -- a restart as the code has it: u is the saved node, v its copy
 restarted-is : (n : Simulated) (i : ℕ) (u v : NodeView) → IsSim n → i < length n.present → u ≡ get_or n.saved i u → v ≡ u → v ≡ view_at n.saved i

@@ -9,7 +9,7 @@ use Rattle.model.specs.declared.step.Outcome.TheVariants as outcome
 use Rattle.model.specs.Checks.{IsFirstRefusal}
 use Rattle.model.specs.State.{NodeState, node_at, sent_to}
 use Rattle.model.specs.View.{NodeView, Shows, new_view, link_to, base_of}
-use Rattle.model.specs.World.{World, KeepsSent, is_node}
+use Rattle.model.specs.World.{World, KeepsSent, acknowledged, is_node}
 use Rattle.node.specs.Summaries.{summary_of}
 use Rattle.node.specs.declared.summary.Summary.{Summary}
 use Rattle.world.specs.Outboxes.{IsFrameOf}
@@ -47,6 +47,10 @@ AreCounted nodes states = (i j : ℕ) → (link_to (view_at nodes i) j).kept ≡
 abbrev pub AreAcked : List NodeView → List NodeState → Type 0
 AreAcked nodes states = (i : ℕ) → (view_at nodes i).acks ≡ (node_at states i).part.got
 
+-- no node has let go of a message that isn't acknowledged: the receiver, as saved, has taken it in
+abbrev pub KeepUnacknowledged : List NodeView → World → Type 0
+KeepUnacknowledged nodes w = (i j : ℕ) → (link_to (view_at nodes i) j).base ≤ acknowledged w i j
+
 pub record ShowsWorld (n : Simulated) (w : World) : Type 0 where
   pub current : ShowAll n.present w.current
   pub saved : ShowAll n.saved w.saved
@@ -58,6 +62,8 @@ pub record ShowsWorld (n : Simulated) (w : World) : Type 0 where
   -- a node acknowledges what its saved state has taken in
   pub present_acked : AreAcked n.present w.saved
   pub saved_acked : AreAcked n.saved w.saved
+  pub present_keeps : KeepUnacknowledged n.present w
+  pub saved_keeps : KeepUnacknowledged n.saved w
 
 -- What a step answered, and the space after it, against the step of the definitions: an answer is the
 -- definition's, and the code then shows the definition's space; a refusal is the first that applies.

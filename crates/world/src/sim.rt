@@ -123,6 +123,8 @@ impl Sim {
         let alloc = self.alloc;
         let count = self.count();
         let mut copy = self.present[place].copy(alloc)?;
+        // So it has taken in what it acknowledges.
+        copy.sound();
         let row = &mut self.outboxes[place];
         stage_all(alloc, row, &copy, count)?;
         release_all(row);

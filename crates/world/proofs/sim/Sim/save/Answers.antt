@@ -4,7 +4,7 @@ use Rattle.model.specs.View.{NodeView}
 use Rattle.world.specs.InsideSim.{view_of}
 use Rattle.world.specs.Shows.{Simulated, IsSim}
 use Rattle.world.proofs.Rows.{row-width}
-use Rattle.world.proofs.Saving.{copied-is, copied-kept, refused-is, saved-as, saved-sound, saved-follows, saved-let-go}
+use Rattle.world.proofs.Saving.{copied-is, copied-kept, refused-is, saved-as, saved-sound, saved-follows, saved-let-go, heard-copied}
 use Rattle.world.proofs.Shows.{save-no-node, within-seen}
 use Rattle.world.proofs.sim.Sim.save.Goals as goal
 
@@ -45,7 +45,7 @@ invariant_of-self-2 c =
 pub returns-clause-follows : goal.returns-clause-follows
 returns-clause-follows c = λ w h.
     let saving = saved-as c.self.inside c.args.self.now c.from-place.result c.count-count.result c.in_ok-copy.copy c.index.result.now c.index_mut-present.result.now c.kept.new.self c.kept-2.new.self c.index_mut-row.result.now c.deref_mut.result.now c.stage_all.new.row c.deref_mut-2.result.now c.release_all.new.row c.self.view_is c.self.invariant (omega (arith, c.count.ensures, c.count-count.ensures, c.from-place.ensures)) c.count-count.ensures c.in_ok-copy.ensures.same c.index.ensures c.index_mut-present.ensures.value c.kept.ensures c.kept-2.ensures c.index_mut-row.ensures.value c.deref_mut.ensures.value c.in_ok-stage_all.ensures.released c.in_ok-stage_all.ensures.staged c.deref_mut-2.ensures.value c.release_all.ensures in
-    saved-follows c.self.inside c.args.self.now w c.from-place.result c.args.node c.index_mut-row.result.now c.stage_all.new.row c.release_all.new.row c.kept.new.self c.kept-2.new.self c.self.view_is c.self.invariant h (omega (arith, c.count.ensures, c.count-count.ensures, c.from-place.ensures)) c.from-place.ensures saving
+    saved-follows c.self.inside c.args.self.now w c.from-place.result c.args.node c.index_mut-row.result.now c.stage_all.new.row c.release_all.new.row c.kept.new.self c.kept-2.new.self c.self.view_is c.self.invariant h (omega (arith, c.count.ensures, c.count-count.ensures, c.from-place.ensures)) c.from-place.ensures (heard-copied c.self.inside c.args.self.now c.from-place.result c.in_ok-copy.copy c.index.result.now c.self.view_is (omega (arith, c.count.ensures, c.count-count.ensures, c.from-place.ensures)) c.in_ok-copy.ensures.same c.index.ensures c.sound.ensures.node) saving
 
 pub returns-clause-lets_go : goal.returns-clause-lets_go
 returns-clause-lets_go c =
