@@ -56,7 +56,9 @@ impl Receiver {
         }
     }
 
-    /// Counts the next message as taken in.
+    /// Counts the next message as taken in. It is called where [`Receiver::offer`] has answered
+    /// [`Offer::Next`] for a number that a frame can have, which is at most
+    /// [`GREATEST_NUMBER`](ids::GREATEST_NUMBER).
     pub fn take_next(&mut self)
         requires { self.old.taken < GREATEST_NUMBER }
         ensures { self.new ≡ taken_next self.old }
