@@ -26,7 +26,7 @@ pub none-beyond : NoneBeyond
 none-beyond shape within steps from to = (all-sound shape within steps (λ _. true)).base.within from to
 
 -- so the tests of an acknowledgement pass
-hand-passes : (w : World) (from to : ℕ) → from < length w.current → to < length w.current → from ≢ to → is_addressed (node_at w.current from).part to from ≡ true → acknowledged w from to ≤ release_count w from to → take_step w (step.Hand from to) ≡ Ok (w, outcome.Handed (acknowledged w from to))
+hand-passes : (w : World) (from to : ℕ) → from < length w.current → to < length w.current → from ≢ to → is_addressed (node_at w.current from).local to from ≡ true → acknowledged w from to ≤ release_count w from to → take_step w (step.Hand from to) ≡ Ok (w, outcome.Handed (acknowledged w from to))
 unfolding take_step
 hand-passes w from to f t apart addressed fewer =
     cond-true _ _ _ (and_from _ _ (lt-ltb from (length w.current) f) (lt-ltb to (length w.current) t)) ∙ cond-false _ _ _ (ne_eqb from to apart)
@@ -38,20 +38,20 @@ hands-go-through shape within steps from to f t apart =
     let count : length w.current ≡ shape.nodes = run-count (new_world shape) steps ∙ length-map-range_with_len (new_node shape) 0 shape.nodes in
     let base = (all-sound shape within steps (λ _. false)).base in
     hand-passes w from to (subst (λ (k : ℕ). from < k) (sym count) f) (subst (λ (k : ℕ). to < k) (sym count) t) apart
-    (addressed-between (node_at w.current from).part to from shape.nodes (base.own from f) (base.nodes from f) t (λ e. apart (sym e)))
+    (addressed-between (node_at w.current from).local to from shape.nodes (base.own from f) (base.nodes from f) t (λ e. apart (sym e)))
     (none-beyond shape within steps from to)
 
 -- of every node's messages as many were taken in, or more
 abbrev HeardMore : NodeState → NodeState → Type 0
-HeardMore s t = (from : ℕ) → got_from s.part from ≤ got_from t.part from
+HeardMore s t = (from : ℕ) → got_from s.local from ≤ got_from t.local from
 
 act-heard : (s : NodeState) (e : Event) (t : NodeState) (a : Answer) → is_own e ≡ true → act s e ≡ Ok (t, a) → HeardMore s t
-act-heard s e t a own answered = subst (HeardMore s) (sym (act-ok s e t a answered).state) (own-heard s.part (map length s.sent) e own)
+act-heard s e t a own answered = subst (HeardMore s) (sym (act-ok s e t a answered).state) (own-heard s.local (map length s.sent) e own)
 
 receive-heard : (s : NodeState) (from to number stamp : ℕ) (b : Body) (t : NodeState) (a : Answer) → Receipt s from to number stamp b t a → HeardMore s t
 receive-heard s from to number stamp b t a (repeated same says) = subst (HeardMore s) (sym same) (λ j. le_refl _)
 receive-heard s from to number stamp b t a (next turn may found) =
-    subst (HeardMore s) (sym found.state) (receipt-heard s.part from number stamp b (omega arith))
+    subst (HeardMore s) (sym found.state) (receipt-heard s.local from number stamp b (omega arith))
 
 heard-onward : Onward HeardMore
 heard-onward = record {

@@ -14,7 +14,7 @@ use Rattle.model.specs.Cuts.{Cut, cut, taken, IsInFlight, Becomes, PlainStep, ac
 use Rattle.laws.specs.Statements.{CutsExtend}
 use Rattle.model.proofs.Lookups.{at_set_if}
 use Rattle.laws.proofs.Lookups.{Grows, grows-refl, slice_get-grows}
-use Rattle.laws.proofs.StepFacts.{Happening, nothing, acted, handed, saved, restarted, happening, Receipt, repeated, next, receipt-cases}
+use Rattle.laws.proofs.StepFacts.{Happening, nothing, acted, delivered, saved, restarted, happening, Receipt, repeated, next, receipt-cases}
 use Rattle.laws.proofs.KeepsSent.{keeps-sent, new-keeps-sent}
 
 -- one plain run after another
@@ -26,7 +26,7 @@ run-run p (further q s) = further (run-run p q) s
 one-step : {c d : Cut} → PlainStep c d → PlainRun c d
 one-step {c = c} s = further (still (λ i. refl)) s
 
--- a node's present state changed: this doesn't show where its saved state is chosen
+-- a node's current state changed: this doesn't show where its saved state is chosen
 hidden : (w : World) (i : ℕ) (t : NodeState) (choice : ℕ → Bool) → choice i ≡ true → (j : ℕ) → cut (record w { current = set w.current i t }) choice j ≡ cut w choice j
 hidden w i t choice chosen j =
     at_set_if (λ z. cond (choice j) (node_at w.saved j) z ≡ cut w choice j) w.current i j t no_node
@@ -41,9 +41,9 @@ shown w i t choice within chosen = record {
   others = λ j other. ap (λ (z : NodeState). cond (choice j) (node_at w.saved j) z) (get_or-set_other w.current i j t no_node other);
 }
 
--- the present state, where that is chosen
-present : (w : World) (choice : ℕ → Bool) (i : ℕ) → choice i ≡ false → cut w choice i ≡ node_at w.current i
-present w choice i chosen = cond-false (choice i) _ _ chosen
+-- the current state, where that is chosen
+current-chosen : (w : World) (choice : ℕ → Bool) (i : ℕ) → choice i ≡ false → cut w choice i ≡ node_at w.current i
+current-chosen w choice i chosen = cond-false (choice i) _ _ chosen
 
 -- what a cut's node sent, its saved state sent first
 cut-sent : (w : World) (choice : ℕ → Bool) (i j : ℕ) → KeepsSent w → Grows (sent_to (node_at w.saved i) j) (sent_to (cut w choice i) j)
@@ -76,7 +76,7 @@ cut-acted w i e t a choice within own answered = (
   choice,
   ⊎_elim {C = PlainRun (cut w choice) (cut (record w { current = set w.current i t }) choice)}
       (λ chosen. still (hidden w i t choice chosen))
-      (λ chosen. one-step (acts i e t a own (subst (λ (z : NodeState). act z e ≡ Ok (t, a)) (sym (present w choice i chosen)) answered) (shown w i t choice within chosen)))
+      (λ chosen. one-step (acts i e t a own (subst (λ (z : NodeState). act z e ≡ Ok (t, a)) (sym (current-chosen w choice i chosen)) answered) (shown w i t choice within chosen)))
       (cases_Bool (choice i)),
 )
 
@@ -87,27 +87,27 @@ same-world w i t choice same =
     subst (λ (z : List NodeState). PlainRun (cut w choice) (cut (record w { current = z }) choice)) (sym states) (still (λ j. refl))
 
 -- a released message whose turn it is, is the first in flight
-turn-number : (w : World) (choice : ℕ → Bool) (from to number : ℕ) → choice to ≡ false → number ≡ got_from (node_at w.current to).part from + 1 → number ≡ taken (cut w choice) from to + 1
-turn-number w choice from to number chosen turn = turn ∙ ap (λ (z : NodeState). got_from z.part from + 1) (sym (present w choice to chosen))
+turn-number : (w : World) (choice : ℕ → Bool) (from to number : ℕ) → choice to ≡ false → number ≡ got_from (node_at w.current to).local from + 1 → number ≡ taken (cut w choice) from to + 1
+turn-number w choice from to number chosen turn = turn ∙ ap (λ (z : NodeState). got_from z.local from + 1) (sym (current-chosen w choice to chosen))
 
-pub cut-in_flight : (w : World) (from to number : ℕ) (x : Message) (choice : ℕ → Bool) → KeepsSent w → choice to ≡ false → released w from to number ≡ Some x → number ≡ got_from (node_at w.current to).part from + 1 → IsInFlight (cut w choice) from to (taken (cut w choice) from to) x
+pub cut-in_flight : (w : World) (from to number : ℕ) (x : Message) (choice : ℕ → Bool) → KeepsSent w → choice to ≡ false → released w from to number ≡ Some x → number ≡ got_from (node_at w.current to).local from + 1 → IsInFlight (cut w choice) from to (taken (cut w choice) from to) x
 cut-in_flight w from to number x choice h chosen there turn = record {
   later = le_refl _;
   there = cut-released w choice from to (taken (cut w choice) from to) x h
       (subst (λ (k : ℕ). released w from to k ≡ Some x) (turn-number w choice from to number chosen turn) there);
 }
 
-cut-received : (w : World) (from to number : ℕ) (x : Message) (t : NodeState) (a : Answer) (choice : ℕ → Bool) → KeepsSent w → choice to ≡ false → released w from to number ≡ Some x → number ≡ got_from (node_at w.current to).part from + 1 → receive (node_at w.current to) from to number x.stamp x.body ≡ Ok (t, a) → Becomes (cut w choice) (cut (record w { current = set w.current to t }) choice) to t → PlainStep (cut w choice) (cut (record w { current = set w.current to t }) choice)
+cut-received : (w : World) (from to number : ℕ) (x : Message) (t : NodeState) (a : Answer) (choice : ℕ → Bool) → KeepsSent w → choice to ≡ false → released w from to number ≡ Some x → number ≡ got_from (node_at w.current to).local from + 1 → receive (node_at w.current to) from to number x.stamp x.body ≡ Ok (t, a) → Becomes (cut w choice) (cut (record w { current = set w.current to t }) choice) to t → PlainStep (cut w choice) (cut (record w { current = set w.current to t }) choice)
 cut-received w from to number x t a choice h chosen there turn answered becomes =
-    let here : node_at w.current to ≡ cut w choice to = sym (present w choice to chosen) in
+    let here : node_at w.current to ≡ cut w choice to = sym (current-chosen w choice to chosen) in
     delivers from to x t a (cut-in_flight w from to number x choice h chosen there turn)
     (subst (λ (k : ℕ). receive (cut w choice to) from to k x.stamp x.body ≡ Ok (t, a)) (turn-number w choice from to number chosen turn)
     (subst (λ (z : NodeState). receive z from to number x.stamp x.body ≡ Ok (t, a)) here answered))
     becomes
 
-cut-handed : (w : World) (from to number : ℕ) (x : Message) (t : NodeState) (a : Answer) (choice : ℕ → Bool) → KeepsSent w → to < length w.current → released w from to number ≡ Some x → receive (node_at w.current to) from to number x.stamp x.body ≡ Ok (t, a) → Receipt (node_at w.current to) from to number x.stamp x.body t a → Before w (cut (record w { current = set w.current to t }) choice)
-cut-handed w from to number x t a choice h within there answered (repeated same says) = (choice, same-world w to t choice same)
-cut-handed w from to number x t a choice h within there answered (next turn may facts) = (
+cut-delivered : (w : World) (from to number : ℕ) (x : Message) (t : NodeState) (a : Answer) (choice : ℕ → Bool) → KeepsSent w → to < length w.current → released w from to number ≡ Some x → receive (node_at w.current to) from to number x.stamp x.body ≡ Ok (t, a) → Receipt (node_at w.current to) from to number x.stamp x.body t a → Before w (cut (record w { current = set w.current to t }) choice)
+cut-delivered w from to number x t a choice h within there answered (repeated same says) = (choice, same-world w to t choice same)
+cut-delivered w from to number x t a choice h within there answered (next turn may facts) = (
   choice,
   ⊎_elim {C = PlainRun (cut w choice) (cut (record w { current = set w.current to t }) choice)}
       (λ chosen. still (hidden w to t choice chosen))
@@ -124,7 +124,7 @@ either-first : (b : Bool) (x y : NodeState) → y ≡ x → cond b x y ≡ x
 either-first true x y h = refl
 either-first false x y h = h
 
--- a node was saved: its present state was in the cut before
+-- a node was saved: its current state was in the cut before
 cut-saved : (w : World) (i : ℕ) (choice : ℕ → Bool) → i < length w.saved → (j : ℕ) → cut (record w { saved = set w.saved i (node_at w.current i) }) choice j ≡ cut w (λ k. cond (eqb k i) false (choice k)) j
 cut-saved w i choice within j = ⊎_elim
     (λ (e : j ≡ i).
@@ -151,8 +151,8 @@ cut-restarted w i choice within j = ⊎_elim
 cut-happening : (w v : World) (choice : ℕ → Bool) → Happening w v → KeepsSent w → Before w (cut v choice)
 cut-happening w v choice nothing h = (choice, still (λ j. refl))
 cut-happening w v choice (acted i e t a within own answered) h = cut-acted w i e t a choice within own answered
-cut-happening w v choice (handed from to number x t a within there answered) h =
-    cut-handed w from to number x t a choice h within there answered (receipt-cases (node_at w.current to) from to number x.stamp x.body t a answered)
+cut-happening w v choice (delivered from to number x t a within there answered) h =
+    cut-delivered w from to number x t a choice h within there answered (receipt-cases (node_at w.current to) from to number x.stamp x.body t a answered)
 cut-happening w v choice (saved i within) h =
     let inside : i < length w.saved = omega (arith, h.width) in
     ((λ k. cond (eqb k i) false (choice k)), still (cut-saved w i choice inside))

@@ -10,7 +10,7 @@ use Rattle.msg.specs.declared.body.Body.TheVariants as body
 use Rattle.msg.specs.declared.body.Message.{Message}
 use Rattle.model.specs.declared.event.Answer.TheVariants as answer
 use Rattle.model.specs.Checks.{AllPass}
-use Rattle.model.specs.State.{Part, NodeState, Occupied, node_at, slot_at, sent_to, got_from}
+use Rattle.model.specs.State.{LocalState, NodeState, Occupied, node_at, slot_at, sent_to, got_from}
 use Rattle.model.specs.Steps.{carried, mentioned, target_of, may_follow, may_take, is_within, are_within, is_addressed, is_repeat, receipt_tests}
 use Rattle.model.specs.World.{World, KeepsSent, new_world, run, numbered, released}
 use Rattle.model.specs.Cuts.{Cut, cut, IsInFlight, Among, IsLive}
@@ -36,7 +36,7 @@ target-carried own b r may about = absurd cc
 received-target : (w : World) (from to number : ℕ) (x : Message) (t : NodeState) (r : Ref) → KeepsSent w → Closed (cut w (λ _. false)) → released w from to number ≡ Some x → target_of x.body ≡ Some r → Receipt (node_at w.current to) from to number x.stamp x.body t answer.Received → (r.node ≡ to) × IsLive (cut w (λ _. false)) r
 received-target w from to number x t r h closed there about (repeated same says) = absurd cc
 received-target w from to number x t r h closed there about (next turn may found) =
-    let p : Part = (node_at w.current to).part in
+    let p : LocalState = (node_at w.current to).local in
     let own : to ≡ p.own = eqb-true to p.own (and_parts _ _ found.passed.0).0 in
     let carries = target-carried p.own x.body r (and_parts (are_within p.shape (mentioned x.body)) _ (and_parts _ _ may).1).1 about in
     (carries.0 ∙ sym own, closed.messages from to (got_from p from) x r (cut-in_flight w from to number x (λ _. false) h refl there turn) carries.1)
@@ -66,9 +66,9 @@ released-between n w from to number x base there =
 -- what is live is within the shape
 live-within : (shape : Shaped) (c : Cut) (r : Ref) → Sound shape c → IsLive c r → is_within shape r ≡ true
 live-within shape c r sound live =
-    let inside : r.node < shape.nodes = inside-where shape.nodes c r.node (λ z. slot_at z.part.heap r.slot ≡ Occupied r.generation live.object) sound.base live.there (λ there. absurd cc) in
-    let used : r.slot < length (c r.node).part.heap.slots = occupied-within (c r.node).part.heap.slots r.slot r.generation (record { object = live.object; there = live.there }) in
-    let slots : (c r.node).part.shape.slots ≡ shape.slots = ap (λ (z : Shaped). z.slots) (sound.fitting.shapes r.node inside) in
+    let inside : r.node < shape.nodes = inside-where shape.nodes c r.node (λ z. slot_at z.local.heap r.slot ≡ Occupied r.generation live.object) sound.base live.there (λ there. absurd cc) in
+    let used : r.slot < length (c r.node).local.heap.slots = occupied-within (c r.node).local.heap.slots r.slot r.generation (record { object = live.object; there = live.there }) in
+    let slots : (c r.node).local.shape.slots ≡ shape.slots = ap (λ (z : Shaped). z.slots) (sound.fitting.shapes r.node inside) in
     and_from _ _ (lt-ltb _ _ inside) (lt-ltb _ _ (omega (arith, used, sound.fitting.slots r.node, slots)))
 
 all-within : (shape : Shaped) (rs : List Ref) → ((r : Ref) → Among r rs → is_within shape r ≡ true) → are_within shape rs ≡ true
@@ -81,7 +81,7 @@ mentioned-carried own (body.Mark target) may = absurd cc
 mentioned-carried own b may = refl
 
 -- what is in flight may be taken in
-flight-taken : (shape : Shaped) (c : Cut) (from to place : ℕ) (x : Message) → Sound shape c → to < shape.nodes → IsInFlight c from to place x → may_take (c to).part x.stamp x.body ≡ true
+flight-taken : (shape : Shaped) (c : Cut) (from to place : ℕ) (x : Message) → Sound shape c → to < shape.nodes → IsInFlight c from to place x → may_take (c to).local x.stamp x.body ≡ true
 flight-taken shape c from to place x sound inside flight =
     let fits : FitsReceiver to x = sound.fitting.messages from to place x flight in
     let all : are_within shape (mentioned x.body) ≡ true =
@@ -93,15 +93,15 @@ flight-taken shape c from to place x sound inside flight =
     (subst (λ (z : ℕ). may_follow z x.body ≡ true) (sym (sound.base.own to inside)) fits.follows))
 
 -- what comes from another node to this one
-pub addressed-between : (p : Part) (from to count : ℕ) → p.own ≡ to → p.shape.nodes ≡ count → from < count → from ≢ to → is_addressed p from to ≡ true
+pub addressed-between : (p : LocalState) (from to count : ℕ) → p.own ≡ to → p.shape.nodes ≡ count → from < count → from ≢ to → is_addressed p from to ≡ true
 addressed-between p from to count own nodes there apart =
     and_from _ _ (eq-eqb to p.own (sym own))
     (and_from _ _ (lt-ltb from p.shape.nodes (omega (arith, there, nodes))) (not_from_false _ (ne_eqb from p.own (λ e. apart (e ∙ own)))))
 
 -- the tests of a receipt
-turn-passes : (shape : Shaped) (w : World) (from to number : ℕ) (x : Message) → KeepsSent w → Sound shape (cut w (λ _. false)) → (from < shape.nodes) × (to < shape.nodes) × (from ≢ to) → released w from to number ≡ Some x → number ≤ got_from (node_at w.current to).part from + 1 → AllPass (receipt_tests (node_at w.current to).part from to number x.stamp x.body)
+turn-passes : (shape : Shaped) (w : World) (from to number : ℕ) (x : Message) → KeepsSent w → Sound shape (cut w (λ _. false)) → (from < shape.nodes) × (to < shape.nodes) × (from ≢ to) → released w from to number ≡ Some x → number ≤ got_from (node_at w.current to).local from + 1 → AllPass (receipt_tests (node_at w.current to).local from to number x.stamp x.body)
 turn-passes shape w from to number x h sound between there turn =
-    let p : Part = (node_at w.current to).part in
+    let p : LocalState = (node_at w.current to).local in
     let own : p.own ≡ to = sound.base.own to between.1 in
     let nodes : p.shape.nodes ≡ shape.nodes = sound.base.nodes to between.1 in
     let addressed : is_addressed p from to ≡ true = addressed-between p from to shape.nodes own nodes between.0 between.2 in

@@ -7,7 +7,7 @@ use Rattle.ids.specs.declared.names.Ref.{Ref}
 use Rattle.msg.specs.declared.body.Body.{Body}
 use Rattle.msg.specs.declared.body.Message.{Message}
 use Rattle.model.specs.declared.event.Letter.{Letter}
-use Rattle.model.specs.State.{Object, Slot, Free, Occupied, Retired, Heap, Ring, Part, slot_at}
+use Rattle.model.specs.State.{Object, Slot, Free, Occupied, Retired, Heap, Ring, LocalState, slot_at}
 use Rattle.model.specs.Heaps.{with_register, with_object, rewritten, with_rewritten, with_place, with_word, object_of, object_at, place_of, with_letter, slots_with, next_slot, next_generation, generation_for, no_letter, oldest_letter}
 use Rattle.model.specs.Steps.{carried}
 use Rattle.model.specs.Cuts.{Among}
@@ -39,7 +39,7 @@ pub record HeapFacts (K : Ref → Type 0) (before later : Heap) : Type 0 where
   pub roots : (r : Ref) → Root later r → Known K before r
 
 -- A change of a node: besides, its messages carry only what was known of.
-pub record EventFacts (K : Ref → Type 0) (before later : Part) (sends : List (ℕ × Message)) : Type 0 where
+pub record EventFacts (K : Ref → Type 0) (before later : LocalState) (sends : List (ℕ × Message)) : Type 0 where
   pub own : later.own ≡ before.own
   pub nodes : later.shape.nodes ≡ before.shape.nodes
   pub heap : HeapFacts K before.heap later.heap
@@ -53,16 +53,16 @@ pub heap-same : (K : Ref → Type 0) (h : Heap) → HeapFacts K h h
 heap-same K h = record { free = λ f. f; lasting = λ k g o. o; objects = same-object K h; roots = λ r root. inl root }
 
 -- the heap alone changes, beside what was taken in and counted, and nothing is sent
-pub heap-alone : {ring : Ring} {got : List ℕ} (K : Ref → Type 0) (p : Part) (h : Heap) → HeapFacts K p.heap h → EventFacts K p (record p { heap = h; ring = ring; got = got }) []
+pub heap-alone : {ring : Ring} {got : List ℕ} (K : Ref → Type 0) (p : LocalState) (h : Heap) → HeapFacts K p.heap h → EventFacts K p (record p { heap = h; ring = ring; got = got }) []
 heap-alone K p h facts = record { own = refl; nodes = refl; heap = facts; sent = λ to x r new among. absurd new }
 
 -- nothing changes beside what was taken in and counted, and one message is sent
-sent-one : (K : Ref → Type 0) (p : Part) (to : ℕ) (b : Body) → ((r : Ref) → Among r (carried b) → Known K p.heap r) → (other : ℕ) (x : Message) (r : Ref) → Among {A = ℕ × Message} (other, x) ((to, record { stamp = p.phases.cycle; body = b }) ∷ []) → Among r (carried x.body) → Known K p.heap r
+sent-one : (K : Ref → Type 0) (p : LocalState) (to : ℕ) (b : Body) → ((r : Ref) → Among r (carried b) → Known K p.heap r) → (other : ℕ) (x : Message) (r : Ref) → Among {A = ℕ × Message} (other, x) ((to, record { stamp = p.phases.cycle; body = b }) ∷ []) → Among r (carried x.body) → Known K p.heap r
 sent-one K p to b known other x r sent among =
     let message : x ≡ record { stamp = p.phases.cycle; body = b } = ap (λ (z : ℕ × Message). z.1) (among-one (other, x) (to, record { stamp = p.phases.cycle; body = b }) sent) in
     known r (subst (λ (z : Message). Among r (carried z.body)) message among)
 
-pub sends-alone : {ring : Ring} {got : List ℕ} (K : Ref → Type 0) (p : Part) (to : ℕ) (b : Body) → ((r : Ref) → Among r (carried b) → Known K p.heap r) → EventFacts K p (record p { ring = ring; got = got }) ((to, record { stamp = p.phases.cycle; body = b }) ∷ [])
+pub sends-alone : {ring : Ring} {got : List ℕ} (K : Ref → Type 0) (p : LocalState) (to : ℕ) (b : Body) → ((r : Ref) → Among r (carried b) → Known K p.heap r) → EventFacts K p (record p { ring = ring; got = got }) ((to, record { stamp = p.phases.cycle; body = b }) ∷ [])
 sends-alone K p to b known = record { own = refl; nodes = refl; heap = heap-same K p.heap; sent = sent-one K p to b known }
 
 -- one change after another

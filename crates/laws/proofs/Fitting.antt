@@ -4,7 +4,7 @@ use Rattle.ids.specs.Limits.{Shaped}
 use Rattle.ids.specs.declared.names.Ref.{Ref}
 use Rattle.msg.specs.declared.body.Body.{Body}
 use Rattle.msg.specs.declared.body.Message.{Message}
-use Rattle.model.specs.State.{Object, Heap, Ring, Part, slot_at}
+use Rattle.model.specs.State.{Object, Heap, Ring, LocalState, slot_at}
 use Rattle.model.specs.Heaps.{rewritten, with_rewritten}
 use Rattle.model.specs.Steps.{may_follow}
 use Rattle.model.specs.Cuts.{Cut, Among}
@@ -14,19 +14,19 @@ use Rattle.laws.proofs.Turns.{Turn, at_turn, flew}
 
 -- A change of a node: shape and phases stay, no slot past the shape is used, and each of its messages fits
 -- its receiver as long as no cycle has begun.
-pub record FittingFacts (before later : Part) (sends : List (ℕ × Message)) : Type 0 where
+pub record FittingFacts (before later : LocalState) (sends : List (ℕ × Message)) : Type 0 where
   pub shape : later.shape ≡ before.shape
   pub phases : later.phases ≡ before.phases
   pub slots : length before.heap.slots ≤ before.shape.slots → length later.heap.slots ≤ before.shape.slots
   pub sent : (to : ℕ) (x : Message) → Among (to, x) sends → before.phases.cycle ≡ 0 → FitsReceiver to x
 
-pub kept-fitting : (shape : Shaped) (c d : Cut) (i : ℕ) (p : Part) (ms : List (ℕ × Message)) → Turn c d i p ms → FittingFacts (c i).part p ms → Fitting shape c → Fitting shape d
+pub kept-fitting : (shape : Shaped) (c d : Cut) (i : ℕ) (p : LocalState) (ms : List (ℕ × Message)) → Turn c d i p ms → FittingFacts (c i).local p ms → Fitting shape c → Fitting shape d
 kept-fitting shape c d i p ms turn facts fitting = record {
-  shapes = at_turn c d i p ms (λ j s. j < shape.nodes → s.part.shape ≡ shape) turn (λ inside. facts.shape ∙ fitting.shapes i inside) (λ j _. fitting.shapes j);
-  slots = at_turn c d i p ms (λ j s. length s.part.heap.slots ≤ s.part.shape.slots) turn
+  shapes = at_turn c d i p ms (λ j s. j < shape.nodes → s.local.shape ≡ shape) turn (λ inside. facts.shape ∙ fitting.shapes i inside) (λ j _. fitting.shapes j);
+  slots = at_turn c d i p ms (λ j s. length s.local.heap.slots ≤ s.local.shape.slots) turn
       (subst (λ (z : Shaped). length p.heap.slots ≤ z.slots) (sym facts.shape) (facts.slots (fitting.slots i)))
       (λ j _. fitting.slots j);
-  cycles = at_turn c d i p ms (λ j s. s.part.phases.cycle ≡ 0) turn (ap (λ z. z.cycle) facts.phases ∙ fitting.cycles i) (λ j _. fitting.cycles j);
+  cycles = at_turn c d i p ms (λ j s. s.local.phases.cycle ≡ 0) turn (ap (λ z. z.cycle) facts.phases ∙ fitting.cycles i) (λ j _. fitting.cycles j);
   messages = λ from to place x flight. ⊎_elim {C = FitsReceiver to x}
       (λ before. fitting.messages from to place x before)
       (λ new. facts.sent to x new.1 (fitting.cycles i))
@@ -34,18 +34,18 @@ kept-fitting shape c d i p ms turn facts fitting = record {
 }
 
 -- the heap alone changes, beside what was taken in and counted, and nothing is sent
-pub fits-alone : {ring : Ring} {got : List ℕ} (p : Part) (h : Heap) → (length p.heap.slots ≤ p.shape.slots → length h.slots ≤ p.shape.slots) → FittingFacts p (record p { heap = h; ring = ring; got = got }) []
+pub fits-alone : {ring : Ring} {got : List ℕ} (p : LocalState) (h : Heap) → (length p.heap.slots ≤ p.shape.slots → length h.slots ≤ p.shape.slots) → FittingFacts p (record p { heap = h; ring = ring; got = got }) []
 fits-alone p h slots = record { shape = refl; phases = refl; slots = slots; sent = λ to x new. absurd new }
 
-pub fits-rewritten : {ring : Ring} {got : List ℕ} (p : Part) (r : Ref) (f : Object → Object) → FittingFacts p (record p { heap = with_rewritten p.heap r f; ring = ring; got = got }) []
+pub fits-rewritten : {ring : Ring} {got : List ℕ} (p : LocalState) (r : Ref) (f : Object → Object) → FittingFacts p (record p { heap = with_rewritten p.heap r f; ring = ring; got = got }) []
 fits-rewritten p r f =
     fits-alone p (with_rewritten p.heap r f)
     (λ within. subst (λ (n : ℕ). n ≤ p.shape.slots) (sym (length-set p.heap.slots r.slot (rewritten f r.generation (slot_at p.heap r.slot)))) within)
 
 -- nothing changes beside what was taken in and counted, and one message is sent
-fits-one : (p : Part) (to : ℕ) (b : Body) → may_follow to b ≡ true → (other : ℕ) (x : Message) → Among {A = ℕ × Message} (other, x) ((to, record { stamp = p.phases.cycle; body = b }) ∷ []) → p.phases.cycle ≡ 0 → FitsReceiver other x
+fits-one : (p : LocalState) (to : ℕ) (b : Body) → may_follow to b ≡ true → (other : ℕ) (x : Message) → Among {A = ℕ × Message} (other, x) ((to, record { stamp = p.phases.cycle; body = b }) ∷ []) → p.phases.cycle ≡ 0 → FitsReceiver other x
 fits-one p to b follows other x among start =
     subst (λ (z : ℕ × Message). FitsReceiver z.0 z.1) (sym (among-one (other, x) (to, record { stamp = p.phases.cycle; body = b }) among)) (record { stamp = start; follows = follows })
 
-pub fits-sent : {ring : Ring} {got : List ℕ} (p : Part) (to : ℕ) (b : Body) → may_follow to b ≡ true → FittingFacts p (record p { ring = ring; got = got }) ((to, record { stamp = p.phases.cycle; body = b }) ∷ [])
+pub fits-sent : {ring : Ring} {got : List ℕ} (p : LocalState) (to : ℕ) (b : Body) → may_follow to b ≡ true → FittingFacts p (record p { ring = ring; got = got }) ((to, record { stamp = p.phases.cycle; body = b }) ∷ [])
 fits-sent p to b follows = record { shape = refl; phases = refl; slots = λ within. within; sent = fits-one p to b follows }

@@ -36,17 +36,17 @@ pub record FreeSlots (h : Heap) : Type 0 where
 -- The nodes below n are those of the space, each with a list of messages to each node and a count of
 -- those taken in from each; nothing is taken in that was not sent.
 pub record Base (n : ℕ) (c : Cut) : Type 0 where
-  pub own : (i : ℕ) → i < n → (c i).part.own ≡ i
-  pub nodes : (i : ℕ) → i < n → (c i).part.shape.nodes ≡ n
+  pub own : (i : ℕ) → i < n → (c i).local.own ≡ i
+  pub nodes : (i : ℕ) → i < n → (c i).local.shape.nodes ≡ n
   pub width : (i : ℕ) → i < n → length (c i).sent ≡ n
-  pub heard : (i : ℕ) → i < n → length (c i).part.got ≡ n
+  pub heard : (i : ℕ) → i < n → length (c i).local.got ≡ n
   pub none : (i : ℕ) → n ≤ i → c i ≡ no_node
   pub within : (from to : ℕ) → taken c from to ≤ length (sent_to (c from) to)
 
 -- Whatever is referred to is live.
 pub record Closed (c : Cut) : Type 0 where
-  pub roots : (i : ℕ) (r : Ref) → Root (c i).part.heap r → IsLive c r
-  pub places : (i k g : ℕ) (o : Object) (r : Ref) → slot_at (c i).part.heap k ≡ Occupied g o → HasPlace o r → IsLive c r
+  pub roots : (i : ℕ) (r : Ref) → Root (c i).local.heap r → IsLive c r
+  pub places : (i k g : ℕ) (o : Object) (r : Ref) → slot_at (c i).local.heap k ≡ Occupied g o → HasPlace o r → IsLive c r
   pub messages : (from to place : ℕ) (x : Message) (r : Ref) → IsInFlight c from to place x → Among r (carried x.body) → IsLive c r
 
 -- a message from before the first cycle, whose body the node may follow
@@ -57,14 +57,14 @@ pub record FitsReceiver (to : ℕ) (x : Message) : Type 0 where
 -- The nodes have the space's shape, and use no slots past it; none has begun a cycle; and what is in
 -- flight fits its receiver.
 pub record Fitting (shape : Shaped) (c : Cut) : Type 0 where
-  pub shapes : (i : ℕ) → i < shape.nodes → (c i).part.shape ≡ shape
-  pub slots : (i : ℕ) → length (c i).part.heap.slots ≤ (c i).part.shape.slots
-  pub cycles : (i : ℕ) → (c i).part.phases.cycle ≡ 0
+  pub shapes : (i : ℕ) → i < shape.nodes → (c i).local.shape ≡ shape
+  pub slots : (i : ℕ) → length (c i).local.heap.slots ≤ (c i).local.shape.slots
+  pub cycles : (i : ℕ) → (c i).local.phases.cycle ≡ 0
   pub messages : (from to place : ℕ) (x : Message) → IsInFlight c from to place x → FitsReceiver to x
 
 -- all clauses
 pub record Sound (shape : Shaped) (c : Cut) : Type 0 where
   pub base : Base shape.nodes c
-  pub free : (i : ℕ) → FreeSlots (c i).part.heap
+  pub free : (i : ℕ) → FreeSlots (c i).local.heap
   pub closed : Closed c
   pub fitting : Fitting shape c

@@ -5,7 +5,7 @@ use Rattle.model.specs.declared.step.Step.{Step}
 use Rattle.model.specs.State.{NodeState, node_at, sent_to}
 use Rattle.model.specs.World.{World, KeepsSent, new_world, happens, run}
 use Rattle.laws.proofs.Lookups.{Grows, grows-refl, grows-trans}
-use Rattle.laws.proofs.StepFacts.{Happening, nothing, acted, handed, saved, restarted, happening, act-grows, receive-grows}
+use Rattle.laws.proofs.StepFacts.{Happening, nothing, acted, delivered, saved, restarted, happening, act-grows, receive-grows}
 use Rattle.laws.proofs.Onward.{Onward, new-behind, step-behind}
 
 -- to every node the same messages were sent, and perhaps more
@@ -24,7 +24,7 @@ sent-onward = record {
 count-stays : (w v : World) → Happening w v → length v.current ≡ length w.current
 count-stays w v nothing = refl
 count-stays w v (acted i e t a within own answered) = length-set w.current i t
-count-stays w v (handed from to number x t a within there answered) = length-set w.current to t
+count-stays w v (delivered from to number x t a within there answered) = length-set w.current to t
 count-stays w v (saved i within) = refl
 count-stays w v (restarted i within) = length-set w.current i (node_at w.saved i)
 
@@ -32,11 +32,11 @@ pub run-count : (w : World) (steps : List Step) → length (run w steps).current
 run-count w [] = refl
 run-count w (s ∷ ss) = run-count (happens w s) ss ∙ count-stays w (happens w s) (happening w s)
 
--- as many saved states as present ones
+-- as many saved states as current ones
 width-stays : (w v : World) → Happening w v → length w.saved ≡ length w.current → length v.saved ≡ length v.current
 width-stays w v nothing h = h
 width-stays w v (acted i e t a within own answered) h = h ∙ sym (length-set w.current i t)
-width-stays w v (handed from to number x t a within there answered) h = h ∙ sym (length-set w.current to t)
+width-stays w v (delivered from to number x t a within there answered) h = h ∙ sym (length-set w.current to t)
 width-stays w v (saved i within) h = length-set w.saved i (node_at w.current i) ∙ h
 width-stays w v (restarted i within) h = h ∙ sym (length-set w.current i (node_at w.saved i))
 

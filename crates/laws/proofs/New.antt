@@ -37,7 +37,7 @@ new-any shape choice i = ⊎_elim {C = IsNew (cut (new_world shape) choice i)}
 at-new : (P : NodeState → Type 0) (s : NodeState) → IsNew s → ((shape : Shaped) (own : ℕ) → P (new_node shape own)) → P s
 at-new P s new holds = subst P (sym new.2) (holds new.0 new.1)
 
-new-root : (shape : Shaped) (own : ℕ) (r : Ref) → Root (new_node shape own).part.heap r → ⊥
+new-root : (shape : Shaped) (own : ℕ) (r : Ref) → Root (new_node shape own).local.heap r → ⊥
 new-root shape own r (is_in_register k there) = absurd (let none = get_or-replicate_any {A = Option Ref} shape.registers k None in cc)
 new-root shape own r (is_in_letter k l there holds) = absurd cc
 
@@ -51,24 +51,24 @@ new-sound shape choice =
     let new : (i : ℕ) → IsNew (c i) = new-any shape choice in
     record {
       base = record {
-        own = λ i inside. ap (λ (z : NodeState). z.part.own) (new-inside shape choice i inside);
-        nodes = λ i inside. ap (λ (z : NodeState). z.part.shape.nodes) (new-inside shape choice i inside);
+        own = λ i inside. ap (λ (z : NodeState). z.local.own) (new-inside shape choice i inside);
+        nodes = λ i inside. ap (λ (z : NodeState). z.local.shape.nodes) (new-inside shape choice i inside);
         width = λ i inside. ap (λ (z : NodeState). length z.sent) (new-inside shape choice i inside) ∙ length-replicate shape.nodes [];
-        heard = λ i inside. ap (λ (z : NodeState). length z.part.got) (new-inside shape choice i inside) ∙ length-replicate shape.nodes 0;
+        heard = λ i inside. ap (λ (z : NodeState). length z.local.got) (new-inside shape choice i inside) ∙ length-replicate shape.nodes 0;
         none = new-past shape choice;
-        within = λ from to. at-new (λ s. got_from s.part from ≤ length (sent_to (c from) to)) (c to) (new to)
+        within = λ from to. at-new (λ s. got_from s.local from ≤ length (sent_to (c from) to)) (c to) (new to)
             (λ shape own. subst (λ (k : ℕ). k ≤ length (sent_to (c from) to)) (sym (get_or-replicate_any shape.nodes from 0)) (omega arith));
       };
-      free = λ i. at-new (λ s. FreeSlots s.part.heap) (c i) (new i) (λ shape own. record { free = λ k never. absurd never; once = tt });
+      free = λ i. at-new (λ s. FreeSlots s.local.heap) (c i) (new i) (λ shape own. record { free = λ k never. absurd never; once = tt });
       fitting = record {
-        shapes = λ i inside. ap (λ (z : NodeState). z.part.shape) (new-inside shape choice i inside);
-        slots = λ i. at-new (λ s. length s.part.heap.slots ≤ s.part.shape.slots) (c i) (new i) (λ shape own. omega arith);
-        cycles = λ i. at-new (λ s. s.part.phases.cycle ≡ 0) (c i) (new i) (λ shape own. refl);
+        shapes = λ i inside. ap (λ (z : NodeState). z.local.shape) (new-inside shape choice i inside);
+        slots = λ i. at-new (λ s. length s.local.heap.slots ≤ s.local.shape.slots) (c i) (new i) (λ shape own. omega arith);
+        cycles = λ i. at-new (λ s. s.local.phases.cycle ≡ 0) (c i) (new i) (λ shape own. refl);
         messages = λ from to place x flight. absurd (at-new (λ s. slice_get (sent_to s to) place ≡ Some x → ⊥) (c from) (new from) (λ shape own. new-unsent shape own to place x) flight.there);
       };
       closed = record {
-        roots = λ i r root. absurd (at-new (λ s. Root s.part.heap r → ⊥) (c i) (new i) (λ shape own. new-root shape own r) root);
-        places = λ i k g o r there has. absurd (at-new (λ s. slot_at s.part.heap k ≡ Occupied g o → ⊥) (c i) (new i) (λ shape own e. cc) there);
+        roots = λ i r root. absurd (at-new (λ s. Root s.local.heap r → ⊥) (c i) (new i) (λ shape own. new-root shape own r) root);
+        places = λ i k g o r there has. absurd (at-new (λ s. slot_at s.local.heap k ≡ Occupied g o → ⊥) (c i) (new i) (λ shape own e. cc) there);
         messages = λ from to place x r flight among. absurd (at-new (λ s. slice_get (sent_to s to) place ≡ Some x → ⊥) (c from) (new from) (λ shape own. new-unsent shape own to place x) flight.there);
       };
     }

@@ -1,4 +1,4 @@
--- What only grows in a node, as what it sent or took in: of that a saved state has no more than the present
+-- What only grows in a node, as what it sent or took in: of that a saved state has no more than the current
 -- one, and no more than a state that is saved later.
 use Rattle.std.proofs.Common.{◌≡◌, ℕ, true, set, List, [], ◌∷◌, Ok, subst}
 use Rattle.ids.specs.Limits.{Shaped}
@@ -10,7 +10,7 @@ use Rattle.model.specs.State.{NodeState, no_node, node_at}
 use Rattle.model.specs.Steps.{act, receive, is_own}
 use Rattle.model.specs.World.{World, new_world, happens, run}
 use Rattle.model.proofs.Lookups.{at_set_if}
-use Rattle.laws.proofs.StepFacts.{Happening, nothing, acted, handed, saved, restarted, happening}
+use Rattle.laws.proofs.StepFacts.{Happening, nothing, acted, delivered, saved, restarted, happening}
 
 -- a comparison of two states of a node in which no event and no receipt goes back
 pub record Onward (R : NodeState → NodeState → Type 0) : Type 0 where
@@ -19,7 +19,7 @@ pub record Onward (R : NodeState → NodeState → Type 0) : Type 0 where
   pub acts : (s : NodeState) (e : Event) (t : NodeState) (a : Answer) → is_own e ≡ true → act s e ≡ Ok (t, a) → R s t
   pub receives : (s : NodeState) (from to number stamp : ℕ) (b : Body) (t : NodeState) (a : Answer) → receive s from to number stamp b ≡ Ok (t, a) → R s t
 
--- each saved state is no further than the present one
+-- each saved state is no further than the current one
 abbrev pub Behind : (NodeState → NodeState → Type 0) → World → Type 0
 Behind R w = (i : ℕ) → R (node_at w.saved i) (node_at w.current i)
 
@@ -50,7 +50,7 @@ behind-restarted {R = R} f w i h k =
 behind-happening : {R : NodeState → NodeState → Type 0} → Onward R → (w v : World) → Happening w v → Behind R w → Behind R v
 behind-happening f w v nothing h = h
 behind-happening f w v (acted i e t a within own answered) h = behind-changed f w i t h (f.acts (node_at w.current i) e t a own answered)
-behind-happening f w v (handed from to number x t a within there answered) h =
+behind-happening f w v (delivered from to number x t a within there answered) h =
     behind-changed f w to t h (f.receives (node_at w.current to) from to number x.stamp x.body t a answered)
 behind-happening f w v (saved i within) h = behind-saved f w i h
 behind-happening f w v (restarted i within) h = behind-restarted f w i h
@@ -67,7 +67,7 @@ run-behind f w (s ∷ ss) h = run-behind f (happens w s) ss (step-behind f w s h
 saved-happening : {R : NodeState → NodeState → Type 0} → Onward R → (w v : World) → Happening w v → Behind R w → (k : ℕ) → R (node_at w.saved k) (node_at v.saved k)
 saved-happening f w v nothing h k = f.same _
 saved-happening f w v (acted i e t a within own answered) h k = f.same _
-saved-happening f w v (handed from to number x t a within there answered) h k = f.same _
+saved-happening f w v (delivered from to number x t a within there answered) h k = f.same _
 saved-happening {R = R} f w v (saved i within) h k =
     at_set_if (R (node_at w.saved k)) w.saved i k (node_at w.current i) no_node
     (λ e. subst (λ (n : ℕ). R (node_at w.saved n) (node_at w.current i)) e (h i))

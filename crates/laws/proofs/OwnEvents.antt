@@ -6,7 +6,7 @@ use Rattle.msg.specs.declared.body.Body.TheVariants as body
 use Rattle.model.specs.declared.event.Event.{Event}
 use Rattle.model.specs.declared.event.Event.TheVariants as event
 use Rattle.model.specs.Checks.{AllPass}
-use Rattle.model.specs.State.{Object, Slot, Occupied, Retired, Heap, Part, no_node, register_at, slot_at, got_from}
+use Rattle.model.specs.State.{Object, Slot, Occupied, Retired, Heap, LocalState, no_node, register_at, slot_at, got_from}
 use Rattle.model.specs.Heaps.{slots_with, next_generation, with_register, with_object, new_object, new_reference, is_filled, no_reference, named, place_loaded, oldest_letter, letter_taken}
 use Rattle.model.specs.Steps.{is_own, tests, made, allocated, copied, dropped, loaded, stored, cleared, word_read, word_set, given, accepted, put_asked, get_asked}
 use Rattle.model.specs.Cuts.{Among}
@@ -17,7 +17,7 @@ use Rattle.laws.proofs.Facts.{Known, heap-alone, sends-alone, IsOccupied, HeapFa
 use Rattle.laws.proofs.Fitting.{FittingFacts, fits-alone, fits-rewritten, fits-sent}
 
 -- the references that an own event brings: a new object's, and what a Load finds
-abbrev pub InHand : Part → Event → Ref → Type 0
+abbrev pub InHand : LocalState → Event → Ref → Type 0
 InHand p (event.Alloc register places) r = r ≡ new_reference p.own p.heap
 InHand p (event.Load register object place) r = place_loaded p.heap object place ≡ Some r
 InHand p e r = ⊥
@@ -55,7 +55,7 @@ named-known K h object filled r among =
 put-known : (K : Ref → Type 0) (h : Heap) (object register : ℕ) → is_filled h object ≡ true → (r : Ref) → Among r (named h object ∷ option_to_list (register_at h register)) → Known K h r
 put-known K h object register filled r among = ⊎_elim {C = Known K h r} (λ e. named-known K h object filled r (inl e)) (give-known K h register r) among
 
-pub own-facts : (p : Part) (counts : List ℕ) (e : Event) → is_own e ≡ true → AllPass (tests p e) → FreeSlots p.heap → EventFacts (InHand p e) p (made p counts e).part (made p counts e).sends
+pub own-facts : (p : LocalState) (counts : List ℕ) (e : Event) → is_own e ≡ true → AllPass (tests p e) → FreeSlots p.heap → EventFacts (InHand p e) p (made p counts e).local (made p counts e).sends
 unfolding allocated copied dropped loaded stored cleared word_read word_set given accepted put_asked get_asked
 own-facts p counts (event.Alloc register places) own passed f = heap-alone _ p _ (alloc-heap p.own p.phases.cycle p.heap register places f)
 own-facts p counts (event.Copy register source) own passed f = heap-alone _ p _ (heap-register _ p.heap register (register_at p.heap source) (λ r e. inl (is_in_register source e)))
@@ -81,7 +81,7 @@ fits-object [] slots o limit room within =
     omega (arith, below, length-append slots (Occupied 1 o ∷ []))
 fits-object (k ∷ free) slots o limit room within = omega (arith, within, length-set slots k (Occupied (next_generation (get_or slots k Retired)) o))
 
-pub own-fits : (p : Part) (counts : List ℕ) (e : Event) → is_own e ≡ true → AllPass (tests p e) → FittingFacts p (made p counts e).part (made p counts e).sends
+pub own-fits : (p : LocalState) (counts : List ℕ) (e : Event) → is_own e ≡ true → AllPass (tests p e) → FittingFacts p (made p counts e).local (made p counts e).sends
 unfolding allocated copied dropped loaded stored cleared word_read word_set given accepted put_asked get_asked
 own-fits p counts (event.Alloc register places) own passed = fits-alone p _ (fits-object p.heap.free p.heap.slots (new_object p.phases.cycle places) p.shape.slots passed.1.1.0)
 own-fits p counts (event.Store object place register) own passed = fits-rewritten p (named p.heap object) _
@@ -96,10 +96,10 @@ own-fits p counts (event.Ack a) own passed = absurd cc
 own-fits p counts e own passed = fits-alone p _ (λ within. within)
 
 -- What an event brings is a new object of the node, or stands in a place of an object there.
-abbrev pub Found : Part → Heap → Ref → Type 0
+abbrev pub Found : LocalState → Heap → Ref → Type 0
 Found before later r = ((r.node ≡ before.own) × IsOccupied (slot_at later r.slot) r.generation) ⊎ IsInPlace before.heap r
 
-pub own-hand : (p : Part) (counts : List ℕ) (e : Event) → FreeSlots p.heap → (r : Ref) → InHand p e r → Found p (made p counts e).part.heap r
+pub own-hand : (p : LocalState) (counts : List ℕ) (e : Event) → FreeSlots p.heap → (r : Ref) → InHand p e r → Found p (made p counts e).local.heap r
 unfolding allocated
 own-hand p counts (event.Alloc register places) f r new =
     let there : IsOccupied (slot_at (with_object p.heap (new_object p.phases.cycle places)) (new_reference p.own p.heap).slot) (new_reference p.own p.heap).generation =
@@ -109,17 +109,17 @@ own-hand p counts (event.Load register object place) f r found = inr (found-in-p
 own-hand p counts e f r never = absurd never
 
 -- nothing is taken in
-pub own-got : (p : Part) (counts : List ℕ) (e : Event) → is_own e ≡ true → (made p counts e).part.got ≡ p.got
+pub own-got : (p : LocalState) (counts : List ℕ) (e : Event) → is_own e ≡ true → (made p counts e).local.got ≡ p.got
 unfolding allocated copied dropped loaded stored cleared word_read word_set given accepted put_asked get_asked
 own-got p counts (event.Data d) own = absurd cc
 own-got p counts (event.Ack a) own = absurd cc
 own-got p counts e own = refl
 
-pub own-heard : (p : Part) (counts : List ℕ) (e : Event) → is_own e ≡ true → (from : ℕ) → got_from p from ≤ got_from (made p counts e).part from
+pub own-heard : (p : LocalState) (counts : List ℕ) (e : Event) → is_own e ≡ true → (from : ℕ) → got_from p from ≤ got_from (made p counts e).local from
 own-heard p counts e own from = le_of_eq (ap (λ (z : List ℕ). get_or z from 0) (sym (own-got p counts e own)))
 
 -- the node that stands past the end of a list refuses every event
-pub no-node-refuses : (e : Event) → is_own e ≡ true → AllPass (tests no_node.part e) → ⊥
+pub no-node-refuses : (e : Event) → is_own e ≡ true → AllPass (tests no_node.local e) → ⊥
 no-node-refuses (event.Data d) own passed = absurd cc
 no-node-refuses (event.Ack a) own passed = absurd cc
 no-node-refuses e own passed = nothing-below-zero _ passed.0

@@ -29,13 +29,13 @@ inside-where n c i P base has none = ⊎_elim {C = i < n}
     (cases_lt i n)
 
 -- an object of a node that has changed is live
-here-lives : (c d : Cut) (i : ℕ) (s : NodeState) (r : Ref) → Becomes c d i s → r.node ≡ i → IsOccupied (slot_at s.part.heap r.slot) r.generation → IsLive d r
+here-lives : (c d : Cut) (i : ℕ) (s : NodeState) (r : Ref) → Becomes c d i s → r.node ≡ i → IsOccupied (slot_at s.local.heap r.slot) r.generation → IsLive d r
 here-lives c d i s r becomes here there =
     let state : d r.node ≡ s = ap d here ∙ becomes.changed in
-    record { object = there.object; there = ap (λ (z : NodeState). slot_at z.part.heap r.slot) state ∙ there.there }
+    record { object = there.object; there = ap (λ (z : NodeState). slot_at z.local.heap r.slot) state ∙ there.there }
 
 -- what an object of a node refers to is live
-place-lives : (c : Cut) (i : ℕ) (r : Ref) → Closed c → IsInPlace (c i).part.heap r → IsLive c r
+place-lives : (c : Cut) (i : ℕ) (r : Ref) → Closed c → IsInPlace (c i).local.heap r → IsLive c r
 place-lives c i r closed found = closed.places i found.slot found.generation found.object r found.there found.has
 
 -- an event of a node
@@ -43,21 +43,21 @@ act-sound : (shape : Shaped) (c d : Cut) (i : ℕ) (e : Event) (t : NodeState) (
 act-sound shape c d i e t a own answered becomes sound =
     let found = act-ok (c i) e t a answered in
     let counts : List ℕ = map length (c i).sent in
-    let x : Effect = made (c i).part counts e in
-    let inside : i < shape.nodes = inside-where shape.nodes c i (λ z. AllPass (tests z.part e)) sound.base found.passed (no-node-refuses e own) in
-    let got : x.part.got ≡ (c i).part.got = own-got (c i).part counts e own in
-    let became : Becomes c d i (record { part = x.part; sent = append_all (c i).sent x.sends }) = subst (λ (z : NodeState). Becomes c d i z) found.state becomes in
-    kept shape (InHand (c i).part e) c d i x.part x.sends (record {
+    let x : Effect = made (c i).local counts e in
+    let inside : i < shape.nodes = inside-where shape.nodes c i (λ z. AllPass (tests z.local e)) sound.base found.passed (no-node-refuses e own) in
+    let got : x.local.got ≡ (c i).local.got = own-got (c i).local counts e own in
+    let became : Becomes c d i (record { local = x.local; sent = append_all (c i).sent x.sends }) = subst (λ (z : NodeState). Becomes c d i z) found.state becomes in
+    kept shape (InHand (c i).local e) c d i x.local x.sends (record {
       inside = inside;
-      turn = record { becomes = became; heard = own-heard (c i).part counts e own };
-      facts = own-facts (c i).part counts e own found.passed (sound.free i);
-      fits = own-fits (c i).part counts e own found.passed;
+      turn = record { becomes = became; heard = own-heard (c i).local counts e own };
+      facts = own-facts (c i).local counts e own found.passed (sound.free i);
+      fits = own-fits (c i).local counts e own found.passed;
       width = ap length got;
       within = λ from. subst (λ (z : List ℕ). get_or z from 0 ≤ length (sent_to (c from) i)) (sym got) (sound.base.within from i);
       hand = λ r held. ⊎_elim {C = IsLive c r ⊎ IsLive d r}
-          (λ new. inr (here-lives c d i (record { part = x.part; sent = append_all (c i).sent x.sends }) r became (new.0 ∙ sound.base.own i inside) new.1))
+          (λ new. inr (here-lives c d i (record { local = x.local; sent = append_all (c i).sent x.sends }) r became (new.0 ∙ sound.base.own i inside) new.1))
           (λ found. inl (place-lives c i r sound.closed found))
-          (own-hand (c i).part counts e (sound.free i) r held);
+          (own-hand (c i).local counts e (sound.free i) r held);
       sound = sound;
     })
 
@@ -67,23 +67,23 @@ receive-sound shape c d from to x t a flight (repeated same says) becomes sound 
     subst (λ (z : Cut). Sound shape z) (sym (fun_ext (at_becomes c d to t (λ j s. s ≡ c j) becomes same (λ j _. refl)))) sound
 receive-sound shape c d from to x t a flight (next turn may found) becomes sound =
     let number : ℕ = taken c from to + 1 in
-    let y : Effect = taken_in (c to).part from number x.stamp x.body in
-    let inside : to < shape.nodes = inside-where shape.nodes c to (λ z. is_addressed z.part from to ≡ true) sound.base found.passed.0 (no-node-takes_nothing from to) in
-    let got : y.part.got ≡ set (c to).part.got from number = receipt-got (c to).part from number x.stamp x.body in
-    let became : Becomes c d to (record { part = y.part; sent = append_all (c to).sent y.sends }) = subst (λ (z : NodeState). Becomes c d to z) found.state becomes in
+    let y : Effect = taken_in (c to).local from number x.stamp x.body in
+    let inside : to < shape.nodes = inside-where shape.nodes c to (λ z. is_addressed z.local from to ≡ true) sound.base found.passed.0 (no-node-takes_nothing from to) in
+    let got : y.local.got ≡ set (c to).local.got from number = receipt-got (c to).local from number x.stamp x.body in
+    let became : Becomes c d to (record { local = y.local; sent = append_all (c to).sent y.sends }) = subst (λ (z : NodeState). Becomes c d to z) found.state becomes in
     let there : taken c from to < length (sent_to (c from) to) = slice_get_within (sent_to (c from) to) (taken c from to) x flight.there in
-    kept shape (InMessage (c to).part x.body) c d to y.part y.sends (record {
+    kept shape (InMessage (c to).local x.body) c d to y.local y.sends (record {
       inside = inside;
-      turn = record { becomes = became; heard = receipt-heard (c to).part from number x.stamp x.body (omega arith) };
-      facts = receipt-facts (c to).part from number x.stamp x.body;
-      fits = receipt-fits (c to).part from number x.stamp x.body;
-      width = ap length got ∙ length-set (c to).part.got from number;
+      turn = record { becomes = became; heard = receipt-heard (c to).local from number x.stamp x.body (omega arith) };
+      facts = receipt-facts (c to).local from number x.stamp x.body;
+      fits = receipt-fits (c to).local from number x.stamp x.body;
+      width = ap length got ∙ length-set (c to).local.got from number;
       within = λ j. subst (λ (z : List ℕ). get_or z j 0 ≤ length (sent_to (c j) to)) (sym got)
-          (at_set_if (λ z. z ≤ length (sent_to (c j) to)) (c to).part.got from j number 0 (λ e. subst (λ (k : ℕ). number ≤ length (sent_to (c k) to)) e (omega arith)) (sound.base.within j to));
+          (at_set_if (λ z. z ≤ length (sent_to (c j) to)) (c to).local.got from j number 0 (λ e. subst (λ (k : ℕ). number ≤ length (sent_to (c k) to)) e (omega arith)) (sound.base.within j to));
       hand = λ r held. inl (⊎_elim {C = IsLive c r}
           (sound.closed.messages from to (taken c from to) x r flight)
           (λ found. place-lives c to r sound.closed found)
-          (receipt-hand (c to).part x.body r held));
+          (receipt-hand (c to).local x.body r held));
       sound = sound;
     })
 

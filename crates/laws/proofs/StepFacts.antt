@@ -15,7 +15,7 @@ use Rattle.model.specs.declared.step.Outcome.TheVariants as outcome
 use Rattle.model.specs.Checks.{guarded, AllPass}
 use Rattle.model.specs.State.{NodeState, node_at, sent_to, got_from}
 use Rattle.model.specs.Steps.{Effect, tests, made, receipt_tests, receipt, is_addressed, is_repeat, may_take, taken_in, unchanged, fits, all_tests, checked, after, act, receive, append_all, is_own}
-use Rattle.model.specs.World.{World, released, acknowledged, release_count, moved, handed_over, is_node, take_step, outcome_of, world_after, happens}
+use Rattle.model.specs.World.{World, released, acknowledged, release_count, moved, delivery, is_node, take_step, outcome_of, world_after, happens}
 use Rattle.model.proofs.Checks.{guarded-ok, guarded-passes, passed-parts}
 use Rattle.model.proofs.Lookups.{at_set_if}
 use Rattle.laws.proofs.Lookups.{Grows, grows-refl, grows-trans}
@@ -23,14 +23,14 @@ use Rattle.laws.proofs.Lookups.{Grows, grows-refl, grows-trans}
 -- An answered event: the node afterwards and the answer, that all tests passed, and that its messages got
 -- numbers.
 pub record Stepped (s : NodeState) (ts : List (Bool × Refusal)) (x : Effect) (t : NodeState) (a : Answer) : Type 0 where
-  pub state : t ≡ record { part = x.part; sent = append_all s.sent x.sends }
+  pub state : t ≡ record { local = x.local; sent = append_all s.sent x.sends }
   pub answer : a ≡ x.answer
   pub passed : AllPass ts
   pub numbered : fits (map length s.sent) x.sends ≡ true
 
 -- what an effect makes of a node, and the answer
 abbrev effect_on : NodeState → Effect → NodeState × Answer
-effect_on s x = (record { part = x.part; sent = append_all s.sent x.sends }, x.answer)
+effect_on s x = (record { local = x.local; sent = append_all s.sent x.sends }, x.answer)
 
 after-ok : (s : NodeState) (r : Result Effect Refusal) (y : NodeState × Answer) → after s r ≡ Ok y → (x : Effect) × (r ≡ Ok x) × (y ≡ effect_on s x)
 after-ok s (Ok x) y h = (x, refl, cc)
@@ -50,33 +50,33 @@ stepped s ts x t a h =
     }
 
 -- an event of a node that was answered
-pub act-ok : (s : NodeState) (e : Event) (t : NodeState) (a : Answer) → act s e ≡ Ok (t, a) → Stepped s (tests s.part e) (made s.part (map length s.sent) e) t a
+pub act-ok : (s : NodeState) (e : Event) (t : NodeState) (a : Answer) → act s e ≡ Ok (t, a) → Stepped s (tests s.local e) (made s.local (map length s.sent) e) t a
 unfolding act
-act-ok s e t a h = stepped s (tests s.part e) (made s.part (map length s.sent) e) t a h
+act-ok s e t a h = stepped s (tests s.local e) (made s.local (map length s.sent) e) t a h
 
 -- a message that was taken in, or was a repeat
-pub receive-ok : (s : NodeState) (from to number stamp : ℕ) (b : Body) (t : NodeState) (a : Answer) → receive s from to number stamp b ≡ Ok (t, a) → Stepped s (receipt_tests s.part from to number stamp b) (receipt s.part from number stamp b) t a
+pub receive-ok : (s : NodeState) (from to number stamp : ℕ) (b : Body) (t : NodeState) (a : Answer) → receive s from to number stamp b ≡ Ok (t, a) → Stepped s (receipt_tests s.local from to number stamp b) (receipt s.local from number stamp b) t a
 unfolding receive
-receive-ok s from to number stamp b t a h = stepped s (receipt_tests s.part from to number stamp b) (receipt s.part from number stamp b) t a h
+receive-ok s from to number stamp b t a h = stepped s (receipt_tests s.local from to number stamp b) (receipt s.local from number stamp b) t a h
 
 -- A message that was answered was taken in before, and changes nothing; or it is the next one, which the
 -- node may take in, and is taken in.
 pub data Receipt (s : NodeState) (from to number stamp : ℕ) (b : Body) (t : NodeState) (a : Answer) : Type 0 where
   repeated : t ≡ s → a ≡ answer.Repeat → Receipt s from to number stamp b t a
-  next : number ≡ got_from s.part from + 1 → may_take s.part stamp b ≡ true → Stepped s (receipt_tests s.part from to number stamp b) (taken_in s.part from number stamp b) t a → Receipt s from to number stamp b t a
+  next : number ≡ got_from s.local from + 1 → may_take s.local stamp b ≡ true → Stepped s (receipt_tests s.local from to number stamp b) (taken_in s.local from number stamp b) t a → Receipt s from to number stamp b t a
 
 pub receipt-cases : (s : NodeState) (from to number stamp : ℕ) (b : Body) (t : NodeState) (a : Answer) → receive s from to number stamp b ≡ Ok (t, a) → Receipt s from to number stamp b t a
 receipt-cases s from to number stamp b t a h =
     let found = receive-ok s from to number stamp b t a h in
-    let turn : number ≤ got_from s.part from + 1 = leb-true number _ found.passed.1.0 in
-    let as_found : (x : Effect) → receipt s.part from number stamp b ≡ x → Stepped s (receipt_tests s.part from to number stamp b) x t a =
-    λ x e. subst (λ (z : Effect). Stepped s (receipt_tests s.part from to number stamp b) z t a) e found in
-    elim (cases_Bool (is_repeat s.part from number)) as (λ _. Receipt s from to number stamp b t a) [
-      | inl again ↦ let same = as_found (unchanged s.part answer.Repeat) (cond-true (is_repeat s.part from number) _ _ again) in repeated same.state same.answer
+    let turn : number ≤ got_from s.local from + 1 = leb-true number _ found.passed.1.0 in
+    let as_found : (x : Effect) → receipt s.local from number stamp b ≡ x → Stepped s (receipt_tests s.local from to number stamp b) x t a =
+    λ x e. subst (λ (z : Effect). Stepped s (receipt_tests s.local from to number stamp b) z t a) e found in
+    elim (cases_Bool (is_repeat s.local from number)) as (λ _. Receipt s from to number stamp b t a) [
+      | inl again ↦ let same = as_found (unchanged s.local answer.Repeat) (cond-true (is_repeat s.local from number) _ _ again) in repeated same.state same.answer
       | inr first ↦ next
-          (let later : got_from s.part from < number = leb-false number _ first in omega arith)
+          (let later : got_from s.local from < number = leb-false number _ first in omega arith)
           (⊎_elim (λ again. absurd (both_ways _ first again)) (λ may. may) (or_cases _ _ found.passed.1.1.0))
-          (as_found (taken_in s.part from number stamp b) (cond-false (is_repeat s.part from number) _ _ first))
+          (as_found (taken_in s.local from number stamp b) (cond-false (is_repeat s.local from number) _ _ first))
     ]
 
 -- messages come last in what was sent
@@ -109,7 +109,7 @@ receive-grows s from to number stamp b t a j h = stepped-grows s _ _ t a j (rece
 pub data Happening (w : World) : World → Type 0 where
   nothing : Happening w w
   acted : (i : ℕ) (e : Event) (t : NodeState) (a : Answer) → i < length w.current → is_own e ≡ true → act (node_at w.current i) e ≡ Ok (t, a) → Happening w (record w { current = set w.current i t })
-  handed : (from to number : ℕ) (x : Message) (t : NodeState) (a : Answer) → to < length w.current → released w from to number ≡ Some x → receive (node_at w.current to) from to number x.stamp x.body ≡ Ok (t, a) → Happening w (record w { current = set w.current to t })
+  delivered : (from to number : ℕ) (x : Message) (t : NodeState) (a : Answer) → to < length w.current → released w from to number ≡ Some x → receive (node_at w.current to) from to number x.stamp x.body ≡ Ok (t, a) → Happening w (record w { current = set w.current to t })
   saved : (i : ℕ) → i < length w.current → Happening w (record w { saved = set w.saved i (node_at w.current i) })
   restarted : (i : ℕ) → i < length w.current → Happening w (record w { current = set w.current i (node_at w.saved i) })
 
@@ -117,9 +117,9 @@ moved-happening : (w : World) (i : ℕ) (r : Result (NodeState × Answer) Refusa
 moved-happening w i (Ok x) h = h x.0 x.1 refl
 moved-happening w i (Err e) h = nothing
 
-handed-happening : (w : World) (from to number : ℕ) (found : Option Message) → to < length w.current → released w from to number ≡ found → Happening w (world_after w (handed_over w from to number found))
-handed-happening w from to number None within there = nothing
-handed-happening w from to number (Some x) within there = moved-happening w to (receive (node_at w.current to) from to number x.stamp x.body) (λ t a h. handed from to number x t a within there h)
+delivered-happening : (w : World) (from to number : ℕ) (found : Option Message) → to < length w.current → released w from to number ≡ found → Happening w (world_after w (delivery w from to number found))
+delivered-happening w from to number None within there = nothing
+delivered-happening w from to number (Some x) within there = moved-happening w to (receive (node_at w.current to) from to number x.stamp x.body) (λ t a h. delivered from to number x t a within there h)
 
 -- what is only tested leaves the space as it was
 tested-happening : (w : World) (cs : List (Bool × Refusal)) (o : Outcome) → Happening w (world_after w (guarded cs (w, o)))
@@ -141,13 +141,13 @@ happening w (step.Restart i) =
     cond_both (is_node w i) _ _ (λ r. Happening w (world_after w r)) (λ within. restarted i (ltb-true _ _ within)) (λ _. nothing)
 happening w (step.Deliver from to number) =
     cond_both _ _ _ (λ r. Happening w (world_after w r))
-    (λ within. handed-happening w from to number (released w from to number) (ltb-true _ _ (and_parts (is_node w from) (is_node w to) within).1) refl)
+    (λ within. delivered-happening w from to number (released w from to number) (ltb-true _ _ (and_parts (is_node w from) (is_node w to) within).1) refl)
     (λ _. nothing)
 happening w (step.Hand from to) =
     cond_both (is_node w from && is_node w to) _ _ (λ r. Happening w (world_after w r))
     (λ _. cond_both (from == to) _ _ (λ r. Happening w (world_after w r))
     (λ _. nothing)
-    (λ _. tested-happening w ((is_addressed (node_at w.current from).part to from, WrongNode) ∷ (leb (acknowledged w from to) (release_count w from to), AckBeyond) ∷ []) (outcome.Handed (acknowledged w from to))))
+    (λ _. tested-happening w ((is_addressed (node_at w.current from).local to from, WrongNode) ∷ (leb (acknowledged w from to) (release_count w from to), AckBeyond) ∷ []) (outcome.Handed (acknowledged w from to))))
     (λ _. nothing)
 
 -- a delivery that was answered
@@ -158,11 +158,11 @@ moved-answer w i (Err e) a h = absurd cc
 pub deliver-answer : (w : World) (from to number : ℕ) (x : Message) (a : Answer) → released w from to number ≡ Some x → outcome_of (take_step w (step.Deliver from to number)) ≡ Ok (outcome.Answer a) → (t : NodeState) × (receive (node_at w.current to) from to number x.stamp x.body ≡ Ok (t, a))
 unfolding take_step
 deliver-answer w from to number x a there h =
-    let found : outcome_of (handed_over w from to number (released w from to number)) ≡ Ok (outcome.Answer a) =
-    cond_both (is_node w from && is_node w to) (handed_over w from to number (released w from to number)) (Err NoNode)
-    (λ z. outcome_of z ≡ Ok (outcome.Answer a) → outcome_of (handed_over w from to number (released w from to number)) ≡ Ok (outcome.Answer a)) (λ _ e. e) (λ _ e. absurd cc) h in
+    let found : outcome_of (delivery w from to number (released w from to number)) ≡ Ok (outcome.Answer a) =
+    cond_both (is_node w from && is_node w to) (delivery w from to number (released w from to number)) (Err NoNode)
+    (λ z. outcome_of z ≡ Ok (outcome.Answer a) → outcome_of (delivery w from to number (released w from to number)) ≡ Ok (outcome.Answer a)) (λ _ e. e) (λ _ e. absurd cc) h in
     moved-answer w to (receive (node_at w.current to) from to number x.stamp x.body) a
-    (subst (λ (z : Option Message). outcome_of (handed_over w from to number z) ≡ Ok (outcome.Answer a)) there found)
+    (subst (λ (z : Option Message). outcome_of (delivery w from to number z) ≡ Ok (outcome.Answer a)) there found)
 
 -- a message of which every test passes is refused for its numbers alone
 after-err : (s : NodeState) (r : Result Effect Refusal) (e : Refusal) → after s r ≡ Err e → r ≡ Err e
@@ -174,9 +174,9 @@ last-refusal [] last x e passed h = cond_both last.0 (Ok x) (Err last.1) (λ z. 
 last-refusal ((true, r) ∷ ts) last x e passed h = last-refusal ts last x e passed.1 h
 last-refusal ((false, r) ∷ ts) last x e passed h = let never = passed.0 in absurd cc
 
-pub receive-passed : (s : NodeState) (from to number stamp : ℕ) (b : Body) (e : Refusal) → AllPass (receipt_tests s.part from to number stamp b) → receive s from to number stamp b ≡ Err e → LinkSpent ≡ e
+pub receive-passed : (s : NodeState) (from to number stamp : ℕ) (b : Body) (e : Refusal) → AllPass (receipt_tests s.local from to number stamp b) → receive s from to number stamp b ≡ Err e → LinkSpent ≡ e
 unfolding receive
 receive-passed s from to number stamp b e passed h =
-    let x : Effect = receipt s.part from number stamp b in
-    let ts : List (Bool × Refusal) = receipt_tests s.part from to number stamp b in
+    let x : Effect = receipt s.local from number stamp b in
+    let ts : List (Bool × Refusal) = receipt_tests s.local from to number stamp b in
     last-refusal ts (fits (map length s.sent) x.sends, LinkSpent) x e passed (after-err s (checked ts (map length s.sent) x) e h)

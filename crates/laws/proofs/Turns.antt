@@ -2,7 +2,7 @@
 use Rattle.std.proofs.Common.{◌≡◌, ◌≢◌, ℕ, ◌≤◌, List, [], ◌∷◌, ◌++◌, length, get_or, set, Some, slice_get, refl, sym, ap, subst, inl, inr, ⊎_elim, ◌⊎◌, length-append, arith}
 use Rattle.std.proofs.lemmas.Bool.{cases_eq}
 use Rattle.msg.specs.declared.body.Message.{Message}
-use Rattle.model.specs.State.{Part, NodeState, got_from, sent_to}
+use Rattle.model.specs.State.{LocalState, NodeState, got_from, sent_to}
 use Rattle.model.specs.Steps.{append_all}
 use Rattle.model.specs.Cuts.{Cut, taken, IsInFlight, Among, Becomes}
 use Rattle.model.proofs.Lookups.{at_set_if}
@@ -10,8 +10,8 @@ use Rattle.laws.proofs.Lookups.{slice_get-push}
 use Rattle.laws.proofs.StepFacts.{append_all-grows}
 
 -- The node i has a new part and sent the messages; it forgot none that it had taken in.
-pub record Turn (c d : Cut) (i : ℕ) (p : Part) (ms : List (ℕ × Message)) : Type 0 where
-  pub becomes : Becomes c d i (record { part = p; sent = append_all (c i).sent ms })
+pub record Turn (c d : Cut) (i : ℕ) (p : LocalState) (ms : List (ℕ × Message)) : Type 0 where
+  pub becomes : Becomes c d i (record { local = p; sent = append_all (c i).sent ms })
   pub heard : (from : ℕ) → taken c from i ≤ got_from p from
 
 -- what holds of the changed node and of the others
@@ -21,8 +21,8 @@ at_becomes c d i s P b here others j = ⊎_elim
     (λ (other : j ≢ i). subst (λ (z : NodeState). P j z) (sym (b.others j other)) (others j other))
     (cases_eq j i)
 
-pub at_turn : (c d : Cut) (i : ℕ) (p : Part) (ms : List (ℕ × Message)) (P : ℕ → NodeState → Type 0) → Turn c d i p ms → P i (record { part = p; sent = append_all (c i).sent ms }) → ((j : ℕ) → j ≢ i → P j (c j)) → (j : ℕ) → P j (d j)
-at_turn c d i p ms P t here others = at_becomes c d i (record { part = p; sent = append_all (c i).sent ms }) P t.becomes here others
+pub at_turn : (c d : Cut) (i : ℕ) (p : LocalState) (ms : List (ℕ × Message)) (P : ℕ → NodeState → Type 0) → Turn c d i p ms → P i (record { local = p; sent = append_all (c i).sent ms }) → ((j : ℕ) → j ≢ i → P j (c j)) → (j : ℕ) → P j (d j)
+at_turn c d i p ms P t here others = at_becomes c d i (record { local = p; sent = append_all (c i).sent ms }) P t.becomes here others
 
 -- a message among those sent was there before, or is one of the new ones
 appended-from : (sent : List (List Message)) (ms : List (ℕ × Message)) (to place : ℕ) (x : Message) → slice_get (get_or (append_all sent ms) to []) place ≡ Some x → (slice_get (get_or sent to []) place ≡ Some x) ⊎ Among (to, x) ms
@@ -40,9 +40,9 @@ appended-from sent ((other, y) ∷ ms) to place x there =
     (appended-from (set sent other longer) ms to place x there)
 
 -- what is in flight was in flight before, or was sent now
-pub flew : (c d : Cut) (i : ℕ) (p : Part) (ms : List (ℕ × Message)) → Turn c d i p ms → (from to place : ℕ) (x : Message) → IsInFlight d from to place x → IsInFlight c from to place x ⊎ ((from ≡ i) × Among (to, x) ms)
+pub flew : (c d : Cut) (i : ℕ) (p : LocalState) (ms : List (ℕ × Message)) → Turn c d i p ms → (from to place : ℕ) (x : Message) → IsInFlight d from to place x → IsInFlight c from to place x ⊎ ((from ≡ i) × Among (to, x) ms)
 flew c d i p ms t from to place x flight =
-    let fewer : taken c from to ≤ taken d from to = at_turn c d i p ms (λ j s. taken c from j ≤ got_from s.part from) t (t.heard from) (λ j _. omega arith) to in
+    let fewer : taken c from to ≤ taken d from to = at_turn c d i p ms (λ j s. taken c from j ≤ got_from s.local from) t (t.heard from) (λ j _. omega arith) to in
     ⊎_elim {C = IsInFlight c from to place x ⊎ ((from ≡ i) × Among (to, x) ms)}
     (λ before. inl (record { later = omega (arith, flight.later); there = before }))
     (λ new. inr new)
@@ -51,7 +51,7 @@ flew c d i p ms t from to place x flight =
     (λ j _ there. inl there) from flight.there)
 
 -- what was sent stays sent
-pub sent-grows : (c d : Cut) (i : ℕ) (p : Part) (ms : List (ℕ × Message)) → Turn c d i p ms → (from to : ℕ) → length (sent_to (c from) to) ≤ length (sent_to (d from) to)
+pub sent-grows : (c d : Cut) (i : ℕ) (p : LocalState) (ms : List (ℕ × Message)) → Turn c d i p ms → (from to : ℕ) → length (sent_to (c from) to) ≤ length (sent_to (d from) to)
 sent-grows c d i p ms t from to =
     at_turn c d i p ms (λ j s. length (sent_to (c j) to) ≤ length (sent_to s to)) t
     (let more = append_all-grows (c i).sent ms to in omega (arith, ap length more.1, length-append (sent_to (c i) to) more.0))

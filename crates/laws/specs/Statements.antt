@@ -14,7 +14,7 @@ use Rattle.model.specs.Steps.{target_of, receive}
 use Rattle.model.specs.World.{new_world, run, released, acknowledged, release_count, take_step, outcome_of}
 use Rattle.model.specs.Cuts.{cut, IsLive, Reachable, PlainRun}
 
--- Saves and restarts show in no cut: what stands in a cut now, whether of present or of saved states, came
+-- Saves and restarts show in no cut: what stands in a cut now, whether of current or of saved states, came
 -- about by events and receipts alone, from a cut of each earlier time.
 abbrev pub CutsExtend : Type 0
 CutsExtend =
@@ -45,7 +45,7 @@ abbrev pub NoneRefusedInTurn : Type 0
 NoneRefusedInTurn =
     (shape : Shaped) → IsShape shape → (steps : List Step) (from to number : ℕ) (x : Message)
     → released (run (new_world shape) steps) from to number ≡ Some x
-    → number ≤ got_from (node_at (run (new_world shape) steps).current to).part from + 1
+    → number ≤ got_from (node_at (run (new_world shape) steps).current to).local from + 1
     → receive (node_at (run (new_world shape) steps).current to) from to number x.stamp x.body ≢ Err WrongNode
 
 -- Nothing is acknowledged that wasn't released: of one node's messages to another, the receiver's saved
@@ -69,9 +69,9 @@ AcknowledgedStays =
     (shape : Shaped) → IsShape shape → (earlier later : List Step) (from to : ℕ)
     → acknowledged (run (new_world shape) earlier) from to ≤ acknowledged (run (run (new_world shape) earlier) later) from to
 
--- And the receiver's present state has taken in what is acknowledged, also after a restart. So no message
+-- And the receiver's current state has taken in what is acknowledged, also after a restart. So no message
 -- that was acknowledged is ever wanted again.
 abbrev pub AcknowledgedIsTakenIn : Type 0
 AcknowledgedIsTakenIn =
     (shape : Shaped) → IsShape shape → (steps : List Step) (from to : ℕ)
-    → acknowledged (run (new_world shape) steps) from to ≤ got_from (node_at (run (new_world shape) steps).current to).part from
+    → acknowledged (run (new_world shape) steps) from to ≤ got_from (node_at (run (new_world shape) steps).current to).local from

@@ -15,7 +15,7 @@ use std::marker::Model;
 #[derive(Drop)]
 pub struct Sender {
     base: u64,
-    window: VecDeque<Message>,
+    unacknowledged: VecDeque<Message>,
     kept: u64,
 }
 
@@ -26,9 +26,9 @@ impl Model for Sender {
 
     ghost use Rattle.link.specs.Senders.{IsLink};
 
-    ghost view = { λ s. record { base = s.base; window = s.window.items; kept = s.kept } };
+    ghost view = { λ s. record { base = s.base; unacknowledged = s.unacknowledged.items; kept = s.kept } };
 
-    ghost invariant = { λ s. IsLink (record { base = s.base; window = s.window.items; kept = s.kept }) };
+    ghost invariant = { λ s. IsLink (record { base = s.base; unacknowledged = s.unacknowledged.items; kept = s.kept }) };
 }
 
 impl Sender {
@@ -38,7 +38,7 @@ impl Sender {
     {
         Sender {
             base: 0,
-            window: VecDeque::new(alloc),
+            unacknowledged: VecDeque::new(alloc),
             kept: 0,
         }
     }
@@ -48,7 +48,7 @@ impl Sender {
         ensures value { result ≡ used self.now }
         ensures within { result ≤ GREATEST_NUMBER }
     {
-        self.base + self.window.len() as u64
+        self.base + self.unacknowledged.len() as u64
     }
 
     /// The highest number that was acknowledged; 0 where none was.
@@ -77,7 +77,7 @@ impl Sender {
         if number >= GREATEST_NUMBER {
             return Err(Refusal::LinkSpent);
         }
-        self.window.push_back(message)?;
+        self.unacknowledged.push_back(message)?;
         Ok(number + 1)
     }
 
@@ -94,7 +94,7 @@ impl Sender {
             return Err(Refusal::AckBeyond);
         }
         if number > self.base {
-            self.window.drain(..(number - self.base) as usize);
+            self.unacknowledged.drain(..(number - self.base) as usize);
             self.base = number;
         }
         Ok(())
@@ -117,7 +117,7 @@ impl Sender {
             return None;
         }
         let place = number - self.base - 1;
-        self.window.get(place as usize).copied()
+        self.unacknowledged.get(place as usize).copied()
     }
 
     /// The message in this place of the window, which has [`WINDOW`] places and shows released messages
@@ -127,7 +127,7 @@ impl Sender {
         ensures within { IfSome result (λ _. self.now.base + 1 + place ≤ GREATEST_NUMBER) }
     {
         if place < WINDOW && self.base + u64::from(place) < self.kept {
-            self.window.get(usize::from(place)).copied()
+            self.unacknowledged.get(usize::from(place)).copied()
         } else {
             None
         }
@@ -141,7 +141,7 @@ impl Sender {
         let _alloc = alloc;
         Ok(Sender {
             base: self.base,
-            window: self.window.clone()?,
+            unacknowledged: self.unacknowledged.clone()?,
             kept: self.kept,
         })
     }

@@ -60,7 +60,7 @@ unfolding take_step act receive allocated given taken_in count_in take_body
 order-and-once = refl
 
 -- and each that was taken in counts one down
-pub counted-once : (node_at (run (new_world (space 2 4 16)) (map (λ (r : Step × Result Outcome Refusal). r.0) in_turn)).current 1).part.ring.recent ≡ negsuc 1
+pub counted-once : (node_at (run (new_world (space 2 4 16)) (map (λ (r : Step × Result Outcome Refusal). r.0) in_turn)).current 1).local.ring.recent ≡ negsuc 1
 unfolding take_step act receive allocated given taken_in count_in take_body
 counted-once = refl
 
@@ -69,7 +69,7 @@ abbrev letter_of : ℕ → Message
 letter_of label = record { stamp = 0; body = body.Give label None }
 
 abbrev full : NodeView
-full = record (new_view (space 2 4 16) 0) { links = no_link ∷ (record { base = 0; window = letter_of 1 ∷ letter_of 2 ∷ replicate 30 (letter_of 3) ++ letter_of 33 ∷ []; kept = 33 }) ∷ [] }
+full = record (new_view (space 2 4 16) 0) { links = no_link ∷ (record { base = 0; unacknowledged = letter_of 1 ∷ letter_of 2 ∷ replicate 30 (letter_of 3) ++ letter_of 33 ∷ []; kept = 33 }) ∷ [] }
 
 abbrev one : Ack
 one = record { from = 1; to = 0; number = 1; fits = refl }

@@ -15,7 +15,7 @@ use Rattle.model.specs.declared.step.Step.{Step}
 use Rattle.model.specs.declared.step.Step.TheVariants as step
 use Rattle.model.specs.declared.step.Outcome.{Outcome}
 use Rattle.model.specs.declared.step.Outcome.TheVariants as outcome
-use Rattle.model.specs.State.{Free, Occupied, Retired, Heap, NodeState, new_heap, new_part, new_node}
+use Rattle.model.specs.State.{Free, Occupied, Retired, Heap, NodeState, new_heap, new_local, new_node}
 use Rattle.model.specs.Heaps.{heap_alloc}
 use Rattle.model.specs.Steps.{Effect, effect, act, receive, allocated, dropped, given, accepted, taken_in, count_in, take_body}
 use Rattle.model.specs.World.{outcomes, new_world, take_step}
@@ -230,7 +230,7 @@ effect_answer (Err e) = Err e
 
 -- node 0 gives to node 1, for which it appended so many messages before
 abbrev given_after : ℕ → Result Answer Refusal
-given_after count = effect_answer (effect (new_part (space 2 4 16) 0) (0 ∷ count ∷ []) (event.Give 1 7 0))
+given_after count = effect_answer (effect (new_local (space 2 4 16) 0) (0 ∷ count ∷ []) (event.Give 1 7 0))
 
 -- the last number is given out, and none after it
 pub numbers : Answers (

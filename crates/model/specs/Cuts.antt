@@ -13,13 +13,13 @@ use Rattle.model.specs.World.{World}
 abbrev pub Cut : Type 0
 Cut = ℕ → NodeState
 
--- for each node its present state or its saved one, where the choice is true
+-- for each node its current state or its saved one, where the choice is true
 abbrev pub cut : World → (ℕ → Bool) → Cut
 cut w saved i = cond (saved i) (node_at w.saved i) (node_at w.current i)
 
 -- how many messages of one node another has taken in
 abbrev pub taken : Cut → ℕ → ℕ → ℕ
-taken c from to = got_from (c to).part from
+taken c from to = got_from (c to).local from
 
 -- The message stands in flight at its place among all that were ever sent on its link: appending
 -- messages and taking others in doesn't move it.
@@ -35,15 +35,15 @@ Among x (y ∷ ys) = (x ≡ y) ⊎ Among x ys
 -- the object's owner still has it
 pub record IsLive (c : Cut) (r : Ref) : Type 0 where
   pub object : Object
-  pub there : slot_at (c r.node).part.heap r.slot ≡ Occupied r.generation object
+  pub there : slot_at (c r.node).local.heap r.slot ≡ Occupied r.generation object
 
 -- What is reachable: the references in registers and letters, those that messages in flight carry, and
 -- with a reference all that stand in the places of its object.
 pub data Reachable (c : Cut) : Ref → Type 0 where
-  in_register : {r : Ref} (i k : ℕ) → register_at (c i).part.heap k ≡ Some r → Reachable c r
-  in_letter : {r : Ref} (i k : ℕ) (l : Letter) → slice_get (c i).part.heap.letters k ≡ Some l → l.reference ≡ Some r → Reachable c r
+  in_register : {r : Ref} (i k : ℕ) → register_at (c i).local.heap k ≡ Some r → Reachable c r
+  in_letter : {r : Ref} (i k : ℕ) (l : Letter) → slice_get (c i).local.heap.letters k ≡ Some l → l.reference ≡ Some r → Reachable c r
   in_message : {r : Ref} (from to place : ℕ) (x : Message) → IsInFlight c from to place x → Among r (carried x.body) → Reachable c r
-  in_place : {r : Ref} (owner : Ref) (o : Object) (k : ℕ) → Reachable c owner → slot_at (c owner.node).part.heap owner.slot ≡ Occupied owner.generation o → slice_index_or o.places k None ≡ Some r → Reachable c r
+  in_place : {r : Ref} (owner : Ref) (o : Object) (k : ℕ) → Reachable c owner → slot_at (c owner.node).local.heap owner.slot ≡ Occupied owner.generation o → slice_index_or o.places k None ≡ Some r → Reachable c r
 
 -- one node changes
 pub record Becomes (c d : Cut) (i : ℕ) (s : NodeState) : Type 0 where

@@ -44,14 +44,14 @@ pub record Phases : Type 0 where
 -- the node's part of the ring that finds the end of marking
 pub record Ring : Type 0 where
   pub colour : Colour
-  -- messages sent less those received, of those that count in the present cycle
+  -- messages sent less those received, of those that count in the current cycle
   pub earlier : ℤ
-  -- the same of those that the next cycle counts: the ones with references and the present cycle's stamp
+  -- the same of those that the next cycle counts: the ones with references and the current cycle's stamp
   pub recent : ℤ
   pub token : Option Token
 
 -- all of a node but what it sent
-pub record Part : Type 0 where
+pub record LocalState : Type 0 where
   pub shape : Shaped
   pub own : ℕ
   pub heap : Heap
@@ -64,7 +64,7 @@ pub record Part : Type 0 where
 
 -- a node, with all that it ever sent to each node
 pub record NodeState : Type 0 where
-  pub part : Part
+  pub local : LocalState
   pub sent : List (List Message)
 
 -- look-ups
@@ -74,7 +74,7 @@ register_at h k = slice_index_or h.registers k None
 abbrev pub slot_at : Heap → ℕ → Slot
 slot_at h k = slice_index_or h.slots k Retired
 
-abbrev pub got_from : Part → ℕ → ℕ
+abbrev pub got_from : LocalState → ℕ → ℕ
 got_from p i = slice_index_or p.got i 0
 
 abbrev pub sent_to : NodeState → ℕ → List Message
@@ -90,11 +90,11 @@ new_phases nodes = record { cycle = 0; ended = 0; swept = 0; cursor = 0; reports
 abbrev pub new_ring : Ring
 new_ring = record { colour = White; earlier = pos 0; recent = pos 0; token = None }
 
-abbrev pub new_part : Shaped → ℕ → Part
-new_part shape own = record { shape = shape; own = own; heap = new_heap shape; asked = []; phases = new_phases shape.nodes; ring = new_ring; got = replicate shape.nodes 0 }
+abbrev pub new_local : Shaped → ℕ → LocalState
+new_local shape own = record { shape = shape; own = own; heap = new_heap shape; asked = []; phases = new_phases shape.nodes; ring = new_ring; got = replicate shape.nodes 0 }
 
 abbrev pub new_node : Shaped → ℕ → NodeState
-new_node shape own = record { part = new_part shape own; sent = replicate shape.nodes [] }
+new_node shape own = record { local = new_local shape own; sent = replicate shape.nodes [] }
 
 -- the node that stands past the end of a list of nodes
 abbrev pub no_node : NodeState

@@ -16,111 +16,111 @@ use Rattle.model.specs.declared.event.Event.TheVariants as event
 use Rattle.model.specs.declared.event.Answer.{Answer}
 use Rattle.model.specs.declared.event.Answer.TheVariants as answer
 use Rattle.model.specs.Checks.{guarded}
-use Rattle.model.specs.State.{Heap, Ring, Part, NodeState, register_at, got_from}
+use Rattle.model.specs.State.{Heap, Ring, LocalState, NodeState, register_at, got_from}
 use Rattle.model.specs.Heaps.{with_register, with_place, with_word, new_reference, named, object_at, word_of, oldest_letter, with_letter, alloc_heap, register_copied, place_of, place_loaded, letter_taken, alloc_tests, copy_tests, drop_tests, load_tests, store_tests, clear_tests, word_tests, put_tests, get_tests, accept_tests, register_tests}
 
 -- a node's part after some step, and the messages that it appended, each with its receiver, in order
 pub record Work : Type 0 where
-  pub part : Part
+  pub local : LocalState
   pub sends : List (ℕ × Message)
 
 -- one step after another
-abbrev pub then : Work → (Part → Work) → Work
-then w f = record { part = (f w.part).part; sends = w.sends ++ (f w.part).sends }
+abbrev pub then : Work → (LocalState → Work) → Work
+then w f = record { local = (f w.local).local; sends = w.sends ++ (f w.local).sends }
 
 -- what an event does: the part, the messages, the answer
 pub record Effect : Type 0 where
-  pub part : Part
+  pub local : LocalState
   pub sends : List (ℕ × Message)
   pub answer : Answer
 
 abbrev pub answers : Work → Answer → Effect
-answers w a = record { part = w.part; sends = w.sends; answer = a }
+answers w a = record { local = w.local; sends = w.sends; answer = a }
 
 -- the part alone changes
-abbrev pub becomes : Part → Heap → Answer → Effect
-becomes p h a = record { part = record p { heap = h }; sends = []; answer = a }
+abbrev pub becomes : LocalState → Heap → Answer → Effect
+becomes p h a = record { local = record p { heap = h }; sends = []; answer = a }
 
 -- nothing changes
-abbrev pub unchanged : Part → Answer → Effect
-unchanged p a = record { part = p; sends = []; answer = a }
+abbrev pub unchanged : LocalState → Answer → Effect
+unchanged p a = record { local = p; sends = []; answer = a }
 
 -- The messages that carry references are counted: one that is sent counts one up at its sender, with those
--- of the present cycle.
-abbrev pub counted_up : Part → Part
+-- of the current cycle.
+abbrev pub counted_up : LocalState → LocalState
 counted_up p = record p { ring = record p.ring { recent = p.ring.recent +ℤ pos 1 } }
 
 -- a message that carries references to another node; counts says for each node how many messages were
 -- appended so far
-abbrev pub sends_one : Part → List ℕ → ℕ → Body → Effect
+abbrev pub sends_one : LocalState → List ℕ → ℕ → Body → Effect
 sends_one p counts to b =
     record {
-      part = counted_up p;
+      local = counted_up p;
       sends = (to, record { stamp = p.phases.cycle; body = b }) ∷ [];
       answer = answer.Sent (slice_index_or counts to 0 + 1);
     }
 
 -- Alloc
-unfoldable pub allocated : Part → ℕ → ℕ → Effect
+unfoldable pub allocated : LocalState → ℕ → ℕ → Effect
 allocated p register places =
     becomes p (alloc_heap p.own p.phases.cycle p.heap register places) (answer.New (new_reference p.own p.heap))
 
 -- Copy
-unfoldable pub copied : Part → ℕ → ℕ → Effect
+unfoldable pub copied : LocalState → ℕ → ℕ → Effect
 copied p register source = becomes p (register_copied p.heap register source) answer.Done
 
 -- Drop
-unfoldable pub dropped : Part → ℕ → Effect
+unfoldable pub dropped : LocalState → ℕ → Effect
 dropped p register = becomes p (with_register p.heap register None) answer.Done
 
 -- Load
-unfoldable pub loaded : Part → ℕ → ℕ → ℕ → Effect
+unfoldable pub loaded : LocalState → ℕ → ℕ → ℕ → Effect
 loaded p register object place =
     becomes p (with_register p.heap register (place_loaded p.heap object place)) (answer.Value (place_loaded p.heap object place))
 
 -- Store
-unfoldable pub stored : Part → ℕ → ℕ → ℕ → Effect
+unfoldable pub stored : LocalState → ℕ → ℕ → ℕ → Effect
 stored p object place register =
     becomes p (with_place p.heap (named p.heap object) place (register_at p.heap register)) answer.Done
 
 -- Clear
-unfoldable pub cleared : Part → ℕ → ℕ → Effect
+unfoldable pub cleared : LocalState → ℕ → ℕ → Effect
 cleared p object place = becomes p (with_place p.heap (named p.heap object) place None) answer.Done
 
 -- Word
-unfoldable pub word_read : Part → ℕ → Effect
+unfoldable pub word_read : LocalState → ℕ → Effect
 word_read p object = unchanged p (answer.Word (word_of (object_at p.heap (named p.heap object))))
 
 -- SetWord
-unfoldable pub word_set : Part → ℕ → ℕ → Effect
+unfoldable pub word_set : LocalState → ℕ → ℕ → Effect
 word_set p object word = becomes p (with_word p.heap (named p.heap object) word) answer.Done
 
 -- Give: what the register holds goes to another node
-unfoldable pub given : Part → List ℕ → ℕ → ℕ → ℕ → Effect
+unfoldable pub given : LocalState → List ℕ → ℕ → ℕ → ℕ → Effect
 given p counts to label register = sends_one p counts to (body.Give label (register_at p.heap register))
 
 -- Accept: the oldest letter leaves
-unfoldable pub accepted : Part → ℕ → Effect
+unfoldable pub accepted : LocalState → ℕ → Effect
 accepted p register = becomes p (letter_taken p.heap register) (answer.Letter (oldest_letter p.heap))
 
 -- Put: the owner of the object is asked to put what the register holds into a place of it
-unfoldable pub put_asked : Part → List ℕ → ℕ → ℕ → ℕ → Effect
+unfoldable pub put_asked : LocalState → List ℕ → ℕ → ℕ → ℕ → Effect
 put_asked p counts object place register =
     sends_one p counts (named p.heap object).node (body.Put (named p.heap object) place (register_at p.heap register))
 
 -- Get: the owner of the object is asked for what stands in a place of it
-unfoldable pub get_asked : Part → List ℕ → ℕ → ℕ → ℕ → Effect
+unfoldable pub get_asked : LocalState → List ℕ → ℕ → ℕ → ℕ → Effect
 get_asked p counts object place label =
     sends_one p counts (named p.heap object).node (body.Get (named p.heap object) place label)
 
 -- Data: a message comes from another node
-abbrev pub is_addressed : Part → ℕ → ℕ → Bool
+abbrev pub is_addressed : LocalState → ℕ → ℕ → Bool
 is_addressed p from to = (to == p.own) && (nat_lt from p.shape.nodes && not (from == p.own))
 
-abbrev pub is_repeat : Part → ℕ → ℕ → Bool
+abbrev pub is_repeat : LocalState → ℕ → ℕ → Bool
 is_repeat p from number = nat_le number (got_from p from)
 
-abbrev pub is_next : Part → ℕ → ℕ → Bool
+abbrev pub is_next : LocalState → ℕ → ℕ → Bool
 is_next p from number = number == got_from p from + 1
 
 -- every reference that stands in a message
@@ -169,7 +169,7 @@ may_follow own (body.Get target place label) = target.node == own
 may_follow own b = false
 
 -- a message that the node may take in, in its turn
-abbrev pub may_take : Part → ℕ → Body → Bool
+abbrev pub may_take : LocalState → ℕ → Body → Bool
 may_take p stamp b = nat_le stamp p.phases.cycle && (are_within p.shape (mentioned b) && may_follow p.own b)
 
 -- a body that is counted: it carries references, whether or not the one that may be left out is there
@@ -179,17 +179,17 @@ is_reference (body.Put target place reference) = true
 is_reference (body.Get target place label) = true
 is_reference b = false
 
--- A counted message that is taken in counts one down: with those of the present cycle where it was sent in
+-- A counted message that is taken in counts one down: with those of the current cycle where it was sent in
 -- that cycle. One of an earlier cycle counts with those, and makes the node black.
 abbrev pub counted_down : ℕ → ℕ → Ring → Ring
 counted_down cycle stamp r =
     cond (nat_lt stamp cycle) (record r { colour = Black; earlier = r.earlier -ℤ pos 1 }) (record r { recent = r.recent -ℤ pos 1 })
 
 -- the message counts as taken in
-unfoldable pub count_in : Part → ℕ → ℕ → ℕ → Body → Work
+unfoldable pub count_in : LocalState → ℕ → ℕ → ℕ → Body → Work
 count_in p from number stamp b =
     record {
-      part = record p {
+      local = record p {
         got = slice_set p.got from number;
         ring = cond (is_reference b) (counted_down p.phases.cycle stamp p.ring) p.ring;
       };
@@ -197,37 +197,37 @@ count_in p from number stamp b =
     }
 
 -- what its body asks for: a letter is added; a place is written; what stands in a place is sent back
-unfoldable pub take_body : ℕ → Body → Part → Work
+unfoldable pub take_body : ℕ → Body → LocalState → Work
 take_body from (body.Give label reference) p =
     record {
-      part = record p { heap = with_letter p.heap (record { from = from; label = label; reference = reference }) };
+      local = record p { heap = with_letter p.heap (record { from = from; label = label; reference = reference }) };
       sends = [];
     }
 take_body from (body.Put target place reference) p =
-    record { part = record p { heap = with_place p.heap target place reference }; sends = [] }
+    record { local = record p { heap = with_place p.heap target place reference }; sends = [] }
 take_body from (body.Get target place label) p =
     record {
-      part = counted_up p;
+      local = counted_up p;
       sends = (from, record { stamp = p.phases.cycle; body = body.Give label (place_of (object_at p.heap target) place) }) ∷ [];
     }
-take_body from b p = record { part = p; sends = [] }
+take_body from b p = record { local = p; sends = [] }
 
-unfoldable pub taken_in : Part → ℕ → ℕ → ℕ → Body → Effect
+unfoldable pub taken_in : LocalState → ℕ → ℕ → ℕ → Body → Effect
 taken_in p from number stamp b = answers (then (count_in p from number stamp b) (take_body from b)) answer.Received
 
-abbrev pub receipt_tests : Part → ℕ → ℕ → ℕ → ℕ → Body → List (Bool × Refusal)
+abbrev pub receipt_tests : LocalState → ℕ → ℕ → ℕ → ℕ → Body → List (Bool × Refusal)
 receipt_tests p from to number stamp b =
     (is_addressed p from to, WrongNode)
     ∷ (nat_le number (got_from p from + 1), OutOfOrder)
     ∷ (is_repeat p from number || may_take p stamp b, WrongNode)
     ∷ []
 
-abbrev pub receipt : Part → ℕ → ℕ → ℕ → Body → Effect
+abbrev pub receipt : LocalState → ℕ → ℕ → ℕ → Body → Effect
 receipt p from number stamp b =
     cond (is_repeat p from number) (unchanged p answer.Repeat) (taken_in p from number stamp b)
 
 -- the tests of an event, in the order of its refusals
-abbrev pub tests : Part → Event → List (Bool × Refusal)
+abbrev pub tests : LocalState → Event → List (Bool × Refusal)
 tests p (event.Alloc register places) = alloc_tests p.shape.slots p.heap register places
 tests p (event.Copy register source) = copy_tests p.heap register source
 tests p (event.Drop register) = drop_tests p.heap register
@@ -244,7 +244,7 @@ tests p (event.Data d) = receipt_tests p d.from d.to d.number d.stamp d.body
 tests p (event.Ack a) = (is_addressed p a.from a.to, WrongNode) ∷ []
 
 -- the effect of an event
-abbrev pub made : Part → List ℕ → Event → Effect
+abbrev pub made : LocalState → List ℕ → Event → Effect
 made p counts (event.Alloc register places) = allocated p register places
 made p counts (event.Copy register source) = copied p register source
 made p counts (event.Drop register) = dropped p register
@@ -272,10 +272,10 @@ all_tests ts counts x = ts ++ (fits counts x.sends, LinkSpent) ∷ []
 abbrev pub checked : List (Bool × Refusal) → List ℕ → Effect → Result Effect Refusal
 checked ts counts x = guarded (all_tests ts counts x) x
 
-abbrev pub effect : Part → List ℕ → Event → Result Effect Refusal
+abbrev pub effect : LocalState → List ℕ → Event → Result Effect Refusal
 effect p counts e = checked (tests p e) counts (made p counts e)
 
-abbrev pub received : Part → List ℕ → ℕ → ℕ → ℕ → ℕ → Body → Result Effect Refusal
+abbrev pub received : LocalState → List ℕ → ℕ → ℕ → ℕ → ℕ → Body → Result Effect Refusal
 received p counts from to number stamp b =
     checked (receipt_tests p from to number stamp b) counts (receipt p from number stamp b)
 
@@ -285,17 +285,17 @@ append_all sent [] = sent
 append_all sent (m ∷ ms) = append_all (slice_set sent m.0 (slice_index_or sent m.0 [] ++ m.1 ∷ [])) ms
 
 abbrev pub after : NodeState → Result Effect Refusal → Result (NodeState × Answer) Refusal
-after s (Ok x) = Ok (record { part = x.part; sent = append_all s.sent x.sends }, x.answer)
+after s (Ok x) = Ok (record { local = x.local; sent = append_all s.sent x.sends }, x.answer)
 after s (Err e) = Err e
 
 -- an event of a node: the node afterwards and its answer, or the first refusal that applies
 unfoldable pub act : NodeState → Event → Result (NodeState × Answer) Refusal
-act s e = after s (effect s.part (map length s.sent) e)
+act s e = after s (effect s.local (map length s.sent) e)
 
 -- a message is given to a node
 unfoldable pub receive : NodeState → ℕ → ℕ → ℕ → ℕ → Body → Result (NodeState × Answer) Refusal
 receive s from to number stamp b =
-    after s (received s.part (map length s.sent) from to number stamp b)
+    after s (received s.local (map length s.sent) from to number stamp b)
 
 -- The acknowledgement that an event brings. It changes no state: a state has all that was ever sent, and
 -- doesn't know what was let go of.
@@ -310,7 +310,7 @@ is_own (event.Ack a) = false
 is_own e = true
 
 -- An event that is never refused for want of memory. A message may want some in its turn alone.
-abbrev pub is_memory_free : Part → Event → Bool
+abbrev pub is_memory_free : LocalState → Event → Bool
 is_memory_free p (event.Copy register source) = true
 is_memory_free p (event.Drop register) = true
 is_memory_free p (event.Store object place register) = true

@@ -9,32 +9,32 @@ use Rattle.msg.specs.declared.body.Message.{Message}
 use Rattle.model.specs.declared.event.Event.{Event}
 use Rattle.model.specs.declared.event.Answer.{Answer}
 use Rattle.model.specs.Checks.{IsFirstRefusal}
-use Rattle.model.specs.State.{Part, NodeState, new_part}
+use Rattle.model.specs.State.{LocalState, NodeState, new_local}
 use Rattle.model.specs.Steps.{Effect, checked, tests, made, ack_of}
 
 -- What a node keeps of the messages to another node: the highest number that was acknowledged, the
 -- messages after it, and how many of all its messages a saved node holds.
 pub record Link : Type 0 where
   pub base : ℕ
-  pub window : List Message
+  pub unacknowledged : List Message
   pub kept : ℕ
 
 -- a node as it stands
 pub record NodeView : Type 0 where
-  pub part : Part
+  pub local : LocalState
   pub links : List Link
   -- for each node, how many of its messages a saved node has taken in: so many are acknowledged
   pub acks : List ℕ
 
 abbrev pub no_link : Link
-no_link = record { base = 0; window = []; kept = 0 }
+no_link = record { base = 0; unacknowledged = []; kept = 0 }
 
 abbrev pub link_to : NodeView → ℕ → Link
 link_to n i = slice_index_or n.links i no_link
 
 -- how many messages were ever appended
 abbrev pub used : Link → ℕ
-used l = l.base + length l.window
+used l = l.base + length l.unacknowledged
 
 -- what an acknowledgement alone moves
 abbrev pub base_of : Link → ℕ
@@ -45,7 +45,7 @@ abbrev pub kept_of : Link → ℕ
 kept_of l = l.kept
 
 abbrev pub appended : Link → Message → Link
-appended l x = record l { window = l.window ++ x ∷ [] }
+appended l x = record l { unacknowledged = l.unacknowledged ++ x ∷ [] }
 
 abbrev pub append_to : List Link → List (ℕ × Message) → List Link
 append_to links [] = links
@@ -58,14 +58,14 @@ ack_tests n (Some a) = (nat_le a.number (link_to n a.from).kept, AckBeyond) ∷ 
 
 -- The messages up to the number are let go of; none where that number was acknowledged before.
 abbrev pub trimmed : Link → ℕ → Link
-trimmed l number = record l { base = l.base + min (number - l.base) (length l.window); window = drop (number - l.base) l.window }
+trimmed l number = record l { base = l.base + min (number - l.base) (length l.unacknowledged); unacknowledged = drop (number - l.base) l.unacknowledged }
 
 abbrev pub let_go : List Link → Option Ack → List Link
 let_go links None = links
 let_go links (Some a) = slice_set links a.from (trimmed (slice_index_or links a.from no_link) a.number)
 
 abbrev pub view_after : NodeView → List Link → Result Effect Refusal → Result (NodeView × Answer) Refusal
-view_after n links (Ok x) = Ok (record n { part = x.part; links = append_to links x.sends }, x.answer)
+view_after n links (Ok x) = Ok (record n { local = x.local; links = append_to links x.sends }, x.answer)
 view_after n links (Err e) = Err e
 
 -- an effect of which only the numbers of its messages may be refused
@@ -75,39 +75,39 @@ view_done n x = view_after n n.links (checked [] (map used n.links) x)
 -- an event of the node as it stands
 unfoldable pub view_act : NodeView → Event → Result (NodeView × Answer) Refusal
 view_act n e =
-    view_after n (let_go n.links (ack_of e)) (checked (tests n.part e ++ ack_tests n (ack_of e)) (map used n.links) (made n.part (map used n.links) e))
+    view_after n (let_go n.links (ack_of e)) (checked (tests n.local e ++ ack_tests n (ack_of e)) (map used n.links) (made n.local (map used n.links) e))
 
 -- all messages count as saved
 abbrev pub all_kept : Link → Link
 all_kept l = record l { kept = used l }
 
 abbrev pub kept_view : NodeView → NodeView
-kept_view n = record n { links = map all_kept n.links; acks = n.part.got }
+kept_view n = record n { links = map all_kept n.links; acks = n.local.got }
 
 -- a new node
 abbrev pub new_view : Shaped → ℕ → NodeView
-new_view shape own = record { part = new_part shape own; links = replicate shape.nodes no_link; acks = replicate shape.nodes 0 }
+new_view shape own = record { local = new_local shape own; links = replicate shape.nodes no_link; acks = replicate shape.nodes 0 }
 
 -- another node of the shape
-abbrev pub is_other : Part → ℕ → Bool
+abbrev pub is_other : LocalState → ℕ → Bool
 is_other p i = nat_lt i p.shape.nodes && not (i == p.own)
 
 -- the message of a number, while the node still keeps it
 abbrev pub message_of : Link → ℕ → Option Message
-message_of l number = cond (nat_le number l.base) None (slice_get l.window (number - l.base - 1))
+message_of l number = cond (nat_le number l.base) None (slice_get l.unacknowledged (number - l.base - 1))
 
 -- the link's message in a place of its window, where a saved node holds that message
 abbrev pub released_at : Link → ℕ → Option Message
-released_at l place = cond (nat_lt place WINDOW && nat_lt (l.base + place) l.kept) (slice_get l.window place) None
+released_at l place = cond (nat_lt place WINDOW && nat_lt (l.base + place) l.kept) (slice_get l.unacknowledged place) None
 
 -- what one link keeps of all that was sent on it
 pub record ShowsSent (l : Link) (sent : List Message) : Type 0 where
   pub within : l.base ≤ length sent
-  pub window : l.window ≡ drop l.base sent
+  pub unacknowledged : l.unacknowledged ≡ drop l.base sent
 
 -- the node as it stands shows the state
 pub record Shows (n : NodeView) (s : NodeState) : Type 0 where
-  pub part : n.part ≡ s.part
+  pub local : n.local ≡ s.local
   pub width : length n.links ≡ length s.sent
   pub links : (i : ℕ) → ShowsSent (slice_index_or n.links i no_link) (slice_index_or s.sent i [])
 

@@ -1,4 +1,4 @@
--- A space of nodes: for each its present state and the one last saved ("A space" in docs/RULES.md).
+-- A space of nodes: for each its current state and the one last saved ("A space" in docs/RULES.md).
 use Rattle.std.specs.Prelude.{◌++◌, ◌≡◌, ℕ, ◌-◌, Bool, true, cond, nat_lt, nat_le, ◌==◌, ◌&&◌, ◌||◌, not, is_some, List, [], ◌∷◌, length, map, Option, Some, None, Result, Ok, Err, slice_get, slice_set}
 use Rattle.std.specs.List.{range_with_len}
 use Rattle.ids.specs.Limits.{Shaped}
@@ -33,27 +33,27 @@ numbered sent number = cond (nat_lt 0 number) (slice_get sent (number - 1)) None
 abbrev pub released : World → ℕ → ℕ → ℕ → Option Message
 released w from to number = cond (from == to) None (numbered (sent_to (node_at w.saved from) to) number)
 
--- the node's present state and answer afterwards
+-- the node's current state and answer afterwards
 abbrev pub moved : World → ℕ → Result (NodeState × Answer) Refusal → Result (World × Outcome) Refusal
 moved w i (Ok x) = Ok (record w { current = slice_set w.current i x.0 }, outcome.Answer x.1)
 moved w i (Err e) = Err e
 
-abbrev pub handed_over : World → ℕ → ℕ → ℕ → Option Message → Result (World × Outcome) Refusal
-handed_over w from to number None = Ok (w, outcome.NoFrame)
-handed_over w from to number (Some x) = moved w to (receive (node_at w.current to) from to number x.stamp x.body)
+abbrev pub delivery : World → ℕ → ℕ → ℕ → Option Message → Result (World × Outcome) Refusal
+delivery w from to number None = Ok (w, outcome.NoFrame)
+delivery w from to number (Some x) = moved w to (receive (node_at w.current to) from to number x.stamp x.body)
 
 -- What a node has taken in of another's messages is acknowledged once a saved state of it holds that.
 abbrev pub acknowledged : World → ℕ → ℕ → ℕ
-acknowledged w from to = got_from (node_at w.saved to).part from
+acknowledged w from to = got_from (node_at w.saved to).local from
 
 -- how many messages of one node to another are released
 abbrev pub release_count : World → ℕ → ℕ → ℕ
 release_count w from to = length (sent_to (node_at w.saved from) to)
 
 -- an acknowledgement is handed to the sender, who tests it as its event Ack; it changes no state
-abbrev pub handed_back : World → ℕ → ℕ → Result (World × Outcome) Refusal
-handed_back w from to =
-    guarded ((is_addressed (node_at w.current from).part to from, WrongNode) ∷ (nat_le (acknowledged w from to) (release_count w from to), AckBeyond) ∷ []) (w, outcome.Handed (acknowledged w from to))
+abbrev pub handing : World → ℕ → ℕ → Result (World × Outcome) Refusal
+handing w from to =
+    guarded ((is_addressed (node_at w.current from).local to from, WrongNode) ∷ (nat_le (acknowledged w from to) (release_count w from to), AckBeyond) ∷ []) (w, outcome.Handed (acknowledged w from to))
 
 abbrev pub is_node : World → ℕ → Bool
 is_node w i = nat_lt i (length w.current)
@@ -64,9 +64,9 @@ take_step w (step.Act i e) = cond (is_node w i) (cond (is_own e) (moved w i (act
 take_step w (step.Save i) = cond (is_node w i) (Ok (record w { saved = slice_set w.saved i (node_at w.current i) }, outcome.Done)) (Err NoNode)
 take_step w (step.Restart i) = cond (is_node w i) (Ok (record w { current = slice_set w.current i (node_at w.saved i) }, outcome.Done)) (Err NoNode)
 take_step w (step.Deliver from to number) =
-    cond (is_node w from && is_node w to) (handed_over w from to number (released w from to number)) (Err NoNode)
+    cond (is_node w from && is_node w to) (delivery w from to number (released w from to number)) (Err NoNode)
 take_step w (step.Hand from to) =
-    cond (is_node w from && is_node w to) (cond (from == to) (Ok (w, outcome.NoFrame)) (handed_back w from to)) (Err NoNode)
+    cond (is_node w from && is_node w to) (cond (from == to) (Ok (w, outcome.NoFrame)) (handing w from to)) (Err NoNode)
 
 abbrev pub world_after : World → Result (World × Outcome) Refusal → World
 world_after w (Ok x) = x.0
@@ -90,7 +90,7 @@ abbrev pub outcomes : World → List Step → List (Result Outcome Refusal)
 outcomes w [] = []
 outcomes w (s ∷ ss) = outcome_of (take_step w s) ∷ outcomes (happens w s) ss
 
--- what a node's saved state sent, its present state sent too, and perhaps more after it
+-- what a node's saved state sent, its current state sent too, and perhaps more after it
 pub record KeepsSent (w : World) : Type 0 where
   pub width : length w.saved ≡ length w.current
   pub sent : (i j : ℕ) → (more : List Message) × (sent_to (node_at w.current i) j ≡ sent_to (node_at w.saved i) j ++ more)
@@ -105,9 +105,9 @@ is_own_step (step.Hand from to) = true
 
 -- a step that is never refused for want of memory
 abbrev pub is_step_memory_free : World → Step → Bool
-is_step_memory_free w (step.Act i e) = not (is_node w i) || is_memory_free (node_at w.current i).part e
+is_step_memory_free w (step.Act i e) = not (is_node w i) || is_memory_free (node_at w.current i).local e
 is_step_memory_free w (step.Save i) = not (is_node w i)
 is_step_memory_free w (step.Restart i) = not (is_node w i)
 is_step_memory_free w (step.Deliver from to number) =
-    not (is_node w from && is_node w to) || (not (is_some (released w from to number)) || not (is_next (node_at w.current to).part from number))
+    not (is_node w from && is_node w to) || (not (is_some (released w from to number)) || not (is_next (node_at w.current to).local from number))
 is_step_memory_free w (step.Hand from to) = true

@@ -5,9 +5,9 @@ use crate::event::{Answer, Event};
 pub enum Step {
     /// An event of the node, which comes from no other node.
     Act(u8, Event),
-    /// The node's present state becomes its saved one.
+    /// The node's current state becomes its saved one.
     Save(u8),
-    /// The node's saved state becomes its present one.
+    /// The node's saved state becomes its current one.
     Restart(u8),
     /// The message of this number, if it was ever released, is given to its receiver.
     Deliver { from: u8, to: u8, number: u64 },

@@ -48,15 +48,15 @@ sum_by-same f g xs h = sym (sum-map f (map g xs)) ∙ ap sum (seen f g xs h) ∙
 
 link-appended : (l : Link) (x : Message) → IsLink l → used l < GREATEST_NUMBER → IsLink (appended l x)
 link-appended l x h room =
-    let longer = length-append l.window (x ∷ []) in
+    let longer = length-append l.unacknowledged (x ∷ []) in
     record { base = h.base; kept = omega (arith, h.kept, longer); used = omega (arith, room, longer) }
 
 link-trimmed : (l : Link) (number : ℕ) → IsLink l → number ≤ l.kept → IsLink (trimmed l number) × (used (trimmed l number) ≡ used l)
 link-trimmed l number h released =
     let k = number - l.base in
-    let left : length (drop k l.window) ≡ length l.window - k = length-drop k l.window in
-    let low = min-le_left k (length l.window) in
-    let high = min-le_right k (length l.window) in
+    let left : length (drop k l.unacknowledged) ≡ length l.unacknowledged - k = length-drop k l.unacknowledged in
+    let low = min-le_left k (length l.unacknowledged) in
+    let high = min-le_right k (length l.unacknowledged) in
     let same : used (trimmed l number) ≡ used l = omega (arith, left, low, high) in
     (record { base = omega (arith, low, high, h.base, released); kept = omega (arith, same, h.kept); used = omega (arith, same, h.used) }, same)
 
@@ -70,17 +70,17 @@ no_message-sendable shape = record { stamp = omega arith; references = tt; place
 
 sendable-append : (shape : Shaped) (links : List Link) (to : ℕ) (x : Message) → AllSendable shape links → IsSendable shape x → AllSendable shape (append_to links ((to, x) ∷ []))
 sendable-append shape links to x all here = λ i k.
-    at_set (λ (l : Link). IsSendable shape (get_or l.window k no_message)) links to i (appended (get_or links to no_link) x) no_link
-    (at_push (IsSendable shape) (get_or links to no_link).window k x no_message here (no_message-sendable shape) (all to k))
+    at_set (λ (l : Link). IsSendable shape (get_or l.unacknowledged k no_message)) links to i (appended (get_or links to no_link) x) no_link
+    (at_push (IsSendable shape) (get_or links to no_link).unacknowledged k x no_message here (no_message-sendable shape) (all to k))
     (all i k)
 
 -- ---- the node
 
 -- its balance is far from the ends of its type
-pub balance-small : (n : NodeView) → IsNode n → (neg_ℤ (pos (2 ^ 53)) ≤ℤ n.part.ring.recent) × (n.part.ring.recent ≤ℤ pos (2 ^ 53))
+pub balance-small : (n : NodeView) → IsNode n → (neg_ℤ (pos (2 ^ 53)) ≤ℤ n.local.ring.recent) × (n.local.ring.recent ≤ℤ pos (2 ^ 53))
 balance-small n h =
     let sent : sum_by used n.links ≤ length n.links * GREATEST_NUMBER = sum_by-bound used GREATEST_NUMBER n.links no_link (λ i. (h.links i).used) in
-    let taken : sum_by (λ (k : ℕ). k) n.part.got ≤ length n.part.got * GREATEST_NUMBER = sum_by-bound (λ (k : ℕ). k) GREATEST_NUMBER n.part.got 0 h.numbers in
+    let taken : sum_by (λ (k : ℕ). k) n.local.got ≤ length n.local.got * GREATEST_NUMBER = sum_by-bound (λ (k : ℕ). k) GREATEST_NUMBER n.local.got 0 h.numbers in
     let many = h.shape.most_nodes in
     (omega (arith, ints, taken, h.received, many, h.balance.least), omega (arith, ints, sent, h.linked, many, h.balance.most))
 
@@ -89,10 +89,10 @@ in-range (pos n) least most = let few : n ≤ 2 ^ 54 = omega (arith, ints, most)
 in-range (negsuc n) least most = let few : n ≤ 2 ^ 54 = omega (arith, ints, least) in omega arith
 
 -- so it is read as it was written
-pub balance-read : (n : NodeView) → IsNode n → to_z w64 (of_z w64 n.part.ring.recent) ≡ n.part.ring.recent
-balance-read n h = let far = balance-small n h in to_z-of_z w64 n.part.ring.recent (in-range n.part.ring.recent (omega (arith, ints, far.0)) (omega (arith, ints, far.1)))
+pub balance-read : (n : NodeView) → IsNode n → to_z w64 (of_z w64 n.local.ring.recent) ≡ n.local.ring.recent
+balance-read n h = let far = balance-small n h in to_z-of_z w64 n.local.ring.recent (in-range n.local.ring.recent (omega (arith, ints, far.0)) (omega (arith, ints, far.1)))
 
-pub node-heap : (n : NodeView) (h : Heap) → IsNode n → HoldsOnly (IsWithin n.part.shape) h → IsNode (record n { part = record n.part { heap = h } })
+pub node-heap : (n : NodeView) (h : Heap) → IsNode n → HoldsOnly (IsWithin n.local.shape) h → IsNode (record n { local = record n.local { heap = h } })
 node-heap n h old all = record {
   shape = old.shape;
   own = old.own;
@@ -108,12 +108,12 @@ node-heap n h old all = record {
 }
 
 -- a message was appended
-pub node-sent : (n : NodeView) (to : ℕ) (x : Message) → IsNode n → to < n.part.shape.nodes → used (link_to n to) < GREATEST_NUMBER → IsSendable n.part.shape x → IsNode (record n { part = counted_up n.part; links = append_to n.links ((to, x) ∷ []) })
+pub node-sent : (n : NodeView) (to : ℕ) (x : Message) → IsNode n → to < n.local.shape.nodes → used (link_to n to) < GREATEST_NUMBER → IsSendable n.local.shape x → IsNode (record n { local = counted_up n.local; links = append_to n.links ((to, x) ∷ []) })
 node-sent n to x old there room sendable =
     let l : Link = link_to n to in
     let inside : to < length n.links = omega (arith, there, old.linked) in
     let more : sum_by used (set n.links to (appended l x)) + used l ≡ sum_by used n.links + used (appended l x) = sum_by-set used n.links to (appended l x) no_link inside in
-    let one : used (appended l x) ≡ used l + 1 = omega (arith, length-append l.window (x ∷ [])) in
+    let one : used (appended l x) ≡ used l + 1 = omega (arith, length-append l.unacknowledged (x ∷ [])) in
     record {
       shape = old.shape;
       own = old.own;
@@ -125,22 +125,22 @@ node-sent n to x old there room sendable =
       links = λ i. at_set IsLink n.links to i (appended l x) no_link (link-appended l x (old.links to) room) (old.links i);
       balance = record { least = omega (arith, ints, old.balance.least); most = omega (arith, ints, old.balance.most, more, one) };
       references = old.references;
-      messages = sendable-append n.part.shape n.links to x old.messages sendable;
+      messages = sendable-append n.local.shape n.links to x old.messages sendable;
     }
 
 -- a message was taken in
-pub node-counted : (n : NodeView) (from : ℕ) → IsNode n → from < n.part.shape.nodes → got_from n.part from < GREATEST_NUMBER → IsNode (record n { part = record n.part { got = set n.part.got from (got_from n.part from + 1); ring = record n.part.ring { recent = n.part.ring.recent -ℤ pos 1 } } })
+pub node-counted : (n : NodeView) (from : ℕ) → IsNode n → from < n.local.shape.nodes → got_from n.local from < GREATEST_NUMBER → IsNode (record n { local = record n.local { got = set n.local.got from (got_from n.local from + 1); ring = record n.local.ring { recent = n.local.ring.recent -ℤ pos 1 } } })
 node-counted n from old there room =
-    let inside : from < length n.part.got = omega (arith, there, old.received) in
-    let more : sum_by (λ (k : ℕ). k) (set n.part.got from (got_from n.part from + 1)) + got_from n.part from ≡ sum_by (λ (k : ℕ). k) n.part.got + (got_from n.part from + 1) = sum_by-set (λ (k : ℕ). k) n.part.got from (got_from n.part from + 1) 0 inside in
+    let inside : from < length n.local.got = omega (arith, there, old.received) in
+    let more : sum_by (λ (k : ℕ). k) (set n.local.got from (got_from n.local from + 1)) + got_from n.local from ≡ sum_by (λ (k : ℕ). k) n.local.got + (got_from n.local from + 1) = sum_by-set (λ (k : ℕ). k) n.local.got from (got_from n.local from + 1) 0 inside in
     record {
       shape = old.shape;
       own = old.own;
-      received = length-set n.part.got from (got_from n.part from + 1) ∙ old.received;
+      received = length-set n.local.got from (got_from n.local from + 1) ∙ old.received;
       linked = old.linked;
       acked = old.acked;
-      numbers = λ i. at_set (λ (k : ℕ). k ≤ GREATEST_NUMBER) n.part.got from i (got_from n.part from + 1) 0 (omega (arith, room)) (old.numbers i);
-      acks = λ i. at_set_if (λ (k : ℕ). get_or n.acks i 0 ≤ k) n.part.got from i (got_from n.part from + 1) 0 (λ (e : from ≡ i). let known : get_or n.acks from 0 ≤ got_from n.part from = old.acks from in subst (λ (j : ℕ). get_or n.acks j 0 ≤ got_from n.part from + 1) e (omega (arith, known))) (old.acks i);
+      numbers = λ i. at_set (λ (k : ℕ). k ≤ GREATEST_NUMBER) n.local.got from i (got_from n.local from + 1) 0 (omega (arith, room)) (old.numbers i);
+      acks = λ i. at_set_if (λ (k : ℕ). get_or n.acks i 0 ≤ k) n.local.got from i (got_from n.local from + 1) 0 (λ (e : from ≡ i). let known : get_or n.acks from 0 ≤ got_from n.local from = old.acks from in subst (λ (j : ℕ). get_or n.acks j 0 ≤ got_from n.local from + 1) e (omega (arith, known))) (old.acks i);
       links = old.links;
       balance = record { least = omega (arith, ints, old.balance.least, more); most = omega (arith, ints, old.balance.most) };
       references = old.references;
@@ -151,7 +151,7 @@ node-counted n from old there room =
 drop-sendable : (shape : Shaped) (xs : List Message) (k i : ℕ) → ((j : ℕ) → IsSendable shape (get_or xs j no_message)) → IsSendable shape (get_or (drop k xs) i no_message)
 drop-sendable shape xs k i all = subst (IsSendable shape) (sym (get_or-drop k xs i no_message)) (all (k + i))
 
-pub node-trimmed : (n : NodeView) (from number : ℕ) → IsNode n → from < n.part.shape.nodes → number ≤ (link_to n from).kept → IsNode (record n { links = set n.links from (trimmed (link_to n from) number) })
+pub node-trimmed : (n : NodeView) (from number : ℕ) → IsNode n → from < n.local.shape.nodes → number ≤ (link_to n from).kept → IsNode (record n { links = set n.links from (trimmed (link_to n from) number) })
 node-trimmed n from number old there released =
     let l : Link = link_to n from in
     let good = link-trimmed l number (old.links from) released in
@@ -168,7 +168,7 @@ node-trimmed n from number old there released =
       links = λ i. at_set IsLink n.links from i (trimmed l number) no_link good.0 (old.links i);
       balance = record { least = old.balance.least; most = omega (arith, ints, old.balance.most, same, good.1) };
       references = old.references;
-      messages = λ i k. at_set (λ (z : Link). IsSendable n.part.shape (get_or z.window k no_message)) n.links from i (trimmed l number) no_link (drop-sendable n.part.shape l.window (number - l.base) k (old.messages from)) (old.messages i k);
+      messages = λ i k. at_set (λ (z : Link). IsSendable n.local.shape (get_or z.unacknowledged k no_message)) n.links from i (trimmed l number) no_link (drop-sendable n.local.shape l.unacknowledged (number - l.base) k (old.messages from)) (old.messages i k);
     }
 
 -- all counts as held by a saved node
@@ -184,7 +184,7 @@ node-kept n old = record {
   links = λ i. subst IsLink (sym (get_or-map all_kept n.links i no_link)) (link-kept (link_to n i) (old.links i));
   balance = record { least = old.balance.least; most = omega (arith, ints, old.balance.most, sum_by-same used all_kept n.links (λ l. refl)) };
   references = old.references;
-  messages = sendable-kept n.part.shape n.links old.messages;
+  messages = sendable-kept n.local.shape n.links old.messages;
 }
 
 -- a new node
@@ -200,7 +200,7 @@ node-new shape own s within = record {
   links = λ i. subst IsLink (sym (get_or-replicate_any shape.nodes i no_link)) (record { base = omega arith; kept = omega arith; used = omega arith });
   balance = record { least = omega (arith, ints); most = omega (arith, ints) };
   references = holds-new_heap (IsWithin shape) shape;
-  messages = λ i k. subst (λ (l : Link). IsSendable shape (get_or l.window k no_message)) (sym (get_or-replicate_any shape.nodes i no_link)) (no_message-sendable shape);
+  messages = λ i k. subst (λ (l : Link). IsSendable shape (get_or l.unacknowledged k no_message)) (sym (get_or-replicate_any shape.nodes i no_link)) (no_message-sendable shape);
 }
 
 -- ---- as the code has it
@@ -210,7 +210,7 @@ map-replicate f zero a = refl
 map-replicate {B = B} f (suc n) a = ap (λ (z : List B). f a ∷ z) (map-replicate f n a)
 
 -- the parts of a new node
-pub new-parts : (shape : Shaped) (own : ℕ) (h : HeapView) (rs : List Received) (ls : List Link) → h ≡ record { heap = new_heap shape; limit = shape.slots } → rs ≡ replicate shape.nodes new_received → ls ≡ replicate shape.nodes no_link → record { part = record { shape = shape; own = own; heap = h.heap; asked = []; phases = new_phases shape.nodes; ring = record new_ring { recent = pos 0 }; got = map taken_of rs }; links = ls; acks = map saved_of rs } ≡ new_view shape own
+pub new-parts : (shape : Shaped) (own : ℕ) (h : HeapView) (rs : List Received) (ls : List Link) → h ≡ record { heap = new_heap shape; limit = shape.slots } → rs ≡ replicate shape.nodes new_received → ls ≡ replicate shape.nodes no_link → record { local = record { shape = shape; own = own; heap = h.heap; asked = []; phases = new_phases shape.nodes; ring = record new_ring { recent = pos 0 }; got = map taken_of rs }; links = ls; acks = map saved_of rs } ≡ new_view shape own
 new-parts shape own h rs ls eh er el =
     rw (eh, er, el, map-replicate taken_of shape.nodes new_received, map-replicate saved_of shape.nodes new_received) refl
 
@@ -242,20 +242,20 @@ room-numbered links to x numbered =
     omega (arith, room, get_or-map used links to no_link)
 
 -- a frame that is addressed to the node comes from another node of the shape
-pub addressed-from : (n : NodeView) (from to : ℕ) → is_addressed n.part from to ≡ true → from < n.part.shape.nodes
+pub addressed-from : (n : NodeView) (from to : ℕ) → is_addressed n.local from to ≡ true → from < n.local.shape.nodes
 addressed-from n from to h = ltb-true _ _ (and_parts _ _ (and_parts _ _ h).1).0
 
 -- a balance that was written is read so
-pub more-read : (n : NodeView) (z : ℤ) → IsNode n → z ≡ to_z w64 (of_z w64 n.part.ring.recent) +ℤ pos 1 → to_z w64 (of_z w64 z) ≡ n.part.ring.recent +ℤ pos 1
+pub more-read : (n : NodeView) (z : ℤ) → IsNode n → z ≡ to_z w64 (of_z w64 n.local.ring.recent) +ℤ pos 1 → to_z w64 (of_z w64 z) ≡ n.local.ring.recent +ℤ pos 1
 more-read n z h e =
     let far = balance-small n h in
-    let is : z ≡ n.part.ring.recent +ℤ pos 1 = e ∙ ap (λ (y : ℤ). y +ℤ pos 1) (balance-read n h) in
+    let is : z ≡ n.local.ring.recent +ℤ pos 1 = e ∙ ap (λ (y : ℤ). y +ℤ pos 1) (balance-read n h) in
     to_z-of_z w64 z (in-range z (omega (arith, ints, is, far.0)) (omega (arith, ints, is, far.1))) ∙ is
 
-pub less-read : (n : NodeView) (z : ℤ) → IsNode n → z ≡ to_z w64 (of_z w64 n.part.ring.recent) -ℤ pos 1 → to_z w64 (of_z w64 z) ≡ n.part.ring.recent -ℤ pos 1
+pub less-read : (n : NodeView) (z : ℤ) → IsNode n → z ≡ to_z w64 (of_z w64 n.local.ring.recent) -ℤ pos 1 → to_z w64 (of_z w64 z) ≡ n.local.ring.recent -ℤ pos 1
 less-read n z h e =
     let far = balance-small n h in
-    let is : z ≡ n.part.ring.recent -ℤ pos 1 = e ∙ ap (λ (y : ℤ). y -ℤ pos 1) (balance-read n h) in
+    let is : z ≡ n.local.ring.recent -ℤ pos 1 = e ∙ ap (λ (y : ℤ). y -ℤ pos 1) (balance-read n h) in
     to_z-of_z w64 z (in-range z (omega (arith, ints, is, far.0)) (omega (arith, ints, is, far.1))) ∙ is
 
 -- the number of a message that is the next one
@@ -272,35 +272,35 @@ next-number rs i number r within read next =
 
 -- ---- what the code has after a message was appended, and after one was taken in
 
-pub sent-node : (n : NodeView) (to stamp : ℕ) (b : Body) (links : List Link) (z : ℤ) → IsNode n → to < n.part.shape.nodes → IsSendable n.part.shape (record { stamp = stamp; body = b }) → fits (map used n.links) ((to, record { stamp = stamp; body = b }) ∷ []) ≡ true → links ≡ append_to n.links ((to, record { stamp = stamp; body = b }) ∷ []) → z ≡ n.part.ring.recent +ℤ pos 1 → IsNode (record n { part = record n.part { ring = record n.part.ring { recent = z } }; links = links })
+pub sent-node : (n : NodeView) (to stamp : ℕ) (b : Body) (links : List Link) (z : ℤ) → IsNode n → to < n.local.shape.nodes → IsSendable n.local.shape (record { stamp = stamp; body = b }) → fits (map used n.links) ((to, record { stamp = stamp; body = b }) ∷ []) ≡ true → links ≡ append_to n.links ((to, record { stamp = stamp; body = b }) ∷ []) → z ≡ n.local.ring.recent +ℤ pos 1 → IsNode (record n { local = record n.local { ring = record n.local.ring { recent = z } }; links = links })
 sent-node n to stamp b links z old there sendable numbered el ez =
-    subst (λ (y : ℤ). IsNode (record n { part = record n.part { ring = record n.part.ring { recent = y } }; links = links })) (sym ez)
-    (subst (λ (ls : List Link). IsNode (record n { part = counted_up n.part; links = ls })) (sym el)
+    subst (λ (y : ℤ). IsNode (record n { local = record n.local { ring = record n.local.ring { recent = y } }; links = links })) (sym ez)
+    (subst (λ (ls : List Link). IsNode (record n { local = counted_up n.local; links = ls })) (sym el)
     (node-sent n to (record { stamp = stamp; body = b }) old there (room-numbered n.links to (record { stamp = stamp; body = b }) numbered) sendable))
 
-pub sent-view : (n m : NodeView) (x : ℕ × Message) (links : List Link) (z : ℤ) → n ≡ m → links ≡ append_to n.links (x ∷ []) → z ≡ n.part.ring.recent +ℤ pos 1 → record n { part = record n.part { ring = record n.part.ring { recent = z } }; links = links } ≡ record m { part = counted_up m.part; links = append_to m.links (x ∷ []) }
+pub sent-view : (n m : NodeView) (x : ℕ × Message) (links : List Link) (z : ℤ) → n ≡ m → links ≡ append_to n.links (x ∷ []) → z ≡ n.local.ring.recent +ℤ pos 1 → record n { local = record n.local { ring = record n.local.ring { recent = z } }; links = links } ≡ record m { local = counted_up m.local; links = append_to m.links (x ∷ []) }
 sent-view n m x links z same el ez =
-    subst (λ (v : NodeView). record n { part = record n.part { ring = record n.part.ring { recent = z } }; links = links } ≡ record v { part = counted_up v.part; links = append_to v.links (x ∷ []) }) same (rw (el, ez) refl)
+    subst (λ (v : NodeView). record n { local = record n.local { ring = record n.local.ring { recent = z } }; links = links } ≡ record v { local = counted_up v.local; links = append_to v.links (x ∷ []) }) same (rw (el, ez) refl)
 
 abbrev pub received_view : NodeView → List ℕ → List ℕ → ℤ → NodeView
-received_view n got acks z = record n { part = record n.part { got = got; ring = record n.part.ring { recent = z } }; acks = acks }
+received_view n got acks z = record n { local = record n.local { got = got; ring = record n.local.ring { recent = z } }; acks = acks }
 
-pub counted-node : (n : NodeView) (from : ℕ) (got acks : List ℕ) (z : ℤ) → IsNode n → from < n.part.shape.nodes → got_from n.part from < GREATEST_NUMBER → got ≡ set n.part.got from (got_from n.part from + 1) → acks ≡ n.acks → z ≡ n.part.ring.recent -ℤ pos 1 → IsNode (received_view n got acks z)
+pub counted-node : (n : NodeView) (from : ℕ) (got acks : List ℕ) (z : ℤ) → IsNode n → from < n.local.shape.nodes → got_from n.local from < GREATEST_NUMBER → got ≡ set n.local.got from (got_from n.local from + 1) → acks ≡ n.acks → z ≡ n.local.ring.recent -ℤ pos 1 → IsNode (received_view n got acks z)
 counted-node n from got acks z old there room eg ea ez =
     subst (λ (y : ℤ). IsNode (received_view n got acks y)) (sym ez)
-    (subst (λ (g : List ℕ). IsNode (received_view n g acks (n.part.ring.recent -ℤ pos 1))) (sym eg)
-    (subst (λ (a : List ℕ). IsNode (received_view n (set n.part.got from (got_from n.part from + 1)) a (n.part.ring.recent -ℤ pos 1))) (sym ea) (node-counted n from old there room)))
+    (subst (λ (g : List ℕ). IsNode (received_view n g acks (n.local.ring.recent -ℤ pos 1))) (sym eg)
+    (subst (λ (a : List ℕ). IsNode (received_view n (set n.local.got from (got_from n.local from + 1)) a (n.local.ring.recent -ℤ pos 1))) (sym ea) (node-counted n from old there room)))
 
-pub counted-view : (n m : NodeView) (from : ℕ) (got acks : List ℕ) (z : ℤ) → n ≡ m → got ≡ set n.part.got from (got_from n.part from + 1) → acks ≡ n.acks → z ≡ n.part.ring.recent -ℤ pos 1 → received_view n got acks z ≡ record m { part = record m.part { got = set m.part.got from (got_from m.part from + 1); ring = record m.part.ring { recent = m.part.ring.recent -ℤ pos 1 } } }
+pub counted-view : (n m : NodeView) (from : ℕ) (got acks : List ℕ) (z : ℤ) → n ≡ m → got ≡ set n.local.got from (got_from n.local from + 1) → acks ≡ n.acks → z ≡ n.local.ring.recent -ℤ pos 1 → received_view n got acks z ≡ record m { local = record m.local { got = set m.local.got from (got_from m.local from + 1); ring = record m.local.ring { recent = m.local.ring.recent -ℤ pos 1 } } }
 counted-view n m from got acks z same eg ea ez =
-    subst (λ (v : NodeView). received_view n got acks z ≡ record v { part = record v.part { got = set v.part.got from (got_from v.part from + 1); ring = record v.part.ring { recent = v.part.ring.recent -ℤ pos 1 } } }) same (rw (eg, ea, ez) refl)
+    subst (λ (v : NodeView). received_view n got acks z ≡ record v { local = record v.local { got = set v.local.got from (got_from v.local from + 1); ring = record v.local.ring { recent = v.local.ring.recent -ℤ pos 1 } } }) same (rw (eg, ea, ez) refl)
 
-pub kept-node : (n : NodeView) (links : List Link) (got acks : List ℕ) → IsNode n → links ≡ map all_kept n.links → got ≡ n.part.got → acks ≡ n.part.got → IsNode (record n { part = record n.part { got = got }; links = links; acks = acks })
+pub kept-node : (n : NodeView) (links : List Link) (got acks : List ℕ) → IsNode n → links ≡ map all_kept n.links → got ≡ n.local.got → acks ≡ n.local.got → IsNode (record n { local = record n.local { got = got }; links = links; acks = acks })
 kept-node n links got acks old el eg ea =
-    subst (λ (g : List ℕ). IsNode (record n { part = record n.part { got = g }; links = links; acks = acks })) (sym eg)
+    subst (λ (g : List ℕ). IsNode (record n { local = record n.local { got = g }; links = links; acks = acks })) (sym eg)
     (subst (λ (a : List ℕ). IsNode (record n { links = links; acks = a })) (sym ea)
-    (subst (λ (ls : List Link). IsNode (record n { links = ls; acks = n.part.got })) (sym el) (node-kept n old)))
+    (subst (λ (ls : List Link). IsNode (record n { links = ls; acks = n.local.got })) (sym el) (node-kept n old)))
 
-pub kept-all-view : (n m : NodeView) (links : List Link) (got acks : List ℕ) → n ≡ m → links ≡ map all_kept n.links → got ≡ n.part.got → acks ≡ n.part.got → record n { part = record n.part { got = got }; links = links; acks = acks } ≡ kept_view m
+pub kept-all-view : (n m : NodeView) (links : List Link) (got acks : List ℕ) → n ≡ m → links ≡ map all_kept n.links → got ≡ n.local.got → acks ≡ n.local.got → record n { local = record n.local { got = got }; links = links; acks = acks } ≡ kept_view m
 kept-all-view n m links got acks same el eg ea =
-    subst (λ (v : NodeView). record n { part = record n.part { got = got }; links = links; acks = acks } ≡ kept_view v) same (rw (el, eg, ea) refl)
+    subst (λ (v : NodeView). record n { local = record n.local { got = got }; links = links; acks = acks } ≡ kept_view v) same (rw (el, eg, ea) refl)

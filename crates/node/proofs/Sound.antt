@@ -53,11 +53,11 @@ set_word_references P own h object word g e all =
     subst (HoldsOnly P) (guarded-ok (word_tests own h object) _ _ e) (holds-with_word P h (named h object) word all)
 
 abbrev pub AllSendable : Shaped → List Link → Type 0
-AllSendable shape links = (i k : ℕ) → IsSendable shape (get_or (get_or links i no_link).window k no_message)
+AllSendable shape links = (i k : ℕ) → IsSendable shape (get_or (get_or links i no_link).unacknowledged k no_message)
 
 pub sendable-kept : (shape : Shaped) (links : List Link) → AllSendable shape links → AllSendable shape (map all_kept links)
 sendable-kept shape links all = λ i k.
-    subst (λ (l : Link). IsSendable shape (get_or l.window k no_message)) (sym (get_or-map all_kept links i no_link)) (all i k)
+    subst (λ (l : Link). IsSendable shape (get_or l.unacknowledged k no_message)) (sym (get_or-map all_kept links i no_link)) (all i k)
 
 -- what was chosen over nothing
 some_of_cond : {A : Type 0} (b : Bool) (o : Option A) (x : A) → cond b None o ≡ Some x → o ≡ Some x
@@ -69,10 +69,10 @@ some_of_test true o x e = e
 some_of_test false o x e = absurd cc
 
 -- a message that was found on a link
-found-sendable : (shape : Shaped) (links : List Link) (to : ℕ) (l : Link) (k : ℕ) (x : Message) → AllSendable shape links → to < length links → l ≡ get_or links to l → slice_get l.window k ≡ Some x → IsSendable shape x
+found-sendable : (shape : Shaped) (links : List Link) (to : ℕ) (l : Link) (k : ℕ) (x : Message) → AllSendable shape links → to < length links → l ≡ get_or links to l → slice_get l.unacknowledged k ≡ Some x → IsSendable shape x
 found-sendable shape links to l k x all within read found =
     let same : l ≡ get_or links to no_link = get_or_read links to l within read no_link in
-    subst (IsSendable shape) (get_or_from_slice_get l.window k x no_message found) (subst (λ (z : Link). IsSendable shape (get_or z.window k no_message)) (sym same) (all to k))
+    subst (IsSendable shape) (get_or_from_slice_get l.unacknowledged k x no_message found) (subst (λ (z : Link). IsSendable shape (get_or z.unacknowledged k no_message)) (sym same) (all to k))
 
 pub message-sendable : (shape : Shaped) (links : List Link) (to : ℕ) (l : Link) (number : ℕ) (x : Message) → AllSendable shape links → to < length links → l ≡ get_or links to l → message_of l number ≡ Some x → IsSendable shape x
 message-sendable shape links to l number x all within read e =

@@ -9,7 +9,7 @@ use Rattle.node.specs.Invariant.{IsNode}
 -- No cycle has begun: phases and ring are those of a new node, but for the messages that were counted.
 abbrev pub view_of : Inside → NodeView
 view_of n = record {
-  part = record { shape = n.shape; own = n.own; heap = n.heap.heap; asked = []; phases = new_phases n.shape.nodes; ring = record new_ring { recent = n.recent }; got = map taken_of n.receivers.items };
+  local = record { shape = n.shape; own = n.own; heap = n.heap.heap; asked = []; phases = new_phases n.shape.nodes; ring = record new_ring { recent = n.recent }; got = map taken_of n.receivers.items };
   links = n.links.items;
   acks = map saved_of n.receivers.items;
 }

@@ -10,19 +10,19 @@ use Rattle.model.specs.References.{HoldsOnly, IsWithin, IsSendable, no_message}
 
 -- The balance is at most what was sent and at least less what was taken in, so it fits its type.
 pub record IsBalanced (n : NodeView) : Type 0 where
-  pub least : neg_ℤ (pos (sum_by (λ (k : ℕ). k) n.part.got)) ≤ℤ n.part.ring.recent
-  pub most : n.part.ring.recent ≤ℤ pos (sum_by used n.links)
+  pub least : neg_ℤ (pos (sum_by (λ (k : ℕ). k) n.local.got)) ≤ℤ n.local.ring.recent
+  pub most : n.local.ring.recent ≤ℤ pos (sum_by used n.links)
 
 pub record IsNode (n : NodeView) : Type 0 where
-  pub shape : IsShape n.part.shape
-  pub own : n.part.own < n.part.shape.nodes
-  pub received : length n.part.got ≡ n.part.shape.nodes
-  pub linked : length n.links ≡ n.part.shape.nodes
-  pub acked : length n.acks ≡ n.part.shape.nodes
-  pub numbers : (i : ℕ) → got_from n.part i ≤ GREATEST_NUMBER
+  pub shape : IsShape n.local.shape
+  pub own : n.local.own < n.local.shape.nodes
+  pub received : length n.local.got ≡ n.local.shape.nodes
+  pub linked : length n.links ≡ n.local.shape.nodes
+  pub acked : length n.acks ≡ n.local.shape.nodes
+  pub numbers : (i : ℕ) → got_from n.local i ≤ GREATEST_NUMBER
   -- what is acknowledged was taken in
-  pub acks : (i : ℕ) → slice_index_or n.acks i 0 ≤ got_from n.part i
+  pub acks : (i : ℕ) → slice_index_or n.acks i 0 ≤ got_from n.local i
   pub links : (i : ℕ) → IsLink (link_to n i)
   pub balance : IsBalanced n
-  pub references : HoldsOnly (IsWithin n.part.shape) n.part.heap
-  pub messages : (i k : ℕ) → IsSendable n.part.shape (slice_index_or (link_to n i).window k no_message)
+  pub references : HoldsOnly (IsWithin n.local.shape) n.local.heap
+  pub messages : (i k : ℕ) → IsSendable n.local.shape (slice_index_or (link_to n i).unacknowledged k no_message)

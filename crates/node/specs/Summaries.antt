@@ -1,10 +1,10 @@
 -- A node in numbers.
 use Rattle.std.specs.Prelude.{length, count_by, is_some}
 use Rattle.heap.specs.Heap.{is_occupied}
-use Rattle.model.specs.State.{Part}
+use Rattle.model.specs.State.{LocalState}
 use Rattle.node.specs.declared.summary.Summary.{Summary}
 
-abbrev pub summary_of : Part → Summary
+abbrev pub summary_of : LocalState → Summary
 summary_of p =
     record {
       shape = p.shape;

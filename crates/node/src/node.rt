@@ -83,8 +83,8 @@ impl Node {
         ensures performs { Performs result self.new (view_act self.old event) }
         ensures states { (s : NodeState) → Shows self.old s → Follows event result self.new (act s event) }
         ensures unchanged { OnErr result (self.new ≡ self.old) }
-        ensures place { (self.new.part.shape ≡ self.old.part.shape) × (self.new.part.own ≡ self.old.part.own) }
-        ensures memory_free { IsTrue (is_memory_free self.old.part event) → IfErr result (λ e. e ≢ Memory) }
+        ensures place { (self.new.local.shape ≡ self.old.local.shape) × (self.new.local.own ≡ self.old.local.own) }
+        ensures memory_free { IsTrue (is_memory_free self.old.local event) → IfErr result (λ e. e ≢ Memory) }
         ensures bases { ack_of event ≡ None → map base_of self.new.links ≡ map base_of self.old.links }
         ensures kept { map kept_of self.new.links ≡ map kept_of self.old.links }
         ensures acks { self.new.acks ≡ self.old.acks }
@@ -95,8 +95,8 @@ impl Node {
     fn perform(&mut self, event: Event) -> Result<Answer, Refusal>
         ensures performs { Performs result self.new (view_act self.old event) }
         ensures unchanged { OnErr result (self.new ≡ self.old) }
-        ensures place { (self.new.part.shape ≡ self.old.part.shape) × (self.new.part.own ≡ self.old.part.own) }
-        ensures memory_free { IsTrue (is_memory_free self.old.part event) → IfErr result (λ e. e ≢ Memory) }
+        ensures place { (self.new.local.shape ≡ self.old.local.shape) × (self.new.local.own ≡ self.old.local.own) }
+        ensures memory_free { IsTrue (is_memory_free self.old.local event) → IfErr result (λ e. e ≢ Memory) }
         ensures bases { ack_of event ≡ None → map base_of self.new.links ≡ map base_of self.old.links }
         ensures kept { map kept_of self.new.links ≡ map kept_of self.old.links }
         ensures acks { self.new.acks ≡ self.old.acks }
@@ -143,7 +143,7 @@ impl Node {
     fn allocate(&mut self, register: u16, places: u8) -> Result<Answer, Refusal>
         ensures performs { Performs result self.new (view_act self.old (event.Alloc register places)) }
         ensures unchanged { OnErr result (self.new ≡ self.old) }
-        ensures place { (self.new.part.shape ≡ self.old.part.shape) × (self.new.part.own ≡ self.old.part.own) }
+        ensures place { (self.new.local.shape ≡ self.old.local.shape) × (self.new.local.own ≡ self.old.local.own) }
         ensures links { self.new.links ≡ self.old.links }
         ensures acks { self.new.acks ≡ self.old.acks }
     {
@@ -157,7 +157,7 @@ impl Node {
     fn copy_register(&mut self, register: u16, source: u16) -> Result<Answer, Refusal>
         ensures performs { Performs result self.new (view_act self.old (event.Copy register source)) }
         ensures unchanged { OnErr result (self.new ≡ self.old) }
-        ensures place { (self.new.part.shape ≡ self.old.part.shape) × (self.new.part.own ≡ self.old.part.own) }
+        ensures place { (self.new.local.shape ≡ self.old.local.shape) × (self.new.local.own ≡ self.old.local.own) }
         ensures memory_free { IfErr result (λ e. e ≢ Memory) }
         ensures links { self.new.links ≡ self.old.links }
         ensures acks { self.new.acks ≡ self.old.acks }
@@ -170,7 +170,7 @@ impl Node {
     fn drop_register(&mut self, register: u16) -> Result<Answer, Refusal>
         ensures performs { Performs result self.new (view_act self.old (event.Drop register)) }
         ensures unchanged { OnErr result (self.new ≡ self.old) }
-        ensures place { (self.new.part.shape ≡ self.old.part.shape) × (self.new.part.own ≡ self.old.part.own) }
+        ensures place { (self.new.local.shape ≡ self.old.local.shape) × (self.new.local.own ≡ self.old.local.own) }
         ensures memory_free { IfErr result (λ e. e ≢ Memory) }
         ensures links { self.new.links ≡ self.old.links }
         ensures acks { self.new.acks ≡ self.old.acks }
@@ -183,7 +183,7 @@ impl Node {
     fn load(&mut self, register: u16, object: u16, place: u8) -> Result<Answer, Refusal>
         ensures performs { Performs result self.new (view_act self.old (event.Load register object place)) }
         ensures unchanged { OnErr result (self.new ≡ self.old) }
-        ensures place { (self.new.part.shape ≡ self.old.part.shape) × (self.new.part.own ≡ self.old.part.own) }
+        ensures place { (self.new.local.shape ≡ self.old.local.shape) × (self.new.local.own ≡ self.old.local.own) }
         ensures links { self.new.links ≡ self.old.links }
         ensures acks { self.new.acks ≡ self.old.acks }
     {
@@ -196,7 +196,7 @@ impl Node {
     fn store(&mut self, object: u16, place: u8, register: u16) -> Result<Answer, Refusal>
         ensures performs { Performs result self.new (view_act self.old (event.Store object place register)) }
         ensures unchanged { OnErr result (self.new ≡ self.old) }
-        ensures place { (self.new.part.shape ≡ self.old.part.shape) × (self.new.part.own ≡ self.old.part.own) }
+        ensures place { (self.new.local.shape ≡ self.old.local.shape) × (self.new.local.own ≡ self.old.local.own) }
         ensures memory_free { IfErr result (λ e. e ≢ Memory) }
         ensures links { self.new.links ≡ self.old.links }
         ensures acks { self.new.acks ≡ self.old.acks }
@@ -210,7 +210,7 @@ impl Node {
     fn clear(&mut self, object: u16, place: u8) -> Result<Answer, Refusal>
         ensures performs { Performs result self.new (view_act self.old (event.Clear object place)) }
         ensures unchanged { OnErr result (self.new ≡ self.old) }
-        ensures place { (self.new.part.shape ≡ self.old.part.shape) × (self.new.part.own ≡ self.old.part.own) }
+        ensures place { (self.new.local.shape ≡ self.old.local.shape) × (self.new.local.own ≡ self.old.local.own) }
         ensures memory_free { IfErr result (λ e. e ≢ Memory) }
         ensures links { self.new.links ≡ self.old.links }
         ensures acks { self.new.acks ≡ self.old.acks }
@@ -233,7 +233,7 @@ impl Node {
     fn set_word(&mut self, object: u16, word: u64) -> Result<Answer, Refusal>
         ensures performs { Performs result self.new (view_act self.old (event.SetWord object word)) }
         ensures unchanged { OnErr result (self.new ≡ self.old) }
-        ensures place { (self.new.part.shape ≡ self.old.part.shape) × (self.new.part.own ≡ self.old.part.own) }
+        ensures place { (self.new.local.shape ≡ self.old.local.shape) × (self.new.local.own ≡ self.old.local.own) }
         ensures memory_free { IfErr result (λ e. e ≢ Memory) }
         ensures links { self.new.links ≡ self.old.links }
         ensures acks { self.new.acks ≡ self.old.acks }
@@ -247,7 +247,7 @@ impl Node {
     fn give(&mut self, to: u8, label: u32, register: u16) -> Result<Answer, Refusal>
         ensures performs { Performs result self.new (view_act self.old (event.Give to label register)) }
         ensures unchanged { OnErr result (self.new ≡ self.old) }
-        ensures place { (self.new.part.shape ≡ self.old.part.shape) × (self.new.part.own ≡ self.old.part.own) }
+        ensures place { (self.new.local.shape ≡ self.old.local.shape) × (self.new.local.own ≡ self.old.local.own) }
         ensures bases { map base_of self.new.links ≡ map base_of self.old.links }
         ensures kept { map kept_of self.new.links ≡ map kept_of self.old.links }
         ensures acks { self.new.acks ≡ self.old.acks }
@@ -267,7 +267,7 @@ impl Node {
     fn accept(&mut self, register: u16) -> Result<Answer, Refusal>
         ensures performs { Performs result self.new (view_act self.old (event.Accept register)) }
         ensures unchanged { OnErr result (self.new ≡ self.old) }
-        ensures place { (self.new.part.shape ≡ self.old.part.shape) × (self.new.part.own ≡ self.old.part.own) }
+        ensures place { (self.new.local.shape ≡ self.old.local.shape) × (self.new.local.own ≡ self.old.local.own) }
         ensures memory_free { IfErr result (λ e. e ≢ Memory) }
         ensures links { self.new.links ≡ self.old.links }
         ensures acks { self.new.acks ≡ self.old.acks }
@@ -280,7 +280,7 @@ impl Node {
     fn put(&mut self, object: u16, place: u8, register: u16) -> Result<Answer, Refusal>
         ensures performs { Performs result self.new (view_act self.old (event.Put object place register)) }
         ensures unchanged { OnErr result (self.new ≡ self.old) }
-        ensures place { (self.new.part.shape ≡ self.old.part.shape) × (self.new.part.own ≡ self.old.part.own) }
+        ensures place { (self.new.local.shape ≡ self.old.local.shape) × (self.new.local.own ≡ self.old.local.own) }
         ensures bases { map base_of self.new.links ≡ map base_of self.old.links }
         ensures kept { map kept_of self.new.links ≡ map kept_of self.old.links }
         ensures acks { self.new.acks ≡ self.old.acks }
@@ -309,7 +309,7 @@ impl Node {
     fn get(&mut self, object: u16, place: u8, label: u32) -> Result<Answer, Refusal>
         ensures performs { Performs result self.new (view_act self.old (event.Get object place label)) }
         ensures unchanged { OnErr result (self.new ≡ self.old) }
-        ensures place { (self.new.part.shape ≡ self.old.part.shape) × (self.new.part.own ≡ self.old.part.own) }
+        ensures place { (self.new.local.shape ≡ self.old.local.shape) × (self.new.local.own ≡ self.old.local.own) }
         ensures bases { map base_of self.new.links ≡ map base_of self.old.links }
         ensures kept { map kept_of self.new.links ≡ map kept_of self.old.links }
         ensures acks { self.new.acks ≡ self.old.acks }
@@ -334,14 +334,14 @@ impl Node {
 
     /// Appends a message for another node, and gives its number.
     fn send(&mut self, to: u8, body: Body) -> Result<u64, Refusal>
-        requires there { to < self.old.part.shape.nodes }
-        requires sendable { IsSendable self.old.part.shape (record { stamp = self.old.part.phases.cycle; body = body }) }
-        ensures fits { IfOk result (λ n. fits (map used self.old.links) ((to, record { stamp = self.old.part.phases.cycle; body = body }) ∷ []) ≡ true) }
-        ensures done { IfOk result (λ n. self.new ≡ record self.old { part = counted_up self.old.part; links = append_to self.old.links ((to, record { stamp = self.old.part.phases.cycle; body = body }) ∷ []) }) }
+        requires there { to < self.old.local.shape.nodes }
+        requires sendable { IsSendable self.old.local.shape (record { stamp = self.old.local.phases.cycle; body = body }) }
+        ensures fits { IfOk result (λ n. fits (map used self.old.links) ((to, record { stamp = self.old.local.phases.cycle; body = body }) ∷ []) ≡ true) }
+        ensures done { IfOk result (λ n. self.new ≡ record self.old { local = counted_up self.old.local; links = append_to self.old.links ((to, record { stamp = self.old.local.phases.cycle; body = body }) ∷ []) }) }
         ensures number { IfOk result (λ n. n ≡ slice_index_or (map used self.old.links) to 0 + 1) }
-        ensures refused { IfErr result (λ e. e ≢ Memory → (e ≡ LinkSpent) × (fits (map used self.old.links) ((to, record { stamp = self.old.part.phases.cycle; body = body }) ∷ []) ≡ false)) }
+        ensures refused { IfErr result (λ e. e ≢ Memory → (e ≡ LinkSpent) × (fits (map used self.old.links) ((to, record { stamp = self.old.local.phases.cycle; body = body }) ∷ []) ≡ false)) }
         ensures unchanged { OnErr result (self.new ≡ self.old) }
-        ensures place { (self.new.part.shape ≡ self.old.part.shape) × (self.new.part.own ≡ self.old.part.own) }
+        ensures place { (self.new.local.shape ≡ self.old.local.shape) × (self.new.local.own ≡ self.old.local.own) }
         ensures bases { map base_of self.new.links ≡ map base_of self.old.links }
         ensures kept { map kept_of self.new.links ≡ map kept_of self.old.links }
         ensures acks { self.new.acks ≡ self.old.acks }
@@ -359,8 +359,8 @@ impl Node {
     fn take_in(&mut self, frame: Data) -> Result<Answer, Refusal>
         ensures performs { Performs result self.new (view_act self.old (event.Data frame)) }
         ensures unchanged { OnErr result (self.new ≡ self.old) }
-        ensures place { (self.new.part.shape ≡ self.old.part.shape) × (self.new.part.own ≡ self.old.part.own) }
-        ensures memory_free { IsTrue (is_memory_free self.old.part (event.Data frame)) → IfErr result (λ e. e ≢ Memory) }
+        ensures place { (self.new.local.shape ≡ self.old.local.shape) × (self.new.local.own ≡ self.old.local.own) }
+        ensures memory_free { IsTrue (is_memory_free self.old.local (event.Data frame)) → IfErr result (λ e. e ≢ Memory) }
         ensures bases { map base_of self.new.links ≡ map base_of self.old.links }
         ensures kept { map kept_of self.new.links ≡ map kept_of self.old.links }
         ensures acks { self.new.acks ≡ self.old.acks }
@@ -381,14 +381,14 @@ impl Node {
 
     /// Takes in a message that the node may take in, in its turn.
     fn follow(&mut self, from: u8, stamp: u64, body: Body) -> Result<Answer, Refusal>
-        requires there { from < self.old.part.shape.nodes }
-        requires room { got_from self.old.part from < GREATEST_NUMBER }
-        requires joined { self.old.part.phases.cycle ≤ stamp }
-        requires within { AllByRecursion (IsWithin self.old.part.shape) (mentioned body) }
-        requires may { IsTrue (may_follow self.old.part.own body) }
-        ensures performs { Performs result self.new (view_done self.old (answers (then (count_in self.old.part from (got_from self.old.part from + 1) stamp body) (take_body from body)) answer.Received)) }
+        requires there { from < self.old.local.shape.nodes }
+        requires room { got_from self.old.local from < GREATEST_NUMBER }
+        requires joined { self.old.local.phases.cycle ≤ stamp }
+        requires within { AllByRecursion (IsWithin self.old.local.shape) (mentioned body) }
+        requires may { IsTrue (may_follow self.old.local.own body) }
+        ensures performs { Performs result self.new (view_done self.old (answers (then (count_in self.old.local from (got_from self.old.local from + 1) stamp body) (take_body from body)) answer.Received)) }
         ensures unchanged { OnErr result (self.new ≡ self.old) }
-        ensures place { (self.new.part.shape ≡ self.old.part.shape) × (self.new.part.own ≡ self.old.part.own) }
+        ensures place { (self.new.local.shape ≡ self.old.local.shape) × (self.new.local.own ≡ self.old.local.own) }
         ensures bases { map base_of self.new.links ≡ map base_of self.old.links }
         ensures kept { map kept_of self.new.links ≡ map kept_of self.old.links }
         ensures acks { self.new.acks ≡ self.old.acks }
@@ -412,19 +412,19 @@ impl Node {
     }
 
     fn is_addressed(&self, from: u8, to: u8) -> bool
-        ensures { result ≡ is_addressed self.now.part from to }
+        ensures { result ≡ is_addressed self.now.local from to }
     {
         to == self.own && from < self.shape.nodes() && from != self.own
     }
 
     fn may_take(&self, stamp: u64, body: Body) -> bool
-        ensures { result ≡ may_take self.now.part stamp body }
+        ensures { result ≡ may_take self.now.local stamp body }
     {
         stamp <= self.cycle() && (self.has_room_for(body) && self.may_follow(body))
     }
 
     fn may_follow(&self, body: Body) -> bool
-        ensures { result ≡ may_follow self.now.part.own body }
+        ensures { result ≡ may_follow self.now.local.own body }
     {
         match body {
             Body::Give { .. } => true,
@@ -435,7 +435,7 @@ impl Node {
 
     /// Whether the shape has room for every reference in the body.
     fn has_room_for(&self, body: Body) -> bool
-        ensures { result ≡ are_within self.now.part.shape (mentioned body) }
+        ensures { result ≡ are_within self.now.local.shape (mentioned body) }
     {
         match body {
             Body::Begin | Body::Token(_) | Body::Ended | Body::Swept => true,
@@ -450,7 +450,7 @@ impl Node {
     }
 
     fn is_any_within(&self, reference: Option<Ref>) -> bool
-        ensures { result ≡ are_within self.now.part.shape (option_to_list reference) }
+        ensures { result ≡ are_within self.now.local.shape (option_to_list reference) }
     {
         match reference {
             Some(reference) => self.is_within(reference),
@@ -459,7 +459,7 @@ impl Node {
     }
 
     fn is_within(&self, reference: Ref) -> bool
-        ensures { result ≡ is_within self.now.part.shape reference }
+        ensures { result ≡ is_within self.now.local.shape reference }
     {
         reference.node < self.shape.nodes() && reference.slot < self.shape.slots()
     }
@@ -472,13 +472,13 @@ impl Node {
         label: u32,
         reference: Option<Ref>,
     ) -> Result<Answer, Refusal>
-        requires there { from < self.old.part.shape.nodes }
-        requires room { got_from self.old.part from < GREATEST_NUMBER }
-        requires joined { self.old.part.phases.cycle ≤ stamp }
-        requires within { AllByRecursion (IsWithin self.old.part.shape) (mentioned (body.Give label reference)) }
-        ensures performs { Performs result self.new (view_done self.old (answers (then (count_in self.old.part from (got_from self.old.part from + 1) stamp (body.Give label reference)) (take_body from (body.Give label reference))) answer.Received)) }
+        requires there { from < self.old.local.shape.nodes }
+        requires room { got_from self.old.local from < GREATEST_NUMBER }
+        requires joined { self.old.local.phases.cycle ≤ stamp }
+        requires within { AllByRecursion (IsWithin self.old.local.shape) (mentioned (body.Give label reference)) }
+        ensures performs { Performs result self.new (view_done self.old (answers (then (count_in self.old.local from (got_from self.old.local from + 1) stamp (body.Give label reference)) (take_body from (body.Give label reference))) answer.Received)) }
         ensures unchanged { OnErr result (self.new ≡ self.old) }
-        ensures place { (self.new.part.shape ≡ self.old.part.shape) × (self.new.part.own ≡ self.old.part.own) }
+        ensures place { (self.new.local.shape ≡ self.old.local.shape) × (self.new.local.own ≡ self.old.local.own) }
         ensures bases { map base_of self.new.links ≡ map base_of self.old.links }
         ensures kept { map kept_of self.new.links ≡ map kept_of self.old.links }
         ensures acks { self.new.acks ≡ self.old.acks }
@@ -501,13 +501,13 @@ impl Node {
         place: u8,
         reference: Option<Ref>,
     ) -> Result<Answer, Refusal>
-        requires there { from < self.old.part.shape.nodes }
-        requires room { got_from self.old.part from < GREATEST_NUMBER }
-        requires joined { self.old.part.phases.cycle ≤ stamp }
-        requires within { AllByRecursion (IsWithin self.old.part.shape) (mentioned (body.Put target place reference)) }
-        ensures performs { Performs result self.new (view_done self.old (answers (then (count_in self.old.part from (got_from self.old.part from + 1) stamp (body.Put target place reference)) (take_body from (body.Put target place reference))) answer.Received)) }
+        requires there { from < self.old.local.shape.nodes }
+        requires room { got_from self.old.local from < GREATEST_NUMBER }
+        requires joined { self.old.local.phases.cycle ≤ stamp }
+        requires within { AllByRecursion (IsWithin self.old.local.shape) (mentioned (body.Put target place reference)) }
+        ensures performs { Performs result self.new (view_done self.old (answers (then (count_in self.old.local from (got_from self.old.local from + 1) stamp (body.Put target place reference)) (take_body from (body.Put target place reference))) answer.Received)) }
         ensures unchanged { OnErr result (self.new ≡ self.old) }
-        ensures place { (self.new.part.shape ≡ self.old.part.shape) × (self.new.part.own ≡ self.old.part.own) }
+        ensures place { (self.new.local.shape ≡ self.old.local.shape) × (self.new.local.own ≡ self.old.local.own) }
         ensures bases { map base_of self.new.links ≡ map base_of self.old.links }
         ensures kept { map kept_of self.new.links ≡ map kept_of self.old.links }
         ensures acks { self.new.acks ≡ self.old.acks }
@@ -526,13 +526,13 @@ impl Node {
         place: u8,
         label: u32,
     ) -> Result<Answer, Refusal>
-        requires there { from < self.old.part.shape.nodes }
-        requires room { got_from self.old.part from < GREATEST_NUMBER }
-        requires joined { self.old.part.phases.cycle ≤ stamp }
-        requires within { AllByRecursion (IsWithin self.old.part.shape) (mentioned (body.Get target place label)) }
-        ensures performs { Performs result self.new (view_done self.old (answers (then (count_in self.old.part from (got_from self.old.part from + 1) stamp (body.Get target place label)) (take_body from (body.Get target place label))) answer.Received)) }
+        requires there { from < self.old.local.shape.nodes }
+        requires room { got_from self.old.local from < GREATEST_NUMBER }
+        requires joined { self.old.local.phases.cycle ≤ stamp }
+        requires within { AllByRecursion (IsWithin self.old.local.shape) (mentioned (body.Get target place label)) }
+        ensures performs { Performs result self.new (view_done self.old (answers (then (count_in self.old.local from (got_from self.old.local from + 1) stamp (body.Get target place label)) (take_body from (body.Get target place label))) answer.Received)) }
         ensures unchanged { OnErr result (self.new ≡ self.old) }
-        ensures place { (self.new.part.shape ≡ self.old.part.shape) × (self.new.part.own ≡ self.old.part.own) }
+        ensures place { (self.new.local.shape ≡ self.old.local.shape) × (self.new.local.own ≡ self.old.local.own) }
         ensures bases { map base_of self.new.links ≡ map base_of self.old.links }
         ensures kept { map kept_of self.new.links ≡ map kept_of self.old.links }
         ensures acks { self.new.acks ≡ self.old.acks }
@@ -545,9 +545,9 @@ impl Node {
 
     /// Counts a message with references as taken in.
     fn count_in(&mut self, from: u8)
-        requires there { from < self.old.part.shape.nodes }
-        requires room { got_from self.old.part from < GREATEST_NUMBER }
-        ensures { self.new ≡ record self.old { part = record self.old.part { got = slice_set self.old.part.got from (got_from self.old.part from + 1); ring = record self.old.part.ring { recent = self.old.part.ring.recent -ℤ pos 1 } } } }
+        requires there { from < self.old.local.shape.nodes }
+        requires room { got_from self.old.local from < GREATEST_NUMBER }
+        ensures { self.new ≡ record self.old { local = record self.old.local { got = slice_set self.old.local.got from (got_from self.old.local from + 1); ring = record self.old.local.ring { recent = self.old.local.ring.recent -ℤ pos 1 } } } }
     {
         self.receivers[usize::from(from)].take_next();
         self.recent = one_less(self.recent);
@@ -558,7 +558,7 @@ impl Node {
     fn acknowledge(&mut self, ack: Ack) -> Result<Answer, Refusal>
         ensures performs { Performs result self.new (view_act self.old (event.Ack ack)) }
         ensures unchanged { OnErr result (self.new ≡ self.old) }
-        ensures place { (self.new.part.shape ≡ self.old.part.shape) × (self.new.part.own ≡ self.old.part.own) }
+        ensures place { (self.new.local.shape ≡ self.old.local.shape) × (self.new.local.own ≡ self.old.local.own) }
         ensures memory_free { IfErr result (λ e. e ≢ Memory) }
         ensures kept { map kept_of self.new.links ≡ map kept_of self.old.links }
         ensures acks { self.new.acks ≡ self.old.acks }
@@ -572,7 +572,7 @@ impl Node {
 
     /// The collection cycle that the node has joined: none has begun.
     fn cycle(&self) -> u64
-        ensures { result ≡ self.now.part.phases.cycle }
+        ensures { result ≡ self.now.local.phases.cycle }
     {
         let _shape = &self.shape;
         0
@@ -626,11 +626,11 @@ impl Node {
     }
 
     fn frame(&self, to: u8, number: u64, message: Message) -> Option<Frame>
-        requires other { IsTrue (is_other self.now.part to) }
+        requires other { IsTrue (is_other self.now.local to) }
         requires number { 1 ≤ number }
         requires last { number ≤ GREATEST_NUMBER }
-        requires sendable { IsSendable self.now.part.shape message }
-        ensures { option_map plain result ≡ Some (frame_of self.now.part.own to number message) }
+        requires sendable { IsSendable self.now.local.shape message }
+        ensures { option_map plain result ≡ Some (frame_of self.now.local.own to number message) }
     {
         let data = Data::new(self.own, to, number, message.stamp, message.body)?;
         Some(Frame::Data(data))
@@ -648,7 +648,7 @@ impl Node {
 
     /// The node in numbers.
     pub fn state(&self) -> Summary
-        ensures { result ≡ summary_of self.now.part }
+        ensures { result ≡ summary_of self.now.local }
     {
         Summary {
             shape: self.shape,
@@ -669,7 +669,7 @@ impl Node {
     /// Nothing: its contract says what is true of every node, and of its slots.
     pub fn sound(&self)
         ensures node { IsNode self.now }
-        ensures slots { IsSlotted (record { heap = self.now.part.heap; limit = self.now.part.shape.slots }) }
+        ensures slots { IsSlotted (record { heap = self.now.local.heap; limit = self.now.local.shape.slots }) }
     {
         self.heap.sound();
     }
@@ -690,7 +690,7 @@ impl Node {
     }
 
     fn is_other(&self, node: u8) -> bool
-        ensures { result ≡ is_other self.now.part node }
+        ensures { result ≡ is_other self.now.local node }
     {
         node < self.shape.nodes() && node != self.own
     }

@@ -11,9 +11,9 @@ pub struct Summary {
     pub ended: u64,
     pub swept: u64,
     pub colour: Colour,
-    /// Messages sent less those taken in, of those that count in the present cycle.
+    /// Messages sent less those taken in, of those that count in the current cycle.
     pub earlier: i64,
-    /// The same of those that the next cycle counts: the ones with references, from the present cycle.
+    /// The same of those that the next cycle counts: the ones with references, from the current cycle.
     pub recent: i64,
     pub grey: usize,
     pub live: u32,

@@ -15,7 +15,7 @@ use Rattle.model.specs.declared.step.Outcome.TheVariants as outcome
 use Rattle.model.specs.State.{NodeState, node_at, sent_to}
 use Rattle.model.specs.Steps.{act, receive}
 use Rattle.model.specs.View.{NodeView, Shows, Follows, kept_of, base_of}
-use Rattle.model.specs.World.{World, take_step, moved, released, handed_over, is_node}
+use Rattle.model.specs.World.{World, take_step, moved, released, delivery, is_node}
 use Rattle.world.specs.Outboxes.{IsFrameOf, numbered_bytes}
 use Rattle.world.specs.Shows.{Simulated, ShowsWorld, FollowsStep, frames_of}
 use Rattle.world.proofs.Shows.{answered, moved-follows, node-follows, counted-read, is-node, is-no-node, within-seen, shows-seen}
@@ -63,28 +63,28 @@ missing n w from to (suc k) h apart there =
     let one : IsFrameOf from to k (slice_get (sent_to (node_at w.saved from) to) k) None = subst (λ (b : Option (List ℕ)). IsFrameOf from to k (slice_get (sent_to (node_at w.saved from) to) k) b) at (h.released from to k apart) in
     cond-false _ _ _ (ne_eqb from to apart) ∙ cond-true (ltb 0 (suc k)) _ None (lt-ltb 0 (suc k) (omega arith)) ∙ ap (slice_get (sent_to (node_at w.saved from) to)) back ∙ missing-at from to k _ one
 
-pub both-nodes : (n : Simulated) (w : World) (from to : ℕ) → ShowsWorld n w → from < length n.present → to < length n.present → (is_node w from && is_node w to) ≡ true
+pub both-nodes : (n : Simulated) (w : World) (from to : ℕ) → ShowsWorld n w → from < length n.current → to < length n.current → (is_node w from && is_node w to) ≡ true
 both-nodes n w from to h f t =
     let a : is_node w from ≡ true = is-node n w from h f in
     let b : is_node w to ≡ true = is-node n w to h t in
     ap (λ (z : Bool). z && is_node w to) a ∙ b
 
-pub deliver-no-node : (n : Simulated) (w : World) (from to number : ℕ) → ShowsWorld n w → (length n.present ≤ from) ⊎ (length n.present ≤ to) → FollowsStep (Err NoNode) n (take_step w (step.Deliver from to number))
+pub deliver-no-node : (n : Simulated) (w : World) (from to number : ℕ) → ShowsWorld n w → (length n.current ≤ from) ⊎ (length n.current ≤ to) → FollowsStep (Err NoNode) n (take_step w (step.Deliver from to number))
 unfolding take_step
 deliver-no-node n w from to number h (inl past) = λ ne. cond-false _ _ _ (and_left (is_node w from) (is_node w to) (is-no-node n w from h past))
 deliver-no-node n w from to number h (inr past) = λ ne. cond-false _ _ _ (and_right (is_node w from) (is_node w to) (is-no-node n w to h past))
 
 -- nothing was released under the number
-pub deliver-nothing : (n : Simulated) (w : World) (from to number : ℕ) → ShowsWorld n w → from < length n.present → to < length n.present → released w from to number ≡ None → FollowsStep (Ok outcome.NoFrame) n (take_step w (step.Deliver from to number))
+pub deliver-nothing : (n : Simulated) (w : World) (from to number : ℕ) → ShowsWorld n w → from < length n.current → to < length n.current → released w from to number ≡ None → FollowsStep (Ok outcome.NoFrame) n (take_step w (step.Deliver from to number))
 unfolding take_step
 deliver-nothing n w from to number h f t none =
-    (w, cond-true _ _ _ (both-nodes n w from to h f t) ∙ ap (handed_over w from to number) none, h)
+    (w, cond-true _ _ _ (both-nodes n w from to h f t) ∙ ap (delivery w from to number) none, h)
 
-pub deliver-to-itself : (n : Simulated) (w : World) (from to number : ℕ) → ShowsWorld n w → from < length n.present → to < length n.present → from ≡ to → FollowsStep (Ok outcome.NoFrame) n (take_step w (step.Deliver from to number))
+pub deliver-to-itself : (n : Simulated) (w : World) (from to number : ℕ) → ShowsWorld n w → from < length n.current → to < length n.current → from ≡ to → FollowsStep (Ok outcome.NoFrame) n (take_step w (step.Deliver from to number))
 deliver-to-itself n w from to number h f t same =
     deliver-nothing n w from to number h f t (cond-true _ _ _ (eq-eqb from to same))
 
-pub deliver-missing : (n : Simulated) (w : World) (from to number : ℕ) → ShowsWorld n w → from < length n.present → to < length n.present → from ≢ to → numbered_bytes (frames_of n.released from to) number ≡ None → FollowsStep (Ok outcome.NoFrame) n (take_step w (step.Deliver from to number))
+pub deliver-missing : (n : Simulated) (w : World) (from to number : ℕ) → ShowsWorld n w → from < length n.current → to < length n.current → from ≢ to → numbered_bytes (frames_of n.released from to) number ≡ None → FollowsStep (Ok outcome.NoFrame) n (take_step w (step.Deliver from to number))
 deliver-missing n w from to number h f t apart none =
     deliver-nothing n w from to number h f t (missing n w from to number h apart none)
 
@@ -98,17 +98,17 @@ unfolding act receive receive_plain
 act-receives s d from to number x h = ap (receive_plain s) h
 
 -- The same as the code has it: n is the space of its fields and m the one that callers see.
-pub delivered-follows : (n m : Simulated) (w : World) (from to i number : ℕ) (bytes : List ℕ) (d : Data) (u v : NodeView) (r : Result Answer Refusal) → n ≡ m → ShowsWorld m w → from < length m.present → to < length m.present → from ≢ to → to ≡ i → numbered_bytes (frames_of m.released from to) number ≡ Some bytes → Fits (plain_data d) → bytes ≡ spelling (plain_data d) → u ≡ get_or n.present i u → map kept_of v.links ≡ map kept_of u.links → v.acks ≡ u.acks → map base_of v.links ≡ map base_of u.links → ((s : NodeState) → Shows u s → Follows (event.Data d) r v (act s (event.Data d))) → FollowsStep (answered r) (record n { present = set n.present i v }) (take_step w (step.Deliver from to number))
+pub delivered-follows : (n m : Simulated) (w : World) (from to i number : ℕ) (bytes : List ℕ) (d : Data) (u v : NodeView) (r : Result Answer Refusal) → n ≡ m → ShowsWorld m w → from < length m.current → to < length m.current → from ≢ to → to ≡ i → numbered_bytes (frames_of m.released from to) number ≡ Some bytes → Fits (plain_data d) → bytes ≡ spelling (plain_data d) → u ≡ get_or n.current i u → map kept_of v.links ≡ map kept_of u.links → v.acks ≡ u.acks → map base_of v.links ≡ map base_of u.links → ((s : NodeState) → Shows u s → Follows (event.Data d) r v (act s (event.Data d))) → FollowsStep (answered r) (record n { current = set n.current i v }) (take_step w (step.Deliver from to number))
 unfolding take_step
 delivered-follows n m w from to i number bytes d u v r seen shown less_from less_to apart named there fits spelled read kept acks bases follows =
     let frame : Found m w from to number bytes = found m w from to number bytes shown apart there in
     let x : Message = frame.message in
     let longer : spelling (plain_data d) ++ [] ≡ spelling (data_frame from to number x.stamp x.body) = append-nil (spelling (plain_data d)) ∙ sym spelled ∙ frame.spelled in
     let one : plain_data d ≡ data_frame from to number x.stamp x.body = (no_spelling_begins_another (plain_data d) (data_frame from to number x.stamp x.body) [] fits frame.fits longer).1 in
-    let within : i < length n.present = within-seen n m i seen (subst (λ (k : ℕ). k < length m.present) named less_to) in
+    let within : i < length n.current = within-seen n m i seen (subst (λ (k : ℕ). k < length m.current) named less_to) in
     let h : ShowsWorld n w = shows-seen n m w seen shown in
     let same : act (node_at w.current i) (event.Data d) ≡ receive (node_at w.current i) from to number x.stamp x.body = act-receives (node_at w.current i) d from to number x one in
     let here : Follows (event.Data d) r v (receive (node_at w.current i) from to number x.stamp x.body) = subst (Follows (event.Data d) r v) same (node-follows n w i (event.Data d) u v r h within read follows) in
-    let moves : take_step w (step.Deliver from to number) ≡ moved w to (receive (node_at w.current to) from to number x.stamp x.body) = cond-true _ _ _ (both-nodes m w from to shown less_from less_to) ∙ ap (handed_over w from to number) frame.there in
+    let moves : take_step w (step.Deliver from to number) ≡ moved w to (receive (node_at w.current to) from to number x.stamp x.body) = cond-true _ _ _ (both-nodes m w from to shown less_from less_to) ∙ ap (delivery w from to number) frame.there in
     let at : take_step w (step.Deliver from to number) ≡ moved w i (receive (node_at w.current i) from to number x.stamp x.body) = moves ∙ ap (λ (k : ℕ). moved w k (receive (node_at w.current k) from to number x.stamp x.body)) named in
     moved-follows n w i (step.Deliver from to number) (event.Data d) v r (receive (node_at w.current i) from to number x.stamp x.body) h (counted-read n w i u v h within read kept acks bases) refl at here

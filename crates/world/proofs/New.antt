@@ -21,7 +21,7 @@ use Rattle.world.proofs.Shows.{same-sim}
 abbrev pub new_sim : Shaped → Simulated
 new_sim shape =
     record {
-      present = map (new_view shape) (range_with_len 0 shape.nodes);
+      current = map (new_view shape) (range_with_len 0 shape.nodes);
       saved = map (new_view shape) (range_with_len 0 shape.nodes);
       released = replicate shape.nodes (replicate shape.nodes []);
     }
@@ -38,16 +38,16 @@ both_map P f g (x ∷ xs) zero d e q h = h x
 both_map P f g (x ∷ xs) (suc i) d e q h = both_map P f g xs i d e q h
 
 nothing-shown : ShowsSent no_link []
-nothing-shown = record { within = omega arith; window = refl }
+nothing-shown = record { within = omega arith; unacknowledged = refl }
 
 new-node-shown : (shape : Shaped) (i : ℕ) → Shows (new_view shape i) (new_node shape i)
 new-node-shown shape i = record {
-  part = refl;
+  local = refl;
   width = length-replicate shape.nodes no_link ∙ sym (length-replicate {A = List Message} shape.nodes []);
   links = λ j. subst (λ (l : Link). ShowsSent l (get_or (replicate shape.nodes []) j [])) (sym (get_or-replicate_any shape.nodes j no_link)) (subst (ShowsSent no_link) (sym (get_or-replicate_any {A = List Message} shape.nodes j [])) nothing-shown);
 }
 
-new-all-shown : (shape : Shaped) → ShowAll (new_sim shape).present (new_nodes shape)
+new-all-shown : (shape : Shaped) → ShowAll (new_sim shape).current (new_nodes shape)
 new-all-shown shape = record {
   width = length-map (range_with_len 0 shape.nodes) (new_view shape) ∙ sym (length-map (range_with_len 0 shape.nodes) (new_node shape));
   each = λ i. both_map Shows (new_view shape) (new_node shape) (range_with_len 0 shape.nodes) i no_view no_node (new-node-shown (record { nodes = 0; registers = 0; slots = 0 }) 1) (new-node-shown shape);
@@ -72,21 +72,21 @@ no-frames i j k sent frames a b =
     subst (λ (z : List Message). IsFrameOf i j k (slice_get z k) (slice_get frames k)) (sym a) (subst (λ (z : List (List ℕ)). IsFrameOf i j k (slice_get {X = Message} [] k) (slice_get z k)) (sym b) none)
 
 -- nothing is released
-new-counted : (shape : Shaped) → AreCounted (new_sim shape).present (new_nodes shape)
+new-counted : (shape : Shaped) → AreCounted (new_sim shape).current (new_nodes shape)
 new-counted shape = λ i j.
-    let zero-kept : (link_to (view_at (new_sim shape).present i) j).kept ≡ 0 = at_map (λ (v : NodeView). (link_to v j).kept ≡ 0) (new_view shape) (range_with_len 0 shape.nodes) i no_view refl (λ x. ap (λ (l : Link). l.kept) (get_or-replicate_any shape.nodes j no_link)) in
+    let zero-kept : (link_to (view_at (new_sim shape).current i) j).kept ≡ 0 = at_map (λ (v : NodeView). (link_to v j).kept ≡ 0) (new_view shape) (range_with_len 0 shape.nodes) i no_view refl (λ x. ap (λ (l : Link). l.kept) (get_or-replicate_any shape.nodes j no_link)) in
     zero-kept ∙ sym (ap length (nothing-sent shape i j))
 
 -- nothing is let go of
-new-base : (shape : Shaped) (i j : ℕ) → (link_to (view_at (new_sim shape).present i) j).base ≡ 0
+new-base : (shape : Shaped) (i j : ℕ) → (link_to (view_at (new_sim shape).current i) j).base ≡ 0
 new-base shape i j = at_map (λ (v : NodeView). (link_to v j).base ≡ 0) (new_view shape) (range_with_len 0 shape.nodes) i no_view refl (λ x. ap (λ (l : Link). l.base) (get_or-replicate_any shape.nodes j no_link))
 
-new-keeps : (shape : Shaped) → KeepUnacknowledged (new_sim shape).present (new_world shape)
+new-keeps : (shape : Shaped) → KeepUnacknowledged (new_sim shape).current (new_world shape)
 new-keeps shape = λ i j. omega (arith, new-base shape i j)
 
 -- and nothing acknowledged
-new-acked : (shape : Shaped) → AreAcked (new_sim shape).present (new_nodes shape)
-new-acked shape = λ i. both_map (λ (v : NodeView) (s : NodeState). v.acks ≡ s.part.got) (new_view shape) (new_node shape) (range_with_len 0 shape.nodes) i no_view no_node refl (λ x. refl)
+new-acked : (shape : Shaped) → AreAcked (new_sim shape).current (new_nodes shape)
+new-acked shape = λ i. both_map (λ (v : NodeView) (s : NodeState). v.acks ≡ s.local.got) (new_view shape) (new_node shape) (range_with_len 0 shape.nodes) i no_view no_node refl (λ x. refl)
 
 pub new-shows : (shape : Shaped) → ShowsWorld (new_sim shape) (new_world shape)
 new-shows shape = record {
@@ -94,32 +94,32 @@ new-shows shape = record {
   saved = new-all-shown shape;
   released = λ i j k apart. no-frames i j k (sent_to (node_at (new_nodes shape) i) j) (frames_of (new_sim shape).released i j) (nothing-sent shape i j) (nothing-released shape i j);
   grown = new-keeps-sent shape;
-  present_counted = new-counted shape;
+  current_counted = new-counted shape;
   saved_counted = new-counted shape;
-  present_acked = new-acked shape;
+  current_acked = new-acked shape;
   saved_acked = new-acked shape;
-  present_keeps = new-keeps shape;
+  current_keeps = new-keeps shape;
   saved_keeps = new-keeps shape;
 }
 
-new-placed : (shape : Shaped) (i : ℕ) → i < shape.nodes → IsPlaced shape.nodes i (view_at (new_sim shape).present i)
+new-placed : (shape : Shaped) (i : ℕ) → i < shape.nodes → IsPlaced shape.nodes i (view_at (new_sim shape).current i)
 new-placed shape i less =
     subst (IsPlaced shape.nodes i) (sym (get_or-map-range_with_len (new_view shape) 0 shape.nodes i i no_view less (omega arith))) (record { own = refl; nodes = refl; links = length-replicate shape.nodes no_link })
 
-new-kept : (shape : Shaped) → AreKept (new_sim shape).present (new_sim shape).released
+new-kept : (shape : Shaped) → AreKept (new_sim shape).current (new_sim shape).released
 new-kept shape = λ i j. omega (arith, new-base shape i j)
 
 pub new-is-sim : (shape : Shaped) → IsShape shape → IsSim (new_sim shape)
 new-is-sim shape h =
-    let width : length (new_sim shape).present ≡ shape.nodes = length-map-range_with_len (new_view shape) 0 shape.nodes in
+    let width : length (new_sim shape).current ≡ shape.nodes = length-map-range_with_len (new_view shape) 0 shape.nodes in
     record {
       small = omega (arith, width, h.most_nodes);
       saved_width = refl;
       rows = length-replicate shape.nodes (replicate {A = List (List ℕ)} shape.nodes []) ∙ sym width;
       row = λ i less. ap length (get_or-replicate shape.nodes i (replicate {A = List (List ℕ)} shape.nodes []) [] (omega (arith, less, width))) ∙ length-replicate {A = List (List ℕ)} shape.nodes [] ∙ sym width;
-      present = λ i less. subst (λ (k : ℕ). IsPlaced k i (view_at (new_sim shape).present i)) (sym width) (new-placed shape i (subst (λ (k : ℕ). i < k) width less));
-      saved = λ i less. subst (λ (k : ℕ). IsPlaced k i (view_at (new_sim shape).present i)) (sym width) (new-placed shape i (subst (λ (k : ℕ). i < k) width less));
-      present_kept = new-kept shape;
+      current = λ i less. subst (λ (k : ℕ). IsPlaced k i (view_at (new_sim shape).current i)) (sym width) (new-placed shape i (subst (λ (k : ℕ). i < k) width less));
+      saved = λ i less. subst (λ (k : ℕ). IsPlaced k i (view_at (new_sim shape).current i)) (sym width) (new-placed shape i (subst (λ (k : ℕ). i < k) width less));
+      current_kept = new-kept shape;
       saved_kept = new-kept shape;
     }
 
@@ -133,6 +133,6 @@ new-rows rows n e =
     sym (map-map (map released_frames) (λ (r : Vec OutboxView Global). r.items) rows) ∙ ap (map (map released_frames)) e ∙ map-replicated (map released_frames) n (replicate n no_outbox) ∙ ap (replicate n) (map-replicated released_frames n no_outbox)
 
 -- the same as the code makes it
-pub new-made : (shape : Shaped) (present saved : List NodeView) (rows : List (Vec OutboxView Global)) (count : ℕ) → present ≡ (new_sim shape).present → saved ≡ (new_sim shape).saved → map (λ r. r.items) rows ≡ replicate count (replicate count no_outbox) → count ≡ shape.nodes → ◌≡◌ {A = Simulated} (record { present = present; saved = saved; released = rows_of rows }) (new_sim shape)
-new-made shape present saved rows count a b c counted =
-    same-sim present (new_sim shape).present saved (new_sim shape).saved (rows_of rows) (new_sim shape).released a b (new-rows rows count c ∙ ap (λ (n : ℕ). replicate n (replicate n [])) counted)
+pub new-made : (shape : Shaped) (current saved : List NodeView) (rows : List (Vec OutboxView Global)) (count : ℕ) → current ≡ (new_sim shape).current → saved ≡ (new_sim shape).saved → map (λ r. r.items) rows ≡ replicate count (replicate count no_outbox) → count ≡ shape.nodes → ◌≡◌ {A = Simulated} (record { current = current; saved = saved; released = rows_of rows }) (new_sim shape)
+new-made shape current saved rows count a b c counted =
+    same-sim current (new_sim shape).current saved (new_sim shape).saved (rows_of rows) (new_sim shape).released a b (new-rows rows count c ∙ ap (λ (n : ℕ). replicate n (replicate n [])) counted)

@@ -20,7 +20,7 @@ bytes_of v = v.items
 -- the frames from one place to before another are those of the messages that the node has appended
 abbrev pub AreFramesTo : ℕ → ℕ → NodeView → ℕ → List (List ℕ) → Type 0
 AreFramesTo end first n to frames =
-    (k : ℕ) → k < end → first ≤ k → IsFrameOf n.part.own to k (message_of (link_to n to) (k + 1)) (slice_get frames k)
+    (k : ℕ) → k < end → first ≤ k → IsFrameOf n.local.own to k (message_of (link_to n to) (k + 1)) (slice_get frames k)
 
 slice_get_push : {X : Type 0} (xs : List X) (y : X) (k : ℕ) → length xs ≡ k → slice_get (xs ++ y ∷ []) k ≡ Some y
 slice_get_push [] y zero h = refl
@@ -36,13 +36,13 @@ spells_message own to place (Some x) p bytes e fits spelled =
     (subst Fits same fits, spelled ∙ ap spelling same)
 
 -- one more frame
-pub frames_more : (first place : ℕ) (n : NodeView) (to : ℕ) (frames : List (List ℕ)) (p : Plain) (bytes : List ℕ) → length frames ≡ place → IsTrue (is_other n.part to) → Some p ≡ numbered_frame n to (place + 1) → Fits p → bytes ≡ spelling p → AreFramesTo place first n to frames → AreFramesTo (place + 1) first n to (frames ++ bytes ∷ [])
+pub frames_more : (first place : ℕ) (n : NodeView) (to : ℕ) (frames : List (List ℕ)) (p : Plain) (bytes : List ℕ) → length frames ≡ place → IsTrue (is_other n.local to) → Some p ≡ numbered_frame n to (place + 1) → Fits p → bytes ≡ spelling p → AreFramesTo place first n to frames → AreFramesTo (place + 1) first n to (frames ++ bytes ∷ [])
 frames_more first place n to frames p bytes count other made fits spelled before =
     let m = message_of (link_to n to) (place + 1) in
-    let here : IsFrameOf n.part.own to place m (Some bytes) = spells_message n.part.own to place m p bytes (made ∙ cond-true _ _ _ other) fits spelled in
-    below_more (λ k. first ≤ k → IsFrameOf n.part.own to k (message_of (link_to n to) (k + 1)) (slice_get (frames ++ bytes ∷ []) k)) place
-    (λ k below above. subst (IsFrameOf n.part.own to k (message_of (link_to n to) (k + 1))) (sym (slice_get-left frames (bytes ∷ []) k (omega arith))) (before k below above))
-    (λ above. subst (IsFrameOf n.part.own to place m) (sym (slice_get_push frames bytes place count)) here)
+    let here : IsFrameOf n.local.own to place m (Some bytes) = spells_message n.local.own to place m p bytes (made ∙ cond-true _ _ _ other) fits spelled in
+    below_more (λ k. first ≤ k → IsFrameOf n.local.own to k (message_of (link_to n to) (k + 1)) (slice_get (frames ++ bytes ∷ []) k)) place
+    (λ k below above. subst (IsFrameOf n.local.own to k (message_of (link_to n to) (k + 1))) (sym (slice_get-left frames (bytes ∷ []) k (omega arith))) (before k below above))
+    (λ above. subst (IsFrameOf n.local.own to place m) (sym (slice_get_push frames bytes place count)) here)
 
 none_by_both : {X : Type 0} (b : Bool) (o : Option X) → o ≡ None → cond b None o ≡ None
 none_by_both true o e = refl
@@ -50,7 +50,7 @@ none_by_both false o e = e
 
 -- where all messages have their frame, there are no more
 message_past : (l : Link) (k : ℕ) → used l ≤ k → message_of l (k + 1) ≡ None
-message_past l k past = none_by_both _ _ (slice_get_past l.window (k + 1 - l.base - 1) (omega arith))
+message_past l k past = none_by_both _ _ (slice_get_past l.unacknowledged (k + 1 - l.base - 1) (omega arith))
 
 nothing_more : (own to k : ℕ) (m : Option Message) (f : Option (List ℕ)) → m ≡ None → f ≡ None → IsFrameOf own to k m f
 nothing_more own to k None None a b = tt
@@ -61,7 +61,7 @@ pub frames_end : (first place : ℕ) (n : NodeView) (to : ℕ) (frames : List (L
 frames_end first place n to frames count all before =
     λ k above. elim (cases_lt k place) [
       | inl below ↦ before k below above
-      | inr past ↦ nothing_more n.part.own to k _ _ (message_past (link_to n to) k (omega arith)) (slice_get_past frames k (omega arith))
+      | inr past ↦ nothing_more n.local.own to k _ _ (message_past (link_to n to) k (omega arith)) (slice_get_past frames k (omega arith))
     ]
 
 -- what is read at a node's number, at any default
@@ -86,17 +86,17 @@ released_kept row before place to old new e within unreleased same =
 
 -- the outboxes to the nodes below one number have the frames of all messages
 abbrev pub AreStagedTo : ℕ → NodeView → List OutboxView → List OutboxView → Type 0
-AreStagedTo end n before after = (j : ℕ) → j < end → j ≢ n.part.own → IsStaged n j (get_or before j no_outbox) (get_or after j no_outbox)
+AreStagedTo end n before after = (j : ℕ) → j < end → j ≢ n.local.own → IsStaged n j (get_or before j no_outbox) (get_or after j no_outbox)
 
 -- the outbox to the next node too
 pub staged_more : (n : NodeView) (before row : List OutboxView) (place to : ℕ) (old new : OutboxView) → place ≡ to → to < length row → map released_frames row ≡ map released_frames before → IsStaged n to (get_or row place old) new → AreStagedTo to n before row → AreStagedTo (to + 1) n before (set row place new)
 staged_more n before row place to old new e within same here done =
     let at : released_frames (get_or row place old) ≡ released_frames (get_or before to no_outbox) = ap released_frames (at_number row place to old e within) ∙ same_released row before to same in
-    subst (λ (k : ℕ). AreStagedTo (to + 1) n before (set row k new)) (sym e) (below_more (λ j. j ≢ n.part.own → IsStaged n j (get_or before j no_outbox) (get_or (set row to new) j no_outbox)) to
+    subst (λ (k : ℕ). AreStagedTo (to + 1) n before (set row k new)) (sym e) (below_more (λ j. j ≢ n.local.own → IsStaged n j (get_or before j no_outbox) (get_or (set row to new) j no_outbox)) to
     (λ j below other. subst (IsStaged n j (get_or before j no_outbox)) (sym (get_or-set_other row to j new no_outbox (λ e. absurd (omega arith)))) (done j below other))
     (λ other. subst (IsStaged n to (get_or before to no_outbox)) (sym (get_or-set_same row to new no_outbox within)) (subst (λ (z : List (List ℕ)). AreFramesFrom (length z) n to new.frames) at here)))
 
 -- a node has no outbox to itself
-pub staged_past_own : (n : NodeView) (before row : List OutboxView) (to : ℕ) → to ≡ n.part.own → AreStagedTo to n before row → AreStagedTo (to + 1) n before row
+pub staged_past_own : (n : NodeView) (before row : List OutboxView) (to : ℕ) → to ≡ n.local.own → AreStagedTo to n before row → AreStagedTo (to + 1) n before row
 staged_past_own n before row to own done =
-    below_more (λ j. j ≢ n.part.own → IsStaged n j (get_or before j no_outbox) (get_or row j no_outbox)) to done (λ other. absurd (other own))
+    below_more (λ j. j ≢ n.local.own → IsStaged n j (get_or before j no_outbox) (get_or row j no_outbox)) to done (λ other. absurd (other own))

@@ -31,18 +31,18 @@ rows-same rows i before after items within read same released =
     rows-set rows i after items same ∙ ap (λ (z : List (List (List ℕ))). set (rows_of rows) i z) (released ∙ sym (row-is rows i before within read)) ∙ set-get_or (rows_of rows) i []
 
 -- The same as the code has it: n is the space of its fields, and m the one that callers see.
-pub row-fewer : (n : Simulated) (rows : List (Vec OutboxView Global)) (i : ℕ) → IsSim n → n.released ≡ rows_of rows → i < length n.present → i < length rows
+pub row-fewer : (n : Simulated) (rows : List (Vec OutboxView Global)) (i : ℕ) → IsSim n → n.released ≡ rows_of rows → i < length n.current → i < length rows
 row-fewer n rows i h released within =
     omega (arith, within, h.rows, ap length released, length-map rows (λ row. map released_frames row.items))
 
-pub row-width : (n m : Simulated) (rows : List (Vec OutboxView Global)) (i : ℕ) (row : Vec OutboxView Global) → n ≡ m → IsSim n → n.released ≡ rows_of rows → i < length m.present → row ≡ get_or rows i row → length row.items ≡ length m.present
+pub row-width : (n m : Simulated) (rows : List (Vec OutboxView Global)) (i : ℕ) (row : Vec OutboxView Global) → n ≡ m → IsSim n → n.released ≡ rows_of rows → i < length m.current → row ≡ get_or rows i row → length row.items ≡ length m.current
 row-width n m rows i row seen h released less read =
-    let within : i < length n.present = within-seen n m i seen less in
+    let within : i < length n.current = within-seen n m i seen less in
     sym (row-length rows i row (row-fewer n rows i h released within) read)
     ∙ ap (λ (z : List (List (List (List ℕ)))). length (get_or z i [])) (sym released)
-    ∙ h.row i within ∙ ap (λ (z : Simulated). length z.present) seen
+    ∙ h.row i within ∙ ap (λ (z : Simulated). length z.current) seen
 
-pub frames-seen : (n m : Simulated) (rows : List (Vec OutboxView Global)) (from to i j : ℕ) (row : Vec OutboxView Global) (b : OutboxView) → n ≡ m → IsSim n → n.released ≡ rows_of rows → i < length m.present → j < length m.present → i ≡ from → j ≡ to → row ≡ get_or rows i row → b ≡ get_or row.items j b → released_frames b ≡ frames_of m.released from to
+pub frames-seen : (n m : Simulated) (rows : List (Vec OutboxView Global)) (from to i j : ℕ) (row : Vec OutboxView Global) (b : OutboxView) → n ≡ m → IsSim n → n.released ≡ rows_of rows → i < length m.current → j < length m.current → i ≡ from → j ≡ to → row ≡ get_or rows i row → b ≡ get_or row.items j b → released_frames b ≡ frames_of m.released from to
 frames-seen n m rows from to i j row b seen h released less_from less_to named_from named_to read there =
     let fewer : i < length rows = row-fewer n rows i h released (within-seen n m i seen less_from) in
     let less : j < length row.items = omega (arith, less_to, row-width n m rows i row seen h released less_from read) in

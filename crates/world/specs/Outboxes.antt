@@ -32,7 +32,7 @@ IsFrameOf from to place (Some x) (Some bytes) =
 -- from this place on, the frames are those of the messages that the node has appended for another
 abbrev pub AreFramesFrom : ℕ → NodeView → ℕ → List (List ℕ) → Type 0
 AreFramesFrom first n to frames =
-    (k : ℕ) → first ≤ k → IsFrameOf n.part.own to k (message_of (link_to n to) (k + 1)) (slice_get frames k)
+    (k : ℕ) → first ≤ k → IsFrameOf n.local.own to k (message_of (link_to n to) (k + 1)) (slice_get frames k)
 
 -- the outbox has the frames of all messages that the node has appended, and has released none
 abbrev pub IsStaged : NodeView → ℕ → OutboxView → OutboxView → Type 0

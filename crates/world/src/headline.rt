@@ -4,7 +4,7 @@ ghost use Rattle.laws.specs.Statements.{CutsExtend, ReachIsLive, TargetsAreLive,
 /// repeats, reorderings, acknowledgements, saves and restarts. This does nothing: its contract is the
 /// theorems, and [`Sim::step`](crate::Sim::step) speaks of the same spaces.
 pub fn laws()
-    // Whatever a run does after some moment, each choice of present and saved states is one of that
+    // Whatever a run does after some moment, each choice of current and saved states is one of that
     // moment's choices followed by steps without saves and restarts.
     ensures cuts_extend { CutsExtend }
     // In each such choice, every reference that is reachable from a register, a letter or a message in
@@ -18,7 +18,7 @@ pub fn laws()
     // handed over at any time, and is never refused.
     ensures within { NoneBeyond }
     ensures hands { HandsGoThrough }
-    // What was acknowledged once stays so, and the receiver's present state has taken it in.
+    // What was acknowledged once stays so, and the receiver's current state has taken it in.
     ensures stays { AcknowledgedStays }
     ensures taken_in { AcknowledgedIsTakenIn }
 {}

@@ -1,4 +1,4 @@
-//! A space of nodes in one thread: each step is one step of the definitions in `model`, over present
+//! A space of nodes in one thread: each step is one step of the definitions in `model`, over current
 //! states, saved states and the frames that saved states released.
 #![tactic(auto)]
 

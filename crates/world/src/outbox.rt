@@ -63,7 +63,7 @@ impl Outbox {
     /// Makes the frames of all messages to the node `to` that follow the released ones, and releases none.
     /// `Memory` where a growth was refused.
     pub fn stage(&mut self, alloc: Global, node: &Node, to: u8) -> Result<(), Refusal>
-        requires other { IsTrue (is_other node.now.part to) }
+        requires other { IsTrue (is_other node.now.local to) }
         requires kept { (link_to node.now to).base ≤ length (released_frames self.old) }
         ensures released { released_frames self.new ≡ released_frames self.old }
         ensures staged { OnOk result (IsStaged node.now to self.old self.new) }
@@ -87,7 +87,7 @@ fn stage_frames(
     node: &Node,
     to: u8,
 ) -> Result<(), Refusal>
-    requires other { IsTrue (is_other node.now.part to) }
+    requires other { IsTrue (is_other node.now.local to) }
     requires kept { (link_to node.now to).base ≤ length frames.old.items }
     ensures kept { take (length frames.old.items) frames.new.items ≡ frames.old.items }
     ensures staged { OnOk result (AreFramesFrom (length frames.old.items) node.now to (map (λ v. v.items) frames.new.items)) }
@@ -130,10 +130,10 @@ fn new_row(alloc: Global, count: u8) -> Result<Vec<Outbox>, Refusal>
 /// node, and releases none.
 pub fn stage_all(alloc: Global, row: &mut [Outbox], node: &Node, count: u8) -> Result<(), Refusal>
     requires row { length row.old ≡ count }
-    requires nodes { node.now.part.shape.nodes ≡ count }
+    requires nodes { node.now.local.shape.nodes ≡ count }
     requires kept { (j : ℕ) → (link_to node.now j).base ≤ length (released_frames (slice_index_or row.old j no_outbox)) }
     ensures released { map released_frames row.new ≡ map released_frames row.old }
-    ensures staged { OnOk result ((j : ℕ) → j < count → j ≢ node.now.part.own → IsStaged node.now j (slice_index_or row.old j no_outbox) (slice_index_or row.new j no_outbox)) }
+    ensures staged { OnOk result ((j : ℕ) → j < count → j ≢ node.now.local.own → IsStaged node.now j (slice_index_or row.old j no_outbox) (slice_index_or row.new j no_outbox)) }
     ensures refused { IfErr result (λ e. e ≡ Memory) }
 {
     let own = node.state().own;

@@ -17,12 +17,12 @@ use node::{Node, Summary};
 use std::alloc::Global;
 use std::marker::Model;
 
-/// A space of nodes in one thread. It keeps for each node the present one and the one last saved, and
+/// A space of nodes in one thread. It keeps for each node the current one and the one last saved, and
 /// for each ordered pair of nodes the bytes of all frames that were ever released.
 #[derive(Drop)]
 pub struct Sim {
     alloc: Global,
-    present: Vec<Node>,
+    current: Vec<Node>,
     saved: Vec<Node>,
     outboxes: Vec<Vec<Outbox>>,
 }
@@ -47,7 +47,7 @@ impl Sim {
     {
         Ok(Sim {
             alloc,
-            present: new_nodes(alloc, shape)?,
+            current: new_nodes(alloc, shape)?,
             saved: new_nodes(alloc, shape)?,
             outboxes: new_outboxes(alloc, shape.nodes())?,
         })
@@ -74,14 +74,14 @@ impl Sim {
         }
     }
 
-    /// The present node of this number.
+    /// The current node of this number.
     pub fn node(&self, number: u8) -> Option<&Node>
-        ensures { option_copied result ≡ slice_get self.now.present number }
+        ensures { option_copied result ≡ slice_get self.now.current number }
     {
-        self.present.get(usize::from(number))
+        self.current.get(usize::from(number))
     }
 
-    /// The present node of this number, in numbers.
+    /// The current node of this number, in numbers.
     pub fn state(&self, number: u8) -> Option<Summary>
         ensures { (w : World) → ShowsWorld self.now w → result ≡ summary_at w number }
     {
@@ -90,9 +90,9 @@ impl Sim {
 
     /// How many nodes there are.
     fn count(&self) -> u8
-        ensures { result ≡ length self.now.present }
+        ensures { result ≡ length self.now.current }
     {
-        self.present.len() as u8
+        self.current.len() as u8
     }
 
     fn act(&mut self, node: u8, event: Event) -> Result<Outcome, Refusal>
@@ -105,8 +105,8 @@ impl Sim {
         if node >= self.count() {
             return Err(Refusal::NoNode);
         }
-        let present = &mut self.present[usize::from(node)];
-        let answer = present.act(event)?;
+        let current = &mut self.current[usize::from(node)];
+        let answer = current.act(event)?;
         Ok(Outcome::Answer(answer))
     }
 
@@ -122,14 +122,14 @@ impl Sim {
         let place = usize::from(node);
         let alloc = self.alloc;
         let count = self.count();
-        let mut copy = self.present[place].copy(alloc)?;
+        let mut copy = self.current[place].copy(alloc)?;
         // So it has taken in what it acknowledges.
         copy.sound();
         let row = &mut self.outboxes[place];
         stage_all(alloc, row, &copy, count)?;
         release_all(row);
-        let present = &mut self.present[place];
-        present.kept();
+        let current = &mut self.current[place];
+        current.kept();
         copy.kept();
         self.saved[place] = copy;
         Ok(Outcome::Done)
@@ -147,7 +147,7 @@ impl Sim {
         let place = usize::from(node);
         let alloc = self.alloc;
         let copy = self.saved[place].copy(alloc)?;
-        self.present[place] = copy;
+        self.current[place] = copy;
         Ok(Outcome::Done)
     }
 
@@ -171,8 +171,8 @@ impl Sim {
         let Frame::Data(message) = decode(bytes)? else {
             return Err(Refusal::BadFrame);
         };
-        let present = &mut self.present[usize::from(to)];
-        let answer = present.act(Event::Data(message))?;
+        let current = &mut self.current[usize::from(to)];
+        let answer = current.act(Event::Data(message))?;
         Ok(Outcome::Answer(answer))
     }
 
@@ -195,17 +195,17 @@ impl Sim {
         if ack.number > self.release_count(from, to) {
             return Err(Refusal::AckBeyond);
         }
-        let present = &mut self.present[usize::from(from)];
+        let current = &mut self.current[usize::from(from)];
         // So what counts as saved is no more than was appended.
-        present.sound();
-        present.act(Event::Ack(ack))?;
+        current.sound();
+        current.act(Event::Ack(ack))?;
         Ok(Outcome::Handed(ack.number))
     }
 
     /// What the saved node `to` acknowledges to the node `from`.
     fn acknowledgement(&self, from: u8, to: u8) -> Ack
-        requires from { from < length self.now.present }
-        requires to { to < length self.now.present }
+        requires from { from < length self.now.current }
+        requires to { to < length self.now.current }
         requires apart { from ≢ to }
         ensures { (result.from ≡ to) × (result.to ≡ from) × (result.number ≡ slice_index_or (view_at self.now.saved to).acks from 0) }
     {
@@ -218,8 +218,8 @@ impl Sim {
 
     /// How many messages of one node to another are released.
     fn release_count(&self, from: u8, to: u8) -> u64
-        requires from { from < length self.now.present }
-        requires to { to < length self.now.present }
+        requires from { from < length self.now.current }
+        requires to { to < length self.now.current }
         ensures { result ≡ length (frames_of self.now.released from to) }
     {
         let row = &self.outboxes[usize::from(from)];
@@ -229,8 +229,8 @@ impl Sim {
 
     /// The bytes of the frame of this number from one node to another, if it was released.
     fn released(&self, from: u8, to: u8, number: u64) -> Option<&[u8]>
-        requires from { from < length self.now.present }
-        requires to { to < length self.now.present }
+        requires from { from < length self.now.current }
+        requires to { to < length self.now.current }
         ensures { option_map (λ b. b.now) result ≡ numbered_bytes (frames_of self.now.released from to) number }
     {
         let row = &self.outboxes[usize::from(from)];

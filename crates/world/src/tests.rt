@@ -198,7 +198,7 @@ fn acknowledgements_outlast_restarts(rt: HostRuntime) -> Result<(), Refusal> {
 }
 
 #[test]
-fn present_nodes_are_shown_in_numbers(rt: HostRuntime) -> Result<(), Refusal> {
+fn current_nodes_are_shown_in_numbers(rt: HostRuntime) -> Result<(), Refusal> {
     let shape = Shape::new(2, 4, 16).expect(&rt, "the shape is within the limits");
     let mut sim = Sim::new(rt.alloc(), shape)?;
     assert_eq!(rt; sim.state(0), Some(new_summary(shape, 0)));
@@ -256,7 +256,7 @@ fn a_step_names_nodes_of_the_space(rt: HostRuntime) -> Result<(), Refusal> {
         assert!(rt; sim.node(node).is_none(), "{node}");
     }
     for node in [0, 1] {
-        let own = sim.node(node).map(|present| present.state().own);
+        let own = sim.node(node).map(|current| current.state().own);
         assert_eq!(rt; own, Some(node));
     }
     Ok(())

@@ -21,6 +21,6 @@ loop-to-preserved c = elim c.if-to-own.branch [
       let staged = staged_more c.args.node.now c.args.row.now row w.from.result c.loop-to.to w.index-row-from.result w.stage.new.self w.from.ensures (omega arith) c.loop-to.invariant.0 w.in_ok-stage.ensures.staged c.loop-to.invariant.1 in
       (ap (map released_frames) w.row-is ∙ released, subst (AreStagedTo (c.loop-to.to + 1) c.args.node.now c.args.row.now) (sym w.row-is) staged)
   | else-to-own w ↦
-      let own : c.loop-to.to ≡ c.args.node.now.part.own = w.if-to-own.false ∙ ap (λ (s : Summary). s.own) c.state-own.ensures in
+      let own : c.loop-to.to ≡ c.args.node.now.local.own = w.if-to-own.false ∙ ap (λ (s : Summary). s.own) c.state-own.ensures in
       (ap (map released_frames) w.row-is ∙ c.loop-to.invariant.0, subst (AreStagedTo (c.loop-to.to + 1) c.args.node.now c.args.row.now) (sym w.row-is) (staged_past_own c.args.node.now c.args.row.now c.loop-to.row c.loop-to.to own c.loop-to.invariant.1))
 ]

@@ -18,12 +18,12 @@ invariant_of-self c =
     let n : NodeView = view_of c.self.inside in
     let rs : List Received = c.self.inside.receivers.items in
     let old = c.self.invariant.node in
-    let there : c.args.from < n.part.shape.nodes = subst (λ (m : NodeView). c.args.from < m.part.shape.nodes) (sym c.self.view_is) c.requires.there in
-    let room : got_from n.part c.args.from < GREATEST_NUMBER = subst (λ (m : NodeView). got_from m.part c.args.from < GREATEST_NUMBER) (sym c.self.view_is) c.requires.room in
+    let there : c.args.from < n.local.shape.nodes = subst (λ (m : NodeView). c.args.from < m.local.shape.nodes) (sym c.self.view_is) c.requires.there in
+    let room : got_from n.local c.args.from < GREATEST_NUMBER = subst (λ (m : NodeView). got_from m.local c.args.from < GREATEST_NUMBER) (sym c.self.view_is) c.requires.room in
     let within : c.from.result < length rs = omega (arith, there, c.from.ensures, old.received, length-map rs taken_of) in
     let took = received-set rs c.from.result c.index_mut.result.now within c.index_mut.ensures.value in
-    let got : map taken_of (set rs c.from.result c.take_next.new.self) ≡ set n.part.got c.args.from (got_from n.part c.args.from + 1) =
-    ap (λ (r : Received). map taken_of (set rs c.from.result r)) c.take_next.ensures ∙ took.0 ∙ ap (λ (k : ℕ). set n.part.got k (get_or n.part.got k 0 + 1)) c.from.ensures in
+    let got : map taken_of (set rs c.from.result c.take_next.new.self) ≡ set n.local.got c.args.from (got_from n.local c.args.from + 1) =
+    ap (λ (r : Received). map taken_of (set rs c.from.result r)) c.take_next.ensures ∙ took.0 ∙ ap (λ (k : ℕ). set n.local.got k (get_or n.local.got k 0 + 1)) c.from.ensures in
     let acks : map saved_of (set rs c.from.result c.take_next.new.self) ≡ n.acks = ap (λ (r : Received). map saved_of (set rs c.from.result r)) c.take_next.ensures ∙ took.1 in
     let less = less-read n c.one_less-self-inside.result old c.one_less-self-inside.ensures in
     record { node = counted-node n c.args.from _ _ _ old there room got acks less; limit = c.self.invariant.limit }
@@ -33,11 +33,11 @@ returns c =
     let n : NodeView = view_of c.self.inside in
     let rs : List Received = c.self.inside.receivers.items in
     let old = c.self.invariant.node in
-    let there : c.args.from < n.part.shape.nodes = subst (λ (m : NodeView). c.args.from < m.part.shape.nodes) (sym c.self.view_is) c.requires.there in
+    let there : c.args.from < n.local.shape.nodes = subst (λ (m : NodeView). c.args.from < m.local.shape.nodes) (sym c.self.view_is) c.requires.there in
     let within : c.from.result < length rs = omega (arith, there, c.from.ensures, old.received, length-map rs taken_of) in
     let took = received-set rs c.from.result c.index_mut.result.now within c.index_mut.ensures.value in
-    let got : map taken_of (set rs c.from.result c.take_next.new.self) ≡ set n.part.got c.args.from (got_from n.part c.args.from + 1) =
-    ap (λ (r : Received). map taken_of (set rs c.from.result r)) c.take_next.ensures ∙ took.0 ∙ ap (λ (k : ℕ). set n.part.got k (get_or n.part.got k 0 + 1)) c.from.ensures in
+    let got : map taken_of (set rs c.from.result c.take_next.new.self) ≡ set n.local.got c.args.from (got_from n.local c.args.from + 1) =
+    ap (λ (r : Received). map taken_of (set rs c.from.result r)) c.take_next.ensures ∙ took.0 ∙ ap (λ (k : ℕ). set n.local.got k (get_or n.local.got k 0 + 1)) c.from.ensures in
     let acks : map saved_of (set rs c.from.result c.take_next.new.self) ≡ n.acks = ap (λ (r : Received). map saved_of (set rs c.from.result r)) c.take_next.ensures ∙ took.1 in
     let less = less-read n c.one_less-self-inside.result old c.one_less-self-inside.ensures in
     counted-view n c.args.self.now c.args.from _ _ _ c.self.view_is got acks less

@@ -14,10 +14,10 @@ pub invariant_of-self-2 : goal.invariant_of-self-2
 invariant_of-self-2 c =
     let n : NodeView = view_of c.self.inside in
     let old = c.self.invariant.node in
-    let there : c.args.to < n.part.shape.nodes = subst (λ (m : NodeView). c.args.to < m.part.shape.nodes) (sym c.self.view_is) c.requires.there in
-    let stamp : c.cycle.result ≡ n.part.phases.cycle = c.cycle.ensures ∙ ap (λ (m : NodeView). m.part.phases.cycle) (sym c.self.view_is) in
-    let given : IsSendable n.part.shape (record { stamp = n.part.phases.cycle; body = c.args.body }) = subst (λ (m : NodeView). IsSendable m.part.shape (record { stamp = m.part.phases.cycle; body = c.args.body })) (sym c.self.view_is) c.requires.sendable in
-    let sendable : IsSendable n.part.shape (record { stamp = c.cycle.result; body = c.args.body }) = subst (λ (k : ℕ). IsSendable n.part.shape (record { stamp = k; body = c.args.body })) (sym stamp) given in
+    let there : c.args.to < n.local.shape.nodes = subst (λ (m : NodeView). c.args.to < m.local.shape.nodes) (sym c.self.view_is) c.requires.there in
+    let stamp : c.cycle.result ≡ n.local.phases.cycle = c.cycle.ensures ∙ ap (λ (m : NodeView). m.local.phases.cycle) (sym c.self.view_is) in
+    let given : IsSendable n.local.shape (record { stamp = n.local.phases.cycle; body = c.args.body }) = subst (λ (m : NodeView). IsSendable m.local.shape (record { stamp = m.local.phases.cycle; body = c.args.body })) (sym c.self.view_is) c.requires.sendable in
+    let sendable : IsSendable n.local.shape (record { stamp = c.cycle.result; body = c.args.body }) = subst (λ (k : ℕ). IsSendable n.local.shape (record { stamp = k; body = c.args.body })) (sym stamp) given in
     let more = more-read n c.one_more-self-inside.result old c.one_more-self-inside.ensures in
     record { node = sent-node n c.args.to c.cycle.result c.args.body _ _ old there sendable c.in_ok-number.ensures.fits c.in_ok-number.ensures.done more; limit = c.self.invariant.limit }
 
@@ -25,6 +25,6 @@ pub returns-clause-done : goal.returns-clause-done
 returns-clause-done c =
     let n : NodeView = view_of c.self.inside in
     let more = more-read n c.one_more-self-inside.result c.self.invariant.node c.one_more-self-inside.ensures in
-    let links : c.append.new.links.items ≡ append_to n.links ((c.args.to, record { stamp = c.args.self.now.part.phases.cycle; body = c.args.body }) ∷ []) =
+    let links : c.append.new.links.items ≡ append_to n.links ((c.args.to, record { stamp = c.args.self.now.local.phases.cycle; body = c.args.body }) ∷ []) =
     c.in_ok-number.ensures.done ∙ ap (λ (k : ℕ). append_to n.links ((c.args.to, record { stamp = k; body = c.args.body }) ∷ [])) c.cycle.ensures in
-    sent-view n c.args.self.now (c.args.to, record { stamp = c.args.self.now.part.phases.cycle; body = c.args.body }) c.append.new.links.items _ c.self.view_is links more
+    sent-view n c.args.self.now (c.args.to, record { stamp = c.args.self.now.local.phases.cycle; body = c.args.body }) c.append.new.links.items _ c.self.view_is links more
