@@ -1,17 +1,22 @@
--- What each change of the entries does to the free slots that are linked through them, and to the count of
--- the values.
-use Rattle.std.proofs.Common.{◌≡◌, ◌≢◌, ℕ, zero, suc, ◌+◌, ◌-◌, ◌^◌, ◌<◌, ◌≤◌, List, [], ◌∷◌, map, length, get_or, set, cond, count_by, eqb, IsSome, Some, true, false, refl, sym, ap, ◌∙◌, inl, inr, arith, true≢false}
+-- What each change of the entries does to the free slots that are linked through them, and to the
+-- count of the values.
+use Rattle.std.proofs.Common.{◌≡◌, ◌≢◌, ℕ, zero, suc, ◌+◌, ◌-◌, ◌^◌, ◌<◌, ◌≤◌, List, [], ◌∷◌, map}
+use Rattle.std.proofs.Common.{length, get_or, set, cond, count_by, eqb, IsSome, Some, true, false}
+use Rattle.std.proofs.Common.{refl, sym, ap, ◌∙◌, inl, inr, arith, true≢false}
 use Rattle.std.proofs.lemmas.Bool.{cases_lt, eq-eqb, ne_eqb, or_cases, eqb-true}
 use Rattle.std.proofs.lemmas.Bool.Decides.{eqb_tells}
 use Rattle.std.proofs.Math.ListN.{get_or-map}
-use Rattle.std.proofs.lemmas.List.{map-set, length-map, get_or-set_same, get_or-set_other, get_or_past, get_or_read}
+use Rattle.std.proofs.lemmas.List.{map-set, length-map, get_or_past, get_or_read}
+use Rattle.std.proofs.lemmas.List.{get_or-set_same, get_or-set_other}
 use Rattle.std.proofs.lemmas.List.Sums.{sum_by-set, count_by-le-length}
 use Rattle.std.proofs.lemmas.Map.Keys.{IsDistinct-cons}
 use Rattle.std.proofs.lemmas.Map.Steps.{length-le_from_distinct_below}
 use Rattle.std.specs.List.{IsDistinct, AllByRecursion, list_any}
-use Rattle.arena.specs.Arena.{Arena, Has, Once, IsFree, IsSound, is_occupied, value_of, get, generation_of, next_key, inserted, vacated, with_value}
+use Rattle.arena.specs.Arena.{Arena, Has, Once, IsFree, IsSound, is_occupied, value_of, get}
+use Rattle.arena.specs.Arena.{generation_of, IsKey, next_key, inserted, vacated, with_value}
 use Rattle.arena.specs.Entry.{slot_of, next_of, occupied_by, chain, arena_of, IsLinked}
 use Rattle.arena.specs.declared.Key.{Key}
+use Rattle.arena.specs.declared.Slot.{Slot}
 use Rattle.arena.specs.declared.Slot.TheVariants as slot
 use Rattle.arena.specs.declared.entry.Entry.{Entry}
 use Rattle.arena.specs.declared.entry.Entry.TheVariants.{Free, Occupied, Retired}
@@ -22,24 +27,31 @@ use Rattle.arena.proofs.Sound.{free_within, IsSound-fill, IsSound-vacate, IsSoun
 Has-from_any : (xs : List ℕ) (q : ℕ) → list_any (eqb q) xs ≡ true → Has xs q
 Has-from_any [] q found = absurd (true≢false (sym found))
 Has-from_any (x ∷ xs) q found =
-    elim (or_cases _ _ found) [ inl here ↦ inl (eqb-true q x here) | inr later ↦ inr (Has-from_any xs q later) ]
+    elim (or_cases _ _ found) [
+      | inl here ↦ inl (eqb-true q x here)
+      | inr later ↦ inr (Has-from_any xs q later)
+    ]
 
 -- a number that is not in a list differs from each of it
 all_apart : (x : ℕ) (ys : List ℕ) → (Has ys x → ⊥) → AllByRecursion (λ y. eqb x y ≡ false) ys
 all_apart x [] off = tt
-all_apart x (y ∷ ys) off = (ne_eqb x y (λ same. off (inl same)), all_apart x ys (λ has. off (inr has)))
+all_apart x (y ∷ ys) off =
+    (ne_eqb x y (λ same. off (inl same)), all_apart x ys (λ has. off (inr has)))
 
 -- std's word for a list with no number twice
 IsDistinct-from_once : (xs : List ℕ) → Once xs → IsDistinct eqb xs
 unfolding IsDistinct
 IsDistinct-from_once [] once = tt
-IsDistinct-from_once (x ∷ xs) once = IsDistinct-cons eqb x xs (all_apart x xs once.0) (IsDistinct-from_once xs once.1)
+IsDistinct-from_once (x ∷ xs) once =
+    IsDistinct-cons eqb x xs (all_apart x xs once.0) (IsDistinct-from_once xs once.1)
 
 module _ {T : Type 0} where
   -- there are no more free slots than slots
   pub length-free : (a : Arena T) → IsSound a → length a.free ≤ length a.slots
   length-free a sound =
-      length-le_from_distinct_below a.free (length a.slots) (IsDistinct-from_once a.free sound.once) (λ q found. free_within a.slots q (sound.named q (Has-from_any a.free q found)))
+      let distinct = IsDistinct-from_once a.free sound.once in
+      length-le_from_distinct_below a.free (length a.slots) distinct (λ q found.
+      free_within a.slots q (sound.named q (Has-from_any a.free q found)))
 
   -- so many slots are linked
   length-chain : (es : List (Entry T)) (n from : ℕ) → length (chain es n from) ≡ n
@@ -47,34 +59,44 @@ module _ {T : Type 0} where
   length-chain es (suc n) from = ap suc (length-chain es n _)
 
   -- the counts of free and of occupied slots are below the limit
-  pub len_fits : (es : List (Entry T)) (first vacant len limit : ℕ) → IsLinked es first vacant len limit → len < 2 ^ 32
+  pub len_fits : (es : List (Entry T)) (first vacant len limit : ℕ)
+      → IsLinked es first vacant len limit → len < 2 ^ 32
   len_fits es first vacant len limit linked =
       let counted = linked.counted in
       let most = count_by-le-length is_occupied (map slot_of es) in
       omega (arith, linked.sound.small, linked.sound.within)
 
-  pub vacant_fits : (es : List (Entry T)) (first vacant len limit : ℕ) → IsLinked es first vacant len limit → vacant < 2 ^ 32
+  pub vacant_fits : (es : List (Entry T)) (first vacant len limit : ℕ)
+      → IsLinked es first vacant len limit → vacant < 2 ^ 32
   vacant_fits es first vacant len limit linked =
       let most = length-free (arena_of es first vacant limit) linked.sound in
       let counted = length-chain es vacant first in
       omega (arith, linked.sound.small, linked.sound.within)
 
   -- a write that is off the chain keeps it
-  chain-set : (es : List (Entry T)) (k : ℕ) (e : Entry T) (n from : ℕ) → (Has (chain es n from) k → ⊥) → chain (set es k e) n from ≡ chain es n from
+  chain-set : (es : List (Entry T)) (k : ℕ) (e : Entry T) (n from : ℕ)
+      → (Has (chain es n from) k → ⊥) → chain (set es k e) n from ≡ chain es n from
   chain-set es k e zero from off = refl
   chain-set es k e (suc n) from off =
       let other : from ≢ k = λ same. off (inl (sym same)) in
-      rw (get_or-set_other es k from e Retired other) (ap (λ ks. from ∷ ks) (chain-set es k e n _ (λ has. off (inr has))))
+      let rest = chain-set es k e n _ (λ has. off (inr has)) in
+      rw (get_or-set_other es k from e Retired other) (ap (λ ks. from ∷ ks) rest)
 
   -- the slot that an entry is seen as
-  slot_read : (es : List (Entry T)) (k : ℕ) (e : Entry T) → get_or es k Retired ≡ e → get_or (map slot_of es) k slot.Retired ≡ slot_of e
+  slot_read : (es : List (Entry T)) (k : ℕ) (e : Entry T) → get_or es k Retired ≡ e
+      → get_or (map slot_of es) k slot.Retired ≡ slot_of e
   slot_read es k e read = get_or-map slot_of es k Retired ∙ ap slot_of read
 
   -- the count of the values after a write
-  count-set : (es : List (Entry T)) (k : ℕ) (old new : Entry T) → k < length es → get_or es k Retired ≡ old → count_by is_occupied (map slot_of (set es k new)) + cond (is_occupied (slot_of old)) 1 0 ≡ count_by is_occupied (map slot_of es) + cond (is_occupied (slot_of new)) 1 0
+  count-set : (es : List (Entry T)) (k : ℕ) (old new : Entry T) → k < length es
+      → get_or es k Retired ≡ old
+      → count_by is_occupied (map slot_of (set es k new)) + cond (is_occupied (slot_of old)) 1 0
+      ≡ count_by is_occupied (map slot_of es) + cond (is_occupied (slot_of new)) 1 0
   count-set es k old new within read =
       let at : get_or (map slot_of es) k slot.Retired ≡ slot_of old = slot_read es k _ read in
-      let counted = sum_by-set (λ s. cond (is_occupied s) 1 0) (map slot_of es) k (slot_of new) slot.Retired (rw length-map within) in
+      let one = λ (s : Slot T). cond (is_occupied s) 1 0 in
+      let inside : k < length (map slot_of es) = rw length-map within in
+      let counted = sum_by-set one (map slot_of es) k (slot_of new) slot.Retired inside in
       rw (map-set, ← at) counted
 
   -- a key that finds a value names an occupied entry of its generation
@@ -84,7 +106,8 @@ module _ {T : Type 0} where
     pub read : get_or es key.slot Retired ≡ Occupied key.generation value
 
   -- an entry with a value of this generation
-  found_entry : (e : Entry T) (g : ℕ) → IsSome (value_of (slot_of e) g) → (x : T) × (e ≡ Occupied g x)
+  found_entry : (e : Entry T) (g : ℕ) → IsSome (value_of (slot_of e) g)
+      → (x : T) × (e ≡ Occupied g x)
   found_entry (Free own next) g some = absurd (true≢false (sym some))
   found_entry (Occupied own x) g some =
       elim (eqb_tells own g) [
@@ -94,16 +117,19 @@ module _ {T : Type 0} where
   found_entry Retired g some = absurd (true≢false (sym some))
 
   -- the entry under a key that finds a value
-  found : (es : List (Entry T)) (first vacant limit : ℕ) (key : Key) → IsSome (get (arena_of es first vacant limit) key) → IsFound es key
+  found : (es : List (Entry T)) (first vacant limit : ℕ) (key : Key)
+      → IsSome (get (arena_of es first vacant limit) key) → IsFound es key
   found es first vacant limit key some =
       elim (cases_lt key.slot (length es)) [
         | inl within ↦
             let e = get_or es key.slot Retired in
-            let at : get_or (map slot_of es) key.slot slot.Retired ≡ slot_of e = slot_read es key.slot _ refl in
+            let at : get_or (map slot_of es) key.slot slot.Retired ≡ slot_of e =
+            slot_read es key.slot _ refl in
             let f = found_entry e key.generation (rw at at some) in
             record { value = f.0; within = within; read = f.1 }
         | inr past ↦
-            let at : get_or (map slot_of es) key.slot slot.Retired ≡ slot.Retired = get_or_past (map slot_of es) key.slot slot.Retired (rw length-map past) in
+            let at : get_or (map slot_of es) key.slot slot.Retired ≡ slot.Retired =
+            get_or_past (map slot_of es) key.slot slot.Retired (rw length-map past) in
             absurd (true≢false (sym (rw at at some)))
       ]
 
@@ -121,75 +147,117 @@ module _ {T : Type 0} where
   free_entry Retired free = absurd free
 
   -- where a slot is free, the list begins with a free one
-  first_is_free : (es : List (Entry T)) (first vacant limit : ℕ) → IsSound (arena_of es first (suc vacant) limit) → IsFirst es first
+  first_is_free : (es : List (Entry T)) (first vacant limit : ℕ)
+      → IsSound (arena_of es first (suc vacant) limit) → IsFirst es first
   first_is_free es first vacant limit sound =
       let free = sound.named first (inl refl) in
       let inside = free_within (map slot_of es) first free in
       let within : first < length es = omega (arith, length-map es slot_of) in
-      let at : get_or (map slot_of es) first slot.Retired ≡ slot_of (get_or es first Retired) = slot_read es first _ refl in
+      let at : get_or (map slot_of es) first slot.Retired ≡ slot_of (get_or es first Retired) =
+      slot_read es first _ refl in
       let f = free_entry (get_or es first Retired) (rw at at free) in
       record { generation = f.0; next = f.1; within = within; read = f.2 }
 
   -- and that slot has been used
-  pub first_within : (es : List (Entry T)) (first vacant len limit : ℕ) → 0 < length (chain es vacant first) → IsLinked es first vacant len limit → first < length es
+  pub first_within : (es : List (Entry T)) (first vacant len limit : ℕ)
+      → 0 < length (chain es vacant first) → IsLinked es first vacant len limit → first < length es
   first_within es first zero len limit some linked = absurd (omega arith)
-  first_within es first (suc vacant) len limit some linked = (first_is_free es first vacant limit linked.sound).within
+  first_within es first (suc vacant) len limit some linked =
+      (first_is_free es first vacant limit linked.sound).within
 
   -- the first free slot, which was `e`, gets a value
-  pub record Fills (es : List (Entry T)) (first vacant len limit : ℕ) (e : Entry T) (x : T) : Type 0 where
+  pub record Fills (es : List (Entry T)) (first vacant len limit : ℕ) (e : Entry T) (x : T)
+      : Type 0 where
     pub free : IsFree (slot_of e)
-    pub linked : IsLinked (set es first (Occupied (generation_of (slot_of e)) x)) (next_of e) (vacant - 1) (len + 1) limit
-    pub key : ◌≡◌ {A = Key} (record { slot = first; generation = generation_of (slot_of e) }) (next_key (arena_of es first vacant limit))
-    pub done : arena_of (set es first (Occupied (generation_of (slot_of e)) x)) (next_of e) (vacant - 1) limit ≡ inserted (arena_of es first vacant limit) x
+    pub linked :
+        let filled = set es first (Occupied (generation_of (slot_of e)) x) in
+        IsLinked filled (next_of e) (vacant - 1) (len + 1) limit
+    pub key :
+        let key : Key = record { slot = first; generation = generation_of (slot_of e) } in
+        key ≡ next_key (arena_of es first vacant limit)
+    pub within :
+        let key : Key = record { slot = first; generation = generation_of (slot_of e) } in
+        IsKey (arena_of es first vacant limit) key
+    pub done :
+        let filled = set es first (Occupied (generation_of (slot_of e)) x) in
+        arena_of filled (next_of e) (vacant - 1) limit ≡ inserted (arena_of es first vacant limit) x
 
-  fills_from : (es : List (Entry T)) (first vacant len limit : ℕ) (g next : ℕ) (x : T) → first < length es → get_or es first Retired ≡ Free g next → IsLinked es first (suc vacant) len limit → Fills es first (suc vacant) len limit (Free g next) x
+  fills_from : (es : List (Entry T)) (first vacant len limit : ℕ) (g next : ℕ) (x : T)
+      → first < length es → get_or es first Retired ≡ Free g next
+      → IsLinked es first (suc vacant) len limit
+      → Fills es first (suc vacant) len limit (Free g next) x
   fills_from es first vacant len limit g next x within read linked =
       let less : suc vacant - 1 ≡ vacant = omega arith in
-      let at : get_or (map slot_of es) first slot.Retired ≡ slot.Free g = slot_read es first _ read in
+      let at : get_or (map slot_of es) first slot.Retired ≡ slot.Free g =
+      slot_read es first _ read in
       let after : next_of (get_or es first Retired) ≡ next = ap next_of read in
-      let kept : chain (set es first (Occupied g x)) vacant next ≡ chain es vacant next = chain-set es first (Occupied g x) vacant next (rw after at linked.sound.once.0) in
+      let kept : chain (set es first (Occupied g x)) vacant next ≡ chain es vacant next =
+      chain-set es first (Occupied g x) vacant next (rw after at linked.sound.once.0) in
       let born : FIRST_GENERATION ≤ g = rw at at (linked.sound.born first) in
       let counted = count-set es first (Free g next) (Occupied g x) within read in
+      let before = rw after at linked.sound in
       record {
         free = tt;
         linked = rw less (record {
-          sound = rw (kept, map-set) (IsSound-fill (map slot_of es) first (chain es vacant next) limit g x born (rw after at linked.sound));
+          sound =
+              rw (kept, map-set)
+              (IsSound-fill (map slot_of es) first (chain es vacant next) limit g x born before);
           counted = omega (arith, linked.counted);
         });
         key = rw at refl;
+        within = record {
+          slot = omega (arith, within, linked.sound.within, length-map es slot_of);
+          generation = born;
+        };
         done = rw (less, kept, map-set, at, after);
       }
 
   -- the entry that is read there is the free one
-  pub fills : (es : List (Entry T)) (first vacant len limit : ℕ) (e : Entry T) (x : T) → 0 < length (chain es vacant first) → e ≡ get_or es first e → IsLinked es first vacant len limit → Fills es first vacant len limit e x
+  pub fills : (es : List (Entry T)) (first vacant len limit : ℕ) (e : Entry T) (x : T)
+      → 0 < length (chain es vacant first) → e ≡ get_or es first e
+      → IsLinked es first vacant len limit → Fills es first vacant len limit e x
   fills es first zero len limit e x some read linked = absurd (omega arith)
   fills es first (suc vacant) len limit e x some read linked =
       let f = first_is_free es first vacant limit linked.sound in
-      let is : e ≡ Free f.generation f.next = get_or_read es first e f.within read Retired ∙ f.read in
+      let is : e ≡ Free f.generation f.next =
+      get_or_read es first e f.within read Retired ∙ f.read in
       rw is (fills_from es first vacant len limit f.generation f.next x f.within f.read linked)
 
   -- a taken slot is on no chain
-  not_chained : (es : List (Entry T)) (first vacant limit : ℕ) (key : Key) → (f : IsFound es key) → IsSound (arena_of es first vacant limit) → (IsFree (get_or (map slot_of es) key.slot slot.Retired) → ⊥) × (Has (chain es vacant first) key.slot → ⊥)
+  not_chained : (es : List (Entry T)) (first vacant limit : ℕ) (key : Key) → (f : IsFound es key)
+      → IsSound (arena_of es first vacant limit)
+      → (IsFree (get_or (map slot_of es) key.slot slot.Retired) → ⊥)
+      × (Has (chain es vacant first) key.slot → ⊥)
   not_chained es first vacant limit key f sound =
-      let at : get_or (map slot_of es) key.slot slot.Retired ≡ slot.Occupied key.generation f.value = slot_read es key.slot _ f.read in
-      let taken : IsFree (get_or (map slot_of es) key.slot slot.Retired) → ⊥ = λ free. rw at at free in
-      (taken, λ has. taken (sound.named key.slot has))
+      let taken = slot.Occupied key.generation f.value in
+      let at : get_or (map slot_of es) key.slot slot.Retired ≡ taken =
+      slot_read es key.slot _ f.read in
+      let apart : IsFree (get_or (map slot_of es) key.slot slot.Retired) → ⊥ =
+      λ free. rw at at free in
+      (apart, λ has. apart (sound.named key.slot has))
 
   -- the value of the greatest generation goes
   pub record Retires (es : List (Entry T)) (first vacant len limit : ℕ) (key : Key) : Type 0 where
     pub linked : IsLinked (set es key.slot Retired) first vacant (len - 1) limit
-    pub done : arena_of (set es key.slot Retired) first vacant limit ≡ vacated (arena_of es first vacant limit) key
+    pub done : arena_of (set es key.slot Retired) first vacant limit
+        ≡ vacated (arena_of es first vacant limit) key
 
-  pub retires : (es : List (Entry T)) (first vacant len limit : ℕ) (key : Key) → IsSome (get (arena_of es first vacant limit) key) → key.generation ≡ GREATEST_GENERATION → IsLinked es first vacant len limit → Retires es first vacant len limit key
+  pub retires : (es : List (Entry T)) (first vacant len limit : ℕ) (key : Key)
+      → IsSome (get (arena_of es first vacant limit) key) → key.generation ≡ GREATEST_GENERATION
+      → IsLinked es first vacant len limit → Retires es first vacant len limit key
   retires es first vacant len limit key some last linked =
       let f = found es first vacant limit key some in
       let off = not_chained es first vacant limit key f linked.sound in
       let kept = chain-set es key.slot Retired vacant first off.1 in
-      let counted = count-set es key.slot (Occupied key.generation f.value) Retired f.within f.read in
+      let counted =
+      count-set es key.slot (Occupied key.generation f.value) Retired f.within f.read in
       let test = eq-eqb key.generation GREATEST_GENERATION last in
       record {
         linked = record {
-          sound = rw (kept, map-set) (IsSound-set (map slot_of es) key.slot (chain es vacant first) limit slot.Retired (rw length-map f.within) off.0 (λ free. free) tt linked.sound);
+          sound =
+              rw (kept, map-set)
+              (IsSound-set (map slot_of es) key.slot (chain es vacant first) limit slot.Retired
+              (rw length-map f.within) off.0 (λ free. free) tt linked.sound);
           counted = omega (arith, linked.counted);
         };
         done = rw (test, kept, map-set);
@@ -197,46 +265,69 @@ module _ {T : Type 0} where
 
   -- the value of another generation goes
   pub record Frees (es : List (Entry T)) (first vacant len limit : ℕ) (key : Key) : Type 0 where
-    pub linked : IsLinked (set es key.slot (Free (key.generation + 1) first)) key.slot (vacant + 1) (len - 1) limit
-    pub done : arena_of (set es key.slot (Free (key.generation + 1) first)) key.slot (vacant + 1) limit ≡ vacated (arena_of es first vacant limit) key
+    pub linked :
+        let emptied = set es key.slot (Free (key.generation + 1) first) in
+        IsLinked emptied key.slot (vacant + 1) (len - 1) limit
+    pub done :
+        let emptied = set es key.slot (Free (key.generation + 1) first) in
+        arena_of emptied key.slot (vacant + 1) limit ≡ vacated (arena_of es first vacant limit) key
 
-  pub frees : (es : List (Entry T)) (first vacant len limit : ℕ) (key : Key) → IsSome (get (arena_of es first vacant limit) key) → key.generation ≢ GREATEST_GENERATION → IsLinked es first vacant len limit → Frees es first vacant len limit key
+  pub frees : (es : List (Entry T)) (first vacant len limit : ℕ) (key : Key)
+      → IsSome (get (arena_of es first vacant limit) key) → key.generation ≢ GREATEST_GENERATION
+      → IsLinked es first vacant len limit → Frees es first vacant len limit key
   frees es first vacant len limit key some more linked =
       let f = found es first vacant limit key some in
       let off = not_chained es first vacant limit key f linked.sound in
       let e = Free (key.generation + 1) first in
       let kept = chain-set es key.slot e vacant first off.1 in
-      let written : get_or (set es key.slot e) key.slot Retired ≡ e = get_or-set_same es key.slot e Retired f.within in
+      let written : get_or (set es key.slot e) key.slot Retired ≡ e =
+      get_or-set_same es key.slot e Retired f.within in
       let counted = count-set es key.slot (Occupied key.generation f.value) e f.within f.read in
       let test = ne_eqb key.generation GREATEST_GENERATION more in
       let more_by_one : vacant + 1 ≡ suc vacant = omega arith in
-      let chained : chain (set es key.slot e) (vacant + 1) key.slot ≡ key.slot ∷ chain es vacant first = rw (more_by_one, written, kept) in
+      let rest = chain es vacant first in
+      let chained : chain (set es key.slot e) (vacant + 1) key.slot ≡ key.slot ∷ rest =
+      rw (more_by_one, written, kept) in
       record {
         linked = record {
-          sound = rw (chained, map-set) (IsSound-vacate (map slot_of es) key.slot (chain es vacant first) limit (key.generation + 1) (rw length-map f.within) off.0 (omega arith) linked.sound);
+          sound =
+              rw (chained, map-set)
+              (IsSound-vacate (map slot_of es) key.slot rest limit (key.generation + 1)
+              (rw length-map f.within) off.0 (omega arith) linked.sound);
           counted = omega (arith, linked.counted);
         };
         done = rw (test, chained, map-set);
       }
 
   -- the value is written
-  pub record LendsOut (es : List (Entry T)) (first vacant len limit : ℕ) (key : Key) (e : Entry T) (w : T) : Type 0 where
+  pub record LendsOut (es : List (Entry T)) (first vacant len limit : ℕ) (key : Key) (e : Entry T)
+      (w : T)
+      : Type 0 where
     pub linked : IsLinked (set es key.slot (occupied_by e w)) first vacant len limit
-    pub done : arena_of (set es key.slot (occupied_by e w)) first vacant limit ≡ with_value (arena_of es first vacant limit) key w
+    pub done : arena_of (set es key.slot (occupied_by e w)) first vacant limit
+        ≡ with_value (arena_of es first vacant limit) key w
     pub value : (v : T) → e ≡ occupied_by e v → get (arena_of es first vacant limit) key ≡ Some v
 
-  lends_from : (es : List (Entry T)) (first vacant len limit : ℕ) (key : Key) (f : IsFound es key) (w : T) → IsLinked es first vacant len limit → LendsOut es first vacant len limit key (Occupied key.generation f.value) w
+  lends_from : (es : List (Entry T)) (first vacant len limit : ℕ) (key : Key) (f : IsFound es key)
+      (w : T) → IsLinked es first vacant len limit
+      → LendsOut es first vacant len limit key (Occupied key.generation f.value) w
   lends_from es first vacant len limit key f w linked =
       let off = not_chained es first vacant limit key f linked.sound in
       let e = Occupied key.generation w in
       let kept = chain-set es key.slot e vacant first off.1 in
-      let at : get_or (map slot_of es) key.slot slot.Retired ≡ slot.Occupied key.generation f.value = slot_read es key.slot _ f.read in
+      let taken = slot.Occupied key.generation f.value in
+      let at : get_or (map slot_of es) key.slot slot.Retired ≡ taken =
+      slot_read es key.slot _ f.read in
       let born : FIRST_GENERATION ≤ key.generation = rw at at (linked.sound.born key.slot) in
       let counted = count-set es key.slot (Occupied key.generation f.value) e f.within f.read in
       let test = eq-eqb key.generation key.generation refl in
       record {
         linked = record {
-          sound = rw (kept, map-set) (IsSound-set (map slot_of es) key.slot (chain es vacant first) limit (slot.Occupied key.generation w) (rw length-map f.within) off.0 (λ free. free) born linked.sound);
+          sound =
+              rw (kept, map-set)
+              (IsSound-set (map slot_of es) key.slot (chain es vacant first) limit
+              (slot.Occupied key.generation w) (rw length-map f.within) off.0 (λ free. free) born
+              linked.sound);
           counted = omega (arith, linked.counted);
         };
         done = rw (kept, map-set);
@@ -244,8 +335,11 @@ module _ {T : Type 0} where
       }
 
   -- the entry that is read there is the one under the key
-  pub lends : (es : List (Entry T)) (first vacant len limit : ℕ) (key : Key) (e : Entry T) (w : T) → IsSome (get (arena_of es first vacant limit) key) → e ≡ get_or es key.slot e → IsLinked es first vacant len limit → LendsOut es first vacant len limit key e w
+  pub lends : (es : List (Entry T)) (first vacant len limit : ℕ) (key : Key) (e : Entry T) (w : T)
+      → IsSome (get (arena_of es first vacant limit) key) → e ≡ get_or es key.slot e
+      → IsLinked es first vacant len limit → LendsOut es first vacant len limit key e w
   lends es first vacant len limit key e w some read linked =
       let f = found es first vacant limit key some in
-      let is : e ≡ Occupied key.generation f.value = get_or_read es key.slot e f.within read Retired ∙ f.read in
+      let is : e ≡ Occupied key.generation f.value =
+      get_or_read es key.slot e f.within read Retired ∙ f.read in
       rw is (lends_from es first vacant len limit key f w linked)

@@ -1,5 +1,6 @@
 -- What each change of an arena's slots keeps.
-use Rattle.std.proofs.Common.{◌≡◌, ◌≢◌, ◌⊎◌, ℕ, zero, suc, ◌<◌, ◌≤◌, List, [], ◌∷◌, ◌++◌, length, get_or, set, refl, ap, subst, inl, inr, arith}
+use Rattle.std.proofs.Common.{◌≡◌, ◌≢◌, ◌⊎◌, ℕ, zero, suc, ◌<◌, ◌≤◌, List, [], ◌∷◌, length}
+use Rattle.std.proofs.Common.{get_or, set, refl, subst, inl, inr, arith}
 use Rattle.std.proofs.lemmas.Bool.{cases_eq}
 use Rattle.std.proofs.lemmas.List.{get_or-set_same, get_or-set_other, length-set}
 use Rattle.arena.specs.Arena.{Has, plain, IsFree, IsBorn, IsSound}
@@ -8,33 +9,27 @@ use Rattle.arena.specs.declared.Slot.TheVariants.{Free, Occupied, Retired}
 use Rattle.arena.specs.declared.TheConstants.{FIRST_GENERATION}
 
 -- a look-up after a write
-pub at_set : {X : Type 0} (xs : List X) (k i : ℕ) (x d : X) → k < length xs → ((i ≡ k) × (get_or (set xs k x) i d ≡ x)) ⊎ ((i ≢ k) × (get_or (set xs k x) i d ≡ get_or xs i d))
+pub at_set : {X : Type 0} (xs : List X) (k i : ℕ) (x d : X) → k < length xs
+    → ((i ≡ k) × (get_or (set xs k x) i d ≡ x))
+    ⊎ ((i ≢ k) × (get_or (set xs k x) i d ≡ get_or xs i d))
 at_set xs k i x d within =
     elim (cases_eq i k) [
       | inl same ↦ inl (same, rw same (get_or-set_same xs k x d within))
       | inr differs ↦ inr (differs, get_or-set_other xs k i x d differs)
     ]
 
--- a look-up after a push, where the default is at the end of every list
-pub at_push : {X : Type 0} (xs : List X) (x d : X) (i : ℕ) → ((i ≡ length xs) × (get_or (xs ++ x ∷ []) i d ≡ x)) ⊎ ((i ≢ length xs) × (get_or (xs ++ x ∷ []) i d ≡ get_or xs i d))
-at_push [] x d zero = inl (refl, refl)
-at_push [] x d (suc i) = inr (λ e. omega arith, refl)
-at_push (y ∷ ys) x d zero = inr (λ e. omega arith, refl)
-at_push (y ∷ ys) x d (suc i) =
-    elim (at_push ys x d i) [
-      | inl here ↦ inl (ap suc here.0, here.1)
-      | inr there ↦ inr (λ e. there.0 (omega arith), there.1)
-    ]
-
 module _ {T : Type 0} where
   -- a slot that is no retired one is within the list
-  pub free_within : (slots : List (Slot T)) (k : ℕ) → IsFree (get_or slots k Retired) → k < length slots
+  pub free_within : (slots : List (Slot T)) (k : ℕ) → IsFree (get_or slots k Retired)
+      → k < length slots
   free_within [] k free = absurd free
   free_within (s ∷ slots) zero free = omega arith
   free_within (s ∷ slots) (suc k) free = let rest = free_within slots k free in omega arith
 
   -- a free slot gets a value
-  pub IsSound-fill : (slots : List (Slot T)) (k : ℕ) (ks : List ℕ) (limit g : ℕ) (x : T) → FIRST_GENERATION ≤ g → IsSound (plain slots (k ∷ ks) limit) → IsSound (plain (set slots k (Occupied g x)) ks limit)
+  pub IsSound-fill : (slots : List (Slot T)) (k : ℕ) (ks : List ℕ) (limit g : ℕ) (x : T)
+      → FIRST_GENERATION ≤ g → IsSound (plain slots (k ∷ ks) limit)
+      → IsSound (plain (set slots k (Occupied g x)) ks limit)
   IsSound-fill slots k ks limit g x born sound =
       let within = free_within slots k (sound.named k (inl refl)) in
       record {
@@ -50,13 +45,19 @@ module _ {T : Type 0} where
         ];
         listed = λ i free. elim (at_set slots k i (Occupied g x) Retired within) [
           | inl here ↦ absurd (subst IsFree here.1 free)
-          | inr there ↦ elim (sound.listed i (subst IsFree there.1 free)) [ inl same ↦ absurd (there.0 same) | inr has ↦ has ]
+          | inr there ↦
+              elim (sound.listed i (subst IsFree there.1 free)) [
+                | inl same ↦ absurd (there.0 same)
+                | inr has ↦ has
+              ]
         ];
         once = sound.once.1;
       }
 
   -- a slot that was not free becomes free
-  pub IsSound-vacate : (slots : List (Slot T)) (k : ℕ) (ks : List ℕ) (limit g : ℕ) → k < length slots → (IsFree (get_or slots k Retired) → ⊥) → FIRST_GENERATION ≤ g → IsSound (plain slots ks limit) → IsSound (plain (set slots k (Free g)) (k ∷ ks) limit)
+  pub IsSound-vacate : (slots : List (Slot T)) (k : ℕ) (ks : List ℕ) (limit g : ℕ)
+      → k < length slots → (IsFree (get_or slots k Retired) → ⊥) → FIRST_GENERATION ≤ g
+      → IsSound (plain slots ks limit) → IsSound (plain (set slots k (Free g)) (k ∷ ks) limit)
   IsSound-vacate slots k ks limit g within taken born sound =
       record {
         small = sound.small;
@@ -67,7 +68,11 @@ module _ {T : Type 0} where
         ];
         named = λ i has. elim (at_set slots k i (Free g) Retired within) [
           | inl here ↦ rw here.1 tt
-          | inr there ↦ elim has [ inl same ↦ absurd (there.0 same) | inr later ↦ rw there.1 (sound.named i later) ]
+          | inr there ↦
+              elim has [
+                | inl same ↦ absurd (there.0 same)
+                | inr later ↦ rw there.1 (sound.named i later)
+              ]
         ];
         listed = λ i free. elim (at_set slots k i (Free g) Retired within) [
           | inl here ↦ inl here.0
@@ -77,7 +82,9 @@ module _ {T : Type 0} where
       }
 
   -- a slot that was not free changes, and is not free afterwards
-  pub IsSound-set : (slots : List (Slot T)) (k : ℕ) (ks : List ℕ) (limit : ℕ) (s : Slot T) → k < length slots → (IsFree (get_or slots k Retired) → ⊥) → (IsFree s → ⊥) → IsBorn s → IsSound (plain slots ks limit) → IsSound (plain (set slots k s) ks limit)
+  pub IsSound-set : (slots : List (Slot T)) (k : ℕ) (ks : List ℕ) (limit : ℕ) (s : Slot T)
+      → k < length slots → (IsFree (get_or slots k Retired) → ⊥) → (IsFree s → ⊥) → IsBorn s
+      → IsSound (plain slots ks limit) → IsSound (plain (set slots k s) ks limit)
   IsSound-set slots k ks limit s within taken stays born sound =
       record {
         small = sound.small;

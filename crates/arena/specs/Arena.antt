@@ -1,5 +1,7 @@
 -- What a contract sees of an `Arena`.
-use Rattle.std.specs.Prelude.{◌≡◌, ◌⊎◌, ◌==◌, ℕ, ◌+◌, ◌^◌, ◌<◌, ◌≤◌, List, [], ◌∷◌, ◌++◌, length, Bool, true, false, if◌then◌else◌, Option, Some, None, count_by, slice_index_or, slice_set, ⊤}
+use Rattle.std.specs.Prelude.{◌≡◌, ◌⊎◌, ℕ, ◌+◌, ◌^◌, ◌<◌, ◌≤◌, List, [], ◌∷◌, ◌++◌, length}
+use Rattle.std.specs.Prelude.{Bool, true, false, ◌==◌, ◌&&◌, nat_le, if◌then◌else◌, ⊤}
+use Rattle.std.specs.Prelude.{Option, Some, None, count_by, slice_index_or, slice_set}
 use Rattle.arena.specs.declared.Slot.{Slot}
 use Rattle.arena.specs.declared.Slot.TheVariants.{Free, Occupied, Retired}
 use Rattle.arena.specs.declared.Key.{Key}
@@ -92,22 +94,28 @@ module _ {T : Type 0} where
   with_value a key x = record a { slots = slice_set a.slots key.slot (Occupied key.generation x) }
 
   -- no slot is free, and none is fresh
-  abbrev pub IsFull : Arena T → Type 0
-  IsFull a = (a.free ≡ []) × (a.limit ≤ length a.slots)
+  abbrev pub is_full : Arena T → Bool
+  is_full a = (length a.free == 0) && nat_le a.limit (length a.slots)
 
-  -- this fault is the one that the arena gives
+  -- what a value is refused for; memory is wanted for a fresh slot alone
   abbrev pub IsFaultOf : Arena T → Fault → Type 0
-  IsFaultOf a f = (IsFull a × (f ≡ Full)) ⊎ ((length a.slots < a.limit) × (a.free ≡ []) × (f ≡ Memory))
+  IsFaultOf a Full = is_full a ≡ true
+  IsFaultOf a Memory = (is_full a ≡ false) × (a.free ≡ [])
 
   -- the generation that the next value of a free slot has
   abbrev pub generation_of : Slot T → ℕ
   generation_of (Free g) = g
   generation_of (Occupied g x) = g
-  generation_of Retired = 0
+  generation_of Retired = FIRST_GENERATION
 
   abbrev pub first_key : List ℕ → Arena T → Key
   first_key [] a = record { slot = length a.slots; generation = FIRST_GENERATION }
   first_key (k ∷ ks) a = record { slot = k; generation = generation_of (slot_at a k) }
+
+  -- a key that the arena may give out: its slot is within the limit, its generation one of a value
+  pub record IsKey (a : Arena T) (key : Key) : Type 0 where
+    pub slot : key.slot < a.limit
+    pub generation : FIRST_GENERATION ≤ key.generation
 
   -- the key that the next value gets
   abbrev pub next_key : Arena T → Key
@@ -115,7 +123,12 @@ module _ {T : Type 0} where
 
   abbrev pub filled : List ℕ → Arena T → T → Arena T
   filled [] a x = record a { slots = a.slots ++ Occupied FIRST_GENERATION x ∷ [] }
-  filled (k ∷ ks) a x = record { slots = slice_set a.slots k (Occupied (generation_of (slot_at a k)) x); free = ks; limit = a.limit }
+  filled (k ∷ ks) a x =
+      record {
+        slots = slice_set a.slots k (Occupied (generation_of (slot_at a k)) x);
+        free = ks;
+        limit = a.limit;
+      }
 
   -- the arena with one value more, under the next key
   abbrev pub inserted : Arena T → T → Arena T
@@ -123,7 +136,12 @@ module _ {T : Type 0} where
 
   -- the arena without the value of this key, whose slot is free
   abbrev pub freed : Arena T → Key → Arena T
-  freed a key = record { slots = slice_set a.slots key.slot (Free (key.generation + 1)); free = key.slot ∷ a.free; limit = a.limit }
+  freed a key =
+      record {
+        slots = slice_set a.slots key.slot (Free (key.generation + 1));
+        free = key.slot ∷ a.free;
+        limit = a.limit;
+      }
 
   -- the arena without the value of this key, whose slot is retired
   abbrev pub retired : Arena T → Key → Arena T

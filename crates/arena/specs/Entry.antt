@@ -1,5 +1,6 @@
 -- How an `Arena` lies in memory. No public clause cites this module.
-use Rattle.std.specs.Prelude.{◌≡◌, ℕ, zero, suc, List, [], ◌∷◌, map, Option, Some, None, slice_index_or}
+use Rattle.std.specs.Prelude.{◌≡◌, ℕ, zero, suc, List, [], ◌∷◌, map, slice_index_or}
+use Rattle.std.specs.Prelude.{Option, Some, None}
 use Rattle.arena.specs.Arena.{Arena, IsSound, occupied_count, plain}
 use Rattle.arena.specs.declared.Slot.{Slot}
 use Rattle.arena.specs.declared.Slot.TheVariants as slot

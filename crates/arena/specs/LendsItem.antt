@@ -6,4 +6,5 @@ use Rattle.arena.specs.contracts.store.Store.{the_row}
 
 -- once the borrow ends, the item is the last one written through it
 abbrev pub lends_item : (E : RattleType) → MutBor (Row E.Denot) → ℕ → MutBor E.Denot → Fml
-lends_item E s index r = Lends (the_row E) E s r (λ w. row (slice_set s.now.items index w) s.now.capacity)
+lends_item E s index r =
+    Lends (the_row E) E s r (λ w. row (slice_set s.now.items index w) s.now.capacity)

@@ -62,7 +62,8 @@ impl<T> Entry<T> {
     /// The value for writing.
     pub(crate) fn value_mut(&mut self) -> &mut T
         requires { IsSome (held_by self.old) }
-        ensures* writes_back { sem 𝓛 (Lends (the_row T.row) T.row self.entry result (λ x. occupied_by self.old x)) }
+        ensures* writes_back { sem 𝓛
+            (Lends (the_row T.row) T.row self.entry result (λ x. occupied_by self.old x)) }
         ensures value { self.old ≡ occupied_by self.old result.now }
     {
         match self {

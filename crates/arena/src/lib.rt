@@ -4,10 +4,12 @@
 //! again, under the next generation, so a key that names an older generation finds nothing.
 #![tactic(auto)]
 
-ghost use Rattle.std.specs.Prelude.{◌≡◌, ◌<◌, ◌==◌, [], length, IsSome, IsOk, OnOk, OnErr, IfOk, IfErr, Some, option_copied};
+ghost use Rattle.std.specs.Prelude.{◌≡◌, ◌<◌, ◌==◌, [], length, option_copied};
+ghost use Rattle.std.specs.Prelude.{IsSome, IsOk, OnOk, OnErr, IfOk, IfErr, Some};
 ghost use Rattle.std.specs.Option.{option_copied_mut};
 ghost use Rattle.std.specs.Borrow.{sem};
-ghost use Rattle.arena.specs.Arena.{IsSound, IsFaultOf, get, key_at, next_key, inserted, removed, vacated, occupied_count};
+ghost use Rattle.arena.specs.Arena.{IsSound, IsFaultOf, IsKey, get, key_at, next_key};
+ghost use Rattle.arena.specs.Arena.{inserted, removed, vacated, occupied_count, is_full};
 
 mod entry;
 mod store;
@@ -23,8 +25,8 @@ use std::mem;
 /// Counts the values that a slot has had, from [`FIRST_GENERATION`] on.
 pub type Generation = u32;
 
-/// The greatest generation. A slot whose value of this generation is removed is retired: it is never
-/// used again.
+/// The greatest generation. A slot whose value of this generation is removed is retired: it is
+/// never used again.
 pub const GREATEST_GENERATION: Generation = 4_294_967_295;
 
 /// The generation of the first value of a slot.
@@ -109,7 +111,8 @@ impl<T> Arena<T> {
 
     /// How many values the arena holds.
     pub fn len(&self) -> u32
-        ensures { result ≡ occupied_count self.now }
+        ensures value { result ≡ occupied_count self.now }
+        ensures sound { IsSound self.now }
     {
         self.len
     }
@@ -121,11 +124,11 @@ impl<T> Arena<T> {
         self.len == 0
     }
 
-    /// What holds of every arena, for a caller's proof. It does nothing.
-    pub fn sound(&self)
-        ensures { IsSound self.now }
+    /// Whether no slot is free and none is fresh, so that there is no room for one value more.
+    pub fn is_full(&self) -> bool
+        ensures { result ≡ is_full self.now }
     {
-        let _ = &self.first;
+        self.vacant == 0 && self.entries.len() >= self.entries.capacity()
     }
 
     /// The value under `key`, if it is still there.
@@ -164,14 +167,15 @@ impl<T> Arena<T> {
         }
     }
 
-    /// Stores `value`, and gives its key: the slot that was freed last, under its next generation, or
-    /// else the next fresh slot, under [`FIRST_GENERATION`].
+    /// Stores `value`, and gives its key: the slot that was freed last, under its next generation,
+    /// or else the next fresh slot, under [`FIRST_GENERATION`].
     ///
-    /// It answers [`Fault::Full`] where there is no free slot and no fresh one, and [`Fault::Memory`]
-    /// where a fresh slot needs memory and there is none. `value` then comes back, and the arena is as
-    /// it was. While a slot is free it takes no memory and never fails.
+    /// It answers [`Fault::Full`] where the arena [is full](Arena::is_full), and [`Fault::Memory`]
+    /// where a fresh slot needs memory and there is none. `value` then comes back, and the arena is
+    /// as it was. While a slot is free it takes no memory and never fails.
     pub fn insert(&mut self, value: T) -> Result<Key, (T, Fault)>
         ensures key { IfOk result (λ key. key ≡ next_key self.old) }
+        ensures within { IfOk result (IsKey self.old) }
         ensures done { OnOk result (self.new ≡ inserted self.old value) }
 
         ensures back { IfErr result (λ e. e.0 ≡ value) }
@@ -179,13 +183,13 @@ impl<T> Arena<T> {
         ensures full { IfErr result (λ e. IsFaultOf self.old e.1) }
         ensures reuses { 0 < length self.old.free → IsOk result }
     {
+        if self.is_full() {
+            return Err((value, Fault::Full));
+        }
         if self.vacant > 0 {
             return Ok(self.reuse(value));
         }
         let high = self.entries.len();
-        if high >= self.entries.capacity() {
-            return Err((value, Fault::Full));
-        }
         match self.entries.push(Entry::Occupied(FIRST_GENERATION, value)) {
             Ok(()) => {
                 self.len += 1;
@@ -217,6 +221,7 @@ impl<T> Arena<T> {
     fn reuse(&mut self, value: T) -> Key
         requires { 0 < length self.old.free }
         ensures key { result ≡ next_key self.old }
+        ensures within { IsKey self.old result }
         ensures done { self.new ≡ inserted self.old value }
     {
         let slot = self.first;
@@ -257,8 +262,8 @@ impl<T> Arena<T> {
 }
 
 impl<T: Clone> Arena<T> {
-    /// An arena with clones of the values under the same keys, which gives out the same keys from then
-    /// on. It is for types whose clones are the same value.
+    /// An arena with clones of the values under the same keys, which gives out the same keys from
+    /// then on. It is for types whose clones are the same value.
     ///
     /// It answers [`AllocError`] where there is no memory for the slots, or for a clone.
     pub fn copy(&self, alloc: Global) -> Result<Self, AllocError>

@@ -1,5 +1,7 @@
-//! A row of items that grows at its end. Nothing else of the crate knows how the items lie in memory.
-ghost use Rattle.std.specs.Prelude.{◌≡◌, ◌<◌, ◌++◌, ◌∷◌, [], length, OnOk, OnErr, IfOk, IfErr, slice_index_or};
+//! A row of items that grows at its end. Nothing else of the crate knows how the items lie in
+//! memory.
+ghost use Rattle.std.specs.Prelude.{◌≡◌, ◌<◌, ◌++◌, ◌∷◌, [], length, slice_index_or};
+ghost use Rattle.std.specs.Prelude.{OnOk, OnErr, IfOk, IfErr};
 ghost use Rattle.std.specs.Borrow.{sem};
 ghost use Rattle.arena.specs.Row.{row};
 
@@ -69,7 +71,8 @@ impl<E> Store<E> {
     /// it was.
     pub(crate) fn push(&mut self, item: E) -> Result<(), E>
         requires { length self.old.items < self.old.capacity }
-        ensures done { OnOk result (self.new ≡ row (self.old.items ++ item ∷ []) self.old.capacity) }
+        ensures done { OnOk result
+            (self.new ≡ row (self.old.items ++ item ∷ []) self.old.capacity) }
         ensures back { IfErr result (λ e. e ≡ item) }
         ensures unchanged { OnErr result (self.new ≡ self.old) }
     {

@@ -1,5 +1,5 @@
 -- What a contract sees of a `Heap`.
-use Rattle.std.specs.Prelude.{ℕ, ◌≤◌, Bool, true, false, ◌==◌, length, ⊤}
+use Rattle.std.specs.Prelude.{ℕ, ◌≤◌, Bool, true, false, length, ⊤}
 pub use Rattle.arena.specs.Arena.{Has, Once}
 use Rattle.model.specs.State.{Slot, Free, Occupied, Retired, Heap, slot_at}
 
@@ -12,16 +12,6 @@ abbrev pub is_occupied : Slot → Bool
 is_occupied (Free g) = false
 is_occupied (Occupied g o) = true
 is_occupied Retired = false
-
--- the slot has an object of this generation
-abbrev pub has_generation : Slot → ℕ → Bool
-has_generation (Free g) generation = false
-has_generation (Occupied g o) generation = g == generation
-has_generation Retired generation = false
-
--- the object of a slot and a generation is still there
-abbrev pub is_live : Heap → ℕ → ℕ → Bool
-is_live h slot generation = has_generation (slot_at h slot) generation
 
 abbrev pub IsFree : Slot → Type 0
 IsFree (Free g) = ⊤

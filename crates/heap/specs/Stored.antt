@@ -9,7 +9,7 @@ use Rattle.model.specs.declared.event.Letter.{Letter}
 use Rattle.model.specs.State.{Object, Free, Occupied, Retired, Heap}
 use Rattle.model.specs.State as state
 use Rattle.heap.specs.Heap.{HeapView}
-use Rattle.heap.specs.declared.Heap.TheInside.{Inside}
+use Rattle.heap.specs.declared.heap.Heap.TheInside.{Inside}
 
 abbrev pub slot_of : Slot Object → state.Slot
 slot_of (stored.Free g) = Free g
@@ -19,7 +19,13 @@ slot_of stored.Retired = Retired
 -- the heap of these parts
 abbrev pub heap_of : Arena Object → List (Option Ref) → List Letter → List ℕ → Heap
 heap_of a registers letters grey =
-    record { slots = map slot_of a.slots; free = a.free; registers = registers; letters = letters; grey = grey }
+    record {
+      slots = map slot_of a.slots;
+      free = a.free;
+      registers = registers;
+      letters = letters;
+      grey = grey;
+    }
 
 abbrev pub view_of : Inside → HeapView
 view_of h =

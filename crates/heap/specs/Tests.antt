@@ -1,16 +1,20 @@
--- The tests that several calls of a `Heap` share, each list a part of theirs. No public clause cites this
--- module.
+-- The tests that several calls of a `Heap` share, each list a part of theirs. No public clause
+-- cites this module.
 use Rattle.std.specs.Prelude.{ℕ, Bool, List, [], ◌∷◌, is_some}
 use Rattle.ids.specs.declared.names.Ref.{Ref}
 use Rattle.ids.specs.declared.refusal.Refusal.{Refusal}
-use Rattle.ids.specs.declared.refusal.Refusal.TheVariants.{NoRegister, EmptyRegister, Remote, NoField}
+use Rattle.ids.specs.declared.refusal.Refusal.TheVariants.{NoRegister, EmptyRegister, Remote}
+use Rattle.ids.specs.declared.refusal.Refusal.TheVariants.{NoField}
 use Rattle.model.specs.State.{Heap}
 use Rattle.model.specs.Heaps.{is_register, is_filled, is_local, object_at, has_place}
 
 -- the register names an object of the node with this number
 abbrev pub named_tests : ℕ → Heap → ℕ → List (Bool × Refusal)
 named_tests own h register =
-    (is_register h register, NoRegister) ∷ (is_filled h register, EmptyRegister) ∷ (is_local own h register, Remote) ∷ []
+    (is_register h register, NoRegister)
+    ∷ (is_filled h register, EmptyRegister)
+    ∷ (is_local own h register, Remote)
+    ∷ []
 
 -- the object is there
 abbrev pub object_tests : Heap → Ref → List (Bool × Refusal)

@@ -1,5 +1,6 @@
-ghost use Rattle.std.specs.Prelude.{◌≡◌, [], ◌∷◌, nat_lt, length, slice_index_or, slice_set, IfOk, IfErr, None};
-ghost use Rattle.ids.specs.declared.refusal.Refusal.TheVariants as Refusal;
+ghost use Rattle.std.specs.Prelude.{◌≡◌, [], ◌∷◌, nat_lt, length, slice_index_or, slice_set};
+ghost use Rattle.std.specs.Prelude.{IfOk, IfErr, None};
+ghost use Rattle.ids.specs.declared.refusal.Refusal.TheVariants.{Memory, NoField};
 ghost use Rattle.model.specs.Checks.{guarded};
 ghost use Rattle.model.specs.Heaps.{new_object};
 
@@ -27,7 +28,7 @@ impl StoredObject {
     /// A new object with this many empty places, which this cycle marked.
     pub(crate) fn new(alloc: Global, cycle: u64, places: u8) -> Result<StoredObject, Refusal>
         ensures made { IfOk result (λ o. o ≡ new_object cycle places) }
-        ensures refused { IfErr result (λ e. e ≡ Refusal.Memory) }
+        ensures refused { IfErr result (λ e. e ≡ Memory) }
     {
         Ok(StoredObject {
             word: 0,
@@ -54,7 +55,8 @@ impl StoredObject {
     ///
     /// It answers [`Refusal::NoField`] where there is no such place.
     pub(crate) fn place(&self, place: u8) -> Result<Option<Ref>, Refusal>
-        ensures { result ≡ guarded ((nat_lt place (length self.now.places), Refusal.NoField) ∷ []) (slice_index_or self.now.places place None) }
+        ensures { result ≡ guarded ((nat_lt place (length self.now.places), NoField) ∷ [])
+            (slice_index_or self.now.places place None) }
     {
         match self.places.get(place as usize) {
             Some(reference) => Ok(*reference),
@@ -66,8 +68,10 @@ impl StoredObject {
     ///
     /// It answers [`Refusal::NoField`] where there is no such place. The object is then as it was.
     pub(crate) fn set_place(&mut self, place: u8, value: Option<Ref>) -> Result<(), Refusal>
-        ensures done { self.new ≡ record self.old { places = slice_set self.old.places place value } }
-        ensures answer { result ≡ guarded ((nat_lt place (length self.old.places), Refusal.NoField) ∷ []) tt }
+        ensures done { self.new
+            ≡ record self.old { places = slice_set self.old.places place value } }
+        ensures answer { result
+            ≡ guarded ((nat_lt place (length self.old.places), NoField) ∷ []) tt }
     {
         match self.places.get_mut(place as usize) {
             Some(held) => {

@@ -1,7 +1,8 @@
 -- What is within the limits.
-use Rattle.std.specs.Prelude.{ℕ, ◌<◌, ◌≤◌}
+use Rattle.std.specs.Prelude.{ℕ, ◌≤◌, Bool, ◌&&◌, nat_lt, nat_le}
 use Rattle.ids.specs.declared.names.Ref.{Ref}
-use Rattle.ids.specs.declared.limits.TheConstants.{LEAST_NODES, GREATEST_NODES, GREATEST_REGISTERS, GREATEST_SLOTS}
+use Rattle.ids.specs.declared.limits.TheConstants.{LEAST_NODES, GREATEST_NODES}
+use Rattle.ids.specs.declared.limits.TheConstants.{GREATEST_REGISTERS, GREATEST_SLOTS}
 
 -- the sizes of a space
 pub record Shaped : Type 0 where
@@ -19,7 +20,6 @@ pub record IsShape (s : Shaped) : Type 0 where
   pub most_slots : s.slots ≤ GREATEST_SLOTS
 
 -- a reference within the limits
-pub record IsReference (r : Ref) : Type 0 where
-  pub node : r.node < GREATEST_NODES
-  pub slot : r.slot < GREATEST_SLOTS
-  pub generation : 1 ≤ r.generation
+abbrev pub reference_fits : Ref → Bool
+reference_fits r =
+    nat_lt r.node GREATEST_NODES && (nat_lt r.slot GREATEST_SLOTS && nat_le 1 r.generation)

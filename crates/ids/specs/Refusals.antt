@@ -1,5 +1,5 @@
--- The numbers and names of the refusals.
-use Rattle.std.specs.Prelude.{ℕ, List, codes}
+-- The numbers, names and texts of the refusals.
+use Rattle.std.specs.Prelude.{ℕ, List, ◌++◌, codes, decimal}
 use Rattle.ids.specs.declared.refusal.Refusal.{Refusal}
 use Rattle.ids.specs.declared.refusal.Refusal.TheVariants.{Memory, ArenaFull, NoRegister, EmptyRegister, Remote, Local, NoNode, NoLetter, NoField, TooManyFields, SelfSend, LinkSpent, CyclesSpent, NotDirector, CycleRunning, NothingToDo, OutOfOrder, AckBeyond, BadFrame, WrongNode, BadImage, ImageTooLarge, Disk, Closed}
 
@@ -56,3 +56,7 @@ name_of BadImage = codes "BadImage"
 name_of ImageTooLarge = codes "ImageTooLarge"
 name_of Disk = codes "Disk"
 name_of Closed = codes "Closed"
+
+-- a refusal: its number and its name
+abbrev pub refusal_text : Refusal → List ℕ
+refusal_text e = decimal (number_of e) ++ (codes " " ++ name_of e)

@@ -1,5 +1,5 @@
-//! The names and limits that every crate of the object space shares: node numbers, references, cycle
-//! numbers, the shape of a space, the limits, and the reasons for which a call may refuse.
+//! The names and limits that every crate of the object space shares: node numbers, references,
+//! cycle numbers, the shape of a space, the limits, and the reasons for which a call may refuse.
 #![tactic(auto)]
 
 mod limits;
@@ -8,11 +8,10 @@ mod refusal;
 mod shape;
 
 pub use limits::{
-    GREATEST_CYCLE, GREATEST_GENERATION, GREATEST_IMAGE, GREATEST_NODES, GREATEST_NUMBER,
-    GREATEST_PLACES, GREATEST_REGISTERS, GREATEST_SLOTS, Generation, LEAST_NODES, TRACE_EVENTS,
-    WINDOW,
+    GREATEST_CYCLE, GREATEST_IMAGE, GREATEST_NODES, GREATEST_NUMBER, GREATEST_PLACES,
+    GREATEST_REGISTERS, GREATEST_SLOTS, Generation, LEAST_NODES, TRACE_EVENTS, WINDOW,
 };
-pub use names::{Cycle, NodeId, Ref};
+pub use names::{Cycle, NodeId, Ref, RefOrDash};
 pub use refusal::Refusal;
 pub use shape::Shape;
 

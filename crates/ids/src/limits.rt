@@ -13,11 +13,9 @@ pub const GREATEST_SLOTS: u32 = 1_048_576;
 /// The greatest number of places of an object; they are numbered from 0.
 pub const GREATEST_PLACES: u8 = 8;
 
-/// Counts how often a slot was given out: 1 for its first object.
+/// Counts how often a slot was given out: 1 for its first object. The greatest one is
+/// `arena::GREATEST_GENERATION`.
 pub type Generation = u32;
-
-/// The greatest generation. A slot is retired when its object of this generation is freed.
-pub const GREATEST_GENERATION: Generation = 4_294_967_295;
 
 /// The greatest number of a message on a link, 2^48; the first is 1.
 pub const GREATEST_NUMBER: u64 = 281_474_976_710_656;
@@ -25,7 +23,8 @@ pub const GREATEST_NUMBER: u64 = 281_474_976_710_656;
 /// The greatest number of a collection cycle, 2^48; 0 stands for "none yet".
 pub const GREATEST_CYCLE: u64 = 281_474_976_710_656;
 
-/// How many messages of a link its window shows: the first released ones after the last acknowledged.
+/// How many messages of a link its window shows: the first released ones after the last
+/// acknowledged.
 pub const WINDOW: u8 = 32;
 
 /// The greatest size of a saved node, in bytes.

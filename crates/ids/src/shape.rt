@@ -4,8 +4,8 @@ ghost use Rattle.ids.specs.Limits.{Shaped, IsShape};
 use crate::limits::{GREATEST_NODES, GREATEST_REGISTERS, GREATEST_SLOTS, LEAST_NODES};
 use std::marker::Model;
 
-/// How large a space is: its nodes, and the registers and slots of each. It is fixed for the life of
-/// the space, and always within the limits.
+/// How large a space is: its nodes, and the registers and slots of each. It is fixed for the life
+/// of the space, and always within the limits.
 #[derive(Clone, Copy, Debug, PartialEq, Eq)]
 pub struct Shape {
     nodes: u8,
@@ -18,7 +18,8 @@ impl Model for Shape {
 
     ghost view = { λ s. record { nodes = s.nodes; registers = s.registers; slots = s.slots } };
 
-    ghost invariant = { λ s. IsShape (record { nodes = s.nodes; registers = s.registers; slots = s.slots }) };
+    ghost invariant = { λ s.
+        IsShape (record { nodes = s.nodes; registers = s.registers; slots = s.slots }) };
 
     ghost inverse = { λ s. record { nodes = s.nodes; registers = s.registers; slots = s.slots } };
 }
@@ -27,8 +28,10 @@ impl Shape {
     /// The shape of these sizes, where there are [`LEAST_NODES`] to [`GREATEST_NODES`] nodes, 1 to
     /// [`GREATEST_REGISTERS`] registers and 1 to [`GREATEST_SLOTS`] slots.
     pub fn new(nodes: u8, registers: u16, slots: u32) -> Option<Shape>
-        ensures within { IsSome result ↔ IsShape (record { nodes = nodes; registers = registers; slots = slots }) }
-        ensures value { IfSome result (λ s. s ≡ record { nodes = nodes; registers = registers; slots = slots }) }
+        ensures within { IsSome result
+            ↔ IsShape (record { nodes = nodes; registers = registers; slots = slots }) }
+        ensures value { IfSome result
+            (λ s. s ≡ record { nodes = nodes; registers = registers; slots = slots }) }
     {
         let nodes_fit = LEAST_NODES <= nodes && nodes <= GREATEST_NODES;
         let registers_fit = 1 <= registers && registers <= GREATEST_REGISTERS;

@@ -1,4 +1,5 @@
-use crate::{Cycle, GREATEST_CYCLE, NodeId, Ref, Refusal, Shape};
+use crate::{Cycle, GREATEST_CYCLE, NodeId, Ref, RefOrDash, Refusal, Shape};
+use std::test::Fail;
 
 #[test]
 fn shapes_are_within_the_limits(rt: HostRuntime) {
@@ -30,20 +31,46 @@ fn names_are_within_the_limits(rt: HostRuntime) {
     assert!(rt; Ref::new(16, 0, 1).is_none());
     assert!(rt; Ref::new(0, 1_048_576, 1).is_none());
     assert!(rt; Ref::new(0, 0, 0).is_none());
+    let reference = Ref {
+        node: 15,
+        slot: 1_048_575,
+        generation: 1,
+    };
+    assert!(rt; reference.fits());
     assert!(rt; Cycle::new(GREATEST_CYCLE).is_some());
     assert!(rt; Cycle::new(GREATEST_CYCLE + 1).is_none());
 }
 
 #[test]
-fn refusals_have_numbers_and_names(rt: HostRuntime) {
-    for (refusal, number, name) in [
-        (Refusal::Memory, 1, "Memory"),
-        (Refusal::ArenaFull, 2, "ArenaFull"),
-        (Refusal::NoLetter, 8, "NoLetter"),
-        (Refusal::OutOfOrder, 17, "OutOfOrder"),
-        (Refusal::Closed, 24, "Closed"),
+fn references_have_texts(rt: HostRuntime) -> Result<(), Fail> {
+    let reference = Ref {
+        node: 15,
+        slot: 1_048_575,
+        generation: 4_294_967_295,
+    };
+    let text = format!(in rt.alloc(); "{reference} {}", RefOrDash(Some(reference)))?;
+    assert_eq!(rt;
+        text.as_str(),
+        "15.1048575.4294967295 15.1048575.4294967295"
+    );
+    let none = format!(in rt.alloc(); "{}", RefOrDash(None))?;
+    assert_eq!(rt; none.as_str(), "-");
+    Ok(())
+}
+
+#[test]
+fn refusals_have_numbers_names_and_texts(rt: HostRuntime) -> Result<(), Fail> {
+    for (refusal, number, name, expected) in [
+        (Refusal::Memory, 1, "Memory", "1 Memory"),
+        (Refusal::ArenaFull, 2, "ArenaFull", "2 ArenaFull"),
+        (Refusal::NoLetter, 8, "NoLetter", "8 NoLetter"),
+        (Refusal::OutOfOrder, 17, "OutOfOrder", "17 OutOfOrder"),
+        (Refusal::Closed, 24, "Closed", "24 Closed"),
     ] {
         assert_eq!(rt; refusal.number(), number);
         assert_eq!(rt; refusal.name(), name);
+        let text = format!(in rt.alloc(); "{refusal}")?;
+        assert_eq!(rt; text.as_str(), expected);
     }
+    Ok(())
 }

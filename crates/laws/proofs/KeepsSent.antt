@@ -9,22 +9,22 @@ use Rattle.laws.proofs.StepFacts.{Happening, nothing, acted, delivered, saved, r
 use Rattle.laws.proofs.Onward.{Onward, new-behind, step-behind}
 
 -- to every node the same messages were sent, and perhaps more
-abbrev SentMore : NodeState → NodeState → Type 0
+abbrev pub SentMore : NodeState → NodeState → Type 0
 SentMore s t = (j : ℕ) → Grows (sent_to s j) (sent_to t j)
 
-sent-onward : Onward SentMore
+pub sent-onward : Onward SentMore
 sent-onward = record {
   same = λ s j. grows-refl _;
   both = λ s t u g h j. grows-trans (sent_to s j) (sent_to t j) (sent_to u j) (g j) (h j);
   acts = λ s e t a own answered j. act-grows s e t a j answered;
-  receives = λ s from to number stamp b t a answered j. receive-grows s from to number stamp b t a j answered;
+  receives = λ s m t a answered j. receive-grows s m t a j answered;
 }
 
 -- there are as many nodes as before
 count-stays : (w v : World) → Happening w v → length v.current ≡ length w.current
 count-stays w v nothing = refl
-count-stays w v (acted i e t a within own answered) = length-set w.current i t
-count-stays w v (delivered from to number x t a within there answered) = length-set w.current to t
+count-stays w v (acted i e t a x) = length-set w.current i t
+count-stays w v (delivered m t a x) = length-set w.current m.to t
 count-stays w v (saved i within) = refl
 count-stays w v (restarted i within) = length-set w.current i (node_at w.saved i)
 
@@ -33,10 +33,11 @@ run-count w [] = refl
 run-count w (s ∷ ss) = run-count (happens w s) ss ∙ count-stays w (happens w s) (happening w s)
 
 -- as many saved states as current ones
-width-stays : (w v : World) → Happening w v → length w.saved ≡ length w.current → length v.saved ≡ length v.current
+width-stays : (w v : World) → Happening w v → length w.saved ≡ length w.current
+    → length v.saved ≡ length v.current
 width-stays w v nothing h = h
-width-stays w v (acted i e t a within own answered) h = h ∙ sym (length-set w.current i t)
-width-stays w v (delivered from to number x t a within there answered) h = h ∙ sym (length-set w.current to t)
+width-stays w v (acted i e t a x) h = h ∙ sym (length-set w.current i t)
+width-stays w v (delivered m t a x) h = h ∙ sym (length-set w.current m.to t)
 width-stays w v (saved i within) h = length-set w.saved i (node_at w.current i) ∙ h
 width-stays w v (restarted i within) h = h ∙ sym (length-set w.current i (node_at w.saved i))
 

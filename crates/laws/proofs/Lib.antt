@@ -1,11 +1,12 @@
 pub mod Lookups
 pub mod StepFacts
+pub mod NoEvent
 pub mod Onward
 pub mod KeepsSent
-pub mod Cuts
 pub mod Invariant
-pub mod Facts
+pub mod Cuts
 pub mod Turns
+pub mod Facts
 pub mod Fitting
 pub mod Kept
 pub mod OwnEvents
@@ -14,4 +15,4 @@ pub mod PlainSteps
 pub mod New
 pub mod Live
 pub mod Deliveries
-pub mod Acknowledged
+pub mod Net

@@ -2,9 +2,8 @@
 use Rattle.std.proofs.Common.{◌≡◌, ℕ, ◌<◌, Bool, true, false, ◌==◌, ◌&&◌, ltb-true, List, [], ◌∷◌, ◌++◌, length, map, get_or, set, Option, None, Some, Result, Ok, Err, refl, sym, ap, ◌∙◌, ◌+◌, subst, leb, leb-true, leb-false, inl, inr, ⊎_elim, ◌≤◌, length-set, arith}
 use Rattle.std.proofs.lemmas.Bool.{cond_both, and_parts, cases_Bool, cond-true, cond-false, or_cases, both_ways}
 use Rattle.ids.specs.declared.refusal.Refusal.{Refusal}
-use Rattle.ids.specs.declared.refusal.Refusal.TheVariants.{LinkSpent, NoNode, AckBeyond, WrongNode}
+use Rattle.ids.specs.declared.refusal.Refusal.TheVariants.{LinkSpent, NoNode, OutOfOrder, AckBeyond, WrongNode}
 use Rattle.msg.specs.declared.body.Message.{Message}
-use Rattle.msg.specs.declared.body.Body.{Body}
 use Rattle.model.specs.declared.event.Event.{Event}
 use Rattle.model.specs.declared.event.Answer.{Answer}
 use Rattle.model.specs.declared.event.Answer.TheVariants as answer
@@ -15,14 +14,15 @@ use Rattle.model.specs.declared.step.Outcome.TheVariants as outcome
 use Rattle.model.specs.Checks.{guarded, AllPass}
 use Rattle.model.specs.State.{NodeState, node_at, sent_to, got_from}
 use Rattle.model.specs.Steps.{Effect, tests, made, receipt_tests, receipt, is_addressed, is_repeat, may_take, taken_in, unchanged, fits, all_tests, checked, after, act, receive, append_all, is_own}
-use Rattle.model.specs.World.{World, released, acknowledged, release_count, moved, delivery, is_node, take_step, outcome_of, world_after, happens}
+use Rattle.model.specs.World.{World, released, acknowledged, release_count, moved, delivery, handing, is_node, take_step, outcome_of, world_after, happens}
 use Rattle.model.proofs.Checks.{guarded-ok, guarded-passes, passed-parts}
 use Rattle.model.proofs.Lookups.{at_set_if}
 use Rattle.laws.proofs.Lookups.{Grows, grows-refl, grows-trans}
 
--- An answered event: the node afterwards and the answer, that all tests passed, and that its messages got
--- numbers.
-pub record Stepped (s : NodeState) (ts : List (Bool × Refusal)) (x : Effect) (t : NodeState) (a : Answer) : Type 0 where
+-- An answered event: the node afterwards and the answer, that all tests passed, and that its
+-- messages got numbers.
+pub record Stepped (s : NodeState) (ts : List (Bool × Refusal)) (x : Effect) (t : NodeState)
+    (a : Answer) : Type 0 where
   pub state : t ≡ record { local = x.local; sent = append_all s.sent x.sends }
   pub answer : a ≡ x.answer
   pub passed : AllPass ts
@@ -32,16 +32,21 @@ pub record Stepped (s : NodeState) (ts : List (Bool × Refusal)) (x : Effect) (t
 abbrev effect_on : NodeState → Effect → NodeState × Answer
 effect_on s x = (record { local = x.local; sent = append_all s.sent x.sends }, x.answer)
 
-after-ok : (s : NodeState) (r : Result Effect Refusal) (y : NodeState × Answer) → after s r ≡ Ok y → (x : Effect) × (r ≡ Ok x) × (y ≡ effect_on s x)
+after-ok : (s : NodeState) (r : Result Effect Refusal) (y : NodeState × Answer) → after s r ≡ Ok y
+    → (x : Effect) × (r ≡ Ok x) × (y ≡ effect_on s x)
 after-ok s (Ok x) y h = (x, refl, cc)
 after-ok s (Err e) y h = absurd cc
 
-stepped : (s : NodeState) (ts : List (Bool × Refusal)) (x : Effect) (t : NodeState) (a : Answer) → after s (checked ts (map length s.sent) x) ≡ Ok (t, a) → Stepped s ts x t a
+stepped : (s : NodeState) (ts : List (Bool × Refusal)) (x : Effect) (t : NodeState) (a : Answer)
+    → after s (checked ts (map length s.sent) x) ≡ Ok (t, a) → Stepped s ts x t a
 stepped s ts x t a h =
     let found = after-ok s (checked ts (map length s.sent) x) (t, a) h in
     let all = all_tests ts (map length s.sent) x in
-    let parts = passed-parts ts ((fits (map length s.sent) x.sends, LinkSpent) ∷ []) (guarded-passes all x found.0 found.1) in
-    let both : ◌≡◌ {A = NodeState × Answer} (t, a) (effect_on s x) = found.2 ∙ ap (effect_on s) (sym (guarded-ok all x found.0 found.1)) in
+    let parts =
+    passed-parts ts ((fits (map length s.sent) x.sends, LinkSpent) ∷ [])
+    (guarded-passes all x found.0 found.1) in
+    let both : ◌≡◌ {A = NodeState × Answer} (t, a) (effect_on s x) =
+    found.2 ∙ ap (effect_on s) (sym (guarded-ok all x found.0 found.1)) in
     record {
       state = ap (λ (z : NodeState × Answer). z.0) both;
       answer = ap (λ (z : NodeState × Answer). z.1) both;
@@ -50,133 +55,234 @@ stepped s ts x t a h =
     }
 
 -- an event of a node that was answered
-pub act-ok : (s : NodeState) (e : Event) (t : NodeState) (a : Answer) → act s e ≡ Ok (t, a) → Stepped s (tests s.local e) (made s.local (map length s.sent) e) t a
+pub act-ok : (s : NodeState) (e : Event) (t : NodeState) (a : Answer) → act s e ≡ Ok (t, a)
+    → Stepped s (tests s.local e) (made s.local (map length s.sent) e) t a
 unfolding act
 act-ok s e t a h = stepped s (tests s.local e) (made s.local (map length s.sent) e) t a h
 
+-- a message, and between which nodes and under which number it goes
+pub record Delivery : Type 0 where
+  pub from : ℕ
+  pub to : ℕ
+  pub number : ℕ
+  pub message : Message
+
+-- it is given to a node
+abbrev pub given_to : NodeState → Delivery → Result (NodeState × Answer) Refusal
+given_to s m = receive s m.from m.to m.number m.message.stamp m.message.body
+
+abbrev pub tests_of : NodeState → Delivery → List (Bool × Refusal)
+tests_of s m = receipt_tests s.local m.from m.to m.number m.message.stamp m.message.body
+
+abbrev pub IsTurnOf : NodeState → Delivery → Type 0
+IsTurnOf s m = m.number ≡ got_from s.local m.from + 1
+
 -- a message that was taken in, or was a repeat
-pub receive-ok : (s : NodeState) (from to number stamp : ℕ) (b : Body) (t : NodeState) (a : Answer) → receive s from to number stamp b ≡ Ok (t, a) → Stepped s (receipt_tests s.local from to number stamp b) (receipt s.local from number stamp b) t a
+receive-ok : (s : NodeState) (m : Delivery) (t : NodeState) (a : Answer) → given_to s m ≡ Ok (t, a)
+    → Stepped s (tests_of s m) (receipt s.local m.from m.number m.message.stamp m.message.body) t a
 unfolding receive
-receive-ok s from to number stamp b t a h = stepped s (receipt_tests s.local from to number stamp b) (receipt s.local from number stamp b) t a h
+receive-ok s m t a h =
+    stepped s (tests_of s m) (receipt s.local m.from m.number m.message.stamp m.message.body) t a h
 
--- A message that was answered was taken in before, and changes nothing; or it is the next one, which the
--- node may take in, and is taken in.
-pub data Receipt (s : NodeState) (from to number stamp : ℕ) (b : Body) (t : NodeState) (a : Answer) : Type 0 where
-  repeated : t ≡ s → a ≡ answer.Repeat → Receipt s from to number stamp b t a
-  next : number ≡ got_from s.local from + 1 → may_take s.local stamp b ≡ true → Stepped s (receipt_tests s.local from to number stamp b) (taken_in s.local from number stamp b) t a → Receipt s from to number stamp b t a
+-- A message that was answered was taken in before, and changes nothing; or it is the next one,
+-- which the node may take in, and is taken in.
+pub data Receipt (s : NodeState) (m : Delivery) (t : NodeState) (a : Answer) : Type 0 where
+  repeated : t ≡ s → a ≡ answer.Repeat → Receipt s m t a
+  next : IsTurnOf s m → may_take s.local m.message.stamp m.message.body ≡ true
+      → Stepped s (tests_of s m)
+      (taken_in s.local m.from m.number m.message.stamp m.message.body) t a
+      → Receipt s m t a
 
-pub receipt-cases : (s : NodeState) (from to number stamp : ℕ) (b : Body) (t : NodeState) (a : Answer) → receive s from to number stamp b ≡ Ok (t, a) → Receipt s from to number stamp b t a
-receipt-cases s from to number stamp b t a h =
-    let found = receive-ok s from to number stamp b t a h in
-    let turn : number ≤ got_from s.local from + 1 = leb-true number _ found.passed.1.0 in
-    let as_found : (x : Effect) → receipt s.local from number stamp b ≡ x → Stepped s (receipt_tests s.local from to number stamp b) x t a =
-    λ x e. subst (λ (z : Effect). Stepped s (receipt_tests s.local from to number stamp b) z t a) e found in
-    elim (cases_Bool (is_repeat s.local from number)) as (λ _. Receipt s from to number stamp b t a) [
-      | inl again ↦ let same = as_found (unchanged s.local answer.Repeat) (cond-true (is_repeat s.local from number) _ _ again) in repeated same.state same.answer
+pub receipt-cases : (s : NodeState) (m : Delivery) (t : NodeState) (a : Answer)
+    → given_to s m ≡ Ok (t, a) → Receipt s m t a
+receipt-cases s m t a h =
+    let x : Message = m.message in
+    let found = receive-ok s m t a h in
+    let turn : m.number ≤ got_from s.local m.from + 1 = leb-true m.number _ found.passed.1.0 in
+    let as_found : (y : Effect) → receipt s.local m.from m.number x.stamp x.body ≡ y
+    → Stepped s (tests_of s m) y t a =
+    λ y e. subst (λ (z : Effect). Stepped s (tests_of s m) z t a) e found in
+    elim (cases_Bool (is_repeat s.local m.from m.number)) as (λ _. Receipt s m t a) [
+      | inl again ↦ let same =
+          as_found (unchanged s.local answer.Repeat)
+          (cond-true (is_repeat s.local m.from m.number) _ _ again) in
+          repeated same.state same.answer
       | inr first ↦ next
-          (let later : got_from s.local from < number = leb-false number _ first in omega arith)
-          (⊎_elim (λ again. absurd (both_ways _ first again)) (λ may. may) (or_cases _ _ found.passed.1.1.0))
-          (as_found (taken_in s.local from number stamp b) (cond-false (is_repeat s.local from number) _ _ first))
+          (let later : got_from s.local m.from < m.number = leb-false m.number _ first in
+          omega arith)
+          (⊎_elim (λ again. absurd (both_ways _ first again)) (λ may. may)
+          (or_cases _ _ found.passed.1.1.0))
+          (as_found (taken_in s.local m.from m.number x.stamp x.body)
+          (cond-false (is_repeat s.local m.from m.number) _ _ first))
     ]
 
 -- messages come last in what was sent
-pub append_all-grows : (sent : List (List Message)) (ms : List (ℕ × Message)) (j : ℕ) → Grows (get_or sent j []) (get_or (append_all sent ms) j [])
+pub append_all-grows : (sent : List (List Message)) (ms : List (ℕ × Message)) (j : ℕ)
+    → Grows (get_or sent j []) (get_or (append_all sent ms) j [])
 append_all-grows sent [] j = grows-refl _
 append_all-grows sent ((to, x) ∷ ms) j =
     let longer : List Message = get_or sent to [] ++ x ∷ [] in
     grows-trans (get_or sent j []) (get_or (set sent to longer) j []) _
-    (at_set_if (Grows (get_or sent j [])) sent to j longer [] (λ e. (x ∷ [], ap (λ (k : ℕ). get_or sent k [] ++ x ∷ []) e)) (grows-refl _))
+    (at_set_if (Grows (get_or sent j [])) sent to j longer []
+    (λ e. (x ∷ [], ap (λ (k : ℕ). get_or sent k [] ++ x ∷ []) e)) (grows-refl _))
     (append_all-grows (set sent to longer) ms j)
 
-pub length-append_all : (sent : List (List Message)) (ms : List (ℕ × Message)) → length (append_all sent ms) ≡ length sent
+pub length-append_all : (sent : List (List Message)) (ms : List (ℕ × Message))
+    → length (append_all sent ms) ≡ length sent
 length-append_all sent [] = refl
 length-append_all sent ((to, x) ∷ ms) =
-    length-append_all (set sent to (get_or sent to [] ++ x ∷ [])) ms ∙ length-set sent to (get_or sent to [] ++ x ∷ [])
+    length-append_all (set sent to (get_or sent to [] ++ x ∷ [])) ms
+    ∙ length-set sent to (get_or sent to [] ++ x ∷ [])
 
-pub stepped-grows : (s : NodeState) (ts : List (Bool × Refusal)) (x : Effect) (t : NodeState) (a : Answer) (j : ℕ) → Stepped s ts x t a → Grows (sent_to s j) (sent_to t j)
-stepped-grows s ts x t a j h =
+stepped-grows : {s t : NodeState} {ts : List (Bool × Refusal)} {x : Effect} {a : Answer} (j : ℕ)
+    → Stepped s ts x t a → Grows (sent_to s j) (sent_to t j)
+stepped-grows {s = s} {x = x} j h =
     let more = append_all-grows s.sent x.sends j in
     (more.0, ap (λ (z : NodeState). sent_to z j) h.state ∙ more.1)
 
 -- what a node sent only grows
-pub act-grows : (s : NodeState) (e : Event) (t : NodeState) (a : Answer) (j : ℕ) → act s e ≡ Ok (t, a) → Grows (sent_to s j) (sent_to t j)
-act-grows s e t a j h = stepped-grows s _ _ t a j (act-ok s e t a h)
+pub act-grows : (s : NodeState) (e : Event) (t : NodeState) (a : Answer) (j : ℕ)
+    → act s e ≡ Ok (t, a) → Grows (sent_to s j) (sent_to t j)
+act-grows s e t a j h = stepped-grows j (act-ok s e t a h)
 
-pub receive-grows : (s : NodeState) (from to number stamp : ℕ) (b : Body) (t : NodeState) (a : Answer) (j : ℕ) → receive s from to number stamp b ≡ Ok (t, a) → Grows (sent_to s j) (sent_to t j)
-receive-grows s from to number stamp b t a j h = stepped-grows s _ _ t a j (receive-ok s from to number stamp b t a h)
+pub receive-grows : (s : NodeState) (m : Delivery) (t : NodeState) (a : Answer) (j : ℕ)
+    → given_to s m ≡ Ok (t, a) → Grows (sent_to s j) (sent_to t j)
+receive-grows s m t a j h = stepped-grows j (receive-ok s m t a h)
+
+abbrev pub IsReleased : World → Delivery → Type 0
+IsReleased w m = released w m.from m.to m.number ≡ Some m.message
+
+-- an own event of a node of the space was answered
+pub record Acted (w : World) (i : ℕ) (e : Event) (t : NodeState) (a : Answer) : Type 0 where
+  pub within : i < length w.current
+  pub own : is_own e ≡ true
+  pub answered : act (node_at w.current i) e ≡ Ok (t, a)
+
+-- a released message was given to its receiver, and answered
+pub record Delivered (w : World) (m : Delivery) (t : NodeState) (a : Answer) : Type 0 where
+  pub within : m.to < length w.current
+  pub there : IsReleased w m
+  pub answered : given_to (node_at w.current m.to) m ≡ Ok (t, a)
 
 -- what a step of a space does to it
 pub data Happening (w : World) : World → Type 0 where
   nothing : Happening w w
-  acted : (i : ℕ) (e : Event) (t : NodeState) (a : Answer) → i < length w.current → is_own e ≡ true → act (node_at w.current i) e ≡ Ok (t, a) → Happening w (record w { current = set w.current i t })
-  delivered : (from to number : ℕ) (x : Message) (t : NodeState) (a : Answer) → to < length w.current → released w from to number ≡ Some x → receive (node_at w.current to) from to number x.stamp x.body ≡ Ok (t, a) → Happening w (record w { current = set w.current to t })
-  saved : (i : ℕ) → i < length w.current → Happening w (record w { saved = set w.saved i (node_at w.current i) })
-  restarted : (i : ℕ) → i < length w.current → Happening w (record w { current = set w.current i (node_at w.saved i) })
+  acted : (i : ℕ) (e : Event) (t : NodeState) (a : Answer) → Acted w i e t a
+      → Happening w (record w { current = set w.current i t })
+  delivered : (m : Delivery) (t : NodeState) (a : Answer) → Delivered w m t a
+      → Happening w (record w { current = set w.current m.to t })
+  saved : (i : ℕ) → i < length w.current
+      → Happening w (record w { saved = set w.saved i (node_at w.current i) })
+  restarted : (i : ℕ) → i < length w.current
+      → Happening w (record w { current = set w.current i (node_at w.saved i) })
 
-moved-happening : (w : World) (i : ℕ) (r : Result (NodeState × Answer) Refusal) → ((t : NodeState) (a : Answer) → r ≡ Ok (t, a) → Happening w (record w { current = set w.current i t })) → Happening w (world_after w (moved w i r))
+moved-happening : (w : World) (i : ℕ) (r : Result (NodeState × Answer) Refusal)
+    → ((t : NodeState) (a : Answer) → r ≡ Ok (t, a)
+    → Happening w (record w { current = set w.current i t }))
+    → Happening w (world_after w (moved w i r))
 moved-happening w i (Ok x) h = h x.0 x.1 refl
 moved-happening w i (Err e) h = nothing
 
-delivered-happening : (w : World) (from to number : ℕ) (found : Option Message) → to < length w.current → released w from to number ≡ found → Happening w (world_after w (delivery w from to number found))
+delivered-happening : (w : World) (from to number : ℕ) (found : Option Message)
+    → to < length w.current → released w from to number ≡ found
+    → Happening w (world_after w (delivery w from to number found))
 delivered-happening w from to number None within there = nothing
-delivered-happening w from to number (Some x) within there = moved-happening w to (receive (node_at w.current to) from to number x.stamp x.body) (λ t a h. delivered from to number x t a within there h)
+delivered-happening w from to number (Some x) within there =
+    let m : Delivery = record { from = from; to = to; number = number; message = x } in
+    moved-happening w to (given_to (node_at w.current to) m)
+    (λ t a h. delivered m t a (record { within = within; there = there; answered = h }))
 
--- what is only tested leaves the space as it was
-tested-happening : (w : World) (cs : List (Bool × Refusal)) (o : Outcome) → Happening w (world_after w (guarded cs (w, o)))
-tested-happening w [] o = nothing
-tested-happening w ((true, r) ∷ cs) o = tested-happening w cs o
-tested-happening w ((false, r) ∷ cs) o = nothing
+-- an acknowledgement is handed over, or refused
+pub handing-both : (P : Result (World × Outcome) Refusal → Type 0) (w : World) (from to : ℕ)
+    → P (Ok (w, outcome.Handed (acknowledged w from to))) → ((e : Refusal) → P (Err e))
+    → P (handing w from to)
+handing-both P w from to answered refused =
+    cond_both (is_addressed (node_at w.current from).local to from) _ _ P
+    (λ _. cond_both (leb (acknowledged w from to) (release_count w from to)) _ _ P
+    (λ _. answered) (λ _. refused AckBeyond))
+    (λ _. refused WrongNode)
 
 pub happening : (w : World) (s : Step) → Happening w (happens w s)
 unfolding take_step
 happening w (step.Act i e) =
     cond_both (is_node w i) _ _ (λ r. Happening w (world_after w r))
     (λ within. cond_both (is_own e) _ _ (λ r. Happening w (world_after w r))
-    (λ own. moved-happening w i (act (node_at w.current i) e) (λ t a h. acted i e t a (ltb-true _ _ within) own h))
+    (λ own.
+    moved-happening w i (act (node_at w.current i) e)
+    (λ t a h. acted i e t a (record { within = ltb-true _ _ within; own = own; answered = h })))
     (λ _. nothing))
     (λ _. nothing)
 happening w (step.Save i) =
-    cond_both (is_node w i) _ _ (λ r. Happening w (world_after w r)) (λ within. saved i (ltb-true _ _ within)) (λ _. nothing)
+    cond_both (is_node w i) _ _ (λ r. Happening w (world_after w r))
+    (λ within. saved i (ltb-true _ _ within)) (λ _. nothing)
 happening w (step.Restart i) =
-    cond_both (is_node w i) _ _ (λ r. Happening w (world_after w r)) (λ within. restarted i (ltb-true _ _ within)) (λ _. nothing)
+    cond_both (is_node w i) _ _ (λ r. Happening w (world_after w r))
+    (λ within. restarted i (ltb-true _ _ within)) (λ _. nothing)
 happening w (step.Deliver from to number) =
     cond_both _ _ _ (λ r. Happening w (world_after w r))
-    (λ within. delivered-happening w from to number (released w from to number) (ltb-true _ _ (and_parts (is_node w from) (is_node w to) within).1) refl)
+    (λ within.
+    delivered-happening w from to number (released w from to number)
+    (ltb-true _ _ (and_parts (is_node w from) (is_node w to) within).1) refl)
     (λ _. nothing)
 happening w (step.Hand from to) =
-    cond_both (is_node w from && is_node w to) _ _ (λ r. Happening w (world_after w r))
-    (λ _. cond_both (from == to) _ _ (λ r. Happening w (world_after w r))
-    (λ _. nothing)
-    (λ _. tested-happening w ((is_addressed (node_at w.current from).local to from, WrongNode) ∷ (leb (acknowledged w from to) (release_count w from to), AckBeyond) ∷ []) (outcome.Handed (acknowledged w from to))))
+    let P : Result (World × Outcome) Refusal → Type 0 = λ r. Happening w (world_after w r) in
+    cond_both (is_node w from && is_node w to) _ _ P
+    (λ _. cond_both (from == to) _ _ P (λ _. nothing)
+    (λ _. handing-both P w from to nothing (λ e. nothing)))
     (λ _. nothing)
 
 -- a delivery that was answered
-moved-answer : (w : World) (i : ℕ) (r : Result (NodeState × Answer) Refusal) (a : Answer) → outcome_of (moved w i r) ≡ Ok (outcome.Answer a) → (t : NodeState) × (r ≡ Ok (t, a))
-moved-answer w i (Ok y) a h = let says : y.1 ≡ a = cc in (y.0, ap (λ (z : Answer). Ok (y.0, z)) says)
+moved-answer : (w : World) (i : ℕ) (r : Result (NodeState × Answer) Refusal) (a : Answer)
+    → outcome_of (moved w i r) ≡ Ok (outcome.Answer a) → (t : NodeState) × (r ≡ Ok (t, a))
+moved-answer w i (Ok y) a h =
+    let says : y.1 ≡ a = cc in (y.0, ap (λ (z : Answer). Ok (y.0, z)) says)
 moved-answer w i (Err e) a h = absurd cc
 
-pub deliver-answer : (w : World) (from to number : ℕ) (x : Message) (a : Answer) → released w from to number ≡ Some x → outcome_of (take_step w (step.Deliver from to number)) ≡ Ok (outcome.Answer a) → (t : NodeState) × (receive (node_at w.current to) from to number x.stamp x.body ≡ Ok (t, a))
+pub deliver-answer : (w : World) (m : Delivery) (a : Answer) → IsReleased w m
+    → outcome_of (take_step w (step.Deliver m.from m.to m.number)) ≡ Ok (outcome.Answer a)
+    → (t : NodeState) × (given_to (node_at w.current m.to) m ≡ Ok (t, a))
 unfolding take_step
-deliver-answer w from to number x a there h =
-    let found : outcome_of (delivery w from to number (released w from to number)) ≡ Ok (outcome.Answer a) =
-    cond_both (is_node w from && is_node w to) (delivery w from to number (released w from to number)) (Err NoNode)
-    (λ z. outcome_of z ≡ Ok (outcome.Answer a) → outcome_of (delivery w from to number (released w from to number)) ≡ Ok (outcome.Answer a)) (λ _ e. e) (λ _ e. absurd cc) h in
-    moved-answer w to (receive (node_at w.current to) from to number x.stamp x.body) a
-    (subst (λ (z : Option Message). outcome_of (delivery w from to number z) ≡ Ok (outcome.Answer a)) there found)
+deliver-answer w m a there h =
+    let given : Option Message → Result (World × Outcome) Refusal =
+    delivery w m.from m.to m.number in
+    let found : outcome_of (given (released w m.from m.to m.number)) ≡ Ok (outcome.Answer a) =
+    cond_both (is_node w m.from && is_node w m.to) (given (released w m.from m.to m.number))
+    (Err NoNode)
+    (λ z.
+    outcome_of z ≡ Ok (outcome.Answer a)
+    → outcome_of (given (released w m.from m.to m.number)) ≡ Ok (outcome.Answer a)) (λ _ e. e)
+    (λ _ e. absurd cc) h in
+    moved-answer w m.to (given_to (node_at w.current m.to) m) a
+    (subst (λ (z : Option Message). outcome_of (given z) ≡ Ok (outcome.Answer a)) there found)
 
 -- a message of which every test passes is refused for its numbers alone
-after-err : (s : NodeState) (r : Result Effect Refusal) (e : Refusal) → after s r ≡ Err e → r ≡ Err e
+after-err : (s : NodeState) (r : Result Effect Refusal) (e : Refusal) → after s r ≡ Err e
+    → r ≡ Err e
 after-err s (Ok x) e h = absurd cc
 after-err s (Err f) e h = cc
 
-last-refusal : (ts : List (Bool × Refusal)) (last : Bool × Refusal) (x : Effect) (e : Refusal) → AllPass ts → guarded (ts ++ last ∷ []) x ≡ Err e → last.1 ≡ e
-last-refusal [] last x e passed h = cond_both last.0 (Ok x) (Err last.1) (λ z. z ≡ Err e → last.1 ≡ e) (λ _ never. absurd cc) (λ _ same. cc) h
+last-refusal : (ts : List (Bool × Refusal)) (last : Bool × Refusal) (x : Effect) (e : Refusal)
+    → AllPass ts → guarded (ts ++ last ∷ []) x ≡ Err e → last.1 ≡ e
+last-refusal [] last x e passed h =
+    cond_both last.0 (Ok x) (Err last.1) (λ z. z ≡ Err e → last.1 ≡ e) (λ _ never. absurd cc)
+    (λ _ same. cc) h
 last-refusal ((true, r) ∷ ts) last x e passed h = last-refusal ts last x e passed.1 h
 last-refusal ((false, r) ∷ ts) last x e passed h = let never = passed.0 in absurd cc
 
-pub receive-passed : (s : NodeState) (from to number stamp : ℕ) (b : Body) (e : Refusal) → AllPass (receipt_tests s.local from to number stamp b) → receive s from to number stamp b ≡ Err e → LinkSpent ≡ e
+pub receive-passed : (s : NodeState) (m : Delivery) (e : Refusal) → AllPass (tests_of s m)
+    → given_to s m ≡ Err e → e ≡ LinkSpent
 unfolding receive
-receive-passed s from to number stamp b e passed h =
-    let x : Effect = receipt s.local from number stamp b in
-    let ts : List (Bool × Refusal) = receipt_tests s.local from to number stamp b in
-    last-refusal ts (fits (map length s.sent) x.sends, LinkSpent) x e passed (after-err s (checked ts (map length s.sent) x) e h)
+receive-passed s m e passed h =
+    let x : Effect = receipt s.local m.from m.number m.message.stamp m.message.body in
+    sym (last-refusal (tests_of s m) (fits (map length s.sent) x.sends, LinkSpent) x e passed
+    (after-err s (checked (tests_of s m) (map length s.sent) x) e h))
+
+-- and one that comes before its turn, for that
+pub receive-early : (s : NodeState) (m : Delivery) (e : Refusal)
+    → is_addressed s.local m.from m.to ≡ true → leb m.number (got_from s.local m.from + 1) ≡ false
+    → given_to s m ≡ Err e → e ≡ OutOfOrder
+unfolding receive
+receive-early s m e addressed early refused =
+    let first : given_to s m ≡ Err OutOfOrder =
+    ap (after s) (cond-true _ _ _ addressed ∙ cond-false _ _ _ early) in
+    cc

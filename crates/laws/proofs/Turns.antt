@@ -1,4 +1,5 @@
--- One node of a cut changes, and sends messages: what holds of each node, and what is in flight, afterwards.
+-- One node of a cut changes, and sends messages: what holds of each node, and what is in
+-- flight, afterwards.
 use Rattle.std.proofs.Common.{◌≡◌, ◌≢◌, ℕ, ◌≤◌, List, [], ◌∷◌, ◌++◌, length, get_or, set, Some, slice_get, refl, sym, ap, subst, inl, inr, ⊎_elim, ◌⊎◌, length-append, arith}
 use Rattle.std.proofs.lemmas.Bool.{cases_eq}
 use Rattle.msg.specs.declared.body.Message.{Message}
@@ -15,23 +16,33 @@ pub record Turn (c d : Cut) (i : ℕ) (p : LocalState) (ms : List (ℕ × Messag
   pub heard : (from : ℕ) → taken c from i ≤ got_from p from
 
 -- what holds of the changed node and of the others
-pub at_becomes : (c d : Cut) (i : ℕ) (s : NodeState) (P : ℕ → NodeState → Type 0) → Becomes c d i s → P i s → ((j : ℕ) → j ≢ i → P j (c j)) → (j : ℕ) → P j (d j)
-at_becomes c d i s P b here others j = ⊎_elim
-    (λ (e : j ≡ i). subst (λ (n : ℕ). P n (d n)) (sym e) (subst (λ (z : NodeState). P i z) (sym b.changed) here))
+pub at_becomes : {c d : Cut} {i : ℕ} {s : NodeState} (P : ℕ → NodeState → Type 0) → Becomes c d i s
+    → P i s → ((j : ℕ) → j ≢ i → P j (c j)) → (j : ℕ) → P j (d j)
+at_becomes {d = d} {i = i} P b here others j = ⊎_elim
+    (λ (e : j ≡ i).
+    subst (λ (n : ℕ). P n (d n)) (sym e) (subst (λ (z : NodeState). P i z) (sym b.changed) here))
     (λ (other : j ≢ i). subst (λ (z : NodeState). P j z) (sym (b.others j other)) (others j other))
     (cases_eq j i)
 
-pub at_turn : (c d : Cut) (i : ℕ) (p : LocalState) (ms : List (ℕ × Message)) (P : ℕ → NodeState → Type 0) → Turn c d i p ms → P i (record { local = p; sent = append_all (c i).sent ms }) → ((j : ℕ) → j ≢ i → P j (c j)) → (j : ℕ) → P j (d j)
-at_turn c d i p ms P t here others = at_becomes c d i (record { local = p; sent = append_all (c i).sent ms }) P t.becomes here others
+pub at_turn : {c d : Cut} {i : ℕ} {p : LocalState} {ms : List (ℕ × Message)}
+    (P : ℕ → NodeState → Type 0) → Turn c d i p ms
+    → P i (record { local = p; sent = append_all (c i).sent ms }) → ((j : ℕ) → j ≢ i → P j (c j))
+    → (j : ℕ) → P j (d j)
+at_turn P t here others = at_becomes P t.becomes here others
 
 -- a message among those sent was there before, or is one of the new ones
-appended-from : (sent : List (List Message)) (ms : List (ℕ × Message)) (to place : ℕ) (x : Message) → slice_get (get_or (append_all sent ms) to []) place ≡ Some x → (slice_get (get_or sent to []) place ≡ Some x) ⊎ Among (to, x) ms
+abbrev WasOrNew : List (List Message) → List (ℕ × Message) → ℕ → ℕ → Message → Type 0
+WasOrNew sent ms to place x = (slice_get (get_or sent to []) place ≡ Some x) ⊎ Among (to, x) ms
+
+appended-from : (sent : List (List Message)) (ms : List (ℕ × Message)) (to place : ℕ) (x : Message)
+    → slice_get (get_or (append_all sent ms) to []) place ≡ Some x → WasOrNew sent ms to place x
 appended-from sent [] to place x there = inl there
 appended-from sent ((other, y) ∷ ms) to place x there =
     let longer : List Message = get_or sent other [] ++ y ∷ [] in
-    ⊎_elim {C = (slice_get (get_or sent to []) place ≡ Some x) ⊎ Among (to, x) ((other, y) ∷ ms)}
-    (at_set_if (λ z. slice_get z place ≡ Some x → (slice_get (get_or sent to []) place ≡ Some x) ⊎ Among (to, x) ((other, y) ∷ ms)) sent other to longer []
-    (λ (e : other ≡ to) h. ⊎_elim {C = (slice_get (get_or sent to []) place ≡ Some x) ⊎ Among (to, x) ((other, y) ∷ ms)}
+    ⊎_elim {C = WasOrNew sent ((other, y) ∷ ms) to place x}
+    (at_set_if (λ z. slice_get z place ≡ Some x → WasOrNew sent ((other, y) ∷ ms) to place x) sent
+    other to longer []
+    (λ (e : other ≡ to) h. ⊎_elim {C = WasOrNew sent ((other, y) ∷ ms) to place x}
     (λ before. inl (subst (λ (n : ℕ). slice_get (get_or sent n []) place ≡ Some x) e before))
     (λ (same : x ≡ y). inr (inl cc))
     (slice_get-push (get_or sent other []) y place x h))
@@ -40,19 +51,29 @@ appended-from sent ((other, y) ∷ ms) to place x there =
     (appended-from (set sent other longer) ms to place x there)
 
 -- what is in flight was in flight before, or was sent now
-pub flew : (c d : Cut) (i : ℕ) (p : LocalState) (ms : List (ℕ × Message)) → Turn c d i p ms → (from to place : ℕ) (x : Message) → IsInFlight d from to place x → IsInFlight c from to place x ⊎ ((from ≡ i) × Among (to, x) ms)
-flew c d i p ms t from to place x flight =
-    let fewer : taken c from to ≤ taken d from to = at_turn c d i p ms (λ j s. taken c from j ≤ got_from s.local from) t (t.heard from) (λ j _. omega arith) to in
+pub flew : {c d : Cut} {i : ℕ} {p : LocalState} {ms : List (ℕ × Message)} → Turn c d i p ms
+    → (from to place : ℕ) (x : Message) → IsInFlight d from to place x
+    → IsInFlight c from to place x ⊎ ((from ≡ i) × Among (to, x) ms)
+flew {c = c} {d = d} {i = i} {ms = ms} t from to place x flight =
+    let fewer : taken c from to ≤ taken d from to =
+    at_turn (λ j s. taken c from j ≤ got_from s.local from) t (t.heard from) (λ j _. omega arith)
+    to in
     ⊎_elim {C = IsInFlight c from to place x ⊎ ((from ≡ i) × Among (to, x) ms)}
     (λ before. inl (record { later = omega (arith, flight.later); there = before }))
     (λ new. inr new)
-    (at_turn c d i p ms (λ j s. slice_get (sent_to s to) place ≡ Some x → (slice_get (sent_to (c j) to) place ≡ Some x) ⊎ ((j ≡ i) × Among (to, x) ms)) t
-    (λ there. ⊎_elim {C = (slice_get (sent_to (c i) to) place ≡ Some x) ⊎ ((i ≡ i) × Among (to, x) ms)} (λ before. inl before) (λ new. inr (refl, new)) (appended-from (c i).sent ms to place x there))
+    (at_turn (λ j s.
+    slice_get (sent_to s to) place ≡ Some x
+    → (slice_get (sent_to (c j) to) place ≡ Some x) ⊎ ((j ≡ i) × Among (to, x) ms)) t
+    (λ there.
+    ⊎_elim {C = (slice_get (sent_to (c i) to) place ≡ Some x) ⊎ ((i ≡ i) × Among (to, x) ms)}
+    (λ before. inl before) (λ new. inr (refl, new)) (appended-from (c i).sent ms to place x there))
     (λ j _ there. inl there) from flight.there)
 
 -- what was sent stays sent
-pub sent-grows : (c d : Cut) (i : ℕ) (p : LocalState) (ms : List (ℕ × Message)) → Turn c d i p ms → (from to : ℕ) → length (sent_to (c from) to) ≤ length (sent_to (d from) to)
-sent-grows c d i p ms t from to =
-    at_turn c d i p ms (λ j s. length (sent_to (c j) to) ≤ length (sent_to s to)) t
-    (let more = append_all-grows (c i).sent ms to in omega (arith, ap length more.1, length-append (sent_to (c i) to) more.0))
+pub sent-grows : {c d : Cut} {i : ℕ} {p : LocalState} {ms : List (ℕ × Message)} → Turn c d i p ms
+    → (from to : ℕ) → length (sent_to (c from) to) ≤ length (sent_to (d from) to)
+sent-grows {c = c} {i = i} {ms = ms} t from to =
+    at_turn (λ j s. length (sent_to (c j) to) ≤ length (sent_to s to)) t
+    (let more = append_all-grows (c i).sent ms to in
+    omega (arith, ap length more.1, length-append (sent_to (c i) to) more.0))
     (λ j _. omega arith) from

@@ -1,2 +1,4 @@
 pub mod Receivers
 pub mod Senders
+pub mod Links
+pub mod Ends

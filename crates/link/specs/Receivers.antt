@@ -6,7 +6,8 @@ use Rattle.ids.specs.declared.refusal.Refusal.TheVariants.{OutOfOrder}
 use Rattle.link.specs.declared.receiver.Offer.{Offer}
 use Rattle.link.specs.declared.receiver.Offer.TheVariants.{Next, Repeat}
 
--- the number of the last message that was taken in, and of the last one that a saved node has taken in
+-- the number of the last message that was taken in, and of the last one that a saved node has taken
+-- in
 pub record Received : Type 0 where
   pub taken : ℕ
   pub saved : ℕ
@@ -19,18 +20,14 @@ abbrev pub new_received : Received
 new_received = record { taken = 0; saved = 0 }
 
 -- a message is a repeat up to the last number that was taken in, then the next one, then too early
-abbrev pub offered : Received → ℕ → Result Offer Refusal
-offered r number = cond (nat_le number r.taken) (Ok Repeat) (cond (nat_le number (r.taken + 1)) (Ok Next) (Err OutOfOrder))
+abbrev pub offered : ℕ → ℕ → Result Offer Refusal
+offered taken number =
+    cond (nat_le number taken)
+    (Ok Repeat)
+    (cond (nat_le number (taken + 1)) (Ok Next) (Err OutOfOrder))
 
 abbrev pub taken_next : Received → Received
 taken_next r = record r { taken = r.taken + 1 }
 
 abbrev pub all_saved : Received → Received
 all_saved r = record r { saved = r.taken }
-
--- for lists of them
-abbrev pub taken_of : Received → ℕ
-taken_of r = r.taken
-
-abbrev pub saved_of : Received → ℕ
-saved_of r = r.saved

@@ -1,11 +1,13 @@
-//! The two ends of a link, the messages from one node to another: its [`Sender`] numbers messages from 1
-//! and keeps those that aren't acknowledged, its [`Receiver`] takes them in strictly in order and each
-//! once.
+//! The two ends of a link, the messages from one node to another: its [`Sender`] numbers messages
+//! from 1 and keeps those that aren't acknowledged, its [`Receiver`] takes them in strictly in
+//! order and each once. [`Links`] has the ends that one node holds.
 #![tactic(auto)]
 
+mod links;
 mod receiver;
 mod sender;
 
+pub use links::Links;
 pub use receiver::{Offer, Receiver};
 pub use sender::Sender;
 

@@ -1,4 +1,4 @@
-ghost use Rattle.std.specs.Prelude.{◌≡◌, ◌+◌, ◌<◌};
+ghost use Rattle.std.specs.Prelude.{◌≡◌, ◌+◌, ◌<◌, ◌≤◌};
 ghost use Rattle.ids.specs.declared.limits.TheConstants.{GREATEST_NUMBER};
 ghost use Rattle.link.specs.Receivers.{IsReceived, new_received, offered, taken_next, all_saved};
 
@@ -14,7 +14,8 @@ pub enum Offer {
     Repeat,
 }
 
-/// How much a node has taken in of the messages of another one, and how much of that a saved node holds.
+/// How much a node has taken in of the messages of another one, and how much of that a saved node
+/// holds.
 #[derive(Clone, Copy)]
 pub struct Receiver {
     taken: u64,
@@ -41,11 +42,11 @@ impl Receiver {
         Receiver { taken: 0, saved: 0 }
     }
 
-    /// What the message of this number is: the next one, or a repeat, which is one that was taken in
-    /// before. [`Refusal::OutOfOrder`] where it is a later one than the next. It takes no memory, and
-    /// changes nothing.
+    /// What the message of this number is: the next one, or a repeat, which is one that was taken
+    /// in before. [`Refusal::OutOfOrder`] where it is a later one than the next. It takes no
+    /// memory, and changes nothing.
     pub fn offer(&self, number: u64) -> Result<Offer, Refusal>
-        ensures { result ≡ offered self.now number }
+        ensures { result ≡ offered self.now.taken number }
     {
         if number <= self.taken {
             Ok(Offer::Repeat)
@@ -75,7 +76,8 @@ impl Receiver {
 
     /// The number up to which a saved node has taken in the messages: so many may be acknowledged.
     pub fn ack_number(&self) -> u64
-        ensures { result ≡ self.now.saved }
+        ensures value { result ≡ self.now.saved }
+        ensures within { result ≤ GREATEST_NUMBER }
     {
         self.saved
     }
@@ -85,12 +87,5 @@ impl Receiver {
         ensures { self.new ≡ all_saved self.old }
     {
         self.saved = self.taken;
-    }
-
-    /// Nothing: its contract says what is true of every receiver.
-    pub fn sound(&self)
-        ensures { IsReceived self.now }
-    {
-        let _taken = self.taken;
     }
 }

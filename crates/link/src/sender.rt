@@ -1,7 +1,7 @@
 ghost use Rattle.std.specs.Prelude.{◌≡◌, ◌≢◌, ◌<◌, ◌≤◌, ◌+◌, IfSome, IfOk, IfErr, OnOk, OnErr};
 ghost use Rattle.ids.specs.declared.limits.TheConstants.{GREATEST_NUMBER};
 ghost use Rattle.ids.specs.declared.refusal.Refusal.TheVariants.{AckBeyond, LinkSpent, Memory};
-ghost use Rattle.model.specs.View.{used, appended, trimmed, all_kept, message_of, released_at, no_link};
+ghost use Rattle.model.specs.View.{used, appended, retracted, trimmed, all_kept, message_of, released_at, no_link};
 ghost use Rattle.link.specs.Senders.{IsLink};
 
 use ids::{GREATEST_NUMBER, Refusal, WINDOW};
@@ -10,8 +10,8 @@ use std::alloc::Global;
 use std::collections::VecDeque;
 use std::marker::Model;
 
-/// What a node keeps of its messages to another one: how many were acknowledged, the messages after those,
-/// first one first, and how many of all messages a saved node holds.
+/// What a node keeps of its messages to another one: how many were acknowledged, the messages after
+/// those, first one first, and how many of all messages a saved node holds.
 #[derive(Drop)]
 pub struct Sender {
     base: u64,
@@ -26,9 +26,11 @@ impl Model for Sender {
 
     ghost use Rattle.link.specs.Senders.{IsLink};
 
-    ghost view = { λ s. record { base = s.base; unacknowledged = s.unacknowledged.items; kept = s.kept } };
+    ghost view = { λ s.
+        record { base = s.base; unacknowledged = s.unacknowledged.items; kept = s.kept } };
 
-    ghost invariant = { λ s. IsLink (record { base = s.base; unacknowledged = s.unacknowledged.items; kept = s.kept }) };
+    ghost invariant = { λ s.
+        IsLink (record { base = s.base; unacknowledged = s.unacknowledged.items; kept = s.kept }) };
 }
 
 impl Sender {
@@ -58,20 +60,25 @@ impl Sender {
         self.base
     }
 
-    /// How many messages were released, which are those that a saved node holds: the number of the last
-    /// one.
+    /// How many messages were released, which are those that a saved node holds: the number of the
+    /// last one.
     pub fn released(&self) -> u64
         ensures { result ≡ self.now.kept }
     {
         self.kept
     }
 
-    /// Appends a message, and gives its number. [`Refusal::LinkSpent`] where no number is left,
-    /// [`Refusal::Memory`] where a growth was refused; the sender is then as it was.
+    /// Appends a message, and gives its number. [`Refusal::LinkSpent`] where no number is left;
+    /// where one is, [`Refusal::Memory`] where a growth was refused. The sender is then as it was.
     pub fn append(&mut self, message: Message) -> Result<u64, Refusal>
-        ensures done { IfOk result (λ n. (used self.old < GREATEST_NUMBER) × (self.new ≡ appended self.old message) × (n ≡ used self.old + 1)) }
-        ensures refused { IfErr result (λ e. e ≢ Memory → (e ≡ LinkSpent) × (GREATEST_NUMBER ≤ used self.old)) }
+        ensures room { OnOk result (used self.old < GREATEST_NUMBER) }
+        ensures done { OnOk result (self.new ≡ appended self.old message) }
+        ensures number { IfOk result (λ n. n ≡ used self.old + 1) }
+        ensures refused { IfErr result
+            (λ e. e ≢ Memory → (e ≡ LinkSpent) × (GREATEST_NUMBER ≤ used self.old)) }
+        ensures memory { IfErr result (λ e. e ≡ Memory → used self.old < GREATEST_NUMBER) }
         ensures unchanged { OnErr result (self.new ≡ self.old) }
+        ensures sound { IsLink self.new }
     {
         let number = self.used();
         if number >= GREATEST_NUMBER {
@@ -81,14 +88,26 @@ impl Sender {
         Ok(number + 1)
     }
 
-    /// Lets go of the messages up to this number, which was acknowledged. A smaller number than before
-    /// changes nothing. [`Refusal::AckBeyond`] where it is above what was released; the sender is then as
-    /// it was. It takes no memory, and time for each message that is let go of.
+    /// Takes back the message that was appended last, if no saved node holds it. It takes no
+    /// memory.
+    pub fn retract(&mut self)
+        ensures done { self.new ≡ retracted self.old }
+        ensures sound { IsLink self.new }
+    {
+        if self.kept < self.used() {
+            self.unacknowledged.pop_back();
+        }
+    }
+
+    /// Lets go of the messages up to this number, which was acknowledged. A smaller number than
+    /// before changes nothing. [`Refusal::AckBeyond`] where it is above what was released; the
+    /// sender is then as it was. It takes no memory, and time for each message that is let go of.
     pub fn trim(&mut self, number: u64) -> Result<(), Refusal>
-        ensures done { OnOk result ((number ≤ self.old.kept) × (self.new ≡ trimmed self.old number)) }
+        ensures released { OnOk result (number ≤ self.old.kept) }
+        ensures done { OnOk result (self.new ≡ trimmed self.old number) }
         ensures refused { IfErr result (λ e. (e ≡ AckBeyond) × (self.old.kept < number)) }
         ensures unchanged { OnErr result (self.new ≡ self.old) }
-        ensures kept { self.new.kept ≡ self.old.kept }
+        ensures sound { IsLink self.new }
     {
         if number > self.kept {
             return Err(Refusal::AckBeyond);
@@ -107,8 +126,8 @@ impl Sender {
         self.kept = self.used();
     }
 
-    /// The message of this number, released or not; None where none was appended under it, or it was let
-    /// go of.
+    /// The message of this number, released or not; None where none was appended under it, or it
+    /// was let go of.
     pub fn message(&self, number: u64) -> Option<Message>
         ensures value { result ≡ message_of self.now number }
         ensures within { IfSome result (λ _. number ≤ GREATEST_NUMBER) }
@@ -120,8 +139,8 @@ impl Sender {
         self.unacknowledged.get(place as usize).copied()
     }
 
-    /// The message in this place of the window, which has [`WINDOW`] places and shows released messages
-    /// alone: in the first place is the one after the last acknowledged.
+    /// The message in this place of the window, which has [`WINDOW`] places and shows released
+    /// messages alone: in the first place is the one after the last acknowledged.
     pub fn window(&self, place: u8) -> Option<Message>
         ensures value { result ≡ released_at self.now place }
         ensures within { IfSome result (λ _. self.now.base + 1 + place ≤ GREATEST_NUMBER) }
@@ -135,21 +154,13 @@ impl Sender {
 
     /// A sender that is equal to this one. [`Refusal::Memory`] where a growth was refused.
     pub fn copy(&self, alloc: Global) -> Result<Sender, Refusal>
-        ensures copied { IfOk result (λ s. s ≡ self.now) }
+        ensures same { IfOk result (λ s. s ≡ self.now) }
         ensures refused { IfErr result (λ e. e ≡ Memory) }
     {
-        let _alloc = alloc;
         Ok(Sender {
             base: self.base,
-            unacknowledged: self.unacknowledged.clone()?,
+            unacknowledged: self.unacknowledged.iter().copied().collect(alloc)?,
             kept: self.kept,
         })
-    }
-
-    /// Nothing: its contract says what is true of every sender.
-    pub fn sound(&self)
-        ensures { IsLink self.now }
-    {
-        let _base = self.base;
     }
 }

@@ -1,4 +1,4 @@
-use crate::{Offer, Receiver, Sender};
+use crate::{Links, Offer, Receiver, Sender};
 use ids::Refusal;
 use msg::{Body, Message};
 use std::alloc::Global;
@@ -50,7 +50,6 @@ fn a_new_sender_has_no_messages(rt: HostRuntime) -> Result<(), Refusal> {
     assert_eq!(rt; sender.trim(0), Ok(()));
     assert_eq!(rt; sender.trim(1), Err(Refusal::AckBeyond));
     assert_eq!(rt; shown(&sender), empty);
-    sender.sound();
     Ok(())
 }
 
@@ -122,6 +121,19 @@ fn an_unreleased_message_is_not_let_go_of(rt: HostRuntime) -> Result<(), Refusal
 }
 
 #[test]
+fn an_unsaved_message_is_taken_back(rt: HostRuntime) -> Result<(), Refusal> {
+    let mut sender = released(rt.alloc(), 1)?;
+    assert_eq!(rt; sender.append(letter(2)), Ok(2));
+    let messages = [None, Some(letter(1)), None, None];
+    let window = [Some(letter(1)), None, None, None];
+    for _time in 0..2 {
+        sender.retract();
+        assert_eq!(rt; shown(&sender), ([0, 1, 1], messages, window));
+    }
+    Ok(())
+}
+
+#[test]
 fn a_copy_goes_its_own_way(rt: HostRuntime) -> Result<(), Refusal> {
     let mut original = released(rt.alloc(), 2)?;
     original.trim(1)?;
@@ -159,7 +171,6 @@ fn messages_are_taken_in_in_order(rt: HostRuntime) {
     receiver.take_next();
     assert_eq!(rt; receiver.taken(), 2);
     assert_eq!(rt; offers(&receiver), [repeat, repeat, repeat, next]);
-    receiver.sound();
 }
 
 #[test]
@@ -172,4 +183,53 @@ fn what_was_saved_is_acknowledged(rt: HostRuntime) {
     assert_eq!(rt; (receiver.taken(), receiver.ack_number()), (2, 2));
     receiver.take_next();
     assert_eq!(rt; (receiver.taken(), receiver.ack_number()), (3, 2));
+}
+
+#[test]
+fn each_node_is_sent_its_own_messages(rt: HostRuntime) -> Result<(), Refusal> {
+    let mut links = Links::new(rt.alloc(), 3)?;
+    assert_eq!(rt; links.width(), 3);
+    let numbers = (
+        links.append(1, letter(1))?,
+        links.append(1, letter(2))?,
+        links.append(2, letter(3))?,
+    );
+    assert_eq!(rt; numbers, (1, 2, 1));
+    links.kept();
+    assert_eq!(rt; links.append(2, letter(4))?, 2);
+    assert_eq!(rt; (links.used(0), links.used(1), links.used(2)), (0, 2, 2));
+    links.retract(2);
+    assert_eq!(rt; (links.used(1), links.used(2)), (2, 1));
+
+    links.trim(1, 1)?;
+    assert_eq!(rt; (links.base(1), links.base(2)), (1, 0));
+    assert_eq!(rt; (links.released(1), links.released(2)), (2, 1));
+    assert_eq!(rt;
+        (links.message(1, 1), links.message(2, 1)),
+        (None, Some(letter(3)))
+    );
+    assert_eq!(rt;
+        (links.window(1, 0), links.window(1, 1)),
+        (Some(letter(2)), None)
+    );
+    Ok(())
+}
+
+#[test]
+fn from_each_node_messages_are_taken_in(rt: HostRuntime) -> Result<(), Refusal> {
+    let mut links = Links::new(rt.alloc(), 2)?;
+    assert_eq!(rt; links.offer(1, 1), Ok(Offer::Next));
+    links.take_next(1);
+    assert_eq!(rt;
+        (links.offer(1, 1), links.offer(0, 1)),
+        (Ok(Offer::Repeat), Ok(Offer::Next))
+    );
+    assert_eq!(rt; (links.taken(0), links.taken(1)), (0, 1));
+    assert_eq!(rt; (links.ack_number(0), links.ack_number(1)), (0, 0));
+    links.kept();
+    let copy = links.copy(rt.alloc())?;
+    links.take_next(1);
+    assert_eq!(rt; (links.taken(1), links.ack_number(1)), (2, 1));
+    assert_eq!(rt; (copy.taken(1), copy.ack_number(1)), (1, 1));
+    Ok(())
 }

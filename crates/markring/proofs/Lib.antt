@@ -1,4 +1,6 @@
-pub mod Cuts
+pub mod Calls
+pub mod Chains
+pub mod Found
 pub mod Numbers
 pub mod Printing
 pub mod Replies

@@ -19,12 +19,14 @@ words_of text = filter (λ word. nat_lt 0 (length word)) (slice_split (λ byte. 
 
 -- one digit or more, but not too many, and nothing else
 unfoldable pub is_number : List ℕ → Bool
-is_number word = nat_lt 0 (length word) && (nat_le (length word) MOST_DIGITS && list_all is_ascii_digit word)
+is_number word =
+    nat_lt 0 (length word) && (nat_le (length word) MOST_DIGITS && list_all is_ascii_digit word)
 
 -- the number that a word spells, where it is below the limit
 abbrev pub number_below : ℕ → List ℕ → Option ℕ
 number_below limit word =
-    cond (is_number word) (cond (nat_lt (digits_value 10 word) limit) (Some (digits_value 10 word)) None) None
+    let n = digits_value 10 word in
+    cond (is_number word) (cond (nat_lt n limit) (Some n) None) None
 
 -- a number that fits the type of this name
 unfoldable pub u8_of : List ℕ → Option ℕ
@@ -39,6 +41,19 @@ u32_of word = number_below (2 ^ 32) word
 unfoldable pub u64_of : List ℕ → Option ℕ
 u64_of word = number_below (2 ^ 64) word
 
+-- what is made of numbers, each read from a word in its own way
+abbrev pub Number : Type 0
+Number = List ℕ → Option ℕ
+
+abbrev pub of_two : {X : Type 0} → Number → Number → (ℕ → ℕ → X) → List ℕ → List ℕ → Option X
+of_two first second make a b =
+    option_and_then (λ x. option_map (λ y. make x y) (second b)) (first a)
+
+abbrev pub of_three : {X : Type 0} → Number → Number → Number → (ℕ → ℕ → ℕ → X)
+    → List ℕ → List ℕ → List ℕ → Option X
+of_three first second third make a b c =
+    option_and_then (λ x. of_two second third (λ y z. make x y z) b c) (first a)
+
 -- what a verb says with no operand, with one, with two and with three
 unfoldable pub alone : ℕ → List ℕ → Option Line
 alone node verb =
@@ -47,70 +62,82 @@ alone node verb =
 
 unfoldable pub with_one : List ℕ → List ℕ → Option Event
 with_one verb a =
-    cond (bytes_eq verb (codes "drop")) (option_map (λ register. event.Drop register) (u16_of a))
-    (cond (bytes_eq verb (codes "accept")) (option_map (λ register. event.Accept register) (u16_of a))
-    (cond (bytes_eq verb (codes "word")) (option_map (λ object. event.Word object) (u16_of a)) None))
+    cond (bytes_eq verb (codes "drop"))
+    (option_map (λ register. event.Drop register) (u16_of a))
+    (cond (bytes_eq verb (codes "accept"))
+    (option_map (λ register. event.Accept register) (u16_of a))
+    (cond (bytes_eq verb (codes "word"))
+    (option_map (λ object. event.Word object) (u16_of a)) None))
 
 unfoldable pub with_two : List ℕ → List ℕ → List ℕ → Option Event
 with_two verb a b =
     cond (bytes_eq verb (codes "alloc"))
-    (option_and_then (λ register. option_map (λ places. event.Alloc register places) (u8_of b)) (u16_of a))
+    (of_two u16_of u8_of (λ register places. event.Alloc register places) a b)
     (cond (bytes_eq verb (codes "copy"))
-    (option_and_then (λ register. option_map (λ source. event.Copy register source) (u16_of b)) (u16_of a))
+    (of_two u16_of u16_of (λ register source. event.Copy register source) a b)
     (cond (bytes_eq verb (codes "clear"))
-    (option_and_then (λ object. option_map (λ place. event.Clear object place) (u8_of b)) (u16_of a))
+    (of_two u16_of u8_of (λ object place. event.Clear object place) a b)
     (cond (bytes_eq verb (codes "setword"))
-    (option_and_then (λ object. option_map (λ word. event.SetWord object word) (u64_of b)) (u16_of a)) None)))
+    (of_two u16_of u64_of (λ object word. event.SetWord object word) a b) None)))
 
 unfoldable pub with_three : List ℕ → List ℕ → List ℕ → List ℕ → Option Event
 with_three verb a b c =
     cond (bytes_eq verb (codes "give"))
-    (option_and_then (λ to. option_and_then (λ label. option_map (λ register. event.Give to label register) (u16_of c)) (u32_of b)) (u8_of a))
+    (of_three u8_of u32_of u16_of (λ to label register. event.Give to label register) a b c)
     (cond (bytes_eq verb (codes "load"))
-    (option_and_then (λ register. option_and_then (λ object. option_map (λ place. event.Load register object place) (u8_of c)) (u16_of b)) (u16_of a))
+    (of_three u16_of u16_of u8_of (λ register object place. event.Load register object place) a b c)
     (cond (bytes_eq verb (codes "store"))
-    (option_and_then (λ object. option_and_then (λ place. option_map (λ register. event.Store object place register) (u16_of c)) (u8_of b)) (u16_of a))
+    (of_three u16_of u8_of u16_of (λ object place register. event.Store object place register) a b
+    c)
     (cond (bytes_eq verb (codes "put"))
-    (option_and_then (λ object. option_and_then (λ place. option_map (λ register. event.Put object place register) (u16_of c)) (u8_of b)) (u16_of a))
+    (of_three u16_of u8_of u16_of (λ object place register. event.Put object place register) a b c)
     (cond (bytes_eq verb (codes "get"))
-    (option_and_then (λ object. option_and_then (λ place. option_map (λ label. event.Get object place label) (u32_of c)) (u8_of b)) (u16_of a)) None))))
+    (of_three u16_of u8_of u32_of (λ object place label. event.Get object place label) a b c)
+    None))))
+
+abbrev pub acted : ℕ → Option Event → Option Line
+acted node event = option_map (λ e. line.Step (step.Act node e)) event
 
 -- what stands after a node's number
 unfoldable pub node_line_of : ℕ → List (List ℕ) → Option Line
 node_line_of node (verb ∷ []) = alone node verb
-node_line_of node (verb ∷ a ∷ []) = option_map (λ e. line.Step (step.Act node e)) (with_one verb a)
-node_line_of node (verb ∷ a ∷ b ∷ []) = option_map (λ e. line.Step (step.Act node e)) (with_two verb a b)
-node_line_of node (verb ∷ a ∷ b ∷ c ∷ []) = option_map (λ e. line.Step (step.Act node e)) (with_three verb a b c)
+node_line_of node (verb ∷ a ∷ []) = acted node (with_one verb a)
+node_line_of node (verb ∷ a ∷ b ∷ []) = acted node (with_two verb a b)
+node_line_of node (verb ∷ a ∷ b ∷ c ∷ []) = acted node (with_three verb a b c)
 node_line_of node words = None
 
 -- what stands after `space`
 unfoldable pub space_of : List (List ℕ) → Option Line
 space_of (a ∷ b ∷ c ∷ []) =
-    option_and_then (λ nodes. option_and_then (λ registers. option_map (λ slots. line.Space nodes registers slots) (u32_of c)) (u16_of b)) (u8_of a)
+    of_three u8_of u16_of u32_of (λ nodes registers slots. line.Space nodes registers slots) a b c
 space_of words = None
 
 -- what stands after `deliver`
 unfoldable pub delivery_of : List (List ℕ) → Option Step
 delivery_of (a ∷ b ∷ c ∷ []) =
-    option_and_then (λ from. option_and_then (λ to. option_map (λ number. step.Deliver from to number) (u64_of c)) (u8_of b)) (u8_of a)
+    of_three u8_of u8_of u64_of (λ from to number. step.Deliver from to number) a b c
 delivery_of words = None
 
 -- what stands after `ack`
 unfoldable pub hand_of : List (List ℕ) → Option Step
-hand_of (a ∷ b ∷ []) = option_and_then (λ from. option_map (λ to. step.Hand from to) (u8_of b)) (u8_of a)
+hand_of (a ∷ b ∷ []) = of_two u8_of u8_of (λ from to. step.Hand from to) a b
 hand_of words = None
+
+abbrev pub stepped : Option Step → Option Line
+stepped step = option_map (λ s. line.Step s) step
 
 unfoldable pub command_of : List ℕ → List (List ℕ) → Option Line
 command_of first words =
     cond (bytes_eq first (codes "space")) (space_of words)
-    (cond (bytes_eq first (codes "deliver")) (option_map (λ s. line.Step s) (delivery_of words))
-    (cond (bytes_eq first (codes "ack")) (option_map (λ s. line.Step s) (hand_of words))
+    (cond (bytes_eq first (codes "deliver")) (stepped (delivery_of words))
+    (cond (bytes_eq first (codes "ack")) (stepped (hand_of words))
     (option_and_then (λ node. node_line_of node words) (u8_of first))))
 
 -- what a line of these words says, or none where they are outside the grammar
 unfoldable pub line_of : List (List ℕ) → Option Line
 line_of [] = Some line.Blank
-line_of (first ∷ words) = cond (starts_with (λ x y. x == y) first (codes "#")) (Some line.Blank) (command_of first words)
+line_of (first ∷ words) =
+    cond (starts_with (λ x y. x == y) first (codes "#")) (Some line.Blank) (command_of first words)
 
 -- a line that asks for no event from another node
 abbrev pub is_own_line : Line → Bool

@@ -2,5 +2,4 @@ pub mod Called
 pub mod Frames
 pub mod Grammar
 pub mod Script
-pub mod Space
 pub mod Text

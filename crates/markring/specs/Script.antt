@@ -16,7 +16,7 @@ use Rattle.markring.specs.declared.script.State.{State}
 use Rattle.markring.specs.declared.script.State.TheVariants as state
 use Rattle.markring.specs.Grammar.{line_of, words_of}
 use Rattle.world.specs.Shows.{summary_at}
-use Rattle.markring.specs.Text.{outcome_text, refusal_text, summary_text}
+use Rattle.markring.specs.Text.{outcome_text, refused_text, summary_text}
 use Rattle.node.specs.declared.summary.Summary.{Summary}
 
 -- the space of a script: not asked for yet, refused for want of memory, or there
@@ -33,15 +33,20 @@ ShowsHeld shows (state.Open s) (there w) = shows s w
 ShowsHeld shows s h = ⊥
 
 -- whatever the old state shows, the new one shows what comes of it
-abbrev pub Moves : {S : Type 0} → (S → World → Type 0) → (Held → Held → Type 0) → State S → State S → Type 0
-Moves shows becomes old new = (h : Held) → ShowsHeld shows old h → (later : Held) × becomes h later × ShowsHeld shows new later
+abbrev pub Moves : {S : Type 0} → (S → World → Type 0) → (Held → Held → Type 0) → State S → State S
+    → Type 0
+Moves shows becomes old new =
+    (h : Held) → ShowsHeld shows old h
+    → (later : Held) × becomes h later × ShowsHeld shows new later
 
--- what is printed for a step of a space that is there, and the space afterwards; a step that takes no
--- memory is not refused for want of it
+-- what is printed for a step of a space that is there, and the space afterwards; a step that takes
+-- no memory is not refused for want of it
 abbrev pub IsStepReply : World → Step → Reply → Held → Type 0
-IsStepReply w step (reply.Outcome o) later = (v : World) × (take_step w step ≡ Ok (v, o)) × (later ≡ there v)
+IsStepReply w step (reply.Outcome o) later =
+    (v : World) × (take_step w step ≡ Ok (v, o)) × (later ≡ there v)
 IsStepReply w step (reply.Refused e) later =
-    IsFirstRefusal e (take_step w step) × (is_step_memory_free w step ≡ true → e ≢ Memory) × (later ≡ there w)
+    IsFirstRefusal e (take_step w step) × (is_step_memory_free w step ≡ true → e ≢ Memory)
+    × (later ≡ there w)
 IsStepReply w step reply.Nothing later = ⊥
 IsStepReply w step (reply.Summary s) later = ⊥
 IsStepReply w step reply.NoCommand later = ⊥
@@ -64,7 +69,8 @@ TakesState (there w) node r later = (r ≡ state_reply (summary_at w node)) × (
 -- a space of these sizes is made, or refused for want of memory
 abbrev pub IsNewReply : Shaped → Reply → Held → Type 0
 IsNewReply sizes r later =
-    ((r ≡ reply.Outcome outcome.Done) × (later ≡ there (new_world sizes))) ⊎ ((r ≡ reply.Refused Memory) × (later ≡ denied))
+    ((r ≡ reply.Outcome outcome.Done) × (later ≡ there (new_world sizes)))
+    ⊎ ((r ≡ reply.Refused Memory) × (later ≡ denied))
 
 abbrev pub TakesSpace : Held → Shaped → Reply → Held → Type 0
 TakesSpace awaited sizes r later = IsNewReply sizes r later
@@ -90,8 +96,9 @@ abbrev pub reply_text : ℕ → Reply → List ℕ
 reply_text number reply.Nothing = []
 reply_text number (reply.Outcome o) = outcome_text o ++ (10 ∷ [])
 reply_text number (reply.Summary s) = summary_text s ++ (10 ∷ [])
-reply_text number (reply.Refused e) = refusal_text e ++ (10 ∷ [])
-reply_text number reply.NoCommand = codes "line " ++ (decimal number ++ (codes ": not a command" ++ (10 ∷ [])))
+reply_text number (reply.Refused e) = refused_text e ++ (10 ∷ [])
+reply_text number reply.NoCommand =
+    codes "line " ++ (decimal number ++ (codes ": not a command" ++ (10 ∷ [])))
 
 -- what is printed for replies, of which the first is to the line of this number
 abbrev pub printed : ℕ → List Reply → List ℕ
@@ -119,10 +126,11 @@ GoesOn r rs rest = rest
 abbrev pub Replies : Held → List (List ℕ) → List Reply → Type 0
 Replies h [] rs = rs ≡ []
 Replies h (l ∷ ls) [] = ⊥
-Replies h (l ∷ ls) (r ∷ rs) = (later : Held) × TakesLine h (line_of (words_of l)) r later × GoesOn r rs (Replies later ls rs)
+Replies h (l ∷ ls) (r ∷ rs) =
+    (later : Held) × TakesLine h (line_of (words_of l)) r later × GoesOn r rs (Replies later ls rs)
 
--- the program printed the replies to the script's lines, and ends with the status of the worst; what the
--- output held before and afterwards is said where it is known
+-- the program printed the replies to the script's lines, and ends with the status of the worst;
+-- what the output held before and afterwards is said where it is known
 pub record PrintsReplies (script : List ℕ) (status : ℕ) (old new : Option (List ℕ)) : Type 0 where
   pub replies : List Reply
   pub follow : Replies awaited (lines script) replies
@@ -132,13 +140,15 @@ pub record PrintsReplies (script : List ℕ) (status : ℕ) (old new : Option (L
 -- the program printed why it could not read the script
 abbrev pub PrintsNoScript : ℕ → Option (List ℕ) → Option (List ℕ) → Type 0
 PrintsNoScript status old new =
-    ((status ≡ 2) × Appends old new (codes "file refused" ++ (10 ∷ []))) ⊎ ((status ≡ 1) × Appends old new (refusal_text Memory ++ (10 ∷ [])))
+    ((status ≡ 2) × Appends old new (codes "file refused" ++ (10 ∷ [])))
+    ⊎ ((status ≡ 1) × Appends old new (refused_text Memory ++ (10 ∷ [])))
 
--- why a run of a script ends with a status; what was read is all that the reader had, where that is known
-pub data IsStatusOf (remaining : Option (List ℕ)) (status : ℕ) : Type 0 where
-  -- the replies to the lines were printed
-  replied : (script : List ℕ) → IfSome remaining (λ bytes. script ≡ bytes) → PrintsReplies script status None None → IsStatusOf remaining status
-  -- the script can't be read
-  unread : status ≡ 2 → IsStatusOf remaining status
-  -- memory was refused, or output failed
-  cut : status ≡ 1 → IsStatusOf remaining status
+-- what a run of a script prints, and the status that it ends with; what was read is all that the
+-- reader had, where that is known
+pub data RunsScript (remaining : Option (List ℕ)) (status : ℕ) (old new : Option (List ℕ)) : Type 0
+  where
+    -- the replies to the lines
+    replied : (script : List ℕ) → IfSome remaining (λ bytes. script ≡ bytes)
+        → PrintsReplies script status old new → RunsScript remaining status old new
+    -- that the script can't be read
+    unread : PrintsNoScript status old new → RunsScript remaining status old new

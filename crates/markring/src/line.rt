@@ -9,7 +9,7 @@ ghost use Rattle.markring.specs.Grammar.{alone, u8_of, delivery_of, hand_of, is_
 use model::{Event, Step};
 
 /// The most words that stand after the first of a command.
-const MOST_WORDS: usize = 4;
+const MOST_OPERANDS: usize = 4;
 
 /// The most digits that a number has, leading zeros counted.
 const MOST_DIGITS: usize = 20;
@@ -32,59 +32,30 @@ pub enum Line {
 }
 
 impl Line {
-    /// What the line says, or None where it is outside the grammar.
-    #[tactic(auto, using(crate::proofs::Shapes::command_of_many), unfolding(crate::specs::Grammar::line_of))]
+    /// What the line says, or None where it is outside the grammar. Words are what stands between
+    /// spaces.
     pub fn parse(text: &str) -> Option<Line>
         ensures reads { result ≡ line_of (words_of text.now) }
         ensures own { IfSome result (λ l. IsTrue (is_own_line l)) }
     {
-        let Some((first, rest)) = split_word(text) else {
+        let mut words = text.split(' ').filter(|word| !word.is_empty());
+        let Some(first) = words.next() else {
             return Some(Line::Blank);
         };
         if first.starts_with('#') {
             return Some(Line::Blank);
         }
-        let mut words = [""; MOST_WORDS];
-        let count = split_words(rest, &mut words)?;
-        command(first, &words[..count])
-    }
-}
-
-/// The first word of the text, and what stands after it. Words are what stands between spaces.
-fn split_word(text: &str) -> Option<(&str, &str)>
-    ensures { MatchOption result (words_of text.now ≡ []) (λ x. words_of text.now ≡ x.0.now ∷ words_of x.1.now) }
-{
-    let mut rest = text;
-    while let Some((word, after)) = rest.split_once(' ') {
-        if !word.is_empty() {
-            return Some((word, after));
+        let mut operands = [""; MOST_OPERANDS];
+        let mut count = 0;
+        for word in words {
+            if count == operands.len() {
+                return None;
+            }
+            operands[count] = word;
+            count += 1;
         }
-        rest = after;
+        command(first, &operands[..count])
     }
-    if rest.is_empty() {
-        None
-    } else {
-        Some((rest, ""))
-    }
-}
-
-/// Puts the words of the text at the front, and answers their number; None where they don't fit.
-fn split_words<'a>(text: &'a str, words: &mut [&'a str]) -> Option<usize>
-    ensures within { IfSome result (λ n. n ≤ length words.new) }
-    ensures words { IfSome result (λ n. words_of text.now ≡ map (λ w. w.now) (take n words.new)) }
-    ensures many { IfNone result (length words.old < length (words_of text.now)) }
-{
-    let mut count = 0;
-    let mut rest = text;
-    while let Some((word, after)) = split_word(rest) {
-        if count >= words.len() {
-            return None;
-        }
-        words[count] = word;
-        count += 1;
-        rest = after;
-    }
-    Some(count)
 }
 
 #[tactic(auto, unfolding(crate::specs::Grammar::command_of))]

@@ -11,6 +11,7 @@ mod words;
 
 use frames::decode;
 use script::{REFUSED, print_unread, sim};
+use std::io::{BufWriter, Read};
 use std::process::ExitCode;
 use std::rt::{Env, Files};
 use std::{env, fs, io};
@@ -31,7 +32,7 @@ fn run<R: Env + Files + Input + Print + AllocGlobal>(rt: &R) -> Result<u8, Words
     let alloc = rt.alloc();
     let words: Vec<String> = env::args(rt)?.collect(alloc)?;
     match Command::read(alloc, words.as_slice())? {
-        Command::Sim { script: None } => Ok(sim(alloc, rt.reader(), io::writer(rt))),
+        Command::Sim { script: None } => Ok(sim_buffered(rt, rt.reader())),
         Command::Sim { script: Some(path) } => Ok(sim_file(rt, path)),
         Command::Decode { hex } => Ok(decode(alloc, hex, &mut io::writer(rt))),
     }
@@ -41,9 +42,18 @@ fn run<R: Env + Files + Input + Print + AllocGlobal>(rt: &R) -> Result<u8, Words
 fn sim_file<R: Files + Print + AllocGlobal>(rt: &R, path: &str) -> u8
     ensures { result ≤ 2 }
 {
-    let mut out = io::writer(rt);
     match fs::open(rt, path) {
-        Ok(file) => sim(rt.alloc(), file, out),
-        Err(error) => print_unread(&mut out, error.kind()).unwrap_or(REFUSED),
+        Ok(file) => sim_buffered(rt, file),
+        Err(error) => print_unread(&mut io::writer(rt), error.kind()).unwrap_or(REFUSED),
+    }
+}
+
+/// Runs a script, and prints through a buffer.
+fn sim_buffered<R: Print + AllocGlobal, S: Read + Drop>(rt: &R, script: S) -> u8
+    ensures { result ≤ 2 }
+{
+    match BufWriter::new(rt.alloc(), io::writer(rt)) {
+        Ok(mut out) => sim(rt.alloc(), script, &mut out),
+        Err(error) => print_unread(&mut io::writer(rt), error.kind()).unwrap_or(REFUSED),
     }
 }

@@ -1,20 +1,20 @@
 //! Runs a script over a space of nodes.
-ghost use Rattle.std.specs.Prelude.{◌≡◌, ◌≤◌, IfOk, IfErr, IsTrue, ◌≢◌};
+ghost use Rattle.std.specs.Prelude.{◌≡◌, ◌≤◌, ◌⊎◌, IfOk, IfErr, OnOk, IsTrue, ◌≢◌};
+ghost use Rattle.std.specs.Io.KnownBytes.{Appends};
 ghost use Rattle.ids.specs.declared.refusal.Refusal.TheVariants.{Memory};
-ghost use Rattle.model.specs.World.{World, new_world, is_own_step, is_step_memory_free, take_step};
+ghost use Rattle.model.specs.World.{World, FollowsStep, new_world, is_own_step, is_step_memory_free, take_step};
 ghost use Rattle.world.specs.Shows.{ShowsWorld, summary_at};
-ghost use Rattle.markring.specs.Space.{FollowsStep};
 ghost use Rattle.markring.specs.Grammar.{line_of, words_of};
-ghost use Rattle.markring.specs.Script.{IsStatusOf, Moves, PrintsNoScript, PrintsReplies, TakesLine, TakesSpace, TakesState, TakesStep};
+ghost use Rattle.markring.specs.Script.{Moves, PrintsNoScript, PrintsReplies, RunsScript, TakesLine, TakesSpace, TakesState, TakesStep, reply_text, status_after};
 
 use crate::line::Line;
-use crate::text::{OutcomeText, RefusalText, SummaryText};
+use crate::text::{OutcomeText, SummaryText};
 use ids::{Refusal, Shape};
 use model::{Outcome, Step};
 use node::Summary;
 use std::alloc::Global;
 use std::io;
-use std::io::{BufWriter, ErrorKind, Read, Write};
+use std::io::{ErrorKind, Read, Write};
 use world::Sim;
 
 /// The status where all is done.
@@ -36,12 +36,14 @@ trait Space: Drop + Sized {
         ensures made { IfOk result (λ s. shows s (new_world shape)) }
         ensures refused { IfErr result (λ e. e ≡ Memory) };
 
-    /// Takes a step, or refuses it and changes nothing. A step that takes no memory is not refused for
-    /// want of it.
+    /// Takes a step, or refuses it and changes nothing. A step that takes no memory is not refused
+    /// for want of it.
     fn step(&mut self, step: Step) -> Result<Outcome, Refusal>
         requires own { IsTrue (is_own_step step) }
-        ensures follows { (w : World) → shows self.old w → FollowsStep shows w result self.new (take_step w step) }
-        ensures memory_free { (w : World) → shows self.old w → IsTrue (is_step_memory_free w step) → IfErr result (λ e. e ≢ Memory) };
+        ensures follows { (w : World) → shows self.old w
+            → FollowsStep shows w result self.new (take_step w step) }
+        ensures memory_free { (w : World) → shows self.old w → IsTrue (is_step_memory_free w step)
+            → IfErr result (λ e. e ≢ Memory) };
 
     /// The node of this number in numbers, if there is one.
     fn state(&self, number: u8) -> Option<Summary>
@@ -86,15 +88,19 @@ enum Reply {
     NoCommand,
 }
 
-/// Runs a script in one thread, prints what its lines come to, and answers the program's status: 0 where
-/// no line was refused; 1 where some was, memory was refused or output failed; 2 where the script can't be
-/// read, or a line is outside the grammar. The script is read to its end before its first line is run, and
-/// a line outside the grammar is the last one that is looked at.
-pub fn sim<R: Read + Drop, W: Write + Drop>(alloc: Global, script: R, mut out: W) -> u8
-    ensures status { IsStatusOf (R.remaining script) result }
+/// Runs a script in one thread, prints what its lines come to, and answers the program's status: 0
+/// where no line was refused; 1 where some was, memory was refused or output failed; 2 where the
+/// script can't be read, or a line is outside the grammar. The script is read to its end before its
+/// first line is run, and a line outside the grammar is the last one that is looked at.
+///
+/// Each line is written in several calls, so a writer whose calls cost much is passed in a buffer;
+/// the output is flushed at the end. Where output failed, some of the text may have been written.
+pub fn sim<R: Read + Drop, W: Write>(alloc: Global, script: R, out: &mut W) -> u8
+    ensures status { RunsScript (R.remaining script) result (W.contents out.old) (W.contents out.new)
+        ⊎ (result ≡ 1) }
     ensures small { result ≤ 2 }
 {
-    match run::<Sim, R, W>(alloc, script, &mut out) {
+    match run::<Sim, R, W>(alloc, script, out) {
         Ok(status) => status,
         Err(_) => REFUSED,
     }
@@ -102,30 +108,28 @@ pub fn sim<R: Read + Drop, W: Write + Drop>(alloc: Global, script: R, mut out: W
 
 /// Runs a script, and answers the status; the error is that output failed.
 fn run<S: Space, R: Read + Drop, W: Write>(alloc: Global, script: R, out: &mut W) -> io::Result<u8>
-    ensures { IfOk result (IsStatusOf (R.remaining script)) }
+    ensures { IfOk result (λ status.
+        RunsScript (R.remaining script) status (W.contents out.old) (W.contents out.new)) }
 {
-    let text = match io::read_to_string(alloc, script) {
-        Ok(text) => text,
-        Err(error) => return print_unread(out, error.kind()),
+    let status = match io::read_to_string(alloc, script) {
+        Ok(text) => run_lines::<S, W>(alloc, text.as_str(), out)?,
+        Err(error) => print_unread(out, error.kind())?,
     };
-    let Ok(mut buffered) = BufWriter::new(alloc, &mut *out) else {
-        return print_unread(out, ErrorKind::OutOfMemory);
-    };
-    let status = run_lines::<S, _>(alloc, text.as_str(), &mut buffered)?;
-    buffered.flush()?;
+    out.flush()?;
     Ok(status)
 }
 
-/// Prints that a script can't be read, for an error of this kind, and answers the status: 1 for want of
-/// memory, else 2. The error is that output failed.
+/// Prints that a script can't be read, for an error of this kind, and answers the status: 1 for
+/// want of memory, else 2. The error is that output failed.
 pub fn print_unread<W: Write>(out: &mut W, kind: ErrorKind) -> io::Result<u8>
-    ensures printed { IfOk result (λ status. PrintsNoScript status (W.contents out.old) (W.contents out.new)) }
+    ensures printed { IfOk result (λ status.
+        PrintsNoScript status (W.contents out.old) (W.contents out.new)) }
     ensures memory { kind ≡ ErrorKind.OutOfMemory → IfOk result (λ status. status ≡ 1) }
     ensures other { kind ≢ ErrorKind.OutOfMemory → IfOk result (λ status. status ≡ 2) }
 {
     match kind {
         ErrorKind::OutOfMemory => {
-            writeln!(out, "{}", RefusalText(Refusal::Memory))?;
+            writeln!(out, "refused {}", Refusal::Memory)?;
             Ok(REFUSED)
         }
         _ => {
@@ -137,35 +141,51 @@ pub fn print_unread<W: Write>(out: &mut W, kind: ErrorKind) -> io::Result<u8>
 
 /// Runs a script's lines, and answers the status; the error is that output failed.
 fn run_lines<S: Space, W: Write>(alloc: Global, script: &str, out: &mut W) -> io::Result<u8>
-    ensures { IfOk result (λ status. PrintsReplies script.now status (W.contents out.old) (W.contents out.new)) }
+    ensures { IfOk result (λ status.
+        PrintsReplies script.now status (W.contents out.old) (W.contents out.new)) }
 {
     let mut state = State::<S>::Unopened;
     let mut status = DONE;
     for (index, text) in script.lines().enumerate() {
-        match take_line(alloc, &mut state, text) {
-            Reply::Nothing => {}
-            Reply::Outcome(outcome) => {
-                writeln!(out, "{}", OutcomeText(outcome))?;
-            }
-            Reply::Summary(summary) => {
-                writeln!(out, "{}", SummaryText(summary))?;
-            }
-            Reply::Refused(refusal) => {
-                writeln!(out, "{}", RefusalText(refusal))?;
-                status = REFUSED;
-            }
-            Reply::NoCommand => {
-                writeln!(out, "line {}: not a command", index + 1)?;
-                return Ok(UNREADABLE);
-            }
+        let reply = take_line(alloc, &mut state, text);
+        print_reply(out, index + 1, &reply)?;
+        status = status.max(status_after(&reply));
+        if let Reply::NoCommand = reply {
+            return Ok(status);
         }
     }
     Ok(status)
 }
 
+/// Prints what the line of this number comes to.
+fn print_reply<W: Write>(out: &mut W, number: usize, reply: &Reply) -> io::Result<()>
+    ensures { OnOk result
+        (Appends (W.contents out.old) (W.contents out.new) (reply_text number reply.now)) }
+{
+    match reply {
+        Reply::Nothing => Ok(()),
+        Reply::Outcome(outcome) => writeln!(out, "{}", OutcomeText(*outcome)),
+        Reply::Summary(summary) => writeln!(out, "{}", SummaryText(*summary)),
+        Reply::Refused(refusal) => writeln!(out, "refused {refusal}"),
+        Reply::NoCommand => writeln!(out, "line {number}: not a command"),
+    }
+}
+
+/// The status that a script has at least where a line comes to this.
+fn status_after(reply: &Reply) -> u8
+    ensures { result ≡ status_after reply.now }
+{
+    match reply {
+        Reply::Nothing | Reply::Outcome(_) | Reply::Summary(_) => DONE,
+        Reply::Refused(_) => REFUSED,
+        Reply::NoCommand => UNREADABLE,
+    }
+}
+
 /// Does what the line says.
 fn take_line<S: Space>(alloc: Global, state: &mut State<S>, text: &str) -> Reply
-    ensures { Moves S.shows (λ h later. TakesLine h (line_of (words_of text.now)) result later) state.old state.new }
+    ensures { Moves S.shows (λ h later. TakesLine h (line_of (words_of text.now)) result later)
+        state.old state.new }
 {
     match Line::parse(text) {
         Some(Line::Blank) => Reply::Nothing,

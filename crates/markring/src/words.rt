@@ -1,16 +1,16 @@
 //! The words with which the program is called.
-ghost use Rattle.std.specs.Prelude.{◌≡◌, ◌≤◌, ◌++◌, ◌∷◌, [], None, Ok, IfOk, OnOk, codes, length};
+ghost use Rattle.std.specs.Prelude.{◌≡◌, ◌≤◌, ◌++◌, ◌∷◌, [], None, Ok, IfOk, OnOk, IsTrue, codes, drop, length, map, option_map, string_bytes};
 ghost use Rattle.std.specs.Io.KnownBytes.{Appends};
 ghost use Rattle.std.specs.IoError.{error_kind};
-ghost use Rattle.clap.specs.Words.{kind_of};
+ghost use Rattle.clap.specs.Words.{app_of, kind_of, subcommand_rows_of};
 ghost use Rattle.clap.specs.declared.error.ErrorKind.TheVariants as parse;
 ghost use Rattle.std.specs.declared.io.ErrorKind.TheVariants as io;
 ghost use Rattle.markring.specs.declared.words.WordsError.TheVariants.{OutOfMemory};
-ghost use Rattle.markring.specs.Called.{TellsMemory};
+ghost use Rattle.markring.specs.Called.{Reads, TellsMemory, call_in, call_of, called_of, has_no_dash, program};
 
 use crate::script::{REFUSED, UNREADABLE};
 use clap::error::ErrorKind;
-use clap::{Arg, Error};
+use clap::{Arg, ArgMatches, Error};
 use std::alloc::{AllocError, Global};
 use std::io;
 use std::io::Write;
@@ -65,28 +65,39 @@ impl From<AllocError> for WordsError {
 
 impl<'a> Command<'a> {
     /// The command that the words say, of which the first is the program's name. No words beside it
-    /// say `sim`.
+    /// say `sim`. A word that begins with a dash is read as `clap` reads it.
     pub fn read(alloc: Global, words: &'a [String]) -> Result<Command<'a>, WordsError>
-        ensures { length words.now ≤ 1 → result ≡ Ok (Command.Sim None) }
+        ensures alone { length words.now ≤ 1 → result ≡ Ok (Command.Sim None) }
+        ensures reads { let said = drop 1 (map string_bytes words.now) in
+            IsTrue (has_no_dash said) → Reads (called_of said) result }
     {
         if words.len() <= 1 {
             return Ok(Command::Sim { script: None });
         }
         let matches = known(alloc)?.try_get_matches_from(words)?;
-        match matches.subcommand() {
-            Some(("sim", sim)) => Ok(Command::Sim {
-                script: sim.get_str("script"),
-            }),
-            Some(("decode", decode)) => Ok(Command::Decode {
-                hex: decode.get_str("hex").ok_or(WordsError::Unknown)?,
-            }),
-            _ => Err(WordsError::Unknown),
-        }
+        command_in(&matches).ok_or(WordsError::Unknown)
+    }
+}
+
+/// The command that matches say, which the words of [`known`] have.
+fn command_in<'a>(matches: &ArgMatches<'a>) -> Option<Command<'a>>
+    ensures { option_map call_of result ≡ call_in (subcommand_rows_of matches.now) }
+{
+    match matches.subcommand()? {
+        ("sim", sim) => Some(Command::Sim {
+            script: sim.get_str("script"),
+        }),
+        ("decode", decode) => Some(Command::Decode {
+            hex: decode.get_str("hex")?,
+        }),
+        _ => None,
     }
 }
 
 /// The words that the program knows.
-fn known<'a>(alloc: Global) -> Result<clap::Command<'a>, AllocError> {
+fn known<'a>(alloc: Global) -> Result<clap::Command<'a>, AllocError>
+    ensures { IfOk result (λ c. app_of c ≡ program) }
+{
     let script = Arg::new(alloc, "script");
     let sim = clap::Command::new(alloc, "sim").arg(script)?;
     let hex = Arg::new(alloc, "hex").required(true);
@@ -97,10 +108,11 @@ fn known<'a>(alloc: Global) -> Result<clap::Command<'a>, AllocError> {
         .subcommand(decode)
 }
 
-/// Prints that the words are no command, and answers the status: 1 for want of memory, else 2. The error
-/// is that output failed.
+/// Prints that the words are no command, and answers the status: 1 for want of memory, else 2. The
+/// error is that output failed.
 pub fn print_refused_words<W: Write>(out: &mut W, error: WordsError) -> io::Result<u8>
-    ensures printed { OnOk result (Appends (W.contents out.old) (W.contents out.new) (codes "words refused" ++ 10 ∷ [])) }
+    ensures printed { OnOk result
+        (Appends (W.contents out.old) (W.contents out.new) (codes "words refused" ++ 10 ∷ [])) }
     ensures memory { error ≡ WordsError.OutOfMemory → IfOk result (λ status. status ≡ 1) }
     ensures unknown { error ≡ WordsError.Unknown → IfOk result (λ status. status ≡ 2) }
 {

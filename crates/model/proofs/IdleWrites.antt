@@ -7,28 +7,38 @@ use Rattle.ids.specs.declared.names.Ref.{Ref}
 use Rattle.model.specs.State.{Object, Slot, Free, Occupied, Retired, Heap, slot_at}
 use Rattle.model.specs.Heaps.{object_of, object_at, has_place, rewritten, with_rewritten, with_place}
 
-rewritten-kept : (s : Slot) (g : ℕ) (f : Object → Object) → ((o : Object) → object_of s g ≡ Some o → f o ≡ o) → rewritten f g s ≡ s
+rewritten-kept : (s : Slot) (g : ℕ) (f : Object → Object)
+    → ((o : Object) → object_of s g ≡ Some o → f o ≡ o) → rewritten f g s ≡ s
 rewritten-kept (Free own) g f same = refl
 rewritten-kept (Occupied own x) g f same =
-    elim (eqb own g) as (λ b. ((o : Object) → cond b (Some x) None ≡ Some o → f o ≡ o) → Occupied own (cond b (f x) x) ≡ Occupied own x) [
+    elim (eqb own g) as (λ b.
+    ((o : Object) → cond b (Some x) None ≡ Some o → f o ≡ o)
+    → Occupied own (cond b (f x) x) ≡ Occupied own x) [
       | true ↦ λ same. ap (Occupied own) (same x refl)
       | false ↦ λ same. refl
     ] same
 rewritten-kept Retired g f same = refl
 
 -- where there is no such object, or it stays the same, so does the heap
-pub with_rewritten-kept : (h : Heap) (r : Ref) (f : Object → Object) → ((o : Object) → object_at h r ≡ Some o → f o ≡ o) → with_rewritten h r f ≡ h
+pub with_rewritten-kept : (h : Heap) (r : Ref) (f : Object → Object)
+    → ((o : Object) → object_at h r ≡ Some o → f o ≡ o) → with_rewritten h r f ≡ h
 with_rewritten-kept h r f same =
-    rw (rewritten-kept (slot_at h r.slot) r.generation f same, set-get_or h.slots r.slot Retired) refl
+    rw (rewritten-kept (slot_at h r.slot) r.generation f same, set-get_or h.slots r.slot Retired)
+    refl
 
 -- an object without such a place
-kept-past : (found : Option Object) (place : ℕ) (v : Option Ref) → has_place found place ≡ false → (o : Object) → found ≡ Some o → record o { places = set o.places place v } ≡ o
+kept-past : (found : Option Object) (place : ℕ) (v : Option Ref) → has_place found place ≡ false
+    → (o : Object) → found ≡ Some o → record o { places = set o.places place v } ≡ o
 kept-past None place v past o is = absurd cc
 kept-past (Some x) place v past o is =
     let same : x ≡ o = cc in
-    rw (← same) (ap (λ places. record x { places = places }) (set_out x.places place v (ltb-false place (length x.places) past)))
+    rw (← same)
+    (ap (λ places. record x { places = places })
+    (set_out x.places place v (ltb-false place (length x.places) past)))
 
 -- where there is no such place, nothing changes
-pub with_place-kept : (h : Heap) (r : Ref) (place : ℕ) (v : Option Ref) → has_place (object_at h r) place ≡ false → with_place h r place v ≡ h
+pub with_place-kept : (h : Heap) (r : Ref) (place : ℕ) (v : Option Ref)
+    → has_place (object_at h r) place ≡ false → with_place h r place v ≡ h
 with_place-kept h r place v past =
-    with_rewritten-kept h r (λ o. record o { places = set o.places place v }) (kept-past (object_at h r) place v past)
+    with_rewritten-kept h r (λ o. record o { places = set o.places place v })
+    (kept-past (object_at h r) place v past)

@@ -1,14 +1,19 @@
 -- Each change of a heap keeps a property of all references that the heap holds.
-use Rattle.std.proofs.Common.{◌≡◌, ℕ, zero, suc, cond, ◌==◌, List, [], ◌∷◌, replicate, get_or, Option, Some, None, refl, subst}
+use Rattle.std.proofs.Common.{◌≡◌, ℕ, zero, suc, ◌+◌, true, cond, ◌==◌, List, [], ◌∷◌, drop, replicate, get_or, is_some, Option, Some, None, refl, sym, subst}
+use Rattle.std.specs.List.{AllByRecursion}
+use Rattle.std.specs.Option.{option_to_list, unwrap_or}
 use Rattle.std.proofs.lemmas.Bool.{cond_both}
+use Rattle.std.proofs.lemmas.Grind.{get_or_after_one}
 use Rattle.ids.specs.Limits.{Shaped}
 use Rattle.ids.specs.declared.names.Ref.{Ref}
+use Rattle.model.specs.declared.event.Letter.{Letter}
 use Rattle.model.specs.State.{Object, Slot, Free, Occupied, Retired, Heap, new_heap}
-use Rattle.model.specs.Heaps.{with_register, with_object, new_object, next_generation, slots_with, object_of, object_at, place_of, rewritten, with_rewritten, with_place, with_word}
+use Rattle.model.specs.Heaps.{with_register, with_object, new_object, next_generation, slots_with, object_of, object_at, place_of, rewritten, with_rewritten, with_place, with_word, with_letter, no_letter}
 use Rattle.model.specs.References.{IfAny, HoldsOnly}
 use Rattle.model.proofs.Lookups.{at_set, at_push}
 
-pub holds-with_register : (P : Ref → Type 0) (h : Heap) (k : ℕ) (r : Option Ref) → HoldsOnly P h → IfAny P r → HoldsOnly P (with_register h k r)
+pub holds-with_register : (P : Ref → Type 0) (h : Heap) (k : ℕ) (r : Option Ref) → HoldsOnly P h
+    → IfAny P r → HoldsOnly P (with_register h k r)
 holds-with_register P h k r all here = record {
   registers = λ i. at_set (IfAny P) h.registers k i r None here (all.registers i);
   letters = all.letters;
@@ -22,13 +27,18 @@ empty_place P (suc n) (suc j) = empty_place P n j
 
 -- a new heap holds none
 pub holds-new_heap : (P : Ref → Type 0) (shape : Shaped) → HoldsOnly P (new_heap shape)
-holds-new_heap P shape = record { registers = λ k. empty_place P shape.registers k; letters = λ k. tt; places = λ k g o j e. absurd cc }
+holds-new_heap P shape = record {
+  registers = λ k. empty_place P shape.registers k;
+  letters = λ k. tt;
+  places = λ k g o j e. absurd cc;
+}
 
 -- every object of the slot, if it has one, holds only such references
 abbrev SlotHolds : (P : Ref → Type 0) → Slot → Type 0
 SlotHolds P s = (g : ℕ) (o : Object) (j : ℕ) → s ≡ Occupied g o → IfAny P (get_or o.places j None)
 
-new_slot : (P : Ref → Type 0) (generation cycle places : ℕ) → SlotHolds P (Occupied generation (new_object cycle places))
+new_slot : (P : Ref → Type 0) (generation cycle places : ℕ)
+    → SlotHolds P (Occupied generation (new_object cycle places))
 new_slot P generation cycle places g o j e =
     let same : new_object cycle places ≡ o = cc in
     subst (λ (z : Object). IfAny P (get_or z.places j None)) same (empty_place P places j)
@@ -36,50 +46,124 @@ new_slot P generation cycle places g o j e =
 retired_slot : (P : Ref → Type 0) → SlotHolds P Retired
 retired_slot P g o j e = absurd cc
 
-places-slots_with : (P : Ref → Type 0) (free : List ℕ) (slots : List Slot) (cycle places : ℕ) (k : ℕ) → SlotHolds P (get_or slots k Retired) → SlotHolds P (get_or (slots_with free slots (new_object cycle places)) k Retired)
+places-slots_with : (P : Ref → Type 0) (free : List ℕ) (slots : List Slot) (cycle places : ℕ)
+    (k : ℕ) → SlotHolds P (get_or slots k Retired)
+    → SlotHolds P (get_or (slots_with free slots (new_object cycle places)) k Retired)
 places-slots_with P [] slots cycle places k h =
-    at_push (SlotHolds P) slots k (Occupied 1 (new_object cycle places)) Retired (new_slot P 1 cycle places) (retired_slot P) h
+    at_push (SlotHolds P) slots k (Occupied 1 (new_object cycle places)) Retired
+    (new_slot P 1 cycle places) (retired_slot P) h
 places-slots_with P (i ∷ free) slots cycle places k h =
-    at_set (SlotHolds P) slots i k (Occupied (next_generation (get_or slots i Retired)) (new_object cycle places)) Retired (new_slot P _ cycle places) h
+    at_set (SlotHolds P) slots i k
+    (Occupied (next_generation (get_or slots i Retired)) (new_object cycle places)) Retired
+    (new_slot P _ cycle places) h
 
-pub holds-with_object : (P : Ref → Type 0) (h : Heap) (cycle places : ℕ) → HoldsOnly P h → HoldsOnly P (with_object h (new_object cycle places))
+pub holds-with_object : (P : Ref → Type 0) (h : Heap) (cycle places : ℕ) → HoldsOnly P h
+    → HoldsOnly P (with_object h (new_object cycle places))
 holds-with_object P h cycle places all = record {
   registers = all.registers;
   letters = all.letters;
-  places = λ k g o j e. places-slots_with P h.free h.slots cycle places k (λ g o j. all.places k g o j) g o j e;
+  places = λ k g o j e.
+      places-slots_with P h.free h.slots cycle places k (λ g o j. all.places k g o j) g o j e;
 }
 
 -- a rewritten object, where what rewrites it keeps the property of its places
-rewritten_slot : (P : Ref → Type 0) (f : Object → Object) (generation : ℕ) (s : Slot) → ((o : Object) (j : ℕ) → IfAny P (get_or o.places j None) → IfAny P (get_or (f o).places j None)) → SlotHolds P s → SlotHolds P (rewritten f generation s)
+rewritten_slot : (P : Ref → Type 0) (f : Object → Object) (generation : ℕ) (s : Slot)
+    → ((o : Object) (j : ℕ) → IfAny P (get_or o.places j None)
+    → IfAny P (get_or (f o).places j None)) → SlotHolds P s → SlotHolds P (rewritten f generation s)
 rewritten_slot P f generation (Free k) keeps h g o j e = absurd cc
 rewritten_slot P f generation (Occupied k x) keeps h g o j e =
     let same : cond (k == generation) (f x) x ≡ o = cc in
     subst (λ (z : Object). IfAny P (get_or z.places j None)) same
-    (cond_both (k == generation) (f x) x (λ z. IfAny P (get_or z.places j None)) (λ _. keeps x j (h k x j refl)) (λ _. h k x j refl))
+    (cond_both (k == generation) (f x) x (λ z. IfAny P (get_or z.places j None))
+    (λ _. keeps x j (h k x j refl)) (λ _. h k x j refl))
 rewritten_slot P f generation Retired keeps h g o j e = absurd cc
 
-holds-with_rewritten : (P : Ref → Type 0) (h : Heap) (r : Ref) (f : Object → Object) → ((o : Object) (j : ℕ) → IfAny P (get_or o.places j None) → IfAny P (get_or (f o).places j None)) → HoldsOnly P h → HoldsOnly P (with_rewritten h r f)
+holds-with_rewritten : (P : Ref → Type 0) (h : Heap) (r : Ref) (f : Object → Object)
+    → ((o : Object) (j : ℕ) → IfAny P (get_or o.places j None)
+    → IfAny P (get_or (f o).places j None)) → HoldsOnly P h → HoldsOnly P (with_rewritten h r f)
 holds-with_rewritten P h r f keeps all = record {
   registers = all.registers;
   letters = all.letters;
   places = λ k g o j e.
-      at_set (SlotHolds P) h.slots r.slot k (rewritten f r.generation (get_or h.slots r.slot Retired)) Retired
-      (rewritten_slot P f r.generation (get_or h.slots r.slot Retired) keeps (λ g o j. all.places r.slot g o j))
+      at_set (SlotHolds P) h.slots r.slot k
+      (rewritten f r.generation (get_or h.slots r.slot Retired)) Retired
+      (rewritten_slot P f r.generation (get_or h.slots r.slot Retired) keeps
+      (λ g o j. all.places r.slot g o j))
       (λ g o j. all.places k g o j) g o j e;
 }
 
-pub holds-with_place : (P : Ref → Type 0) (h : Heap) (r : Ref) (place : ℕ) (v : Option Ref) → HoldsOnly P h → IfAny P v → HoldsOnly P (with_place h r place v)
-holds-with_place P h r place v all here = holds-with_rewritten P h r _ (λ o j there. at_set (IfAny P) o.places place j v None here there) all
+pub holds-with_place : (P : Ref → Type 0) (h : Heap) (r : Ref) (place : ℕ) (v : Option Ref)
+    → HoldsOnly P h → IfAny P v → HoldsOnly P (with_place h r place v)
+holds-with_place P h r place v all here =
+    holds-with_rewritten P h r _ (λ o j there. at_set (IfAny P) o.places place j v None here there)
+    all
 
-pub holds-with_word : (P : Ref → Type 0) (h : Heap) (r : Ref) (word : ℕ) → HoldsOnly P h → HoldsOnly P (with_word h r word)
+pub holds-with_word : (P : Ref → Type 0) (h : Heap) (r : Ref) (word : ℕ) → HoldsOnly P h
+    → HoldsOnly P (with_word h r word)
 holds-with_word P h r word all = holds-with_rewritten P h r _ (λ o j there. there) all
 
-place_of-object : (P : Ref → Type 0) (s : Slot) (generation place : ℕ) → SlotHolds P s → IfAny P (place_of (object_of s generation) place)
+place_of-object : (P : Ref → Type 0) (s : Slot) (generation place : ℕ) → SlotHolds P s
+    → IfAny P (place_of (object_of s generation) place)
 place_of-object P (Free g) generation place h = tt
 place_of-object P (Occupied g o) generation place h =
-    cond_both (g == generation) (Some o) None (λ z. IfAny P (place_of z place)) (λ _. h g o place refl) (λ _. tt)
+    cond_both (g == generation) (Some o) None (λ z. IfAny P (place_of z place))
+    (λ _. h g o place refl) (λ _. tt)
 place_of-object P Retired generation place h = tt
 
 -- what stands in a place has the property
-pub holds-place_of : (P : Ref → Type 0) (h : Heap) (r : Ref) (place : ℕ) → HoldsOnly P h → IfAny P (place_of (object_at h r) place)
-holds-place_of P h r place all = place_of-object P (get_or h.slots r.slot Retired) r.generation place (λ g o j. all.places r.slot g o j)
+pub holds-place_of : (P : Ref → Type 0) (h : Heap) (r : Ref) (place : ℕ) → HoldsOnly P h
+    → IfAny P (place_of (object_at h r) place)
+holds-place_of P h r place all =
+    place_of-object P (get_or h.slots r.slot Retired) r.generation place
+    (λ g o j. all.places r.slot g o j)
+
+-- a letter comes, and the oldest letter leaves
+pub holds-with_letter : (P : Ref → Type 0) (h : Heap) (l : Letter) → HoldsOnly P h
+    → IfAny P l.reference → HoldsOnly P (with_letter h l)
+holds-with_letter P h l all here = record {
+  registers = all.registers;
+  letters = λ k.
+      at_push (λ (z : Letter). IfAny P z.reference) h.letters k l no_letter here tt (all.letters k);
+  places = all.places;
+}
+
+pub holds-letter_gone : (P : Ref → Type 0) (h : Heap) → HoldsOnly P h
+    → HoldsOnly P (record h { letters = drop 1 h.letters })
+holds-letter_gone P h all = record {
+  registers = all.registers;
+  letters = λ k.
+      subst (λ (z : Letter). IfAny P z.reference) (sym (get_or_after_one h.letters k no_letter))
+      (all.letters (1 + k));
+  places = all.places;
+}
+
+-- another property, which follows
+pub holds-map : (P Q : Ref → Type 0) → ((r : Ref) → P r → Q r) → (h : Heap) → HoldsOnly P h
+    → HoldsOnly Q h
+holds-map P Q each h all = record {
+  registers = λ k. any-map _ (all.registers k);
+  letters = λ k. any-map _ (all.letters k);
+  places = λ k g o j there. any-map _ (all.places k g o j there);
+}
+  where
+    any-map : (v : Option Ref) → IfAny P v → IfAny Q v
+    any-map None h = tt
+    any-map (Some r) h = each r h
+
+-- an optional reference as a list
+pub any-list : (P : Ref → Type 0) (v : Option Ref) → IfAny P v → AllByRecursion P (option_to_list v)
+any-list P None h = tt
+any-list P (Some r) h = (h, tt)
+
+pub list-any : (P : Ref → Type 0) (v : Option Ref) → AllByRecursion P (option_to_list v) → IfAny P v
+list-any P None h = tt
+list-any P (Some r) h = h.0
+
+-- a reference that is there
+pub any-there : (P : Ref → Type 0) (v : Option Ref) (r : Ref) → is_some v ≡ true → IfAny P v
+    → P (unwrap_or v r)
+any-there P None r there h = absurd cc
+any-there P (Some s) r there h = h
+
+pub any-some : (P : Ref → Type 0) (v : Option Ref) (r : Ref) → IfAny P v → v ≡ Some r → P r
+any-some P v r h there = subst (IfAny P) there h

@@ -1,7 +1,7 @@
--- An event on a node that keeps windows is the event on every state that it shows: proved once, for all
--- events.
+-- An event on a node that keeps windows is the event on every state that it shows: proved
+-- once, for all events.
 use Rattle.std.proofs.Common.{◌≡◌, ℕ, ◌+◌, ◌-◌, ◌<◌, ◌≤◌, min, Bool, true, false, List, [], ◌∷◌, ◌++◌, length, map, drop, get_or, set, Option, Some, None, Result, Ok, Err, refl, ap, sym, ◌∙◌, subst, ⊎_elim, arith, length-append, append-nil}
-use Rattle.std.specs.Prelude.{nat_le}
+use Rattle.std.specs.Prelude.{nat_le, IsOk}
 use Rattle.std.proofs.Math.Nat.{min-le_right, min-eq_left, min-eq_right}
 use Rattle.std.proofs.Math.ListN.{drop_of_length-le}
 use Rattle.std.proofs.lemmas.Bool.{cases_lt, cases_Bool, lt-leb, le-leb, leb-true, leb-false, or_right, cond-true, cond-false}
@@ -23,141 +23,278 @@ use Rattle.model.proofs.Lookups.{both_set, maps_agree}
 use Rattle.std.proofs.lemmas.List.{length-set, length-drop, drop-drop, drop-append-le, set-get_or}
 
 -- one link more message
-shows_appended : (l : Link) (sent : List Message) (x : Message) → ShowsSent l sent → ShowsSent (appended l x) (sent ++ x ∷ [])
+shows_appended : (l : Link) (sent : List Message) (x : Message) → ShowsSent l sent
+    → ShowsSent (appended l x) (sent ++ x ∷ [])
 shows_appended l sent x h = record {
   within = omega (arith, h.within, length-append sent (x ∷ []));
-  unacknowledged = ap (λ w. w ++ x ∷ []) h.unacknowledged ∙ sym (drop-append-le l.base sent (x ∷ []) h.within);
+  unacknowledged = ap (λ w. w ++ x ∷ []) h.unacknowledged
+      ∙ sym (drop-append-le l.base sent (x ∷ []) h.within);
 }
 
 record ShowAll (links : List Link) (sent : List (List Message)) : Type 0 where
   width : length links ≡ length sent
   each : (i : ℕ) → ShowsSent (get_or links i no_link) (get_or sent i [])
 
-shows_sends : (links : List Link) (sent : List (List Message)) (ms : List (ℕ × Message)) → ShowAll links sent → ShowAll (append_to links ms) (append_all sent ms)
+shows_sends : (links : List Link) (sent : List (List Message)) (ms : List (ℕ × Message))
+    → ShowAll links sent → ShowAll (append_to links ms) (append_all sent ms)
 shows_sends links sent [] h = h
 shows_sends links sent (m ∷ ms) h =
-    shows_sends (set links m.0 (appended (get_or links m.0 no_link) m.1)) (set sent m.0 (get_or sent m.0 [] ++ m.1 ∷ [])) ms (record {
+    shows_sends (set links m.0 (appended (get_or links m.0 no_link) m.1))
+    (set sent m.0 (get_or sent m.0 [] ++ m.1 ∷ [])) ms (record {
       width = length-set links m.0 _ ∙ h.width ∙ sym (length-set sent m.0 _);
-      each = both_set ShowsSent links sent no_link [] m.0 _ _ h.width (shows_appended _ _ _ (h.each m.0)) h.each;
+      each = both_set ShowsSent links sent no_link [] m.0 _ _ h.width
+          (shows_appended _ _ _ (h.each m.0)) h.each;
     })
 
 used_is : (l : Link) (sent : List Message) → ShowsSent l sent → used l ≡ length sent
 used_is l sent h = omega (arith, ap length h.unacknowledged, length-drop l.base sent, h.within)
 
 counts_agree : (n : NodeView) (s : NodeState) → Shows n s → map used n.links ≡ map length s.sent
-counts_agree n s h = maps_agree used length n.links s.sent no_link [] h.width (λ k. used_is _ _ (h.links k))
+counts_agree n s h =
+    maps_agree used length n.links s.sent no_link [] h.width (λ k. used_is _ _ (h.links k))
 
 -- letting go of messages shows the same
-shows_trimmed : (l : Link) (sent : List Message) (number : ℕ) → ShowsSent l sent → ShowsSent (trimmed l number) sent
+shows_trimmed : (l : Link) (sent : List Message) (number : ℕ) → ShowsSent l sent
+    → ShowsSent (trimmed l number) sent
 shows_trimmed l sent number h =
     let k = number - l.base in
-    let left : length l.unacknowledged ≡ length sent - l.base = ap length h.unacknowledged ∙ length-drop l.base sent in
-    let few : min k (length l.unacknowledged) ≤ length l.unacknowledged = min-le_right k (length l.unacknowledged) in
-    let gone : drop k l.unacknowledged ≡ drop (l.base + k) sent = ap (drop k) h.unacknowledged ∙ drop-drop k l.base sent in
+    let left : length l.unacknowledged ≡ length sent - l.base =
+    ap length h.unacknowledged ∙ length-drop l.base sent in
+    let few : min k (length l.unacknowledged) ≤ length l.unacknowledged =
+    min-le_right k (length l.unacknowledged) in
+    let gone : drop k l.unacknowledged ≡ drop (l.base + k) sent =
+    ap (drop k) h.unacknowledged ∙ drop-drop k l.base sent in
     record {
       within = omega (arith, few, left, h.within);
-      unacknowledged = ⊎_elim {C = drop k l.unacknowledged ≡ drop (l.base + min k (length l.unacknowledged)) sent}
-          (λ (less : k < length l.unacknowledged). gone ∙ ap (λ (j : ℕ). drop (l.base + j) sent) (sym (min-eq_left (let most : k ≤ length l.unacknowledged = omega arith in most))))
+      unacknowledged = ⊎_elim
+          {C = drop k l.unacknowledged ≡ drop (l.base + min k (length l.unacknowledged)) sent}
+          (λ (less : k < length l.unacknowledged).
+          gone
+          ∙ ap (λ (j : ℕ). drop (l.base + j) sent)
+          (sym (min-eq_left (let most : k ≤ length l.unacknowledged = omega arith in most))))
           (λ (past : length l.unacknowledged ≤ k).
           drop_of_length-le l.unacknowledged past
-          ∙ sym (drop_of_length-le sent (let whole : length sent ≤ l.base + min k (length l.unacknowledged) = omega (arith, min-eq_right past, left, h.within) in whole)))
+          ∙ sym
+          (drop_of_length-le sent
+          (let whole : length sent ≤ l.base + min k (length l.unacknowledged) =
+          omega (arith, min-eq_right past, left, h.within) in
+          whole)))
           (cases_lt k (length l.unacknowledged));
     }
 
-shows_let_go : (links : List Link) (sent : List (List Message)) (o : Option Ack) → ShowAll links sent → ShowAll (let_go links o) sent
+shows_let_go : (links : List Link) (sent : List (List Message)) (o : Option Ack)
+    → ShowAll links sent → ShowAll (let_go links o) sent
 shows_let_go links sent None h = h
 shows_let_go links sent (Some a) h = record {
   width = length-set links a.from _ ∙ h.width;
-  each = subst (λ (z : List (List Message)). (i : ℕ) → ShowsSent (get_or (set links a.from (trimmed (get_or links a.from no_link) a.number)) i no_link) (get_or z i [])) (set-get_or sent a.from [])
-      (both_set ShowsSent links sent no_link [] a.from _ _ h.width (shows_trimmed _ _ a.number (h.each a.from)) h.each);
+  each = subst (λ (z : List (List Message)).
+      (i : ℕ)
+      → ShowsSent
+      (get_or (set links a.from (trimmed (get_or links a.from no_link) a.number)) i no_link)
+      (get_or z i [])) (set-get_or sent a.from [])
+      (both_set ShowsSent links sent no_link [] a.from _ _ h.width
+      (shows_trimmed _ _ a.number (h.each a.from)) h.each);
 }
 
 -- the tests of an acknowledgement that a state can't make
-abbrev unheard : List (Bool × Refusal) → NodeView → Option Ack → List (Bool × Refusal) → List (Bool × Refusal)
+abbrev unheard : List (Bool × Refusal) → NodeView → Option Ack → List (Bool × Refusal)
+    → List (Bool × Refusal)
 unheard ts n o us = (ts ++ ack_tests n o) ++ us
 
-passed-heard : (ts us : List (Bool × Refusal)) (n : NodeView) (o : Option Ack) → AllPass (unheard ts n o us) → AllPass (ts ++ us)
+passed-heard : (ts us : List (Bool × Refusal)) (n : NodeView) (o : Option Ack)
+    → AllPass (unheard ts n o us) → AllPass (ts ++ us)
 passed-heard ts us n o h =
     let parts = passed-parts (ts ++ ack_tests n o) us h in
     passed-both ts us (passed-parts ts (ack_tests n o) parts.0).0 parts.1
 
-refused-heard : {A : Type 0} (ts us : List (Bool × Refusal)) (n : NodeView) (o : Option Ack) (x : A) (e : Refusal) → IsTold o e → guarded (unheard ts n o us) x ≡ Err e → guarded (ts ++ us) x ≡ Err e
-refused-heard ts us n None x e told h = subst (λ (z : List (Bool × Refusal)). guarded (z ++ us) x ≡ Err e) (append-nil ts) h
+refused-heard : {A : Type 0} (ts us : List (Bool × Refusal)) (n : NodeView) (o : Option Ack) (x : A)
+    (e : Refusal) → IsTold o e → guarded (unheard ts n o us) x ≡ Err e
+    → guarded (ts ++ us) x ≡ Err e
+refused-heard ts us n None x e told h =
+    subst (λ (z : List (Bool × Refusal)). guarded (z ++ us) x ≡ Err e) (append-nil ts) h
 refused-heard ts us n (Some a) x e told h = guarded-without ts us _ AckBeyond e x told h
 
-view-ok : (n new : NodeView) (links : List Link) (r : Result Effect Refusal) (a : Answer) → view_after n links r ≡ Ok (new, a) → (x : Effect) × (r ≡ Ok x) × (new ≡ record n { local = x.local; links = append_to links x.sends }) × (a ≡ x.answer)
+pub view-ok : (n new : NodeView) (links : List Link) (r : Result Effect Refusal) (a : Answer)
+    → view_after n links r ≡ Ok (new, a)
+    → (x : Effect) × (r ≡ Ok x)
+    × (new ≡ record n { local = x.local; links = append_to links x.sends }) × (a ≡ x.answer)
 view-ok n new links (Ok x) a h =
-    let both : ◌≡◌ {A = NodeView × Answer} (record n { local = x.local; links = append_to links x.sends }, x.answer) (new, a) = cc in
-    (x, refl, sym (ap (λ (z : NodeView × Answer). z.0) both), sym (ap (λ (z : NodeView × Answer). z.1) both))
+    let both : ◌≡◌ {A = NodeView × Answer}
+    (record n { local = x.local; links = append_to links x.sends }, x.answer) (new, a) =
+    cc in (
+      x,
+      refl,
+      sym (ap (λ (z : NodeView × Answer). z.0) both),
+      sym (ap (λ (z : NodeView × Answer). z.1) both),
+    )
 view-ok n new links (Err e) a h = absurd cc
 
-view-err : (n : NodeView) (links : List Link) (r : Result Effect Refusal) (e : Refusal) → view_after n links r ≡ Err e → r ≡ Err e
+view-answered : (n : NodeView) (links : List Link) (r : Result Effect Refusal)
+    → IsOk (view_after n links r) → (x : Effect) × (r ≡ Ok x)
+view-answered n links (Ok x) h = (x, refl)
+view-answered n links (Err e) h = absurd cc
+
+view-err : (n : NodeView) (links : List Link) (r : Result Effect Refusal) (e : Refusal)
+    → view_after n links r ≡ Err e → r ≡ Err e
 view-err n links (Ok x) e h = absurd cc
 view-err n links (Err f) e h = let same : f ≡ e = cc in ap (λ z. Err z) same
 
 -- the tests, the number of messages and the effect are those of the state
-follows_effect : (n new : NodeView) (s : NodeState) (e : Event) (r : Result Answer Refusal) (ts : List (Bool × Refusal)) (x : Effect) (f : List (Bool × Refusal)) → Shows n s → Performs r new (view_after n (let_go n.links (ack_of e)) (guarded (unheard ts n (ack_of e) f) x)) → Follows e r new (after s (guarded (ts ++ f) x))
+follows_effect : (n new : NodeView) (s : NodeState) (e : Event) (r : Result Answer Refusal)
+    (ts : List (Bool × Refusal)) (x : Effect) (f : List (Bool × Refusal)) → Shows n s
+    → Performs r new
+    (view_after n (let_go n.links (ack_of e)) (guarded (unheard ts n (ack_of e) f) x))
+    → Follows e r new (after s (guarded (ts ++ f) x))
 follows_effect n new s e (Ok a) ts x f h p =
-    let found = view-ok n new (let_go n.links (ack_of e)) (guarded (unheard ts n (ack_of e) f) x) a p in
+    let found =
+    view-ok n new (let_go n.links (ack_of e)) (guarded (unheard ts n (ack_of e) f) x) a p in
     let same : x ≡ found.0 = guarded-ok (unheard ts n (ack_of e) f) x found.0 found.1 in
-    let passed : AllPass (ts ++ f) = passed-heard ts f n (ack_of e) (guarded-passes (unheard ts n (ack_of e) f) x found.0 found.1) in
-    let all : ShowAll (append_to (let_go n.links (ack_of e)) x.sends) (append_all s.sent x.sends) = shows_sends (let_go n.links (ack_of e)) s.sent x.sends (shows_let_go n.links s.sent (ack_of e) (record { width = h.width; each = h.links })) in
-    let shown : Shows (record n { local = x.local; links = append_to (let_go n.links (ack_of e)) x.sends }) (record { local = x.local; sent = append_all s.sent x.sends }) = record { local = refl; width = all.width; links = all.each } in (
+    let passed : AllPass (ts ++ f) =
+    passed-heard ts f n (ack_of e) (guarded-passes (unheard ts n (ack_of e) f) x found.0 found.1) in
+    let all : ShowAll (append_to (let_go n.links (ack_of e)) x.sends) (append_all s.sent x.sends) =
+    shows_sends (let_go n.links (ack_of e)) s.sent x.sends
+    (shows_let_go n.links s.sent (ack_of e) (record { width = h.width; each = h.links })) in
+    let shown : Shows
+    (record n { local = x.local; links = append_to (let_go n.links (ack_of e)) x.sends })
+    (record { local = x.local; sent = append_all s.sent x.sends }) =
+    record { local = refl; width = all.width; links = all.each } in (
       record { local = x.local; sent = append_all s.sent x.sends },
-      ap (after s) (guarded-pass (ts ++ f) x passed) ∙ ap (λ (z : Answer). Ok (record { local = x.local; sent = append_all s.sent x.sends }, z)) (ap (λ (z : Effect). z.answer) same ∙ sym found.3),
-      subst (λ (z : NodeView). Shows z (record { local = x.local; sent = append_all s.sent x.sends })) (ap (λ (z : Effect). record n { local = z.local; links = append_to (let_go n.links (ack_of e)) z.sends }) same ∙ sym found.2) shown,
+      ap (after s) (guarded-pass (ts ++ f) x passed)
+          ∙ ap
+          (λ (z : Answer). Ok (record { local = x.local; sent = append_all s.sent x.sends }, z))
+          (ap (λ (z : Effect). z.answer) same ∙ sym found.3),
+      subst
+          (λ (z : NodeView). Shows z (record { local = x.local; sent = append_all s.sent x.sends }))
+          (ap (λ (z : Effect). record n {
+            local = z.local;
+            links = append_to (let_go n.links (ack_of e)) z.sends;
+          }) same ∙ sym found.2) shown,
     )
-follows_effect n new s e (Err r) ts x f h p = λ told ne.
-    ap (after s) (refused-heard ts f n (ack_of e) x r told (view-err n (let_go n.links (ack_of e)) (guarded (unheard ts n (ack_of e) f) x) r (p ne)))
+follows_effect n new s e (Err r) ts x f h p = λ told. (
+  (λ ne.
+      ap (after s)
+      (refused-heard ts f n (ack_of e) x r told
+      (view-err n (let_go n.links (ack_of e)) (guarded (unheard ts n (ack_of e) f) x) r (p.0 ne)))),
+  (λ full.
+      let found =
+      view-answered n (let_go n.links (ack_of e)) (guarded (unheard ts n (ack_of e) f) x)
+      (p.1 full) in
+      let passed : AllPass (ts ++ f) =
+      passed-heard ts f n (ack_of e)
+      (guarded-passes (unheard ts n (ack_of e) f) x found.0 found.1) in
+      subst (λ (z : Result (NodeState × Answer) Refusal). IsOk z)
+      (sym (ap (after s) (guarded-pass (ts ++ f) x passed))) refl),
+)
 
--- What a node answered to an event, and the node after it, follow the event on every state that it shows.
-pub act-shown : (n new : NodeView) (e : Event) (r : Result Answer Refusal) → Performs r new (view_act n e) → (s : NodeState) → Shows n s → Follows e r new (act s e)
+-- What a node answered to an event, and the node after it, follow the event on every
+-- state that it shows.
+pub act-shown : (n new : NodeView) (e : Event) (r : Result Answer Refusal)
+    → Performs r new (view_act n e) → (s : NodeState) → Shows n s → Follows e r new (act s e)
 unfolding act view_act
 act-shown n new e r p s h =
     let local : n.local ≡ s.local = h.local in
     let counts : map used n.links ≡ map length s.sent = counts_agree n s h in
-    let ready : Performs r new (view_after n (let_go n.links (ack_of e)) (checked (tests s.local e ++ ack_tests n (ack_of e)) (map length s.sent) (made s.local (map length s.sent) e))) =
-    subst (λ (c : List ℕ). Performs r new (view_after n (let_go n.links (ack_of e)) (checked (tests s.local e ++ ack_tests n (ack_of e)) c (made s.local c e)))) counts
-    (subst (λ (z : LocalState). Performs r new (view_after n (let_go n.links (ack_of e)) (checked (tests z e ++ ack_tests n (ack_of e)) (map used n.links) (made z (map used n.links) e)))) local p) in
-    follows_effect n new s e r (tests s.local e) (made s.local (map length s.sent) e) ((fits (map length s.sent) (made s.local (map length s.sent) e).sends, LinkSpent) ∷ []) h ready
+    let ready : Performs r new
+    (view_after n (let_go n.links (ack_of e))
+    (checked (tests s.local e ++ ack_tests n (ack_of e)) (map length s.sent)
+    (made s.local (map length s.sent) e))) =
+    subst (λ (c : List ℕ).
+    Performs r new
+    (view_after n (let_go n.links (ack_of e))
+    (checked (tests s.local e ++ ack_tests n (ack_of e)) c (made s.local c e)))) counts
+    (subst (λ (z : LocalState).
+    Performs r new
+    (view_after n (let_go n.links (ack_of e))
+    (checked (tests z e ++ ack_tests n (ack_of e)) (map used n.links)
+    (made z (map used n.links) e)))) local p) in
+    follows_effect n new s e r (tests s.local e) (made s.local (map length s.sent) e)
+    ((fits (map length s.sent) (made s.local (map length s.sent) e).sends, LinkSpent) ∷ []) h ready
 
 -- a message that the node may take in, in its turn
-pub view-taken_in : (n : NodeView) (d : Data) → is_addressed n.local d.from d.to ≡ true → d.number ≡ got_from n.local d.from + 1 → may_take n.local d.stamp d.body ≡ true → view_act n (event.Data d) ≡ view_done n (taken_in n.local d.from (got_from n.local d.from + 1) d.stamp d.body)
+pub view-taken_in : (n : NodeView) (d : Data) → is_addressed n.local d.from d.to ≡ true
+    → d.number ≡ got_from n.local d.from + 1 → may_take n.local d.stamp d.body ≡ true
+    → view_act n (event.Data d)
+    ≡ view_done n (taken_in n.local d.from (got_from n.local d.from + 1) d.stamp d.body)
 unfolding view_act
 view-taken_in n d addressed turn may =
     let later : got_from n.local d.from < d.number = omega (arith, turn) in
     let inside : d.number ≤ got_from n.local d.from + 1 = omega (arith, turn) in
-    let new : is_repeat n.local d.from d.number ≡ false = lt-leb d.number (got_from n.local d.from) later in
-    let passed : AllPass (receipt_tests n.local d.from d.to d.number d.stamp d.body) = (addressed, (le-leb _ _ inside, (or_right (is_repeat n.local d.from d.number) _ may, tt))) in
-    ap (view_after n n.links) (guarded-passed (receipt_tests n.local d.from d.to d.number d.stamp d.body) ((fits (map used n.links) (receipt n.local d.from d.number d.stamp d.body).sends, LinkSpent) ∷ []) (receipt n.local d.from d.number d.stamp d.body) passed)
-    ∙ ap (view_done n) (cond-false (is_repeat n.local d.from d.number) (unchanged n.local answer.Repeat) (taken_in n.local d.from d.number d.stamp d.body) new ∙ ap (λ (k : ℕ). taken_in n.local d.from k d.stamp d.body) turn)
+    let new : is_repeat n.local d.from d.number ≡ false =
+    lt-leb d.number (got_from n.local d.from) later in
+    let passed : AllPass (receipt_tests n.local d.from d.to d.number d.stamp d.body) =
+    (addressed, (le-leb _ _ inside, (or_right (is_repeat n.local d.from d.number) _ may, tt))) in
+    ap (view_after n n.links)
+    (guarded-passed (receipt_tests n.local d.from d.to d.number d.stamp d.body)
+    ((fits (map used n.links) (receipt n.local d.from d.number d.stamp d.body).sends, LinkSpent)
+    ∷ []) (receipt n.local d.from d.number d.stamp d.body) passed)
+    ∙ ap (view_done n)
+    (cond-false (is_repeat n.local d.from d.number) (unchanged n.local answer.Repeat)
+    (taken_in n.local d.from d.number d.stamp d.body) new
+    ∙ ap (λ (k : ℕ). taken_in n.local d.from k d.stamp d.body) turn)
 
 -- ---- acknowledgements
 
-ack-passes : (n new : NodeView) (a : Ack) (x : Answer) → view_act n (event.Ack a) ≡ Ok (new, x) → (y : Effect) × AllPass ((is_addressed n.local a.from a.to, WrongNode) ∷ (nat_le a.number (link_to n a.from).kept, AckBeyond) ∷ (true, LinkSpent) ∷ []) × (new ≡ record n { local = n.local; links = set n.links a.from (trimmed (link_to n a.from) a.number) })
+ack-passes : (n new : NodeView) (a : Ack) (x : Answer) → view_act n (event.Ack a) ≡ Ok (new, x)
+    → (y : Effect)
+    × AllPass
+    ((is_addressed n.local a.from a.to, WrongNode)
+    ∷ (nat_le a.number (link_to n a.from).kept, AckBeyond) ∷ (true, LinkSpent) ∷ [])
+    × (new
+    ≡ record n {
+      local = n.local;
+      links = set n.links a.from (trimmed (link_to n a.from) a.number);
+    })
 unfolding view_act
 ack-passes n new a x h =
-    let ts : List (Bool × Refusal) = (is_addressed n.local a.from a.to, WrongNode) ∷ (nat_le a.number (link_to n a.from).kept, AckBeyond) ∷ (true, LinkSpent) ∷ [] in
-    let found = view-ok n new (let_go n.links (Some a)) (guarded ts (unchanged n.local answer.Done)) x h in
-    let same : unchanged n.local answer.Done ≡ found.0 = guarded-ok ts (unchanged n.local answer.Done) found.0 found.1 in
-    (found.0, guarded-passes ts (unchanged n.local answer.Done) found.0 found.1, found.2 ∙ ap (λ (z : Effect). record n { local = z.local; links = append_to (let_go n.links (Some a)) z.sends }) (sym same))
+    let ts : List (Bool × Refusal) =
+    (is_addressed n.local a.from a.to, WrongNode)
+    ∷ (nat_le a.number (link_to n a.from).kept, AckBeyond) ∷ (true, LinkSpent) ∷ [] in
+    let found =
+    view-ok n new (let_go n.links (Some a)) (guarded ts (unchanged n.local answer.Done)) x h in
+    let same : unchanged n.local answer.Done ≡ found.0 =
+    guarded-ok ts (unchanged n.local answer.Done) found.0 found.1 in (
+      found.0,
+      guarded-passes ts (unchanged n.local answer.Done) found.0 found.1,
+      found.2
+          ∙ ap (λ (z : Effect). record n {
+            local = z.local;
+            links = append_to (let_go n.links (Some a)) z.sends;
+          }) (sym same),
+    )
 
 -- an acknowledgement that was answered is of released messages, and lets go of them
-pub ack-done : (n new : NodeView) (a : Ack) (x : Answer) → view_act n (event.Ack a) ≡ Ok (new, x) → (a.number ≤ (link_to n a.from).kept) × (new ≡ record n { links = set n.links a.from (trimmed (link_to n a.from) a.number) })
+pub ack-done : (n new : NodeView) (a : Ack) (x : Answer) → view_act n (event.Ack a) ≡ Ok (new, x)
+    → (a.number ≤ (link_to n a.from).kept)
+    × (new ≡ record n { links = set n.links a.from (trimmed (link_to n a.from) a.number) })
 ack-done n new a x h =
     let found = ack-passes n new a x h in
     (leb-true _ _ found.1.1.0, found.2)
 
 -- one that is addressed to the node is refused for what wasn't released alone
-pub ack-refused : (n : NodeView) (a : Ack) (e : Refusal) → is_addressed n.local a.from a.to ≡ true → view_act n (event.Ack a) ≡ Err e → (e ≡ AckBeyond) × ((link_to n a.from).kept < a.number)
+pub ack-refused : (n : NodeView) (a : Ack) (e : Refusal) → is_addressed n.local a.from a.to ≡ true
+    → view_act n (event.Ack a) ≡ Err e → (e ≡ AckBeyond) × ((link_to n a.from).kept < a.number)
 unfolding view_act
 ack-refused n a e addressed h =
-    let ts : List (Bool × Refusal) = (is_addressed n.local a.from a.to, WrongNode) ∷ (nat_le a.number (link_to n a.from).kept, AckBeyond) ∷ (true, LinkSpent) ∷ [] in
-    let r : guarded ts (unchanged n.local answer.Done) ≡ Err e = view-err n (let_go n.links (Some a)) (guarded ts (unchanged n.local answer.Done)) e h in
-    let s : guarded ((nat_le a.number (link_to n a.from).kept, AckBeyond) ∷ (true, LinkSpent) ∷ []) (unchanged n.local answer.Done) ≡ Err e = sym (cond-true (is_addressed n.local a.from a.to) _ (Err WrongNode) addressed) ∙ r in
+    let ts : List (Bool × Refusal) =
+    (is_addressed n.local a.from a.to, WrongNode)
+    ∷ (nat_le a.number (link_to n a.from).kept, AckBeyond) ∷ (true, LinkSpent) ∷ [] in
+    let r : guarded ts (unchanged n.local answer.Done) ≡ Err e =
+    view-err n (let_go n.links (Some a)) (guarded ts (unchanged n.local answer.Done)) e h in
+    let s : guarded ((nat_le a.number (link_to n a.from).kept, AckBeyond) ∷ (true, LinkSpent) ∷ [])
+    (unchanged n.local answer.Done) ≡ Err e =
+    sym (cond-true (is_addressed n.local a.from a.to) _ (Err WrongNode) addressed) ∙ r in
     ⊎_elim {C = (e ≡ AckBeyond) × ((link_to n a.from).kept < a.number)}
-    (λ within. absurd (let wrong : ◌≡◌ {A = Result Effect Refusal} (Ok (unchanged n.local answer.Done)) (Err e) = sym (cond-true (nat_le a.number (link_to n a.from).kept) (Ok (unchanged n.local answer.Done)) (Err AckBeyond) within) ∙ s in cc))
+    (λ within.
+    absurd
+    (let wrong : ◌≡◌ {A = Result Effect Refusal} (Ok (unchanged n.local answer.Done)) (Err e) =
+    sym
+    (cond-true (nat_le a.number (link_to n a.from).kept) (Ok (unchanged n.local answer.Done))
+    (Err AckBeyond) within) ∙ s in
+    cc))
     (λ beyond.
-    let same : ◌≡◌ {A = Result Effect Refusal} (Err AckBeyond) (Err e) = sym (cond-false (nat_le a.number (link_to n a.from).kept) (Ok (unchanged n.local answer.Done)) (Err AckBeyond) beyond) ∙ s in
+    let same : ◌≡◌ {A = Result Effect Refusal} (Err AckBeyond) (Err e) =
+    sym
+    (cond-false (nat_le a.number (link_to n a.from).kept) (Ok (unchanged n.local answer.Done))
+    (Err AckBeyond) beyond) ∙ s in
     (let again : AckBeyond ≡ e = cc in sym again, leb-false _ _ beyond))
     (cases_Bool (nat_le a.number (link_to n a.from).kept))

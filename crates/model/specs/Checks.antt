@@ -1,6 +1,6 @@
--- Refusals: an event is a list of tests, each with the refusal that it answers, in the order in which
--- they are made, and an effect that is defined whatever the tests say.
-use Rattle.std.specs.Prelude.{◌≡◌, ◌≢◌, Bool, true, cond, List, [], ◌∷◌, Result, Ok, Err}
+-- Refusals: an event is a list of tests, each with the refusal that it answers, in the order in
+-- which they are made, and an effect that is defined whatever the tests say.
+use Rattle.std.specs.Prelude.{◌≡◌, ◌≢◌, Bool, true, cond, List, [], ◌∷◌, Result, Ok, Err, IsOk}
 use Rattle.ids.specs.declared.refusal.Refusal.{Refusal}
 use Rattle.ids.specs.declared.refusal.Refusal.TheVariants.{Memory}
 
@@ -14,7 +14,7 @@ abbrev pub AllPass : List (Bool × Refusal) → Type 0
 AllPass [] = Unit {0}
 AllPass (c ∷ cs) = (c.0 ≡ true) × AllPass cs
 
--- What was refused is refused for the first test that fails. Memory may be refused at any time, and is
--- then the refusal whatever the tests say.
+-- What was refused is refused for the first test that fails. Memory comes last: it is refused where
+-- every test passes, in place of an answer.
 abbrev pub IsFirstRefusal : {Y : Type 0} → Refusal → Result Y Refusal → Type 0
-IsFirstRefusal e answer = e ≢ Memory → answer ≡ Err e
+IsFirstRefusal e answer = (e ≢ Memory → answer ≡ Err e) × (e ≡ Memory → IsOk answer)

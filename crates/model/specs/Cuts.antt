@@ -37,23 +37,32 @@ pub record IsLive (c : Cut) (r : Ref) : Type 0 where
   pub object : Object
   pub there : slot_at (c r.node).local.heap r.slot ≡ Occupied r.generation object
 
--- What is reachable: the references in registers and letters, those that messages in flight carry, and
--- with a reference all that stand in the places of its object.
+-- What is reachable: the references in registers and letters, those that messages in flight carry,
+-- and with a reference all that stand in the places of its object.
 pub data Reachable (c : Cut) : Ref → Type 0 where
   in_register : {r : Ref} (i k : ℕ) → register_at (c i).local.heap k ≡ Some r → Reachable c r
-  in_letter : {r : Ref} (i k : ℕ) (l : Letter) → slice_get (c i).local.heap.letters k ≡ Some l → l.reference ≡ Some r → Reachable c r
-  in_message : {r : Ref} (from to place : ℕ) (x : Message) → IsInFlight c from to place x → Among r (carried x.body) → Reachable c r
-  in_place : {r : Ref} (owner : Ref) (o : Object) (k : ℕ) → Reachable c owner → slot_at (c owner.node).local.heap owner.slot ≡ Occupied owner.generation o → slice_index_or o.places k None ≡ Some r → Reachable c r
+  in_letter : {r : Ref} (i k : ℕ) (l : Letter) → slice_get (c i).local.heap.letters k ≡ Some l
+      → l.reference ≡ Some r → Reachable c r
+  in_message : {r : Ref} (from to place : ℕ) (x : Message) → IsInFlight c from to place x
+      → Among r (carried x.body) → Reachable c r
+  in_place : {r : Ref} (owner : Ref) (o : Object) (k : ℕ) → Reachable c owner
+      → slot_at (c owner.node).local.heap owner.slot ≡ Occupied owner.generation o
+      → slice_index_or o.places k None ≡ Some r → Reachable c r
 
 -- one node changes
 pub record Becomes (c d : Cut) (i : ℕ) (s : NodeState) : Type 0 where
   pub changed : d i ≡ s
   pub others : (j : ℕ) → j ≢ i → d j ≡ c j
 
--- a step with no saves and no restarts: a node's own event, or the first message in flight is taken in
+-- a step with no saves and no restarts: a node's own event, or the first message
+-- in flight is taken in
 pub data PlainStep (c d : Cut) : Type 0 where
-  acts : (i : ℕ) (e : Event) (s : NodeState) (a : Answer) → is_own e ≡ true → act (c i) e ≡ Ok (s, a) → Becomes c d i s → PlainStep c d
-  delivers : (from to : ℕ) (x : Message) (s : NodeState) (a : Answer) → IsInFlight c from to (taken c from to) x → receive (c to) from to (taken c from to + 1) x.stamp x.body ≡ Ok (s, a) → Becomes c d to s → PlainStep c d
+  acts : (i : ℕ) (e : Event) (s : NodeState) (a : Answer) → is_own e ≡ true
+      → act (c i) e ≡ Ok (s, a) → Becomes c d i s → PlainStep c d
+  delivers : (from to : ℕ) (x : Message) (s : NodeState) (a : Answer)
+      → IsInFlight c from to (taken c from to) x
+      → receive (c to) from to (taken c from to + 1) x.stamp x.body ≡ Ok (s, a) → Becomes c d to s
+      → PlainStep c d
 
 pub data PlainRun (c : Cut) : Cut → Type 0 where
   still : {d : Cut} → ((i : ℕ) → d i ≡ c i) → PlainRun c d

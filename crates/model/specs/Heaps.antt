@@ -22,7 +22,8 @@ is_filled h k = is_some (register_at h k)
 abbrev pub register_tests : Heap → ℕ → List (Bool × Refusal)
 register_tests h register = (is_register h register, NoRegister) ∷ []
 
--- The slot that was freed last is used first, else the next fresh one. A fresh slot's generation is 1.
+-- The slot that was freed last is used first, else the next fresh one. A fresh
+-- slot's generation is 1.
 abbrev pub has_slot : ℕ → Heap → Bool
 has_slot limit h = nat_lt 0 (length h.free) || nat_lt (length h.slots) limit
 
@@ -42,10 +43,15 @@ generation_for (k ∷ ks) slots = next_generation (slice_index_or slots k Retire
 
 abbrev pub slots_with : List ℕ → List Slot → Object → List Slot
 slots_with [] slots o = slots ++ Occupied 1 o ∷ []
-slots_with (k ∷ ks) slots o = slice_set slots k (Occupied (next_generation (slice_index_or slots k Retired)) o)
+slots_with (k ∷ ks) slots o =
+    slice_set slots k (Occupied (next_generation (slice_index_or slots k Retired)) o)
 
 abbrev pub new_reference : ℕ → Heap → Ref
-new_reference own h = record { node = own; slot = next_slot h.free h.slots; generation = generation_for h.free h.slots }
+new_reference own h = record {
+  node = own;
+  slot = next_slot h.free h.slots;
+  generation = generation_for h.free h.slots;
+}
 
 abbrev pub with_object : Heap → Object → Heap
 with_object h o = record h { slots = slots_with h.free h.slots o; free = drop 1 h.free }
@@ -55,19 +61,23 @@ abbrev pub new_object : ℕ → ℕ → Object
 new_object cycle places = record { word = 0; places = replicate places None; mark = cycle }
 
 abbrev pub alloc_tests : ℕ → Heap → ℕ → ℕ → List (Bool × Refusal)
-alloc_tests limit h register places = (is_register h register, NoRegister) ∷ (nat_le places GREATEST_PLACES, TooManyFields) ∷ (has_slot limit h, ArenaFull) ∷ []
+alloc_tests limit h register places =
+    (is_register h register, NoRegister) ∷ (nat_le places GREATEST_PLACES, TooManyFields)
+    ∷ (has_slot limit h, ArenaFull) ∷ []
 
 abbrev pub alloc_heap : ℕ → ℕ → Heap → ℕ → ℕ → Heap
 alloc_heap own cycle h register places =
     with_register (with_object h (new_object cycle places)) register (Some (new_reference own h))
 
 abbrev pub drop_tests : Heap → ℕ → List (Bool × Refusal)
-drop_tests h register = (is_register h register, NoRegister) ∷ (is_filled h register, EmptyRegister) ∷ []
+drop_tests h register =
+    (is_register h register, NoRegister) ∷ (is_filled h register, EmptyRegister) ∷ []
 
 -- the register becomes what the other one holds
 abbrev pub copy_tests : Heap → ℕ → ℕ → List (Bool × Refusal)
 copy_tests h register source =
-    (is_register h register, NoRegister) ∷ (is_register h source, NoRegister) ∷ (is_filled h source, EmptyRegister) ∷ []
+    (is_register h register, NoRegister) ∷ (is_register h source, NoRegister)
+    ∷ (is_filled h source, EmptyRegister) ∷ []
 
 abbrev pub register_copied : Heap → ℕ → ℕ → Heap
 register_copied h register source = with_register h register (register_at h source)
@@ -113,7 +123,8 @@ rewritten f generation (Occupied g o) = Occupied g (cond (g == generation) (f o)
 rewritten f generation Retired = Retired
 
 abbrev pub with_rewritten : Heap → Ref → (Object → Object) → Heap
-with_rewritten h r f = record h { slots = slice_set h.slots r.slot (rewritten f r.generation (slot_at h r.slot)) }
+with_rewritten h r f =
+    record h { slots = slice_set h.slots r.slot (rewritten f r.generation (slot_at h r.slot)) }
 
 -- A live object's place becomes this. Where there is no such place, nothing changes.
 abbrev pub with_place : Heap → Ref → ℕ → Option Ref → Heap
@@ -189,11 +200,13 @@ abbrev pub oldest_letter : Heap → Letter
 oldest_letter h = slice_index_or h.letters 0 no_letter
 
 abbrev pub accept_tests : Heap → ℕ → List (Bool × Refusal)
-accept_tests h register = (is_register h register, NoRegister) ∷ (nat_lt 0 (length h.letters), NoLetter) ∷ []
+accept_tests h register =
+    (is_register h register, NoRegister) ∷ (nat_lt 0 (length h.letters), NoLetter) ∷ []
 
 -- the oldest letter leaves, and the register becomes its reference, or empty where it has none
 abbrev pub letter_taken : Heap → ℕ → Heap
-letter_taken h register = with_register (record h { letters = drop 1 h.letters }) register (oldest_letter h).reference
+letter_taken h register =
+    with_register (record h { letters = drop 1 h.letters }) register (oldest_letter h).reference
 
 -- a letter comes last
 abbrev pub with_letter : Heap → Letter → Heap
@@ -202,33 +215,40 @@ with_letter h l = record h { letters = h.letters ++ l ∷ [] }
 -- the events of a heap as a whole: what they leave and answer, or the first refusal that applies
 unfoldable pub heap_alloc : ℕ → ℕ → ℕ → Heap → ℕ → ℕ → Result (Heap × Ref) Refusal
 heap_alloc limit own cycle h register places =
-    guarded (alloc_tests limit h register places) (alloc_heap own cycle h register places, new_reference own h)
+    guarded (alloc_tests limit h register places)
+    (alloc_heap own cycle h register places, new_reference own h)
 
 unfoldable pub heap_drop : Heap → ℕ → Result Heap Refusal
 heap_drop h register = guarded (drop_tests h register) (with_register h register None)
 
 unfoldable pub heap_accept : Heap → ℕ → Result (Heap × Letter) Refusal
-heap_accept h register = guarded (accept_tests h register) (letter_taken h register, oldest_letter h)
+heap_accept h register =
+    guarded (accept_tests h register) (letter_taken h register, oldest_letter h)
 
 unfoldable pub heap_register : Heap → ℕ → Result (Option Ref) Refusal
 heap_register h register = guarded (register_tests h register) (register_at h register)
 
 unfoldable pub heap_copy : Heap → ℕ → ℕ → Result Heap Refusal
-heap_copy h register source = guarded (copy_tests h register source) (register_copied h register source)
+heap_copy h register source =
+    guarded (copy_tests h register source) (register_copied h register source)
 
 unfoldable pub heap_load : ℕ → Heap → ℕ → ℕ → ℕ → Result (Heap × Option Ref) Refusal
 heap_load own h register object place =
-    guarded (load_tests own h register object place) (with_register h register (place_loaded h object place), place_loaded h object place)
+    guarded (load_tests own h register object place)
+    (with_register h register (place_loaded h object place), place_loaded h object place)
 
 unfoldable pub heap_store : ℕ → Heap → ℕ → ℕ → ℕ → Result Heap Refusal
 heap_store own h object place register =
-    guarded (store_tests own h object place register) (with_place h (named h object) place (register_at h register))
+    guarded (store_tests own h object place register)
+    (with_place h (named h object) place (register_at h register))
 
 unfoldable pub heap_clear : ℕ → Heap → ℕ → ℕ → Result Heap Refusal
-heap_clear own h object place = guarded (clear_tests own h object place) (with_place h (named h object) place None)
+heap_clear own h object place =
+    guarded (clear_tests own h object place) (with_place h (named h object) place None)
 
 unfoldable pub heap_word : ℕ → Heap → ℕ → Result ℕ Refusal
 heap_word own h object = guarded (word_tests own h object) (word_of (object_at h (named h object)))
 
 unfoldable pub heap_set_word : ℕ → Heap → ℕ → ℕ → Result Heap Refusal
-heap_set_word own h object word = guarded (word_tests own h object) (with_word h (named h object) word)
+heap_set_word own h object word =
+    guarded (word_tests own h object) (with_word h (named h object) word)

@@ -1,5 +1,5 @@
--- Where references stand, and what it means that all of them have some property ("Well-formed nodes" in
--- docs/RULES.md).
+-- Where references stand, and what it means that all of them have some property ("Well-formed
+-- nodes" in docs/RULES.md).
 use Rattle.std.specs.Prelude.{◌≡◌, ℕ, ◌<◌, ◌≤◌, Option, Some, None, slice_index_or}
 use Rattle.std.specs.List.{AllByRecursion}
 use Rattle.ids.specs.Limits.{Shaped}
@@ -21,7 +21,8 @@ IfAny P (Some r) = P r
 pub record HoldsOnly (P : Ref → Type 0) (h : Heap) : Type 0 where
   pub registers : (k : ℕ) → IfAny P (register_at h k)
   pub letters : (k : ℕ) → IfAny P (slice_index_or h.letters k no_letter).reference
-  pub places : (k g : ℕ) (o : Object) (j : ℕ) → slot_at h k ≡ Occupied g o → IfAny P (slice_index_or o.places j None)
+  pub places : (k g : ℕ) (o : Object) (j : ℕ) → slot_at h k ≡ Occupied g o
+      → IfAny P (slice_index_or o.places j None)
 
 -- a reference that the shape has room for
 pub record IsWithin (shape : Shaped) (r : Ref) : Type 0 where
@@ -39,7 +40,8 @@ IsPlaced (body.Put target place reference) = place < GREATEST_PLACES
 IsPlaced (body.Get target place label) = place < GREATEST_PLACES
 IsPlaced b = Unit {0}
 
--- a message whose stamp is a cycle, whose references the shape has room for, and whose place may be one
+-- a message whose stamp is a cycle, whose references the shape has room for, and
+-- whose place may be one
 pub record IsSendable (shape : Shaped) (x : Message) : Type 0 where
   pub stamp : x.stamp ≤ GREATEST_CYCLE
   pub references : AllByRecursion (IsWithin shape) (mentioned x.body)

@@ -1,5 +1,5 @@
--- What a node is, as plain data ("A node" in docs/RULES.md). Look-ups are total: past the end of a list
--- they give a default, and the default node refuses every event.
+-- What a node is, as plain data ("A node" in docs/RULES.md). Look-ups are total: past the end of a
+-- list they give a default, and the default node refuses every event.
 use Rattle.std.specs.Prelude.{ℕ, ℤ, pos, List, [], replicate, Option, None, slice_index_or}
 use Rattle.ids.specs.Limits.{Shaped}
 use Rattle.ids.specs.declared.names.Ref.{Ref}
@@ -15,8 +15,8 @@ pub record Object : Type 0 where
   pub places : List (Option Ref)
   pub mark : ℕ
 
--- A slot is free, with the generation of its next object; or it has an object and its generation; or it
--- has run out of generations.
+-- A slot is free, with the generation of its next object; or it has an object and its generation;
+-- or it has run out of generations.
 pub data Slot : Type 0 where
   Free : ℕ → Slot
   Occupied : ℕ → Object → Slot
@@ -44,9 +44,10 @@ pub record Phases : Type 0 where
 -- the node's part of the ring that finds the end of marking
 pub record Ring : Type 0 where
   pub colour : Colour
-  -- messages sent less those received, of those that count in the current cycle
+  -- messages sent less those received, of those that count in the current cycle; texts say `old`
   pub earlier : ℤ
-  -- the same of those that the next cycle counts: the ones with references and the current cycle's stamp
+  -- The same of those that the next cycle counts: the ones with references and the current
+  -- cycle's stamp. Texts say `cur`.
   pub recent : ℤ
   pub token : Option Token
 
@@ -82,16 +83,36 @@ sent_to s i = slice_index_or s.sent i []
 
 -- a new node
 abbrev pub new_heap : Shaped → Heap
-new_heap shape = record { slots = []; free = []; registers = replicate shape.registers None; letters = []; grey = [] }
+new_heap shape = record {
+  slots = [];
+  free = [];
+  registers = replicate shape.registers None;
+  letters = [];
+  grey = [];
+}
 
 abbrev pub new_phases : ℕ → Phases
-new_phases nodes = record { cycle = 0; ended = 0; swept = 0; cursor = 0; reports = replicate nodes 0 }
+new_phases nodes = record {
+  cycle = 0;
+  ended = 0;
+  swept = 0;
+  cursor = 0;
+  reports = replicate nodes 0;
+}
 
 abbrev pub new_ring : Ring
 new_ring = record { colour = White; earlier = pos 0; recent = pos 0; token = None }
 
 abbrev pub new_local : Shaped → ℕ → LocalState
-new_local shape own = record { shape = shape; own = own; heap = new_heap shape; asked = []; phases = new_phases shape.nodes; ring = new_ring; got = replicate shape.nodes 0 }
+new_local shape own = record {
+  shape = shape;
+  own = own;
+  heap = new_heap shape;
+  asked = [];
+  phases = new_phases shape.nodes;
+  ring = new_ring;
+  got = replicate shape.nodes 0;
+}
 
 abbrev pub new_node : Shaped → ℕ → NodeState
 new_node shape own = record { local = new_local shape own; sent = replicate shape.nodes [] }

@@ -1,5 +1,5 @@
--- What an event does to a node ("Events" in docs/RULES.md). An event is a list of tests in the order of
--- its refusals, an effect that is total, and one last test: that its messages get numbers.
+-- What an event does to a node ("Events" in docs/RULES.md). An event is a list of tests in the
+-- order of its refusals, an effect that is total, and one last test: that its messages get numbers.
 use Rattle.std.specs.Prelude.{ℕ, pos, ◌+◌, ◌+ℤ◌, ◌-ℤ◌, Bool, true, false, ◌&&◌, ◌||◌, not, cond, nat_lt, nat_le, ◌==◌, List, [], ◌∷◌, ◌++◌, length, map, Option, Some, None, option_to_list, Result, Ok, Err, slice_index_or, slice_set}
 use Rattle.ids.specs.Limits.{Shaped}
 use Rattle.ids.specs.declared.names.Ref.{Ref}
@@ -19,7 +19,8 @@ use Rattle.model.specs.Checks.{guarded}
 use Rattle.model.specs.State.{Heap, Ring, LocalState, NodeState, register_at, got_from}
 use Rattle.model.specs.Heaps.{with_register, with_place, with_word, new_reference, named, object_at, word_of, oldest_letter, with_letter, alloc_heap, register_copied, place_of, place_loaded, letter_taken, alloc_tests, copy_tests, drop_tests, load_tests, store_tests, clear_tests, word_tests, put_tests, get_tests, accept_tests, register_tests}
 
--- a node's part after some step, and the messages that it appended, each with its receiver, in order
+-- a node's part after some step, and the messages that it appended, each with
+-- its receiver, in order
 pub record Work : Type 0 where
   pub local : LocalState
   pub sends : List (ℕ × Message)
@@ -45,13 +46,13 @@ becomes p h a = record { local = record p { heap = h }; sends = []; answer = a }
 abbrev pub unchanged : LocalState → Answer → Effect
 unchanged p a = record { local = p; sends = []; answer = a }
 
--- The messages that carry references are counted: one that is sent counts one up at its sender, with those
--- of the current cycle.
+-- The messages that carry references are counted: one that is sent counts one up at its sender,
+-- with those of the current cycle.
 abbrev pub counted_up : LocalState → LocalState
 counted_up p = record p { ring = record p.ring { recent = p.ring.recent +ℤ pos 1 } }
 
--- a message that carries references to another node; counts says for each node how many messages were
--- appended so far
+-- a message that carries references to another node; counts says for each node how many messages
+-- were appended so far
 abbrev pub sends_one : LocalState → List ℕ → ℕ → Body → Effect
 sends_one p counts to b =
     record {
@@ -63,7 +64,8 @@ sends_one p counts to b =
 -- Alloc
 unfoldable pub allocated : LocalState → ℕ → ℕ → Effect
 allocated p register places =
-    becomes p (alloc_heap p.own p.phases.cycle p.heap register places) (answer.New (new_reference p.own p.heap))
+    becomes p (alloc_heap p.own p.phases.cycle p.heap register places)
+    (answer.New (new_reference p.own p.heap))
 
 -- Copy
 unfoldable pub copied : LocalState → ℕ → ℕ → Effect
@@ -76,12 +78,14 @@ dropped p register = becomes p (with_register p.heap register None) answer.Done
 -- Load
 unfoldable pub loaded : LocalState → ℕ → ℕ → ℕ → Effect
 loaded p register object place =
-    becomes p (with_register p.heap register (place_loaded p.heap object place)) (answer.Value (place_loaded p.heap object place))
+    becomes p (with_register p.heap register (place_loaded p.heap object place))
+    (answer.Value (place_loaded p.heap object place))
 
 -- Store
 unfoldable pub stored : LocalState → ℕ → ℕ → ℕ → Effect
 stored p object place register =
-    becomes p (with_place p.heap (named p.heap object) place (register_at p.heap register)) answer.Done
+    becomes p (with_place p.heap (named p.heap object) place (register_at p.heap register))
+    answer.Done
 
 -- Clear
 unfoldable pub cleared : LocalState → ℕ → ℕ → Effect
@@ -97,16 +101,19 @@ word_set p object word = becomes p (with_word p.heap (named p.heap object) word)
 
 -- Give: what the register holds goes to another node
 unfoldable pub given : LocalState → List ℕ → ℕ → ℕ → ℕ → Effect
-given p counts to label register = sends_one p counts to (body.Give label (register_at p.heap register))
+given p counts to label register =
+    sends_one p counts to (body.Give label (register_at p.heap register))
 
 -- Accept: the oldest letter leaves
 unfoldable pub accepted : LocalState → ℕ → Effect
-accepted p register = becomes p (letter_taken p.heap register) (answer.Letter (oldest_letter p.heap))
+accepted p register =
+    becomes p (letter_taken p.heap register) (answer.Letter (oldest_letter p.heap))
 
 -- Put: the owner of the object is asked to put what the register holds into a place of it
 unfoldable pub put_asked : LocalState → List ℕ → ℕ → ℕ → ℕ → Effect
 put_asked p counts object place register =
-    sends_one p counts (named p.heap object).node (body.Put (named p.heap object) place (register_at p.heap register))
+    sends_one p counts (named p.heap object).node
+    (body.Put (named p.heap object) place (register_at p.heap register))
 
 -- Get: the owner of the object is asked for what stands in a place of it
 unfoldable pub get_asked : LocalState → List ℕ → ℕ → ℕ → ℕ → Effect
@@ -134,8 +141,8 @@ mentioned (body.Get target place label) = target ∷ []
 mentioned body.Ended = []
 mentioned body.Swept = []
 
--- The references that a message carries, in the order in which they are shaded. A Mark carries none: it
--- only asks about one.
+-- The references that a message carries, in the order in which they are shaded. A Mark carries
+-- none: it only asks about one.
 abbrev pub carried : Body → List Ref
 carried body.Begin = []
 carried (body.Token token) = []
@@ -170,20 +177,23 @@ may_follow own b = false
 
 -- a message that the node may take in, in its turn
 abbrev pub may_take : LocalState → ℕ → Body → Bool
-may_take p stamp b = nat_le stamp p.phases.cycle && (are_within p.shape (mentioned b) && may_follow p.own b)
+may_take p stamp b =
+    nat_le stamp p.phases.cycle && (are_within p.shape (mentioned b) && may_follow p.own b)
 
--- a body that is counted: it carries references, whether or not the one that may be left out is there
+-- a body that is counted: it carries references, whether or not the one that may
+-- be left out is there
 abbrev pub is_reference : Body → Bool
 is_reference (body.Give label reference) = true
 is_reference (body.Put target place reference) = true
 is_reference (body.Get target place label) = true
 is_reference b = false
 
--- A counted message that is taken in counts one down: with those of the current cycle where it was sent in
--- that cycle. One of an earlier cycle counts with those, and makes the node black.
+-- A counted message that is taken in counts one down: with those of the current cycle where it was
+-- sent in that cycle. One of an earlier cycle counts with those, and makes the node black.
 abbrev pub counted_down : ℕ → ℕ → Ring → Ring
 counted_down cycle stamp r =
-    cond (nat_lt stamp cycle) (record r { colour = Black; earlier = r.earlier -ℤ pos 1 }) (record r { recent = r.recent -ℤ pos 1 })
+    cond (nat_lt stamp cycle) (record r { colour = Black; earlier = r.earlier -ℤ pos 1 })
+    (record r { recent = r.recent -ℤ pos 1 })
 
 -- the message counts as taken in
 unfoldable pub count_in : LocalState → ℕ → ℕ → ℕ → Body → Work
@@ -196,11 +206,15 @@ count_in p from number stamp b =
       sends = [];
     }
 
--- what its body asks for: a letter is added; a place is written; what stands in a place is sent back
+-- what its body asks for: a letter is added; a place is written; what stands in
+-- a place is sent back
 unfoldable pub take_body : ℕ → Body → LocalState → Work
 take_body from (body.Give label reference) p =
     record {
-      local = record p { heap = with_letter p.heap (record { from = from; label = label; reference = reference }) };
+      local = record p {
+        heap = with_letter p.heap
+            (record { from = from; label = label; reference = reference });
+      };
       sends = [];
     }
 take_body from (body.Put target place reference) p =
@@ -208,12 +222,19 @@ take_body from (body.Put target place reference) p =
 take_body from (body.Get target place label) p =
     record {
       local = counted_up p;
-      sends = (from, record { stamp = p.phases.cycle; body = body.Give label (place_of (object_at p.heap target) place) }) ∷ [];
+      sends = (
+        from,
+        record {
+          stamp = p.phases.cycle;
+          body = body.Give label (place_of (object_at p.heap target) place);
+        },
+      ) ∷ [];
     }
 take_body from b p = record { local = p; sends = [] }
 
 unfoldable pub taken_in : LocalState → ℕ → ℕ → ℕ → Body → Effect
-taken_in p from number stamp b = answers (then (count_in p from number stamp b) (take_body from b)) answer.Received
+taken_in p from number stamp b =
+    answers (then (count_in p from number stamp b) (take_body from b)) answer.Received
 
 abbrev pub receipt_tests : LocalState → ℕ → ℕ → ℕ → ℕ → Body → List (Bool × Refusal)
 receipt_tests p from to number stamp b =
@@ -236,7 +257,9 @@ tests p (event.Store object place register) = store_tests p.own p.heap object pl
 tests p (event.Clear object place) = clear_tests p.own p.heap object place
 tests p (event.Word object) = word_tests p.own p.heap object
 tests p (event.SetWord object word) = word_tests p.own p.heap object
-tests p (event.Give to label register) = (nat_lt to p.shape.nodes, NoNode) ∷ (not (to == p.own), SelfSend) ∷ register_tests p.heap register
+tests p (event.Give to label register) =
+    (nat_lt to p.shape.nodes, NoNode) ∷ (not (to == p.own), SelfSend)
+    ∷ register_tests p.heap register
 tests p (event.Accept register) = accept_tests p.heap register
 tests p (event.Put object place register) = put_tests p.own p.heap object place register
 tests p (event.Get object place label) = get_tests p.own p.heap object place
@@ -264,7 +287,8 @@ made p counts (event.Ack a) = unchanged p answer.Done
 abbrev pub fits : List ℕ → List (ℕ × Message) → Bool
 fits counts [] = true
 fits counts (m ∷ ms) =
-    nat_lt (slice_index_or counts m.0 0) GREATEST_NUMBER && fits (slice_set counts m.0 (slice_index_or counts m.0 0 + 1)) ms
+    nat_lt (slice_index_or counts m.0 0) GREATEST_NUMBER
+    && fits (slice_set counts m.0 (slice_index_or counts m.0 0 + 1)) ms
 
 abbrev pub all_tests : List (Bool × Refusal) → List ℕ → Effect → List (Bool × Refusal)
 all_tests ts counts x = ts ++ (fits counts x.sends, LinkSpent) ∷ []
@@ -282,7 +306,8 @@ received p counts from to number stamp b =
 -- each message at the end of what was sent to its receiver
 abbrev pub append_all : List (List Message) → List (ℕ × Message) → List (List Message)
 append_all sent [] = sent
-append_all sent (m ∷ ms) = append_all (slice_set sent m.0 (slice_index_or sent m.0 [] ++ m.1 ∷ [])) ms
+append_all sent (m ∷ ms) =
+    append_all (slice_set sent m.0 (slice_index_or sent m.0 [] ++ m.1 ∷ [])) ms
 
 abbrev pub after : NodeState → Result Effect Refusal → Result (NodeState × Answer) Refusal
 after s (Ok x) = Ok (record { local = x.local; sent = append_all s.sent x.sends }, x.answer)
@@ -297,8 +322,8 @@ unfoldable pub receive : NodeState → ℕ → ℕ → ℕ → ℕ → Body → 
 receive s from to number stamp b =
     after s (received s.local (map length s.sent) from to number stamp b)
 
--- The acknowledgement that an event brings. It changes no state: a state has all that was ever sent, and
--- doesn't know what was let go of.
+-- The acknowledgement that an event brings. It changes no state: a state has all that was ever
+-- sent, and doesn't know what was let go of.
 abbrev pub ack_of : Event → Option Ack
 ack_of (event.Ack a) = Some a
 ack_of e = None

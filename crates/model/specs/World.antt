@@ -1,16 +1,18 @@
 -- A space of nodes: for each its current state and the one last saved ("A space" in docs/RULES.md).
-use Rattle.std.specs.Prelude.{◌++◌, ◌≡◌, ℕ, ◌-◌, Bool, true, cond, nat_lt, nat_le, ◌==◌, ◌&&◌, ◌||◌, not, is_some, List, [], ◌∷◌, length, map, Option, Some, None, Result, Ok, Err, slice_get, slice_set}
+use Rattle.std.specs.Prelude.{◌++◌, ◌≡◌, ◌≢◌, ℕ, ◌-◌, ◌<◌, ◌≤◌, Bool, true, false, cond, nat_lt, nat_le, ◌==◌, ◌&&◌, ◌||◌, not, is_some, List, [], ◌∷◌, length, map, Option, Some, None, Result, Ok, Err, slice_get, slice_set}
 use Rattle.std.specs.List.{range_with_len}
 use Rattle.ids.specs.Limits.{Shaped}
 use Rattle.ids.specs.declared.refusal.Refusal.{Refusal}
 use Rattle.ids.specs.declared.refusal.Refusal.TheVariants.{NoNode, AckBeyond, WrongNode}
+use Rattle.msg.specs.Grammar.{Plain, data_frame, ack_frame}
 use Rattle.msg.specs.declared.body.Message.{Message}
 use Rattle.model.specs.declared.event.Answer.{Answer}
+use Rattle.model.specs.declared.event.Answer.TheVariants as answer
 use Rattle.model.specs.declared.step.Step.{Step}
 use Rattle.model.specs.declared.step.Step.TheVariants as step
 use Rattle.model.specs.declared.step.Outcome.{Outcome}
 use Rattle.model.specs.declared.step.Outcome.TheVariants as outcome
-use Rattle.model.specs.Checks.{guarded}
+use Rattle.model.specs.Checks.{guarded, IsFirstRefusal}
 use Rattle.model.specs.State.{NodeState, new_node, node_at, got_from, sent_to}
 use Rattle.model.specs.Steps.{act, receive, is_own, is_addressed, is_next, is_memory_free}
 
@@ -28,21 +30,25 @@ new_world shape = record { current = new_nodes shape; saved = new_nodes shape }
 abbrev pub numbered : List Message → ℕ → Option Message
 numbered sent number = cond (nat_lt 0 number) (slice_get sent (number - 1)) None
 
--- A message to another node is released once a saved state of its sender holds it. Saved lists only ever
--- grow longer, so what was released stays so.
+-- A message to another node is released once a saved state of its sender holds it. Saved lists only
+-- ever grow longer, so what was released stays so.
 abbrev pub released : World → ℕ → ℕ → ℕ → Option Message
-released w from to number = cond (from == to) None (numbered (sent_to (node_at w.saved from) to) number)
+released w from to number =
+    cond (from == to) None (numbered (sent_to (node_at w.saved from) to) number)
 
 -- the node's current state and answer afterwards
-abbrev pub moved : World → ℕ → Result (NodeState × Answer) Refusal → Result (World × Outcome) Refusal
+abbrev pub moved : World → ℕ → Result (NodeState × Answer) Refusal
+    → Result (World × Outcome) Refusal
 moved w i (Ok x) = Ok (record w { current = slice_set w.current i x.0 }, outcome.Answer x.1)
 moved w i (Err e) = Err e
 
 abbrev pub delivery : World → ℕ → ℕ → ℕ → Option Message → Result (World × Outcome) Refusal
 delivery w from to number None = Ok (w, outcome.NoFrame)
-delivery w from to number (Some x) = moved w to (receive (node_at w.current to) from to number x.stamp x.body)
+delivery w from to number (Some x) =
+    moved w to (receive (node_at w.current to) from to number x.stamp x.body)
 
--- What a node has taken in of another's messages is acknowledged once a saved state of it holds that.
+-- What a node has taken in of another's messages is acknowledged once a saved
+-- state of it holds that.
 abbrev pub acknowledged : World → ℕ → ℕ → ℕ
 acknowledged w from to = got_from (node_at w.saved to).local from
 
@@ -53,20 +59,32 @@ release_count w from to = length (sent_to (node_at w.saved from) to)
 -- an acknowledgement is handed to the sender, who tests it as its event Ack; it changes no state
 abbrev pub handing : World → ℕ → ℕ → Result (World × Outcome) Refusal
 handing w from to =
-    guarded ((is_addressed (node_at w.current from).local to from, WrongNode) ∷ (nat_le (acknowledged w from to) (release_count w from to), AckBeyond) ∷ []) (w, outcome.Handed (acknowledged w from to))
+    guarded
+    ((is_addressed (node_at w.current from).local to from, WrongNode)
+    ∷ (nat_le (acknowledged w from to) (release_count w from to), AckBeyond) ∷ [])
+    (w, outcome.Handed (acknowledged w from to))
 
 abbrev pub is_node : World → ℕ → Bool
 is_node w i = nat_lt i (length w.current)
 
 -- a step of the space: the space afterwards and what became of the step, or its refusal
 unfoldable pub take_step : World → Step → Result (World × Outcome) Refusal
-take_step w (step.Act i e) = cond (is_node w i) (cond (is_own e) (moved w i (act (node_at w.current i) e)) (Err WrongNode)) (Err NoNode)
-take_step w (step.Save i) = cond (is_node w i) (Ok (record w { saved = slice_set w.saved i (node_at w.current i) }, outcome.Done)) (Err NoNode)
-take_step w (step.Restart i) = cond (is_node w i) (Ok (record w { current = slice_set w.current i (node_at w.saved i) }, outcome.Done)) (Err NoNode)
+take_step w (step.Act i e) =
+    cond (is_node w i) (cond (is_own e) (moved w i (act (node_at w.current i) e)) (Err WrongNode))
+    (Err NoNode)
+take_step w (step.Save i) =
+    cond (is_node w i)
+    (Ok (record w { saved = slice_set w.saved i (node_at w.current i) }, outcome.Done)) (Err NoNode)
+take_step w (step.Restart i) =
+    cond (is_node w i)
+    (Ok (record w { current = slice_set w.current i (node_at w.saved i) }, outcome.Done))
+    (Err NoNode)
 take_step w (step.Deliver from to number) =
-    cond (is_node w from && is_node w to) (delivery w from to number (released w from to number)) (Err NoNode)
+    cond (is_node w from && is_node w to) (delivery w from to number (released w from to number))
+    (Err NoNode)
 take_step w (step.Hand from to) =
-    cond (is_node w from && is_node w to) (cond (from == to) (Ok (w, outcome.NoFrame)) (handing w from to)) (Err NoNode)
+    cond (is_node w from && is_node w to)
+    (cond (from == to) (Ok (w, outcome.NoFrame)) (handing w from to)) (Err NoNode)
 
 abbrev pub world_after : World → Result (World × Outcome) Refusal → World
 world_after w (Ok x) = x.0
@@ -93,7 +111,9 @@ outcomes w (s ∷ ss) = outcome_of (take_step w s) ∷ outcomes (happens w s) ss
 -- what a node's saved state sent, its current state sent too, and perhaps more after it
 pub record KeepsSent (w : World) : Type 0 where
   pub width : length w.saved ≡ length w.current
-  pub sent : (i j : ℕ) → (more : List Message) × (sent_to (node_at w.current i) j ≡ sent_to (node_at w.saved i) j ++ more)
+  pub sent : (i j : ℕ)
+      → (more : List Message)
+      × (sent_to (node_at w.current i) j ≡ sent_to (node_at w.saved i) j ++ more)
 
 -- a step whose event comes from no other node
 abbrev pub is_own_step : Step → Bool
@@ -105,9 +125,47 @@ is_own_step (step.Hand from to) = true
 
 -- a step that is never refused for want of memory
 abbrev pub is_step_memory_free : World → Step → Bool
-is_step_memory_free w (step.Act i e) = not (is_node w i) || is_memory_free (node_at w.current i).local e
+is_step_memory_free w (step.Act i e) =
+    not (is_node w i) || is_memory_free (node_at w.current i).local e
 is_step_memory_free w (step.Save i) = not (is_node w i)
 is_step_memory_free w (step.Restart i) = not (is_node w i)
 is_step_memory_free w (step.Deliver from to number) =
-    not (is_node w from && is_node w to) || (not (is_some (released w from to number)) || not (is_next (node_at w.current to).local from number))
+    not (is_node w from && is_node w to)
+    || (not (is_some (released w from to number))
+    || not (is_next (node_at w.current to).local from number))
 is_step_memory_free w (step.Hand from to) = true
+
+-- What a step answered, and the space of the code after it, against the step of the definitions;
+-- `shows` says which space of the definitions one of the code shows. An answer is the definition's,
+-- and the space of the definition is then shown; a refusal is the first that applies, and the same
+-- space is shown as before.
+abbrev pub FollowsStep : {S : Type 0} → (S → World → Type 0) → World → Result Outcome Refusal → S
+    → Result (World × Outcome) Refusal → Type 0
+FollowsStep shows w (Ok o) new stepped = (v : World) × (stepped ≡ Ok (v, o)) × shows new v
+FollowsStep shows w (Err e) new stepped = IsFirstRefusal e stepped × shows new w
+
+-- Whether what became of a step is an event of the space. Reading a word is none, nor is a message
+-- that was taken in before, one that isn't there, an acknowledgement handed over, and what was
+-- refused. Of the code's own result it says the same, where memory may have been refused too.
+abbrev pub is_eventful : Result Outcome Refusal → Bool
+is_eventful (Ok (outcome.Answer (answer.Word word))) = false
+is_eventful (Ok (outcome.Answer answer.Repeat)) = false
+is_eventful (Ok (outcome.Answer a)) = true
+is_eventful (Ok outcome.Done) = true
+is_eventful (Ok (outcome.Handed number)) = false
+is_eventful (Ok outcome.NoFrame) = false
+is_eventful (Err e) = false
+
+-- A step of the space is an event. The definitions refuse nothing for memory.
+abbrev pub is_event : World → Step → Bool
+is_event w s = is_eventful (outcome_of (take_step w s))
+
+-- The frames ever released: those of all messages that saved states have sent, and between any two
+-- nodes the acknowledgements of every number up to what a saved state has taken in. In the second,
+-- the node that acknowledges comes first.
+abbrev pub IsInNet : World → Plain → Type 0
+IsInNet w (data_frame from to number stamp body) =
+    released w from to number ≡ Some (record { stamp = stamp; body = body })
+IsInNet w (ack_frame from to number) =
+    (from < length w.current) × (to < length w.current) × (from ≢ to)
+    × (number ≤ acknowledged w to from)

@@ -1,8 +1,8 @@
 use ids::Ref;
 use msg::{Ack, Data};
 
-/// A received message that waits for the program: who sent it, its label, and its reference where one
-/// was sent.
+/// A received message that waits for the program: who sent it, its label, and its reference
+/// where one was sent.
 #[derive(Clone, Copy, Debug, PartialEq, Eq)]
 pub struct Letter {
     pub from: u8,
@@ -10,8 +10,8 @@ pub struct Letter {
     pub reference: Option<Ref>,
 }
 
-/// What one node may be asked to do. A program names objects by its registers alone: `object` is the
-/// register that names one.
+/// What one node may be asked to do. A program names objects by its registers alone: `object` is
+/// the register that names one.
 #[derive(Clone, Copy, Debug, PartialEq, Eq)]
 pub enum Event {
     /// Makes a new object with this many empty places, and puts its reference into the register.
@@ -54,7 +54,8 @@ pub enum Event {
         object: u16,
         word: u64,
     },
-    /// Sends a letter with the register's reference, or with none where that is empty, to another node.
+    /// Sends a letter with the register's reference, or with none where that is
+    /// empty, to another node.
     Give {
         to: u8,
         label: u32,
@@ -64,15 +65,15 @@ pub enum Event {
     Accept {
         register: u16,
     },
-    /// Asks the owner of an object of another node to put what the register holds into a place of it; an
-    /// empty register empties the place.
+    /// Asks the owner of an object of another node to put what the register holds into a place of
+    /// it; an empty register empties the place.
     Put {
         object: u16,
         place: u8,
         register: u16,
     },
-    /// Asks the owner of an object of another node for what stands in a place of it. The owner sends it
-    /// back in a letter with this label.
+    /// Asks the owner of an object of another node for what stands in a place of it. The owner
+    /// sends it back in a letter with this label.
     Get {
         object: u16,
         place: u8,

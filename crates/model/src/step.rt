@@ -11,7 +11,8 @@ pub enum Step {
     Restart(u8),
     /// The message of this number, if it was ever released, is given to its receiver.
     Deliver { from: u8, to: u8, number: u64 },
-    /// What the node `to`, as it was saved, has taken in from the node `from` is acknowledged to that one.
+    /// What the node `to`, as it was saved, has taken in from the node `from` is
+    /// acknowledged to that one.
     Hand { from: u8, to: u8 },
 }
 

@@ -16,7 +16,11 @@ pub nodes_fit_is : (from to : ℕ) → IsTrue (nodes_fit from to) → IsBetween 
 nodes_fit_is from to h =
     let a = and_parts _ _ h in
     let b = and_parts _ _ a.1 in
-    record { from_node = ltb-true _ _ a.0; to_node = ltb-true _ _ b.0; apart = eqb-false _ _ (not-true _ b.1) }
+    record {
+      from_node = ltb-true _ _ a.0;
+      to_node = ltb-true _ _ b.0;
+      apart = eqb-false _ _ (not-true _ b.1);
+    }
 
 -- the parts of a data frame within the limits
 pub record IsData (from to number stamp : ℕ) (body : Body) : Type 0 where
@@ -28,7 +32,8 @@ pub record IsData (from to number stamp : ℕ) (body : Body) : Type 0 where
   pub cycle : stamp ≤ GREATEST_CYCLE
   pub says : IsTrue (body_fits body)
 
-pub data_fits_is : (from to number stamp : ℕ) (body : Body) → IsTrue (data_fits from to number stamp body) → IsData from to number stamp body
+pub data_fits_is : (from to number stamp : ℕ) (body : Body)
+    → IsTrue (data_fits from to number stamp body) → IsData from to number stamp body
 data_fits_is from to number stamp body h =
     let a = and_parts _ _ h in
     let nodes = nodes_fit_is from to a.0 in
@@ -56,4 +61,9 @@ pub ack_fits_is : (from to number : ℕ) → IsTrue (ack_fits from to number) �
 ack_fits_is from to number h =
     let a = and_parts _ _ h in
     let nodes = nodes_fit_is from to a.0 in
-    record { from_node = nodes.from_node; to_node = nodes.to_node; apart = nodes.apart; last = leb-true _ _ a.1 }
+    record {
+      from_node = nodes.from_node;
+      to_node = nodes.to_node;
+      apart = nodes.apart;
+      last = leb-true _ _ a.1;
+    }

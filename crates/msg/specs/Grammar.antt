@@ -48,7 +48,8 @@ body_bytes body.Begin = 1 ∷ []
 body_bytes (body.Token token) = 2 ∷ token_bytes token
 body_bytes (body.Mark target) = 3 ∷ reference_bytes target
 body_bytes (body.Give label reference) = 4 ∷ (to_be_bytes w32 label ++ optional_bytes reference)
-body_bytes (body.Put target place reference) = 5 ∷ (place_bytes target place ++ optional_bytes reference)
+body_bytes (body.Put target place reference) =
+    5 ∷ (place_bytes target place ++ optional_bytes reference)
 body_bytes (body.Get target place label) = 6 ∷ (place_bytes target place ++ to_be_bytes w32 label)
 body_bytes body.Ended = 7 ∷ []
 body_bytes body.Swept = 8 ∷ []
@@ -58,7 +59,8 @@ abbrev pub head_bytes : ℕ → ℕ → ℕ → List ℕ
 head_bytes from to number = from ∷ (to ∷ to_be_bytes w64 number)
 
 abbrev pub spelling : Plain → List ℕ
-spelling (data_frame from to number stamp body) = 0x44 ∷ (head_bytes from to number ++ (to_be_bytes w64 stamp ++ body_bytes body))
+spelling (data_frame from to number stamp body) =
+    0x44 ∷ (head_bytes from to number ++ (to_be_bytes w64 stamp ++ body_bytes body))
 spelling (ack_frame from to number) = 0x41 ∷ head_bytes from to number
 
 -- numbers that are no wider than their fields
@@ -72,8 +74,10 @@ IsOfWidth body.Begin = ⊤
 IsOfWidth (body.Token token) = FitsSigned w64 token.q
 IsOfWidth (body.Mark target) = IsReferenceOfWidth target
 IsOfWidth (body.Give label reference) = (label < 2 ^ 32) × IfSome reference IsReferenceOfWidth
-IsOfWidth (body.Put target place reference) = IsReferenceOfWidth target × (place < 2 ^ 8) × IfSome reference IsReferenceOfWidth
-IsOfWidth (body.Get target place label) = IsReferenceOfWidth target × (place < 2 ^ 8) × (label < 2 ^ 32)
+IsOfWidth (body.Put target place reference) =
+    IsReferenceOfWidth target × (place < 2 ^ 8) × IfSome reference IsReferenceOfWidth
+IsOfWidth (body.Get target place label) =
+    IsReferenceOfWidth target × (place < 2 ^ 8) × (label < 2 ^ 32)
 IsOfWidth body.Ended = ⊤
 IsOfWidth body.Swept = ⊤
 
@@ -84,5 +88,6 @@ frame_fits (ack_frame from to number) = ack_fits from to number
 
 -- what has a spelling
 abbrev pub Fits : Plain → Type 0
-Fits (data_frame from to number stamp body) = IsTrue (data_fits from to number stamp body) × IsOfWidth body
+Fits (data_frame from to number stamp body) =
+    IsTrue (data_fits from to number stamp body) × IsOfWidth body
 Fits (ack_frame from to number) = IsTrue (ack_fits from to number)

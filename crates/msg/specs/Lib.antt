@@ -2,3 +2,4 @@ pub mod Limits
 pub mod Grammar
 pub mod Frames
 pub mod Reading
+pub mod Texts

@@ -38,7 +38,8 @@ two_at first second make bytes = do
   Some (make a.0 b.0, b.1)
 
 -- three fields, of which a value is made
-abbrev pub three_at : {A B C D : Type 0} → Reader A → Reader B → Reader C → (A → B → C → D) → Reader D
+abbrev pub three_at : {A B C D : Type 0} → Reader A → Reader B → Reader C → (A → B → C → D)
+    → Reader D
 three_at first second third make bytes = do
   a ← first bytes
   b ← second a.1
@@ -58,7 +59,8 @@ byte_at (b ∷ rest) = Some (b, rest)
 -- what follows the tag, by a list of the tags that may stand there
 abbrev pub behind : {A : Type 0} → List (ℕ × Reader A) → ℕ → Reader A
 behind [] tag rest = None
-behind (choice ∷ others) tag rest = if tag == choice.0 then choice.1 rest else behind others tag rest
+behind (choice ∷ others) tag rest =
+    if tag == choice.0 then choice.1 rest else behind others tag rest
 
 abbrev pub tagged_at : {A : Type 0} → List (ℕ × Reader A) → Reader A
 tagged_at choices bytes = do
@@ -69,16 +71,20 @@ tagged_at choices bytes = do
 
 -- a number of so many bytes
 abbrev pub number_at : ℕ → Reader ℕ
-number_at n bytes = if nat_lt (length bytes) n then None else Some (big_number n bytes, drop n bytes)
+number_at n bytes =
+    if nat_lt (length bytes) n then None else Some (big_number n bytes, drop n bytes)
 
 unfoldable pub signed_at : Reader ℤ
 signed_at bytes = one_at (number_at 8) (λ n. cast_signed w64 n) bytes
 
 unfoldable pub reference_at : Reader Ref
-reference_at bytes = three_at byte_at (number_at 4) (number_at 4) (λ node slot generation. record { node = node; slot = slot; generation = generation }) bytes
+reference_at bytes =
+    three_at byte_at (number_at 4) (number_at 4)
+    (λ node slot generation. record { node = node; slot = slot; generation = generation }) bytes
 
 unfoldable pub optional_at : Reader (Option Ref)
-optional_at bytes = tagged_at ((0, none_at None) ∷ (1, one_at reference_at (λ r. Some r)) ∷ []) bytes
+optional_at bytes =
+    tagged_at ((0, none_at None) ∷ (1, one_at reference_at (λ r. Some r)) ∷ []) bytes
 
 unfoldable pub colour_at : Reader Colour
 colour_at bytes = tagged_at ((0, none_at White) ∷ (1, none_at Black) ∷ []) bytes
@@ -119,7 +125,10 @@ unfoldable pub head_at : Reader (ℕ × ℕ × ℕ)
 head_at bytes = three_at byte_at byte_at (number_at 8) (λ from to number. (from, to, number)) bytes
 
 unfoldable pub data_at : Reader Plain
-data_at bytes = kept_at (three_at head_at (number_at 8) body_at (λ head stamp says. data_frame head.0 head.1 head.2 stamp says)) frame_fits bytes
+data_at bytes =
+    kept_at
+    (three_at head_at (number_at 8) body_at
+    (λ head stamp says. data_frame head.0 head.1 head.2 stamp says)) frame_fits bytes
 
 unfoldable pub ack_at : Reader Plain
 ack_at bytes = kept_at (one_at head_at (λ head. ack_frame head.0 head.1 head.2)) frame_fits bytes

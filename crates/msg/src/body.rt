@@ -1,7 +1,7 @@
 use ids::Ref;
 
-/// The colour of a node or of the token, as in EWD998: a white token that meets white nodes alone may
-/// say that marking has ended.
+/// The colour of a node or of the token, as in EWD998: a white token that meets white nodes alone
+/// may say that marking has ended.
 #[derive(Clone, Copy, Debug, PartialEq, Eq)]
 pub enum Colour {
     White,
@@ -37,7 +37,8 @@ pub enum Body {
         place: u8,
         reference: Option<Ref>,
     },
-    /// Asks the receiver to send back what a place of its object holds, as a letter with this label.
+    /// Asks the receiver to send back what a place of its object holds, as a letter with this
+    /// label.
     Get {
         target: Ref,
         place: u8,

@@ -1,13 +1,15 @@
 ghost use Rattle.std.specs.Prelude.{◌≡◌, ◌++◌, [], ℕ, List, IsTrue, IsSome, IfSome, ◌↔◌};
-ghost use Rattle.msg.specs.Limits.{nodes_fit, reference_fits, optional_fits, place_fits, body_fits, data_fits, ack_fits};
+ghost use Rattle.msg.specs.Limits.{nodes_fit, optional_fits, place_fits, body_fits};
+ghost use Rattle.msg.specs.Limits.{data_fits, ack_fits};
 ghost use Rattle.msg.specs.Grammar.{Plain, Fits, spelling, data_frame, ack_frame};
 
 use crate::body::Body;
-use ids::{GREATEST_CYCLE, GREATEST_NODES, GREATEST_NUMBER, GREATEST_PLACES, GREATEST_SLOTS, Ref};
+use ids::{GREATEST_CYCLE, GREATEST_NODES, GREATEST_NUMBER, GREATEST_PLACES, Ref};
 
-/// A message on its way from one node to another: its number on their link, the sender's cycle when it
-/// was appended, and what it says. The two nodes differ, the number is 1 to [`GREATEST_NUMBER`], the
-/// stamp is at most [`GREATEST_CYCLE`], and every part is within the limits.
+/// A message on its way from one node to another: its number on their link, the sender's cycle when
+/// it was appended, and what it says. The two nodes differ, the number is 1 to
+/// [`GREATEST_NUMBER`], the stamp is at most [`GREATEST_CYCLE`], and every part is within the
+/// limits.
 #[derive(Clone, Copy, Debug, PartialEq, Eq)]
 pub struct Data {
     pub from: u8,
@@ -18,8 +20,8 @@ pub struct Data {
     pub ghost fits: { IsTrue (data_fits from to number stamp body) },
 }
 
-/// Word from one node to another that the first has taken in and saved all messages of the second up to
-/// this number. The two nodes differ, and the number is at most [`GREATEST_NUMBER`].
+/// Word from one node to another that the first has taken in and saved all messages of the second
+/// up to this number. The two nodes differ, and the number is at most [`GREATEST_NUMBER`].
 #[derive(Clone, Copy, Debug, PartialEq, Eq)]
 pub struct Ack {
     pub from: u8,
@@ -43,22 +45,16 @@ fn nodes_fit(from: u8, to: u8) -> bool
     from < GREATEST_NODES && to < GREATEST_NODES && from != to
 }
 
-fn reference_fits(reference: Ref) -> bool
-    ensures { result ≡ reference_fits reference }
-{
-    reference.node < GREATEST_NODES && reference.slot < GREATEST_SLOTS && reference.generation >= 1
-}
-
 fn optional_fits(reference: Option<Ref>) -> bool
     ensures { result ≡ optional_fits reference }
 {
-    reference.is_none_or(reference_fits)
+    reference.is_none_or(Ref::fits)
 }
 
 fn place_fits(target: Ref, place: u8) -> bool
     ensures { result ≡ place_fits target place }
 {
-    reference_fits(target) && place < GREATEST_PLACES
+    target.fits() && place < GREATEST_PLACES
 }
 
 fn body_fits(body: Body) -> bool
@@ -66,7 +62,7 @@ fn body_fits(body: Body) -> bool
 {
     match body {
         Body::Begin | Body::Token(_) | Body::Ended | Body::Swept => true,
-        Body::Mark { target } => reference_fits(target),
+        Body::Mark { target } => target.fits(),
         Body::Give { reference, .. } => optional_fits(reference),
         Body::Put {
             target,
@@ -119,5 +115,6 @@ impl Ack {
 /// No spelling of a frame begins another, so bytes spell one frame at most. This does nothing: its
 /// contract is the law.
 pub fn grammar()
-    ensures { (f g : Plain) (rest : List ℕ) → Fits f → Fits g → spelling f ++ rest ≡ spelling g → (rest ≡ []) × (f ≡ g) }
+    ensures { (f g : Plain) (rest : List ℕ) → Fits f → Fits g
+        → spelling f ++ rest ≡ spelling g → (rest ≡ []) × (f ≡ g) }
 {}

@@ -1,9 +1,9 @@
 //! What nodes say to each other, and how it is spelled as bytes.
 //!
-//! A frame is the whole of its bytes, and its numbers are big-endian. An acknowledgement is the byte 41
-//! hex, the node that acknowledges and the other node in a byte each, and a number in eight bytes. A
-//! message is the byte 44 hex, the sender, the receiver and the message's number likewise, its stamp in
-//! eight bytes, and a body: a tag, and what the body says.
+//! A frame is the whole of its bytes, and its numbers are big-endian. An acknowledgement is the
+//! byte 41 hex, the node that acknowledges and the other node in a byte each, and a number in eight
+//! bytes. A message is the byte 44 hex, the sender, the receiver and the message's number likewise,
+//! its stamp in eight bytes, and a body: a tag, and what the body says.
 //!
 //! | Tag | Body | What it says |
 //! |---|---|---|
@@ -16,14 +16,15 @@
 //! | 7 | Ended | |
 //! | 8 | Swept | |
 //!
-//! A reference is its node in one byte, and its slot and its generation in four bytes each. An optional
-//! one is the byte 0, or the byte 1 and a reference.
+//! A reference is its node in one byte, and its slot and its generation in four bytes each. An
+//! optional one is the byte 0, or the byte 1 and a reference.
 #![tactic(auto)]
 
 mod body;
 mod frame;
 mod reading;
 mod tags;
+mod text;
 mod writing;
 
 pub use body::{Body, Colour, Message, Token};

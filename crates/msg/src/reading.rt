@@ -4,7 +4,9 @@ ghost use Rattle.std.specs.Result.{IsOkAnd};
 ghost use Rattle.ids.specs.declared.refusal.Refusal.TheVariants.{BadFrame};
 ghost use Rattle.msg.specs.Grammar.{Plain, Fits, spelling};
 ghost use Rattle.msg.specs.Frames.{plain, plain_data, plain_ack};
-ghost use Rattle.msg.specs.Reading.{byte_at, number_at, signed_at, reference_at, optional_at, colour_at, token_at, give_at, put_at, get_at, body_at, head_at, data_at, ack_at, frame_at, whole};
+ghost use Rattle.msg.specs.Reading.{byte_at, number_at, signed_at, reference_at, optional_at};
+ghost use Rattle.msg.specs.Reading.{colour_at, token_at, give_at, put_at, get_at, body_at};
+ghost use Rattle.msg.specs.Reading.{head_at, data_at, ack_at, frame_at, whole};
 
 use crate::body::{Body, Colour, Token};
 use crate::frame::{Ack, Data, Frame};
@@ -225,13 +227,14 @@ fn whole(bytes: &[u8]) -> Option<Frame>
 ///
 /// # Errors
 ///
-/// [`Refusal::BadFrame`] where the bytes spell no frame: something is missing or left over, or a byte
-/// or a number is not one that may stand there.
+/// [`Refusal::BadFrame`] where the bytes spell no frame: something is missing or left over, or a
+/// byte or a number is not one that may stand there.
 pub fn decode(bytes: &[u8]) -> Result<Frame, Refusal>
     // What is read is spelled so.
     ensures found { IfOk result (λ f. Fits (plain f) × (bytes.now ≡ spelling (plain f))) }
     // What is spelled so is read.
-    ensures only { (f : Plain) → Fits f → bytes.now ≡ spelling f → IsOkAnd result (λ x. plain x ≡ f) }
+    ensures only { (f : Plain) → Fits f → bytes.now ≡ spelling f
+        → IsOkAnd result (λ x. plain x ≡ f) }
     ensures refused { IfErr result (λ e. e ≡ BadFrame) }
 {
     whole(bytes).ok_or(Refusal::BadFrame)

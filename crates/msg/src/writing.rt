@@ -2,7 +2,9 @@ ghost use Rattle.std.specs.Prelude.{◌≡◌, ◌<◌, ◌^◌, ◌++◌, ◌�
 ghost use Rattle.std.specs.Int.{w32, w64, to_be_bytes};
 ghost use Rattle.ids.specs.declared.refusal.Refusal.TheVariants.{Memory};
 ghost use Rattle.std.specs.Int.RustNames.{FitsSigned};
-ghost use Rattle.msg.specs.Grammar.{Fits, IsOfWidth, IsReferenceOfWidth, spelling, reference_bytes, optional_bytes, signed_bytes, token_bytes, place_bytes, body_bytes, head_bytes};
+ghost use Rattle.msg.specs.Grammar.{Fits, IsOfWidth, IsReferenceOfWidth, spelling};
+ghost use Rattle.msg.specs.Grammar.{reference_bytes, optional_bytes, signed_bytes, token_bytes};
+ghost use Rattle.msg.specs.Grammar.{place_bytes, body_bytes, head_bytes};
 ghost use Rattle.msg.specs.Frames.{plain, plain_data, plain_ack};
 
 use crate::body::{Body, Colour, Token};
@@ -178,7 +180,8 @@ fn put_frame(out: &mut Vec<u8>, frame: Frame) -> Result<(), Refusal>
 ///
 /// [`Refusal::Memory`] where memory is refused, and no other.
 pub fn encode(alloc: Global, frame: &Frame) -> Result<Vec<u8>, Refusal>
-    ensures spelled { IfOk result (λ v. Fits (plain frame.now) × (v.items ≡ spelling (plain frame.now))) }
+    ensures spelled { IfOk result
+        (λ v. Fits (plain frame.now) × (v.items ≡ spelling (plain frame.now))) }
     ensures refused { IfErr result (λ e. e ≡ Memory) }
 {
     let mut out = Vec::new(alloc);

@@ -11,13 +11,18 @@ frame_of own to number x = data_frame own to number x.stamp x.body
 -- the frame of a message that the node still keeps
 abbrev pub numbered_frame : NodeView → ℕ → ℕ → Option Plain
 numbered_frame n to number =
-    cond (is_other n.local to) (option_map (frame_of n.local.own to number) (message_of (link_to n to) number)) None
+    cond (is_other n.local to)
+    (option_map (frame_of n.local.own to number) (message_of (link_to n to) number)) None
 
 -- the frame in a place of the window, where a saved node holds its message
 abbrev pub released_frame : NodeView → ℕ → ℕ → Option Plain
 released_frame n to place =
-    cond (is_other n.local to) (option_map (frame_of n.local.own to ((link_to n to).base + 1 + place)) (released_at (link_to n to) place)) None
+    cond (is_other n.local to) (option_map
+    (frame_of n.local.own to ((link_to n to).base + 1 + place)) (released_at (link_to n to) place))
+    None
 
 -- the acknowledgement of what a saved node has taken in from another one
 abbrev pub acknowledgement : NodeView → ℕ → Option Plain
-acknowledgement n from = cond (is_other n.local from) (Some (ack_frame n.local.own from (slice_index_or n.acks from 0))) None
+acknowledgement n from =
+    cond (is_other n.local from) (Some (ack_frame n.local.own from (slice_index_or n.acks from 0)))
+    None

@@ -1,28 +1,42 @@
--- What is true of every node that stands ("Well-formed nodes" in docs/RULES.md).
-use Rattle.std.specs.Prelude.{◌≡◌, ℕ, pos, neg_ℤ, ◌<◌, ◌≤◌, ◌≤ℤ◌, length, slice_index_or}
+-- What is true of every node that stands ("Well-formed nodes" in docs/RULES.md), by what it reads.
+use Rattle.std.specs.Prelude.{◌≡◌, ℕ, pos, neg_ℤ, ◌+◌, ◌+ℤ◌, ◌-ℤ◌, ◌<◌, ◌≤ℤ◌, List, length, slice_index_or}
 use Rattle.std.specs.List.{sum_by}
-use Rattle.ids.specs.Limits.{IsShape}
-use Rattle.ids.specs.declared.limits.TheConstants.{GREATEST_NUMBER}
-use Rattle.model.specs.State.{got_from}
-use Rattle.model.specs.View.{NodeView, used, link_to}
-use Rattle.link.specs.Senders.{IsLink}
+use Rattle.ids.specs.Limits.{Shaped, IsShape}
+use Rattle.link.specs.Links.{LinksView, IsLinks}
+use Rattle.model.specs.State.{Ring}
+use Rattle.model.specs.View.{Link, NodeView, used, no_link}
 use Rattle.model.specs.References.{HoldsOnly, IsWithin, IsSendable, no_message}
 
--- The balance is at most what was sent and at least less what was taken in, so it fits its type.
-pub record IsBalanced (n : NodeView) : Type 0 where
-  pub least : neg_ℤ (pos (sum_by (λ (k : ℕ). k) n.local.got)) ≤ℤ n.local.ring.recent
-  pub most : n.local.ring.recent ≤ℤ pos (sum_by used n.links)
+-- how many messages were appended, and how many taken in
+abbrev pub number_sum : List Link → List ℕ → ℕ
+number_sum links got = sum_by used links + sum_by (λ (k : ℕ). k) got
+
+-- The two balances together are no larger than the number of messages, whatever their signs: so
+-- they fit their type.
+pub record IsBalanced (r : Ring) (links : List Link) (got : List ℕ) : Type 0 where
+  pub sum : (r.earlier +ℤ r.recent) ≤ℤ pos (number_sum links got)
+  pub difference : (r.earlier -ℤ r.recent) ≤ℤ pos (number_sum links got)
+  pub opposite : (r.recent -ℤ r.earlier) ≤ℤ pos (number_sum links got)
+  pub negated : neg_ℤ (r.earlier +ℤ r.recent) ≤ℤ pos (number_sum links got)
+
+-- every message that is kept may be sent in a space of this shape
+abbrev pub AllSendable : Shaped → List Link → Type 0
+AllSendable shape links =
+    (i k : ℕ)
+    → IsSendable shape (slice_index_or (slice_index_or links i no_link).unacknowledged k no_message)
+
+-- the links to all nodes of the shape
+pub record AreLinked (shape : Shaped) (l : LinksView) : Type 0 where
+  pub width : length l.links ≡ shape.nodes
+  pub links : IsLinks l
+  pub messages : AllSendable shape l.links
+
+abbrev pub links_of : NodeView → LinksView
+links_of n = record { links = n.links; got = n.local.got; acks = n.acks }
 
 pub record IsNode (n : NodeView) : Type 0 where
   pub shape : IsShape n.local.shape
   pub own : n.local.own < n.local.shape.nodes
-  pub received : length n.local.got ≡ n.local.shape.nodes
-  pub linked : length n.links ≡ n.local.shape.nodes
-  pub acked : length n.acks ≡ n.local.shape.nodes
-  pub numbers : (i : ℕ) → got_from n.local i ≤ GREATEST_NUMBER
-  -- what is acknowledged was taken in
-  pub acks : (i : ℕ) → slice_index_or n.acks i 0 ≤ got_from n.local i
-  pub links : (i : ℕ) → IsLink (link_to n i)
-  pub balance : IsBalanced n
   pub references : HoldsOnly (IsWithin n.local.shape) n.local.heap
-  pub messages : (i k : ℕ) → IsSendable n.local.shape (slice_index_or (link_to n i).unacknowledged k no_message)
+  pub links : AreLinked n.local.shape (links_of n)
+  pub balance : IsBalanced n.local.ring n.links n.local.got

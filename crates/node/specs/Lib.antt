@@ -2,3 +2,5 @@ pub mod Invariant
 pub mod Inside
 pub mod Frames
 pub mod Summaries
+pub mod Sending
+pub mod Taking

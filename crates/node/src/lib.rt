@@ -1,8 +1,7 @@
-//! One node of the space: an event is one step of the definitions in `model`, for every state that the
-//! node shows, and a refused event changes nothing.
+//! One node of the space: an event is one step of the definitions in `model`, for every state that
+//! the node shows, and a refused event changes nothing.
 #![tactic(auto)]
 
-mod links;
 mod node;
 mod summary;
 

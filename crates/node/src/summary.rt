@@ -1,8 +1,8 @@
 use ids::Shape;
 use msg::Colour;
 
-/// A node in numbers: what its phases, its part of the ring, its grey list, its slots and its letters
-/// come to.
+/// A node in numbers: what its phases, its part of the ring, its grey list, its slots and its
+/// letters come to.
 #[derive(Clone, Copy, Debug, PartialEq, Eq)]
 pub struct Summary {
     pub shape: Shape,
@@ -11,9 +11,11 @@ pub struct Summary {
     pub ended: u64,
     pub swept: u64,
     pub colour: Colour,
-    /// Messages sent less those taken in, of those that count in the current cycle.
+    /// Messages sent less those taken in, of those that count in the current
+    /// cycle. Printed as `old`.
     pub earlier: i64,
-    /// The same of those that the next cycle counts: the ones with references, from the current cycle.
+    /// The same of those that the next cycle counts: the ones with references, from the current
+    /// cycle. Printed as `cur`.
     pub recent: i64,
     pub grey: usize,
     pub live: u32,

@@ -44,14 +44,6 @@ fn give_body(label: u32, reference: Option<Ref>) -> Body {
     Body::Give { label, reference }
 }
 
-fn put_body(target: Ref, place: u8, reference: Option<Ref>) -> Body {
-    Body::Put {
-        target,
-        place,
-        reference,
-    }
-}
-
 fn get_body(target: Ref, place: u8, label: u32) -> Body {
     Body::Get {
         target,
@@ -167,15 +159,6 @@ fn answer_all(rt: &impl Abort, acting: &mut Node, rows: &[(Event, Answer)]) {
     }
 }
 
-// Each event is refused as stands beside it, and changes nothing.
-fn refuse_all(rt: &impl Abort, acting: &mut Node, other: u8, rows: &[(Event, Refusal)]) {
-    let before = shown(acting, other);
-    for (event, refusal) in rows {
-        assert_eq!(rt; acting.act(*event), Err(*refusal), "{event:?}");
-        assert_eq!(rt; shown(acting, other), before, "{event:?}");
-    }
-}
-
 // The message of this number goes from one node to the other.
 fn deliver(
     rt: &impl Abort,
@@ -249,6 +232,5 @@ fn a_copy_goes_its_own_way(rt: HostRuntime) -> Result<(), Refusal> {
     assert_eq!(rt; (copy.state().live, original.state().live), (2, 1));
     assert_eq!(rt; copy.act(set_word(1, 5)), Ok(Answer::Done));
     assert_eq!(rt; original.act(word(1)), Ok(Answer::Word(0)));
-    copy.sound();
     Ok(())
 }

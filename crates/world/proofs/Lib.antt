@@ -1,8 +1,10 @@
+pub mod Cuts
 pub mod OutboxLemmas
+pub mod SiteLemmas
+pub mod Refusals
 pub mod Shows
-pub mod Handed
-pub mod Acked
-pub mod Rows
-pub mod Saved
+pub mod Steps
+pub mod Deliveries
+pub mod Acks
 pub mod New
-pub mod Saving
+pub mod Runs

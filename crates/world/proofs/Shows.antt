@@ -1,262 +1,336 @@
--- Each step of the code's space is the step of the definitions.
-use Rattle.std.proofs.Common.{◌≡◌, ℕ, ◌<◌, ◌≤◌, true, false, List, [], length, map, get_or, set, Option, None, Result, Ok, Err, ap, refl, sym, ◌∙◌, subst}
+-- What a space shows after one of its sites changed.
+use Rattle.std.proofs.Common.{◌≡◌, ◌≢◌, ℕ, ◌+◌, ◌-◌, ◌<◌, ◌≤◌, max, false, List, [], length, get_or, set, slice_get, leb, Option, Some, None, Result, Ok, refl, ap, sym, ◌∙◌, subst, ⊎_elim, le_trans, le_refl, arith}
+use Rattle.std.proofs.lemmas.Bool.{cases_eq, cases_lt, lt-leb, cond-false}
+use Rattle.std.proofs.lemmas.List.{length-set, length-map, length-drop, get_or_read, get_or-set_same, get_or-set_other}
+use Rattle.std.proofs.lemmas.Option.{slice_get-get_or}
 use Rattle.std.proofs.Math.ListN.{get_or-map}
-use Rattle.std.proofs.lemmas.List.{length-set, length-map, get_or_read, set-get_or, map-set}
-use Rattle.std.proofs.lemmas.Bool.{lt-ltb, le-ltb, cond-true, cond-false}
-use Rattle.ids.specs.declared.refusal.Refusal.{Refusal}
-use Rattle.ids.specs.declared.refusal.Refusal.TheVariants.{NoNode}
+use Rattle.ids.specs.Limits.{Shaped}
+use Rattle.msg.specs.declared.body.Message.{Message}
 use Rattle.msg.specs.declared.frame.Ack.{Ack}
+use Rattle.ids.specs.declared.refusal.Refusal.{Refusal}
 use Rattle.model.specs.declared.event.Event.{Event}
-use Rattle.model.specs.declared.event.Event.TheVariants as event
 use Rattle.model.specs.declared.event.Answer.{Answer}
 use Rattle.model.specs.declared.step.Step.{Step}
-use Rattle.model.specs.declared.step.Step.TheVariants as step
 use Rattle.model.specs.declared.step.Outcome.{Outcome}
-use Rattle.model.specs.declared.step.Outcome.TheVariants as outcome
-use Rattle.model.specs.State.{NodeState, node_at, no_node, sent_to}
-use Rattle.model.specs.Steps.{act, is_own, ack_of}
-use Rattle.model.specs.View.{Link, NodeView, Shows, IsTold, Follows, no_link, link_to, base_of, kept_of}
-use Rattle.model.specs.World.{World, KeepsSent, acknowledged, take_step, happens, world_after, moved, is_node}
-use Rattle.model.proofs.Lookups.{both_set, at_set_if, map-set_same}
+use Rattle.model.specs.State.{LocalState, NodeState, node_at, no_node, got_from, sent_to}
+use Rattle.model.specs.View.{Link, NodeView, Shows, ShowsSent, Leaves, no_link, link_to, used, all_kept, kept_view, message_of, base_of, kept_of}
+use Rattle.model.specs.World.{World, KeepsSent, take_step, happens, world_after}
+use Rattle.model.proofs.Lookups.{at_set_if, slice_get-take, slice_get-drop}
 use Rattle.laws.proofs.KeepsSent.{keeps-sent}
-use Rattle.ids.specs.Limits.{Shaped}
-use Rattle.ids.specs.declared.limits.TheConstants.{GREATEST_NODES}
-use Rattle.world.specs.Shows.{Simulated, ShowAll, ShowsWorld, FollowsStep, AreCounted, AreAcked, AreKept, KeepUnacknowledged, IsPlaced, IsSim, no_view, view_at, frames_of, bases, bases_of, bases_after}
+use Rattle.laws.proofs.Lookups.{Grows, slice_get-grows}
+use Rattle.node.specs.Invariant.{IsNode}
+use Rattle.world.specs.Outboxes.{IsFrameOf, IsStaged}
+use Rattle.world.specs.Sites.{SiteView, Acted, Saves, frames_to, bases, bases_acked}
+use Rattle.world.specs.Shows.{ShowsNode, ShowsSite, ShowsWorld, IsPlaced, IsSim, no_site, site_at}
+use Rattle.world.proofs.SiteLemmas.{link-same}
+
+-- The site of node i changes, from q to p: m is the space after it.
+pub record Changes (n m : List SiteView) (i : ℕ) (q p : SiteView) : Type 0 where
+  pub within : i < length n
+  pub old : q ≡ site_at n i
+  pub new : m ≡ set n i p
+
+-- The same as the code has it: it reads the site at a place in its fields, which are the
+-- space that callers see.
+pub site-read : {n seen : List SiteView} {i place : ℕ} {q : SiteView} → seen ≡ n → place ≡ i
+    → i < length n
+    → q ≡ get_or seen place q → q ≡ site_at n i
+site-read {n = n} {i = i} {place = place} {q = q} seen named less read =
+    get_or_read n i q less (read ∙ ap (λ z. get_or z place q) seen ∙ ap (λ k. get_or n k q) named)
+    no_site
+
+pub changes : {n seen : List SiteView} {i place : ℕ} {q p : SiteView} → seen ≡ n → place ≡ i
+    → i < length n
+    → q ≡ get_or seen place q → Changes n (set seen place p) i q p
+changes {n = n} {place = place} {p = p} seen named less read = record {
+  within = less;
+  old = site-read seen named less read;
+  new = ap (λ z. set z place p) seen ∙ ap (λ k. set n k p) named;
+}
+
+-- what holds of what was written and of all the others
+at_each : {A : Type 0} (P : ℕ → A → Type 0) (xs : List A) (i k : ℕ) (x d : A) → i < length xs
+    → P i x
+    → (k ≢ i → P k (get_or xs k d)) → P k (get_or (set xs i x) k d)
+at_each {A = A} P xs i k x d less here there =
+    ⊎_elim
+    (λ (same : k ≡ i).
+    subst (λ j. P j (get_or (set xs i x) j d)) (sym same)
+    (subst (P i) (sym (get_or-set_same xs i x d less)) here))
+    (λ (other : k ≢ i). subst (P k) (sym (get_or-set_other xs i k x d other)) (there other))
+    (cases_eq k i)
+
+site-each : {n m : List SiteView} {i : ℕ} {q p : SiteView} (P : ℕ → SiteView → Type 0)
+    → Changes n m i q p
+    → P i p → ((k : ℕ) → k ≢ i → P k (site_at n k)) → (k : ℕ) → P k (site_at m k)
+site-each {n = n} {i = i} {p = p} P c here there k =
+    subst (λ z. P k (site_at z k)) (sym c.new) (at_each P n i k p no_site c.within here (there k))
+
+-- ---- the space as a whole
+
+pub sim-acted : {n m : List SiteView} {i : ℕ} {q p : SiteView} {e : Event}
+    {r : Result Answer Refusal}
+    → Changes n m i q p → Acted r q p e → IsSim n → IsSim m
+sim-acted {n = n} {m = m} {i = i} {p = p} {e = e} {r = r} c acted h =
+    let at : Acted r (site_at n i) p e = subst (λ z. Acted r z p e) c.old acted in
+    let width : length m ≡ length n = ap length c.new ∙ length-set n i p in
+    let was = h.current i c.within in
+    let current : IsPlaced (length n) i p.current = record {
+      own = at.leaves.own ∙ was.own;
+      nodes = ap (λ (z : Shaped). z.nodes) at.leaves.shape ∙ was.nodes;
+    } in
+    let saved : IsPlaced (length n) i p.saved =
+    subst (λ (z : SiteView). IsPlaced (length n) i z.saved) (sym at.others) (h.saved i c.within) in
+    record {
+      small = omega (arith, width, h.small);
+      current = λ k less.
+          subst (λ b. IsPlaced b k (site_at m k).current) (sym width)
+          (site-each (λ j z. j < length n → IsPlaced (length n) j z.current) c (λ _. current)
+          (λ j _. h.current j) k (omega (arith, less, width)));
+      saved = λ k less.
+          subst (λ b. IsPlaced b k (site_at m k).saved) (sym width)
+          (site-each (λ j z. j < length n → IsPlaced (length n) j z.saved) c (λ _. saved)
+          (λ j _. h.saved j) k (omega (arith, less, width)));
+    }
 
 -- a step that the definitions answer leads to the space that happens
-pub grown-by : (w v : World) (s : Step) (o : Outcome) → KeepsSent w → take_step w s ≡ Ok (v, o) → KeepsSent v
+grown-by : (w v : World) (s : Step) (o : Outcome) → KeepsSent w → take_step w s ≡ Ok (v, o)
+    → KeepsSent v
 grown-by w v s o h e =
     let same : happens w s ≡ v = ap (world_after w) e in
     subst KeepsSent same (keeps-sent w s h)
 
-pub show-set : (nodes : List NodeView) (states : List NodeState) (i : ℕ) (v : NodeView) (s : NodeState) → ShowAll nodes states → Shows v s → ShowAll (set nodes i v) (set states i s)
-show-set nodes states i v s all here = record {
-  width = length-set nodes i v ∙ all.width ∙ sym (length-set states i s);
-  each = both_set Shows nodes states no_view no_node i v s all.width here all.each;
+shows-changed : {n m : List SiteView} {i : ℕ} {q p : SiteView} (w v : World) → Changes n m i q p
+    → ShowsWorld n w → length v.current ≡ length w.current → KeepsSent v → ShowsSite v i p
+    → ((k : ℕ) → k ≢ i → ShowsSite w k (site_at n k) → ShowsSite v k (site_at n k)) → ShowsWorld m v
+shows-changed {n = n} {i = i} {p = p} w v c h same grown here there = record {
+  width = ap length c.new ∙ length-set n i p ∙ h.width ∙ sym same;
+  grown = grown;
+  each = site-each (ShowsSite v) c here (λ k other. there k other (h.each k));
 }
-
--- a node that shows the same state again
-pub show-again : (nodes : List NodeView) (states : List NodeState) (i : ℕ) (v : NodeView) → ShowAll nodes states → Shows v (node_at states i) → ShowAll (set nodes i v) states
-show-again nodes states i v all here =
-    subst (ShowAll (set nodes i v)) (set-get_or states i no_node) (show-set nodes states i v (node_at states i) all here)
-
--- a number of each link that stayed
-pub link-same : (f : Link → ℕ) (v u : NodeView) (j : ℕ) → map f v.links ≡ map f u.links → f (link_to v j) ≡ f (link_to u j)
-link-same f v u j e =
-    sym (get_or-map f v.links j no_link) ∙ ap (λ (z : List ℕ). get_or z j (f no_link)) e ∙ get_or-map f u.links j no_link
-
-pub kept-set : (nodes : List NodeView) (released : List (List (List (List ℕ)))) (i : ℕ) (v : NodeView) → AreKept nodes released → ((j : ℕ) → (link_to v j).base ≤ length (frames_of released i j)) → AreKept (set nodes i v) released
-kept-set nodes released i v all here = λ a j.
-    at_set_if (λ (z : NodeView). (link_to z j).base ≤ length (frames_of released a j)) nodes i a v no_view
-    (λ e. subst (λ (n : ℕ). (link_to v j).base ≤ length (frames_of released n j)) e (here j))
-    (all a j)
-
--- spaces with equal parts
-pub same-sim : (ps qs xs ys : List NodeView) (rs ts : List (List (List (List ℕ)))) → ps ≡ qs → xs ≡ ys → rs ≡ ts → ◌≡◌ {A = Simulated} (record { current = ps; saved = xs; released = rs }) (record { current = qs; saved = ys; released = ts })
-same-sim ps qs xs ys rs ts a b c = cc
-
--- what a node counts as released, acknowledges, and has let go of
-pub record IsCounted (w : World) (i : ℕ) (v : NodeView) : Type 0 where
-  pub kept : (j : ℕ) → (link_to v j).kept ≡ length (sent_to (node_at w.saved i) j)
-  pub acks : v.acks ≡ (node_at w.saved i).local.got
-  pub base : (j : ℕ) → (link_to v j).base ≤ acknowledged w i j
-
--- it is what it was
-pub counted-as : (n : Simulated) (w : World) (i : ℕ) (v : NodeView) → ShowsWorld n w → map kept_of v.links ≡ map kept_of (view_at n.current i).links → v.acks ≡ (view_at n.current i).acks → ((j : ℕ) → (link_to v j).base ≤ acknowledged w i j) → IsCounted w i v
-counted-as n w i v h same acks base = record {
-  kept = λ j. link-same kept_of v (view_at n.current i) j same ∙ h.current_counted i j;
-  acks = acks ∙ h.current_acked i;
-  base = base;
-}
-
-pub counted-set : (nodes : List NodeView) (states : List NodeState) (i : ℕ) (v : NodeView) → AreCounted nodes states → ((j : ℕ) → (link_to v j).kept ≡ length (sent_to (node_at states i) j)) → AreCounted (set nodes i v) states
-counted-set nodes states i v all here = λ a j.
-    at_set_if (λ (z : NodeView). (link_to z j).kept ≡ length (sent_to (node_at states a) j)) nodes i a v no_view
-    (λ e. subst (λ (k : ℕ). (link_to v j).kept ≡ length (sent_to (node_at states k) j)) e (here j))
-    (all a j)
-
-pub acked-set : (nodes : List NodeView) (states : List NodeState) (i : ℕ) (v : NodeView) → AreAcked nodes states → v.acks ≡ (node_at states i).local.got → AreAcked (set nodes i v) states
-acked-set nodes states i v all here = λ a.
-    at_set_if (λ (z : NodeView). z.acks ≡ (node_at states a).local.got) nodes i a v no_view
-    (λ e. subst (λ (k : ℕ). v.acks ≡ (node_at states k).local.got) e here)
-    (all a)
-
-pub keeps-set : (nodes : List NodeView) (w : World) (i : ℕ) (v : NodeView) → KeepUnacknowledged nodes w → ((j : ℕ) → (link_to v j).base ≤ acknowledged w i j) → KeepUnacknowledged (set nodes i v) w
-keeps-set nodes w i v all here = λ a j.
-    at_set_if (λ (z : NodeView). (link_to z j).base ≤ acknowledged w a j) nodes i a v no_view
-    (λ e. subst (λ (k : ℕ). (link_to v j).base ≤ acknowledged w k j) e (here j))
-    (all a j)
 
 -- one node's current state changes
-pub shows-moved : (n : Simulated) (w : World) (i : ℕ) (v : NodeView) (s : NodeState) (e : Step) (o : Outcome) → ShowsWorld n w → IsCounted w i v → take_step w e ≡ Ok (record w { current = set w.current i s }, o) → Shows v s → ShowsWorld (record n { current = set n.current i v }) (record w { current = set w.current i s })
-shows-moved n w i v s e o h counted answered here = record {
-  current = show-set n.current w.current i v s h.current here;
-  saved = h.saved;
-  released = h.released;
-  grown = grown-by w _ e o h.grown answered;
-  current_counted = counted-set n.current w.saved i v h.current_counted counted.kept;
-  saved_counted = h.saved_counted;
-  current_acked = acked-set n.current w.saved i v h.current_acked counted.acks;
-  saved_acked = h.saved_acked;
-  current_keeps = keeps-set n.current w i v h.current_keeps counted.base;
-  saved_keeps = h.saved_keeps;
+pub shows-moved : {n m : List SiteView} {i : ℕ} {q p : SiteView} (w : World) (t : NodeState)
+    (s : Step) (o : Outcome)
+    → Changes n m i q p → ShowsWorld n w
+    → take_step w s ≡ Ok (record w { current = set w.current i t }, o)
+    → p ≡ record q { current = p.current } → ShowsNode w.saved i p.current t
+    → ShowsWorld m (record w { current = set w.current i t })
+shows-moved {n = n} {i = i} {q = q} {p = p} w t s o c h stepped same shown =
+    let v : World = record w { current = set w.current i t } in
+    let old : ShowsSite w i q = subst (ShowsSite w i) (sym c.old) (h.each i) in
+    let less : i < length w.current = omega (arith, c.within, h.width) in
+    shows-changed w v c h (length-set w.current i t) (grown-by w v s o h.grown stepped)
+    (subst (ShowsSite v i) (sym same) (record {
+      current = subst (ShowsNode w.saved i p.current)
+          (sym (get_or-set_same w.current i t no_node less)) shown;
+      saved = old.saved;
+      released = old.released;
+    }))
+    (λ k other was. record {
+      current = subst (ShowsNode w.saved k (site_at n k).current)
+          (sym (get_or-set_other w.current i k t no_node other)) was.current;
+      saved = was.saved;
+      released = was.released;
+    })
+
+-- ---- events
+
+-- an acknowledgement is of messages within a bound that is given for each node
+abbrev pub IsAckWithin : (ℕ → ℕ) → Option Ack → Type 0
+IsAckWithin B None = Unit {0}
+IsAckWithin B (Some a) = a.number ≤ B a.from
+
+-- the bounds hold of what is let go of, and then of what the acknowledgement lets go of too
+bases-within : (B : ℕ → ℕ) (all : List ℕ) (o : Option Ack) (j : ℕ) → IsAckWithin B o
+    → ((k : ℕ) → get_or all k 0 ≤ B k) → get_or (bases_acked all o) j 0 ≤ B j
+bases-within B all None j told low = low j
+bases-within B all (Some a) j told low =
+    at_set_if (λ z. z ≤ B j) all a.from j (max a.number (get_or all a.from 0)) 0
+    (λ e. subst (λ k. max a.number (get_or all a.from 0) ≤ B k) e (omega (arith, told, low a.from)))
+    (low j)
+
+base-at : (n : NodeView) (j : ℕ) → get_or (bases n) j 0 ≡ (link_to n j).base
+base-at n j = get_or-map base_of n.links j no_link
+
+-- the node after an event, with a state that it shows
+pub node-moved : (saved : List NodeState) (i : ℕ) (n m : NodeView) (e : Event) (s t : NodeState)
+    (o : Option Ack)
+    → ShowsNode saved i n s → Leaves n m e → Shows m t → bases m ≡ bases_acked (bases n) o
+    → IsAckWithin (λ j. got_from (node_at saved j).local i) o → ShowsNode saved i m t
+node-moved saved i n m e s t o h left shown let_go told = record {
+  shows = shown;
+  counted = λ j. link-same kept_of m n j left.kept ∙ h.counted j;
+  acks = left.acks ∙ h.acks;
+  keeps = λ j.
+      let low =
+      bases-within (λ k. got_from (node_at saved k).local i) (bases n) o j told
+      (λ k. omega (arith, base-at n k, h.keeps k)) in
+      omega (arith, base-at m j, ap (λ z. get_or z j 0) let_go, low);
 }
 
--- what a node answered, as what became of the step
-abbrev pub answered : Result Answer Refusal → Result Outcome Refusal
-answered (Ok a) = Ok (outcome.Answer a)
-answered (Err e) = Err e
+-- ---- saves
 
-pub moved-follows : (n : Simulated) (w : World) (i : ℕ) (e : Step) (f : Event) (v : NodeView) (r : Result Answer Refusal) (x : Result (NodeState × Answer) Refusal) → ShowsWorld n w → IsCounted w i v → ack_of f ≡ None → take_step w e ≡ moved w i x → Follows f r v x → FollowsStep (answered r) (record n { current = set n.current i v }) (take_step w e)
-moved-follows n w i e f v (Ok a) x h counted none is (s, stepped, shows) =
-    let answer : take_step w e ≡ Ok (record w { current = set w.current i s }, outcome.Answer a) = is ∙ ap (moved w i) stepped in (
-      record w { current = set w.current i s },
-      answer,
-      shows-moved n w i v s e (outcome.Answer a) h counted answer shows,
-    )
-moved-follows n w i e f v (Err r) x h counted none is refused = λ ne. is ∙ ap (moved w i) (refused (subst (λ (o : Option Ack). IsTold o r) (sym none) tt) ne)
+-- counting all messages as saved changes nothing else
+kept-link : (n : NodeView) (j : ℕ) → link_to (kept_view n) j ≡ all_kept (link_to n j)
+kept-link n j = get_or-map all_kept n.links j no_link
 
-pub is-node : (n : Simulated) (w : World) (i : ℕ) → ShowsWorld n w → i < length n.current → is_node w i ≡ true
-is-node n w i h within = lt-ltb i (length w.current) (subst (λ (k : ℕ). i < k) h.current.width within)
+kept-sent : (l : Link) (sent : List Message) → ShowsSent l sent → ShowsSent (all_kept l) sent
+kept-sent l sent h = record { within = h.within; unacknowledged = h.unacknowledged }
 
-pub is-no-node : (n : Simulated) (w : World) (i : ℕ) → ShowsWorld n w → length n.current ≤ i → is_node w i ≡ false
-is-no-node n w i h past = le-ltb i (length w.current) (subst (λ (k : ℕ). k ≤ i) h.current.width past)
-
--- a node's own event is no acknowledgement
-pub own-none : (e : Event) → is_own e ≡ true → ack_of e ≡ None
-own-none (event.Ack a) own = absurd cc
-own-none (event.Data d) own = refl
-own-none (event.Alloc register places) own = refl
-own-none (event.Copy register source) own = refl
-own-none (event.Drop register) own = refl
-own-none (event.Load register object place) own = refl
-own-none (event.Store object place register) own = refl
-own-none (event.Clear object place) own = refl
-own-none (event.Word object) own = refl
-own-none (event.SetWord object word) own = refl
-own-none (event.Give to label register) own = refl
-own-none (event.Accept register) own = refl
-own-none (event.Put object place register) own = refl
-own-none (event.Get object place label) own = refl
-
--- an event of a node
-pub act-follows : (n : Simulated) (w : World) (i : ℕ) (e : Event) (v : NodeView) (r : Result Answer Refusal) → ShowsWorld n w → IsCounted w i v → i < length n.current → is_own e ≡ true → Follows e r v (act (node_at w.current i) e) → FollowsStep (answered r) (record n { current = set n.current i v }) (take_step w (step.Act i e))
-unfolding take_step
-act-follows n w i e v r h counted within own follows =
-    moved-follows n w i (step.Act i e) e v r (act (node_at w.current i) e) h counted (own-none e own) (cond-true _ _ _ (is-node n w i h within) ∙ cond-true _ _ _ own) follows
-
-pub act-no-node : (n : Simulated) (w : World) (i : ℕ) (e : Event) → ShowsWorld n w → length n.current ≤ i → FollowsStep (Err NoNode) n (take_step w (step.Act i e))
-unfolding take_step
-act-no-node n w i e h past = λ ne. cond-false _ _ _ (is-no-node n w i h past)
-
--- a restart
-pub restart-follows : (n : Simulated) (w : World) (i : ℕ) → ShowsWorld n w → i < length n.current → FollowsStep (Ok outcome.Done) (record n { current = set n.current i (view_at n.saved i) }) (take_step w (step.Restart i))
-unfolding take_step
-restart-follows n w i h within =
-    let answer : take_step w (step.Restart i) ≡ Ok (record w { current = set w.current i (node_at w.saved i) }, outcome.Done) = cond-true _ _ _ (is-node n w i h within) in (
-      record w { current = set w.current i (node_at w.saved i) },
-      answer,
-      shows-moved n w i (view_at n.saved i) (node_at w.saved i) (step.Restart i) outcome.Done h (record { kept = h.saved_counted i; acks = h.saved_acked i; base = h.saved_keeps i }) answer (h.saved.each i),
-    )
-
-pub restart-no-node : (n : Simulated) (w : World) (i : ℕ) → ShowsWorld n w → length n.current ≤ i → FollowsStep (Err NoNode) n (take_step w (step.Restart i))
-unfolding take_step
-restart-no-node n w i h past = λ ne. cond-false _ _ _ (is-no-node n w i h past)
-
-pub save-no-node : (n : Simulated) (w : World) (i : ℕ) → ShowsWorld n w → length n.current ≤ i → FollowsStep (Err NoNode) n (take_step w (step.Save i))
-unfolding take_step
-save-no-node n w i h past = λ ne. cond-false _ _ _ (is-no-node n w i h past)
-
--- a node that did something stands where it stood
-pub placed-acted : (count i : ℕ) (u v : NodeView) → IsPlaced count i u → (v.local.shape ≡ u.local.shape) × (v.local.own ≡ u.local.own) → map base_of v.links ≡ map base_of u.links → IsPlaced count i v
-placed-acted count i u v h place bases = record {
-  own = place.1 ∙ h.own;
-  nodes = ap (λ (z : Shaped). z.nodes) place.0 ∙ h.nodes;
-  links = sym (length-map v.links base_of) ∙ ap length bases ∙ length-map u.links base_of ∙ h.links;
+kept-shows : (n : NodeView) (s : NodeState) → Shows n s → Shows (kept_view n) s
+kept-shows n s h = record {
+  local = h.local;
+  width = length-map n.links all_kept ∙ h.width;
+  links = λ j.
+      subst (λ (l : Link). ShowsSent l (sent_to s j)) (sym (kept-link n j))
+      (kept-sent (link_to n j) (sent_to s j) (h.links j));
 }
 
-pub sim-moved : (n : Simulated) (i : ℕ) (v : NodeView) → IsSim n → IsPlaced (length n.current) i v → ((j : ℕ) → (link_to v j).base ≤ length (frames_of n.released i j)) → IsSim (record n { current = set n.current i v })
-sim-moved n i v h here low =
-    let width : length (set n.current i v) ≡ length n.current = length-set n.current i v in
+-- so many messages were appended as the state has sent
+sent-used : (l : Link) (sent : List Message) → ShowsSent l sent → used l ≡ length sent
+sent-used l sent h = omega (arith, h.within, ap length h.unacknowledged, length-drop l.base sent)
+
+-- what a node kept under a number is the message of that number
+message-shown : (l : Link) (sent : List Message) (k : ℕ) → ShowsSent l sent → l.base ≤ k
+    → message_of l (k + 1) ≡ slice_get sent k
+message-shown l sent k h low =
+    let over : leb (k + 1) l.base ≡ false = lt-leb (k + 1) l.base (omega arith) in
+    let place : k + 1 - l.base - 1 ≡ k - l.base = omega arith in
+    let back : l.base + (k - l.base) ≡ k = omega arith in
+    cond-false (leb (k + 1) l.base) None (slice_get l.unacknowledged (k + 1 - l.base - 1)) over
+    ∙ ap (slice_get l.unacknowledged) place
+    ∙ ap (λ (z : List Message). slice_get z (k - l.base)) h.unacknowledged
+    ∙ slice_get-drop sent l.base (k - l.base) ∙ ap (slice_get sent) back
+
+-- a longer list of messages has the same message in a place that has a frame
+frame-grows : (i j k : ℕ) (before after : List Message) (x : Option Message) (bytes : List ℕ)
+    → Grows before after
+    → slice_get before k ≡ x → IsFrameOf i j k x (Some bytes)
+    → IsFrameOf i j k (slice_get after k) (Some bytes)
+frame-grows i j k before after None bytes more is h = absurd h
+frame-grows i j k before after (Some x) bytes more is h =
+    subst (λ (o : Option Message). IsFrameOf i j k o (Some bytes))
+    (sym (slice_get-grows before after k x more is)) h
+
+abbrev AreFrames : ℕ → ℕ → List Message → List (List ℕ) → Type 0
+AreFrames i j sent frames = (k : ℕ) → IsFrameOf i j k (slice_get sent k) (slice_get frames k)
+
+-- each frame is that of its message, also those that a save made
+saved-frames : (n : NodeView) (j : ℕ) (before after : List (List ℕ)) (was now : List Message)
+    → IsStaged n j before after → ShowsSent (link_to n j) now → Grows was now
+    → AreFrames n.local.own j was before → AreFrames n.local.own j now after
+saved-frames n j before after was now staged shown grown old k =
+    ⊎_elim
+    (λ early.
+    let there : slice_get before k ≡ Some (get_or before k []) =
+    slice_get-get_or before k [] early in
+    let at : slice_get after k ≡ Some (get_or before k []) =
+    slice_get-take after (length before) k (omega (arith, early, ap length staged.old))
+    ∙ ap (λ z. slice_get z k) staged.old ∙ there in
+    subst (IsFrameOf n.local.own j k (slice_get now k)) (sym at)
+    (frame-grows n.local.own j k was now (slice_get was k) (get_or before k []) grown refl
+    (subst (IsFrameOf n.local.own j k (slice_get was k)) there (old k))))
+    (λ late.
+    subst (λ (o : Option Message). IsFrameOf n.local.own j k o (slice_get after k))
+    (message-shown (link_to n j) now k shown (le_trans staged.kept late)) (staged.new k late))
+    (cases_lt k (length before))
+
+-- the saved states after a save of node i
+abbrev pub saved_after : World → ℕ → List NodeState
+saved_after w i = set w.saved i (node_at w.current i)
+
+-- Nothing that was acknowledged is less so, where the node has taken in what it acknowledges.
+acknowledged-more : (w : World) (i a j : ℕ) → i < length w.saved
+    → got_from (node_at w.saved i).local a ≤ got_from (node_at w.current i).local a
+    → got_from (node_at w.saved j).local a ≤ got_from (node_at (saved_after w i) j).local a
+acknowledged-more w i a j less heard =
+    at_each (λ k (s : NodeState). got_from (node_at w.saved k).local a ≤ got_from s.local a)
+    w.saved i j (node_at w.current i) no_node less heard (λ _. le_refl _)
+
+-- the nodes of the site that was saved, and those of another
+node-saved : (w : World) (i : ℕ) (n : NodeView) → i < length w.saved
+    → ShowsNode w.saved i n (node_at w.current i)
+    → ((a j : ℕ)
+    → got_from (node_at w.saved j).local a ≤ got_from (node_at (saved_after w i) j).local a)
+    → ShowsNode (saved_after w i) i (kept_view n) (node_at w.current i)
+node-saved w i n less h more =
+    let now : node_at w.current i ≡ node_at (saved_after w i) i =
+    sym (get_or-set_same w.saved i (node_at w.current i) no_node less) in
     record {
-      small = subst (λ (k : ℕ). k ≤ GREATEST_NODES) (sym width) h.small;
-      saved_width = h.saved_width ∙ sym width;
-      rows = h.rows ∙ sym width;
-      row = λ j less. h.row j (subst (λ (k : ℕ). j < k) width less) ∙ sym width;
-      current = λ j less. subst (λ (k : ℕ). IsPlaced k j (view_at (set n.current i v) j)) (sym width) (at_set_if (IsPlaced (length n.current) j) n.current i j v no_view (λ e. subst (λ (k : ℕ). IsPlaced (length n.current) k v) e here) (h.current j (subst (λ (k : ℕ). j < k) width less)));
-      saved = λ j less. subst (λ (k : ℕ). IsPlaced k j (view_at n.saved j)) (sym width) (h.saved j (subst (λ (k : ℕ). j < k) width less));
-      current_kept = kept-set n.current n.released i v h.current_kept low;
-      saved_kept = h.saved_kept;
+      shows = kept-shows n (node_at w.current i) h.shows;
+      counted = λ j.
+          ap (λ (l : Link). l.kept) (kept-link n j) ∙ sent-used _ _ (h.shows.links j)
+          ∙ ap (λ (s : NodeState). length (sent_to s j)) now;
+      acks = ap (λ (p : LocalState). p.got) h.shows.local ∙ ap (λ (s : NodeState). s.local.got) now;
+      keeps = λ j. omega (arith, ap (λ (l : Link). l.base) (kept-link n j), h.keeps j, more i j);
     }
 
--- The same as the code has it: n is the space of its fields and m the one that callers see, u is the node
--- that was read from its place, and v the node afterwards.
-pub read-is : (nodes : List NodeView) (i : ℕ) (u : NodeView) → i < length nodes → u ≡ get_or nodes i u → u ≡ view_at nodes i
-read-is nodes i u within read = get_or_read nodes i u within read no_view
+node-other : (w : World) (i k : ℕ) (n : NodeView) (s : NodeState) → k ≢ i → ShowsNode w.saved k n s
+    → ((a j : ℕ)
+    → got_from (node_at w.saved j).local a ≤ got_from (node_at (saved_after w i) j).local a)
+    → ShowsNode (saved_after w i) k n s
+node-other w i k n s other h more =
+    let same : node_at w.saved k ≡ node_at (saved_after w i) k =
+    sym (get_or-set_other w.saved i k (node_at w.current i) no_node other) in
+    record {
+      shows = h.shows;
+      counted = λ j. h.counted j ∙ ap (λ (t : NodeState). length (sent_to t j)) same;
+      acks = h.acks ∙ ap (λ (t : NodeState). t.local.got) same;
+      keeps = λ j. le_trans (h.keeps j) (more k j);
+    }
 
-pub within-seen : (n m : Simulated) (i : ℕ) → n ≡ m → i < length m.current → i < length n.current
-within-seen n m i same within = subst (λ (z : Simulated). i < length z.current) (sym same) within
-
-pub shows-seen : (n m : Simulated) (w : World) → n ≡ m → ShowsWorld m w → ShowsWorld n w
-shows-seen n m w same h = subst (λ (z : Simulated). ShowsWorld z w) (sym same) h
-
-pub sim-acted : (n m : Simulated) (i : ℕ) (u v : NodeView) → n ≡ m → IsSim n → i < length m.current → u ≡ get_or n.current i u → (v.local.shape ≡ u.local.shape) × (v.local.own ≡ u.local.own) → map base_of v.links ≡ map base_of u.links → IsSim (record n { current = set n.current i v })
-sim-acted n m i u v seen h less read place bases =
-    let within : i < length n.current = within-seen n m i seen less in
-    let there : u ≡ view_at n.current i = read-is n.current i u within read in
-    let was : IsPlaced (length n.current) i u = subst (IsPlaced (length n.current) i) (sym there) (h.current i within) in
-    let low : (j : ℕ) → (link_to v j).base ≤ length (frames_of n.released i j) = λ j. subst (λ (b : ℕ). b ≤ length (frames_of n.released i j)) (sym (link-same base_of v u j bases ∙ ap (λ (z : NodeView). (link_to z j).base) there)) (h.current_kept i j) in
-    sim-moved n i v h (placed-acted (length n.current) i u v was place bases) low
-
--- what the node counts as released, as it was read from its place
-pub counted-read : (n : Simulated) (w : World) (i : ℕ) (u v : NodeView) → ShowsWorld n w → i < length n.current → u ≡ get_or n.current i u → map kept_of v.links ≡ map kept_of u.links → v.acks ≡ u.acks → map base_of v.links ≡ map base_of u.links → IsCounted w i v
-counted-read n w i u v h within read kept acks bases =
-    let there : u ≡ view_at n.current i = read-is n.current i u within read in
-    counted-as n w i v h (kept ∙ ap (λ (z : NodeView). map kept_of z.links) there) (acks ∙ ap (λ (z : NodeView). z.acks) there) (λ j. subst (λ (b : ℕ). b ≤ acknowledged w i j) (sym (link-same base_of v u j bases ∙ ap (λ (z : NodeView). (link_to z j).base) there)) (h.current_keeps i j))
-
--- what the node does follows from its state
-pub node-follows : (n : Simulated) (w : World) (i : ℕ) (e : Event) (u v : NodeView) (r : Result Answer Refusal) → ShowsWorld n w → i < length n.current → u ≡ get_or n.current i u → ((s : NodeState) → Shows u s → Follows e r v (act s e)) → Follows e r v (act (node_at w.current i) e)
-node-follows n w i e u v r h within read follows =
-    follows (node_at w.current i) (subst (λ (z : NodeView). Shows z (node_at w.current i)) (sym (read-is n.current i u within read)) (h.current.each i))
-
-pub acted-follows : (n m : Simulated) (w : World) (i node : ℕ) (e : Event) (u v : NodeView) (r : Result Answer Refusal) → n ≡ m → ShowsWorld m w → i < length m.current → i ≡ node → is_own e ≡ true → u ≡ get_or n.current i u → map kept_of v.links ≡ map kept_of u.links → v.acks ≡ u.acks → map base_of v.links ≡ map base_of u.links → ((s : NodeState) → Shows u s → Follows e r v (act s e)) → FollowsStep (answered r) (record n { current = set n.current i v }) (take_step w (step.Act node e))
-acted-follows n m w i node e u v r seen shown less named own read kept acks bases follows =
-    let within : i < length n.current = within-seen n m i seen less in
-    let h : ShowsWorld n w = shows-seen n m w seen shown in
-    subst (λ (k : ℕ). FollowsStep (answered r) (record n { current = set n.current i v }) (take_step w (step.Act k e))) named (act-follows n w i e v r h (counted-read n w i u v h within read kept acks bases) within own (node-follows n w i e u v r h within read follows))
-
--- a restart as the code has it: u is the saved node, v its copy
-restarted-is : (n : Simulated) (i : ℕ) (u v : NodeView) → IsSim n → i < length n.current → u ≡ get_or n.saved i u → v ≡ u → v ≡ view_at n.saved i
-restarted-is n i u v h within read copy =
-    copy ∙ read-is n.saved i u (subst (λ (k : ℕ). i < k) (sym h.saved_width) within) read
-
-pub sim-restarted : (n m : Simulated) (i : ℕ) (u v : NodeView) → n ≡ m → IsSim n → i < length m.current → u ≡ get_or n.saved i u → v ≡ u → IsSim (record n { current = set n.current i v })
-sim-restarted n m i u v seen h less read copy =
-    let within : i < length n.current = within-seen n m i seen less in
-    let same : v ≡ view_at n.saved i = restarted-is n i u v h within read copy in
-    sim-moved n i v h (subst (IsPlaced (length n.current) i) (sym same) (h.saved i within)) (λ j. subst (λ (z : NodeView). (link_to z j).base ≤ length (frames_of n.released i j)) (sym same) (h.saved_kept i j))
-
-pub restarted-follows : (n m : Simulated) (w : World) (i node : ℕ) (u v : NodeView) → n ≡ m → ShowsWorld m w → IsSim n → i < length m.current → i ≡ node → u ≡ get_or n.saved i u → v ≡ u → FollowsStep (Ok outcome.Done) (record n { current = set n.current i v }) (take_step w (step.Restart node))
-restarted-follows n m w i node u v seen shown sim less named read copy =
-    let within : i < length n.current = within-seen n m i seen less in
-    let same : v ≡ view_at n.saved i = restarted-is n i u v sim within read copy in
-    let here : FollowsStep (Ok outcome.Done) (record n { current = set n.current i v }) (take_step w (step.Restart i)) = subst (λ (z : NodeView). FollowsStep (Ok outcome.Done) (record n { current = set n.current i z }) (take_step w (step.Restart i))) (sym same) (restart-follows n w i (shows-seen n m w seen shown) within) in
-    subst (λ (k : ℕ). FollowsStep (Ok outcome.Done) (record n { current = set n.current i v }) (take_step w (step.Restart k))) named here
-
--- ---- what was let go of
-
--- what a node has let go of
-abbrev pub row_of : NodeView → List ℕ
-row_of v = map base_of v.links
-
-pub acted-lets-go : (n m : Simulated) (i : ℕ) (u v : NodeView) → n ≡ m → i < length m.current → u ≡ get_or n.current i u → map base_of v.links ≡ map base_of u.links → bases_of (record n { current = set n.current i v }) ≡ bases_of m
-acted-lets-go n m i u v seen less read same =
-    let there : u ≡ view_at n.current i = read-is n.current i u (within-seen n m i seen less) read in
-    ap (λ (b : List (List ℕ)). record (bases_of n) { current = b }) (map-set_same row_of n.current i v no_view (same ∙ ap row_of there)) ∙ ap bases_of seen
-
-pub restarted-lets-go : (n m : Simulated) (i node : ℕ) (u v : NodeView) → n ≡ m → IsSim n → i < length m.current → i ≡ node → u ≡ get_or n.saved i u → v ≡ u → bases_of (record n { current = set n.current i v }) ≡ bases_after (bases_of m) (step.Restart node) outcome.Done
-restarted-lets-go n m i node u v seen sim less named read copy =
-    let same : v ≡ view_at n.saved i = restarted-is n i u v sim (within-seen n m i seen less) read copy in
-    let row : row_of v ≡ get_or (bases n.saved) i [] = ap row_of same ∙ sym (get_or-map row_of n.saved i no_view) in
-    let here : bases_of (record n { current = set n.current i v }) ≡ bases_after (bases_of n) (step.Restart i) outcome.Done = ap (λ (b : List (List ℕ)). record (bases_of n) { current = b }) (map-set row_of n.current i v ∙ ap (set (bases n.current) i) row) in
-    here ∙ ap (λ (z : Simulated). bases_after (bases_of z) (step.Restart i) outcome.Done) seen ∙ ap (λ (k : ℕ). bases_after (bases_of m) (step.Restart k) outcome.Done) named
+pub shows-saved : {n m : List SiteView} {i : ℕ} {q p : SiteView} (w : World) (s : Step)
+    (o : Outcome)
+    → Changes n m i q p → ShowsWorld n w
+    → take_step w s ≡ Ok (record w { saved = saved_after w i }, o)
+    → q.current.local.own ≡ i → Saves q p → IsNode q.current
+    → ShowsWorld m (record w { saved = saved_after w i })
+shows-saved {n = n} {i = i} {q = q} {p = p} w s o c h stepped own saves node =
+    let v : World = record w { saved = saved_after w i } in
+    let t : NodeState = node_at w.current i in
+    let old : ShowsSite w i q = subst (ShowsSite w i) (sym c.old) (h.each i) in
+    let less : i < length w.saved = omega (arith, c.within, h.width, h.grown.width) in
+    let now : t ≡ node_at (saved_after w i) i = sym (get_or-set_same w.saved i t no_node less) in
+    let more = λ (a j : ℕ).
+    acknowledged-more w i a j less
+    (omega (
+      arith,
+      ap (λ z. get_or z a 0) old.current.acks,
+      node.links.links.acks a,
+      ap (λ (x : LocalState). got_from x a) old.current.shows.local,
+    )) in
+    let here : ShowsNode (saved_after w i) i (kept_view q.current) t =
+    node-saved w i q.current less old.current more in
+    shows-changed w v c h refl (grown-by w v s o h.grown stepped)
+    (record {
+      current = subst (λ z. ShowsNode (saved_after w i) i z t) (sym saves.current) here;
+      saved = subst (λ z. ShowsNode (saved_after w i) i p.saved z) now
+          (subst (λ z. ShowsNode (saved_after w i) i z t) (sym saves.saved) here);
+      released = λ j k apart.
+          let frames =
+          saved-frames q.current j (frames_to q j) (frames_to p j)
+          (sent_to (node_at w.saved i) j) (sent_to t j)
+          (saves.frames j (λ e. apart (sym (e ∙ own)))) (old.current.shows.links j)
+          (h.grown.sent i j)
+          (subst (λ z. AreFrames z j (sent_to (node_at w.saved i) j) (frames_to q j)) (sym own)
+          (λ a. old.released j a apart)) in
+          subst (λ z.
+          IsFrameOf z j k (slice_get (sent_to (node_at (saved_after w i) i) j) k)
+          (slice_get (frames_to p j) k)) own
+          (subst (λ (z : NodeState).
+          IsFrameOf q.current.local.own j k (slice_get (sent_to z j) k)
+          (slice_get (frames_to p j) k)) now (frames k));
+    })
+    (λ k other was.
+    let same : node_at w.saved k ≡ node_at (saved_after w i) k =
+    sym (get_or-set_other w.saved i k t no_node other) in
+    record {
+      current = node-other w i k _ _ other was.current more;
+      saved = subst (ShowsNode (saved_after w i) k (site_at n k).saved) same
+          (node-other w i k _ _ other was.saved more);
+      released = λ j a apart.
+          subst (λ (z : NodeState).
+          IsFrameOf k j a (slice_get (sent_to z j) a) (slice_get (frames_to (site_at n k) j) a))
+          same (was.released j a apart);
+    })

@@ -1,5 +1,6 @@
+pub mod InsideFrames
 pub mod Outboxes
 pub mod InsideOutbox
-pub mod Rows
+pub mod Sites
+pub mod InsideSite
 pub mod Shows
-pub mod InsideSim

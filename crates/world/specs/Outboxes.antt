@@ -1,11 +1,11 @@
 -- The frames of one node's messages to another.
-use Rattle.std.specs.Prelude.{◌≡◌, ℕ, ◌+◌, ◌-◌, ◌≤◌, cond, nat_lt, List, [], take, length, Option, Some, None, slice_get}
+use Rattle.std.specs.Prelude.{◌≡◌, ◌≢◌, ℕ, ◌+◌, ◌-◌, ◌<◌, ◌≤◌, cond, nat_lt, List, [], take, length, Option, Some, None, slice_get, slice_index_or}
 use Rattle.msg.specs.Grammar.{Fits, spelling, data_frame}
 use Rattle.msg.specs.declared.body.Message.{Message}
-use Rattle.model.specs.View.{NodeView, link_to, message_of}
+use Rattle.model.specs.View.{NodeView, link_to, used, message_of}
 
--- all frames, and how many of them are released: the others are those of a save that is under way or
--- that was refused
+-- all frames, and how many of them are released: the others are those of a save that is under way
+-- or that was refused
 pub record OutboxView : Type 0 where
   pub frames : List (List ℕ)
   pub released : ℕ
@@ -16,27 +16,52 @@ no_outbox = record { frames = []; released = 0 }
 abbrev pub released_frames : OutboxView → List (List ℕ)
 released_frames b = take b.released b.frames
 
+abbrev pub all_released : OutboxView → OutboxView
+all_released b = record b { released = length b.frames }
+
 -- the frame of a number, if it was released; numbers begin with 1
 abbrev pub numbered_bytes : List (List ℕ) → ℕ → Option (List ℕ)
 numbered_bytes frames number = cond (nat_lt 0 number) (slice_get frames (number - 1)) None
 
--- The bytes are the frame of the message in this place among all from one node to another, counted from
--- 0; where there is no message there is no frame.
+-- The bytes are the frame of the message in this place among all from one node to another, counted
+-- from 0; where there is no message there is no frame.
 abbrev pub IsFrameOf : (from to place : ℕ) → Option Message → Option (List ℕ) → Type 0
 IsFrameOf from to place None None = Unit {0}
 IsFrameOf from to place None (Some bytes) = ⊥
 IsFrameOf from to place (Some x) None = ⊥
 IsFrameOf from to place (Some x) (Some bytes) =
-    Fits (data_frame from to (place + 1) x.stamp x.body) × (bytes ≡ spelling (data_frame from to (place + 1) x.stamp x.body))
+    Fits (data_frame from to (place + 1) x.stamp x.body)
+    × (bytes ≡ spelling (data_frame from to (place + 1) x.stamp x.body))
 
 -- from this place on, the frames are those of the messages that the node has appended for another
 abbrev pub AreFramesFrom : ℕ → NodeView → ℕ → List (List ℕ) → Type 0
 AreFramesFrom first n to frames =
-    (k : ℕ) → first ≤ k → IsFrameOf n.local.own to k (message_of (link_to n to) (k + 1)) (slice_get frames k)
+    (k : ℕ) → first ≤ k
+    → IsFrameOf n.local.own to k (message_of (link_to n to) (k + 1)) (slice_get frames k)
 
--- the outbox has the frames of all messages that the node has appended, and has released none
-abbrev pub IsStaged : NodeView → ℕ → OutboxView → OutboxView → Type 0
-IsStaged n to before after = AreFramesFrom (length (released_frames before)) n to after.frames
+-- the frames that were there, and after them those of all messages that the node has appended
+-- since, none of which it has let go of
+pub record IsStaged (n : NodeView) (to : ℕ) (before after : List (List ℕ)) : Type 0 where
+  pub kept : (link_to n to).base ≤ length before
+  pub old : take (length before) after ≡ before
+  pub new : AreFramesFrom (length before) n to after
+  pub all : used (link_to n to) ≤ length after
 
-abbrev pub all_released : OutboxView → OutboxView
-all_released b = record b { released = length b.frames }
+-- ---- the outboxes of a node, one to each node of the space
+
+-- of each link to another node no message is let go of before its frame was released
+abbrev pub HasFrames : NodeView → List (List (List ℕ)) → Type 0
+HasFrames n rows =
+    (j : ℕ) → j ≢ n.local.own → (link_to n j).base ≤ length (slice_index_or rows j [])
+
+-- what was released before, and after it the frames of all messages since
+abbrev pub Releases : NodeView → (before after : List (List (List ℕ))) → Type 0
+Releases n before after =
+    (j : ℕ) → j ≢ n.local.own
+    → IsStaged n j (slice_index_or before j []) (slice_index_or after j [])
+
+-- the outboxes to the nodes below one number have the frames of all messages, released or not
+abbrev pub AreStagedTo : ℕ → NodeView → List (List (List ℕ)) → List OutboxView → Type 0
+AreStagedTo end n before after =
+    (j : ℕ) → j < end → j ≢ n.local.own
+    → IsStaged n j (slice_index_or before j []) (slice_index_or after j no_outbox).frames

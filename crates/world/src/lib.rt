@@ -1,10 +1,12 @@
-//! A space of nodes in one thread: each step is one step of the definitions in `model`, over current
-//! states, saved states and the frames that saved states released.
+//! A space of nodes in one thread: each step is one step of the definitions in `model`, over
+//! current states, saved states and the frames that saved states released.
 #![tactic(auto)]
 
+mod frames;
 mod headline;
 mod outbox;
 mod sim;
+mod site;
 
 pub use headline::laws;
 pub use model::{Answer, Event, Letter, Outcome, Step};

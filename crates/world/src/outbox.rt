@@ -1,20 +1,22 @@
-ghost use Rattle.std.specs.Prelude.{◌≡◌, ◌≢◌, ◌≤◌, ◌<◌, ℕ, length, map, take, replicate, slice_index_or, IsTrue, IfOk, IfErr, OnOk};
+ghost use Rattle.std.specs.Prelude.{◌≡◌, ◌≢◌, ◌≤◌, ◌<◌, ℕ, length, map, take, replicate, slice_index_or, IsTrue, IfOk, IfErr, OnOk, OnErr};
 ghost use Rattle.std.specs.Option.{option_map};
 ghost use Rattle.ids.specs.declared.refusal.Refusal.TheVariants.{Memory};
 ghost use Rattle.model.specs.View.{link_to, is_other};
-ghost use Rattle.world.specs.Outboxes.{no_outbox, released_frames, all_released, numbered_bytes, AreFramesFrom, IsStaged};
+ghost use Rattle.node.specs.Invariant.{IsNode};
+ghost use Rattle.world.specs.Outboxes.{no_outbox, released_frames, all_released, numbered_bytes, IsStaged, HasFrames, AreStagedTo, Releases};
 
+use crate::frames::Frames;
 use ids::Refusal;
 use msg::encode;
 use node::Node;
 use std::alloc::Global;
 use std::marker::Model;
 
-/// The frames of one node's messages to another: those that were released, and after them the ones that
-/// the save under way is to release.
+/// The frames of one node's messages to another: those that were released, and after them the ones
+/// that the save under way is to release.
 #[derive(Drop)]
 pub struct Outbox {
-    frames: Vec<Vec<u8>>,
+    frames: Frames,
     released: usize,
 }
 
@@ -36,37 +38,32 @@ impl Outbox {
         ensures { result ≡ no_outbox }
     {
         Outbox {
-            frames: Vec::new(alloc),
+            frames: Frames::new(alloc),
             released: 0,
         }
     }
 
     /// The bytes of the frame of this number, if it was released.
     pub fn frame(&self, number: u64) -> Option<&[u8]>
-        ensures { option_map (λ b. b.now) result ≡ numbered_bytes (released_frames self.now) number }
+        ensures { option_map (λ b. b.now) result
+            ≡ numbered_bytes (released_frames self.now) number }
     {
         let place = number.checked_sub(1)? as usize;
         if place < self.released {
-            Some(self.frames[place].as_slice())
+            Some(self.frames.get(place))
         } else {
             None
         }
     }
 
-    /// How many frames were released.
-    pub fn released(&self) -> u64
-        ensures { result ≡ length (released_frames self.now) }
-    {
-        self.released as u64
-    }
-
-    /// Makes the frames of all messages to the node `to` that follow the released ones, and releases none.
-    /// `Memory` where a growth was refused.
+    /// Makes the frames of all messages to the node `to` that follow the released ones, and
+    /// releases none. `Memory` where a growth was refused.
     pub fn stage(&mut self, alloc: Global, node: &Node, to: u8) -> Result<(), Refusal>
         requires other { IsTrue (is_other node.now.local to) }
         requires kept { (link_to node.now to).base ≤ length (released_frames self.old) }
         ensures released { released_frames self.new ≡ released_frames self.old }
-        ensures staged { OnOk result (IsStaged node.now to self.old self.new) }
+        ensures staged { OnOk result
+            (IsStaged node.now to (released_frames self.old) self.new.frames) }
         ensures refused { IfErr result (λ e. e ≡ Memory) }
     {
         self.frames.truncate(self.released);
@@ -81,16 +78,12 @@ impl Outbox {
     }
 }
 
-fn stage_frames(
-    alloc: Global,
-    frames: &mut Vec<Vec<u8>>,
-    node: &Node,
-    to: u8,
-) -> Result<(), Refusal>
+#[tactic(auto, using(crate::proofs::OutboxLemmas::staged_end))]
+fn stage_frames(alloc: Global, frames: &mut Frames, node: &Node, to: u8) -> Result<(), Refusal>
     requires other { IsTrue (is_other node.now.local to) }
-    requires kept { (link_to node.now to).base ≤ length frames.old.items }
-    ensures kept { take (length frames.old.items) frames.new.items ≡ frames.old.items }
-    ensures staged { OnOk result (AreFramesFrom (length frames.old.items) node.now to (map (λ v. v.items) frames.new.items)) }
+    requires kept { (link_to node.now to).base ≤ length frames.old }
+    ensures kept { take (length frames.old) frames.new ≡ frames.old }
+    ensures staged { OnOk result (IsStaged node.now to frames.old frames.new) }
     ensures refused { IfErr result (λ e. e ≡ Memory) }
 {
     let last = node.appended(to);
@@ -98,24 +91,13 @@ fn stage_frames(
         let Some(frame) = node.numbered_frame(to, place + 1) else {
             unreachable!()
         };
-        frames.push(encode(alloc, &frame)?)?;
+        frames.push(&encode(alloc, &frame)?)?;
     }
     Ok(())
 }
 
-/// For each of so many nodes its outboxes to each.
-pub fn new_outboxes(alloc: Global, count: u8) -> Result<Vec<Vec<Outbox>>, Refusal>
-    ensures made { IfOk result (λ v. map (λ r. r.items) v.items ≡ replicate count (replicate count no_outbox)) }
-    ensures refused { IfErr result (λ e. e ≡ Memory) }
-{
-    let mut rows = Vec::new(alloc);
-    for _node in 0..count {
-        rows.push(new_row(alloc, count)?)?;
-    }
-    Ok(rows)
-}
-
-fn new_row(alloc: Global, count: u8) -> Result<Vec<Outbox>, Refusal>
+/// An outbox to each of so many nodes.
+pub fn new_outboxes(alloc: Global, count: u8) -> Result<Vec<Outbox>, Refusal>
     ensures made { IfOk result (λ v. v.items ≡ replicate count no_outbox) }
     ensures refused { IfErr result (λ e. e ≡ Memory) }
 {
@@ -126,19 +108,34 @@ fn new_row(alloc: Global, count: u8) -> Result<Vec<Outbox>, Refusal>
     Ok(row)
 }
 
-/// Makes the frames of all messages that the node has appended since the released ones, to each other
-/// node, and releases none.
-pub fn stage_all(alloc: Global, row: &mut [Outbox], node: &Node, count: u8) -> Result<(), Refusal>
-    requires row { length row.old ≡ count }
-    requires nodes { node.now.local.shape.nodes ≡ count }
-    requires kept { (j : ℕ) → (link_to node.now j).base ≤ length (released_frames (slice_index_or row.old j no_outbox)) }
-    ensures released { map released_frames row.new ≡ map released_frames row.old }
-    ensures staged { OnOk result ((j : ℕ) → j < count → j ≢ node.now.local.own → IsStaged node.now j (slice_index_or row.old j no_outbox) (slice_index_or row.new j no_outbox)) }
+/// Makes and releases the frames of all messages that the node has appended since the released
+/// ones, to each other node. `Memory` where a growth was refused; then none is released.
+pub fn release_all(alloc: Global, row: &mut [Outbox], node: &Node) -> Result<(), Refusal>
+    requires node { IsNode node.now }
+    requires row { length row.old ≡ node.now.local.shape.nodes }
+    requires kept { HasFrames node.now (map released_frames row.old) }
+    ensures done { OnOk result
+        (Releases node.now (map released_frames row.old) (map released_frames row.new)) }
+    ensures unchanged { OnErr result (map released_frames row.new ≡ map released_frames row.old) }
     ensures refused { IfErr result (λ e. e ≡ Memory) }
 {
-    let own = node.state().own;
-    for to in 0..count {
-        if to != own {
+    stage_all(alloc, row, node)?;
+    release_staged(row);
+    Ok(())
+}
+
+/// Makes these frames, and releases none.
+fn stage_all(alloc: Global, row: &mut [Outbox], node: &Node) -> Result<(), Refusal>
+    requires row { length row.old ≡ node.now.local.shape.nodes }
+    requires kept { HasFrames node.now (map released_frames row.old) }
+    ensures released { map released_frames row.new ≡ map released_frames row.old }
+    ensures staged { OnOk result
+        (AreStagedTo (length row.old) node.now (map released_frames row.old) row.new) }
+    ensures refused { IfErr result (λ e. e ≡ Memory) }
+{
+    let summary = node.state();
+    for to in 0..summary.shape.nodes() {
+        if to != summary.own {
             let outbox = &mut row[usize::from(to)];
             outbox.stage(alloc, node, to)?;
         }
@@ -147,7 +144,7 @@ pub fn stage_all(alloc: Global, row: &mut [Outbox], node: &Node, count: u8) -> R
 }
 
 /// Releases all frames that were made.
-pub fn release_all(row: &mut [Outbox])
+fn release_staged(row: &mut [Outbox])
     ensures { row.new ≡ map all_released row.old }
 {
     for outbox in row.iter_mut() {

@@ -24,19 +24,11 @@ fn frames_are_printed(rt: HostRuntime) {
             "data 0 to 1 number 1 stamp 0 give 7 0.0.1\n",
         ),
         (
-            "440100000000000000000200000000000000010201FFFFFFFFFFFFFFFF",
-            "data 1 to 0 number 2 stamp 1 token black -1\n",
-        ),
-        (
             "440100000000000000000200000000000000010201ffffffffffffffff",
             "data 1 to 0 number 2 stamp 1 token black -1\n",
         ),
         (
             "44010000000000000000020000000000000000040000000A00",
-            "data 1 to 0 number 2 stamp 0 give 10 -\n",
-        ),
-        (
-            "44010000000000000000020000000000000000040000000a00",
             "data 1 to 0 number 2 stamp 0 give 10 -\n",
         ),
         ("4101000000000000000003", "ack 1 to 0 number 3\n"),
@@ -66,15 +58,12 @@ fn other_words_are_refused(rt: HostRuntime) {
         "4",
         "410100000000000000000",
         "410100000000000000000g",
-        "410100000000000000000G",
         "41 01",
         " 4101000000000000000003",
         "4101000000000000000003 ",
         " ",
         "0x44",
-        "0x",
         "-1",
-        "+1",
         "\u{0664}",
         "4\u{301}1",
     ] {

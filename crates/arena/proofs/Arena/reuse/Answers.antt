@@ -7,22 +7,38 @@ get_mut-requires g c = first_within _ _ _ _ _ (rw (← c.self.view_is) at c.requ
 
 pub occupy-generation-requires : goal.occupy-generation-requires
 occupy-generation-requires g c =
-    (fills _ _ _ _ _ _ c.args.value (rw (← c.self.view_is) at c.requires) c.get_mut.ensures.value c.self.invariant).free
+    let some = rw (← c.self.view_is) at c.requires in
+    (fills _ _ _ _ _ _ c.args.value some c.get_mut.ensures.value c.self.invariant).free
 
 pub overflow_add-self : goal.overflow_add-self
 overflow_add-self g c =
-    let below : c.self.inside.len + 1 < 2 ^ 32 =
-    len_fits _ _ _ _ _ (fills _ _ _ _ _ _ c.args.value (rw (← c.self.view_is) at c.requires) c.get_mut.ensures.value c.self.invariant).linked in
+    let some = rw (← c.self.view_is) at c.requires in
+    let f = fills _ _ _ _ _ _ c.args.value some c.get_mut.ensures.value c.self.invariant in
+    let below : c.self.inside.len + 1 < 2 ^ 32 = len_fits _ _ _ _ _ f.linked in
     omega arith
 
 pub invariant_of-self : goal.invariant_of-self
 invariant_of-self g c =
-    rw (c.occupy-generation.ensures.done, c.occupy-generation.ensures.next) (fills _ _ _ _ _ _ c.args.value (rw (← c.self.view_is) at c.requires) c.get_mut.ensures.value c.self.invariant).linked
+    let some = rw (← c.self.view_is) at c.requires in
+    let f = fills _ _ _ _ _ _ c.args.value some c.get_mut.ensures.value c.self.invariant in
+    let occupied = c.occupy-generation.ensures in
+    rw (occupied.done, occupied.next) f.linked
 
 pub returns-clause-key : goal.returns-clause-key
 returns-clause-key g c =
-    rw (← c.self.view_is, c.occupy-generation.ensures.generation) (fills _ _ _ _ _ _ c.args.value (rw (← c.self.view_is) at c.requires) c.get_mut.ensures.value c.self.invariant).key
+    let some = rw (← c.self.view_is) at c.requires in
+    let f = fills _ _ _ _ _ _ c.args.value some c.get_mut.ensures.value c.self.invariant in
+    rw (← c.self.view_is, c.occupy-generation.ensures.generation) f.key
+
+pub returns-clause-within : goal.returns-clause-within
+returns-clause-within g c =
+    let some = rw (← c.self.view_is) at c.requires in
+    let f = fills _ _ _ _ _ _ c.args.value some c.get_mut.ensures.value c.self.invariant in
+    rw (← c.self.view_is, c.occupy-generation.ensures.generation) f.within
 
 pub returns-clause-done : goal.returns-clause-done
 returns-clause-done g c =
-    rw (← c.self.view_is, c.occupy-generation.ensures.done, c.occupy-generation.ensures.next) (fills _ _ _ _ _ _ c.args.value (rw (← c.self.view_is) at c.requires) c.get_mut.ensures.value c.self.invariant).done
+    let some = rw (← c.self.view_is) at c.requires in
+    let f = fills _ _ _ _ _ _ c.args.value some c.get_mut.ensures.value c.self.invariant in
+    let occupied = c.occupy-generation.ensures in
+    rw (← c.self.view_is, occupied.done, occupied.next) f.done

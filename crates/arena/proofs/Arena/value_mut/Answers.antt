@@ -4,15 +4,23 @@ use Rattle.arena.proofs.Arena.value_mut.Goals as goal
 
 pub invariant_of-self-lent : goal.invariant_of-self-lent
 invariant_of-self-lent g c w =
-    (lends _ _ _ _ _ c.args.key _ w (rw (← c.self.view_is) at c.requires) c.get_mut-entry.ensures.value c.self.invariant).linked
+    let there = rw (← c.self.view_is) at c.requires in
+    let read = c.get_mut-entry.ensures.value in
+    (lends _ _ _ _ _ c.args.key _ w there read c.self.invariant).linked
 
 pub returns : goal.returns
 returns g c =
-    let asked = rw (← c.self.view_is) at c.requires in
-    let read = c.get_mut-entry.ensures.value in (
-      (refl, λ w. rw (← c.self.view_is) (lends _ _ _ _ _ c.args.key _ w asked read c.self.invariant).done),
+    let there = rw (← c.self.view_is) at c.requires in
+    let read = c.get_mut-entry.ensures.value in
+    let v = c.value_mut.result.now in
+    let lent = lends _ _ _ _ _ c.args.key _ v there read c.self.invariant in (
+      (
+        refl,
+        λ w. rw (← c.self.view_is)
+            (lends _ _ _ _ _ c.args.key _ w there read c.self.invariant).done,
+      ),
       record {
         writes_back = tt;
-        value = rw (← c.self.view_is) ((lends _ _ _ _ _ c.args.key _ c.value_mut.result.now asked read c.self.invariant).value c.value_mut.result.now c.value_mut.ensures.value);
+        value = rw (← c.self.view_is) (lent.value v c.value_mut.ensures.value);
       },
     )

@@ -1,8 +1,12 @@
+use Rattle.laws.proofs.NoEvent.{only-events-change}
 use Rattle.laws.proofs.Cuts.{cuts-extend}
 use Rattle.laws.proofs.Live.{reach-is-live}
-use Rattle.laws.proofs.Acknowledged.{none-beyond, hands-go-through, acknowledged-stays, acknowledged-is-taken-in}
 use Rattle.laws.proofs.Deliveries.{targets-are-live, none-refused-in-turn}
+use Rattle.laws.proofs.Net.{net-grows, none-beyond, acknowledgements-go-through, hands-go-through, acknowledged-is-taken-in}
 use Rattle.world.proofs.headline.laws.Goals as goal
+
+pub returns-clause-events : goal.returns-clause-events
+returns-clause-events c = only-events-change
 
 pub returns-clause-cuts_extend : goal.returns-clause-cuts_extend
 returns-clause-cuts_extend c = cuts-extend
@@ -13,17 +17,20 @@ returns-clause-live c = reach-is-live
 pub returns-clause-targets : goal.returns-clause-targets
 returns-clause-targets c = targets-are-live
 
+pub returns-clause-net : goal.returns-clause-net
+returns-clause-net c = net-grows
+
 pub returns-clause-in_turn : goal.returns-clause-in_turn
 returns-clause-in_turn c = none-refused-in-turn
 
 pub returns-clause-within : goal.returns-clause-within
 returns-clause-within c = none-beyond
 
+pub returns-clause-acknowledgements : goal.returns-clause-acknowledgements
+returns-clause-acknowledgements c = acknowledgements-go-through
+
 pub returns-clause-hands : goal.returns-clause-hands
 returns-clause-hands c = hands-go-through
-
-pub returns-clause-stays : goal.returns-clause-stays
-returns-clause-stays c = acknowledged-stays
 
 pub returns-clause-taken_in : goal.returns-clause-taken_in
 returns-clause-taken_in c = acknowledged-is-taken-in

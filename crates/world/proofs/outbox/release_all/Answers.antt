@@ -1,10 +1,13 @@
-use Rattle.std.proofs.Common.{sym, ap, ◌∙◌, set}
-use Rattle.std.proofs.lemmas.List.Edits.{map_over_more}
-use Rattle.world.specs.Outboxes.{all_released}
+use Rattle.std.proofs.Common.{map, sym, ◌∙◌}
+use Rattle.std.proofs.lemmas.List.{length-map}
+use Rattle.world.specs.Outboxes.{released_frames}
+use Rattle.world.proofs.OutboxLemmas.{row_releases}
 use Rattle.world.proofs.outbox.release_all.Goals as goal
 
-pub loop-outbox-preserved : goal.loop-outbox-preserved
-loop-outbox-preserved c =
-    let write = map_over_more all_released c.args.row.now c.loop-outbox.row c.loop-outbox.outbox-index c.outbox-item.result c.loop-outbox-test.true c.loop-outbox.invariant c.outbox-item.is in
-    let same = c.release.ensures ∙ ap all_released (sym c.outbox-item.is) in
-    ap (λ x. set c.loop-outbox.row c.loop-outbox.outbox-index x) same ∙ write
+pub returns-clause-done : goal.returns-clause-done
+returns-clause-done c =
+    let wide = length-map c.args.row.now released_frames in
+    rw c.release_staged.ensures
+    (row_releases c.args.node.now (map released_frames c.args.row.now) c.stage_all.new.row
+    (c.requires.node.links.width ∙ sym c.requires.row ∙ sym wide) (c.stage_all.auto.row ∙ sym wide)
+    (rw wide c.in_ok-stage_all.ensures.staged))

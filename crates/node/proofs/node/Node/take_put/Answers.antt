@@ -12,10 +12,17 @@ use Rattle.node.proofs.node.Node.take_put.Goals as goal
 
 pub invariant_of-self : goal.invariant_of-self
 invariant_of-self c =
-    let old = c.self.invariant.node in
     let inside = c.self.inside in
-    let new = subst (λ (n : NodeView). AllByRecursion (IsWithin n.local.shape) (mentioned (Put c.args.target c.args.place c.args.reference))) (sym c.self.view_is) c.requires.within in
+    let old = c.self.invariant.node in
+    let new =
+    subst (λ (n : NodeView).
+    AllByRecursion (IsWithin n.local.shape)
+    (mentioned (Put c.args.target c.args.place c.args.reference))) (sym c.self.view_is)
+    c.requires.takable.within in
+    let held =
+    subst (λ (h : HeapView). HoldsOnly (IsWithin inside.shape) h.heap) (sym c.set_place.ensures)
+    (put_references (IsWithin inside.shape) inside.heap.heap _ _ _ new old.references) in
     record {
-      node = node-heap (view_of inside) c.set_place.new.self.heap old (subst (λ (h : HeapView). HoldsOnly (IsWithin inside.shape) h.heap) (sym c.set_place.ensures) (put_references (IsWithin inside.shape) inside.heap.heap _ _ _ new old.references));
+      node = node-heap (view_of inside) c.set_place.new.self.heap old held;
       limit = ap (λ (h : HeapView). h.limit) c.set_place.ensures ∙ c.self.invariant.limit;
     }

@@ -1,0 +1,5 @@
+pub mod Times
+pub mod Torn
+pub mod Records
+pub mod Sides
+pub mod Moments

@@ -1,0 +1,132 @@
+-- What a step on one area makes of what a disk opens to.
+use Rattle.std.proofs.Common.{◌≡◌, ◌⊎◌, inl, inr, ⊎_elim, ℕ, ◌≤◌, ◌%◌, ◌==◌, Bool, true, false, not}
+use Rattle.std.proofs.Common.{List, [], ◌∷◌, length, Option, Some, refl, sym, ◌∙◌, ap, subst, arith}
+use Rattle.disk.specs.Areas.{Areas, part, Changes, Holds, Torn}
+use Rattle.ids.specs.declared.limits.TheConstants.{GREATEST_IMAGE}
+use Rattle.disk.proofs.Records.{recorded_holds}
+use Rattle.disk.specs.declared.device.Area.{Area}
+use Rattle.disk.specs.Shelf.{record_of, recorded, side, half, image_at, opened, OldOrNew, NoneOrNew}
+use Rattle.disk.specs.declared.device.Area.TheVariants.{Select, A, B}
+
+-- the area that isn't selected: the disk opens to what it did
+pub kept_aside : (step : List ℕ → List ℕ → Type 0) (in_b : Bool) (s c : Areas) →
+    side s.select ≡ Some in_b → Changes (half (not in_b)) step s c →
+    (side c.select ≡ Some in_b) × (opened c ≡ opened s)
+kept_aside step true s c is ch = (
+  ap side ch.1 ∙ is,
+  ap (λ (o : Option Bool). image_at o c) (ap side ch.1 ∙ is) ∙ ap recorded ch.2
+      ∙ sym (ap (λ (o : Option Bool). image_at o s) is),
+)
+kept_aside step false s c is ch = (
+  ap side ch.1 ∙ is,
+  ap (λ (o : Option Bool). image_at o c) (ap side ch.1 ∙ is) ∙ ap recorded ch.2
+      ∙ sym (ap (λ (o : Option Bool). image_at o s) is),
+)
+
+-- the image on a side
+pub image_on : (in_b : Bool) (d : Areas) → image_at (Some in_b) d ≡ recorded (part (half in_b) d)
+image_on true d = refl
+image_on false d = refl
+
+-- a side is selected only by some byte
+pub some_length : (select : List ℕ) (in_b : Bool) → side select ≡ Some in_b → 1 ≤ length select
+some_length [] in_b is = absurd cc
+some_length (x ∷ rest) in_b is = omega arith
+
+either_half : (b : Bool) (c : Areas) →
+    (image_at (Some b) c ≡ recorded c.a) ⊎ (image_at (Some b) c ≡ recorded c.b)
+either_half true c = inr refl
+either_half false c = inl refl
+
+-- whatever a selector says, it selects one of the two areas
+some_side : (select : List ℕ) (c : Areas) →
+    (select ≡ [])
+    ⊎ ((image_at (side select) c ≡ recorded c.a) ⊎ (image_at (side select) c ≡ recorded c.b))
+some_side [] c = inl refl
+some_side (x ∷ rest) c = inr (either_half (x % 2 == 1) c)
+
+-- the selector may be torn once both areas hold the image
+pub first_selector : (s c : Areas) (new : List ℕ) →
+    recorded s.a ≡ Some new → recorded s.b ≡ Some new → Changes Select (Torn 0 1) s c →
+    NoneOrNew new c
+first_selector s c new a b ch = ⊎_elim
+    (λ none. inl none)
+    (⊎_elim (λ on. inr (on ∙ ap recorded ch.1 ∙ a)) (λ on. inr (on ∙ ap recorded ch.2 ∙ b)))
+    (some_side c.select c)
+
+-- the selector may be torn once the other area holds the new image
+pub torn_selector : (in_b : Bool) (s c : Areas) (old : Option (List ℕ)) (new : List ℕ) →
+    1 ≤ length s.select → recorded (part (half in_b) s) ≡ old →
+    recorded (part (half (not in_b)) s) ≡ Some new → Changes Select (Torn 0 1) s c →
+    OldOrNew old new c
+torn_selector in_b s c old new some was is ch = ⊎_elim
+    (λ none. absurd (omega (arith, ap length none, some, ch.0.no_shorter)))
+    (⊎_elim
+    (λ on. by_a in_b was is (on ∙ ap recorded ch.1))
+    (λ on. by_b in_b was is (on ∙ ap recorded ch.2)))
+    (some_side c.select c)
+  where
+    by_a : (in_b : Bool) → recorded (part (half in_b) s) ≡ old →
+        recorded (part (half (not in_b)) s) ≡ Some new → opened c ≡ recorded s.a →
+        OldOrNew old new c
+    by_a true was is on = inr (on ∙ is)
+    by_a false was is on = inl (on ∙ was)
+
+    by_b : (in_b : Bool) → recorded (part (half in_b) s) ≡ old →
+        recorded (part (half (not in_b)) s) ≡ Some new → opened c ≡ recorded s.b →
+        OldOrNew old new c
+    by_b true was is on = inl (on ∙ was)
+    by_b false was is on = inr (on ∙ is)
+
+-- the selector was written
+pub written_selector : (in_b : Bool) (v : ℕ) (s c : Areas) → (v % 2 == 1) ≡ in_b →
+    Changes Select (Holds 0 (v ∷ [])) s c →
+    (side c.select ≡ Some in_b) × (opened c ≡ recorded (part (half in_b) s))
+written_selector in_b v s c says ch =
+    let selects : side c.select ≡ Some in_b = ap side ch.0 ∙ ap Some says in (
+      selects,
+      ap (λ (o : Option Bool). image_at o c) selects ∙ image_on in_b c ∙ ap recorded (same in_b),
+    )
+  where
+    same : (b : Bool) → part (half b) c ≡ part (half b) s
+    same true = ch.2
+    same false = ch.1
+
+changed_part : (area : Area) (step : List ℕ → List ℕ → Type 0) (s c : Areas) →
+    Changes area step s c → step (part area s) (part area c)
+changed_part Select step s c ch = ch.0
+changed_part A step s c ch = ch.0
+changed_part B step s c ch = ch.0
+
+-- an image was written, by these bytes, into the area that isn't selected
+pub record Aside (in_b : Bool) (area : Area) (image bytes : List ℕ) (s c : Areas) : Type 0 where
+  pub other : area ≡ half (not in_b)
+  pub selected : side s.select ≡ Some in_b
+  pub spelled : bytes ≡ record_of image
+  pub fits : length image ≤ GREATEST_IMAGE
+  pub written : Changes area (Holds 0 bytes) s c
+
+module _ {in_b : Bool} {area : Area} {image bytes : List ℕ} {s c : Areas}
+    (aside : Aside in_b area image bytes s c) where
+  -- until it is written whole too, the disk opens to what it did
+  pub torn_half : (x : Areas) → Changes area (Torn 0 (length bytes)) s x → opened x ≡ opened s
+  torn_half x ch = (kept_aside (Torn 0 (length bytes)) in_b s x aside.selected
+      (subst (λ a. Changes a (Torn 0 (length bytes)) s x) aside.other ch)).1
+
+  written : Changes (half (not in_b)) (Holds 0 (record_of image)) s c
+  written = subst (λ l. Changes (half (not in_b)) (Holds 0 l) s c) aside.spelled
+      (subst (λ a. Changes a (Holds 0 bytes) s c) aside.other aside.written)
+
+  stays : (side c.select ≡ Some in_b) × (opened c ≡ opened s)
+  stays = kept_aside (Holds 0 (record_of image)) in_b s c aside.selected written
+
+  pub is_there : recorded (part (half (not in_b)) c) ≡ Some image
+  is_there = recorded_holds image (part (half (not in_b)) s) (part (half (not in_b)) c) aside.fits
+      (changed_part (half (not in_b)) (Holds 0 (record_of image)) s c written)
+
+  -- then the selector may be torn
+  pub torn_choice : (x : Areas) → Changes Select (Torn 0 1) c x → OldOrNew (opened s) image x
+  torn_choice x ch =
+      let was : recorded (part (half in_b) c) ≡ opened s =
+      sym (image_on in_b c) ∙ sym (ap (λ (o : Option Bool). image_at o c) stays.0) ∙ stays.1 in
+      torn_selector in_b c x (opened s) image (some_length c.select in_b stays.0) was is_there ch

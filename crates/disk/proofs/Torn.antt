@@ -1,0 +1,185 @@
+-- Ranges that may hold any bytes after a crash.
+use Rattle.std.specs.declared.alloc.Global.{Global}
+use Rattle.std.proofs.Common.{Vec, ◌≡◌, ◌⊎◌, inl, inr, ⊎_elim, ℕ, ◌+◌, ◌-◌, ◌≤◌, List, [], ◌∷◌}
+use Rattle.std.proofs.Common.{◌++◌, length, take, drop, replicate, refl, sym, ◌∙◌, ap, subst, arith}
+use Rattle.std.proofs.Common.{Bool, cond, length-append, length-drop, append_assoc}
+use Rattle.std.proofs.lemmas.List.{take_at, drop_at, drop-drop, drop_all, length-take-le}
+use Rattle.std.proofs.lemmas.List.{length-replicate}
+use Rattle.std.proofs.lemmas.Bool.Decides.{leb_tells}
+use Rattle.disk.specs.Areas.{Areas, part, with_part, Changes, Torn, pasted}
+use Rattle.disk.specs.Crashes.{Follows, Only}
+use Rattle.disk.specs.Record.{areas_of, synced, reads_left, range, torn_in, torn_by, leaves}
+use Rattle.disk.specs.Record.{filled_in, filled_by, filled}
+use Rattle.disk.specs.declared.device.Area.{Area}
+use Rattle.disk.specs.declared.device.Area.TheVariants.{Select, A, B}
+use Rattle.disk.specs.declared.state.Range.{Range}
+use Rattle.disk.specs.declared.state.State.{State}
+
+-- a step of one area
+pub changed : (area : Area) (step : List ℕ → List ℕ → Type 0) (d : Areas) (next : List ℕ) →
+    step (part area d) next → Changes area step d (with_part area next d)
+changed Select step d next is = (is, refl, refl)
+changed A step d next is = (is, refl, refl)
+changed B step d next is = (is, refl, refl)
+
+pub unchanged : (area : Area) (step : List ℕ → List ℕ → Type 0) (d : Areas) →
+    step (part area d) (part area d) → Changes area step d d
+unchanged Select step d is = (is, refl, refl)
+unchanged A step d is = (is, refl, refl)
+unchanged B step d is = (is, refl, refl)
+
+-- what is written, all of it or a front part, is one of the things that may stand there
+pub torn_pasted : (at n : ℕ) (bytes old : List ℕ) → at ≤ length old → length bytes ≤ n →
+    Torn at n old (pasted at bytes old)
+torn_pasted at n bytes old le fits =
+    let k = length bytes in
+    let front = length-take-le at old le in
+    let rest = drop (at + k) old in
+    let both : length (take at old ++ bytes) ≡ at + k =
+    omega (arith, length-append (take at old) bytes, front) in
+    let whole : length (pasted at bytes old) ≡ at + k + length rest =
+    omega (arith, length-append (take at old ++ bytes) rest, both) in
+    let tail = length-drop (at + k) old in
+    let split : at + n ≡ (at + k) + (n - k) = omega (arith, fits) in
+    record {
+      before = ap (take at) (append_assoc (take at old) bytes rest)
+          ∙ take_at (take at old) (bytes ++ rest) at front;
+      after = ap (λ i. drop i (pasted at bytes old)) split
+          ∙ sym (drop-drop (n - k) (at + k) (pasted at bytes old))
+          ∙ ap (drop (n - k)) (drop_at (take at old ++ bytes) rest (at + k) both)
+          ∙ drop-drop (n - k) (at + k) old
+          ∙ sym (ap (λ i. drop i old) split);
+      no_shorter = omega (arith, whole, tail);
+      no_longer = omega (arith, whole, tail, fits);
+    }
+
+-- nothing is written
+pub torn_same : (at n : ℕ) (old : List ℕ) → Torn at n old old
+torn_same at n old = record {
+  before = refl;
+  after = refl;
+  no_shorter = omega arith;
+  no_longer = omega arith;
+}
+
+-- a range more
+torn_push : (ranges : List Range) (r : Range) (P : Areas → Type 0) (c : Areas) →
+    torn_by (ranges ++ r ∷ []) P c → torn_in r (torn_by ranges P) c
+torn_push [] r P c torn = torn
+torn_push (x ∷ ranges) r P c torn = torn_push ranges r (torn_in x P) c torn
+
+-- a range more is noted, and what is held stays
+pub follows_risk : (area : Area) (at n : ℕ) (s s' : State) →
+    areas_of s'.held ≡ areas_of s.held → synced s' ≡ synced s →
+    s'.ranges.items ≡ s.ranges.items ++ range area at n ∷ [] →
+    Follows (Changes area (Torn at n)) (leaves s) (leaves s')
+unfolding leaves
+follows_risk area at n s s' held same noted c (inl now) =
+    (c, inl (now ∙ held), unchanged area (Torn at n) c (torn_same at n (part area c)))
+follows_risk area at n s s' held same noted c (inr torn) =
+    let at_old = subst (λ (d : Areas). torn_by s'.ranges.items (λ x. x ≡ d) c) same torn in
+    let pushed = subst (λ (rs : List Range). torn_by rs (λ x. x ≡ synced s) c) noted at_old in
+    let from = torn_push s.ranges.items (range area at n) (λ x. x ≡ synced s) c pushed in
+    (from.0, inr from.1, from.2)
+
+-- other bytes are held, and what was synced and the ranges stay
+pub set_leaves : (s s' : State) → synced s' ≡ synced s → s'.ranges ≡ s.ranges →
+    (c : Areas) → leaves s' c → (c ≡ areas_of s'.held) ⊎ leaves s c
+unfolding leaves
+set_leaves s s' same ranges c (inl now) = inl now
+set_leaves s s' same ranges c (inr torn) =
+    let at_old = subst (λ (d : Areas). torn_by s'.ranges.items (λ x. x ≡ d) c) same torn in
+    inr (inr
+    (subst (λ (rs : Vec Range Global). torn_by rs.items (λ x. x ≡ synced s) c) ranges at_old))
+
+-- a range is noted, and then other bytes are held in it
+pub follows_set : (step : Areas → Areas → Type 0) (s mid s' : State) →
+    Follows step (leaves s) (leaves mid) →
+    ((c : Areas) → leaves s' c → (c ≡ areas_of s'.held) ⊎ leaves mid c) →
+    step (areas_of s.held) (areas_of s'.held) → Follows step (leaves s) (leaves s')
+follows_set step s mid s' noted set change c left = ⊎_elim
+    (λ now. (
+      areas_of s.held,
+      reads_left s,
+      subst (λ (x : Areas). step (areas_of s.held) x) (sym now) change,
+    ))
+    (λ earlier. noted c earlier) (set c left)
+
+-- what a write of n bytes does to the areas, where these of them are written
+pub changed_by_write : (area : Area) (at n : ℕ) (bytes next : List ℕ) (d d' : Areas) →
+    at ≤ length (part area d) → length bytes ≤ n → next ≡ pasted at bytes (part area d) →
+    d' ≡ with_part area next d → Changes area (Torn at n) d d'
+changed_by_write area at n bytes next d d' le fits is whole =
+    let P : List ℕ → Type 0 = λ l. Torn at n (part area d) l in
+    let torn = subst P (sym is) (torn_pasted at n bytes (part area d) le fits) in
+    subst (λ (x : Areas). Changes area (Torn at n) d x) (sym whole)
+    (changed area (Torn at n) d next torn)
+
+-- a state that says the same
+pub same_leaves : (s s' : State) → areas_of s'.held ≡ areas_of s.held → synced s' ≡ synced s →
+    s'.ranges.items ≡ s.ranges.items → (c : Areas) → leaves s' c → leaves s c
+unfolding leaves
+same_leaves s s' held same ranges c (inl now) = inl (now ∙ held)
+same_leaves s s' held same ranges c (inr torn) =
+    let at_old = subst (λ (d : Areas). torn_by s'.ranges.items (λ x. x ≡ d) c) same torn in
+    inr (subst (λ (rs : List Range). torn_by rs (λ x. x ≡ synced s) c) ranges at_old)
+
+-- a write that failed, of which there was no room to note a range
+pub follows_same : (area : Area) (at n : ℕ) (s s' : State) →
+    areas_of s'.held ≡ areas_of s.held → synced s' ≡ synced s →
+    s'.ranges.items ≡ s.ranges.items → Follows (Changes area (Torn at n)) (leaves s) (leaves s')
+follows_same area at n s s' held same ranges c left = (
+  c,
+  same_leaves s s' held same ranges c left,
+  unchanged area (Torn at n) c (torn_same at n (part area c)),
+)
+
+-- all is synced
+pub only_synced : (s : State) (d : Areas) → areas_of s.held ≡ d → synced s ≡ d →
+    s.ranges.items ≡ [] → Only d (leaves s)
+unfolding leaves
+only_synced s d held same none c (inl now) = now ∙ held
+only_synced s d held same none c (inr torn) =
+    let here : c ≡ synced s =
+    subst (λ (rs : List Range). torn_by rs (λ x. x ≡ synced s) c) none torn in
+    here ∙ same
+
+pub settled_leaves : (s s' : State) → areas_of s'.held ≡ areas_of s.held →
+    synced s' ≡ areas_of s.held → s'.ranges.items ≡ [] → (c : Areas) → leaves s' c → leaves s c
+settled_leaves s s' held same none c left =
+    subst (leaves s) (sym (only_synced s' (areas_of s.held) held same none c left)) (reads_left s)
+
+fill_torn : (fill : ℕ) (r : Range) (m : Areas) →
+    Changes r.area (Torn r.at r.len) m (filled_in fill r m)
+fill_torn fill r m =
+    let old = part r.area m in
+    let bytes = replicate r.len fill in
+    let next = with_part r.area (pasted r.at bytes old) m in
+    let P : Bool → Type 0 = λ b. Changes r.area (Torn r.at r.len) m (cond b next m) in
+    elim (leb_tells r.at (length old)) [
+      | inl fits ↦ subst P (sym fits.0) (changed r.area (Torn r.at r.len) m (pasted r.at bytes old)
+          (torn_pasted r.at r.len bytes old fits.1 (omega (arith, length-replicate r.len fill))))
+      | inr past ↦ subst P (sym past.0)
+          (unchanged r.area (Torn r.at r.len) m (torn_same r.at r.len old))
+    ]
+
+fills_torn : (fill : ℕ) (ranges : List Range) (P : Areas → Type 0) (m : Areas) → P m →
+    torn_by ranges P (filled_by fill ranges m)
+fills_torn fill [] P m p = p
+fills_torn fill (r ∷ ranges) P m p =
+    fills_torn fill ranges (torn_in r P) (filled_in fill r m) (m, p, fill_torn fill r m)
+
+-- what a crash leaves where each byte that was written became this one, it may leave
+pub filled_left : (fill : ℕ) (s : State) → leaves s (filled fill s)
+unfolding leaves filled
+filled_left fill s = inr (fills_torn fill s.ranges.items (λ x. x ≡ synced s) (synced s) refl)
+
+-- once every range was filled
+pub all_filled : (fill i : ℕ) (s : State) (ranges : List Range) (d : Areas) →
+    ranges ≡ s.ranges.items → length ranges ≤ i →
+    filled_by fill (drop i s.ranges.items) d ≡ filled_by fill s.ranges.items (synced s) →
+    d ≡ filled fill s
+unfolding filled
+all_filled fill i s ranges d same le is =
+    let past : length s.ranges.items ≤ i = omega (arith, ap length same, le) in
+    sym (ap (λ (rs : List Range). filled_by fill rs d) (drop_all i s.ranges.items past)) ∙ is

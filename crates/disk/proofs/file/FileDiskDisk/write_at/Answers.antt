@@ -1,0 +1,34 @@
+use Rattle.std.proofs.Common.{◌∙◌, ap, subst, length, arith}
+use Rattle.disk.specs.Areas.{Changes, Torn, with_part}
+use Rattle.disk.specs.Record.{areas_of, leaves}
+use Rattle.disk.specs.declared.state.Contents.{Contents}
+use Rattle.disk.specs.declared.state.State.{State}
+use Rattle.disk.proofs.Torn.{changed_by_write, follows_set, set_leaves}
+use Rattle.disk.proofs.file.FileDiskDisk.write_at.Goals as goal
+
+pub returns-then-is_err-clause-crash : goal.returns-then-is_err-clause-crash
+returns-then-is_err-clause-crash g c c' left =
+    let step = Changes c.args.area (Torn c.args.at (length c.args.bytes.now)) in
+    let noted = c.in_ok-risk.ensures in
+    let found = c.look_again.new.self.memory.state in
+    let change = subst (λ (x : Contents). step (areas_of x) (areas_of found.held)) noted.held
+    c.look_again.ensures.change in
+    follows_set step c.args.self.now.memory.state c.risk.new.self.state found noted.crash
+    c.look_again.ensures.crash change c'
+    (subst (λ (s : State). leaves s c') c.fault-then-is_err.ensures.state left)
+
+pub returns-clause-crash : goal.returns-clause-crash
+returns-clause-crash g c =
+    let n = length c.args.bytes.now in
+    let s = c.args.self.now.memory.state in
+    let noted = c.in_ok-risk.ensures in
+    let next = c.in-Ok.next.items in
+    let held = c.set.ensures.held
+    ∙ ap (λ (x : Contents). with_part c.args.area next (areas_of x)) noted.held in
+    let change = changed_by_write c.args.area c.args.at n c.args.bytes.now next
+    (areas_of s.held) (areas_of c.set.new.self.held) c.requires (omega arith)
+    c.in-Ok.ensures held in
+    follows_set (Changes c.args.area (Torn c.args.at n)) s c.risk.new.self.state c.set.new.self
+    noted.crash
+    (set_leaves c.risk.new.self.state c.set.new.self c.set.ensures.synced c.set.ensures.ranges)
+    change

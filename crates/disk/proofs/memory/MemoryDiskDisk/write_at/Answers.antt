@@ -1,0 +1,21 @@
+use Rattle.std.proofs.Common.{◌∙◌, ap, length, arith}
+use Rattle.disk.specs.Areas.{Changes, Torn, with_part}
+use Rattle.disk.specs.Record.{areas_of}
+use Rattle.disk.specs.declared.state.Contents.{Contents}
+use Rattle.disk.proofs.Torn.{changed_by_write, follows_set, set_leaves}
+use Rattle.disk.proofs.memory.MemoryDiskDisk.write_at.Goals as goal
+
+pub returns-clause-crash : goal.returns-clause-crash
+returns-clause-crash c =
+    let s = c.args.self.now.state in
+    let noted = c.in_ok-risk-2.ensures in
+    let next = c.in-Ok.next.items in
+    let held = c.set.ensures.held
+    ∙ ap (λ (x : Contents). with_part c.args.area next (areas_of x)) noted.held in
+    let n = length c.args.bytes.now in
+    let change = changed_by_write c.args.area c.args.at n c.args.bytes.now next
+    (areas_of s.held) (areas_of c.set.new.self.held) c.requires (omega arith)
+    c.in-Ok.ensures held in
+    let mid = c.risk-2.new.self.state in
+    follows_set (Changes c.args.area (Torn c.args.at n)) s mid c.set.new.self noted.crash
+    (set_leaves mid c.set.new.self c.set.ensures.synced c.set.ensures.ranges) change

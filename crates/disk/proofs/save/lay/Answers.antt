@@ -1,0 +1,44 @@
+use Rattle.std.proofs.Common.{◌∙◌, ap, subst, List, ℕ, is_some}
+use Rattle.disk.specs.Areas.{Holds}
+use Rattle.disk.proofs.Moments.{laid}
+use Rattle.disk.proofs.Records.{recorded_holds}
+use Rattle.disk.proofs.Sides.{written_selector}
+use Rattle.disk.proofs.save.lay.Goals as goal
+
+pub returns-in_err-put-clause-any_moment : goal.returns-in_err-put-clause-any_moment
+returns-in_err-put-clause-any_moment g c =
+    let s = g.D.Disk.seen c.put_both.new.disk in
+    let image = c.args.image.now in
+    let written = c.in_ok-put_both.ensures in
+    let on = λ (old new : List ℕ). λ (h : Holds 0 c.args.bytes.now old new).
+    recorded_holds image old new c.requires.fits
+    (subst (λ l. Holds 0 l old new) c.requires.spelled h) in
+    laid g.D.Disk.moment g.D.Disk.left_since c.args.disk.now c.put_both.new.disk c.put.new.disk s
+    image written.any_moment (on _ s.a written.a, on _ s.b written.b) c.put.ensures.any_moment
+
+pub returns-clause-any_moment : goal.returns-clause-any_moment
+returns-clause-any_moment g c =
+    let s = g.D.Disk.seen c.put_both.new.disk in
+    let image = c.args.image.now in
+    let written = c.in_ok-put_both.ensures in
+    let on = λ (old new : List ℕ). λ (h : Holds 0 c.args.bytes.now old new).
+    recorded_holds image old new c.requires.fits
+    (subst (λ l. Holds 0 l old new) c.requires.spelled h) in
+    laid g.D.Disk.moment g.D.Disk.left_since c.args.disk.now c.put_both.new.disk c.put.new.disk s
+    image written.any_moment (on _ s.a written.a, on _ s.b written.b) c.put.ensures.any_moment
+
+pub returns-clause-opened : goal.returns-clause-opened
+returns-clause-opened g c =
+    let s = g.D.Disk.seen c.put_both.new.disk in
+    let spelled = subst (λ l. Holds 0 l (g.D.Disk.seen c.args.disk.now).a s.a) c.requires.spelled
+    c.in_ok-put_both.ensures.a in
+    let selected = written_selector _ c.mark-choice.result s (g.D.Disk.seen c.put.new.disk)
+    c.mark-choice.ensures c.in_ok-put.ensures.written in
+    selected.1
+    ∙ recorded_holds c.args.image.now (g.D.Disk.seen c.args.disk.now).a s.a c.requires.fits spelled
+
+pub returns-clause-settled : goal.returns-clause-settled
+returns-clause-settled g c =
+    let selected = written_selector _ c.mark-choice.result (g.D.Disk.seen c.put_both.new.disk)
+    (g.D.Disk.seen c.put.new.disk) c.mark-choice.ensures c.in_ok-put.ensures.written in
+    (c.in_ok-put.ensures.durable, selected.0, ap is_some (returns-clause-opened g c))

@@ -1,0 +1,44 @@
+-- What a crash may leave, as time goes on.
+use Rattle.std.specs.Prelude.{◌≡◌, ◌⊎◌, ℕ, ◌+◌, ◌^◌, ◌<◌, ◌≤◌}
+use Rattle.disk.specs.Areas.{Areas}
+
+-- each thing that a crash may leave now comes by a step from one that it could leave before
+abbrev pub Follows : (Areas → Areas → Type 0) → (Areas → Type 0) → (Areas → Type 0) → Type 0
+Follows step old new = (c : Areas) → new c → (d : Areas) × old d × step d c
+
+-- a crash leaves this and nothing else
+abbrev pub Only : Areas → (Areas → Type 0) → Type 0
+Only here outcomes = (c : Areas) → outcomes c → c ≡ here
+
+-- Time goes on: a crash since t may have left what it may have left before, or what it may leave
+-- now.
+pub record Elapses (before now : ℕ) (past since : ℕ → Areas → Type 0)
+    (may_leave : Areas → Type 0) : Type 0 where
+  pub later : before ≤ now
+  pub nothing_else : (t : ℕ) (c : Areas) → t ≤ before → since t c → past t c ⊎ may_leave c
+  pub keeps : (t : ℕ) (c : Areas) → t ≤ before → past t c → since t c
+
+-- A crash at any moment since old leaves what has P.
+pub record LeavesOnly {D : Type 0} (moment : D → ℕ) (left_since : D → ℕ → Areas → Type 0)
+    (old new : D) (P : Areas → Type 0) : Type 0 where
+  pub later : moment old ≤ moment new
+  pub each : (c : Areas) → left_since new (moment old) c → P c
+  -- for a run that began earlier
+  pub before : (t : ℕ) (c : Areas) →
+      t ≤ moment old → left_since new t c → left_since old t c ⊎ P c
+
+-- calls that change nothing of what a disk holds, and nothing of what a crash may leave
+pub record Unmoved {D : Type 0} (seen : D → Areas) (may_leave : D → Areas → Type 0)
+    (moment : D → ℕ) (left_since : D → ℕ → Areas → Type 0) (old new : D) : Type 0 where
+  pub same : seen new ≡ seen old
+  pub crash : (c : Areas) → may_leave new c → may_leave old c
+  pub any_moment : LeavesOnly moment left_since old new (may_leave old)
+
+-- a count that has grown, or stands at the greatest number that it can tell
+abbrev pub Grew : ℕ → ℕ → Type 0
+Grew before now = (before < now) ⊎ (2 ^ 64 ≤ now + 1)
+
+-- a call that failed has counted it
+pub record HasCause (before now : ℕ) (fault : Type 0) : Type 0 where
+  pub later : before ≤ now
+  pub failed : fault → Grew before now

@@ -1,0 +1,21 @@
+-- A disk in memory, as its callers see it.
+use Rattle.std.specs.Prelude.{ℕ, []}
+use Rattle.disk.specs.Areas.{Areas}
+use Rattle.disk.specs.Record.{areas_of, leaves, filled}
+use Rattle.disk.specs.declared.memory.MemoryDisk.{MemoryDisk}
+
+-- three areas with no bytes
+abbrev pub blank : Areas
+blank = record { select = []; a = []; b = [] }
+
+-- what a read gives
+abbrev pub held_by : MemoryDisk → Areas
+held_by d = areas_of d.state.held
+
+-- what a crash now may leave
+abbrev pub left_by : MemoryDisk → Areas → Type 0
+left_by d = leaves d.state
+
+-- what a crash now leaves where each byte that was written since the last sync became this one
+abbrev pub filled_by_crash : ℕ → MemoryDisk → Areas
+filled_by_crash fill d = filled fill d.state

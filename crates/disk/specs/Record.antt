@@ -1,0 +1,103 @@
+-- What a disk in memory tells by its record of itself: its state now, and those of the moments that
+-- are over.
+use Rattle.std.specs.Prelude.{◌≡◌, ◌⊎◌, ℕ, ◌+◌, ◌≤◌, List, [], ◌∷◌, length, replicate, Vec, Option}
+use Rattle.std.specs.Prelude.{Some, None, if◌then◌else◌, refl}
+use Rattle.std.proofs.Common.{inl, inr, arith}
+use Rattle.std.specs.Prelude.{leb}
+use Rattle.std.specs.declared.alloc.Global.{Global}
+use Rattle.disk.specs.Areas.{Areas, part, with_part, Changes, Torn, pasted}
+use Rattle.disk.specs.declared.device.Area.{Area}
+use Rattle.disk.specs.declared.state.Contents.{Contents}
+use Rattle.disk.specs.declared.state.Range.{Range}
+use Rattle.disk.specs.declared.state.State.{State}
+use Rattle.disk.specs.declared.state.Past.{Past, Start, Then'}
+
+-- the bytes that the areas hold
+abbrev pub areas_of : Contents → Areas
+areas_of c = record { select = c.select.items; a = c.a.items; b = c.b.items }
+
+-- what an area held at the last sync: it is kept where the area was written since
+abbrev pub kept_or : Option (Vec ℕ Global) → Vec ℕ Global → List ℕ
+kept_or None held = held.items
+kept_or (Some kept) held = kept.items
+
+-- what the disk held at the last sync
+abbrev pub synced : State → Areas
+synced s = record {
+  select = kept_or s.kept_select s.held.select;
+  a = kept_or s.kept_a s.held.a;
+  b = kept_or s.kept_b s.held.b;
+}
+
+abbrev pub range : Area → ℕ → ℕ → Range
+range area at len = record { area = area; at = at; len = len }
+
+-- what may come of the outcomes that have P, where a range may hold any bytes
+abbrev pub torn_in : Range → (Areas → Type 0) → Areas → Type 0
+torn_in r P c = (m : Areas) × P m × Changes r.area (Torn r.at r.len) m c
+
+-- the same for each of these ranges, one after another
+abbrev pub torn_by : List Range → (Areas → Type 0) → Areas → Type 0
+torn_by [] P c = P c
+torn_by (r ∷ ranges) P c = torn_by ranges (torn_in r P) c
+
+-- What a crash may leave: what a read gives, or what was synced with any bytes in each range that
+-- was written since.
+unfoldable pub leaves : State → Areas → Type 0
+leaves s c = (c ≡ areas_of s.held) ⊎ torn_by s.ranges.items (λ x. x ≡ synced s) c
+
+-- how many moments are over
+abbrev pub moments : Past → ℕ
+moments Start = 0
+moments (Then' m before state) = moments before + 1
+
+-- what a crash may have left at a moment that is over, from the t-th one on
+abbrev pub left_before : Past → ℕ → Areas → Type 0
+left_before Start t c = ⊥
+left_before (Then' m before state) t c =
+    left_before before t c ⊎ ((t ≤ moments before) × leaves state.value c)
+
+-- what a crash from the t-th moment on may have left: at one that is over, or now
+abbrev pub left_since : Past → State → ℕ → Areas → Type 0
+left_since past s t c = left_before past t c ⊎ leaves s c
+
+-- one moment more is over, in which the disk had this state
+abbrev pub IsThen : Past → State → Past → Type 0
+IsThen past s Start = ⊥
+IsThen past s (Then' m before state) = (before ≡ past) × (state.value ≡ s)
+
+-- what a crash leaves where each byte of a range became this one
+abbrev pub filled_in : ℕ → Range → Areas → Areas
+filled_in fill r m =
+    if leb r.at (length (part r.area m))
+    then with_part r.area (pasted r.at (replicate r.len fill) (part r.area m)) m
+    else m
+
+abbrev pub filled_by : ℕ → List Range → Areas → Areas
+filled_by fill [] m = m
+filled_by fill (r ∷ ranges) m = filled_by fill ranges (filled_in fill r m)
+
+-- what a crash leaves where each byte that was written since the last sync became this one
+unfoldable pub filled : ℕ → State → Areas
+filled fill s = filled_by fill s.ranges.items (synced s)
+
+-- the laws of a disk
+
+pub reads_left : (s : State) → leaves s (areas_of s.held)
+unfolding leaves
+reads_left s = inl refl
+
+pub counts_now : (past : Past) (s : State) (t : ℕ) (c : Areas) →
+    t ≤ moments past → leaves s c → left_since past s t c
+counts_now past s t c le now = inr now
+
+none_later : (past : Past) (t : ℕ) (c : Areas) → moments past ≤ t → left_before past t c → ⊥
+none_later Start t c le left = left
+none_later (Then' m before state) t c le (inl earlier) =
+    none_later before t c (omega (arith, le)) earlier
+none_later (Then' m before state) t c le (inr last) = absurd (omega (arith, le, last.0))
+
+pub only_now : (past : Past) (s : State) (c : Areas) →
+    left_since past s (moments past) c → leaves s c
+only_now past s c (inl earlier) = absurd (none_later past (moments past) c (omega arith) earlier)
+only_now past s c (inr now) = now

@@ -1,0 +1,324 @@
+// A disk in three files of a folder.
+ghost use Rattle.std.specs.Prelude.{◌≡◌, ◌⊎◌, ◌≤◌, length, IfErr, IfOk};
+ghost use Rattle.disk.specs.Areas.{Areas, Changes, Torn, part};
+ghost use Rattle.disk.specs.Record.{areas_of, leaves, moments, left_since, reads_left, counts_now};
+ghost use Rattle.disk.specs.Record.{only_now};
+
+use crate::{Area, Disk, DiskFault, MemoryDisk};
+use ids::Refusal;
+use std::alloc::{AllocError, Global};
+use std::fs::{self, File, Files, OpenFile, OpenOptions};
+use std::io::{self, ErrorKind, Read};
+use std::os::unix::fs::FileExt;
+use std::path::Path;
+
+/// How many bytes of a file are compared at a time.
+const PIECE: usize = 4096;
+
+/// A disk in the files `select`, `a` and `b` of a folder, one for each area.
+///
+/// It keeps what the files hold, and what it says of itself is said by that. So a read that finds
+/// other bytes in a file is a failure. After a write that failed, a sync fails while a file holds
+/// other bytes; after a sync that failed, the next one writes again what it has to vouch for.
+///
+/// `F` is the type of the files: those of the system, or in tests others.
+#[derive(Drop)]
+pub struct FileDisk<F = File> {
+    select: F,
+    a: F,
+    b: F,
+    memory: MemoryDisk,
+    // A write failed, so a file may hold other bytes than `memory` says.
+    doubted: bool,
+    // A sync failed, so the system may have given up what it hadn't written.
+    stale: bool,
+}
+
+impl FileDisk {
+    /// The disk in this folder. Folder and files are made where they are absent, and what is found
+    /// counts as unsynced. While the disk is there, the folder is refused to others.
+    ///
+    /// Refused Disk where the system refuses something, where one of the files isn't a regular
+    /// file, or where another `FileDisk` is in the folder; refused Memory where what the files hold
+    /// is more than there is memory for.
+    pub fn at<R: Files<File = File>>(rt: &R, alloc: Global, folder: &str) -> Result<Self, Refusal>
+        ensures { IfErr result (λ e. (e ≡ Refusal.Disk) ⊎ (e ≡ Refusal.Memory)) }
+    {
+        match open_folder(rt, alloc, Path::new(folder)) {
+            Ok(disk) => Ok(disk),
+            Err(error) if error.kind() == ErrorKind::OutOfMemory => Err(Refusal::Memory),
+            Err(_) => Err(Refusal::Disk),
+        }
+    }
+}
+
+/// The disk in this folder, or why the system or the allocator refused.
+fn open_folder<R: Files<File = File>>(
+    rt: &R,
+    alloc: Global,
+    folder: Path<'_>,
+) -> io::Result<FileDisk> {
+    make_folder(rt, alloc, folder)?;
+    let mut select = open_file(rt, alloc, folder, "select")?;
+    if select.try_lock().is_err() {
+        return Err(ErrorKind::ResourceBusy.into());
+    }
+    let mut a = open_file(rt, alloc, folder, "a")?;
+    let mut b = open_file(rt, alloc, folder, "b")?;
+    sync_folder(rt, folder)?;
+    let mut memory = MemoryDisk::new(alloc);
+    load(alloc, &mut memory, Area::Select, &mut select)?;
+    load(alloc, &mut memory, Area::A, &mut a)?;
+    load(alloc, &mut memory, Area::B, &mut b)?;
+    Ok(FileDisk::over(select, a, b, memory))
+}
+
+/// Makes a folder, and those above it, where they are absent. Each is synced into the one above it.
+fn make_folder<R: Files<File = File>>(rt: &R, alloc: Global, folder: Path<'_>) -> io::Result<()> {
+    let mut absent = Vec::new(alloc);
+    let mut path = folder;
+    for _ in 0..folder.as_str().len() {
+        if path.as_str().is_empty() || path.try_exists(rt)? {
+            break;
+        }
+        absent.push(path)?;
+        match path.parent() {
+            Some(above) => path = above,
+            None => break,
+        }
+    }
+    for path in absent.iter().rev() {
+        match fs::create_dir(rt, *path) {
+            Ok(()) => {}
+            Err(error) if error.kind() == ErrorKind::AlreadyExists => {}
+            Err(error) => return Err(error),
+        }
+        if let Some(above) = path.parent() {
+            sync_folder(rt, above)?;
+        }
+    }
+    Ok(())
+}
+
+/// Opens a file of a folder, or makes it.
+fn open_file<R: Files<File = File>>(
+    rt: &R,
+    alloc: Global,
+    folder: Path<'_>,
+    name: &str,
+) -> io::Result<File> {
+    let path = folder.join(alloc, name)?;
+    let mut options = OpenOptions::new();
+    options.read(true).write(true).create(true);
+    let file = options.open(rt, path.as_path())?;
+    if !file.metadata()?.is_file() {
+        return Err(ErrorKind::InvalidInput.into());
+    }
+    Ok(file)
+}
+
+/// After it, the names in a folder stay over a crash.
+fn sync_folder<R: Files<File = File>>(rt: &R, folder: Path<'_>) -> io::Result<()> {
+    let path = if folder.as_str().is_empty() {
+        Path::new(".")
+    } else {
+        folder
+    };
+    File::open(rt, path)?.sync_all()
+}
+
+/// Reads a file whole. What it holds counts as unsynced.
+fn load(alloc: Global, memory: &mut MemoryDisk, area: Area, file: &mut File) -> io::Result<()> {
+    let mut content = Vec::new(alloc);
+    file.read_to_end(&mut content)?;
+    if memory.risk(area, 0, content.len()).is_err() {
+        return Err(AllocError.into());
+    }
+    memory.state.set(area, content);
+    Ok(())
+}
+
+impl<F: FileExt + OpenFile> FileDisk<F> {
+    /// The disk in these files, which hold what `memory` says.
+    pub(crate) fn over(select: F, a: F, b: F, memory: MemoryDisk) -> Self {
+        FileDisk {
+            select,
+            a,
+            b,
+            memory,
+            doubted: false,
+            stale: false,
+        }
+    }
+
+    pub(crate) fn file(&self, area: Area) -> &F {
+        match area {
+            Area::Select => &self.select,
+            Area::A => &self.a,
+            Area::B => &self.b,
+        }
+    }
+
+    /// Whether each file holds what `memory` says.
+    fn agrees(&self) -> bool {
+        [Area::Select, Area::A, Area::B].iter().all(|area| holds(
+            self.file(*area),
+            0,
+            self.memory.state.held.part(*area),
+            true,
+        ))
+    }
+
+    /// Writes each range again that was written since the last sync.
+    fn write_again(&self) -> io::Result<()> {
+        for range in &self.memory.state.ranges {
+            let held = self.memory.state.held.part(range.area);
+            if range.at < held.len() {
+                let rest = &held[range.at..];
+                let bytes = &rest[..range.len.min(rest.len())];
+                self.file(range.area).write_all_at(bytes, range.at as u64)?;
+            }
+        }
+        Ok(())
+    }
+
+    /// Takes what stands in a range of a file after a write there has failed. Where that can't be
+    /// read, or the file lost bytes, the disk holds what it held.
+    fn look_again(&mut self, area: Area, at: usize, len: usize)
+        requires { at ≤ length (part area (areas_of self.old.memory.state.held)) }
+
+        ensures change { Changes area (Torn at len)
+            (areas_of self.old.memory.state.held) (areas_of self.new.memory.state.held) }
+        ensures crash { (c : Areas) → leaves self.new.memory.state c →
+            (c ≡ areas_of self.new.memory.state.held) ⊎ leaves self.old.memory.state c }
+        ensures past { self.new.memory.past ≡ self.old.memory.past }
+        ensures failures { self.new.memory.failures ≡ self.old.memory.failures }
+    {
+        let alloc = self.memory.alloc;
+        let Ok(found) = read_range(alloc, self.file(area), at, len) else {
+            return;
+        };
+        if let Ok(next) = self.memory.state.prepared(alloc, area, at, &found) {
+            self.memory.state.set(area, next);
+        }
+    }
+
+    /// Writes the files through to the device.
+    fn sync_files(&self) -> io::Result<()> {
+        self.a.sync_all()?;
+        self.b.sync_all()?;
+        self.select.sync_all()
+    }
+}
+
+/// What a file holds in a range, as far as it goes.
+fn read_range<F: FileExt>(alloc: Global, file: &F, at: usize, len: usize) -> io::Result<Vec<u8>>
+    ensures { IfOk result (λ v. length v.items ≤ len) }
+{
+    let mut found = vec![in alloc; 0; len]?;
+    let mut n = 0;
+    for _ in 0..len {
+        if n >= found.len() {
+            break;
+        }
+        match file.read_at(&mut found[n..], (at as u64).wrapping_add(n as u64)) {
+            Ok(0) => break,
+            Ok(more) => n += more,
+            Err(error) if error.kind() == ErrorKind::Interrupted => {}
+            Err(error) => return Err(error),
+        }
+    }
+    found.truncate(n.min(len));
+    Ok(found)
+}
+
+/// Whether a file ends where this offset is, or before.
+fn ends_at<F: FileExt>(file: &F, offset: u64) -> bool {
+    match file.read_exact_at(&mut [0; 1], offset) {
+        Ok(()) => false,
+        Err(error) => error.kind() == ErrorKind::UnexpectedEof,
+    }
+}
+
+/// Whether a file holds these bytes at this offset, and, where `ends` is true, nothing behind them.
+fn holds<F: FileExt>(file: &F, at: usize, bytes: &[u8], ends: bool) -> bool {
+    let mut piece = [0; PIECE];
+    let mut offset = at as u64;
+    for expected in bytes.chunks(PIECE) {
+        let len = expected.len().min(PIECE);
+        let found = &mut piece[..len];
+        if file.read_exact_at(found, offset).is_err() || &*found != expected {
+            return false;
+        }
+        offset = offset.wrapping_add(expected.len() as u64);
+    }
+    !ends || ends_at(file, offset)
+}
+
+impl<F: FileExt + OpenFile> Disk for FileDisk<F> {
+    ghost seen = { λ d. areas_of d.memory.state.held };
+
+    ghost may_leave = { λ d. leaves d.memory.state };
+
+    ghost moment = { λ d. moments d.memory.past.value };
+
+    ghost left_since = { λ d. left_since d.memory.past.value d.memory.state };
+
+    ghost faults = { λ d. d.memory.failures };
+
+    fn read(&mut self, area: Area, at: usize, into: &mut [u8]) -> Result<usize, DiskFault> {
+        let n = self.memory.read(area, at, into)?;
+        let ends = n < into.len();
+        if !holds(self.file(area), at, &into[..n], ends) {
+            return Err(self.memory.fault());
+        }
+        Ok(n)
+    }
+
+    fn write_at(&mut self, area: Area, at: usize, bytes: &[u8]) -> Result<(), DiskFault> {
+        let next = match self
+            .memory
+            .state
+            .prepared(self.memory.alloc, area, at, bytes)
+        {
+            Ok(next) => next,
+            Err(_) => return Err(self.memory.fault()),
+        };
+        // The range is noted before the file is touched.
+        self.memory.risk(area, at, bytes.len())?;
+        if self.file(area).write_all_at(bytes, at as u64).is_err() {
+            self.doubted = true;
+            self.look_again(area, at, bytes.len());
+            return Err(self.memory.fault());
+        }
+        self.memory.state.set(area, next);
+        Ok(())
+    }
+
+    fn sync(&mut self) -> Result<(), DiskFault> {
+        if self.doubted && !self.agrees() {
+            return Err(self.memory.fault());
+        }
+        self.doubted = false;
+        if self.stale && self.write_again().is_err() {
+            self.doubted = true;
+            return Err(self.memory.fault());
+        }
+        self.stale = self.sync_files().is_err();
+        if self.stale {
+            return Err(self.memory.fault());
+        }
+        self.memory.settle();
+        Ok(())
+    }
+
+    fn failures(&self) -> u64 {
+        self.memory.failures
+    }
+
+    ghost reads_left = { λ d. reads_left d.memory.state };
+
+    ghost counts_now = { λ d t c le now. counts_now d.memory.past.value d.memory.state t c le now };
+
+    ghost only_now = { λ d c left. only_now d.memory.past.value d.memory.state c left };
+}

@@ -1,0 +1,213 @@
+// A disk in memory, which can be told to fail and to crash.
+ghost use Rattle.std.specs.Prelude.{◌≡◌, ◌≤◌, ◌++◌, [], ◌∷◌, length, IfOk, IfErr, IsErr, OnOk};
+ghost use Rattle.std.specs.Prelude.{OnErr, Some, ⊤, ◌-◌};
+ghost use Rattle.disk.specs.Areas.{Areas, Changes, Holds, Reads, Torn, part};
+ghost use Rattle.disk.specs.Crashes.{Elapses, Follows, Grew, HasCause, Only};
+ghost use Rattle.disk.specs.Record.{areas_of, synced, range, leaves, moments, left_since, IsThen};
+ghost use Rattle.disk.specs.Record.{reads_left, counts_now, only_now};
+ghost use Rattle.disk.specs.Plan.{is_due, one_less};
+
+use crate::state::{Contents, Past, Range, State, start, tick};
+use crate::{Area, Disk, DiskFault};
+use ids::Refusal;
+use std::alloc::Global;
+use std::snapshot::Snapshot;
+
+/// A disk in memory. It fails where [`fail_from`](MemoryDisk::fail_from) says so, and where it is
+/// refused memory for its record.
+///
+/// It keeps what it holds and, until the next sync that is Ok, what an area held at the last one
+/// and a few words for each write.
+#[derive(Drop)]
+pub struct MemoryDisk {
+    pub(crate) alloc: Global,
+    pub(crate) state: State,
+    pub(crate) past: Snapshot<Past>,
+    // How many more calls go well, where the later ones fail.
+    good: Option<u64>,
+    pub(crate) failures: u64,
+}
+
+/// Whether this call fails.
+fn falters(good: &mut Option<u64>) -> bool
+    ensures due { result ≡ is_due good.old }
+    ensures next { good.new ≡ one_less good.old }
+{
+    match good {
+        None => false,
+        Some(0) => true,
+        Some(left) => {
+            *left -= 1;
+            false
+        }
+    }
+}
+
+/// Copies what `held` has from the offset `at` on to the front of `into`, as far as both go, and
+/// answers how much.
+fn copy_out(held: &[u8], at: usize, into: &mut [u8]) -> usize
+    ensures { Reads held.now at result into.old into.new }
+{
+    let rest = if at < held.len() { &held[at..] } else { &[] };
+    let n = rest.len().min(into.len());
+    into[..n].copy_from_slice(&rest[..n]);
+    n
+}
+
+impl MemoryDisk {
+    ghost use Rattle.disk.specs.Memory.{blank, held_by, left_by, filled_by_crash};
+
+    /// A disk that holds nothing, and a crash leaves it so.
+    pub fn new(alloc: Global) -> MemoryDisk
+        ensures blank { held_by result ≡ blank }
+        ensures durable { Only blank (left_by result) }
+    {
+        MemoryDisk::holding(alloc, Contents::new(alloc))
+    }
+
+    // A disk that holds this, all of it synced.
+    fn holding(alloc: Global, held: Contents) -> MemoryDisk
+        ensures held { held_by result ≡ areas_of held }
+        ensures durable { Only (areas_of held) (left_by result) }
+    {
+        MemoryDisk {
+            alloc,
+            state: State::new(alloc, held),
+            past: start(),
+            good: None,
+            failures: 0,
+        }
+    }
+
+    /// From now on the `k`-th read, write or sync and all later ones fail; for 0, as for 1, all do.
+    pub fn fail_from(&mut self, k: u64)
+        ensures good { self.new.good ≡ Some (k - 1) }
+        ensures state { self.new.state ≡ self.old.state }
+        ensures past { self.new.past ≡ self.old.past }
+        ensures failures { self.new.failures ≡ self.old.failures }
+    {
+        self.good = Some(k.saturating_sub(1));
+    }
+
+    // Counts a failure.
+    pub(crate) fn fault(&mut self) -> DiskFault
+        ensures state { self.new.state ≡ self.old.state }
+        ensures past { self.new.past ≡ self.old.past }
+        ensures counted { HasCause self.old.failures self.new.failures ⊤ }
+    {
+        self.failures = self.failures.saturating_add(1);
+        DiskFault
+    }
+
+    // After it, a crash leaves what a read gives.
+    pub(crate) fn settle(&mut self)
+        ensures held { self.new.state.held ≡ self.old.state.held }
+        ensures durable { Only (areas_of self.old.state.held) (leaves self.new.state) }
+        ensures crash { (c : Areas) → leaves self.new.state c → leaves self.old.state c }
+        ensures time { IsThen self.old.past.value self.old.state self.new.past.value }
+        ensures failures { self.new.failures ≡ self.old.failures }
+    {
+        tick(&mut self.past, &self.state);
+        self.state.settle(self.alloc);
+    }
+
+    // One moment more is over, and a crash may leave any bytes in this range.
+    pub(crate) fn risk(&mut self, area: Area, at: usize, len: usize) -> Result<(), DiskFault>
+        ensures held { self.new.state.held ≡ self.old.state.held }
+        ensures synced { synced self.new.state ≡ synced self.old.state }
+        ensures noted { OnOk result
+            (self.new.state.ranges.items ≡ self.old.state.ranges.items ++ range area at len ∷ []) }
+        ensures crash { Follows (Changes area (Torn at len))
+            (leaves self.old.state) (leaves self.new.state) }
+        ensures time { IsThen self.old.past.value self.old.state self.new.past.value }
+        ensures cause { HasCause self.old.failures self.new.failures (IsErr result) }
+    {
+        tick(&mut self.past, &self.state);
+        match self.state.ranges.push(Range { area, at, len }) {
+            Ok(()) => Ok(()),
+            Err(_) => Err(self.fault()),
+        }
+    }
+
+    /// The disk that a crash now leaves where each byte that was written since the last sync became
+    /// `fill`. Nothing of it fails, and a crash leaves it so.
+    pub fn after_crash(&self, fill: u8) -> Result<MemoryDisk, Refusal>
+        ensures filled { IfOk result (λ d. held_by d ≡ filled_by_crash fill self.now) }
+        ensures left { IfOk result (λ d. left_by self.now (held_by d)) }
+        ensures durable { IfOk result (λ d. Only (held_by d) (left_by d)) }
+        ensures memory { IfErr result (λ e. e ≡ Refusal.Memory) }
+    {
+        let mut left = self.state.last_synced(self.alloc)?;
+        for range in &self.state.ranges {
+            left.fill(self.alloc, *range, fill)?;
+        }
+        Ok(MemoryDisk::holding(self.alloc, left))
+    }
+}
+
+impl Disk for MemoryDisk {
+    ghost seen = { λ d. areas_of d.state.held };
+
+    ghost may_leave = { λ d. leaves d.state };
+
+    ghost moment = { λ d. moments d.past.value };
+
+    ghost left_since = { λ d. left_since d.past.value d.state };
+
+    ghost faults = { λ d. d.failures };
+
+    fn read(&mut self, area: Area, at: usize, into: &mut [u8]) -> Result<usize, DiskFault> {
+        if falters(&mut self.good) {
+            return Err(self.fault());
+        }
+        Ok(copy_out(self.state.held.part(area), at, into))
+    }
+
+    /// Where it fails, a read gives what it gave before. The range counts as written since the last
+    /// sync, unless memory for the record was refused.
+    fn write_at(&mut self, area: Area, at: usize, bytes: &[u8]) -> Result<(), DiskFault>
+        requires { at ≤ length (part area (areas_of self.old.state.held)) }
+
+        ensures written { OnOk result (Changes area (Holds at bytes.now)
+            (areas_of self.old.state.held) (areas_of self.new.state.held)) }
+        ensures failed { OnErr result (Changes area (Torn at (length bytes.now))
+            (areas_of self.old.state.held) (areas_of self.new.state.held)) }
+        ensures kept { OnErr result (self.new.state.held ≡ self.old.state.held) }
+        ensures crash { Follows (Changes area (Torn at (length bytes.now)))
+            (leaves self.old.state) (leaves self.new.state) }
+        ensures time { Elapses (moments self.old.past.value) (moments self.new.past.value)
+            (left_since self.old.past.value self.old.state)
+            (left_since self.new.past.value self.new.state) (leaves self.new.state) }
+        ensures cause { HasCause self.old.failures self.new.failures (IsErr result) }
+    {
+        if falters(&mut self.good) {
+            self.risk(area, at, bytes.len())?;
+            return Err(self.fault());
+        }
+        let next = match self.state.prepared(self.alloc, area, at, bytes) {
+            Ok(next) => next,
+            Err(_) => return Err(self.fault()),
+        };
+        self.risk(area, at, bytes.len())?;
+        self.state.set(area, next);
+        Ok(())
+    }
+
+    fn sync(&mut self) -> Result<(), DiskFault> {
+        if falters(&mut self.good) {
+            return Err(self.fault());
+        }
+        self.settle();
+        Ok(())
+    }
+
+    fn failures(&self) -> u64 {
+        self.failures
+    }
+
+    ghost reads_left = { λ d. reads_left d.state };
+
+    ghost counts_now = { λ d t c le now. counts_now d.past.value d.state t c le now };
+
+    ghost only_now = { λ d c left. only_now d.past.value d.state c left };
+}

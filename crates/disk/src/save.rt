@@ -1,0 +1,177 @@
+// The calls of a disk by which an image is saved and found again, without the value that it stands
+// for.
+ghost use Rattle.std.specs.Prelude.{◌≡◌, ◌≢◌, ◌⊎◌, ◌%◌, ◌==◌, ◌≤◌, [], length, IfErr, IfOk, IsErr};
+ghost use Rattle.std.specs.Prelude.{IsErrOf, OnOk, Some, None, false, not};
+ghost use Rattle.ids.specs.declared.refusal.Refusal.TheVariants.{Disk as DiskRefused};
+ghost use Rattle.ids.specs.declared.limits.TheConstants.{GREATEST_IMAGE};
+ghost use Rattle.disk.specs.Areas.{Areas, Changes, Holds, Torn, part};
+ghost use Rattle.disk.specs.Crashes.{HasCause, LeavesOnly, Only, Unmoved};
+ghost use Rattle.disk.specs.Shelf.{IsSettled, NoneOrNew, OldOrNew, half as half_of, opened};
+ghost use Rattle.disk.specs.Shelf.{record_of, recorded, side};
+
+use crate::{Area, Disk, DiskFault};
+use ids::{GREATEST_IMAGE, Refusal};
+use std::alloc::{AllocError, Global};
+
+impl From<DiskFault> for Refusal {
+    ghost from_gives = { λ _ e. e ≡ DiskRefused };
+
+    fn from(_fault: DiskFault) -> Refusal {
+        Refusal::Disk
+    }
+}
+
+/// How many bytes tell the length of an image.
+const HEAD: usize = 8;
+
+/// The area on a side.
+pub(crate) fn half(in_b: bool) -> Area
+    ensures { result ≡ half_of in_b }
+{
+    if in_b { Area::B } else { Area::A }
+}
+
+/// The selector's byte for a side.
+fn mark(in_b: bool) -> u8
+    ensures { (result % 2 == 1) ≡ in_b }
+{
+    if in_b { 1 } else { 0 }
+}
+
+/// What is written for an image: its length, and the image.
+#[tactic(auto, unfolding(crate::specs::Shelf::record_of))]
+pub(crate) fn record(alloc: Global, image: &[u8]) -> Result<Vec<u8>, AllocError>
+    ensures { IfOk result (λ v. v.items ≡ record_of image.now) }
+{
+    let mut bytes = Vec::with_capacity(alloc, image.len().saturating_add(HEAD))?;
+    bytes.extend_from_slice(&(image.len() as u64).to_be_bytes())?;
+    bytes.extend_from_slice(image)?;
+    Ok(bytes)
+}
+
+/// Writes an area from its start on, and syncs.
+fn put<D: Disk>(disk: &mut D, area: Area, bytes: &[u8]) -> Result<(), DiskFault>
+    requires { Only (D.seen disk.old) (D.may_leave disk.old) }
+
+    ensures any_moment { LeavesOnly D.moment D.left_since disk.old disk.new
+        (Changes area (Torn 0 (length bytes.now)) (D.seen disk.old)) }
+    ensures written { OnOk result
+        (Changes area (Holds 0 bytes.now) (D.seen disk.old) (D.seen disk.new)) }
+    ensures durable { OnOk result (Only (D.seen disk.new) (D.may_leave disk.new)) }
+    ensures cause { HasCause (D.faults disk.old) (D.faults disk.new) (IsErr result) }
+{
+    disk.write_at(area, 0, bytes)?;
+    disk.sync()?;
+    Ok(())
+}
+
+/// Writes A and B from their starts on.
+fn write_both<D: Disk>(disk: &mut D, bytes: &[u8]) -> Result<(), DiskFault>
+    requires { (c : Areas) → D.may_leave disk.old c → c.select ≡ [] }
+
+    ensures any_moment { LeavesOnly D.moment D.left_since disk.old disk.new (λ c. c.select ≡ []) }
+    ensures crash { (c : Areas) → D.may_leave disk.new c → c.select ≡ [] }
+    ensures a { OnOk result (Holds 0 bytes.now (D.seen disk.old).a (D.seen disk.new).a) }
+    ensures b { OnOk result (Holds 0 bytes.now (D.seen disk.old).b (D.seen disk.new).b) }
+    ensures cause { HasCause (D.faults disk.old) (D.faults disk.new) (IsErr result) }
+{
+    disk.write_at(Area::A, 0, bytes)?;
+    disk.write_at(Area::B, 0, bytes)?;
+    Ok(())
+}
+
+/// Writes A and B from their starts on, and syncs.
+fn put_both<D: Disk>(disk: &mut D, bytes: &[u8]) -> Result<(), DiskFault>
+    requires { (c : Areas) → D.may_leave disk.old c → c.select ≡ [] }
+
+    ensures any_moment { LeavesOnly D.moment D.left_since disk.old disk.new (λ c. c.select ≡ []) }
+    ensures a { OnOk result (Holds 0 bytes.now (D.seen disk.old).a (D.seen disk.new).a) }
+    ensures b { OnOk result (Holds 0 bytes.now (D.seen disk.old).b (D.seen disk.new).b) }
+    ensures durable { OnOk result (Only (D.seen disk.new) (D.may_leave disk.new)) }
+    ensures cause { HasCause (D.faults disk.old) (D.faults disk.new) (IsErr result) }
+{
+    write_both(disk, bytes)?;
+    disk.sync()?;
+    Ok(())
+}
+
+/// Lays the first image of a disk, by these bytes: into both areas, so that a torn selector opens
+/// to it too.
+pub(crate) fn lay<D: Disk>(disk: &mut D, image: &[u8], bytes: &[u8]) -> Result<(), DiskFault>
+    requires blank { (c : Areas) → D.may_leave disk.old c → c.select ≡ [] }
+    requires spelled { bytes.now ≡ record_of image.now }
+    requires fits { length image.now ≤ GREATEST_IMAGE }
+
+    ensures any_moment { LeavesOnly D.moment D.left_since disk.old disk.new (NoneOrNew image.now) }
+    ensures opened { OnOk result (opened (D.seen disk.new) ≡ Some image.now) }
+    ensures settled { OnOk result (IsSettled D.seen D.may_leave disk.new false) }
+    ensures cause { HasCause (D.faults disk.old) (D.faults disk.new) (IsErr result) }
+{
+    let choice = mark(false);
+    put_both(disk, bytes)?;
+    put(disk, Area::Select, &[choice])?;
+    Ok(())
+}
+
+/// Writes an image, by these bytes, into the area that isn't selected, and then selects it.
+pub(crate) fn swap<D: Disk>(
+    disk: &mut D,
+    in_b: bool,
+    image: &[u8],
+    bytes: &[u8],
+) -> Result<(), DiskFault>
+    requires settled { IsSettled D.seen D.may_leave disk.old in_b }
+    requires spelled { bytes.now ≡ record_of image.now }
+    requires fits { length image.now ≤ GREATEST_IMAGE }
+
+    ensures any_moment { LeavesOnly D.moment D.left_since disk.old disk.new
+        (OldOrNew (opened (D.seen disk.old)) image.now) }
+    ensures opened { OnOk result (opened (D.seen disk.new) ≡ Some image.now) }
+    ensures settled { OnOk result (IsSettled D.seen D.may_leave disk.new (not in_b)) }
+    ensures cause { HasCause (D.faults disk.old) (D.faults disk.new) (IsErr result) }
+{
+    let choice = mark(!in_b);
+    put(disk, half(!in_b), bytes)?;
+    put(disk, Area::Select, &[choice])?;
+    Ok(())
+}
+
+/// Reads the image that an area holds. Refused BadImage where there is none.
+pub(crate) fn load<D: Disk>(alloc: Global, disk: &mut D, area: Area) -> Result<Vec<u8>, Refusal>
+    ensures image { IfOk result (λ v. recorded (part area (D.seen disk.old)) ≡ Some v.items) }
+    ensures none { IsErrOf result Refusal.BadImage → recorded (part area (D.seen disk.old)) ≡ None }
+    ensures quiet { Unmoved D.seen D.may_leave D.moment D.left_since disk.old disk.new }
+    ensures cause { HasCause (D.faults disk.old) (D.faults disk.new) (IsErrOf result Refusal.Disk) }
+    ensures others { IfErr result (λ e. (e ≡ Refusal.Memory)
+        ⊎ ((e ≡ Refusal.BadImage) ⊎ (e ≡ Refusal.Disk))) }
+{
+    let mut head = [0; HEAD];
+    let told = disk.read(area, 0, &mut head)?;
+    if told < HEAD {
+        return Err(Refusal::BadImage);
+    }
+    let len = u64::from_be_bytes(head);
+    if len > GREATEST_IMAGE {
+        return Err(Refusal::BadImage);
+    }
+    let mut image = vec![in alloc; 0; len as usize]?;
+    let found = disk.read(area, HEAD, &mut image)?;
+    if found < image.len() {
+        return Err(Refusal::BadImage);
+    }
+    Ok(image)
+}
+
+/// Which side is selected.
+pub(crate) fn chosen<D: Disk>(disk: &mut D) -> Result<Option<bool>, DiskFault>
+    ensures side { IfOk result (λ o. side (D.seen disk.old).select ≡ o) }
+    ensures quiet { Unmoved D.seen D.may_leave D.moment D.left_since disk.old disk.new }
+    ensures cause { HasCause (D.faults disk.old) (D.faults disk.new) (IsErr result) }
+{
+    let mut first = [0; 1];
+    let told = disk.read(Area::Select, 0, &mut first)?;
+    if told == 0 {
+        return Ok(None);
+    }
+    Ok(Some(first[0] % 2 == 1))
+}

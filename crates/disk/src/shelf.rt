@@ -1,0 +1,236 @@
+// A place where one value is saved over and over, so that a crash leaves the old one or the new
+// one.
+ghost use Rattle.std.specs.Prelude.{◌≡◌, ◌-◌, ◌≢◌, ◌⊎◌, ◌↔◌, ◌<◌, List, ℕ, [], length, true, false};
+ghost use Rattle.std.specs.Prelude.{IfErr, IfOk, IsErr, IsErrOf, IsTrue, MatchResult, OnErr, OnOk};
+ghost use Rattle.std.specs.Prelude.{Some};
+ghost use Rattle.ids.specs.declared.limits.TheConstants.{GREATEST_IMAGE};
+ghost use Rattle.disk.specs.Areas.{Areas};
+ghost use Rattle.disk.specs.Crashes.{Grew, HasCause, LeavesOnly, Only, Unmoved};
+ghost use Rattle.disk.specs.Shelf.{IsSettled, NoneOrNew, OldOrNew, opened, side};
+
+use crate::save::{chosen, half, lay, load, record, swap};
+use crate::{Disk, DiskFault, MemoryDisk, Persist};
+use ids::Refusal;
+use std::alloc::Global;
+
+/// A disk that holds the image of a value, in the area that its selector selects.
+///
+/// A save writes the other area, syncs, writes the selector, and syncs. A failure of the disk, and
+/// a refused [`reopen`](Shelf::reopen), close the shelf: saves are then refused Closed until a
+/// `reopen` is Ok, which tells whether the old value is there or the new one.
+#[derive(Drop)]
+pub struct Shelf<D: Disk> {
+    alloc: Global,
+    pub disk: D,
+    /// Which area is selected, while the shelf is open.
+    pub in_b: bool,
+    /// Whether the shelf is open.
+    pub ready: bool,
+    pub ghost settled: { IsTrue ready → IsSettled D.seen D.may_leave disk in_b },
+}
+
+/// Syncs a disk, and tells which side is selected.
+fn synced_side<D: Disk>(disk: &mut D) -> Result<Option<bool>, DiskFault>
+    ensures side { IfOk result (λ o. side (D.seen disk.old).select ≡ o) }
+    ensures durable { OnOk result (Only (D.seen disk.new) (D.may_leave disk.new)) }
+    ensures quiet { Unmoved D.seen D.may_leave D.moment D.left_since disk.old disk.new }
+    ensures cause { HasCause (D.faults disk.old) (D.faults disk.new) (IsErr result) }
+{
+    disk.sync()?;
+    let side = chosen(disk)?;
+    Ok(side)
+}
+
+/// Whether nothing was ever created on a disk, once it is synced.
+pub fn is_blank<D: Disk>(disk: &mut D) -> Result<bool, DiskFault>
+    ensures exact { IfOk result (λ b. IsTrue b ↔ ((D.seen disk.old).select ≡ [])) }
+    ensures blank { IfOk result (λ b.
+        IsTrue b → (c : Areas) → D.may_leave disk.new c → c.select ≡ []) }
+    ensures quiet { Unmoved D.seen D.may_leave D.moment D.left_since disk.old disk.new }
+    ensures cause { HasCause (D.faults disk.old) (D.faults disk.new) (IsErr result) }
+{
+    let side = synced_side(disk)?;
+    Ok(side.is_none())
+}
+
+/// Syncs a disk, so that no crash takes back what is read, and then gives the value that it holds
+/// and the side where its image is.
+fn recall<D: Disk, N: Persist + Drop>(alloc: Global, disk: &mut D) -> Result<(bool, N), Refusal>
+    ensures side { IfOk result (λ r. side (D.seen disk.old).select ≡ Some r.0) }
+    ensures value { IfOk result (λ r. opened (D.seen disk.old) ≡ Some (N.image r.1)) }
+    ensures durable { OnOk result (Only (D.seen disk.new) (D.may_leave disk.new)) }
+    ensures bad { IsErrOf result Refusal.BadImage →
+        (image : List ℕ) → opened (D.seen disk.old) ≡ Some image → N.is_image image → ⊥ }
+    ensures quiet { Unmoved D.seen D.may_leave D.moment D.left_since disk.old disk.new }
+    ensures cause { HasCause (D.faults disk.old) (D.faults disk.new) (IsErrOf result Refusal.Disk) }
+    ensures others { IfErr result (λ e. (e ≡ Refusal.Memory)
+        ⊎ ((e ≡ Refusal.BadImage) ⊎ (e ≡ Refusal.Disk))) }
+{
+    let side = synced_side(disk)?;
+    let Some(in_b) = side else {
+        return Err(Refusal::BadImage);
+    };
+    let image = load(alloc, disk, half(in_b))?;
+    let value = N::from_bytes(alloc, &image)?;
+    Ok((in_b, value))
+}
+
+impl<D: Disk> Shelf<D> {
+    /// Lays the first value on a disk on which nothing was created, as [`is_blank`] tells.
+    ///
+    /// A crash within leaves an empty selector or the value; after Ok it leaves the value. Refused
+    /// as the value's `to_bytes`, Memory or Disk, and the disk comes back; it is as it was but
+    /// after Disk.
+    pub fn create<N: Persist>(
+        alloc: Global,
+        mut disk: D,
+        value: &N,
+    ) -> Result<Shelf<D>, (D, Refusal)>
+        requires { (c : Areas) → D.may_leave disk c → c.select ≡ [] }
+
+        ensures created { IfOk result (λ s. opened (D.seen s.disk) ≡ Some (N.image value.now)) }
+        ensures ready { IfOk result (λ s. s.ready ≡ true) }
+        ensures readable { OnOk result (N.is_image (N.image value.now)) }
+        ensures any_moment { MatchResult result
+            (λ s. LeavesOnly D.moment D.left_since disk s.disk (NoneOrNew (N.image value.now)))
+            (λ e. LeavesOnly D.moment D.left_since disk e.0 (NoneOrNew (N.image value.now))) }
+        ensures disk { IfErr result (λ e.
+            e.1 ≡ Refusal.Disk → Grew (D.faults disk) (D.faults e.0)) }
+        ensures too_large { IfErr result (λ e. e.1 ≡ Refusal.ImageTooLarge →
+            GREATEST_IMAGE < length (N.image value.now)) }
+        ensures unchanged { IfErr result (λ e. e.1 ≢ Refusal.Disk → e.0 ≡ disk) }
+        ensures others { IfErr result (λ e. (e.1 ≡ Refusal.Memory)
+            ⊎ ((e.1 ≡ Refusal.ImageTooLarge) ⊎ (e.1 ≡ Refusal.Disk))) }
+    {
+        let image = match value.to_bytes(alloc) {
+            Ok(image) => image,
+            Err(refusal) => return Err((disk, refusal)),
+        };
+        let bytes = match record(alloc, &image) {
+            Ok(bytes) => bytes,
+            Err(_) => return Err((disk, Refusal::Memory)),
+        };
+        match lay(&mut disk, &image, &bytes) {
+            Ok(()) => {}
+            Err(_) => return Err((disk, Refusal::Disk)),
+        }
+        Ok(Shelf {
+            alloc,
+            disk,
+            in_b: false,
+            ready: true,
+        })
+    }
+
+    /// Syncs a disk and gives the value that it holds, with a shelf that is open. After Ok a crash
+    /// leaves that value.
+    ///
+    /// Refused Disk where the device failed, BadImage where the disk holds no value, Memory; the
+    /// disk is then given up.
+    pub fn open<N: Persist + Drop>(alloc: Global, mut disk: D) -> Result<(Shelf<D>, N), Refusal>
+    where
+        D: Drop,
+        ensures opened { IfOk result (λ r. opened (D.seen disk) ≡ Some (N.image r.1)) }
+        ensures same { IfOk result (λ r. D.seen r.0.disk ≡ D.seen disk) }
+        ensures ready { IfOk result (λ r. r.0.ready ≡ true) }
+        ensures bad { IsErrOf result Refusal.BadImage →
+            (image : List ℕ) → opened (D.seen disk) ≡ Some image → N.is_image image → ⊥ }
+        ensures quiet { IfOk result (λ r.
+            Unmoved D.seen D.may_leave D.moment D.left_since disk r.0.disk) }
+        ensures others { IfErr result (λ e. (e ≡ Refusal.Memory)
+            ⊎ ((e ≡ Refusal.BadImage) ⊎ (e ≡ Refusal.Disk))) }
+    {
+        let (in_b, value) = recall::<D, N>(alloc, &mut disk)?;
+        let shelf = Shelf {
+            alloc,
+            disk,
+            in_b,
+            ready: true,
+        };
+        Ok((shelf, value))
+    }
+
+    /// Opens the shelf again by its own disk: syncs it and gives the value that it holds. After Ok
+    /// the shelf is open, and a crash leaves that value.
+    ///
+    /// Refused as [`open`](Shelf::open); the shelf is then closed.
+    pub fn reopen<N: Persist + Drop>(&mut self) -> Result<N, Refusal>
+        ensures opened { IfOk result (λ v. opened (D.seen self.old.disk) ≡ Some (N.image v)) }
+        ensures ready { OnOk result (self.new.ready ≡ true) }
+        ensures shut { IsErr result → self.new.ready ≡ false }
+        ensures bad { IsErrOf result Refusal.BadImage →
+            (image : List ℕ) → opened (D.seen self.old.disk) ≡ Some image → N.is_image image → ⊥ }
+        ensures quiet { Unmoved D.seen D.may_leave D.moment D.left_since
+            self.old.disk self.new.disk }
+        ensures disk { IsErrOf result Refusal.Disk →
+            Grew (D.faults self.old.disk) (D.faults self.new.disk) }
+        ensures others { IfErr result (λ e. (e ≡ Refusal.Memory)
+            ⊎ ((e ≡ Refusal.BadImage) ⊎ (e ≡ Refusal.Disk))) }
+    {
+        self.ready = false;
+        let (in_b, value) = recall::<D, N>(self.alloc, &mut self.disk)?;
+        self.in_b = in_b;
+        self.ready = true;
+        Ok(value)
+    }
+
+    /// Saves a value. A crash at any moment since leaves the old value or the new one; after Ok it
+    /// leaves the new one.
+    ///
+    /// Refused Closed exactly while the shelf is closed, ImageTooLarge as `to_bytes`, Memory, and
+    /// Disk where the device failed. Disk closes the shelf; the others change nothing.
+    pub fn save<N: Persist>(&mut self, value: &N) -> Result<(), Refusal>
+        ensures saved { OnOk result (opened (D.seen self.new.disk) ≡ Some (N.image value.now)) }
+        ensures ready { OnOk result (self.new.ready ≡ true) }
+        ensures readable { OnOk result (N.is_image (N.image value.now)) }
+        ensures any_moment { IsTrue self.old.ready →
+            LeavesOnly D.moment D.left_since self.old.disk self.new.disk
+            (OldOrNew (opened (D.seen self.old.disk)) (N.image value.now)) }
+        ensures closed { IsErrOf result Refusal.Closed ↔ (self.old.ready ≡ false) }
+        ensures disk { IsErrOf result Refusal.Disk →
+            Grew (D.faults self.old.disk) (D.faults self.new.disk) × (self.new.ready ≡ false) }
+        ensures too_large { IsErrOf result Refusal.ImageTooLarge →
+            GREATEST_IMAGE < length (N.image value.now) }
+        ensures unchanged { IfErr result (λ e. e ≢ Refusal.Disk →
+            (self.new.disk ≡ self.old.disk) × (self.new.ready ≡ self.old.ready)) }
+        ensures others { IfErr result (λ e. (e ≡ Refusal.Closed) ⊎ ((e ≡ Refusal.ImageTooLarge)
+            ⊎ ((e ≡ Refusal.Memory) ⊎ (e ≡ Refusal.Disk)))) }
+    {
+        if !self.ready {
+            return Err(Refusal::Closed);
+        }
+        let image = value.to_bytes(self.alloc)?;
+        let bytes = record(self.alloc, &image)?;
+        self.ready = false;
+        swap(&mut self.disk, self.in_b, &image, &bytes)?;
+        self.in_b = !self.in_b;
+        self.ready = true;
+        Ok(())
+    }
+}
+
+impl Shelf<MemoryDisk> {
+    ghost use Rattle.disk.specs.Memory.{held_by, left_by, filled_by_crash};
+
+    /// From now on the `k`-th call of the disk and all later ones fail, as
+    /// [`MemoryDisk::fail_from`] says.
+    pub fn fail_from(&mut self, k: u64)
+        ensures good { self.new.disk.good ≡ Some (k - 1) }
+        ensures state { self.new.disk.state ≡ self.old.disk.state }
+        ensures past { self.new.disk.past ≡ self.old.disk.past }
+        ensures failures { self.new.disk.failures ≡ self.old.disk.failures }
+        ensures ready { self.new.ready ≡ self.old.ready }
+    {
+        self.disk.fail_from(k);
+    }
+
+    /// The disk that a crash now leaves, as [`MemoryDisk::after_crash`] says.
+    pub fn after_crash(&self, fill: u8) -> Result<MemoryDisk, Refusal>
+        ensures filled { IfOk result (λ d. held_by d ≡ filled_by_crash fill self.now.disk) }
+        ensures left { IfOk result (λ d. left_by self.now.disk (held_by d)) }
+        ensures durable { IfOk result (λ d. Only (held_by d) (left_by d)) }
+        ensures memory { IfErr result (λ e. e ≡ Refusal.Memory) }
+    {
+        self.disk.after_crash(fill)
+    }
+}

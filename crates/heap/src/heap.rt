@@ -1,0 +1,79 @@
+ghost use Rattle.std.specs.Prelude.{◌≡◌, length, IfOk, IfErr};
+ghost use Rattle.ids.specs.declared.refusal.Refusal.TheVariants.{Memory};
+ghost use Rattle.model.specs.State.{new_heap};
+
+mod letters;
+mod objects;
+mod registers;
+
+use crate::object::StoredObject;
+use arena::Arena;
+use ids::{Ref, Refusal, Shape};
+use model::Letter;
+use std::alloc::Global;
+use std::collections::VecDeque;
+use std::marker::Model;
+
+/// What a node holds: objects in at most as many slots as the shape of its space allows, registers,
+/// letters that wait for the program, and the marked objects that are still to be scanned.
+#[derive(Drop)]
+pub struct Heap {
+    objects: Arena<StoredObject>,
+    registers: Vec<Option<Ref>>,
+    // Oldest first.
+    letters: VecDeque<Letter>,
+    // By slot; the last is scanned first.
+    grey: Vec<u32>,
+}
+
+impl Model for Heap {
+    ghost use Rattle.heap.specs.Heap.{HeapView};
+
+    ghost Value = { HeapView };
+
+    ghost use Rattle.heap.specs.Stored.{view_of, IsHeap};
+
+    ghost view = { view_of };
+
+    ghost invariant = { IsHeap };
+}
+
+impl Heap {
+    /// The heap of a new node: no object, no letter, and as many empty registers as the shape says.
+    ///
+    /// It answers [`Refusal::Memory`] where there is no memory for the registers.
+    pub fn new(alloc: Global, shape: Shape) -> Result<Heap, Refusal>
+        ensures made { IfOk result
+            (λ h. h ≡ record { heap = new_heap shape; limit = shape.slots }) }
+        ensures refused { IfErr result (λ e. e ≡ Memory) }
+    {
+        Ok(Heap {
+            objects: Arena::with_limit(alloc, shape.slots()),
+            registers: vec![in alloc; None; shape.registers() as usize]?,
+            letters: VecDeque::new(alloc),
+            grey: Vec::new(alloc),
+        })
+    }
+
+    /// A heap that is equal to this one.
+    ///
+    /// It answers [`Refusal::Memory`] where there is no memory for it.
+    pub fn copy(&self, alloc: Global) -> Result<Heap, Refusal>
+        ensures same { IfOk result (λ h. h ≡ self.now) }
+        ensures refused { IfErr result (λ e. e ≡ Memory) }
+    {
+        Ok(Heap {
+            objects: self.objects.copy(alloc)?,
+            registers: Vec::from_slice(alloc, &self.registers)?,
+            letters: self.letters.clone()?,
+            grey: Vec::from_slice(alloc, &self.grey)?,
+        })
+    }
+
+    /// How many marked objects are still to be scanned.
+    pub fn grey(&self) -> usize
+        ensures { result ≡ length self.now.heap.grey }
+    {
+        self.grey.len()
+    }
+}

@@ -1,0 +1,261 @@
+ghost use Rattle.std.specs.Prelude.{◌≡◌, ◌<◌, ◌≤◌, count_by, is_some, IsTrue, option_copied};
+ghost use Rattle.std.specs.Prelude.{Ok, Err, OnOk, OnErr, IfOk, IfErr};
+ghost use Rattle.ids.specs.Limits.{reference_fits};
+ghost use Rattle.ids.specs.declared.limits.TheConstants.{GREATEST_NODES};
+ghost use Rattle.model.specs.Checks.{guarded, IsFirstRefusal};
+ghost use Rattle.model.specs.Heaps.{object_at, place_of, with_place, with_word, heap_alloc};
+ghost use Rattle.model.specs.Heaps.{heap_load, heap_store, heap_clear, heap_word, heap_set_word};
+ghost use Rattle.heap.specs.Heap.{IsSlotted, is_occupied};
+ghost use Rattle.heap.specs.Tests.{place_tests, object_tests};
+
+use super::Heap;
+use crate::object::StoredObject;
+use arena::Key;
+use ids::{GREATEST_PLACES, Ref, Refusal};
+
+impl Heap {
+    /// Makes an object with this many empty places, marked by `cycle`, puts its reference into the
+    /// register, and gives that reference. `own` is the node's number.
+    ///
+    /// It answers [`Refusal::NoRegister`] where there is no such register,
+    /// [`Refusal::TooManyFields`] where an object may not have so many places,
+    /// [`Refusal::ArenaFull`] where no slot is left, and, where none of these applies,
+    /// [`Refusal::Memory`] where there is no memory for the object. The heap is then as it was.
+    #[tactic(auto, unfolding(model::specs::Heaps::heap_alloc))]
+    pub fn alloc(&mut self, own: u8, cycle: u64, register: u16, places: u8) -> Result<Ref, Refusal>
+        ensures done { IfOk result (λ r.
+            heap_alloc self.old.limit own cycle self.old.heap register places
+            ≡ Ok (self.new.heap, r)) }
+        ensures limit { self.new.limit ≡ self.old.limit }
+        ensures within { IfOk result (λ r. (r.slot < self.old.limit) × (1 ≤ r.generation)) }
+        ensures named { own < GREATEST_NODES → IfOk result (λ r. IsTrue (reference_fits r)) }
+
+        ensures refused { IfErr result (λ e.
+            IsFirstRefusal e (heap_alloc self.old.limit own cycle self.old.heap register places)) }
+        ensures unchanged { OnErr result (self.new ≡ self.old) }
+    {
+        if register as usize >= self.registers.len() {
+            return Err(Refusal::NoRegister);
+        }
+        if places > GREATEST_PLACES {
+            return Err(Refusal::TooManyFields);
+        }
+        if self.objects.is_full() {
+            return Err(Refusal::ArenaFull);
+        }
+        // From here on memory alone may be missing.
+        let object = StoredObject::new(*self.registers.allocator(), cycle, places)?;
+        let Ok(key) = self.objects.insert(object) else {
+            return Err(Refusal::Memory);
+        };
+        let reference = Ref {
+            node: own,
+            slot: key.slot,
+            generation: key.generation,
+        };
+        self.registers[register as usize] = Some(reference);
+        Ok(reference)
+    }
+
+    /// Reads a place of the object that the register `object` names: `register` then holds what
+    /// stands there, or nothing where the place is empty. That is the answer too. `own` is the
+    /// node's number.
+    ///
+    /// It answers [`Refusal::NoRegister`] where one of the two is no register,
+    /// [`Refusal::EmptyRegister`] where `object` is empty, [`Refusal::Remote`] where it names an
+    /// object of another node, and [`Refusal::NoField`] where the object isn't there or has no such
+    /// place. The heap is then as it was.
+    #[tactic(auto, unfolding(model::specs::Heaps::heap_load))]
+    pub fn load(
+        &mut self,
+        own: u8,
+        register: u16,
+        object: u16,
+        place: u8,
+    ) -> Result<Option<Ref>, Refusal>
+        ensures done { IfOk result
+            (λ r. heap_load own self.old.heap register object place ≡ Ok (self.new.heap, r)) }
+        ensures limit { self.new.limit ≡ self.old.limit }
+
+        ensures refused { IfErr result
+            (λ e. heap_load own self.old.heap register object place ≡ Err e) }
+        ensures unchanged { OnErr result (self.new ≡ self.old) }
+    {
+        if register as usize >= self.registers.len() {
+            return Err(Refusal::NoRegister);
+        }
+        let named = self.local(own, object)?;
+        let reference = self.read_place(named, place)?;
+        self.registers[register as usize] = reference;
+        Ok(reference)
+    }
+
+    /// Writes what `register` holds into a place of the object that the register `object` names.
+    /// `own` is the node's number.
+    ///
+    /// It answers [`Refusal::NoRegister`] where one of the two is no register,
+    /// [`Refusal::EmptyRegister`] where one of them is empty, [`Refusal::Remote`] where `object`
+    /// names an object of another node, and [`Refusal::NoField`] where the object isn't there or
+    /// has no such place. The heap is then as it was.
+    #[tactic(auto, unfolding(model::specs::Heaps::heap_store, model::specs::Heaps::heap_register))]
+    pub fn store(&mut self, own: u8, object: u16, place: u8, register: u16) -> Result<(), Refusal>
+        ensures done { OnOk result
+            (heap_store own self.old.heap object place register ≡ Ok self.new.heap) }
+        ensures limit { self.new.limit ≡ self.old.limit }
+
+        ensures refused { IfErr result
+            (λ e. heap_store own self.old.heap object place register ≡ Err e) }
+        ensures unchanged { OnErr result (self.new ≡ self.old) }
+    {
+        let (named, value) = (self.register(object)?, self.register(register)?);
+        let (Some(named), Some(value)) = (named, value) else {
+            return Err(Refusal::EmptyRegister);
+        };
+        if named.node != own {
+            return Err(Refusal::Remote);
+        }
+        self.write_place(named, place, Some(value))
+    }
+
+    /// Empties a place of the object that the register `object` names. `own` is the node's number.
+    ///
+    /// It answers [`Refusal::NoRegister`] where there is no such register,
+    /// [`Refusal::EmptyRegister`] where it is empty, [`Refusal::Remote`] where it names an object
+    /// of another node, and [`Refusal::NoField`] where the object isn't there or has no such place.
+    /// The heap is then as it was.
+    #[tactic(auto, unfolding(model::specs::Heaps::heap_clear))]
+    pub fn clear(&mut self, own: u8, object: u16, place: u8) -> Result<(), Refusal>
+        ensures done { OnOk result (heap_clear own self.old.heap object place ≡ Ok self.new.heap) }
+        ensures limit { self.new.limit ≡ self.old.limit }
+
+        ensures refused { IfErr result (λ e. heap_clear own self.old.heap object place ≡ Err e) }
+        ensures unchanged { OnErr result (self.new ≡ self.old) }
+    {
+        let named = self.local(own, object)?;
+        self.write_place(named, place, None)
+    }
+
+    /// The word of the object that the register `object` names. `own` is the node's number.
+    ///
+    /// It answers [`Refusal::NoRegister`] where there is no such register,
+    /// [`Refusal::EmptyRegister`] where it is empty, [`Refusal::Remote`] where it names an object
+    /// of another node, and [`Refusal::NoField`] where the object isn't there.
+    #[tactic(auto, unfolding(model::specs::Heaps::heap_word))]
+    pub fn word(&self, own: u8, object: u16) -> Result<u64, Refusal>
+        ensures { result ≡ heap_word own self.now.heap object }
+    {
+        let named = self.local(own, object)?;
+        match self.object(named) {
+            Some(object) => Ok(object.word()),
+            None => Err(Refusal::NoField),
+        }
+    }
+
+    /// The word of the object that the register `object` names becomes this one. `own` is the
+    /// node's number.
+    ///
+    /// It answers [`Refusal::NoRegister`] where there is no such register,
+    /// [`Refusal::EmptyRegister`] where it is empty, [`Refusal::Remote`] where it names an object
+    /// of another node, and [`Refusal::NoField`] where the object isn't there. The heap is then as
+    /// it was.
+    #[tactic(auto, unfolding(model::specs::Heaps::heap_set_word))]
+    pub fn set_word(&mut self, own: u8, object: u16, word: u64) -> Result<(), Refusal>
+        ensures done { OnOk result
+            (heap_set_word own self.old.heap object word ≡ Ok self.new.heap) }
+        ensures limit { self.new.limit ≡ self.old.limit }
+
+        ensures refused { IfErr result (λ e. heap_set_word own self.old.heap object word ≡ Err e) }
+        ensures unchanged { OnErr result (self.new ≡ self.old) }
+    {
+        let named = self.local(own, object)?;
+        self.write_word(named, word)
+    }
+
+    /// How many objects there are.
+    pub fn live(&self) -> u32
+        ensures value { result ≡ count_by is_occupied self.now.heap.slots }
+        ensures slots { IsSlotted self.now }
+    {
+        self.objects.len()
+    }
+
+    /// Whether an object of this heap is still there. It doesn't look at the reference's node.
+    pub fn is_live(&self, object: Ref) -> bool
+        ensures { result ≡ is_some (object_at self.now.heap object) }
+    {
+        self.object(object).is_some()
+    }
+
+    /// What stands in a place of an object of this heap: nothing where the place is empty, or there
+    /// is no such place or object. It doesn't look at the reference's node.
+    pub fn place(&self, object: Ref, place: u8) -> Option<Ref>
+        ensures { result ≡ place_of (object_at self.now.heap object) place }
+    {
+        self.read_place(object, place).unwrap_or(None)
+    }
+
+    /// A place of an object of this heap becomes this. Where there is no such place or object, the
+    /// heap stays as it is. It doesn't look at the reference's node.
+    pub fn set_place(&mut self, object: Ref, place: u8, value: Option<Ref>)
+        ensures { self.new
+            ≡ record self.old { heap = with_place self.old.heap object place value } }
+    {
+        self.write_place(object, place, value).ok();
+    }
+
+    // The object of a reference to this heap's node, while it is there.
+    fn object(&self, reference: Ref) -> Option<&StoredObject>
+        ensures { option_copied result ≡ object_at self.now.heap reference }
+    {
+        self.objects.get(key(reference))
+    }
+
+    // What stands in a place that is there.
+    fn read_place(&self, object: Ref, place: u8) -> Result<Option<Ref>, Refusal>
+        ensures { let o = object_at self.now.heap object in
+            result ≡ guarded (place_tests self.now.heap object place) (place_of o place) }
+    {
+        match self.object(object) {
+            Some(object) => object.place(place),
+            None => Err(Refusal::NoField),
+        }
+    }
+
+    // Writes a place, where it is there.
+    fn write_place(&mut self, object: Ref, place: u8, value: Option<Ref>) -> Result<(), Refusal>
+        ensures done { self.new
+            ≡ record self.old { heap = with_place self.old.heap object place value } }
+        ensures answer { result ≡ guarded (place_tests self.old.heap object place) tt }
+        ensures unchanged { OnErr result (self.new ≡ self.old) }
+    {
+        match self.objects.get_mut(key(object)) {
+            Some(object) => object.set_place(place, value),
+            None => Err(Refusal::NoField),
+        }
+    }
+
+    // Writes the word of an object, where it is there.
+    fn write_word(&mut self, object: Ref, word: u64) -> Result<(), Refusal>
+        ensures done { self.new ≡ record self.old { heap = with_word self.old.heap object word } }
+        ensures answer { result ≡ guarded (object_tests self.old.heap object) tt }
+        ensures unchanged { OnErr result (self.new ≡ self.old) }
+    {
+        match self.objects.get_mut(key(object)) {
+            Some(object) => {
+                object.set_word(word);
+                Ok(())
+            }
+            None => Err(Refusal::NoField),
+        }
+    }
+}
+
+// Where a node's heap keeps the object of this reference.
+fn key(reference: Ref) -> Key
+    ensures { result ≡ record { slot = reference.slot; generation = reference.generation } }
+{
+    Key {
+        slot: reference.slot,
+        generation: reference.generation,
+    }
+}

@@ -1,0 +1,79 @@
+ghost use Rattle.std.specs.Prelude.{◌≡◌, Ok, Err, OnOk, OnErr, IfErr};
+ghost use Rattle.model.specs.Checks.{guarded};
+ghost use Rattle.model.specs.Heaps.{named, heap_copy, heap_drop, heap_register};
+ghost use Rattle.heap.specs.Tests.{named_tests};
+
+use super::Heap;
+use ids::{Ref, Refusal};
+
+impl Heap {
+    /// What the register holds.
+    ///
+    /// It answers [`Refusal::NoRegister`] where there is no such register.
+    #[tactic(auto, unfolding(model::specs::Heaps::heap_register))]
+    pub fn register(&self, register: u16) -> Result<Option<Ref>, Refusal>
+        ensures { result ≡ heap_register self.now.heap register }
+    {
+        match self.registers.get(register as usize) {
+            Some(reference) => Ok(*reference),
+            None => Err(Refusal::NoRegister),
+        }
+    }
+
+    /// The register becomes what the register `source` holds.
+    ///
+    /// It answers [`Refusal::NoRegister`] where one of the two is no register, and
+    /// [`Refusal::EmptyRegister`] where `source` is empty. The heap is then as it was.
+    #[tactic(auto, unfolding(model::specs::Heaps::heap_copy, model::specs::Heaps::heap_register))]
+    pub fn copy_register(&mut self, register: u16, source: u16) -> Result<(), Refusal>
+        ensures done { OnOk result (heap_copy self.old.heap register source ≡ Ok self.new.heap) }
+        ensures limit { self.new.limit ≡ self.old.limit }
+
+        ensures refused { IfErr result (λ e. heap_copy self.old.heap register source ≡ Err e) }
+        ensures unchanged { OnErr result (self.new ≡ self.old) }
+    {
+        if register as usize >= self.registers.len() {
+            return Err(Refusal::NoRegister);
+        }
+        let reference = self.register(source)?;
+        if reference.is_none() {
+            return Err(Refusal::EmptyRegister);
+        }
+        self.registers[register as usize] = reference;
+        Ok(())
+    }
+
+    /// Empties the register.
+    ///
+    /// It answers [`Refusal::NoRegister`] where there is no such register, and
+    /// [`Refusal::EmptyRegister`] where it is empty. The heap is then as it was.
+    #[tactic(auto, unfolding(model::specs::Heaps::heap_drop, model::specs::Heaps::heap_register))]
+    pub fn drop_register(&mut self, register: u16) -> Result<(), Refusal>
+        ensures done { OnOk result (heap_drop self.old.heap register ≡ Ok self.new.heap) }
+        ensures limit { self.new.limit ≡ self.old.limit }
+
+        ensures refused { IfErr result (λ e. heap_drop self.old.heap register ≡ Err e) }
+        ensures unchanged { OnErr result (self.new ≡ self.old) }
+    {
+        if self.register(register)?.is_none() {
+            return Err(Refusal::EmptyRegister);
+        }
+        self.registers[register as usize] = None;
+        Ok(())
+    }
+
+    // What the register names, where that is an object of the node with this number.
+    #[tactic(auto, unfolding(model::specs::Heaps::heap_register))]
+    pub(super) fn local(&self, own: u8, register: u16) -> Result<Ref, Refusal>
+        ensures { result
+            ≡ guarded (named_tests own self.now.heap register) (named self.now.heap register) }
+    {
+        let Some(reference) = self.register(register)? else {
+            return Err(Refusal::EmptyRegister);
+        };
+        if reference.node != own {
+            return Err(Refusal::Remote);
+        }
+        Ok(reference)
+    }
+}

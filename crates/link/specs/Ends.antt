@@ -1,0 +1,24 @@
+-- How `Links` shows what it is.
+use Rattle.std.specs.Prelude.{ℕ, List, map}
+use Rattle.link.specs.declared.links.Ends.{Ends}
+use Rattle.model.specs.View.{Link, no_link, all_kept}
+use Rattle.link.specs.Receivers.{new_received, all_saved}
+use Rattle.link.specs.Links.{LinksView}
+
+abbrev pub sender_of : Ends → Link
+sender_of e = e.sender
+
+abbrev pub taken_of : Ends → ℕ
+taken_of e = e.receiver.taken
+
+abbrev pub saved_of : Ends → ℕ
+saved_of e = e.receiver.saved
+
+abbrev pub view_of : List Ends → LinksView
+view_of es = record { links = map sender_of es; got = map taken_of es; acks = map saved_of es }
+
+abbrev pub new_ends : Ends
+new_ends = record { sender = no_link; receiver = new_received }
+
+abbrev pub kept_ends : Ends → Ends
+kept_ends e = record { sender = all_kept e.sender; receiver = all_saved e.receiver }

@@ -1,0 +1,251 @@
+ghost use Rattle.std.specs.Prelude.{◌≡◌, ◌≢◌, ◌+◌, ◌<◌, ◌≤◌, true, false, length, map, slice_index_or, IfSome, IfOk, IfErr, OnOk, OnErr};
+ghost use Rattle.ids.specs.declared.limits.TheConstants.{GREATEST_NUMBER};
+ghost use Rattle.ids.specs.declared.refusal.Refusal.TheVariants.{AckBeyond, LinkSpent, Memory};
+ghost use Rattle.model.specs.View.{used, message_of, released_at};
+ghost use Rattle.link.specs.Receivers.{offered};
+ghost use Rattle.link.specs.Links.{IsLinks, new_links, link_at, got_at, ack_at, fits_to, appended_to, retracted_to, trimmed_to, taken_next_from, kept_links};
+ghost use Rattle.link.specs.Ends.{new_ends, kept_ends};
+
+use crate::receiver::{Offer, Receiver};
+use crate::sender::Sender;
+use ids::Refusal;
+use msg::Message;
+use std::alloc::Global;
+use std::marker::Model;
+
+/// The ends that a node holds of the two links between it and one node: that of its messages to
+/// there, and that of the messages from there.
+#[derive(Drop)]
+struct Ends {
+    sender: Sender,
+    receiver: Receiver,
+}
+
+impl Ends {
+    fn new(alloc: Global) -> Ends
+        ensures { result ≡ new_ends }
+    {
+        Ends {
+            sender: Sender::new(alloc),
+            receiver: Receiver::new(),
+        }
+    }
+
+    fn kept(&mut self)
+        ensures { self.new ≡ kept_ends self.old }
+    {
+        self.sender.kept();
+        self.receiver.kept();
+    }
+
+    fn copy(&self, alloc: Global) -> Result<Ends, Refusal>
+        ensures same { IfOk result (λ e. e ≡ self.now) }
+        ensures refused { IfErr result (λ e. e ≡ Memory) }
+    {
+        Ok(Ends {
+            sender: self.sender.copy(alloc)?,
+            receiver: self.receiver,
+        })
+    }
+}
+
+/// What a node holds of the links between it and each node of its space, itself among them: for
+/// each a [`Sender`] and a [`Receiver`]. A call names a node by its number, which is to be below
+/// the width, and finds its ends by that number alone. Room that was made for messages is kept for
+/// later ones.
+#[derive(Drop)]
+pub struct Links {
+    by_node: Vec<Ends>,
+}
+
+impl Model for Links {
+    ghost use Rattle.link.specs.Links.{LinksView, IsLinks};
+
+    ghost Value = { LinksView };
+
+    ghost use Rattle.link.specs.Ends.{view_of};
+
+    ghost view = { λ l. view_of l.by_node.items };
+
+    ghost invariant = { λ l. IsLinks (view_of l.by_node.items) };
+}
+
+impl Links {
+    /// The links of a node that has sent nothing and taken in nothing, in a space of so many nodes.
+    /// [`Refusal::Memory`] where a growth was refused.
+    pub fn new(alloc: Global, width: u8) -> Result<Links, Refusal>
+        ensures made { IfOk result (λ l. l ≡ new_links width) }
+        ensures refused { IfErr result (λ e. e ≡ Memory) }
+    {
+        let mut by_node = Vec::with_capacity(alloc, usize::from(width))?;
+        for _node in 0..width {
+            by_node.push(Ends::new(alloc))?;
+        }
+        Ok(Links { by_node })
+    }
+
+    /// How many nodes the space has.
+    pub fn width(&self) -> u8
+        ensures value { result ≡ length self.now.links }
+        ensures sound { IsLinks self.now }
+    {
+        self.by_node.len() as u8
+    }
+
+    /// Appends a message for the node `to`, and gives its number. [`Refusal::LinkSpent`] where that
+    /// link has no number left; where it has one, [`Refusal::Memory`] where a growth was refused.
+    /// The links are then as they were. A growth moves all messages that are kept for that node,
+    /// and doubles the room for them.
+    pub fn append(&mut self, to: u8, message: Message) -> Result<u64, Refusal>
+        requires { to < length self.old.links }
+        ensures fits { OnOk result (fits_to self.old to message ≡ true) }
+        ensures done { OnOk result (self.new ≡ appended_to self.old to message) }
+        ensures number { IfOk result (λ n. n ≡ slice_index_or (map used self.old.links) to 0 + 1) }
+        ensures refused { IfErr result
+            (λ e. e ≢ Memory → (e ≡ LinkSpent) × (fits_to self.old to message ≡ false)) }
+        ensures memory { IfErr result (λ e. e ≡ Memory → fits_to self.old to message ≡ true) }
+        ensures unchanged { OnErr result (self.new ≡ self.old) }
+        ensures sound { IsLinks self.new }
+    {
+        self.by_node[usize::from(to)].sender.append(message)
+    }
+
+    /// Takes back the message that was appended last for the node `to`, if no saved node holds it;
+    /// else it changes nothing. After [`Links::append`] it leaves the links as they were before. It
+    /// takes no memory.
+    pub fn retract(&mut self, to: u8)
+        requires { to < length self.old.links }
+        ensures done { self.new ≡ retracted_to self.old to }
+        ensures sound { IsLinks self.new }
+    {
+        self.by_node[usize::from(to)].sender.retract();
+    }
+
+    /// Lets go of the messages to the node `from` up to this number, which that node acknowledged.
+    /// A smaller number than before changes nothing. [`Refusal::AckBeyond`] where it is above what
+    /// was released; the links are then as they were. It takes no memory, and time for each message
+    /// that is let go of.
+    pub fn trim(&mut self, from: u8, number: u64) -> Result<(), Refusal>
+        requires { from < length self.old.links }
+        ensures released { OnOk result (number ≤ (link_at self.old from).kept) }
+        ensures done { OnOk result (self.new ≡ trimmed_to self.old from number) }
+        ensures refused { IfErr result
+            (λ e. (e ≡ AckBeyond) × ((link_at self.old from).kept < number)) }
+        ensures unchanged { OnErr result (self.new ≡ self.old) }
+        ensures sound { IsLinks self.new }
+    {
+        self.by_node[usize::from(from)].sender.trim(number)
+    }
+
+    /// What the message of this number from the node `from` is: the next one, or a repeat, which is
+    /// one that was taken in before. [`Refusal::OutOfOrder`] where it is a later one than the next.
+    pub fn offer(&self, from: u8, number: u64) -> Result<Offer, Refusal>
+        requires { from < length self.now.links }
+        ensures { result ≡ offered (got_at self.now from) number }
+    {
+        self.by_node[usize::from(from)].receiver.offer(number)
+    }
+
+    /// Counts the next message from the node `from` as taken in. It is called where
+    /// [`Links::offer`] has answered [`Offer::Next`] for a number that a frame can have, which is
+    /// at most [`GREATEST_NUMBER`](ids::GREATEST_NUMBER).
+    pub fn take_next(&mut self, from: u8)
+        requires there { from < length self.old.links }
+        requires room { got_at self.old from < GREATEST_NUMBER }
+        ensures done { self.new ≡ taken_next_from self.old from }
+        ensures sound { IsLinks self.new }
+    {
+        self.by_node[usize::from(from)].receiver.take_next();
+    }
+
+    /// The number of the message from the node `from` that was taken in last; 0 where none was.
+    pub fn taken(&self, from: u8) -> u64
+        requires { from < length self.now.links }
+        ensures { result ≡ got_at self.now from }
+    {
+        self.by_node[usize::from(from)].receiver.taken()
+    }
+
+    /// How many messages were ever appended for the node `to`: the number of the last one.
+    pub fn used(&self, to: u8) -> u64
+        requires { to < length self.now.links }
+        ensures value { result ≡ used (link_at self.now to) }
+        ensures within { result ≤ GREATEST_NUMBER }
+        ensures sound { IsLinks self.now }
+    {
+        self.by_node[usize::from(to)].sender.used()
+    }
+
+    /// The highest number that the node `to` acknowledged; 0 where it acknowledged none.
+    pub fn base(&self, to: u8) -> u64
+        requires { to < length self.now.links }
+        ensures { result ≡ (link_at self.now to).base }
+    {
+        self.by_node[usize::from(to)].sender.base()
+    }
+
+    /// How many messages for the node `to` were released: the number of the last one.
+    pub fn released(&self, to: u8) -> u64
+        requires { to < length self.now.links }
+        ensures { result ≡ (link_at self.now to).kept }
+    {
+        self.by_node[usize::from(to)].sender.released()
+    }
+
+    /// The message of this number for the node `to`, released or not; None where none was appended
+    /// under it, or it was let go of.
+    pub fn message(&self, to: u8, number: u64) -> Option<Message>
+        requires { to < length self.now.links }
+        ensures value { result ≡ message_of (link_at self.now to) number }
+        ensures within { IfSome result (λ _. number ≤ GREATEST_NUMBER) }
+    {
+        self.by_node[usize::from(to)].sender.message(number)
+    }
+
+    /// The message for the node `to` in this place of its window, which has [`WINDOW`](ids::WINDOW)
+    /// places and shows released messages alone: in the first place is the one after the last
+    /// acknowledged.
+    pub fn window(&self, to: u8, place: u8) -> Option<Message>
+        requires { to < length self.now.links }
+        ensures value { result ≡ released_at (link_at self.now to) place }
+        ensures within { IfSome result
+            (λ _. (link_at self.now to).base + 1 + place ≤ GREATEST_NUMBER) }
+    {
+        self.by_node[usize::from(to)].sender.window(place)
+    }
+
+    /// The number up to which a saved node has taken in the messages from the node `from`: so many
+    /// may be acknowledged.
+    pub fn ack_number(&self, from: u8) -> u64
+        requires { from < length self.now.links }
+        ensures value { result ≡ ack_at self.now from }
+        ensures within { result ≤ GREATEST_NUMBER }
+    {
+        self.by_node[usize::from(from)].receiver.ack_number()
+    }
+
+    /// Counts every message, and all that was taken in, as held by a saved node. It is called after
+    /// a save: it releases the messages, and what was taken in may be acknowledged. It takes time
+    /// for each node, and none for their messages.
+    pub fn kept(&mut self)
+        ensures done { self.new ≡ kept_links self.old }
+        ensures sound { IsLinks self.new }
+    {
+        for ends in self.by_node.iter_mut() {
+            ends.kept();
+        }
+    }
+
+    /// Links that are equal to these. [`Refusal::Memory`] where a growth was refused. It takes time
+    /// for each message that is kept.
+    pub fn copy(&self, alloc: Global) -> Result<Links, Refusal>
+        ensures same { IfOk result (λ l. l ≡ self.now) }
+        ensures refused { IfErr result (λ e. e ≡ Memory) }
+    {
+        let mut by_node = Vec::with_capacity(alloc, self.by_node.len())?;
+        for ends in self.by_node.iter() {
+            by_node.push(ends.copy(alloc)?)?;
+        }
+        Ok(Links { by_node })
+    }
+}

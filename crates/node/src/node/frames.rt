@@ -1,0 +1,73 @@
+//! The frames that a node gives out.
+ghost use Rattle.std.specs.Prelude.{◌≡◌, ◌≤◌, IsTrue, Some};
+ghost use Rattle.std.specs.Option.{option_map};
+ghost use Rattle.ids.specs.declared.limits.TheConstants.{GREATEST_NUMBER};
+ghost use Rattle.msg.specs.Frames.{plain};
+ghost use Rattle.model.specs.References.{IsSendable};
+ghost use Rattle.model.specs.View.{is_other, link_to, used};
+ghost use Rattle.node.specs.Frames.{acknowledgement, frame_of, numbered_frame, released_frame};
+
+use super::Node;
+use msg::{Ack, Data, Frame, Message};
+
+impl Node {
+    /// The frame in this place of the window to another node, if a saved node holds its message:
+    /// the first place has the message after the last acknowledged one. None where `to` is no other
+    /// node of the space, or the place, of [`WINDOW`](ids::WINDOW), holds no released message.
+    pub fn frame_at(&self, to: u8, place: u8) -> Option<Frame>
+        ensures { option_map plain result ≡ released_frame self.now to place }
+    {
+        if !self.is_other(to) {
+            return None;
+        }
+        let message = self.links.window(to, place)?;
+        self.frame(to, self.links.base(to) + 1 + u64::from(place), message)
+    }
+
+    /// The acknowledgement to another node of all its messages that a saved node has taken in. None
+    /// where `from` is no other node of the space.
+    pub fn ack_for(&self, from: u8) -> Option<Frame>
+        ensures { option_map plain result ≡ acknowledgement self.now from }
+    {
+        if !self.is_other(from) {
+            return None;
+        }
+        let ack = Ack::new(self.own, from, self.links.ack_number(from))?;
+        Some(Frame::Ack(ack))
+    }
+
+    /// The frame of the message of this number to another node, released or not, while the node
+    /// keeps it. None where `to` is no other node of the space, or the node keeps no such message.
+    pub fn numbered_frame(&self, to: u8, number: u64) -> Option<Frame>
+        ensures { option_map plain result ≡ numbered_frame self.now to number }
+    {
+        if !self.is_other(to) {
+            return None;
+        }
+        let message = self.links.message(to, number)?;
+        self.frame(to, number, message)
+    }
+
+    fn frame(&self, to: u8, number: u64, message: Message) -> Option<Frame>
+        requires other { IsTrue (is_other self.now.local to) }
+        requires number { 1 ≤ number }
+        requires last { number ≤ GREATEST_NUMBER }
+        requires sendable { IsSendable self.now.local.shape message }
+        ensures { option_map plain result ≡ Some (frame_of self.now.local.own to number message) }
+    {
+        let data = Data::new(self.own, to, number, message.stamp, message.body)?;
+        Some(Frame::Data(data))
+    }
+
+    /// How many messages were ever appended for the node `to`: the number of the last one; 0 where
+    /// there is no such node.
+    pub fn appended(&self, to: u8) -> u64
+        ensures { result ≡ used (link_to self.now to) }
+    {
+        if to < self.shape.nodes() {
+            self.links.used(to)
+        } else {
+            0
+        }
+    }
+}

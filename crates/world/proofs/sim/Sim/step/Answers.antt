@@ -1,0 +1,5 @@
+use Rattle.world.proofs.Runs.{extends_run}
+use Rattle.world.proofs.sim.Sim.step.Goals as goal
+
+pub returns-clause-runs : goal.returns-clause-runs
+returns-clause-runs c = extends_run _ _ _ _ c.take.ensures.follows

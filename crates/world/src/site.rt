@@ -1,0 +1,113 @@
+ghost use Rattle.std.specs.Prelude.{◌≡◌, ◌≢◌, ◌<◌, length, IsTrue, IfOk, IfErr, OnOk, OnErr, slice_index_or};
+ghost use Rattle.std.specs.Option.{option_map};
+ghost use Rattle.ids.specs.declared.refusal.Refusal.TheVariants.{Memory};
+ghost use Rattle.model.specs.View.{is_other};
+ghost use Rattle.node.specs.Invariant.{IsNode};
+ghost use Rattle.world.specs.Outboxes.{numbered_bytes};
+ghost use Rattle.world.specs.Sites.{Acted, Saves, new_site, frames_to};
+
+use crate::outbox::{Outbox, new_outboxes, release_all};
+use ids::{NodeId, Refusal, Shape};
+use model::{Answer, Event};
+use msg::{Ack, Frame};
+use node::Node;
+use std::alloc::Global;
+use std::marker::Model;
+
+/// One node of a space: as it stands, as it was saved last, and for each node the frames of all
+/// messages to there that were ever released.
+#[derive(Drop)]
+pub struct Site {
+    current: Node,
+    saved: Node,
+    outboxes: Vec<Outbox>,
+}
+
+impl Model for Site {
+    ghost use Rattle.world.specs.Sites.{SiteView};
+
+    ghost Value = { SiteView };
+
+    ghost use Rattle.world.specs.InsideSite.{view_of, IsSound};
+
+    ghost view = { view_of };
+
+    ghost invariant = { IsSound };
+}
+
+impl Site {
+    /// The site of a new node. `NoNode` where the shape has no such node, `Memory` where a
+    /// growth was refused.
+    pub fn new(alloc: Global, shape: Shape, own: NodeId) -> Result<Site, Refusal>
+        requires { own.number < shape.nodes }
+        ensures made { IfOk result (λ s. s ≡ new_site shape own.number) }
+        ensures refused { IfErr result (λ e. e ≡ Memory) }
+    {
+        Ok(Site {
+            current: Node::new(alloc, shape, own)?,
+            saved: Node::new(alloc, shape, own)?,
+            outboxes: new_outboxes(alloc, shape.nodes())?,
+        })
+    }
+
+    /// The current node.
+    pub fn node(&self) -> &Node
+        ensures { result.now ≡ self.now.current }
+    {
+        &self.current
+    }
+
+    /// Gives the current node an event. It refuses what the node refuses; then nothing changes.
+    pub fn act(&mut self, event: Event) -> Result<Answer, Refusal>
+        ensures { Acted result self.old self.new event }
+    {
+        self.current.act(event)
+    }
+
+    /// Saves the current node, and releases the frames of all its messages. `Memory` where a growth
+    /// was refused; then nothing changes.
+    pub fn save(&mut self, alloc: Global) -> Result<(), Refusal>
+        ensures done { OnOk result (Saves self.old self.new) }
+        ensures node { OnOk result (IsNode self.old.current) }
+        ensures unchanged { OnErr result (self.new ≡ self.old) }
+        ensures refused { IfErr result (λ e. e ≡ Memory) }
+    {
+        let mut copy = self.current.copy(alloc)?;
+        release_all(alloc, &mut self.outboxes, &copy)?;
+        self.current.kept();
+        copy.kept();
+        self.saved = copy;
+        Ok(())
+    }
+
+    /// Makes the saved node the current one. `Memory` where a growth was refused;
+    /// then nothing changes.
+    pub fn restart(&mut self, alloc: Global) -> Result<(), Refusal>
+        ensures done { OnOk result (self.new ≡ record self.old { current = self.old.saved }) }
+        ensures unchanged { OnErr result (self.new ≡ self.old) }
+        ensures refused { IfErr result (λ e. e ≡ Memory) }
+    {
+        self.current = self.saved.copy(alloc)?;
+        Ok(())
+    }
+
+    /// The bytes of the frame of this number to another node, if it was released.
+    pub fn frame(&self, to: u8, number: u64) -> Option<&[u8]>
+        ensures { option_map (λ b. b.now) result ≡ numbered_bytes (frames_to self.now to) number }
+    {
+        self.outboxes.get(usize::from(to))?.frame(number)
+    }
+
+    /// What the saved node acknowledges to another node.
+    pub fn acknowledgement(&self, from: u8) -> Ack
+        requires { IsTrue (is_other self.now.saved.local from) }
+        ensures from { result.from ≡ self.now.saved.local.own }
+        ensures to { result.to ≡ from }
+        ensures number { result.number ≡ slice_index_or self.now.saved.acks from 0 }
+    {
+        match self.saved.ack_for(from) {
+            Some(Frame::Ack(ack)) => ack,
+            _ => unreachable!(),
+        }
+    }
+}
