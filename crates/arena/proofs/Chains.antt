@@ -21,7 +21,7 @@ use Rattle.arena.specs.declared.Slot.TheVariants as slot
 use Rattle.arena.specs.declared.entry.Entry.{Entry}
 use Rattle.arena.specs.declared.entry.Entry.TheVariants.{Free, Occupied, Retired}
 use Rattle.arena.specs.declared.TheConstants.{GREATEST_GENERATION, FIRST_GENERATION}
-use Rattle.arena.proofs.Sound.{free_within, IsSound-fill, IsSound-vacate, IsSound-set}
+use Rattle.arena.proofs.Sound.{IsTaken, free_within, IsSound-fill, IsSound-vacate, IsSound-set}
 
 -- what a search of the list finds is in it
 Has-from_any : (xs : List ℕ) (q : ℕ) → list_any (eqb q) xs ≡ true → Has xs q
@@ -59,16 +59,16 @@ module _ {T : Type 0} where
   length-chain es (suc n) from = ap suc (length-chain es n _)
 
   -- the counts of free and of occupied slots are below the limit
-  pub len_fits : (es : List (Entry T)) (first vacant len limit : ℕ)
+  pub len_fits : {es : List (Entry T)} {first vacant len limit : ℕ}
       → IsLinked es first vacant len limit → len < 2 ^ 32
-  len_fits es first vacant len limit linked =
+  len_fits {es} linked =
       let counted = linked.counted in
       let most = count_by-le-length is_occupied (map slot_of es) in
       omega (arith, linked.sound.small, linked.sound.within)
 
-  pub vacant_fits : (es : List (Entry T)) (first vacant len limit : ℕ)
+  pub vacant_fits : {es : List (Entry T)} {first vacant len limit : ℕ}
       → IsLinked es first vacant len limit → vacant < 2 ^ 32
-  vacant_fits es first vacant len limit linked =
+  vacant_fits {es} {first} {vacant} {limit = limit} linked =
       let most = length-free (arena_of es first vacant limit) linked.sound in
       let counted = length-chain es vacant first in
       omega (arith, linked.sound.small, linked.sound.within)
@@ -104,6 +104,18 @@ module _ {T : Type 0} where
     pub value : T
     pub within : key.slot < length es
     pub read : get_or es key.slot Retired ≡ Occupied key.generation value
+
+  -- the slot of that key, which is taken
+  found_slot : {es : List (Entry T)} {key : Key} (f : IsFound es key)
+      → get_or (map slot_of es) key.slot slot.Retired ≡ slot.Occupied key.generation f.value
+  found_slot {es} {key} f = slot_read es key.slot _ f.read
+
+  found_taken : {es : List (Entry T)} {key : Key} → IsFound es key
+      → IsTaken (map slot_of es) key.slot
+  found_taken f = record {
+    within = rw length-map f.within;
+    apart = λ free. rw (found_slot f) at free;
+  }
 
   -- an entry with a value of this generation
   found_entry : (e : Entry T) (g : ℕ) → IsSome (value_of (slot_of e) g)
@@ -159,10 +171,10 @@ module _ {T : Type 0} where
       record { generation = f.0; next = f.1; within = within; read = f.2 }
 
   -- and that slot has been used
-  pub first_within : (es : List (Entry T)) (first vacant len limit : ℕ)
-      → 0 < length (chain es vacant first) → IsLinked es first vacant len limit → first < length es
-  first_within es first zero len limit some linked = absurd (omega arith)
-  first_within es first (suc vacant) len limit some linked =
+  pub first_within : {es : List (Entry T)} {first vacant len limit : ℕ}
+      → IsLinked es first vacant len limit → 0 < length (chain es vacant first) → first < length es
+  first_within {vacant = zero} linked some = absurd (omega arith)
+  first_within {es} {first} {vacant = suc vacant} {limit = limit} linked some =
       (first_is_free es first vacant limit linked.sound).within
 
   -- the first free slot, which was `e`, gets a value
@@ -182,86 +194,53 @@ module _ {T : Type 0} where
         let filled = set es first (Occupied (generation_of (slot_of e)) x) in
         arena_of filled (next_of e) (vacant - 1) limit ≡ inserted (arena_of es first vacant limit) x
 
-  fills_from : (es : List (Entry T)) (first vacant len limit : ℕ) (g next : ℕ) (x : T)
-      → first < length es → get_or es first Retired ≡ Free g next
-      → IsLinked es first (suc vacant) len limit
-      → Fills es first (suc vacant) len limit (Free g next) x
-  fills_from es first vacant len limit g next x within read linked =
+  fills_from : {es : List (Entry T)} {first vacant len limit : ℕ}
+      → IsLinked es first (suc vacant) len limit → (f : IsFirst es first) (x : T)
+      → Fills es first (suc vacant) len limit (Free f.generation f.next) x
+  fills_from {es} {first} {vacant} {limit = limit} linked f x =
+      let g = f.generation in
       let less : suc vacant - 1 ≡ vacant = omega arith in
       let at : get_or (map slot_of es) first slot.Retired ≡ slot.Free g =
-      slot_read es first _ read in
-      let after : next_of (get_or es first Retired) ≡ next = ap next_of read in
-      let kept : chain (set es first (Occupied g x)) vacant next ≡ chain es vacant next =
-      chain-set es first (Occupied g x) vacant next (rw after at linked.sound.once.0) in
+      slot_read es first _ f.read in
+      let after : next_of (get_or es first Retired) ≡ f.next = ap next_of f.read in
+      let kept : chain (set es first (Occupied g x)) vacant f.next ≡ chain es vacant f.next =
+      chain-set es first (Occupied g x) vacant f.next (rw after at linked.sound.once.0) in
       let born : FIRST_GENERATION ≤ g = rw at at (linked.sound.born first) in
-      let counted = count-set es first (Free g next) (Occupied g x) within read in
+      let counted = count-set es first (Free g f.next) (Occupied g x) f.within f.read in
       let before = rw after at linked.sound in
       record {
         free = tt;
         linked = rw less (record {
           sound =
               rw (kept, map-set)
-              (IsSound-fill (map slot_of es) first (chain es vacant next) limit g x born before);
+              (IsSound-fill (map slot_of es) first (chain es vacant f.next) limit g x born before);
           counted = omega (arith, linked.counted);
         });
         key = rw at refl;
         within = record {
-          slot = omega (arith, within, linked.sound.within, length-map es slot_of);
+          slot = omega (arith, f.within, linked.sound.within, length-map es slot_of);
           generation = born;
         };
         done = rw (less, kept, map-set, at, after);
       }
 
   -- the entry that is read there is the free one
-  pub fills : (es : List (Entry T)) (first vacant len limit : ℕ) (e : Entry T) (x : T)
+  pub fills : {es : List (Entry T)} {first vacant len limit : ℕ}
+      → IsLinked es first vacant len limit → (e : Entry T) (x : T)
       → 0 < length (chain es vacant first) → e ≡ get_or es first e
-      → IsLinked es first vacant len limit → Fills es first vacant len limit e x
-  fills es first zero len limit e x some read linked = absurd (omega arith)
-  fills es first (suc vacant) len limit e x some read linked =
+      → Fills es first vacant len limit e x
+  fills {vacant = zero} linked e x some read = absurd (omega arith)
+  fills {es} {first} {vacant = suc vacant} {limit = limit} linked e x some read =
       let f = first_is_free es first vacant limit linked.sound in
       let is : e ≡ Free f.generation f.next =
       get_or_read es first e f.within read Retired ∙ f.read in
-      rw is (fills_from es first vacant len limit f.generation f.next x f.within f.read linked)
-
-  -- a taken slot is on no chain
-  not_chained : (es : List (Entry T)) (first vacant limit : ℕ) (key : Key) → (f : IsFound es key)
-      → IsSound (arena_of es first vacant limit)
-      → (IsFree (get_or (map slot_of es) key.slot slot.Retired) → ⊥)
-      × (Has (chain es vacant first) key.slot → ⊥)
-  not_chained es first vacant limit key f sound =
-      let taken = slot.Occupied key.generation f.value in
-      let at : get_or (map slot_of es) key.slot slot.Retired ≡ taken =
-      slot_read es key.slot _ f.read in
-      let apart : IsFree (get_or (map slot_of es) key.slot slot.Retired) → ⊥ =
-      λ free. rw at at free in
-      (apart, λ has. apart (sound.named key.slot has))
+      rw is (fills_from linked f x)
 
   -- the value of the greatest generation goes
   pub record Retires (es : List (Entry T)) (first vacant len limit : ℕ) (key : Key) : Type 0 where
     pub linked : IsLinked (set es key.slot Retired) first vacant (len - 1) limit
     pub done : arena_of (set es key.slot Retired) first vacant limit
         ≡ vacated (arena_of es first vacant limit) key
-
-  pub retires : (es : List (Entry T)) (first vacant len limit : ℕ) (key : Key)
-      → IsSome (get (arena_of es first vacant limit) key) → key.generation ≡ GREATEST_GENERATION
-      → IsLinked es first vacant len limit → Retires es first vacant len limit key
-  retires es first vacant len limit key some last linked =
-      let f = found es first vacant limit key some in
-      let off = not_chained es first vacant limit key f linked.sound in
-      let kept = chain-set es key.slot Retired vacant first off.1 in
-      let counted =
-      count-set es key.slot (Occupied key.generation f.value) Retired f.within f.read in
-      let test = eq-eqb key.generation GREATEST_GENERATION last in
-      record {
-        linked = record {
-          sound =
-              rw (kept, map-set)
-              (IsSound-set (map slot_of es) key.slot (chain es vacant first) limit slot.Retired
-              (rw length-map f.within) off.0 (λ free. free) tt linked.sound);
-          counted = omega (arith, linked.counted);
-        };
-        done = rw (test, kept, map-set);
-      }
 
   -- the value of another generation goes
   pub record Frees (es : List (Entry T)) (first vacant len limit : ℕ) (key : Key) : Type 0 where
@@ -272,14 +251,49 @@ module _ {T : Type 0} where
         let emptied = set es key.slot (Free (key.generation + 1) first) in
         arena_of emptied key.slot (vacant + 1) limit ≡ vacated (arena_of es first vacant limit) key
 
-  pub frees : (es : List (Entry T)) (first vacant len limit : ℕ) (key : Key)
-      → IsSome (get (arena_of es first vacant limit) key) → key.generation ≢ GREATEST_GENERATION
-      → IsLinked es first vacant len limit → Frees es first vacant len limit key
-  frees es first vacant len limit key some more linked =
+  -- the value is written
+  pub record LendsOut (es : List (Entry T)) (first vacant len limit : ℕ) (key : Key) (e : Entry T)
+      (w : T)
+      : Type 0 where
+    pub linked : IsLinked (set es key.slot (occupied_by e w)) first vacant len limit
+    pub done : arena_of (set es key.slot (occupied_by e w)) first vacant limit
+        ≡ with_value (arena_of es first vacant limit) key w
+    pub value : (v : T) → e ≡ occupied_by e v → get (arena_of es first vacant limit) key ≡ Some v
+
+-- a change under a key, where the free slots are linked and the values counted
+module _ {T : Type 0} {es : List (Entry T)} {first vacant len limit : ℕ}
+    (linked : IsLinked es first vacant len limit) (key : Key) where
+  -- a write of that entry is off the chain
+  chain_kept : (f : IsFound es key) (e : Entry T)
+      → chain (set es key.slot e) vacant first ≡ chain es vacant first
+  chain_kept f e =
+      chain-set es key.slot e vacant first
+      (λ has. (found_taken f).apart (linked.sound.named key.slot has))
+
+  pub retires : IsSome (get (arena_of es first vacant limit) key)
+      → key.generation ≡ GREATEST_GENERATION → Retires es first vacant len limit key
+  retires some last =
       let f = found es first vacant limit key some in
-      let off = not_chained es first vacant limit key f linked.sound in
+      let kept = chain_kept f Retired in
+      let counted =
+      count-set es key.slot (Occupied key.generation f.value) Retired f.within f.read in
+      let test = eq-eqb key.generation GREATEST_GENERATION last in
+      record {
+        linked = record {
+          sound =
+              rw (kept, map-set)
+              (IsSound-set (found_taken f) linked.sound slot.Retired (λ free. free) tt);
+          counted = omega (arith, linked.counted);
+        };
+        done = rw (test, kept, map-set);
+      }
+
+  pub frees : IsSome (get (arena_of es first vacant limit) key)
+      → key.generation ≢ GREATEST_GENERATION → Frees es first vacant len limit key
+  frees some more =
+      let f = found es first vacant limit key some in
       let e = Free (key.generation + 1) first in
-      let kept = chain-set es key.slot e vacant first off.1 in
+      let kept = chain_kept f e in
       let written : get_or (set es key.slot e) key.slot Retired ≡ e =
       get_or-set_same es key.slot e Retired f.within in
       let counted = count-set es key.slot (Occupied key.generation f.value) e f.within f.read in
@@ -292,32 +306,18 @@ module _ {T : Type 0} where
         linked = record {
           sound =
               rw (chained, map-set)
-              (IsSound-vacate (map slot_of es) key.slot rest limit (key.generation + 1)
-              (rw length-map f.within) off.0 (omega arith) linked.sound);
+              (IsSound-vacate (found_taken f) linked.sound (key.generation + 1) (omega arith));
           counted = omega (arith, linked.counted);
         };
         done = rw (test, chained, map-set);
       }
 
-  -- the value is written
-  pub record LendsOut (es : List (Entry T)) (first vacant len limit : ℕ) (key : Key) (e : Entry T)
-      (w : T)
-      : Type 0 where
-    pub linked : IsLinked (set es key.slot (occupied_by e w)) first vacant len limit
-    pub done : arena_of (set es key.slot (occupied_by e w)) first vacant limit
-        ≡ with_value (arena_of es first vacant limit) key w
-    pub value : (v : T) → e ≡ occupied_by e v → get (arena_of es first vacant limit) key ≡ Some v
-
-  lends_from : (es : List (Entry T)) (first vacant len limit : ℕ) (key : Key) (f : IsFound es key)
-      (w : T) → IsLinked es first vacant len limit
+  lends_from : (f : IsFound es key) (w : T)
       → LendsOut es first vacant len limit key (Occupied key.generation f.value) w
-  lends_from es first vacant len limit key f w linked =
-      let off = not_chained es first vacant limit key f linked.sound in
+  lends_from f w =
       let e = Occupied key.generation w in
-      let kept = chain-set es key.slot e vacant first off.1 in
-      let taken = slot.Occupied key.generation f.value in
-      let at : get_or (map slot_of es) key.slot slot.Retired ≡ taken =
-      slot_read es key.slot _ f.read in
+      let kept = chain_kept f e in
+      let at = found_slot f in
       let born : FIRST_GENERATION ≤ key.generation = rw at at (linked.sound.born key.slot) in
       let counted = count-set es key.slot (Occupied key.generation f.value) e f.within f.read in
       let test = eq-eqb key.generation key.generation refl in
@@ -325,9 +325,9 @@ module _ {T : Type 0} where
         linked = record {
           sound =
               rw (kept, map-set)
-              (IsSound-set (map slot_of es) key.slot (chain es vacant first) limit
-              (slot.Occupied key.generation w) (rw length-map f.within) off.0 (λ free. free) born
-              linked.sound);
+              (IsSound-set (found_taken f) linked.sound (slot.Occupied key.generation w)
+              (λ free. free)
+              born);
           counted = omega (arith, linked.counted);
         };
         done = rw (kept, map-set);
@@ -335,11 +335,10 @@ module _ {T : Type 0} where
       }
 
   -- the entry that is read there is the one under the key
-  pub lends : (es : List (Entry T)) (first vacant len limit : ℕ) (key : Key) (e : Entry T) (w : T)
-      → IsSome (get (arena_of es first vacant limit) key) → e ≡ get_or es key.slot e
-      → IsLinked es first vacant len limit → LendsOut es first vacant len limit key e w
-  lends es first vacant len limit key e w some read linked =
+  pub lends : (e : Entry T) (w : T) → IsSome (get (arena_of es first vacant limit) key)
+      → e ≡ get_or es key.slot e → LendsOut es first vacant len limit key e w
+  lends e w some read =
       let f = found es first vacant limit key some in
       let is : e ≡ Occupied key.generation f.value =
       get_or_read es key.slot e f.within read Retired ∙ f.read in
-      rw is (lends_from es first vacant len limit key f w linked)
+      rw is (lends_from f w)

@@ -54,19 +54,25 @@ module _ {T : Type 0} where
         once = sound.once.1;
       }
 
-  -- a slot that was not free becomes free
-  pub IsSound-vacate : (slots : List (Slot T)) (k : ℕ) (ks : List ℕ) (limit g : ℕ)
-      → k < length slots → (IsFree (get_or slots k Retired) → ⊥) → FIRST_GENERATION ≤ g
-      → IsSound (plain slots ks limit) → IsSound (plain (set slots k (Free g)) (k ∷ ks) limit)
-  IsSound-vacate slots k ks limit g within taken born sound =
+-- a slot that has been used and is not free
+pub record IsTaken {T : Type 0} (slots : List (Slot T)) (k : ℕ) : Type 0 where
+  pub within : k < length slots
+  pub apart : IsFree (get_or slots k Retired) → ⊥
+
+module _ {T : Type 0} {slots : List (Slot T)} {k limit : ℕ} {ks : List ℕ} (taken : IsTaken slots k)
+    (sound : IsSound (plain slots ks limit)) where
+  -- a taken slot becomes free
+  pub IsSound-vacate : (g : ℕ) → FIRST_GENERATION ≤ g
+      → IsSound (plain (set slots k (Free g)) (k ∷ ks) limit)
+  IsSound-vacate g born =
       record {
         small = sound.small;
         within = rw length-set sound.within;
-        born = λ i. elim (at_set slots k i (Free g) Retired within) [
+        born = λ i. elim (at_set slots k i (Free g) Retired taken.within) [
           | inl here ↦ rw here.1 born
           | inr there ↦ rw there.1 (sound.born i)
         ];
-        named = λ i has. elim (at_set slots k i (Free g) Retired within) [
+        named = λ i has. elim (at_set slots k i (Free g) Retired taken.within) [
           | inl here ↦ rw here.1 tt
           | inr there ↦
               elim has [
@@ -74,30 +80,29 @@ module _ {T : Type 0} where
                 | inr later ↦ rw there.1 (sound.named i later)
               ]
         ];
-        listed = λ i free. elim (at_set slots k i (Free g) Retired within) [
+        listed = λ i free. elim (at_set slots k i (Free g) Retired taken.within) [
           | inl here ↦ inl here.0
           | inr there ↦ inr (sound.listed i (subst IsFree there.1 free))
         ];
-        once = (λ has. taken (sound.named k has), sound.once);
+        once = (λ has. taken.apart (sound.named k has), sound.once);
       }
 
-  -- a slot that was not free changes, and is not free afterwards
-  pub IsSound-set : (slots : List (Slot T)) (k : ℕ) (ks : List ℕ) (limit : ℕ) (s : Slot T)
-      → k < length slots → (IsFree (get_or slots k Retired) → ⊥) → (IsFree s → ⊥) → IsBorn s
-      → IsSound (plain slots ks limit) → IsSound (plain (set slots k s) ks limit)
-  IsSound-set slots k ks limit s within taken stays born sound =
+  -- a taken slot changes, and is not free afterwards
+  pub IsSound-set : (s : Slot T) → (IsFree s → ⊥) → IsBorn s
+      → IsSound (plain (set slots k s) ks limit)
+  IsSound-set s stays born =
       record {
         small = sound.small;
         within = rw length-set sound.within;
-        born = λ i. elim (at_set slots k i s Retired within) [
+        born = λ i. elim (at_set slots k i s Retired taken.within) [
           | inl here ↦ rw here.1 born
           | inr there ↦ rw there.1 (sound.born i)
         ];
-        named = λ i has. elim (at_set slots k i s Retired within) [
-          | inl here ↦ absurd (taken (sound.named k (subst (Has ks) here.0 has)))
+        named = λ i has. elim (at_set slots k i s Retired taken.within) [
+          | inl here ↦ absurd (taken.apart (sound.named k (subst (Has ks) here.0 has)))
           | inr there ↦ rw there.1 (sound.named i has)
         ];
-        listed = λ i free. elim (at_set slots k i s Retired within) [
+        listed = λ i free. elim (at_set slots k i s Retired taken.within) [
           | inl here ↦ absurd (stays (subst IsFree here.1 free))
           | inr there ↦ sound.listed i (subst IsFree there.1 free)
         ];

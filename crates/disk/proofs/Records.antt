@@ -55,28 +55,35 @@ recorded_holds image old new fits is =
     recorded_is new n tells fits (omega (arith, long))
     ∙ ap (λ (l : List ℕ). Some (take n l)) behind ∙ ap Some (take_at image rest n refl)
 
+-- a buffer of len bytes, `old` before, was filled with what is held from this offset on
+pub record Filled (held : List ℕ) (at len : ℕ) (new : List ℕ) : Type 0 where
+  pub old : List ℕ
+  pub n : ℕ
+  pub read : Reads held at n old new
+  pub size : length old ≡ len
+  pub all : len ≤ n
+
+filled_is : (held : List ℕ) (at len : ℕ) (new : List ℕ) → Filled held at len new →
+    new ≡ take len (drop at held)
+filled_is held at len new f =
+    let is : f.n ≡ len = omega (arith, f.read.count, f.size, f.all) in
+    let none : drop f.n f.old ≡ [] = drop_all f.n f.old (omega (arith, is, f.size)) in
+    f.read.bytes ∙ ap (λ (l : List ℕ). take f.n (drop at held) ++ l) none
+    ∙ append-nil (take f.n (drop at held)) ∙ ap (λ k. take k (drop at held)) is
+
 -- the eight bytes that were read tell the length
 pub told_read : (held old new : List ℕ) (n : ℕ) →
     Reads held 0 n old new → length old ≡ 8 → 8 ≤ n → from_be_bytes w64 new ≡ told held
 unfolding told
-told_read held old new n read size all =
-    let is : n ≡ 8 = omega (arith, read.count, size, all) in
-    let none : drop n old ≡ [] = drop_all n old (omega (arith, is, size)) in
-    ap (from_be_bytes w64)
-    (read.bytes ∙ ap (λ (l : List ℕ). take n held ++ l) none ∙ append-nil (take n held)
-    ∙ ap (λ k. take k held) is)
+told_read held old new n read size all = ap (from_be_bytes w64)
+    (filled_is held 0 8 new (record { old = old; n = n; read = read; size = size; all = all }))
 
 -- what was read behind them is the image
-pub loaded : (held old new rest : List ℕ) (len n : ℕ) →
-    Reads held 8 n old new → length old ≡ len → len ≤ n →
+pub loaded : (held : List ℕ) (len : ℕ) (new rest : List ℕ) → Filled held 8 len new →
     take len (new ++ rest) ≡ take len (drop 8 held)
-loaded held old new rest len n read size all =
-    let is : n ≡ len = omega (arith, read.count, size, all) in
-    let none : drop n old ≡ [] = drop_all n old (omega (arith, is, size)) in
-    let here : new ≡ take len (drop 8 held) =
-    read.bytes ∙ ap (λ (l : List ℕ). take n (drop 8 held) ++ l) none
-    ∙ append-nil (take n (drop 8 held)) ∙ ap (λ k. take k (drop 8 held)) is in
+loaded held len new rest f =
+    let here = filled_is held 8 len new f in
     let long : length new ≡ len =
     ap length here ∙ length-take-le len (drop 8 held)
-    (omega (arith, length-drop 8 held, read.count, is, size)) in
+    (omega (arith, length-drop 8 held, f.read.count, f.size, f.all)) in
     take_at new rest len long ∙ here

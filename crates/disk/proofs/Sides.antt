@@ -54,29 +54,29 @@ first_selector s c new a b ch = ⊎_elim
     (⊎_elim (λ on. inr (on ∙ ap recorded ch.1 ∙ a)) (λ on. inr (on ∙ ap recorded ch.2 ∙ b)))
     (some_side c.select c)
 
--- the selector may be torn once the other area holds the new image
-pub torn_selector : (in_b : Bool) (s c : Areas) (old : Option (List ℕ)) (new : List ℕ) →
-    1 ≤ length s.select → recorded (part (half in_b) s) ≡ old →
-    recorded (part (half (not in_b)) s) ≡ Some new → Changes Select (Torn 0 1) s c →
-    OldOrNew old new c
-torn_selector in_b s c old new some was is ch = ⊎_elim
-    (λ none. absurd (omega (arith, ap length none, some, ch.0.no_shorter)))
+-- there is a selector, this side holds the old image, if any, and the other side the new one
+pub record BothHeld (in_b : Bool) (old : Option (List ℕ)) (new : List ℕ) (s : Areas) : Type 0 where
+  pub selects : 1 ≤ length s.select
+  pub was : recorded (part (half in_b) s) ≡ old
+  pub is : recorded (part (half (not in_b)) s) ≡ Some new
+
+-- then the selector may be torn
+pub torn_selector : (in_b : Bool) (old : Option (List ℕ)) (new : List ℕ) (s c : Areas) →
+    BothHeld in_b old new s → Changes Select (Torn 0 1) s c → OldOrNew old new c
+torn_selector in_b old new s c both ch = ⊎_elim
+    (λ none. absurd (omega (arith, ap length none, both.selects, ch.0.no_shorter)))
     (⊎_elim
-    (λ on. by_a in_b was is (on ∙ ap recorded ch.1))
-    (λ on. by_b in_b was is (on ∙ ap recorded ch.2)))
+    (λ on. by_a in_b both (on ∙ ap recorded ch.1))
+    (λ on. by_b in_b both (on ∙ ap recorded ch.2)))
     (some_side c.select c)
   where
-    by_a : (in_b : Bool) → recorded (part (half in_b) s) ≡ old →
-        recorded (part (half (not in_b)) s) ≡ Some new → opened c ≡ recorded s.a →
-        OldOrNew old new c
-    by_a true was is on = inr (on ∙ is)
-    by_a false was is on = inl (on ∙ was)
+    by_a : (in_b : Bool) → BothHeld in_b old new s → opened c ≡ recorded s.a → OldOrNew old new c
+    by_a true both on = inr (on ∙ both.is)
+    by_a false both on = inl (on ∙ both.was)
 
-    by_b : (in_b : Bool) → recorded (part (half in_b) s) ≡ old →
-        recorded (part (half (not in_b)) s) ≡ Some new → opened c ≡ recorded s.b →
-        OldOrNew old new c
-    by_b true was is on = inl (on ∙ was)
-    by_b false was is on = inr (on ∙ is)
+    by_b : (in_b : Bool) → BothHeld in_b old new s → opened c ≡ recorded s.b → OldOrNew old new c
+    by_b true both on = inl (on ∙ both.was)
+    by_b false both on = inr (on ∙ both.is)
 
 -- the selector was written
 pub written_selector : (in_b : Bool) (v : ℕ) (s c : Areas) → (v % 2 == 1) ≡ in_b →
@@ -124,9 +124,13 @@ module _ {in_b : Bool} {area : Area} {image bytes : List ℕ} {s c : Areas}
   is_there = recorded_holds image (part (half (not in_b)) s) (part (half (not in_b)) c) aside.fits
       (changed_part (half (not in_b)) (Holds 0 (record_of image)) s c written)
 
+  both_held : BothHeld in_b (opened s) image c
+  both_held = record {
+    selects = some_length c.select in_b stays.0;
+    was = sym (image_on in_b c) ∙ sym (ap (λ (o : Option Bool). image_at o c) stays.0) ∙ stays.1;
+    is = is_there;
+  }
+
   -- then the selector may be torn
   pub torn_choice : (x : Areas) → Changes Select (Torn 0 1) c x → OldOrNew (opened s) image x
-  torn_choice x ch =
-      let was : recorded (part (half in_b) c) ≡ opened s =
-      sym (image_on in_b c) ∙ sym (ap (λ (o : Option Bool). image_at o c) stays.0) ∙ stays.1 in
-      torn_selector in_b c x (opened s) image (some_length c.select in_b stays.0) was is_there ch
+  torn_choice x ch = torn_selector in_b (opened s) image c x both_held ch

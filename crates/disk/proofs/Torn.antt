@@ -105,15 +105,23 @@ follows_set step s mid s' noted set change c left = ⊎_elim
     ))
     (λ earlier. noted c earlier) (set c left)
 
--- what a write of n bytes does to the areas, where these of them are written
-pub changed_by_write : (area : Area) (at n : ℕ) (bytes next : List ℕ) (d d' : Areas) →
-    at ≤ length (part area d) → length bytes ≤ n → next ≡ pasted at bytes (part area d) →
-    d' ≡ with_part area next d → Changes area (Torn at n) d d'
-changed_by_write area at n bytes next d d' le fits is whole =
+-- of n bytes to be written at this offset, `bytes` were, and the area then holds `next`
+pub record Written (area : Area) (at n : ℕ) (d d' : Areas) : Type 0 where
+  pub bytes : List ℕ
+  pub next : List ℕ
+  pub within : at ≤ length (part area d)
+  pub fits : length bytes ≤ n
+  pub made : next ≡ pasted at bytes (part area d)
+  pub held : d' ≡ with_part area next d
+
+-- what such a write does to the areas
+pub changed_by_write : (area : Area) (at n : ℕ) (d d' : Areas) → Written area at n d d' →
+    Changes area (Torn at n) d d'
+changed_by_write area at n d d' w =
     let P : List ℕ → Type 0 = λ l. Torn at n (part area d) l in
-    let torn = subst P (sym is) (torn_pasted at n bytes (part area d) le fits) in
-    subst (λ (x : Areas). Changes area (Torn at n) d x) (sym whole)
-    (changed area (Torn at n) d next torn)
+    let torn = subst P (sym w.made) (torn_pasted at n w.bytes (part area d) w.within w.fits) in
+    subst (λ (x : Areas). Changes area (Torn at n) d x) (sym w.held)
+    (changed area (Torn at n) d w.next torn)
 
 -- a state that says the same
 pub same_leaves : (s s' : State) → areas_of s'.held ≡ areas_of s.held → synced s' ≡ synced s →

@@ -1,21 +1,20 @@
 -- What `clap` makes of words that begin with no dash.
-use Rattle.std.proofs.Common.{subst, append-nil, ◌≡◌, ◌≢◌, ◌∙◌, refl, sym, ap, ℕ, Bool, true, false, ◌==◌, ◌&&◌, List, [], ◌∷◌, ◌++◌, Option, Some, None, codes, append_assoc}
-use Rattle.std.specs.Prelude.{option_map, slice_index_or, if◌then◌else◌, option_and_then, fold, not, find, slice_get}
-use Rattle.std.specs.List.{list_all}
+use Rattle.std.proofs.Common.{subst, append-nil, ◌≡◌, ◌∙◌, refl, sym, ap, ℕ, Bool, true, false, ◌&&◌, List, [], ◌∷◌, ◌++◌, Option, Some, None, codes, append_assoc}
+use Rattle.std.specs.Prelude.{option_map, slice_index_or, if◌then◌else◌, option_and_then, fold}
 use Rattle.std.specs.Option.{option_map_or}
 use Rattle.std.specs.Str.{bytes_eq}
 use Rattle.std.proofs.lemmas.Slice.Eq.{bytes_eq-Decides}
 use Rattle.clap.specs.Faults.{defaults_fault, fault_of, level_fault, flag_word_fault, bundle_fault, other_fault, step_fault, turn_fault, walk_fault, word_fault}
 use Rattle.clap.specs.Kinds.{Kinds, or_else}
 use Rattle.clap.specs.Lexer.{long_of, long_of_rest, short_of, short_of_rest, strip_byte}
-use Rattle.clap.specs.Simple.{App, Shape, built, entered, names_of, rows_at, subcommand_of}
-use Rattle.clap.specs.Walk.{Row, walk, after_step, first_of, nothing_held, rows_after, Held, Names, Rule, Step, Text, Walk, arg_by_index, idle, long_or_other, short_or_plain, subcommand_met, subcommand_or_other, to_positional, trailing, value, walked, word_met}
+use Rattle.clap.specs.Simple.{Shape, built, entered, names_of, rows_at, subcommand_of}
+use Rattle.clap.specs.Walk.{Row, walk, after_step, first_of, nothing_held, rows_after, Held, Names, Rule, Text, Walk, arg_by_index, idle, long_or_other, short_or_plain, subcommand_met, subcommand_or_other, to_positional, trailing, value, walked, word_met}
 use Rattle.clap.proofs.FaultLemmas.{stopped_fault}
 use Rattle.clap.proofs.SimpleLemmas.{is_false}
 use Rattle.clap.proofs.WalkLemmas.{both}
 use Rattle.clap.specs.declared.error.kind.ErrorKind.{ErrorKind}
 use Rattle.clap.specs.declared.error.kind.ErrorKind.TheVariants.{DisplayHelp, InvalidSubcommand, MissingRequiredArgument, UnknownArgument}
-use Rattle.markring.specs.Called.{Called, call_in, called_of, decode_of, has_no_dash, hex_rule, is_dashed, program, script_rule, sim, decode, sim_of, with_one_word}
+use Rattle.markring.specs.Called.{Called, call_in, called_of, decode_of, has_no_dash, is_dashed, program, sim, decode, sim_of}
 
 -- such a word is no flag, nor `--`
 record IsBare (v : Text) : Type 0 where
@@ -117,16 +116,16 @@ module _ (v u : Text) (words : List Text) (undashed : is_dashed v ≡ false)
   two_sim =
       let turn = turn_bare sim_shape [] nothing_held 1 v undashed refl in
       let walk = walked_bare sim_shape [] nothing_held 1 v undashed refl in
-      rw (turn, walk)
-      (rw (turn_bare sim_shape [] (after_one (codes "script")) 2 u neither refl) refl)
+      let second = turn_bare sim_shape [] (after_one (codes "script")) 2 u neither refl in
+      rw (turn, walk) (rw second refl)
 
   two_decode : faults decode_shape (v ∷ u ∷ words) ≡ UnknownArgument ∷ []
   unfolding walk_fault
   two_decode =
       let turn = turn_bare decode_shape [] nothing_held 1 v undashed refl in
       let walk = walked_bare decode_shape [] nothing_held 1 v undashed refl in
-      rw (turn, walk)
-      (rw (turn_bare decode_shape [] (after_one (codes "hex")) 2 u neither refl) refl)
+      let second = turn_bare decode_shape [] (after_one (codes "hex")) 2 u neither refl in
+      rw (turn, walk) (rw second refl)
 
 -- words after a subcommand are the subcommand's
 walk_stopped : (c : List Rule) (names : Names) (w : Walk) (name : Text) (front words : List Text)
@@ -266,8 +265,7 @@ pub agrees : (self first : Text) (words : List Text) → has_no_dash (first ∷ 
     → AgreesOn self words first
 agrees self first words plain =
     by (bytes_eq (codes "sim") first) (bytes_eq (codes "decode") first)
-    (bytes_eq (codes "help") first)
-    refl refl refl
+    (bytes_eq (codes "help") first) refl refl refl
   where
     rest : (is_dashed first ≡ false) × (has_no_dash words ≡ true)
     rest = parts first words plain

@@ -1,5 +1,5 @@
 -- What the matches of the program's words say.
-use Rattle.std.proofs.Common.{◌<◌, length, drop, inl, inr, arith, Ok, Err, ◌≡◌, ◌∙◌, refl, sym, ap, Bool, true, false, List, [], ◌∷◌, Option, Some, None, Bor, codes}
+use Rattle.std.proofs.Common.{◌<◌, length, drop, inl, inr, arith, Err, ◌≡◌, ◌∙◌, refl, sym, ap, Bool, true, false, List, [], ◌∷◌, Option, Some, None, Bor, codes}
 use Rattle.std.specs.Prelude.{option_map, Box}
 use Rattle.std.specs.Box.{box_value}
 use Rattle.std.specs.Str.{bytes_eq}
@@ -10,12 +10,12 @@ use Rattle.clap.specs.Kinds.{HasKind}
 use Rattle.clap.specs.Values.{kind_of}
 use Rattle.clap.specs.Matches.{found_of, first_value, subcommand_name_of}
 use Rattle.clap.specs.Simple.{subcommand_of, subcommand_rows, subcommand_rows_of}
-use Rattle.clap.specs.Walk.{Text, Row, first_of, rows_of}
+use Rattle.clap.specs.Walk.{Text, Row, rows_of}
 use Rattle.clap.specs.declared.parser.matches.ArgMatches.{ArgMatches}
 use Rattle.clap.specs.declared.parser.matches.ArgMatches.TheViews.{out-ArgMatches, out-SubCommand}
 use Rattle.clap.specs.declared.parser.matches.SubCommand.{SubCommand}
 use Rattle.clap.proofs.WalkLemmas.{first_value-rows}
-use Rattle.markring.specs.Called.{Called, Reads, TellsMemory, call_in, call_of, called_of, decode, has_no_dash, program, sim}
+use Rattle.markring.specs.Called.{Reads, TellsMemory, call_in, call_of, called_of, decode, has_no_dash, program, sim}
 use Rattle.markring.specs.declared.words.Command.{Command}
 use Rattle.markring.specs.declared.words.WordsError.{WordsError}
 use Rattle.markring.specs.declared.words.WordsError.TheVariants.{OutOfMemory, Unknown}
@@ -102,11 +102,11 @@ module _ (texts : List Text) (more : 1 < length texts) (plain : has_no_dash (dro
             → called_of (drop 1 ts) ≡ call_in (subcommand_rows_of m)
         at [] long undashed none found = absurd (omega arith)
         at (self ∷ []) long undashed none found = absurd (omega arith)
-        at (self ∷ first ∷ words) long undashed none found = elim (agrees self first words undashed) [
-          | unknown kind kinds some said ↦
-              absurd (let bad : kind ∷ kinds ≡ [] = sym some ∙ none in cc)
-          | known faults said ↦ said ∙ ap call_in (sym found)
-        ]
+        at (self ∷ first ∷ words) long undashed none found =
+            elim (agrees self first words undashed) [
+              | unknown k ks some said ↦ absurd (let bad : k ∷ ks ≡ [] = sym some ∙ none in cc)
+              | known faults said ↦ said ∙ ap call_in (sym found)
+            ]
 
         by : (o : Option Command) → option_map call_of o ≡ called_of (drop 1 texts)
             → Reads (called_of (drop 1 texts)) (ok_or o Unknown)

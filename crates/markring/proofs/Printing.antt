@@ -148,8 +148,8 @@ module _ {S : Type 0} (shows : S → World → Type 0) (script : List ℕ) (star
       record {
         replies = replies_so_far;
         counted =
-            omega
-            (arith, before.counted, turn.step.2, length-append before.replies (turn.reply ∷ []));
+            let more = length-append before.replies (turn.reply ∷ []) in
+            omega (arith, before.counted, turn.step.2, more);
         held = taken.0;
         shown = taken.2;
         texts = next.0;

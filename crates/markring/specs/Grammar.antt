@@ -87,8 +87,8 @@ with_three verb a b c =
     (cond (bytes_eq verb (codes "load"))
     (of_three u16_of u16_of u8_of (λ register object place. event.Load register object place) a b c)
     (cond (bytes_eq verb (codes "store"))
-    (of_three u16_of u8_of u16_of (λ object place register. event.Store object place register) a b
-    c)
+    (of_three u16_of u8_of u16_of (λ object place register. event.Store object place register)
+    a b c)
     (cond (bytes_eq verb (codes "put"))
     (of_three u16_of u8_of u16_of (λ object place register. event.Put object place register) a b c)
     (cond (bytes_eq verb (codes "get"))

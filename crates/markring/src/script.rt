@@ -96,8 +96,8 @@ enum Reply {
 /// Each line is written in several calls, so a writer whose calls cost much is passed in a buffer;
 /// the output is flushed at the end. Where output failed, some of the text may have been written.
 pub fn sim<R: Read + Drop, W: Write>(alloc: Global, script: R, out: &mut W) -> u8
-    ensures status { RunsScript (R.remaining script) result (W.contents out.old) (W.contents out.new)
-        ⊎ (result ≡ 1) }
+    ensures status { RunsScript (R.remaining script) result
+        (W.contents out.old) (W.contents out.new) ⊎ (result ≡ 1) }
     ensures small { result ≤ 2 }
 {
     match run::<Sim, R, W>(alloc, script, out) {

@@ -84,49 +84,47 @@ none_found {A = A} front spell Holds a spelled holds = record { takes = takes } 
       {x = (a, bytes)} (same_Some (a, bytes) x e)
       (record { parts = ap (λ (u : List ℕ). u ++ bytes) (sym spelled); rest_fits = fits }, holds)
 
-pub three_found : {A B C D : Type 0} {sa : A → List ℕ} {sb : B → List ℕ} {sc : C → List ℕ}
-    {ha : A → Type 0} {hb : B → Type 0} {hc : C → Type 0} {ra : Reader A} {rb : Reader B}
-    {rc : Reader C} → Reads A sa ha ra → Reads B sb hb rb → Reads C sc hc rc
-    → (front : List ℕ) (spell : D → List ℕ) (Holds : D → Type 0) (make : A → B → C → D)
-    → ((a : A) (b : B) (c : C) → ha a → hb b → hc c
-    → (spell (make a b c) ≡ front ++ (sa a ++ (sb b ++ sc c))) × Holds (make a b c))
-    → Found D front spell Holds (three_at ra rb rc make)
-three_found {A = A} {B = B} {C = C} {D = D} {sa = sa} {sb = sb} {sc = sc} {ra = ra} {rb = rb}
-    {rc = rc} pa pb pc front spell Holds make made =
-    record { takes = takes } where
-      takes : (bytes : List ℕ) (x : D × List ℕ) → IsBytes bytes → three_at ra rb rc make bytes ≡ Some x
-          → Takes (front ++ bytes) (spell x.0) x.1 × Holds x.0
-      takes bytes x fits e =
-          let a =
-          bind_some (ra bytes) (λ a.
-          option_and_then (λ b. option_and_then (λ c. Some (make a.0 b.0 c.0, c.1)) (rc b.1))
-          (rb a.1)) x e in
-          let b =
-          bind_some (rb a.0.1) (λ b. option_and_then (λ c. Some (make a.0.0 b.0 c.0, c.1)) (rc b.1))
-          x a.2 in
-          let c = bind_some (rc b.0.1) (λ c. Some (make a.0.0 b.0.0 c.0, c.1)) x b.2 in
-          let first = pa.takes bytes a.0 fits a.1 in
-          let second = pb.takes a.0.1 b.0 first.0.rest_fits b.1 in
-          let third = pc.takes b.0.1 c.0 second.0.rest_fits c.1 in
-          let last = Takes-then a.0.1 (sb b.0.0) b.0.1 (sc c.0.0) c.0.1 second.0 third.0 in
-          let all = Takes-then bytes (sa a.0.0) a.0.1 (sb b.0.0 ++ sc c.0.0) c.0.1 first.0 last in
-          let d = make a.0.0 b.0.0 c.0.0 in
-          let holds = made a.0.0 b.0.0 c.0.0 first.1 second.1 third.1 in
-          subst (λ (y : D × List ℕ). Takes (front ++ bytes) (spell y.0) y.1 × Holds y.0)
-          {x = (d, c.0.1)} (same_Some (d, c.0.1) x c.2) (
-            Takes-front front bytes (sa a.0.0 ++ (sb b.0.0 ++ sc c.0.0)) c.0.1 (spell d) holds.0
-                all,
-            holds.1,
-          )
+-- three fields, and how each is read
+module _ {A B C : Type 0} {sa : A → List ℕ} {sb : B → List ℕ} {sc : C → List ℕ} {ha : A → Type 0}
+    {hb : B → Type 0} {hc : C → Type 0} {ra : Reader A} {rb : Reader B} {rc : Reader C}
+    (pa : Reads A sa ha ra) (pb : Reads B sb hb rb) (pc : Reads C sc hc rc) where
+  pub three_found : {D : Type 0} (front : List ℕ) (spell : D → List ℕ) (Holds : D → Type 0)
+      (make : A → B → C → D)
+      → ((a : A) (b : B) (c : C) → ha a → hb b → hc c
+      → (spell (make a b c) ≡ front ++ (sa a ++ (sb b ++ sc c))) × Holds (make a b c))
+      → Found D front spell Holds (three_at ra rb rc make)
+  three_found {D} front spell Holds make made = record { takes = takes } where
+    takes : (bytes : List ℕ) (x : D × List ℕ) → IsBytes bytes
+        → three_at ra rb rc make bytes ≡ Some x
+        → Takes (front ++ bytes) (spell x.0) x.1 × Holds x.0
+    takes bytes x fits e =
+        let a =
+        bind_some (ra bytes) (λ a.
+        option_and_then (λ b. option_and_then (λ c. Some (make a.0 b.0 c.0, c.1)) (rc b.1))
+        (rb a.1)) x e in
+        let b =
+        bind_some (rb a.0.1) (λ b. option_and_then (λ c. Some (make a.0.0 b.0 c.0, c.1)) (rc b.1)) x
+        a.2 in
+        let c = bind_some (rc b.0.1) (λ c. Some (make a.0.0 b.0.0 c.0, c.1)) x b.2 in
+        let first = pa.takes bytes a.0 fits a.1 in
+        let second = pb.takes a.0.1 b.0 first.0.rest_fits b.1 in
+        let third = pc.takes b.0.1 c.0 second.0.rest_fits c.1 in
+        let last = Takes-then a.0.1 (sb b.0.0) b.0.1 (sc c.0.0) c.0.1 second.0 third.0 in
+        let all = Takes-then bytes (sa a.0.0) a.0.1 (sb b.0.0 ++ sc c.0.0) c.0.1 first.0 last in
+        let d = make a.0.0 b.0.0 c.0.0 in
+        let holds = made a.0.0 b.0.0 c.0.0 first.1 second.1 third.1 in
+        subst (λ (y : D × List ℕ). Takes (front ++ bytes) (spell y.0) y.1 × Holds y.0)
+        {x = (d, c.0.1)} (same_Some (d, c.0.1) x c.2) (
+          Takes-front front bytes (sa a.0.0 ++ (sb b.0.0 ++ sc c.0.0)) c.0.1 (spell d) holds.0 all,
+          holds.1,
+        )
 
-pub three_again : {A B C D : Type 0} {sa : A → List ℕ} {sb : B → List ℕ} {sc : C → List ℕ}
-    {ha : A → Type 0} {hb : B → Type 0} {hc : C → Type 0} {ra : Reader A} {rb : Reader B}
-    {rc : Reader C} → Reads A sa ha ra → Reads B sb hb rb → Reads C sc hc rc
-    → (make : A → B → C → D) (a : A) (b : B) (c : C) (rest : List ℕ) → ha a → hb b → hc c
-    → three_at ra rb rc make (sa a ++ (sb b ++ (sc c ++ rest))) ≡ Some (make a b c, rest)
-three_again {sb = sb} {sc = sc} pa pb pc make a b c rest fa fb fc =
-    rw (pa.again a (sb b ++ (sc c ++ rest)) fa, pb.again b (sc c ++ rest) fb, pc.again c rest fc)
-    refl
+  pub three_again : {D : Type 0} (make : A → B → C → D) (a : A) (b : B) (c : C) (rest : List ℕ)
+      → ha a → hb b → hc c
+      → three_at ra rb rc make (sa a ++ (sb b ++ (sc c ++ rest))) ≡ Some (make a b c, rest)
+  three_again make a b c rest fa fb fc =
+      rw (pa.again a (sb b ++ (sc c ++ rest)) fa, pb.again b (sc c ++ rest) fb, pc.again c rest fc)
+      refl
 
 none_read : Reads Unit (λ u. []) (λ u. Unit) (none_at tt)
 none_read = record {
@@ -195,30 +193,28 @@ chosen : {A : Type 0} (b : Bool) (x y z : A) → cond b x y ≡ z
 chosen true x y z e = inl (refl, e)
 chosen false x y z e = inr (refl, e)
 
--- what each reader gives is spelled so behind its tag
-abbrev pub AllFound : {A : Type 0} → (A → List ℕ) → (A → Type 0) → List (ℕ × Reader A) → Type 0
-AllFound spell Holds [] = Unit
-AllFound {A = A} spell Holds (choice ∷ others) =
-    Found A (choice.0 ∷ []) spell Holds choice.1 × AllFound spell Holds others
+module _ {A : Type 0} (spell : A → List ℕ) (Holds : A → Type 0) where
+  -- what each reader gives is spelled so behind its tag
+  abbrev pub AllFound : List (ℕ × Reader A) → Type 0
+  AllFound [] = Unit
+  AllFound (choice ∷ others) = Found A (choice.0 ∷ []) spell Holds choice.1 × AllFound others
 
-behind_takes : {A : Type 0} (spell : A → List ℕ) (Holds : A → Type 0)
-    (choices : List (ℕ × Reader A)) → AllFound spell Holds choices
-    → (tag : ℕ) (bytes : List ℕ) (x : A × List ℕ) → IsBytes bytes
-    → behind choices tag bytes ≡ Some x → Takes (tag ∷ bytes) (spell x.0) x.1 × Holds x.0
-behind_takes spell Holds [] all tag bytes x fits e = absurd cc
-behind_takes spell Holds (choice ∷ others) all tag bytes x fits e =
-    elim (chosen (eqb tag choice.0) _ _ _ e) [
-      | inl this ↦ rw (eqb-true _ _ this.0) (all.0.takes bytes x fits this.1)
-      | inr other ↦ behind_takes spell Holds others all.1 tag bytes x fits other.1
-    ]
+  behind_takes : (choices : List (ℕ × Reader A)) → AllFound choices
+      → (tag : ℕ) (bytes : List ℕ) (x : A × List ℕ) → IsBytes bytes
+      → behind choices tag bytes ≡ Some x → Takes (tag ∷ bytes) (spell x.0) x.1 × Holds x.0
+  behind_takes [] all tag bytes x fits e = absurd cc
+  behind_takes (choice ∷ others) all tag bytes x fits e =
+      elim (chosen (eqb tag choice.0) _ _ _ e) [
+        | inl this ↦ rw (eqb-true _ _ this.0) (all.0.takes bytes x fits this.1)
+        | inr other ↦ behind_takes others all.1 tag bytes x fits other.1
+      ]
 
-pub tagged_takes : {A : Type 0} (spell : A → List ℕ) (Holds : A → Type 0)
-    (choices : List (ℕ × Reader A)) → AllFound spell Holds choices
-    → (bytes : List ℕ) (x : A × List ℕ) → IsBytes bytes → tagged_at choices bytes ≡ Some x
-    → Takes bytes (spell x.0) x.1 × Holds x.0
-tagged_takes spell Holds choices all [] x fits e = absurd cc
-tagged_takes spell Holds choices all (tag ∷ bytes) x fits e =
-    behind_takes spell Holds choices all tag bytes x (λ i. fits (suc i)) e
+  pub tagged_takes : (choices : List (ℕ × Reader A)) → AllFound choices
+      → (bytes : List ℕ) (x : A × List ℕ) → IsBytes bytes → tagged_at choices bytes ≡ Some x
+      → Takes bytes (spell x.0) x.1 × Holds x.0
+  tagged_takes choices all [] x fits e = absurd cc
+  tagged_takes choices all (tag ∷ bytes) x fits e =
+      behind_takes choices all tag bytes x (λ i. fits (suc i)) e
 
 -- ---- bytes
 

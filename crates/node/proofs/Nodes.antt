@@ -1,5 +1,5 @@
 -- Each change of a node as it stands keeps what is true of every node.
-use Rattle.std.proofs.Common.{◌≡◌, ℕ, ℤ, pos, ◌+◌, ◌-◌, ◌<◌, ◌+ℤ◌, ◌-ℤ◌, List, [], ◌∷◌, length, get_or, sym, ap, ◌∙◌, subst, true, arith}
+use Rattle.std.proofs.Common.{◌≡◌, ℕ, ℤ, pos, ◌+◌, ◌-◌, ◌<◌, ◌+ℤ◌, ◌-ℤ◌, List, [], ◌∷◌, length, get_or, sym, ◌∙◌, subst, true, arith}
 use Rattle.std.proofs.lemmas.Int.{ints}
 use Rattle.std.proofs.lemmas.Bool.{and_parts, ltb-true}
 use Rattle.std.proofs.lemmas.List.{length-set, length-map, length-replicate, get_or-drop}
@@ -45,15 +45,24 @@ rewired n l z =
       acks = l.acks;
     }
 
-node-rewired : (n : NodeView) (l : LinksView) (z : ℤ) → IsNode n → AreLinked n.local.shape l →
-    IsBalanced (record n.local.ring { recent = z }) l.links l.got → IsNode (rewired n l z)
-node-rewired n l z old links balance =
+-- what a call left of them, where the definitions have this
+pub record Rewires (v : LinksView) (y : ℤ) (l : LinksView) (z : ℤ) : Type 0 where
+  pub sound : IsLinks l
+  pub links : l ≡ v
+  pub balance : z ≡ y
+
+node-rewired : (n : NodeView) (v : LinksView) (y : ℤ) {l : LinksView} {z : ℤ} → IsNode n
+    → Rewires v y l z → (IsLinks v → AreLinked n.local.shape v)
+    → IsBalanced (record n.local.ring { recent = y }) v.links v.got → IsNode (rewired n l z)
+node-rewired n v y {l = l} {z = z} old w linked balance =
+    let now : AreLinked n.local.shape l =
+    subst (AreLinked n.local.shape) (sym w.links) (linked (subst IsLinks w.links w.sound)) in
     record {
       shape = old.shape;
       own = old.own;
       references = old.references;
-      links = links;
-      balance = balance;
+      links = now;
+      balance = rw (w.links, w.balance) balance;
     }
 
 -- ---- links
@@ -107,54 +116,44 @@ linked-kept shape l h links = record {
 
 -- ---- as the code has it: what a call of the links left, and the balance beside it
 
-pub node-sent : (n : NodeView) (to : ℕ) (x : Message) (l : LinksView) (z : ℤ) → IsNode n →
-    to < n.local.shape.nodes → IsSendable n.local.shape x → IsLinks l →
-    l ≡ appended_to (links_of n) to x → z ≡ n.local.ring.recent +ℤ pos 1 → IsNode (rewired n l z)
-node-sent n to x l z old there sendable links el ez =
-    let inside : to < length n.links = omega (arith, there, old.links.width) in
-    let now : AreLinked n.local.shape l =
-    subst (AreLinked n.local.shape) (sym el)
-    (linked-sent n.local.shape (links_of n) to x old.links sendable (subst IsLinks el links)) in
-    node-rewired n l z old now
-    (rw (el, ez) (balance-sent n.local.ring n.links n.local.got to x old.balance inside))
-
-pub node-counted : (n : NodeView) (from : ℕ) (l : LinksView) (z : ℤ) → IsNode n →
-    from < n.local.shape.nodes → IsLinks l →
-    l ≡ taken_next_from (links_of n) from → z ≡ n.local.ring.recent -ℤ pos 1
+pub node-sent : (n : NodeView) (to : ℕ) (x : Message) {l : LinksView} {z : ℤ} → IsNode n
+    → to < n.local.shape.nodes → IsSendable n.local.shape x
+    → Rewires (appended_to (links_of n) to x) (n.local.ring.recent +ℤ pos 1) l z
     → IsNode (rewired n l z)
-node-counted n from l z old there links el ez =
+node-sent n to x old there sendable w =
+    let inside : to < length n.links = omega (arith, there, old.links.width) in
+    node-rewired n (appended_to (links_of n) to x) (n.local.ring.recent +ℤ pos 1) old w
+    (linked-sent n.local.shape (links_of n) to x old.links sendable)
+    (balance-sent n.local.ring n.links n.local.got to x old.balance inside)
+
+pub node-counted : (n : NodeView) (from : ℕ) {l : LinksView} {z : ℤ} → IsNode n
+    → from < n.local.shape.nodes
+    → Rewires (taken_next_from (links_of n) from) (n.local.ring.recent -ℤ pos 1) l z
+    → IsNode (rewired n l z)
+node-counted n from old there w =
     let inside : from < length n.local.got =
     omega (arith, there, old.links.width, old.links.links.received) in
-    let now : AreLinked n.local.shape l =
-    record {
-      width = ap (λ (v : LinksView). length v.links) el
-          ∙ old.links.width;
-      links = links;
-      messages = rw el old.links.messages;
-    } in
-    node-rewired n l z old now
-    (rw (el, ez) (balance-counted n.local.ring n.links n.local.got from old.balance inside))
+    node-rewired n (taken_next_from (links_of n) from) (n.local.ring.recent -ℤ pos 1) old w
+    (λ links. record { width = old.links.width; links = links; messages = old.links.messages })
+    (balance-counted n.local.ring n.links n.local.got from old.balance inside)
 
-pub node-trimmed : (n : NodeView) (from number : ℕ) (l : LinksView) → IsNode n →
-    from < n.local.shape.nodes → IsLinks l →
-    l ≡ trimmed_to (links_of n) from number → IsNode (rewired n l n.local.ring.recent)
-node-trimmed n from number l old there links el =
+pub node-trimmed : (n : NodeView) (from number : ℕ) {l : LinksView} → IsNode n
+    → from < n.local.shape.nodes
+    → Rewires (trimmed_to (links_of n) from number) n.local.ring.recent l n.local.ring.recent
+    → IsNode (rewired n l n.local.ring.recent)
+node-trimmed n from number old there w =
     let inside : from < length n.links = omega (arith, there, old.links.width) in
-    let now : AreLinked n.local.shape l =
-    subst (AreLinked n.local.shape) (sym el)
-    (linked-trimmed n.local.shape (links_of n) from number old.links (subst IsLinks el links)) in
-    node-rewired n l n.local.ring.recent old now
-    (rw el (balance-trimmed n.local.ring n.links n.local.got from number old.balance inside))
+    node-rewired n (trimmed_to (links_of n) from number) n.local.ring.recent old w
+    (linked-trimmed n.local.shape (links_of n) from number old.links)
+    (balance-trimmed n.local.ring n.links n.local.got from number old.balance inside)
 
-pub node-kept : (n : NodeView) (l : LinksView) → IsNode n → IsLinks l
-    → l ≡ kept_links (links_of n) →
-    IsNode (rewired n l n.local.ring.recent)
-node-kept n l old links el =
-    let now : AreLinked n.local.shape l =
-    subst (AreLinked n.local.shape) (sym el)
-    (linked-kept n.local.shape (links_of n) old.links (subst IsLinks el links)) in
-    node-rewired n l n.local.ring.recent old now
-    (rw el (balance-kept n.local.ring n.links n.local.got old.balance))
+pub node-kept : (n : NodeView) {l : LinksView} → IsNode n
+    → Rewires (kept_links (links_of n)) n.local.ring.recent l n.local.ring.recent
+    → IsNode (rewired n l n.local.ring.recent)
+node-kept n old w =
+    node-rewired n (kept_links (links_of n)) n.local.ring.recent old w
+    (linked-kept n.local.shape (links_of n) old.links)
+    (balance-kept n.local.ring n.links n.local.got old.balance)
 
 pub node-new : (shape : Shaped) (own : ℕ) → IsShape shape → own < shape.nodes
     → IsLinks (new_links shape.nodes) →

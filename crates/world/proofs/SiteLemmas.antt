@@ -2,9 +2,10 @@
 use Rattle.std.proofs.Common.{◌≡◌, ◌≢◌, ℕ, zero, suc, ◌+◌, ◌-◌, max, ◌≤◌, List, [], ◌∷◌, length, map, get_or, set, replicate, Option, Some, None, Result, Ok, Err, refl, ap, sym, ◌∙◌, subst, le_refl, le_trans, arith}
 use Rattle.std.proofs.lemmas.List.{length-drop, length_push, length-replicate, map-set}
 use Rattle.std.proofs.Math.ListN.{get_or-map}
-use Rattle.std.proofs.Math.Nat.{min-le_left, min-eq_left, sub-add-eq-max}
+use Rattle.std.proofs.Math.Nat.{min-eq_left, sub-add-eq-max}
 use Rattle.ids.specs.Limits.{Shaped}
-use Rattle.std.specs.Prelude.{IsTrue, IfErr}
+use Rattle.std.specs.Prelude.{IsTrue, IfOk, IfErr}
+use Rattle.std.proofs.lemmas.Result.{MatchResult-weaker}
 use Rattle.ids.specs.declared.refusal.Refusal.{Refusal}
 use Rattle.ids.specs.declared.refusal.Refusal.TheVariants.{Memory}
 use Rattle.msg.specs.declared.body.Message.{Message}
@@ -26,19 +27,41 @@ link-same f v u j e =
     sym (get_or-map f v.links j no_link) ∙ ap (λ (z : List ℕ). get_or z j (f no_link)) e
     ∙ get_or-map f u.links j no_link
 
+-- ---- what was let go of
+
+pub base-at : (n : NodeView) (j : ℕ) → get_or (bases n) j 0 ≡ (link_to n j).base
+base-at n j = get_or-map base_of n.links j no_link
+
+-- an acknowledgement is of messages within a bound that is given for each node
+abbrev pub IsAckWithin : (ℕ → ℕ) → Option Ack → Type 0
+IsAckWithin B None = Unit {0}
+IsAckWithin B (Some a) = a.number ≤ B a.from
+
+-- the bounds hold of what was let go of, and then of what the acknowledgement lets go of too
+pub bases-within : (B : ℕ → ℕ) (all : List ℕ) (o : Option Ack) (j : ℕ) → IsAckWithin B o
+    → ((k : ℕ) → get_or all k 0 ≤ B k) → get_or (bases_acked all o) j 0 ≤ B j
+bases-within B all None j told low = low j
+bases-within B all (Some a) j told low =
+    at_set_if (λ z. z ≤ B j) all a.from j (max a.number (get_or all a.from 0)) 0
+    (λ e. subst (λ k. max a.number (get_or all a.from 0) ≤ B k) e (omega (arith, told, low a.from)))
+    (low j)
+
 -- ---- events
 
 -- no event takes a message back
+set-used : (links : List Link) (i j : ℕ) (l : Link) → used (get_or links i no_link) ≤ used l
+    → used (get_or links j no_link) ≤ used (get_or (set links i l) j no_link)
+set-used links i j l more =
+    at_set_if (λ z. used (get_or links j no_link) ≤ used z) links i j l no_link
+    (λ e. subst (λ k. used (get_or links k no_link) ≤ used l) e more) (le_refl _)
+
 append-used : (links : List Link) (ms : List (ℕ × Message)) (j : ℕ)
     → used (get_or links j no_link) ≤ used (get_or (append_to links ms) j no_link)
 append-used links [] j = le_refl _
 append-used links (m ∷ ms) j =
     let old : Link = get_or links m.0 no_link in
-    let more : used old ≤ used (appended old m.1) =
-    omega (arith, length_push old.unacknowledged m.1) in
-    le_trans
-    (at_set_if (λ l. used (get_or links j no_link) ≤ used l) links m.0 j (appended old m.1) no_link
-    (λ e. subst (λ k. used (get_or links k no_link) ≤ used (appended old m.1)) e more) (le_refl _))
+    le_trans (set-used links m.0 j (appended old m.1)
+    (omega (arith, length_push old.unacknowledged m.1)))
     (append-used (set links m.0 (appended old m.1)) ms j)
 
 let_go-used : (links : List Link) (o : Option Ack) (j : ℕ)
@@ -46,12 +69,8 @@ let_go-used : (links : List Link) (o : Option Ack) (j : ℕ)
 let_go-used links None j = le_refl _
 let_go-used links (Some a) j =
     let old : Link = get_or links a.from no_link in
-    let same : used old ≤ used (trimmed old a.number) =
-    omega (arith, length-drop (a.number - old.base) old.unacknowledged) in
-    at_set_if (λ l. used (get_or links j no_link) ≤ used l) links a.from j (trimmed old a.number)
-    no_link
-    (λ e. subst (λ k. used (get_or links k no_link) ≤ used (trimmed old a.number)) e same)
-    (le_refl _)
+    set-used links a.from j (trimmed old a.number)
+    (omega (arith, length-drop (a.number - old.base) old.unacknowledged))
 
 act-used : (n new : NodeView) (e : Event) (r : Result Answer Refusal) (j : ℕ)
     → Performed r n new (view_act n e) → used (link_to n j) ≤ used (link_to new j)
@@ -69,122 +88,100 @@ ack-event : (e : Event) (a : Ack) → ack_of e ≡ Some a → e ≡ event.Ack a
 ack-event (event.Ack b) a h = let same : b ≡ a = cc in ap (λ z. event.Ack z) same
 ack-event e a h = absurd cc
 
-let-go-done : (n new : NodeView) (e : Event) (a : Ack) (x : Answer) → ack_of e ≡ Some a
-    → view_act n e ≡ Ok (new, x) → (a.number ≤ (link_to n a.from).kept)
-    × (new ≡ record n { links = set n.links a.from (trimmed (link_to n a.from) a.number) })
-let-go-done n new e a x is p =
-    ack-done n new a x (subst (λ z. view_act n z ≡ Ok (new, x)) (ack-event e a is) p)
-
 -- letting go moves the base to the number, where that is above
 trimmed-base : (l : Link) (number : ℕ) → l.kept ≤ used l → number ≤ l.kept
     → (trimmed l number).base ≡ max number l.base
 trimmed-base l number held few =
-    ap (λ (k : ℕ). l.base + k)
-    (min-eq_left (let some : number - l.base ≤ length l.unacknowledged = omega arith in some))
-    ∙ (let other : l.base + (number - l.base) ≡ number - l.base + l.base = omega arith in other)
-    ∙ sub-add-eq-max number l.base
+    let some : number - l.base ≤ length l.unacknowledged = omega arith in
+    let other : l.base + (number - l.base) ≡ number - l.base + l.base = omega arith in
+    ap (λ (k : ℕ). l.base + k) (min-eq_left some) ∙ other ∙ sub-add-eq-max number l.base
 
-acted-lets_go : (rows : List (List (List ℕ))) (n new : NodeView) (e : Event) (x : Answer)
-    (o : Option Ack)
-    → IsBacked rows n → Leaves n new e → view_act n e ≡ Ok (new, x) → ack_of e ≡ o
-    → bases new ≡ bases_acked (bases n) o
-acted-lets_go rows n new e x None h left p none = left.bases none
-acted-lets_go rows n new e x (Some a) h left p is =
-    let done = let-go-done n new e a x is p in
-    ap bases done.1 ∙ map-set base_of n.links a.from (trimmed (link_to n a.from) a.number)
-    ∙ ap (set (bases n) a.from) (trimmed-base (link_to n a.from) a.number (h.kept a.from) done.0
-    ∙ ap (max a.number) (sym (get_or-map base_of n.links a.from no_link)))
+-- what an answered event lets go of
+acted-lets_go : {rows : List (List (List ℕ))} {n new : NodeView} {e : Event}
+    {r : Result Answer Refusal} → (o : Option Ack) → IsBacked rows n → Leaves n new e
+    → Performed r n new (view_act n e) → ack_of e ≡ o
+    → IfOk r (λ x. (bases new ≡ bases_acked (bases n) o) × IsAckWithin (λ j. (link_to n j).kept) o)
+acted-lets_go {r = Err f} o h left p is = tt
+acted-lets_go {r = Ok x} None h left p none = (left.bases none, tt)
+acted-lets_go {n = n} {new = new} {e = e} {r = Ok x} (Some a) h left p is =
+    let done = ack-done n new a x (rw (ack-event e a is) at p.performs) in
+    let moved = trimmed-base (link_to n a.from) a.number (h.kept a.from) done.0
+    ∙ ap (max a.number) (sym (base-at n a.from)) in (
+      ap bases done.1 ∙ map-set base_of n.links a.from (trimmed (link_to n a.from) a.number)
+          ∙ ap (set (bases n) a.from) moved,
+      done.0,
+    )
 
-acted-base : (rows : List (List (List ℕ))) (n new : NodeView) (e : Event)
-    (r : Result Answer Refusal) (o : Option Ack) (j : ℕ)
-    → IsBacked rows n → Leaves n new e → Performed r n new (view_act n e) → ack_of e ≡ o
-    → (link_to new j).base ≤ (link_to new j).kept
-acted-base rows n new e (Err f) o j h left p is =
-    subst (λ (v : NodeView). (link_to v j).base ≤ (link_to v j).kept) (sym p.unchanged) (h.base j)
-acted-base rows n new e (Ok x) None j h left p none =
+acted-base : {rows : List (List (List ℕ))} {n new : NodeView} {e : Event}
+    {r : Result Answer Refusal} → (j : ℕ) → IsBacked rows n → Leaves n new e
+    → Performed r n new (view_act n e) → (link_to new j).base ≤ (link_to new j).kept
+acted-base {r = Err f} j h left p = rw p.unchanged (h.base j)
+acted-base {n = n} {new = new} {e = e} {r = Ok x} j h left p =
+    let done = acted-lets_go (ack_of e) h left p refl in
+    let low = bases-within (λ k. (link_to n k).kept) (bases n) (ack_of e) j done.1
+    (λ k. omega (arith, base-at n k, h.base k)) in
     omega (
       arith,
-      h.base j,
-      link-same base_of new n j (left.bases none),
-      link-same kept_of new n j left.kept,
+      low,
+      base-at new j,
+      ap (λ z. get_or z j 0) done.0,
+      link-same kept_of new n j
+          left.kept,
     )
-acted-base rows n new e (Ok x) (Some a) j h left p is =
-    let old : Link = link_to n a.from in
-    let done = let-go-done n new e a x is p.performs in
-    subst (λ (v : NodeView). (link_to v j).base ≤ (link_to v j).kept) (sym done.1)
-    (at_set_if (λ l. l.base ≤ l.kept) n.links a.from j (trimmed old a.number) no_link
-    (λ _.
-    omega
-    (arith, h.base a.from, done.0, min-le_left (a.number - old.base) (length old.unacknowledged)))
-    (h.base j))
 
 pub site-acted : (q : SiteView) (v : NodeView) (e : Event) (r : Result Answer Refusal) → IsSite q
     → Leaves q.current v e → Performed r q.current v (view_act q.current e)
     → IsSite (record q { current = v })
-site-acted q v e r h left p = record {
-  shape = h.shape ∙ sym left.shape;
-  own = h.own ∙ sym left.own;
-  width = h.width ∙ ap (λ (s : Shaped). s.nodes) (sym left.shape);
-  current = record {
-    base = λ j. acted-base q.released q.current v e r (ack_of e) j h.current left p refl;
-    kept = λ j.
-        omega (
-          arith,
-          h.current.kept j,
-          link-same kept_of v q.current j left.kept,
-          act-used q.current v e r j p,
-        );
-    frames = λ j apart.
-        omega (
-          arith,
-          h.current.frames j (λ own. apart (own ∙ sym left.own)),
-          link-same kept_of v q.current j left.kept,
-        );
-  };
-  saved = h.saved;
-}
+site-acted q v e r h left p =
+    let kept = λ (j : ℕ). link-same kept_of v q.current j left.kept in
+    record {
+      shape = h.shape ∙ sym left.shape;
+      own = h.own ∙ sym left.own;
+      width = h.width ∙ ap (λ (s : Shaped). s.nodes) (sym left.shape);
+      current = record {
+        base = λ j. acted-base j h.current left p;
+        kept = λ j. omega (arith, h.current.kept j, kept j, act-used q.current v e r j p);
+        frames = λ j apart.
+            omega (arith, h.current.frames j (λ own. apart (own ∙ sym left.own)), kept j);
+      };
+      saved = h.saved;
+    }
 
 pub acts : (q : SiteView) (v : NodeView) (e : Event) (r : Result Answer Refusal) → IsSite q
     → Leaves q.current v e → Performed r q.current v (view_act q.current e)
     → (IsTrue (is_memory_free q.current.local e) → IfErr r (λ f. f ≢ Memory))
     → Acted r q (record q { current = v }) e
-acts q v e (Ok x) h left p free = record {
+acts q v e r h left p free = record {
   performs = p.performs;
-  unchanged = tt;
+  unchanged = MatchResult-weaker r p.unchanged (λ x _. tt)
+      (λ f same. ap (λ (n : NodeView). record q { current = n }) same);
   others = refl;
   leaves = left;
-  lets_go = acted-lets_go q.released q.current v e x (ack_of e) h.current left p.performs refl;
-  memory_free = free;
-}
-acts q v e (Err f) h left p free = record {
-  performs = p.performs;
-  unchanged = ap (λ (n : NodeView). record q { current = n }) p.unchanged;
-  others = refl;
-  leaves = left;
-  lets_go = tt;
+  lets_go = MatchResult-weaker r
+      (acted-lets_go (ack_of e) h.current left p refl) (λ x done. done.0)
+      (λ f _. tt);
   memory_free = free;
 }
 
 -- ---- saves
 
-kept-link : (n : NodeView) (j : ℕ) → link_to (kept_view n) j ≡ all_kept (link_to n j)
+pub kept-link : (n : NodeView) (j : ℕ) → link_to (kept_view n) j ≡ all_kept (link_to n j)
 kept-link n j = get_or-map all_kept n.links j no_link
 
 kept-backed : (rows : List (List (List ℕ))) (n : NodeView)
     → ((j : ℕ) → j ≢ n.local.own → used (link_to n j) ≤ length (get_or rows j []))
     → IsBacked rows (kept_view n)
 kept-backed rows n all = record {
-  base = λ j. subst (λ (l : Link). l.base ≤ l.kept) (sym (kept-link n j)) (omega arith);
-  kept = λ j. subst (λ (l : Link). l.kept ≤ used l) (sym (kept-link n j)) (le_refl _);
-  frames = λ j apart.
-      subst (λ (l : Link). l.kept ≤ length (get_or rows j [])) (sym (kept-link n j)) (all j apart);
+  base = λ j. rw (kept-link n j) (omega arith);
+  kept = λ j. rw (kept-link n j) (le_refl _);
+  frames = λ j apart. rw (kept-link n j) (all j apart);
 }
 
 pub site-saved : (q p : SiteView) → IsSite q → length p.released ≡ length q.released → Saves q p
     → IsSite p
 site-saved q p h wide s =
-    let backed : IsBacked p.released (kept_view q.current) =
-    kept-backed p.released q.current (λ j apart. (s.frames j apart).all) in
+    let backed : IsBacked p.released (kept_view q.current) = kept-backed p.released q.current
+    (λ j apart. (s.frames j apart).all) in
     record {
       shape = ap (λ (n : NodeView). n.local.shape) (s.saved ∙ sym s.current);
       own = ap (λ (n : NodeView). n.local.own) (s.saved ∙ sym s.current);
@@ -199,19 +196,22 @@ pub no-frames : (n : ℕ) → map released_frames (replicate n no_outbox) ≡ re
 no-frames zero = refl
 no-frames (suc n) = ap (λ zs. [] ∷ zs) (no-frames n)
 
+pub new-link : (shape : Shaped) (own j : ℕ) → link_to (new_view shape own) j ≡ no_link
+new-link shape own j = get_or-replicate_any shape.nodes j no_link
+
+new-backed : (rows : List (List (List ℕ))) (shape : Shaped) (own : ℕ)
+    → IsBacked rows (new_view shape own)
+new-backed rows shape own = record {
+  base = λ j. rw (new-link shape own j) (omega arith);
+  kept = λ j. rw (new-link shape own j) (omega arith);
+  frames = λ j apart. rw (new-link shape own j) (omega arith);
+}
+
 pub site-new : (shape : Shaped) (own : ℕ) → IsSite (new_site shape own)
-site-new shape own =
-    let none : (j : ℕ) → link_to (new_view shape own) j ≡ no_link =
-    λ j. get_or-replicate_any shape.nodes j no_link in
-    let backed : IsBacked (new_site shape own).released (new_view shape own) = record {
-      base = λ j. omega (arith, ap (λ (l : Link). l.base) (none j));
-      kept = λ j. omega (arith, ap (λ (l : Link). l.kept) (none j));
-      frames = λ j apart. omega (arith, ap (λ (l : Link). l.kept) (none j));
-    } in
-    record {
-      shape = refl;
-      own = refl;
-      width = length-replicate {A = List (List ℕ)} shape.nodes [];
-      current = backed;
-      saved = backed;
-    }
+site-new shape own = record {
+  shape = refl;
+  own = refl;
+  width = length-replicate {A = List (List ℕ)} shape.nodes [];
+  current = new-backed _ shape own;
+  saved = new-backed _ shape own;
+}

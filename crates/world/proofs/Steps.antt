@@ -1,8 +1,8 @@
 -- Each step of the code's space is the step of the definitions.
-use Rattle.std.proofs.Common.{◌≡◌, ◌≢◌, ℕ, ◌<◌, ◌≤◌, true, false, ◌&&◌, ◌||◌, not, List, [], length, map, get_or, set, slice_get, ⊎_elim, Some, None, Result, Ok, Err, ◌⊎◌, inl, inr, refl, ap, sym, ◌∙◌, subst, arith}
+use Rattle.std.proofs.Common.{◌≡◌, ◌≢◌, ℕ, ◌<◌, ◌≤◌, true, false, ◌&&◌, List, length, set, slice_get, ⊎_elim, Some, None, Result, Ok, Err, ◌⊎◌, inl, inr, refl, ap, sym, ◌∙◌, arith}
 use Rattle.std.specs.Prelude.{IsOk}
-use Rattle.std.proofs.Math.ListN.{get_or-map}
 use Rattle.std.specs.Option.{option_map}
+use Rattle.std.proofs.Math.ListN.{get_or-map}
 use Rattle.std.proofs.lemmas.Option.{same_Some, none-some, slice_get-get_or, slice_get_past}
 use Rattle.std.proofs.lemmas.Bool.{cases_lt, lt-ltb, le-ltb, and_from, and_left, and_right, cond-true, cond-false, both_ways}
 use Rattle.std.proofs.lemmas.List.{set-get_or, map-set}
@@ -17,325 +17,256 @@ use Rattle.model.specs.declared.step.Step.{Step}
 use Rattle.model.specs.declared.step.Step.TheVariants as step
 use Rattle.model.specs.declared.step.Outcome.{Outcome}
 use Rattle.model.specs.declared.step.Outcome.TheVariants as outcome
-use Rattle.model.specs.State.{LocalState, NodeState, node_at}
+use Rattle.model.specs.State.{NodeState, node_at}
 use Rattle.model.specs.Steps.{act, ack_of, is_own, is_memory_free}
 use Rattle.model.specs.View.{NodeView, IsTold, view_act, all_kept, kept_view, base_of}
-use Rattle.model.specs.World.{World, take_step, is_node, moved, acknowledged, is_step_memory_free}
+use Rattle.model.specs.World.{World, FollowsStep, take_step, is_node, moved, acknowledged, is_step_memory_free}
 use Rattle.model.proofs.Shown.{act-shown}
 use Rattle.node.specs.Invariant.{IsNode}
 use Rattle.node.specs.Summaries.{summary_of}
-use Rattle.world.specs.Sites.{SiteView, Acted, Saves, bases, bases_acked}
-use Rattle.world.specs.Shows.{Bases, ShowsNode, ShowsWorld, Stepped, IsSim, no_site, site_at, bases_of, bases_after, summary_at}
+use Rattle.world.specs.Sites.{SiteView, Saves, bases, bases_acked}
+use Rattle.world.specs.Shows.{SiteBases, ShowsWorld, Stepped, Given, IsSim, no_site, site_at, site_bases, bases_of, bases_at, bases_after, summary_at}
 use Rattle.world.proofs.Refusals.{first-refused, first-memory, first-by}
-use Rattle.world.proofs.Shows.{Changes, IsAckWithin, shows-moved, shows-saved, node-moved, saved_after}
+use Rattle.world.proofs.SiteLemmas.{IsAckWithin}
+use Rattle.world.proofs.Shows.{Changes, unchanged-sites, shows-moved, shows-saved, node-moved, saved_after}
 
 -- ---- the nodes that a step names
 
-pub is-node : (n : List SiteView) (w : World) (i : ℕ) → ShowsWorld n w → i < length n
-    → is_node w i ≡ true
-is-node n w i h less = lt-ltb i (length w.current) (omega (arith, less, h.width))
+-- the step names a node that the space doesn't have
+abbrev pub NamesNoNode : List SiteView → Step → Type 0
+NamesNoNode n (step.Act i e) = length n ≤ i
+NamesNoNode n (step.Save i) = length n ≤ i
+NamesNoNode n (step.Restart i) = length n ≤ i
+NamesNoNode n (step.Deliver from to number) = (length n ≤ from) ⊎ (length n ≤ to)
+NamesNoNode n (step.Hand from to) = (length n ≤ from) ⊎ (length n ≤ to)
 
-pub is-no-node : (n : List SiteView) (w : World) (i : ℕ) → ShowsWorld n w → length n ≤ i
-    → is_node w i ≡ false
-is-no-node n w i h past = le-ltb i (length w.current) (omega (arith, past, h.width))
+module _ {n : List SiteView} {w : World} (h : ShowsWorld n w) where
+  pub is-node : (i : ℕ) → i < length n → is_node w i ≡ true
+  is-node i less = lt-ltb i (length w.current) (omega (arith, less, h.width))
 
-pub are-nodes : (n : List SiteView) (w : World) (i j : ℕ) → ShowsWorld n w → i < length n
-    → j < length n
-    → (is_node w i && is_node w j) ≡ true
-are-nodes n w i j h less below = and_from _ _ (is-node n w i h less) (is-node n w j h below)
+  pub are-nodes : (i j : ℕ) → i < length n → j < length n → (is_node w i && is_node w j) ≡ true
+  are-nodes i j less below = and_from _ _ (is-node i less) (is-node j below)
 
-pub are-no-nodes : (n : List SiteView) (w : World) (i j : ℕ) → ShowsWorld n w
-    → (length n ≤ i) ⊎ (length n ≤ j) → (is_node w i && is_node w j) ≡ false
-are-no-nodes n w i j h (inl past) = and_left (is_node w i) (is_node w j) (is-no-node n w i h past)
-are-no-nodes n w i j h (inr past) = and_right (is_node w i) (is_node w j) (is-no-node n w j h past)
+  is-no-node : (i : ℕ) → length n ≤ i → is_node w i ≡ false
+  is-no-node i past = le-ltb i (length w.current) (omega (arith, past, h.width))
+
+  are-no-nodes : (i j : ℕ) → (length n ≤ i) ⊎ (length n ≤ j) → (is_node w i && is_node w j) ≡ false
+  are-no-nodes i j (inl past) = and_left (is_node w i) (is_node w j) (is-no-node i past)
+  are-no-nodes i j (inr past) = and_right (is_node w i) (is_node w j) (is-no-node j past)
+
+  takes-no-node : (s : Step) → NamesNoNode n s → take_step w s ≡ Err NoNode
+  unfolding take_step
+  takes-no-node (step.Act i e) past = cond-false _ _ _ (is-no-node i past)
+  takes-no-node (step.Save i) past = cond-false _ _ _ (is-no-node i past)
+  takes-no-node (step.Restart i) past = cond-false _ _ _ (is-no-node i past)
+  takes-no-node (step.Deliver from to k) past = cond-false _ _ _ (are-no-nodes from to past)
+  takes-no-node (step.Hand from to) past = cond-false _ _ _ (are-no-nodes from to past)
+
+  save-step : (i : ℕ) → i < length n
+      → take_step w (step.Save i) ≡ Ok (saved_after w i, outcome.Done)
+  unfolding take_step
+  save-step i less = cond-true _ _ _ (is-node i less)
+
+  restart-step : (i : ℕ) → i < length n
+      → take_step w (step.Restart i)
+      ≡ Ok (record w { current = set w.current i (node_at w.saved i) }, outcome.Done)
+  unfolding take_step
+  restart-step i less = cond-true _ _ _ (is-node i less)
 
 -- ---- what a step may come to
 
--- it refuses what the definitions refuse
-pub refused : (n : List SiteView) (s : Step) (e : Refusal) → e ≢ Memory
-    → ((w : World) → ShowsWorld n w → take_step w s ≡ Err e) → Stepped (Err e) n n s
-refused n s e other h = record {
-  follows = λ w shown. (first-refused (take_step w s) e other (h w shown), shown);
-  unchanged = refl;
-  lets_go = tt;
-  memory_free = λ w shown free. other;
-}
-
--- it is refused where no space could be shown
-pub never : (n : List SiteView) (s : Step) (e : Refusal) → ((w : World) → ShowsWorld n w → ⊥)
-    → Stepped (Err e) n n s
-never n s e h = record {
-  follows = λ w shown. absurd (h w shown);
-  unchanged = refl;
-  lets_go = tt;
-  memory_free = λ w shown free. absurd (h w shown);
-}
-
--- it is answered, and changes nothing
-pub nothing : (n : List SiteView) (s : Step) (o : Outcome)
-    → ((w : World) → ShowsWorld n w → take_step w s ≡ Ok (w, o))
-    → bases_after (bases_of n) s o ≡ bases_of n
-    → Stepped (Ok o) n n s
-nothing n s o h same = record {
-  follows = λ w shown. (w, h w shown, shown);
-  unchanged = tt;
-  lets_go = sym same;
-  memory_free = λ w shown free. tt;
-}
-
--- it is refused memory, in place of an answer
-starved : (n m : List SiteView) (s : Step) (e : Refusal) → e ≡ Memory → m ≡ n
-    → ((w : World) → ShowsWorld n w → IsOk (take_step w s))
-    → ((w : World) → ShowsWorld n w → is_step_memory_free w s ≡ false) → Stepped (Err e) n m s
-starved n m s e memory same answered free = record {
-  follows = λ w shown. (
-    first-memory (take_step w s) e memory (answered w shown),
-    subst (λ z. ShowsWorld z w) (sym same) shown,
-  );
+-- it is refused, and changes nothing
+refusing : {n m : List SiteView} (s : Step) (e : Refusal) → m ≡ n
+    → ((w : World) → ShowsWorld n w → IsFirstRefusal e (take_step w s))
+    → ((w : World) → ShowsWorld n w → is_step_memory_free w s ≡ true → e ≢ Memory)
+    → Stepped (Err e) n m s
+refusing s e same first free = record {
+  follows = λ w h. (first w h, rw same h);
   unchanged = same;
   lets_go = tt;
-  memory_free = λ w shown is. absurd (both_ways _ (free w shown) is);
+  memory_free = free;
 }
 
-unchanged-sites : {n m : List SiteView} {i : ℕ} {q p : SiteView} → Changes n m i q p → p ≡ q → m ≡ n
-unchanged-sites {n = n} {i = i} c same =
-    c.new ∙ ap (set n i) (same ∙ c.old) ∙ set-get_or n i no_site
+-- it is answered
+answering : {n m : List SiteView} (s : Step) (o : Outcome)
+    → ((w : World) → ShowsWorld n w → FollowsStep ShowsWorld w (Ok o) m (take_step w s))
+    → bases_of m ≡ bases_after (bases_of n) s o → Stepped (Ok o) n m s
+answering s o follows lets_go = record {
+  follows = follows;
+  unchanged = tt;
+  lets_go = lets_go;
+  memory_free = λ w h free. tt;
+}
 
--- what the nodes have let go of, after one site changed
-bases-changed : {n m : List SiteView} {i : ℕ} {q p : SiteView} → Changes n m i q p → bases_of m
-    ≡ record {
-      current = set (bases_of n).current i (bases p.current);
-      saved = set (bases_of n).saved i (bases p.saved);
-    }
-bases-changed {n = n} {i = i} {p = p} c =
-    let current = map-set (λ (z : SiteView). bases z.current) n i p in
-    let saved = map-set (λ (z : SiteView). bases z.saved) n i p in
-    ap bases_of c.new ∙ cc
+pub no-node : (n : List SiteView) (s : Step) → NamesNoNode n s → Stepped (Err NoNode) n n s
+no-node n s past =
+    refusing s NoNode refl
+    (λ w h. first-refused _ NoNode (λ e. absurd cc) (takes-no-node h s past))
+    (λ w h free e. absurd cc)
 
--- two lists of what was let go of
-both-bases : (a b x y : List (List ℕ)) → a ≡ x → b ≡ y
-    → ◌≡◌ {A = Bases} (record { current = a; saved = b }) (record { current = x; saved = y })
-both-bases a b x y p q = cc
+-- a refusal that never comes, since no space could be shown
+pub never : (n : List SiteView) (s : Step) (e : Refusal) → ((w : World) → ShowsWorld n w → ⊥)
+    → Stepped (Err e) n n s
+never n s e none = refusing s e refl (λ w h. absurd (none w h)) (λ w h. absurd (none w h))
 
--- a write of what stands there
-same-bases : (f : SiteView → List ℕ) (n : List SiteView) (i : ℕ)
-    → set (map f n) i (f (site_at n i)) ≡ map f n
-same-bases f n i = sym (map-set f n i (site_at n i)) ∙ ap (map f) (set-get_or n i no_site)
+-- an answer that changes nothing
+pub nothing : (n : List SiteView) (s : Step) (o : Outcome)
+    → ((w : World) → ShowsWorld n w → take_step w s ≡ Ok (w, o))
+    → bases_of n ≡ bases_after (bases_of n) s o → Stepped (Ok o) n n s
+nothing n s o is = answering s o (λ w h. (w, is w h, h))
 
 -- ---- a node is given an event
 
--- the step s gives node i the event e, and its answer is o of the node's
-pub record Gives (n : List SiteView) (i : ℕ) (e : Event) (s : Step) (o : Answer → Outcome) : Type 0
-  where
-    pub answers : (w : World) → ShowsWorld n w → (v : NodeView) (t : NodeState) (x : Answer)
-        → view_act (site_at n i).current e ≡ Ok (v, x) → act (node_at w.current i) e ≡ Ok (t, x)
-        → take_step w s ≡ Ok (record w { current = set w.current i t }, o x)
-    pub refuses : (w : World) → ShowsWorld n w → (f : Refusal)
-        → IsFirstRefusal f (view_act (site_at n i).current e) → IsFirstRefusal f (take_step w s)
-    pub within : (w : World) → ShowsWorld n w → IsAckWithin (acknowledged w i) (ack_of e)
-    pub free : (w : World) → ShowsWorld n w → is_step_memory_free w s ≡ true
-        → is_memory_free (site_at n i).current.local e ≡ true
-    pub bases : (b : Bases) (x : Answer) → bases_after b s (o x)
-        ≡ record b { current = set b.current i (bases_acked (get_or b.current i []) (ack_of e)) }
+-- The step gives node i the event e, in a space that shows w; and its answer is o of the node's.
+pub record Gives (n : List SiteView) (w : World) (i : ℕ) (e : Event) (s : Step)
+    (o : Answer → Outcome) : Type 0 where
+  pub answers : (v : NodeView) (t : NodeState) (x : Answer)
+      → view_act (site_at n i).current e ≡ Ok (v, x) → act (node_at w.current i) e ≡ Ok (t, x)
+      → take_step w s ≡ Ok (record w { current = set w.current i t }, o x)
+  pub refuses : (f : Refusal) → IsFirstRefusal f (view_act (site_at n i).current e)
+      → IsFirstRefusal f (take_step w s)
+  pub within : IsAckWithin (acknowledged w i) (ack_of e)
+  pub free : is_step_memory_free w s ≡ true → is_memory_free (site_at n i).current.local e ≡ true
+
+-- then it lets go of what the event lets go of
+abbrev pub LetsGo : ℕ → Event → Step → (Answer → Outcome) → Type 0
+LetsGo i e s o =
+    (all : List SiteBases) (x : Answer) → bases_after all s (o x)
+    ≡ set all i
+    (record (bases_at all i) { current = bases_acked (bases_at all i).current (ack_of e) })
 
 -- what became of the step
 abbrev pub outcome_by : (Answer → Outcome) → Result Answer Refusal → Result Outcome Refusal
 outcome_by o (Ok x) = Ok (o x)
 outcome_by o (Err f) = Err f
 
-pub given : {n m : List SiteView} {i : ℕ} {q p : SiteView} {e : Event} {s : Step}
-    {o : Answer → Outcome} {r : Result Answer Refusal}
-    → Changes n m i q p → Acted r q p e → Gives n i e s o → Stepped (outcome_by o r) n m s
-given {n = n} {m = m} {i = i} {p = p} {e = e} {s = s} {r = Err f} c acted g =
-    let at : Acted (Err f) (site_at n i) p e = subst (λ z. Acted (Err f) z p e) c.old acted in
-    let same : m ≡ n = unchanged-sites c acted.unchanged in
-    record {
-      follows = λ w h. (g.refuses w h f at.performs, subst (λ z. ShowsWorld z w) (sym same) h);
-      unchanged = same;
-      lets_go = tt;
-      memory_free = λ w h free. at.memory_free (g.free w h free);
-    }
-given {n = n} {m = m} {i = i} {p = p} {e = e} {s = s} {o = o} {r = Ok x} c acted g =
-    let at : Acted (Ok x) (site_at n i) p e = subst (λ z. Acted (Ok x) z p e) c.old acted in
-    let here : Changes n m i (site_at n i) p = record { within = c.within; old = refl; new = c.new }
-    in
-    let u : NodeView = (site_at n i).current in
-    record {
-      follows = λ w h.
-          let after =
-          act-shown u p.current e (Ok x) at.performs (node_at w.current i)
-          (h.each i).current.shows in
-          let stepped = g.answers w h p.current after.0 x at.performs after.1 in
-          let shown =
-          node-moved w.saved i u p.current e (node_at w.current i) after.0 (ack_of e)
-          (h.each i).current at.leaves after.2 at.lets_go (g.within w h) in (
-            record w { current = set w.current i after.0 },
-            stepped,
-            shows-moved w after.0 s (o x) here h stepped at.others shown,
-          );
-      unchanged = tt;
-      lets_go =
-          let row : bases p.current ≡ bases_acked (get_or (bases_of n).current i []) (ack_of e) =
-          at.lets_go
-          ∙ ap (λ z. bases_acked z (ack_of e))
-          (sym (get_or-map (λ (z : SiteView). bases z.current) n i no_site)) in
-          let saved : set (bases_of n).saved i (bases p.saved) ≡ (bases_of n).saved =
-          ap (λ (z : SiteView). set (bases_of n).saved i (bases z.saved)) at.others
-          ∙ same-bases (λ z. bases z.saved) n i in
-          bases-changed here ∙ both-bases _ _ _ _ (ap (set (bases_of n).current i) row) saved
-          ∙ sym (g.bases (bases_of n) x);
-      memory_free = λ w h free. tt;
-    }
+-- what was let go of, after one site changed
+bases-changed : {n m : List SiteView} {i : ℕ} {q p : SiteView} (f : SiteBases → SiteBases)
+    → Changes n m i q p → site_bases p ≡ f (site_bases q)
+    → bases_of m ≡ set (bases_of n) i (f (bases_at (bases_of n) i))
+bases-changed {n = n} {i = i} {p = p} f c is =
+    ap bases_of c.new ∙ map-set site_bases n i p
+    ∙ ap (set (bases_of n) i)
+    (is ∙ ap f (ap site_bases c.old ∙ sym (get_or-map site_bases n i no_site)))
 
-moved-ok : (w : World) (i : ℕ) (x : Result (NodeState × Answer) Refusal) → IsOk x
-    → IsOk (moved w i x)
-moved-ok w i (Ok x) ok = refl
-moved-ok w i (Err f) ok = absurd cc
+pub given : {n m : List SiteView} {i : ℕ} {e : Event} {s : Step} {o : Answer → Outcome}
+    {r : Result Answer Refusal} → Given r n m i e → LetsGo i e s o
+    → ((w : World) → ShowsWorld n w → Gives n w i e s o) → Stepped (outcome_by o r) n m s
+given {n = n} {m = m} {i = i} {s = s} {r = Err f} h lets_go gives =
+    let c : Changes n m i (site_at n i) h.site =
+    record { within = h.within; old = refl; new = h.others } in
+    refusing s f (unchanged-sites c h.acted.unchanged)
+    (λ w shown. (gives w shown).refuses f h.acted.performs)
+    (λ w shown free. h.acted.memory_free ((gives w shown).free free))
+given {n = n} {m = m} {i = i} {e = e} {s = s} {o = o} {r = Ok x} h lets_go gives =
+    let q : SiteView = site_at n i in
+    let acted = h.acted in
+    let c : Changes n m i q h.site = record { within = h.within; old = refl; new = h.others } in
+    let u : NodeView = q.current in
+    let v : NodeView = h.site.current in
+    let row : site_bases h.site ≡ record (site_bases q)
+    { current = bases_acked (bases u) (ack_of e) } =
+    ap site_bases acted.others ∙ ap (λ z. record (site_bases q) { current = z }) acted.lets_go in
+    answering s (o x)
+    (λ w shown.
+    let was = (shown.each i).current in
+    let after = act-shown u v e (Ok x) acted.performs (node_at w.current i) was.shows in
+    let stepped = (gives w shown).answers v after.0 x acted.performs after.1 in
+    let node = node-moved (ack_of e) was acted.leaves after.2 acted.lets_go
+    (gives w shown).within in
+    let space = shows-moved c s (o x) shown stepped acted.others node in
+    (record w { current = set w.current i after.0 }, stepped, space))
+    (bases-changed (λ b. record b { current = bases_acked b.current (ack_of e) }) c row
+    ∙ sym (lets_go (bases_of n) x))
 
 -- a step that moves a node by an event that is no acknowledgement
-pub moves : {n : List SiteView} {i : ℕ} {e : Event} {s : Step} → ack_of e ≡ None
-    → ((w : World) → ShowsWorld n w → take_step w s ≡ moved w i (act (node_at w.current i) e))
-    → ((w : World) → ShowsWorld n w → is_step_memory_free w s ≡ true
-    → is_memory_free (site_at n i).current.local e ≡ true)
-    → ((b : Bases) (x : Answer) → bases_after b s (outcome.Answer x) ≡ b)
-    → Gives n i e s outcome.Answer
-moves {n = n} {i = i} {e = e} {s = s} none step free bases = record {
-  answers = λ w h v t x _ stepped. step w h ∙ ap (moved w i) stepped;
-  refuses = λ w h f first.
+pub moves : {n : List SiteView} {w : World} {i : ℕ} {e : Event} {s : Step} → ShowsWorld n w
+    → ack_of e ≡ None → take_step w s ≡ moved w i (act (node_at w.current i) e)
+    → (is_step_memory_free w s ≡ true → is_memory_free (node_at w.current i).local e ≡ true)
+    → Gives n w i e s outcome.Answer
+moves {n = n} {w = w} {i = i} {e = e} {s = s} h none step free = record {
+  answers = λ v t x _ stepped. step ∙ ap (moved w i) stepped;
+  refuses = λ f first.
       let u : NodeView = (site_at n i).current in
-      let told : IsTold (ack_of e) f = subst (λ z. IsTold z f) (sym none) tt in
-      let refused =
-      act-shown u u e (Err f) first (node_at w.current i) (h.each i).current.shows told in
-      first-by (act (node_at w.current i) e) (take_step w s) f (λ is. step w h ∙ ap (moved w i) is)
-      (λ ok.
-      subst (λ z. IsOk z) (sym (step w h)) (moved-ok w i (act (node_at w.current i) e) ok))
-      refused;
-  within = λ w h. subst (IsAckWithin (acknowledged w i)) (sym none) tt;
-  free = free;
-  bases = λ b x.
-      bases b x
-      ∙ ap (λ z. record b { current = z })
-      (sym
-      (ap (λ z. set b.current i (bases_acked (get_or b.current i []) z)) none
-      ∙ set-get_or b.current i []));
+      let told : IsTold (ack_of e) f = rw none tt in
+      let refused = act-shown u u e (Err f) first (node_at w.current i)
+      (h.each i).current.shows told in
+      first-by (act (node_at w.current i) e) (take_step w s) f (λ is. step ∙ ap (moved w i) is)
+      (λ x is. rw (step, is) refl) refused;
+  within = rw none tt;
+  free = λ is. rw (h.each i).current.shows.local (free is);
 }
 
-own-none : (e : Event) → is_own e ≡ true → ack_of e ≡ None
+-- it lets go of nothing
+pub lets-nothing-go : (i : ℕ) (e : Event) (s : Step) → ack_of e ≡ None
+    → ((all : List SiteBases) (x : Answer) → bases_after all s (outcome.Answer x) ≡ all)
+    → LetsGo i e s outcome.Answer
+lets-nothing-go i e s none same all x = rw none
+    (same all x ∙ sym (set-get_or all i (site_bases no_site)))
+
+pub own-none : (e : Event) → is_own e ≡ true → ack_of e ≡ None
 own-none (event.Ack a) own = absurd cc
 own-none e own = refl
 
-pub act-gives : (n : List SiteView) (i : ℕ) (e : Event) → i < length n → is_own e ≡ true
-    → Gives n i e (step.Act i e) outcome.Answer
+pub acted : {n m : List SiteView} {i : ℕ} {e : Event} {r : Result Answer Refusal} → Given r n m i e
+    → is_own e ≡ true → Stepped (outcome_by outcome.Answer r) n m (step.Act i e)
 unfolding take_step
-act-gives n i e less own =
-    moves (own-none e own)
-    (λ w h. cond-true _ _ _ (is-node n w i h less) ∙ cond-true _ _ _ own)
-    (λ w h free.
-    subst (λ (p : LocalState). is_memory_free p e ≡ true) (sym (h.each i).current.shows.local)
-    (ap (λ z. not z || is_memory_free (node_at w.current i).local e) (sym (is-node n w i h less))
-    ∙ free))
-    (λ b x. refl)
+acted {i = i} {e = e} h own =
+    given h (lets-nothing-go i e (step.Act i e) (own-none e own) (λ all x. refl))
+    (λ w shown.
+    let there = is-node shown i h.within in
+    moves shown (own-none e own) (cond-true _ _ _ there ∙ cond-true _ _ _ own)
+    (λ free. rw there at free))
 
 -- ---- steps of the other kinds
 
-pub act-no-node : (n : List SiteView) (i : ℕ) (e : Event) → length n ≤ i
-    → Stepped (Err NoNode) n n (step.Act i e)
-unfolding take_step
-act-no-node n i e past =
-    refused n (step.Act i e) NoNode (λ e. absurd cc)
-    (λ w h. cond-false _ _ _ (is-no-node n w i h past))
+module _ {n m : List SiteView} {i : ℕ} {q p : SiteView} (c : Changes n m i q p) where
+  -- memory was refused, in place of an answer
+  starved : (s : Step) (e : Refusal) → p ≡ q → e ≡ Memory
+      → ((w : World) → ShowsWorld n w → IsOk (take_step w s) × (is_step_memory_free w s ≡ false))
+      → Stepped (Err e) n m s
+  starved s e same memory wants =
+      refusing s e (unchanged-sites c same) (λ w h. first-memory _ e memory (wants w h).0)
+      (λ w h free. absurd (both_ways _ (wants w h).1 free))
 
-pub save-no-node : (n : List SiteView) (i : ℕ) → length n ≤ i
-    → Stepped (Err NoNode) n n (step.Save i)
-unfolding take_step
-save-no-node n i past =
-    refused n (step.Save i) NoNode (λ e. absurd cc)
-    (λ w h. cond-false _ _ _ (is-no-node n w i h past))
+  pub save-starved : (e : Refusal) → p ≡ q → e ≡ Memory → Stepped (Err e) n m (step.Save i)
+  save-starved e same memory =
+      starved (step.Save i) e same memory
+      (λ w h. (rw (save-step h i c.within) refl, rw (is-node h i c.within) refl))
 
-pub restart-no-node : (n : List SiteView) (i : ℕ) → length n ≤ i
-    → Stepped (Err NoNode) n n (step.Restart i)
-unfolding take_step
-restart-no-node n i past =
-    refused n (step.Restart i) NoNode (λ e. absurd cc)
-    (λ w h. cond-false _ _ _ (is-no-node n w i h past))
+  pub restart-starved : (e : Refusal) → p ≡ q → e ≡ Memory → Stepped (Err e) n m (step.Restart i)
+  restart-starved e same memory =
+      starved (step.Restart i) e same memory
+      (λ w h. (rw (restart-step h i c.within) refl, rw (is-node h i c.within) refl))
 
-pub is-ok : {A : Type 0} {r : Result A Refusal} (x : A) → r ≡ Ok x → IsOk r
-is-ok x same = subst (λ z. IsOk z) (sym same) refl
+  pub saved : IsSim n → Saves q p → IsNode q.current → Stepped (Ok outcome.Done) n m (step.Save i)
+  saved sim saves node =
+      let own = ap (λ (z : SiteView). z.current.local.own) c.old ∙ (sim.current i c.within).own in
+      let same : bases (kept_view q.current) ≡ bases q.current =
+      map-map base_of all_kept q.current.links in
+      let row : site_bases p ≡ record { current = bases q.current; saved = bases q.current } =
+      rw (saves.current, saves.saved, same) in
+      answering (step.Save i) outcome.Done
+      (λ w h.
+      let stepped = save-step h i c.within in
+      let shown = shows-saved c (step.Save i) outcome.Done h stepped own saves node in
+      (saved_after w i, stepped, shown))
+      (bases-changed (λ b. record b { saved = b.current }) c row)
 
--- a step that may want memory, at a node that is there
-not-free : (n : List SiteView) (w : World) (i : ℕ) → ShowsWorld n w → i < length n
-    → not (is_node w i) ≡ false
-not-free n w i h less = ap not (is-node n w i h less)
-
-pub save-starved : {n m : List SiteView} {i : ℕ} {q p : SiteView} (e : Refusal) → Changes n m i q p
-    → p ≡ q
-    → e ≡ Memory → Stepped (Err e) n m (step.Save i)
-unfolding take_step
-save-starved {n = n} {m = m} {i = i} e c same memory =
-    starved n m (step.Save i) e memory (unchanged-sites c same)
-    (λ w h. is-ok _ (cond-true _ _ _ (is-node n w i h c.within))) (λ w h. not-free n w i h c.within)
-
-pub restart-starved : {n m : List SiteView} {i : ℕ} {q p : SiteView} (e : Refusal)
-    → Changes n m i q p → p ≡ q
-    → e ≡ Memory → Stepped (Err e) n m (step.Restart i)
-unfolding take_step
-restart-starved {n = n} {m = m} {i = i} e c same memory =
-    starved n m (step.Restart i) e memory (unchanged-sites c same)
-    (λ w h. is-ok _ (cond-true _ _ _ (is-node n w i h c.within))) (λ w h. not-free n w i h c.within)
-
-pub saved : {n m : List SiteView} {i : ℕ} {q p : SiteView} → Changes n m i q p → IsSim n → Saves q p
-    → IsNode q.current → Stepped (Ok outcome.Done) n m (step.Save i)
-unfolding take_step
-saved {n = n} {i = i} {q = q} {p = p} c sim saves node =
-    let own = ap (λ (z : SiteView). z.current.local.own) c.old ∙ (sim.current i c.within).own in
-    let row : bases (kept_view q.current) ≡ bases (site_at n i).current =
-    map-map base_of all_kept q.current.links ∙ ap (λ (z : SiteView). bases z.current) c.old in
-    record {
-      follows = λ w h.
-          let stepped = cond-true _ _ _ (is-node n w i h c.within) in (
-            record w { saved = saved_after w i },
-            stepped,
-            shows-saved w (step.Save i) outcome.Done c h stepped own saves node,
-          );
-      unchanged = tt;
-      lets_go = bases-changed c ∙ both-bases _ _ _ _
-          (ap (set (bases_of n).current i) (ap bases saves.current ∙ row)
-          ∙ same-bases (λ z. bases z.current) n i)
-          (ap (set (bases_of n).saved i)
-          (ap bases saves.saved ∙ row
-          ∙ sym (get_or-map (λ (z : SiteView). bases z.current) n i no_site)));
-      memory_free = λ w h free. tt;
-    }
-
-pub restarted : {n m : List SiteView} {i : ℕ} {q p : SiteView} → Changes n m i q p
-    → p ≡ record q { current = q.saved } → Stepped (Ok outcome.Done) n m (step.Restart i)
-unfolding take_step
-restarted {n = n} {i = i} {q = q} {p = p} c is =
-    let current : p.current ≡ (site_at n i).saved =
-    ap (λ (z : SiteView). z.current) is ∙ ap (λ (z : SiteView). z.saved) c.old in
-    let others : p ≡ record q { current = p.current } =
-    is ∙ ap (λ v. record q { current = v }) (sym (ap (λ (z : SiteView). z.current) is)) in
-    record {
-      follows = λ w h.
-          let stepped = cond-true _ _ _ (is-node n w i h c.within) in
-          let shown =
-          subst (λ v. ShowsNode w.saved i v (node_at w.saved i)) (sym current)
-          (h.each i).saved in (
-            record w { current = set w.current i (node_at w.saved i) },
-            stepped,
-            shows-moved w (node_at w.saved i) (step.Restart i) outcome.Done c h stepped others
-                shown,
-          );
-      unchanged = tt;
-      lets_go = bases-changed c ∙ both-bases _ _ _ _
-          (ap (set (bases_of n).current i)
-          (ap bases current ∙ sym (get_or-map (λ (z : SiteView). bases z.saved) n i no_site)))
-          (ap (set (bases_of n).saved i)
-          (ap (λ (z : SiteView). bases z.saved)
-          (others ∙ ap (λ (z : SiteView). record z { current = p.current }) c.old))
-          ∙ same-bases (λ z. bases z.saved) n i);
-      memory_free = λ w h free. tt;
-    }
+  pub restarted : p ≡ record q { current = q.saved } → Stepped (Ok outcome.Done) n m
+      (step.Restart i)
+  restarted is =
+      let current : p.current ≡ q.saved = ap (λ (z : SiteView). z.current) is in
+      let others : p ≡ record q { current = p.current } = is
+      ∙ ap (λ v. record q { current = v }) (sym current) in
+      answering (step.Restart i) outcome.Done
+      (λ w h.
+      let stepped = restart-step h i c.within in
+      let shown = shows-moved c {t = node_at w.saved i} (step.Restart i) outcome.Done h stepped
+      others
+      (rw (current, c.old) (h.each i).saved) in
+      (record w { current = set w.current i (node_at w.saved i) }, stepped, shown))
+      (bases-changed (λ b. record b { current = b.saved }) c (ap site_bases is))
 
 -- ---- a node in numbers
 
@@ -345,14 +276,9 @@ pub state_shown : (n : List SiteView) (w : World) (i : ℕ) (v : NodeView) → S
 state_shown n w i v h is =
     ⊎_elim
     (λ (less : i < length n).
-    let same : v ≡ (site_at n i).current =
-    same_Some _ _
-    (is ∙ ap (option_map (λ (q : SiteView). q.current)) (slice_get-get_or n i no_site less)) in
-    ap (λ (p : LocalState). Some (summary_of p))
-    (ap (λ (z : NodeView). z.local) same ∙ (h.each i).current.shows.local)
-    ∙ sym (cond-true _ _ _ (is-node n w i h less)))
-    (λ (past : length n ≤ i).
-    absurd
-    (none-some v
-    (sym (is ∙ ap (option_map (λ (q : SiteView). q.current)) (slice_get_past n i past)))))
+    let same : v ≡ (site_at n i).current = same_Some _ _
+    (rw (slice_get-get_or n i no_site less) at is) in
+    let local : v.local ≡ (node_at w.current i).local = rw same (h.each i).current.shows.local in
+    rw local (sym (cond-true _ _ _ (is-node h i less))))
+    (λ (past : length n ≤ i). absurd (none-some v (sym (rw (slice_get_past n i past) at is))))
     (cases_lt i (length n))

@@ -8,7 +8,8 @@ abbrev pub view_of : Inside → SiteView
 view_of s = record {
   current = s.current;
   saved = s.saved;
-  released = map released_frames s.outboxes.items;
+  released =
+      map released_frames s.outboxes.items;
 }
 
 abbrev pub IsSound : Inside → Type 0

@@ -33,18 +33,16 @@ IsFrameOf from to place (Some x) (Some bytes) =
     Fits (data_frame from to (place + 1) x.stamp x.body)
     × (bytes ≡ spelling (data_frame from to (place + 1) x.stamp x.body))
 
--- from this place on, the frames are those of the messages that the node has appended for another
-abbrev pub AreFramesFrom : ℕ → NodeView → ℕ → List (List ℕ) → Type 0
-AreFramesFrom first n to frames =
-    (k : ℕ) → first ≤ k
-    → IsFrameOf n.local.own to k (message_of (link_to n to) (k + 1)) (slice_get frames k)
-
--- the frames that were there, and after them those of all messages that the node has appended
--- since, none of which it has let go of
-pub record IsStaged (n : NodeView) (to : ℕ) (before after : List (List ℕ)) : Type 0 where
+-- the frames that were there, and after them those of messages that the node has appended since
+pub record AreStaged (n : NodeView) (to : ℕ) (before after : List (List ℕ)) : Type 0 where
   pub kept : (link_to n to).base ≤ length before
   pub old : take (length before) after ≡ before
-  pub new : AreFramesFrom (length before) n to after
+  pub new : (k : ℕ) → length before ≤ k → k < length after
+      → IsFrameOf n.local.own to k (message_of (link_to n to) (k + 1)) (slice_get after k)
+
+-- the same up to the last message
+pub record IsStaged (n : NodeView) (to : ℕ) (before after : List (List ℕ)) : Type 0 where
+  pub frames : AreStaged n to before after
   pub all : used (link_to n to) ≤ length after
 
 -- ---- the outboxes of a node, one to each node of the space
@@ -57,8 +55,8 @@ HasFrames n rows =
 -- what was released before, and after it the frames of all messages since
 abbrev pub Releases : NodeView → (before after : List (List (List ℕ))) → Type 0
 Releases n before after =
-    (j : ℕ) → j ≢ n.local.own
-    → IsStaged n j (slice_index_or before j []) (slice_index_or after j [])
+    (j : ℕ) → j ≢ n.local.own → IsStaged n j (slice_index_or before j [])
+    (slice_index_or after j [])
 
 -- the outboxes to the nodes below one number have the frames of all messages, released or not
 abbrev pub AreStagedTo : ℕ → NodeView → List (List (List ℕ)) → List OutboxView → Type 0

@@ -5,17 +5,20 @@ use Rattle.ids.specs.declared.refusal.Refusal.{Refusal}
 use Rattle.ids.specs.declared.refusal.Refusal.TheVariants.{Memory}
 use Rattle.ids.specs.declared.limits.TheConstants.{GREATEST_NODES}
 use Rattle.msg.specs.declared.frame.Ack.{Ack}
+use Rattle.model.specs.declared.event.Event.{Event}
+use Rattle.model.specs.declared.event.Answer.{Answer}
 use Rattle.model.specs.declared.step.Step.{Step}
 use Rattle.model.specs.declared.step.Step.TheVariants as step
 use Rattle.model.specs.declared.step.Outcome.{Outcome}
 use Rattle.model.specs.declared.step.Outcome.TheVariants as outcome
-use Rattle.model.specs.State.{NodeState, node_at, got_from, sent_to}
+use Rattle.model.specs.State.{NodeState, node_at, sent_to}
+use Rattle.model.specs.Steps.{is_addressed}
 use Rattle.model.specs.View.{NodeView, Shows, link_to}
-use Rattle.model.specs.World.{World, KeepsSent, FollowsStep, new_world, run, take_step, is_node, is_step_memory_free}
+use Rattle.model.specs.World.{World, KeepsSent, FollowsStep, acknowledged, new_world, run, take_step, is_node, is_step_memory_free}
 use Rattle.node.specs.Summaries.{summary_of}
 use Rattle.node.specs.declared.summary.Summary.{Summary}
 use Rattle.world.specs.Outboxes.{IsFrameOf, numbered_bytes}
-use Rattle.world.specs.Sites.{SiteView, frames_to, new_site, bases, bases_to}
+use Rattle.world.specs.Sites.{SiteView, Acted, frames_to, new_site, bases, bases_to}
 
 -- the site of a node, and past the last one one that no space has
 abbrev pub no_site : SiteView
@@ -28,24 +31,25 @@ site_at sites i = slice_index_or sites i no_site
 abbrev pub frame_at : List SiteView → (from to number : ℕ) → Option (List ℕ)
 frame_at sites from to number = numbered_bytes (frames_to (site_at sites from) to) number
 
--- what the saved node `to` acknowledges to the node `from`
+-- what the saved node `to` acknowledges to the node `from`, which takes it for its own
 pub record IsAckOf (sites : List SiteView) (from to : ℕ) (a : Ack) : Type 0 where
   pub sender : a.from ≡ to
   pub receiver : a.to ≡ from
   pub number : a.number ≡ slice_index_or (site_at sites to).saved.acks from 0
+  pub addressed : IsTrue (is_addressed (site_at sites from).current.local a.from a.to)
 
--- Node i, current or saved, shows the state. Of all saved states its own says what it counts as
--- released and what it acknowledges; and it has let go of no message that its receiver, as
--- saved, hasn't taken in.
-pub record ShowsNode (saved : List NodeState) (i : ℕ) (n : NodeView) (s : NodeState) : Type 0 where
+-- The node, current or saved, shows the state. Its saved state says what it counts as released and
+-- what it acknowledges. It has let go of no message above the number that is acknowledged to it.
+pub record ShowsNode (saved : NodeState) (acked : ℕ → ℕ) (n : NodeView)
+    (s : NodeState) : Type 0 where
   pub shows : Shows n s
-  pub counted : (j : ℕ) → (link_to n j).kept ≡ length (sent_to (node_at saved i) j)
-  pub acks : n.acks ≡ (node_at saved i).local.got
-  pub keeps : (j : ℕ) → (link_to n j).base ≤ got_from (node_at saved j).local i
+  pub counted : (j : ℕ) → (link_to n j).kept ≡ length (sent_to saved j)
+  pub acks : n.acks ≡ saved.local.got
+  pub keeps : (j : ℕ) → (link_to n j).base ≤ acked j
 
 pub record ShowsSite (w : World) (i : ℕ) (q : SiteView) : Type 0 where
-  pub current : ShowsNode w.saved i q.current (node_at w.current i)
-  pub saved : ShowsNode w.saved i q.saved (node_at w.saved i)
+  pub current : ShowsNode (node_at w.saved i) (acknowledged w i) q.current (node_at w.current i)
+  pub saved : ShowsNode (node_at w.saved i) (acknowledged w i) q.saved (node_at w.saved i)
   -- each released frame spells the message of its number, and there is one for each
   pub released : (j k : ℕ) → i ≢ j
       → IsFrameOf i j k (slice_get (sent_to (node_at w.saved i) j) k) (slice_get (frames_to q j) k)
@@ -65,40 +69,52 @@ pub record IsSim (sites : List SiteView) : Type 0 where
   pub current : (i : ℕ) → i < length sites → IsPlaced (length sites) i (site_at sites i).current
   pub saved : (i : ℕ) → i < length sites → IsPlaced (length sites) i (site_at sites i).saved
 
--- for each node what it has let go of, of each link
-pub record Bases : Type 0 where
-  pub current : List (List ℕ)
-  pub saved : List (List ℕ)
+-- what the current node of a number answered to an event, and the space after it
+pub record Given (result : Result Answer Refusal) (old new : List SiteView) (i : ℕ)
+    (e : Event) : Type 0 where
+  pub within : i < length old
+  pub site : SiteView
+  pub acted : Acted result (site_at old i) site e
+  pub others : new ≡ slice_set old i site
 
-abbrev pub bases_of : List SiteView → Bases
-bases_of sites =
-    record { current = map (λ q. bases q.current) sites; saved = map (λ q. bases q.saved) sites }
+-- what the nodes of a site have let go of
+pub record SiteBases : Type 0 where
+  pub current : List ℕ
+  pub saved : List ℕ
+
+abbrev pub site_bases : SiteView → SiteBases
+site_bases q = record { current = bases q.current; saved = bases q.saved }
+
+abbrev pub bases_of : List SiteView → List SiteBases
+bases_of sites = map site_bases sites
+
+abbrev pub bases_at : List SiteBases → ℕ → SiteBases
+bases_at all i = slice_index_or all i (site_bases no_site)
 
 -- The same after a step that was answered. A node lets go of messages by an acknowledgement alone,
 -- up to its number; a save and a restart make two nodes alike.
-abbrev pub bases_after : Bases → Step → Outcome → Bases
-bases_after b (step.Save i) o =
-    record b { saved = slice_set b.saved i (slice_index_or b.current i []) }
-bases_after b (step.Restart i) o =
-    record b { current = slice_set b.current i (slice_index_or b.saved i []) }
-bases_after b (step.Hand from to) (outcome.Handed number) =
-    record b {
-      current = slice_set b.current from (bases_to (slice_index_or b.current from []) to number);
-    }
-bases_after b s o = b
+abbrev pub bases_after : List SiteBases → Step → Outcome → List SiteBases
+bases_after all (step.Save i) o = slice_set all i
+    (record (bases_at all i) { saved = (bases_at all i).current })
+bases_after all (step.Restart i) o =
+    slice_set all i (record (bases_at all i) { current = (bases_at all i).saved })
+bases_after all (step.Hand from to) (outcome.Handed number) =
+    slice_set all from
+    (record (bases_at all from) { current = bases_to (bases_at all from).current to number })
+bases_after all s o = all
 
 -- What a step answered, and the space after it. An answer is that of the definitions, whose space
 -- is then shown; a refusal is the first that applies, and changes nothing.
-pub record Stepped (result : Result Outcome Refusal) (old new : List SiteView) (s : Step) : Type 0
-  where
-    pub follows : (w : World) → ShowsWorld old w → FollowsStep ShowsWorld w result new (take_step w s)
-    pub unchanged : OnErr result (new ≡ old)
-    pub lets_go : IfOk result (λ o. bases_of new ≡ bases_after (bases_of old) s o)
-    pub memory_free : (w : World) → ShowsWorld old w → IsTrue (is_step_memory_free w s)
-        → IfErr result (λ e. e ≢ Memory)
+pub record Stepped (result : Result Outcome Refusal) (old new : List SiteView)
+    (s : Step) : Type 0 where
+  pub follows : (w : World) → ShowsWorld old w → FollowsStep ShowsWorld w result new (take_step w s)
+  pub unchanged : OnErr result (new ≡ old)
+  pub lets_go : IfOk result (λ o. bases_of new ≡ bases_after (bases_of old) s o)
+  pub memory_free : (w : World) → ShowsWorld old w → IsTrue (is_step_memory_free w s)
+      → IfErr result (λ e. e ≢ Memory)
 
--- where the space shows what a run leads to, it shows after a step that isn't refused memory what
--- the run and that step lead to
+-- Where the space shows what a run leads to, it shows after a step that isn't refused memory what
+-- the run and that step lead to.
 abbrev pub ExtendsRun : Result Outcome Refusal → List SiteView → List SiteView → Step → Type 0
 ExtendsRun result old new s =
     (shape : Shaped) (steps : List Step) → ShowsWorld old (run (new_world shape) steps)

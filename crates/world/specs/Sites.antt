@@ -36,7 +36,7 @@ pub record IsBacked (released : List (List (List ℕ))) (n : NodeView) : Type 0 
   pub frames : (j : ℕ) → j ≢ n.local.own
       → (link_to n j).kept ≤ length (slice_index_or released j [])
 
--- the two nodes are one, with an outbox to each node of the space
+-- current and saved are one node, with frames for each node of the space
 pub record IsSite (q : SiteView) : Type 0 where
   pub shape : q.saved.local.shape ≡ q.current.local.shape
   pub own : q.saved.local.own ≡ q.current.local.own
@@ -44,8 +44,8 @@ pub record IsSite (q : SiteView) : Type 0 where
   pub current : IsBacked q.released q.current
   pub saved : IsBacked q.released q.saved
 
--- Of each link how many messages the node has let go of. These and the state that the node
--- shows say what it keeps.
+-- Of each link how many messages the node has let go of. These and the state that the node shows
+-- say what it keeps.
 abbrev pub bases : NodeView → List ℕ
 bases n = map base_of n.links
 

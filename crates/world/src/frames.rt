@@ -68,7 +68,7 @@ impl Frames {
     }
 
     /// Lets go of all frames but the first `count`.
-    #[tactic(auto, using(crate::proofs::Cuts::cut_length, crate::proofs::Cuts::cut_front, crate::proofs::Cuts::ends_front))]
+    #[tactic(auto, using(crate::proofs::Cuts::fronts))]
     pub fn truncate(&mut self, count: usize)
         requires { count ≤ length self.old }
         ensures { self.new ≡ take count self.old }

@@ -78,7 +78,6 @@ impl Outbox {
     }
 }
 
-#[tactic(auto, using(crate::proofs::OutboxLemmas::staged_end))]
 fn stage_frames(alloc: Global, frames: &mut Frames, node: &Node, to: u8) -> Result<(), Refusal>
     requires other { IsTrue (is_other node.now.local to) }
     requires kept { (link_to node.now to).base ≤ length frames.old }

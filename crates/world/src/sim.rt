@@ -4,11 +4,11 @@ ghost use Rattle.ids.specs.declared.refusal.Refusal.TheVariants.{Memory};
 ghost use Rattle.model.specs.Steps.{is_own};
 ghost use Rattle.model.specs.World.{World, FollowsStep, new_world, take_step, is_own_step, is_step_memory_free};
 ghost use Rattle.model.specs.declared.step.Step.TheVariants as step;
-ghost use Rattle.world.specs.Shows.{ShowsWorld, Stepped, ExtendsRun, IsAckOf, bases_of, bases_after, frame_at, summary_at};
+ghost use Rattle.world.specs.Shows.{ShowsWorld, Stepped, ExtendsRun, Given, IsAckOf, bases_of, bases_after, frame_at, summary_at};
 
 use crate::site::Site;
 use ids::{NodeId, Refusal, Shape};
-use model::{Event, Outcome, Step};
+use model::{Answer, Event, Outcome, Step};
 use msg::{Ack, Frame, decode};
 use node::{Node, Summary};
 use std::alloc::Global;
@@ -52,17 +52,18 @@ impl Sim {
     /// anything else; else what the node refuses, and `Memory` where a growth was refused. A
     /// refused step changes nothing. Never refused memory are the events that a node never refuses
     /// it, the delivery of nothing or of a message that isn't the next one, and an acknowledgement.
-    /// An acknowledgement alone lets go of messages: those up to its number.
+    /// An acknowledgement alone lets go of messages: those up to its number. Steps one after
+    /// another are a run of the definitions, without those that are refused memory.
     pub fn step(&mut self, step: Step) -> Result<Outcome, Refusal>
         requires own { IsTrue (is_own_step step) }
         ensures follows { (w : World) → ShowsWorld self.old w
             → FollowsStep ShowsWorld w result self.new (take_step w step) }
         ensures runs { ExtendsRun result self.old self.new step }
-        ensures lets_go { IfOk result
-            (λ o. bases_of self.new ≡ bases_after (bases_of self.old) step o) }
+        ensures lets_go { IfOk result (λ o.
+            bases_of self.new ≡ bases_after (bases_of self.old) step o) }
         ensures unchanged { OnErr result (self.new ≡ self.old) }
-        ensures memory_free { (w : World) → ShowsWorld self.old w → IsTrue (is_step_memory_free w step)
-            → IfErr result (λ e. e ≢ Memory) }
+        ensures memory_free { (w : World) → ShowsWorld self.old w
+            → IsTrue (is_step_memory_free w step) → IfErr result (λ e. e ≢ Memory) }
     {
         self.take(step)
     }
@@ -109,8 +110,7 @@ impl Sim {
         if node >= self.count() {
             return Err(Refusal::NoNode);
         }
-        let site = &mut self.sites[usize::from(node)];
-        let answer = site.act(event)?;
+        let answer = self.give(node, event)?;
         Ok(Outcome::Answer(answer))
     }
 
@@ -155,8 +155,7 @@ impl Sim {
         let Frame::Data(message) = decode(bytes)? else {
             return Err(Refusal::BadFrame);
         };
-        let receiver = &mut self.sites[usize::from(to)];
-        let answer = receiver.act(Event::Data(message))?;
+        let answer = self.give(to, Event::Data(message))?;
         Ok(Outcome::Answer(answer))
     }
 
@@ -171,9 +170,18 @@ impl Sim {
             return Ok(Outcome::NoFrame);
         }
         let ack = self.acknowledgement(from, to);
-        let sender = &mut self.sites[usize::from(from)];
-        sender.act(Event::Ack(ack))?;
+        self.give(from, Event::Ack(ack))?;
         Ok(Outcome::Handed(ack.number))
+    }
+
+    /// Gives the current node of this number an event. It refuses what the node refuses; then
+    /// nothing changes.
+    fn give(&mut self, node: u8, event: Event) -> Result<Answer, Refusal>
+        requires { node < length self.old }
+        ensures { Given result self.old self.new node event }
+    {
+        let site = &mut self.sites[usize::from(node)];
+        site.act(event)
     }
 
     /// The bytes of the frame of this number from one node to another, if it was released.

@@ -36,8 +36,7 @@ impl Model for Site {
 }
 
 impl Site {
-    /// The site of a new node. `NoNode` where the shape has no such node, `Memory` where a
-    /// growth was refused.
+    /// The site of a new node, which counts as saved. `Memory` where a growth was refused.
     pub fn new(alloc: Global, shape: Shape, own: NodeId) -> Result<Site, Refusal>
         requires { own.number < shape.nodes }
         ensures made { IfOk result (λ s. s ≡ new_site shape own.number) }
@@ -80,8 +79,8 @@ impl Site {
         Ok(())
     }
 
-    /// Makes the saved node the current one. `Memory` where a growth was refused;
-    /// then nothing changes.
+    /// Makes the saved node the current one. `Memory` where a growth was refused; then nothing
+    /// changes.
     pub fn restart(&mut self, alloc: Global) -> Result<(), Refusal>
         ensures done { OnOk result (self.new ≡ record self.old { current = self.old.saved }) }
         ensures unchanged { OnErr result (self.new ≡ self.old) }
@@ -98,7 +97,7 @@ impl Site {
         self.outboxes.get(usize::from(to))?.frame(number)
     }
 
-    /// What the saved node acknowledges to another node.
+    /// What the saved node acknowledges to another node of its space.
     pub fn acknowledgement(&self, from: u8) -> Ack
         requires { IsTrue (is_other self.now.saved.local from) }
         ensures from { result.from ≡ self.now.saved.local.own }

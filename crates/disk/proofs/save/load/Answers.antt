@@ -66,8 +66,13 @@ returns-clause-image g c =
       c.from_be_bytes-len.ensures,
       c.if-len-gt-GREATEST_IMAGE.false,
     ) in
-    let is = loaded later c.deref_mut.result.now c.read-2.new.into
-    (drop (length c.read-2.new.into) c.in_ok-image.image.items) len c.in_ok-found.found read
-    c.deref_mut.ensures.len all in
+    let is = loaded later len c.read-2.new.into
+    (drop (length c.read-2.new.into) c.in_ok-image.image.items) (record {
+      old = c.deref_mut.result.now;
+      n = c.in_ok-found.found;
+      read = read;
+      size = c.deref_mut.ensures.len;
+      all = all;
+    }) in
     recorded_is held len told_len fits within
     ∙ ap Some (sym (is ∙ ap (λ (l : List ℕ). take len (drop 8 l)) same))

@@ -1,6 +1,6 @@
 use Rattle.std.proofs.Common.{◌≡◌, ap, ◌∙◌, arith}
 use Rattle.std.specs.Str.Iter.{lines_rest}
-use Rattle.markring.proofs.Printing.{Point, Turn, printed_nothing, printed_more, printed_last, printed_all}
+use Rattle.markring.proofs.Printing.{printed_nothing, printed_more, printed_last, printed_all}
 use Rattle.markring.proofs.script.run_lines.Goals as goal
 
 pub loop-index-init : goal.loop-index-init

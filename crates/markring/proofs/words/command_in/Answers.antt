@@ -1,4 +1,4 @@
-use Rattle.std.proofs.Common.{◌≡◌, ◌∙◌, sym, ap, rules, Some, None, option_map}
+use Rattle.std.proofs.Common.{◌∙◌, sym, ap, Some, None, option_map}
 use Rattle.markring.specs.Called.{call_of}
 use Rattle.markring.proofs.Found.{says_decode, says_nothing, says_sim}
 use Rattle.markring.proofs.words.command_in.Goals as goal

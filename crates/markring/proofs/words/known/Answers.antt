@@ -2,7 +2,7 @@ use Rattle.std.proofs.Common.{◌≡◌, ◌∙◌, rules, ap, ap₂, codes, tru
 use Rattle.std.proofs.lemmas.Result.{IfOk-weaker}
 use Rattle.clap.specs.Words.{App, Shape, app_of, new_app, rule_of, shape_of, with_rule, with_subcommand}
 use Rattle.clap.specs.Simple.{app_of_fields}
-use Rattle.markring.specs.Called.{hex_rule, program, script_rule, with_one_word}
+use Rattle.markring.specs.Called.{hex_rule, script_rule, with_one_word}
 use Rattle.markring.proofs.words.known.Goals as goal
 
 abbrev top_of : App → Shape
@@ -25,7 +25,7 @@ returns c =
     ap app_of_fields c.subcommand_required.ensures in
     let named : app_of c.subcommand_required.result ≡ with_required (new_app (codes "markring")) =
     required ∙ ap with_required c.new-4.ensures.app in
-    let first =
-    c.in_ok-subcommand.ensures.shape (search rules) ∙ ap₂ with_subcommand named sim_is in
+    let added = c.in_ok-subcommand.ensures.shape (search rules) in
+    let first = added ∙ ap₂ with_subcommand named sim_is in
     IfOk-weaker c.subcommand-2.result _ _
     (λ r h. h.shape (search rules) ∙ ap₂ with_subcommand first decode_is) c.subcommand-2.ensures

@@ -27,12 +27,10 @@ loop-to-preserved c = elim c.if-to-summary.branch [
   | then-to-summary+in_ok-stage w ↦
       let less : w.from.result < length c.loop-to.row =
       omega (arith, ap (λ (s : Summary). s.shape.nodes) c.state-summary.ensures.value) in
-      let read =
-      read_released c.loop-to.row _ w.from.result w.index-row-from.result less
+      let read = read_released c.loop-to.row _ w.from.result w.index-row-from.result less
       c.loop-to.invariant.released in
       record {
-        released = rw w.row-is
-            (map-set_same released_frames _ _ _ _ w.stage.ensures.released
+        released = rw w.row-is (map-set_same released_frames _ _ _ _ w.stage.ensures.released
             ∙ c.loop-to.invariant.released);
         staged = rw (w.row-is, w.from.ensures)
             (row_staged _ _ _ _ _ (omega arith)

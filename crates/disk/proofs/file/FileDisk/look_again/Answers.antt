@@ -6,10 +6,15 @@ use Rattle.disk.proofs.file.FileDisk.look_again.Goals as goal
 pub returns-in-Ok-prepared-clause-change : goal.returns-in-Ok-prepared-clause-change
 returns-in-Ok-prepared-clause-change g c =
     let held = c.args.self.now.memory.state.held in
-    changed_by_write c.args.area c.args.at c.args.len c.deref.result.now c.in-Ok-prepared.next.items
-    (areas_of held) (areas_of c.set.new.self.held) c.requires
-    (omega (arith, ap length c.deref.ensures.value, c.in-Ok.ensures))
-    c.in-Ok-prepared.ensures c.set.ensures.held
+    changed_by_write c.args.area c.args.at c.args.len (areas_of held)
+    (areas_of c.set.new.self.held) (record {
+      bytes = c.deref.result.now;
+      next = c.in-Ok-prepared.next.items;
+      within = c.requires;
+      fits = omega (arith, ap length c.deref.ensures.value, c.in-Ok.ensures);
+      made = c.in-Ok-prepared.ensures;
+      held = c.set.ensures.held;
+    })
 
 pub returns-in-Ok-prepared-clause-crash : goal.returns-in-Ok-prepared-clause-crash
 returns-in-Ok-prepared-clause-crash g c =

@@ -25,9 +25,15 @@ returns-clause-crash g c =
     let next = c.in-Ok.next.items in
     let held = c.set.ensures.held
     ∙ ap (λ (x : Contents). with_part c.args.area next (areas_of x)) noted.held in
-    let change = changed_by_write c.args.area c.args.at n c.args.bytes.now next
-    (areas_of s.held) (areas_of c.set.new.self.held) c.requires (omega arith)
-    c.in-Ok.ensures held in
+    let change = changed_by_write c.args.area c.args.at n (areas_of s.held)
+    (areas_of c.set.new.self.held) (record {
+      bytes = c.args.bytes.now;
+      next = next;
+      within = c.requires;
+      fits = omega arith;
+      made = c.in-Ok.ensures;
+      held = held;
+    }) in
     follows_set (Changes c.args.area (Torn c.args.at n)) s c.risk.new.self.state c.set.new.self
     noted.crash
     (set_leaves c.risk.new.self.state c.set.new.self c.set.ensures.synced c.set.ensures.ranges)

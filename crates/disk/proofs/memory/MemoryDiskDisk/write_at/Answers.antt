@@ -13,9 +13,15 @@ returns-clause-crash c =
     let held = c.set.ensures.held
     ∙ ap (λ (x : Contents). with_part c.args.area next (areas_of x)) noted.held in
     let n = length c.args.bytes.now in
-    let change = changed_by_write c.args.area c.args.at n c.args.bytes.now next
-    (areas_of s.held) (areas_of c.set.new.self.held) c.requires (omega arith)
-    c.in-Ok.ensures held in
+    let change = changed_by_write c.args.area c.args.at n (areas_of s.held)
+    (areas_of c.set.new.self.held) (record {
+      bytes = c.args.bytes.now;
+      next = next;
+      within = c.requires;
+      fits = omega arith;
+      made = c.in-Ok.ensures;
+      held = held;
+    }) in
     let mid = c.risk-2.new.self.state in
     follows_set (Changes c.args.area (Torn c.args.at n)) s mid c.set.new.self noted.crash
     (set_leaves mid c.set.new.self c.set.ensures.synced c.set.ensures.ranges) change

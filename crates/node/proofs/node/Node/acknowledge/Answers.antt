@@ -1,4 +1,4 @@
-use Rattle.std.proofs.Common.{◌≡◌, subst, sym, ◌∙◌, true}
+use Rattle.std.proofs.Common.{refl, ◌≡◌, subst, sym, ◌∙◌, true}
 use Rattle.model.specs.Steps.{is_addressed}
 use Rattle.model.specs.View.{NodeView}
 use Rattle.node.specs.Inside.{view_of}
@@ -13,7 +13,12 @@ invariant_of-self-2 c =
     (sym c.self.view_is)
     (sym c.is_addressed.ensures ∙ c.if-not-is_addressed.false) in
     record {
-      node = node-trimmed n _ _ c.trim.new.self c.self.invariant.node
-          (addressed-from n c.args.ack.from c.args.ack.to addressed) c.in_ok-trim.ensures.sound c.in_ok-trim.ensures.done;
+      node = node-trimmed n _ _ c.self.invariant.node
+          (addressed-from n c.args.ack.from c.args.ack.to addressed)
+          (record {
+            sound = c.in_ok-trim.ensures.sound;
+            links = c.in_ok-trim.ensures.done;
+            balance = refl;
+          });
       limit = c.self.invariant.limit;
     }

@@ -21,7 +21,11 @@ invariant_of-self c =
     less-read n c.one_less-self-inside.result c.self.invariant.node
     c.one_less-self-inside.ensures in
     record {
-      node = node-counted n c.args.from c.take_next.new.self _ c.self.invariant.node there
-          c.take_next.ensures.sound c.take_next.ensures.done less;
+      node = node-counted n c.args.from c.self.invariant.node there
+          (record {
+            sound = c.take_next.ensures.sound;
+            links = c.take_next.ensures.done;
+            balance = less;
+          });
       limit = c.self.invariant.limit;
     }

@@ -26,7 +26,11 @@ invariant_of-self-2 c =
     more-read n c.one_more-self-inside.result c.self.invariant.node
     c.one_more-self-inside.ensures in
     record {
-      node = node-sent n c.args.to _ c.append.new.self _ c.self.invariant.node there sendable
-          c.in_ok-number.ensures.sound c.in_ok-number.ensures.done more;
+      node = node-sent n c.args.to _ c.self.invariant.node there sendable
+          (record {
+            sound = c.in_ok-number.ensures.sound;
+            links = c.in_ok-number.ensures.done;
+            balance = more;
+          });
       limit = c.self.invariant.limit;
     }

@@ -1,6 +1,7 @@
 use Rattle.std.proofs.Common.{get_or, ap, ◌∙◌, subst}
 use Rattle.world.specs.Sites.{SiteView}
 use Rattle.world.specs.Shows.{IsSim}
+use Rattle.world.proofs.Acks.{addressed-to}
 use Rattle.world.proofs.Shows.{site-read}
 use Rattle.world.proofs.sim.Sim.acknowledgement.Goals as goal
 
@@ -8,10 +9,13 @@ pub returns : goal.returns
 returns c =
     let there = site-read c.self.view_is c.from.ensures c.requires.to c.index.ensures in
     let sim = subst IsSim c.self.view_is c.self.invariant in
+    let sender = c.acknowledgement.ensures.from ∙ ap (λ (q : SiteView). q.saved.local.own) there
+    ∙ (sim.saved c.args.to c.requires.to).own in
     record {
-      sender = c.acknowledgement.ensures.from ∙ ap (λ (q : SiteView). q.saved.local.own) there
-          ∙ (sim.saved c.args.to c.requires.to).own;
+      sender = sender;
       receiver = c.acknowledgement.ensures.to;
       number = c.acknowledgement.ensures.number
           ∙ ap (λ (q : SiteView). get_or q.saved.acks c.args.from 0) there;
+      addressed = rw (sender, c.acknowledgement.ensures.to)
+          (addressed-to sim c.requires.from c.requires.to c.requires.apart);
     }

@@ -8,9 +8,8 @@ pub loop-number-preserved : goal.loop-number-preserved
 loop-number-preserved c =
     c.in_ok-push.ensures.items
     ∙ rw (c.loop-number.invariant, c.in_ok-new.ensures.made)
-    (sym
-    (map-range_with_len_more (new_site c.args.shape) 0 c.loop-number.number c.loop-number.number
-    (omega arith)))
+    (sym (map-range_with_len_more (new_site c.args.shape) 0 c.loop-number.number
+    c.loop-number.number (omega arith)))
 
 pub invariant_of-result : goal.invariant_of-result
 invariant_of-result c =

@@ -5,8 +5,7 @@ use Rattle.world.proofs.site.Site.save.Goals as goal
 
 pub invariant_of-self-2 : goal.invariant_of-self-2
 invariant_of-self-2 c =
-    let wrote =
-    with_items_is c.self.inside.outboxes c.release_all.new.row
+    let wrote = with_items_is c.self.inside.outboxes c.release_all.new.row
     (c.release_all.auto.row ∙ c.deref_mut.ensures.len) in
     rw wrote
     (site-saved _ _ c.self.invariant
@@ -20,8 +19,7 @@ invariant_of-self-2 c =
 
 pub returns-clause-done : goal.returns-clause-done
 returns-clause-done c =
-    let wrote =
-    with_items_is c.self.inside.outboxes c.release_all.new.row
+    let wrote = with_items_is c.self.inside.outboxes c.release_all.new.row
     (c.release_all.auto.row ∙ c.deref_mut.ensures.len) in
     rw (← c.self.view_is, wrote)
     (record {
