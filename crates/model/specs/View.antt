@@ -11,8 +11,7 @@ use Rattle.model.specs.declared.event.Event.{Event}
 use Rattle.model.specs.declared.event.Answer.{Answer}
 use Rattle.model.specs.Checks.{IsFirstRefusal}
 use Rattle.model.specs.State.{LocalState, NodeState, new_local, got_from}
-use Rattle.model.specs.Effects.{Effect}
-use Rattle.model.specs.Steps.{checked, tests, made, ack_of, taken_in}
+use Rattle.model.specs.Steps.{Effect, checked, tests, made, ack_of, taken_in}
 
 -- What a node keeps of the messages to another node: the highest number that was acknowledged, the
 -- messages after it, and how many of all its messages a saved node holds.
