@@ -1,0 +1,24 @@
+use Rattle.std.proofs.Common.{◌+◌, refl, ◌∙◌, arith}
+use Rattle.barrier.proofs.Sent.{sent-more, sent-width, unsent}
+use Rattle.barrier.proofs.marks.append_marks.Goals as goal
+
+pub returns-in-Err-clause-refused : goal.returns-in-Err-clause-refused
+returns-in-Err-clause-refused c other =
+    let told = c.in-Err.ensures.refused other in (
+      told.0,
+      unsent c.args.links.now c.loop-sent.links c.args.cycle c.args.targets.now c.loop-sent.sent
+          _ _ (omega arith) refl c.loop-sent.invariant.sent told.1,
+    )
+
+pub loop-sent-preserved : goal.loop-sent-preserved
+loop-sent-preserved c =
+    let old = c.loop-sent.invariant in
+    let one = c.in_default.ensures in
+    record {
+      sent =
+          sent-more c.args.links.now c.loop-sent.links c.append_mark.new.links c.args.cycle
+          c.args.targets.now c.loop-sent.sent (c.loop-sent.sent + 1) _ _ (omega arith) refl refl
+          old.sent one.done;
+      width = sent-width one.done ∙ old.width;
+      sound = one.sound;
+    }
