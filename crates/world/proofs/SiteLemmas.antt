@@ -13,7 +13,7 @@ use Rattle.msg.specs.declared.frame.Ack.{Ack}
 use Rattle.model.specs.declared.event.Event.{Event}
 use Rattle.model.specs.declared.event.Event.TheVariants as event
 use Rattle.model.specs.declared.event.Answer.{Answer}
-use Rattle.model.specs.Steps.{ack_of, is_memory_free, is_shading}
+use Rattle.model.specs.Steps.{ack_of, is_memory_free}
 use Rattle.model.specs.View.{Link, NodeView, Performed, Performs, Leaves, no_link, link_to, used, appended, append_to, trimmed, let_go, view_act, new_view, all_kept, kept_view, base_of, kept_of}
 use Rattle.model.proofs.Lookups.{at_set_if, get_or-replicate_any}
 use Rattle.model.proofs.Shown.{view-ok, ack-done}
@@ -73,7 +73,7 @@ let_go-used links (Some a) j =
     (omega (arith, length-drop (a.number - old.base) old.unacknowledged))
 
 act-used : (n new : NodeView) (e : Event) (r : Result Answer Refusal) (j : ℕ)
-    → Performed (is_shading e) r n new (view_act n e) → used (link_to n j) ≤ used (link_to new j)
+    → Performed r n new (view_act n e) → used (link_to n j) ≤ used (link_to new j)
 unfolding view_act
 act-used n new e (Err f) j p =
     subst (λ (v : NodeView). used (link_to n j) ≤ used (link_to v j)) (sym p.unchanged) (le_refl _)
@@ -99,7 +99,7 @@ trimmed-base l number held few =
 -- what an answered event lets go of
 acted-lets_go : {rows : List (List (List ℕ))} {n new : NodeView} {e : Event}
     {r : Result Answer Refusal} → (o : Option Ack) → IsBacked rows n → Leaves n new e
-    → Performed (is_shading e) r n new (view_act n e) → ack_of e ≡ o
+    → Performed r n new (view_act n e) → ack_of e ≡ o
     → IfOk r (λ x. (bases new ≡ bases_acked (bases n) o) × IsAckWithin (λ j. (link_to n j).kept) o)
 acted-lets_go {r = Err f} o h left p is = tt
 acted-lets_go {r = Ok x} None h left p none = (left.bases none, tt)
@@ -114,7 +114,7 @@ acted-lets_go {n = n} {new = new} {e = e} {r = Ok x} (Some a) h left p is =
 
 acted-base : {rows : List (List (List ℕ))} {n new : NodeView} {e : Event}
     {r : Result Answer Refusal} → (j : ℕ) → IsBacked rows n → Leaves n new e
-    → Performed (is_shading e) r n new (view_act n e) → (link_to new j).base ≤ (link_to new j).kept
+    → Performed r n new (view_act n e) → (link_to new j).base ≤ (link_to new j).kept
 acted-base {r = Err f} j h left p = rw p.unchanged (h.base j)
 acted-base {n = n} {new = new} {e = e} {r = Ok x} j h left p =
     let done = acted-lets_go (ack_of e) h left p refl in
@@ -132,11 +132,11 @@ acted-base {n = n} {new = new} {e = e} {r = Ok x} j h left p =
 -- what a call of a node leaves of the site whose current one it was
 pub site_acted : (n saved v : NodeView) (rows : List (List (List ℕ))) (e : Event)
     (r : Result Answer Refusal) → IsSite (record { current = n; saved = saved; released = rows })
-    → Leaves n v e → Performs (is_shading e) r v (view_act n e) → OnErr r (v ≡ n)
+    → Leaves n v e → Performs r v (view_act n e) → OnErr r (v ≡ n)
     → IsSite (record { current = v; saved = saved; released = rows })
 site_acted n saved v rows e r h left performs same =
     let q : SiteView = record { current = n; saved = saved; released = rows } in
-    let p : Performed (is_shading e) r q.current v (view_act q.current e) =
+    let p : Performed r q.current v (view_act q.current e) =
     record { performs = performs; unchanged = same } in
     let kept = λ (j : ℕ). link-same kept_of v q.current j left.kept in
     record {
@@ -153,8 +153,7 @@ site_acted n saved v rows e r h left performs same =
     }
 
 pub acts : (q : SiteView) (v : NodeView) (e : Event) (r : Result Answer Refusal) → IsSite q
-    → Leaves q.current v e → Performs (is_shading e) r v (view_act q.current e)
-    → OnErr r (v ≡ q.current)
+    → Leaves q.current v e → Performs r v (view_act q.current e) → OnErr r (v ≡ q.current)
     → (IsTrue (is_memory_free q.current.local e) → IfErr r (λ f. f ≢ Memory))
     → Acted r q (record q { current = v }) e
 acts q v e r h left performs same free = record {
