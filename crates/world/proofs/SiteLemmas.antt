@@ -130,44 +130,49 @@ acted-base {n = n} {new = new} {e = e} {r = Ok x} j h left p =
     )
 
 -- what a call of a node leaves of the site whose current one it was
-pub site_acted : (n saved v : NodeView) (rows : List (List (List ℕ))) (e : Event)
-    (r : Result Answer Refusal) → IsSite (record { current = n; saved = saved; released = rows })
-    → Leaves n v e → Performs r v (view_act n e) → OnErr r (v ≡ n)
-    → IsSite (record { current = v; saved = saved; released = rows })
-site_acted n saved v rows e r h left performs same =
-    let q : SiteView = record { current = n; saved = saved; released = rows } in
-    let p : Performed r q.current v (view_act q.current e) =
-    record { performs = performs; unchanged = same } in
-    let kept = λ (j : ℕ). link-same kept_of v q.current j left.kept in
-    record {
-      shape = h.shape ∙ sym left.shape;
-      own = h.own ∙ sym left.own;
-      width = h.width ∙ ap (λ (s : Shaped). s.nodes) (sym left.shape);
-      current = record {
-        base = λ j. acted-base j h.current left p;
-        kept = λ j. omega (arith, h.current.kept j, kept j, act-used q.current v e r j p);
-        frames = λ j apart.
-            omega (arith, h.current.frames j (λ own. apart (own ∙ sym left.own)), kept j);
-      };
-      saved = h.saved;
-    }
+module _ (n saved v : NodeView) (rows : List (List (List ℕ))) (e : Event)
+    (r : Result Answer Refusal)
+    (h : IsSite (record { current = n; saved = saved; released = rows })) (left : Leaves n v e)
+    (performs : Performs r v (view_act n e)) (same : OnErr r (v ≡ n))
+  where
+    performed : Performed r n v (view_act n e)
+    performed = record { performs = performs; unchanged = same }
 
-pub acts : (q : SiteView) (v : NodeView) (e : Event) (r : Result Answer Refusal) → IsSite q
-    → Leaves q.current v e → Performs r v (view_act q.current e) → OnErr r (v ≡ q.current)
-    → (IsTrue (is_memory_free q.current.local e) → IfErr r (λ f. f ≢ Memory))
-    → Acted r q (record q { current = v }) e
-acts q v e r h left performs same free = record {
-  performs = performs;
-  unchanged = MatchResult-weaker r same (λ x _. tt)
-      (λ f same. ap (λ (n : NodeView). record q { current = n }) same);
-  others = refl;
-  leaves = left;
-  lets_go = MatchResult-weaker r
-      (acted-lets_go (ack_of e) h.current left
-      (record { performs = performs; unchanged = same }) refl) (λ x done. done.0)
-      (λ f _. tt);
-  memory_free = free;
-}
+    pub site_acted : IsSite (record { current = v; saved = saved; released = rows })
+    site_acted =
+        let kept = λ (j : ℕ). link-same kept_of v n j left.kept in
+        record {
+          shape = h.shape ∙ sym left.shape;
+          own = h.own ∙ sym left.own;
+          width = h.width ∙ ap (λ (s : Shaped). s.nodes) (sym left.shape);
+          current = record {
+            base = λ j. acted-base j h.current left performed;
+            kept = λ j. omega (arith, h.current.kept j, kept j, act-used n v e r j performed);
+            frames = λ j apart.
+                omega (arith, h.current.frames j (λ own. apart (own ∙ sym left.own)), kept j);
+          };
+          saved = h.saved;
+        }
+
+    pub acts : (IsTrue (is_memory_free n.local e) → IfErr r (λ f. f ≢ Memory))
+        → Acted r (record { current = n; saved = saved; released = rows })
+        (record { current = v; saved = saved; released = rows }) e
+    acts free =
+        let q : NodeView → SiteView = λ m. record {
+          current = m;
+          saved = saved;
+          released = rows;
+        } in
+        record {
+          performs = performs;
+          unchanged = MatchResult-weaker r same (λ x _. tt) (λ f same. ap q same);
+          others = refl;
+          leaves = left;
+          lets_go = MatchResult-weaker r
+              (acted-lets_go (ack_of e) h.current left performed refl) (λ x done. done.0)
+              (λ f _. tt);
+          memory_free = free;
+        }
 
 -- ---- saves
 
