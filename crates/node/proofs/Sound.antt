@@ -1,15 +1,12 @@
 -- Each change of a node keeps what is true of every node.
-use Rattle.std.proofs.Common.{◌≡◌, ℕ, Option, Some, None, Ok, ap, sym, subst}
+use Rattle.std.proofs.Common.{◌≡◌, ℕ, ◌≤◌, List, [], ◌∷◌, length, get_or, Some, None, Ok, ap, sym, ◌∙◌, subst, arith, length-append}
+use Rattle.std.proofs.lemmas.List.{length-set}
 use Rattle.ids.specs.declared.names.Ref.{Ref}
-use Rattle.msg.specs.declared.body.Body.TheVariants.{Put}
-use Rattle.std.specs.List.{AllByRecursion}
-use Rattle.std.specs.Option.{option_to_list}
-use Rattle.model.specs.State.{Heap, register_at}
-use Rattle.model.specs.Steps.{mentioned}
-use Rattle.model.specs.Heaps.{with_place, heap_alloc, alloc_tests, alloc_heap, with_object, new_object, new_reference, named, heap_load, load_tests, place_loaded, with_register, heap_store, heap_clear, heap_set_word, store_tests, clear_tests, word_tests}
-use Rattle.model.specs.References.{IfAny, HoldsOnly}
+use Rattle.model.specs.State.{Object, Slot, Occupied, Retired, Heap, register_at}
+use Rattle.model.specs.Heaps.{next_generation, slots_with, heap_alloc, alloc_tests, alloc_heap, with_object, new_object, new_reference, named, heap_store, heap_clear, heap_set_word, store_tests, clear_tests, word_tests}
+use Rattle.model.specs.References.{HoldsOnly}
 use Rattle.model.proofs.Checks.{guarded-ok}
-use Rattle.model.proofs.References.{holds-with_register, holds-with_object, holds-with_place, holds-with_word, holds-place_of}
+use Rattle.model.proofs.References.{holds-with_register, holds-with_object, holds-with_place, holds-with_word}
 
 module _ (P : Ref → Type 0) (limit own cycle : ℕ) (h : Heap) (register places : ℕ) where
   pub alloc_references : (g : Heap) (r : Ref)
@@ -37,17 +34,6 @@ module _ (limit own cycle : ℕ) (h : Heap) (register places : ℕ) where
       ap (λ (z : Heap × Ref). z.1.node) both
 
 module _ (P : Ref → Type 0) (own : ℕ) (h : Heap) where
-  pub load_references : (register object place : ℕ) (g : Heap) (v : Option Ref)
-      → heap_load own h register object place ≡ Ok (g, v) → HoldsOnly P h → HoldsOnly P g
-  unfolding heap_load
-  load_references register object place g v e all =
-      let both : ◌≡◌ {A = Heap × Option Ref}
-      (with_register h register (place_loaded h object place), place_loaded h object place) (g, v) =
-      guarded-ok (load_tests own h register object place) _ _ e in
-      subst (HoldsOnly P) (ap (λ (z : Heap × Option Ref). z.0) both)
-      (holds-with_register P h register
-      (place_loaded h object place) all (holds-place_of P h (named h object) place all))
-
   pub store_references : (object place register : ℕ) (g : Heap)
       → heap_store own h object place register ≡ Ok g → HoldsOnly P h → HoldsOnly P g
   unfolding heap_store
@@ -70,13 +56,45 @@ set_word_references P own h object word g e all =
     subst (HoldsOnly P) (guarded-ok (word_tests own h object) _ _ e)
     (holds-with_word P h (named h object) word all)
 
-any-carried : (P : Ref → Type 0) (r : Option Ref) → AllByRecursion P (option_to_list r) → IfAny P r
-any-carried P None h = tt
-any-carried P (Some r) h = h.0
+-- ---- the slots: an object may come to have one that is new, and no slot is taken away
 
--- what a message writes into a place
-pub put_references : (P : Ref → Type 0) (h : Heap) (target : Ref) (place : ℕ) (r : Option Ref)
-    → AllByRecursion P (mentioned (Put target place r)) → HoldsOnly P h
-    → HoldsOnly P (with_place h target place r)
-put_references P h target place r new all =
-    holds-with_place P h target place r all (any-carried P r new.1)
+slots_with-more : (free : List ℕ) (slots : List Slot) (o : Object)
+    → length slots ≤ length (slots_with free slots o)
+slots_with-more [] slots o = omega (arith, length-append slots (Occupied 1 o ∷ []))
+slots_with-more (k ∷ ks) slots o =
+    omega (arith, length-set slots k (Occupied (next_generation (get_or slots k Retired)) o))
+
+module _ (limit own cycle : ℕ) (h : Heap) (register places : ℕ) where
+  pub alloc-slots : (g : Heap) (r : Ref)
+      → heap_alloc limit own cycle h register places ≡ Ok (g, r) → length h.slots ≤ length g.slots
+  unfolding heap_alloc
+  alloc-slots g r e =
+      let both : ◌≡◌ {A = Heap × Ref} (alloc_heap own cycle h register places, new_reference own h)
+      (g, r) =
+      guarded-ok (alloc_tests limit h register places) _ _ e in
+      subst (λ (z : Heap × Ref). length h.slots ≤ length z.0.slots) both
+      (slots_with-more h.free h.slots (new_object cycle places))
+
+pub store_slots : (own : ℕ) (h : Heap) (object place register : ℕ) (g : Heap)
+    → heap_store own h object place register ≡ Ok g → length g.slots ≡ length h.slots
+unfolding heap_store
+store_slots own h object place register g e =
+    ap (λ (z : Heap). length z.slots)
+    (sym (guarded-ok (store_tests own h object place register) _ _ e))
+    ∙ length-set h.slots (named h object).slot _
+
+pub clear_slots : (own : ℕ) (h : Heap) (object place : ℕ) (g : Heap)
+    → heap_clear own h object place ≡ Ok g → length g.slots ≡ length h.slots
+unfolding heap_clear
+clear_slots own h object place g e =
+    ap (λ (z : Heap). length z.slots)
+    (sym (guarded-ok (clear_tests own h object place) _ _ e))
+    ∙ length-set h.slots (named h object).slot _
+
+pub set_word_slots : (own : ℕ) (h : Heap) (object word : ℕ) (g : Heap)
+    → heap_set_word own h object word ≡ Ok g → length g.slots ≡ length h.slots
+unfolding heap_set_word
+set_word_slots own h object word g e =
+    ap (λ (z : Heap). length z.slots)
+    (sym (guarded-ok (word_tests own h object) _ _ e))
+    ∙ length-set h.slots (named h object).slot _

@@ -13,7 +13,7 @@ use Rattle.msg.specs.declared.frame.Ack.{Ack}
 use Rattle.model.specs.declared.event.Event.{Event}
 use Rattle.model.specs.declared.event.Event.TheVariants as event
 use Rattle.model.specs.declared.event.Answer.{Answer}
-use Rattle.model.specs.Steps.{ack_of, is_memory_free}
+use Rattle.model.specs.Steps.{ack_of, is_memory_free, is_shading}
 use Rattle.model.specs.View.{Link, NodeView, Performed, Performs, Leaves, no_link, link_to, used, appended, append_to, trimmed, let_go, view_act, new_view, all_kept, kept_view, base_of, kept_of}
 use Rattle.model.proofs.Lookups.{at_set_if, get_or-replicate_any}
 use Rattle.model.proofs.Shown.{view-ok, ack-done}
@@ -73,7 +73,7 @@ let_go-used links (Some a) j =
     (omega (arith, length-drop (a.number - old.base) old.unacknowledged))
 
 act-used : (n new : NodeView) (e : Event) (r : Result Answer Refusal) (j : ℕ)
-    → Performed r n new (view_act n e) → used (link_to n j) ≤ used (link_to new j)
+    → Performed (is_shading e) r n new (view_act n e) → used (link_to n j) ≤ used (link_to new j)
 unfolding view_act
 act-used n new e (Err f) j p =
     subst (λ (v : NodeView). used (link_to n j) ≤ used (link_to v j)) (sym p.unchanged) (le_refl _)
@@ -99,7 +99,7 @@ trimmed-base l number held few =
 -- what an answered event lets go of
 acted-lets_go : {rows : List (List (List ℕ))} {n new : NodeView} {e : Event}
     {r : Result Answer Refusal} → (o : Option Ack) → IsBacked rows n → Leaves n new e
-    → Performed r n new (view_act n e) → ack_of e ≡ o
+    → Performed (is_shading e) r n new (view_act n e) → ack_of e ≡ o
     → IfOk r (λ x. (bases new ≡ bases_acked (bases n) o) × IsAckWithin (λ j. (link_to n j).kept) o)
 acted-lets_go {r = Err f} o h left p is = tt
 acted-lets_go {r = Ok x} None h left p none = (left.bases none, tt)
@@ -114,7 +114,7 @@ acted-lets_go {n = n} {new = new} {e = e} {r = Ok x} (Some a) h left p is =
 
 acted-base : {rows : List (List (List ℕ))} {n new : NodeView} {e : Event}
     {r : Result Answer Refusal} → (j : ℕ) → IsBacked rows n → Leaves n new e
-    → Performed r n new (view_act n e) → (link_to new j).base ≤ (link_to new j).kept
+    → Performed (is_shading e) r n new (view_act n e) → (link_to new j).base ≤ (link_to new j).kept
 acted-base {r = Err f} j h left p = rw p.unchanged (h.base j)
 acted-base {n = n} {new = new} {e = e} {r = Ok x} j h left p =
     let done = acted-lets_go (ack_of e) h left p refl in
@@ -133,9 +133,9 @@ acted-base {n = n} {new = new} {e = e} {r = Ok x} j h left p =
 module _ (n saved v : NodeView) (rows : List (List (List ℕ))) (e : Event)
     (r : Result Answer Refusal)
     (h : IsSite (record { current = n; saved = saved; released = rows })) (left : Leaves n v e)
-    (performs : Performs r v (view_act n e)) (same : OnErr r (v ≡ n))
+    (performs : Performs (is_shading e) r v (view_act n e)) (same : OnErr r (v ≡ n))
   where
-    performed : Performed r n v (view_act n e)
+    performed : Performed (is_shading e) r n v (view_act n e)
     performed = record { performs = performs; unchanged = same }
 
     pub site_acted : IsSite (record { current = v; saved = saved; released = rows })
