@@ -1,5 +1,2 @@
 mod Allocation
-mod Frees
-mod Greys
-mod Shades
 mod Writes

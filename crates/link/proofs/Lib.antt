@@ -1,4 +1,3 @@
 pub mod OneLink
 pub mod EveryLink
-pub mod Announcing
 mod Ends

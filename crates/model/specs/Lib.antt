@@ -1,13 +1,8 @@
 pub mod Checks
 pub mod State
 pub mod Heaps
-pub mod Effects
-pub mod Counting
-pub mod Shading
-pub mod Collecting
 pub mod Steps
 pub mod View
 pub mod World
 pub mod Cuts
 pub mod References
-pub mod Agreement

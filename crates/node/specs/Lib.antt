@@ -3,5 +3,4 @@ pub mod Inside
 pub mod Frames
 pub mod Summaries
 pub mod Sending
-pub mod Cycles
 pub mod Taking

@@ -1,8 +1,6 @@
 mod asking;
-mod collecting;
 mod links;
 mod objects;
-mod taking;
 
 use crate::{Answer, Event, Letter, Node, Summary};
 use ids::{NodeId, Ref, Refusal, Shape};
