@@ -89,6 +89,15 @@ module _ {T : Type 0} where
   abbrev pub key_at : Arena T → ℕ → Option Key
   key_at a slot = key_of slot (generation_in (slot_at a slot))
 
+  -- the generation of the value in a slot, or of the next one where it is free
+  abbrev pub slot_generation : Slot T → Option ℕ
+  slot_generation (Free g) = Some g
+  slot_generation (Occupied g x) = Some g
+  slot_generation Retired = None
+
+  abbrev pub generation_at : Arena T → ℕ → Option ℕ
+  generation_at a slot = slot_generation (slot_at a slot)
+
   -- the arena after a write through `get_mut`
   abbrev pub with_value : Arena T → Key → T → Arena T
   with_value a key x = record a { slots = slice_set a.slots key.slot (Occupied key.generation x) }

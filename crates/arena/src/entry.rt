@@ -1,7 +1,7 @@
 //! What a slot of an arena is in memory.
 ghost use Rattle.std.specs.Prelude.{◌≡◌, IsSome, Some, option_copied};
 ghost use Rattle.std.specs.Borrow.{Lends, sem};
-ghost use Rattle.arena.specs.Arena.{IsFree, value_of, generation_of, generation_in};
+ghost use Rattle.arena.specs.Arena.{IsFree, value_of, generation_of, generation_in, slot_generation};
 ghost use Rattle.arena.specs.Entry.{slot_of, held_by, next_of, occupied_by};
 
 use crate::Generation;
@@ -56,6 +56,17 @@ impl<T> Entry<T> {
         match self {
             Entry::Occupied(generation, _) => Some(*generation),
             _ => None,
+        }
+    }
+
+    /// The generation of the value, or of the next one where the slot is free.
+    pub(crate) fn slot_generation(&self) -> Option<Generation>
+        ensures { result ≡ slot_generation (slot_of self.now) }
+    {
+        match self {
+            Entry::Free(generation, _) => Some(*generation),
+            Entry::Occupied(generation, _) => Some(*generation),
+            Entry::Retired => None,
         }
     }
 

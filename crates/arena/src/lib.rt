@@ -8,7 +8,7 @@ ghost use Rattle.std.specs.Prelude.{◌≡◌, ◌<◌, ◌==◌, [], length, op
 ghost use Rattle.std.specs.Prelude.{IsSome, IsOk, OnOk, OnErr, IfOk, IfErr, Some};
 ghost use Rattle.std.specs.Option.{option_copied_mut};
 ghost use Rattle.std.specs.Borrow.{sem};
-ghost use Rattle.arena.specs.Arena.{IsSound, IsFaultOf, IsKey, get, key_at, next_key};
+ghost use Rattle.arena.specs.Arena.{IsSound, IsFaultOf, IsKey, get, key_at, generation_at, next_key};
 ghost use Rattle.arena.specs.Arena.{inserted, removed, vacated, occupied_count, is_full};
 
 mod entry;
@@ -165,6 +165,17 @@ impl<T> Arena<T> {
             Some(generation) => Some(Key { slot, generation }),
             None => None,
         }
+    }
+
+    /// The generation that `slot` has: that of its value, or of its next one where it is free. None
+    /// where it is retired, or was never used.
+    pub fn generation_at(&self, slot: u32) -> Option<Generation>
+        ensures { result ≡ generation_at self.now slot }
+    {
+        if slot as usize >= self.entries.len() {
+            return None;
+        }
+        self.entries.get(slot as usize).slot_generation()
     }
 
     /// Stores `value`, and gives its key: the slot that was freed last, under its next generation,

@@ -39,6 +39,8 @@ fn a_freed_slot_has_its_next_generation(rt: HostRuntime) {
     assert_eq!(rt; arena.remove(key(0, 1)), Some('a'));
     assert!(rt; !arena.is_full());
     assert_eq!(rt; arena.key_at(0), None);
+    let generations = [0, 1, 2].map(|slot| arena.generation_at(slot));
+    assert_eq!(rt; generations, [Some(2), Some(1), None]);
     assert_eq!(rt; (arena.high(), arena.len()), (2, 1));
 
     assert_eq!(rt; arena.insert('d').ok(), Some(key(0, 2)));

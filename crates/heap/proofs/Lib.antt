@@ -1,2 +1,5 @@
 mod Allocation
+mod Frees
+mod Greys
+mod Shades
 mod Writes

@@ -69,7 +69,7 @@ object_of-stored (Free own) g = refl
 object_of-stored (Occupied own x) g = refl
 object_of-stored Retired g = refl
 
-object_at-stored : (h : Inside) (r : Ref) (key : Key)
+pub object_at-stored : (h : Inside) (r : Ref) (key : Key)
     → key ≡ key_of r → object_at (view_of h).heap r ≡ get h.objects key
 object_at-stored h r key name =
     let s : Slot Object = get_or h.objects.slots r.slot Retired in

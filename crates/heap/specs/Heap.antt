@@ -1,12 +1,40 @@
 -- What a contract sees of a `Heap`.
-use Rattle.std.specs.Prelude.{ℕ, ◌≤◌, Bool, true, false, length, ⊤}
+use Rattle.std.specs.Prelude.{◌≡◌, ℕ, ◌+◌, ◌≤◌, Bool, true, false, length, ⊤}
 pub use Rattle.arena.specs.Arena.{Has, Once}
+use Rattle.ids.specs.declared.names.Ref.{Ref}
 use Rattle.model.specs.State.{Slot, Free, Occupied, Retired, Heap, slot_at}
+use Rattle.model.specs.Collecting.{Sweeping, generation_in, sweep_some}
 
--- the heap as plain data, and how many slots there may be
+-- the heap as plain data, how many slots there may be, and what is added before memory is wanted
 pub record HeapView : Type 0 where
   pub heap : Heap
   pub limit : ℕ
+  -- how many objects may turn grey
+  pub room : ℕ
+  -- how many letters may come
+  pub letter_room : ℕ
+
+-- this heap and this limit, whatever room there is
+pub record Holds (v : HeapView) (h : Heap) (slots : ℕ) : Type 0 where
+  pub heap : v.heap ≡ h
+  pub limit : v.limit ≡ slots
+
+-- there is room for so many grey objects and so many letters more
+pub record HasRoom (v : HeapView) (greys letters : ℕ) : Type 0 where
+  pub room : greys ≤ v.room
+  pub letter_room : letters ≤ v.letter_room
+
+-- there is no less room than before
+pub record KeepsRoom (before after : HeapView) : Type 0 where
+  pub room : before.room ≤ after.room
+  pub letter_room : before.letter_room ≤ after.letter_room
+
+-- the heap is this one now, for which at most so many objects turned grey
+pub record Became (before after : HeapView) (h : Heap) (most : ℕ) : Type 0 where
+  pub heap : after.heap ≡ h
+  pub limit : after.limit ≡ before.limit
+  pub room : before.room ≤ after.room + most
+  pub letter_room : after.letter_room ≡ before.letter_room
 
 abbrev pub is_occupied : Slot → Bool
 is_occupied (Free g) = false
@@ -18,10 +46,19 @@ IsFree (Free g) = ⊤
 IsFree (Occupied g o) = ⊥
 IsFree Retired = ⊥
 
--- what holds of every heap
-pub record IsSlotted (v : HeapView) : Type 0 where
-  pub within : length v.heap.slots ≤ v.limit
+-- what holds of every heap of this limit
+pub record IsSlotted (h : Heap) (limit : ℕ) : Type 0 where
+  pub within : length h.slots ≤ limit
   -- the list names the free slots and no others, each once
-  pub named : (i : ℕ) → Has v.heap.free i → IsFree (slot_at v.heap i)
-  pub listed : (i : ℕ) → IsFree (slot_at v.heap i) → Has v.heap.free i
-  pub once : Once v.heap.free
+  pub named : (i : ℕ) → Has h.free i → IsFree (slot_at h i)
+  pub listed : (i : ℕ) → IsFree (slot_at h i) → Has h.free i
+  pub once : Once h.free
+
+-- a node's reference to what is in a slot, by the generation that the slot has
+abbrev pub reference_in : ℕ → Heap → ℕ → Ref
+reference_in own h slot =
+    record { node = own; slot = slot; generation = generation_in (slot_at h slot) }
+
+-- what sweeping so many slots, from this one on, makes of a heap, and how many objects it frees
+abbrev pub swept : ℕ → ℕ → ℕ → Heap → Sweeping
+swept cycle cursor count h = sweep_some cycle cursor count (record { heap = h; freed = 0 })

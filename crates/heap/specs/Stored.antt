@@ -1,5 +1,6 @@
 -- How a `Heap` is stored. No public clause cites this module.
-use Rattle.std.specs.Prelude.{ℕ, ◌≤◌, List, map, Option}
+use Rattle.std.specs.Prelude.{ℕ, ◌-◌, ◌≤◌, ◌<◌, ◌^◌, List, length, map, Option, Some, None, vec_len, vec_capacity}
+use Rattle.std.specs.VecDeque.{deque_len, deque_capacity}
 use Rattle.ids.specs.declared.limits.TheConstants.{GREATEST_SLOTS}
 use Rattle.ids.specs.declared.names.Ref.{Ref}
 use Rattle.arena.specs.Arena.{Arena}
@@ -32,8 +33,18 @@ view_of h =
     record {
       heap = heap_of h.objects h.registers.items h.letters.items h.grey.items;
       limit = h.objects.limit;
+      room = vec_capacity h.grey - vec_len h.grey;
+      letter_room = deque_capacity h.letters - deque_len h.letters;
     }
 
--- how many slots there may be is within the limits
+-- the object in a slot, whatever its generation
+abbrev pub object_in : state.Slot → Option Object
+object_in (Free g) = None
+object_in (Occupied g o) = Some o
+object_in Retired = None
+
+-- how many slots there may be, and how many registers there are, is within the limits
 pub record IsHeap (h : Inside) : Type 0 where
   pub limit : h.objects.limit ≤ GREATEST_SLOTS
+  -- a register's number is of two bytes
+  pub registers : length h.registers.items < 2 ^ 16

@@ -1,10 +1,12 @@
-ghost use Rattle.std.specs.Prelude.{◌≡◌, length, IfOk, IfErr};
+ghost use Rattle.std.specs.Prelude.{◌≡◌, IfOk, IfErr};
 ghost use Rattle.ids.specs.declared.refusal.Refusal.TheVariants.{Memory};
 ghost use Rattle.model.specs.State.{new_heap};
 
 mod letters;
+mod marking;
 mod objects;
 mod registers;
+mod sweeping;
 
 use crate::object::StoredObject;
 use arena::Arena;
@@ -39,12 +41,13 @@ impl Model for Heap {
 }
 
 impl Heap {
+    ghost use Rattle.heap.specs.Heap.{Holds};
+
     /// The heap of a new node: no object, no letter, and as many empty registers as the shape says.
     ///
     /// It answers [`Refusal::Memory`] where there is no memory for the registers.
     pub fn new(alloc: Global, shape: Shape) -> Result<Heap, Refusal>
-        ensures made { IfOk result
-            (λ h. h ≡ record { heap = new_heap shape; limit = shape.slots }) }
+        ensures made { IfOk result (λ h. Holds h (new_heap shape) shape.slots) }
         ensures refused { IfErr result (λ e. e ≡ Memory) }
     {
         Ok(Heap {
@@ -55,11 +58,11 @@ impl Heap {
         })
     }
 
-    /// A heap that is equal to this one.
+    /// A heap with the same content and the same limit. How much room it has is its own.
     ///
     /// It answers [`Refusal::Memory`] where there is no memory for it.
     pub fn copy(&self, alloc: Global) -> Result<Heap, Refusal>
-        ensures same { IfOk result (λ h. h ≡ self.now) }
+        ensures same { IfOk result (λ h. Holds h self.now.heap self.now.limit) }
         ensures refused { IfErr result (λ e. e ≡ Memory) }
     {
         Ok(Heap {
@@ -68,12 +71,5 @@ impl Heap {
             letters: self.letters.clone()?,
             grey: Vec::from_slice(alloc, &self.grey)?,
         })
-    }
-
-    /// How many marked objects are still to be scanned.
-    pub fn grey(&self) -> usize
-        ensures { result ≡ length self.now.heap.grey }
-    {
-        self.grey.len()
     }
 }

@@ -1,8 +1,10 @@
-ghost use Rattle.std.specs.Prelude.{◌≡◌, [], ◌∷◌, nat_lt, length, slice_index_or, slice_set};
+ghost use Rattle.std.specs.Prelude.{◌≡◌, ℕ, ◌≤◌, ◌==◌, not, [], ◌∷◌, nat_lt, length};
+ghost use Rattle.std.specs.Prelude.{slice_index_or, slice_set};
 ghost use Rattle.std.specs.Prelude.{IfOk, IfErr, None};
 ghost use Rattle.ids.specs.declared.refusal.Refusal.TheVariants.{Memory, NoField};
 ghost use Rattle.model.specs.Checks.{guarded};
 ghost use Rattle.model.specs.Heaps.{new_object};
+ghost use Rattle.model.specs.Shading.{with_mark, filled};
 
 use ids::{Ref, Refusal};
 use std::alloc::{AllocError, Global};
@@ -22,11 +24,16 @@ impl Model for StoredObject {
     ghost Value = { Object };
 
     ghost view = { λ o. record { word = o.word; places = o.places.items; mark = o.mark } };
+
+    ghost use Rattle.std.specs.Prelude.{◌≤◌, length};
+
+    ghost invariant = { λ o. length o.places.items ≤ 8 };
 }
 
 impl StoredObject {
     /// A new object with this many empty places, which this cycle marked.
     pub(crate) fn new(alloc: Global, cycle: u64, places: u8) -> Result<StoredObject, Refusal>
+        requires { places ≤ 8 }
         ensures made { IfOk result (λ o. o ≡ new_object cycle places) }
         ensures refused { IfErr result (λ e. e ≡ Memory) }
     {
@@ -49,6 +56,34 @@ impl StoredObject {
         ensures { self.new ≡ record self.old { word = word } }
     {
         self.word = word;
+    }
+
+    /// Whether this cycle has marked it.
+    pub(crate) fn is_marked(&self, cycle: u64) -> bool
+        ensures { result ≡ (self.now.mark == cycle) }
+    {
+        self.mark == cycle
+    }
+
+    /// This cycle marks it. It says whether that is new.
+    pub(crate) fn mark(&mut self, cycle: u64) -> bool
+        ensures done { self.new ≡ with_mark cycle self.old }
+        ensures new { result ≡ not (self.old.mark == cycle) }
+    {
+        let marked = self.mark == cycle;
+        self.mark = cycle;
+        !marked
+    }
+
+    /// What the places hold, in order, and nothing in those that it doesn't have.
+    pub(crate) fn places(&self) -> [Option<Ref>; 8]
+        ensures filled { filled result ≡ filled self.now.places }
+        ensures each { (j : ℕ) → slice_index_or result j None
+            ≡ slice_index_or self.now.places j None }
+    {
+        let mut places = [None; 8];
+        places[..self.places.len()].copy_from_slice(&self.places);
+        places
     }
 
     /// What stands in the place.

@@ -73,9 +73,12 @@ fn what_is_stored_is_loaded(rt: HostRuntime) -> Result<(), Refusal> {
     heap.alloc(OWN, CYCLE, 1, 2)?;
     assert_eq!(rt; heap.store(OWN, 0, 1, 1), Ok(()));
     assert_eq!(rt; heap.place(first(0), 1), Some(first(1)));
-    assert_eq!(rt; heap.load(OWN, 1, 0, 0), Ok(None));
-    assert_eq!(rt; heap.register(1), Ok(None));
-    assert_eq!(rt; heap.load(OWN, 1, 0, 1), Ok(Some(first(1))));
+    assert_eq!(rt; heap.loaded(OWN, 1, 0, 0), Ok(None));
+    assert_eq!(rt; heap.loaded(OWN, 2, 0, 1), Err(Refusal::NoRegister));
+    heap.drop_register(1)?;
+    let value = heap.loaded(OWN, 1, 0, 1)?;
+    assert_eq!(rt; (value, heap.register(1)), (Some(first(1)), Ok(None)));
+    heap.set_register(1, value);
     assert_eq!(rt; heap.register(1), Ok(Some(first(1))));
     assert_eq!(rt; heap.clear(OWN, 0, 1), Ok(()));
     assert_eq!(rt; heap.place(first(0), 1), None);
@@ -99,8 +102,9 @@ fn a_word_is_kept(rt: HostRuntime) -> Result<(), Refusal> {
 fn the_oldest_letter_is_taken_first(rt: HostRuntime) -> Result<(), Refusal> {
     let mut heap = small(&rt, rt.alloc())?;
     let (older, newer) = (letter(7, Some(first(5))), letter(8, None));
-    heap.add_letter(older)?;
-    heap.add_letter(newer)?;
+    heap.make_room(0, 2)?;
+    heap.add_letter(older);
+    heap.add_letter(newer);
     assert_eq!(rt; heap.letters(), 2);
     assert_eq!(rt; heap.take_letter(0), Ok(older));
     assert_eq!(rt; heap.register(0), Ok(Some(first(5))));
@@ -113,7 +117,8 @@ fn the_oldest_letter_is_taken_first(rt: HostRuntime) -> Result<(), Refusal> {
 fn a_copy_goes_its_own_way(rt: HostRuntime) -> Result<(), Refusal> {
     let mut heap = small(&rt, rt.alloc())?;
     heap.alloc(OWN, CYCLE, 0, 3)?;
-    heap.add_letter(letter(7, None))?;
+    heap.make_room(0, 1)?;
+    heap.add_letter(letter(7, None));
     let mut copy = heap.copy(rt.alloc())?;
     heap.drop_register(0)?;
     assert_eq!(rt; copy.register(0), Ok(Some(first(0))));
@@ -121,5 +126,90 @@ fn a_copy_goes_its_own_way(rt: HostRuntime) -> Result<(), Refusal> {
     assert_eq!(rt; heap.letters(), 1);
     assert_eq!(rt; copy.alloc(OWN, CYCLE, 1, 0), Ok(first(1)));
     assert_eq!(rt; (copy.live(), heap.live()), (2, 1));
+    Ok(())
+}
+
+// A heap with an object in each of its two slots, the second of which register 1 names. The first
+// has no place, the second has two, and its last one names the first.
+fn linked(rt: &impl Abort, alloc: Global) -> Result<Heap, Refusal> {
+    let mut heap = small(rt, alloc)?;
+    heap.alloc(OWN, CYCLE, 0, 0)?;
+    heap.alloc(OWN, CYCLE, 1, 2)?;
+    heap.store(OWN, 1, 1, 0)?;
+    heap.drop_register(0)?;
+    Ok(heap)
+}
+
+#[test]
+fn an_object_turns_grey_once(rt: HostRuntime) -> Result<(), Refusal> {
+    let mut heap = linked(&rt, rt.alloc())?;
+    let foreign = Ref {
+        node: 0,
+        slot: 0,
+        generation: 1,
+    };
+    let references = [Some(foreign), Some(first(1)), None, Some(first(1))];
+    heap.make_room(references.len(), 0)?;
+    heap.shade(OWN, CYCLE, &references);
+    assert_eq!(rt; (heap.grey(), heap.last_grey()), (0, None));
+    heap.make_room(references.len(), 0)?;
+    heap.shade(OWN, CYCLE + 1, &references);
+    assert_eq!(rt; (heap.grey(), heap.last_grey()), (1, Some(1)));
+    Ok(())
+}
+
+#[test]
+fn the_last_grey_object_is_scanned_first(rt: HostRuntime) -> Result<(), Refusal> {
+    let mut heap = linked(&rt, rt.alloc())?;
+    heap.make_room(2, 0)?;
+    heap.shade(OWN, CYCLE + 1, &[Some(first(0)), Some(first(1))]);
+    assert_eq!(rt; heap.last_grey(), Some(1));
+    assert_eq!(rt; heap.reference_at(OWN, 1), first(1));
+    assert_eq!(rt; heap.reference_at(OWN, 2).generation, 0);
+    let mut places = [None; 8];
+    places[1] = Some(first(0));
+    assert_eq!(rt; (heap.places(1), heap.places(2)), (places, [None; 8]));
+    heap.pop_grey();
+    assert_eq!(rt; heap.last_grey(), Some(0));
+    heap.pop_grey();
+    assert_eq!(rt; heap.last_grey(), None);
+    Ok(())
+}
+
+#[test]
+fn registers_and_letters_are_the_roots(rt: HostRuntime) -> Result<(), Refusal> {
+    let mut heap = linked(&rt, rt.alloc())?;
+    heap.make_room(0, 1)?;
+    heap.add_letter(letter(7, Some(first(0))));
+    assert_eq!(rt; heap.root_count(), 3);
+    let roots = [0, 1, 2, 3].map(|number| heap.root(number));
+    assert_eq!(rt; roots, [None, Some(first(1)), Some(first(0)), None]);
+
+    assert!(rt; !heap.wakes_root(OWN, CYCLE));
+    assert!(rt; heap.wakes_root(OWN, CYCLE + 1));
+    heap.make_room(heap.root_count(), 0)?;
+    heap.shade_roots(OWN, CYCLE + 1);
+    assert_eq!(rt; (heap.grey(), heap.last_grey()), (2, Some(0)));
+    assert!(rt; !heap.wakes_root(OWN, CYCLE + 1));
+    Ok(())
+}
+
+#[test]
+fn what_is_not_marked_is_swept(rt: HostRuntime) -> Result<(), Refusal> {
+    let mut heap = linked(&rt, rt.alloc())?;
+    heap.make_room(1, 0)?;
+    heap.shade(OWN, CYCLE + 1, &[Some(first(1))]);
+    let slots = heap.slots();
+    assert_eq!(rt; slots, 2);
+    assert_eq!(rt; heap.sweep(CYCLE + 1, 0, slots), 1);
+    assert_eq!(rt; heap.sweep(CYCLE + 1, 0, heap.slots()), 0);
+    assert_eq!(rt;
+        (heap.is_live(first(0)), heap.is_live(first(1))),
+        (false, true)
+    );
+    assert_eq!(rt; heap.reference_at(OWN, 0).generation, 2);
+    let next = heap.alloc(OWN, CYCLE + 1, 0, 0)?;
+    assert_eq!(rt; (next.slot, next.generation), (0, 2));
+    assert_eq!(rt; heap.live(), 2);
     Ok(())
 }

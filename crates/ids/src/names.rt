@@ -31,7 +31,7 @@ impl NodeId {
 /// comes to mean another object.
 ///
 /// The numbers may be any: [`Ref::fits`] says whether they are within the limits.
-#[derive(Clone, Copy, Debug, PartialEq, Eq, PartialOrd, Ord)]
+#[derive(Clone, Copy, Debug, PartialEq, Eq, Hash, PartialOrd, Ord)]
 pub struct Ref {
     pub node: u8,
     pub slot: u32,

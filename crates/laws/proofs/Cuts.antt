@@ -48,8 +48,8 @@ numbered-at sent k x h =
     ∙ sym (cond-true (ltb 0 (k + 1)) (slice_get sent (k + 1 - 1)) None (lt-ltb 0 (k + 1) positive))
     ∙ h
 
--- what was released goes to another node, and stands at its place among what the
--- sender sent, in each cut
+-- what was released goes to another node, and stands at its place among what the sender sent, in
+-- each cut
 pub released-numbered : (own : Bool) (found : Option Message) (x : Message)
     → cond own None found ≡ Some x → (own ≡ false) × (found ≡ Some x)
 released-numbered true found x h = absurd cc
@@ -64,8 +64,8 @@ cut-released w choice from to number x h there =
     (numbered-at sent number x
     (released-numbered (from == to) (numbered sent (number + 1)) x there).1)
 
--- a released message whose turn it is, is the first in flight where the current state of
--- its receiver is chosen
+-- a released message whose turn it is, is the first in flight where the current state of its
+-- receiver is chosen
 turn-number : (w : World) (choice : ℕ → Bool) (m : Delivery) → choice m.to ≡ false
     → IsTurnOf (node_at w.current m.to) m → m.number ≡ taken (cut w choice) m.from m.to + 1
 turn-number w choice m chosen turn =

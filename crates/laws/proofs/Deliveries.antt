@@ -1,56 +1,85 @@
--- What is delivered in its turn is for its receiver, and finds its target live.
-use Rattle.std.proofs.Common.{◌≡◌, ◌≢◌, ℕ, ◌+◌, ◌<◌, ◌≤◌, true, false, ◌==◌, ltb, ◌||◌, eqb-true, eq-eqb, ne_eqb, lt-ltb, le-leb, leb, leb-true, leb-false, List, [], ◌∷◌, length, None, Some, refl, sym, ap, ◌∙◌, subst, inl, inr, ⊎_elim, arith}
-use Rattle.std.proofs.lemmas.Bool.{and_parts, and_from, or_left, or_right, cases_Bool, cases_lt, cond_both, not_from_false, eqb-false}
-use Rattle.std.proofs.lemmas.List.{get_or_past}
+-- What is delivered in its turn is for its receiver, may be taken in, and finds its target live.
+use Rattle.std.proofs.Common.{◌≡◌, ◌≢◌, ℕ, ◌+◌, ◌%◌, ◌<◌, ◌≤◌, true, false, not, ◌==◌, ◌&&◌, ltb, ◌||◌, eq-eqb, ne_eqb, lt-ltb, le-leb, leb, leb-true, leb-false, List, [], ◌∷◌, length, Option, None, Some, refl, sym, ap, ◌∙◌, subst, inl, inr, ⊎_elim, arith}
+use Rattle.std.specs.Prelude.{is_none}
 use Rattle.std.specs.List.{AllByRecursion}
+use Rattle.std.proofs.lemmas.Bool.{eqb-false, le-ltb, and_from, or_left, or_right, cases_Bool, cases_lt, cond_both, cond-true, cond-false, not_from_false}
+use Rattle.std.proofs.lemmas.List.{get_or_past}
 use Rattle.ids.specs.Limits.{Shaped}
 use Rattle.ids.specs.declared.names.Ref.{Ref}
 use Rattle.msg.specs.declared.body.Body.{Body}
 use Rattle.msg.specs.declared.body.Body.TheVariants as body
+use Rattle.msg.specs.declared.body.Token.{Token}
 use Rattle.msg.specs.declared.body.Message.{Message}
 use Rattle.model.specs.declared.event.Answer.TheVariants as answer
 use Rattle.model.specs.Checks.{AllPass}
-use Rattle.model.specs.State.{LocalState, NodeState, Occupied, node_at, slot_at, sent_to, got_from}
-use Rattle.model.specs.Steps.{carried, mentioned, target_of, may_follow, may_take, is_within, are_within, is_addressed, is_repeat}
+use Rattle.model.specs.State.{Phases, LocalState, NodeState, node_at, sent_to, got_from}
+use Rattle.model.specs.Effects.{Work, at_rest}
+use Rattle.model.specs.Shading.{is_calm, join, joined}
+use Rattle.model.specs.Collecting.{token_sender}
+use Rattle.model.specs.References.{IfAny}
+use Rattle.model.specs.Steps.{mentioned, target_of, may_reach, may_follow, is_marking, may_settle, may_take, is_within, are_within, is_repeat}
 use Rattle.model.specs.World.{World, KeepsSent, new_world, run, numbered}
-use Rattle.model.specs.Cuts.{Cut, cut, IsInFlight, IsLive}
+use Rattle.model.specs.Cuts.{Cut, cut, taken, IsInFlight, IsLive}
+use Rattle.model.proofs.Joining.{join-phases, join-token}
 use Rattle.laws.specs.Statements.{TargetsAreLive, NoneRefusedInTurn}
 use Rattle.laws.proofs.Lookups.{all-map}
 use Rattle.laws.proofs.StepFacts.{Delivery, IsReleased, tests_of, Receipt, repeated, next, receipt-cases, deliver-answer, receive-passed, receive-early}
 use Rattle.laws.proofs.KeepsSent.{new-keeps-sent}
 use Rattle.laws.proofs.Cuts.{released-numbered, cut-in_flight, run-keeps-sent}
-use Rattle.laws.proofs.Invariant.{Base, Closed, FitsReceiver, Sound}
-use Rattle.laws.proofs.Facts.{occupied-within}
-use Rattle.laws.proofs.PlainSteps.{inside-where}
-use Rattle.laws.proofs.Live.{all-sound}
+use Rattle.laws.proofs.Base.{inside-where, between-nodes}
+use Rattle.laws.proofs.Invariant.{phases_of, cycle_of, Marking, Resting, Joined, Safe, Base, BodyFits, at_node, on_way, is_held, is_sent, Inv}
+use Rattle.laws.proofs.Inner.{resting-joined, marking-open, occupied-inside}
+use Rattle.laws.proofs.Acting.{latest}
+use Rattle.laws.proofs.Slots.{occupied-within}
+use Rattle.laws.proofs.RingSteps.{way-not-node}
+use Rattle.laws.proofs.Replies.{stamp-most}
+use Rattle.laws.proofs.Live.{all-inv}
 
--- what a message is about is the receiver's own, and the message carries it
-target-carried : (P : Ref → Type 0) (own : ℕ) (b : Body) (r : Ref) → may_follow own b ≡ true
-    → target_of b ≡ Some r → AllByRecursion P (carried b) → (r.node ≡ own) × P r
-target-carried P own (body.Put target place reference) r may about all =
-    let same : target ≡ r = cc in
-    (ap (λ (z : Ref). z.node) (sym same) ∙ eqb-true target.node own may, subst P same all.0)
-target-carried P own (body.Get target place label) r may about all =
-    let same : target ≡ r = cc in
-    (ap (λ (z : Ref). z.node) (sym same) ∙ eqb-true target.node own may, subst P same all.0)
-target-carried P own b r may about all = absurd cc
+-- ---- targets
 
-received-target : {t : NodeState} (w : World) (m : Delivery) (r : Ref) → KeepsSent w
-    → Closed (cut w (λ _. false)) → IsReleased w m → target_of m.message.body ≡ Some r
+-- what a message is about is the receiver's own, and is one that it mentions
+target-own : (n : ℕ) (c : Cut) (from to s : ℕ) (b : Body) → BodyFits n (phases_of c) from to s b
+    → IfAny (λ (r : Ref). r.node ≡ to) (target_of b)
+target-own n c from to s (body.Mark target) fits = fits.0
+target-own n c from to s (body.Put target place reference) fits = fits.0
+target-own n c from to s (body.Get target place label) fits = fits.0
+target-own n c from to s body.Begin fits = tt
+target-own n c from to s (body.Token t) fits = tt
+target-own n c from to s (body.Give label reference) fits = tt
+target-own n c from to s body.Ended fits = tt
+target-own n c from to s body.Swept fits = tt
+
+target-mentioned : (P : Ref → Type 0) (b : Body) → AllByRecursion P (mentioned b)
+    → IfAny P (target_of b)
+target-mentioned P (body.Mark target) all = all.0
+target-mentioned P (body.Put target place reference) all = all.0
+target-mentioned P (body.Get target place label) all = all.0
+target-mentioned P body.Begin all = tt
+target-mentioned P (body.Token t) all = tt
+target-mentioned P (body.Give label reference) all = tt
+target-mentioned P body.Ended all = tt
+target-mentioned P body.Swept all = tt
+
+received-target : {shape : Shaped} {t : NodeState} (w : World) (m : Delivery) (r : Ref)
+    → KeepsSent w
+    → Inv shape (cut w (λ _. false)) → IsReleased w m → target_of m.message.body ≡ Some r
     → Receipt (node_at w.current m.to) m t answer.Received
     → (r.node ≡ m.to) × IsLive (cut w (λ _. false)) r
-received-target w m r h closed there about (repeated same says) = absurd cc
-received-target w m r h closed there about (next turn may found) =
-    let p : LocalState = (node_at w.current m.to).local in
-    let b : Body = m.message.body in
-    let own : m.to ≡ p.own = eqb-true m.to p.own (and_parts _ _ found.passed.0).0 in
-    let carries =
-    closed.messages m.from m.to (got_from p m.from) m.message
-    (cut-in_flight w (λ _. false) m h refl there turn) in
-    let about_own =
-    target-carried (IsLive (cut w (λ _. false))) p.own b r
-    (and_parts (are_within p.shape (mentioned b)) _ (and_parts _ _ may).1).1 about carries in
-    (about_own.0 ∙ sym own, about_own.1)
+received-target w m r h inv there about (repeated same says) = absurd cc
+received-target {shape = shape} w m r h inv there about (next turn may found) =
+    let c : Cut = cut w (λ _. false) in
+    let place : ℕ = got_from (node_at w.current m.to).local m.from in
+    let flight : IsInFlight c m.from m.to place m.message =
+    cut-in_flight w (λ _. false) m h refl there turn in
+    let own : r.node ≡ m.to =
+    subst (IfAny (λ (z : Ref). z.node ≡ m.to)) about
+    (target-own shape.nodes c m.from m.to m.message.stamp m.message.body
+    (inv.messages.fits m.from m.to place m.message flight)) in
+    let safe : Safe c r =
+    subst (IfAny (Safe c)) about
+    (target-mentioned (Safe c) m.message.body
+    (inv.closed.messages m.from m.to place m.message flight)) in
+    (own, record { object = safe.object; there = safe.there })
 
 pub targets-are-live : TargetsAreLive
 targets-are-live shape within steps from to number x target there about answered =
@@ -58,8 +87,10 @@ targets-are-live shape within steps from to number x target there about answered
     let m : Delivery = record { from = from; to = to; number = number; message = x } in
     let h : KeepsSent w = run-keeps-sent (new_world shape) steps (new-keeps-sent shape) in
     let found = deliver-answer w m answer.Received there answered in
-    received-target w m target h (all-sound shape within steps (λ _. false)).closed there about
+    received-target w m target h (all-inv shape within steps (λ _. false)) there about
     (receipt-cases (node_at w.current to) m found.0 answer.Received found.1)
+
+-- ---- who sends to whom
 
 -- only nodes of the space sent anything, and only to others
 numbered-none : (sent : List Message) (number : ℕ) (x : Message) → sent ≡ []
@@ -69,13 +100,14 @@ numbered-none [] number x none there =
     there
 numbered-none (y ∷ ys) number x none there = absurd cc
 
-released-between : (n : ℕ) (w : World) (m : Delivery) → Base n (cut w (λ _. true)) → IsReleased w m
-    → (m.from < n) × (m.to < n) × (m.from ≢ m.to)
-released-between n w m base there =
+released-between : {shape : Shaped} (w : World) (m : Delivery) → Base shape (cut w (λ _. true))
+    → IsReleased w m → (m.from < shape.nodes) × (m.to < shape.nodes) × (m.from ≢ m.to)
+released-between {shape = shape} w m base there =
+    let n : ℕ = shape.nodes in
     let sent : List Message = sent_to (node_at w.saved m.from) m.to in
     let other = released-numbered (m.from == m.to) (numbered sent m.number) m.message there in
     let from_inside : m.from < n =
-    inside-where n (cut w (λ _. true)) m.from
+    inside-where m.from
     (λ z. numbered (sent_to z m.to) m.number ≡ Some m.message) base other.1
     (numbered-none [] m.number m.message refl) in
     let none : n ≤ m.to → sent ≡ [] =
@@ -83,108 +115,264 @@ released-between n w m base there =
     get_or_past (node_at w.saved m.from).sent m.to []
     (omega (arith, past, base.width m.from from_inside)) in
     let to_inside : m.to < n = ⊎_elim {C = m.to < n} (λ inside. inside)
-    (λ past. absurd (numbered-none sent m.number m.message (none past) other.1))
-    (cases_lt m.to n) in
+    (λ past. absurd (numbered-none sent m.number m.message (none past) other.1)) (cases_lt m.to n)
+    in
     (from_inside, to_inside, eqb-false m.from m.to other.0)
 
--- what is live is within the shape
-live-within : (shape : Shaped) (c : Cut) → Sound shape c → (r : Ref) → IsLive c r
+-- ---- a message in flight may be taken in, in its turn
+
+-- what is safe is within the shape
+safe-within : {shape : Shaped} {c : Cut} → Inv shape c → (r : Ref) → Safe c r
     → is_within shape r ≡ true
-live-within shape c sound r live =
+safe-within {shape = shape} {c = c} inv r safe =
     let inside : r.node < shape.nodes =
-    inside-where shape.nodes c r.node
-    (λ z. slot_at z.local.heap r.slot ≡ Occupied r.generation live.object) sound.base live.there
-    (λ there. absurd cc) in
+    occupied-inside r.node r.slot r.generation safe.object inv.base safe.there in
     let used : r.slot < length (c r.node).local.heap.slots =
-    occupied-within (c r.node).local.heap.slots r.slot r.generation
-    (record { object = live.object; there = live.there }) in
+    occupied-within (c r.node).local.heap.slots r.slot r.generation safe.object safe.there in
+    let room = (inv.tidy r.node).room in
     let slots : (c r.node).local.shape.slots ≡ shape.slots =
-    ap (λ (z : Shaped). z.slots) (sound.fitting.shapes r.node inside) in
-    and_from _ _ (lt-ltb _ _ inside)
-    (lt-ltb _ _ (omega (arith, used, sound.fitting.slots r.node, slots)))
+    ap (λ (z : Shaped). z.slots) (inv.base.shapes r.node inside) in
+    and_from _ _ (lt-ltb r.node shape.nodes inside)
+    (lt-ltb r.slot shape.slots (omega (arith, used, room, slots)))
 
 all-within : (shape : Shaped) (rs : List Ref) → AllByRecursion (λ r. is_within shape r ≡ true) rs
     → are_within shape rs ≡ true
-all-within shape [] each = refl
-all-within shape (r ∷ rs) each = and_from _ _ each.0 (all-within shape rs each.1)
+all-within shape [] all = refl
+all-within shape (r ∷ rs) all = and_from _ _ all.0 (all-within shape rs all.1)
 
--- a body that is followed carries all references that stand in it
-mentioned-carried : (own : ℕ) (b : Body) → may_follow own b ≡ true → mentioned b ≡ carried b
-mentioned-carried own (body.Mark target) may = absurd cc
-mentioned-carried own b may = refl
+-- The first message in flight to a node fits it.
+record Arrival (shape : Shaped) (c : Cut) (from to place : ℕ) (x : Message) : Type 0 where
+  inv : Inv shape c
+  inside : to < shape.nodes
+  flight : IsInFlight c from to place x
 
--- what is in flight may be taken in
-flight-taken : {shape : Shaped} {c : Cut} {from to place : ℕ} {x : Message} → Sound shape c
-    → to < shape.nodes → IsInFlight c from to place x → may_take (c to).local x.stamp x.body ≡ true
-flight-taken {shape = shape} {c = c} {from = from} {to = to} {place = place} {x = x} sound inside
-    flight =
-    let fits : FitsReceiver to x = sound.fitting.messages from to place x flight in
-    let within : AllByRecursion (λ r. is_within shape r ≡ true) (carried x.body) =
-    all-map (IsLive c) (λ r. is_within shape r ≡ true) (live-within shape c sound) (carried x.body)
-    (sound.closed.messages from to place x flight) in
-    let all : are_within shape (mentioned x.body) ≡ true =
-    subst (λ (z : List Ref). are_within shape z ≡ true)
-    (sym (mentioned-carried to x.body fits.follows)) (all-within shape (carried x.body) within) in
-    and_from _ _ (le-leb _ _ (omega (arith, fits.stamp)))
-    (and_from _ _
-    (subst (λ (z : Shaped). are_within z (mentioned x.body) ≡ true)
-    (sym (sound.fitting.shapes to inside)) all)
-    (subst (λ (z : ℕ). may_follow z x.body ≡ true) (sym (sound.base.own to inside)) fits.follows))
+module _ {shape : Shaped} {c : Cut} {from to place : ℕ} {x : Message}
+    (h : Arrival shape c from to place x) where
+  abbrev here : LocalState
+  here = (c to).local
 
--- what comes from another node to this one
-pub addressed-between : (p : LocalState) (from to count : ℕ) → p.own ≡ to → p.shape.nodes ≡ count
-    → from < count → from ≢ to → is_addressed p from to ≡ true
-addressed-between p from to count own nodes there apart =
-    and_from _ _ (eq-eqb to p.own (sym own))
-    (and_from _ _ (lt-ltb from p.shape.nodes (omega (arith, there, nodes)))
-    (not_from_false _ (ne_eqb from p.own (λ e. apart (e ∙ own)))))
+  fits : BodyFits shape.nodes (phases_of c) from to x.stamp x.body
+  fits = h.inv.messages.fits from to place x h.flight
 
--- what one node of a space gives another is for that one
-pub between-nodes : (shape : Shaped) (c : Cut) → Sound shape c → (from to : ℕ) → from < shape.nodes
-    → to < shape.nodes → from ≢ to → is_addressed (c to).local from to ≡ true
-between-nodes shape c sound from to f t apart =
-    addressed-between (c to).local from to shape.nodes (sound.base.own to t)
-    (ap (λ (z : Shaped). z.nodes) (sound.fitting.shapes to t)) f apart
+  own : here.own ≡ to
+  own = h.inv.base.own to h.inside
+
+  behind : cycle_of c to < x.stamp → (x.stamp ≡ cycle_of c 0) × (cycle_of c to + 1 ≡ x.stamp)
+      × (here.phases.swept + 1 ≡ x.stamp)
+  behind ahead =
+      let most : x.stamp ≤ cycle_of c 0 =
+      stamp-most shape.nodes (phases_of c) from to x.stamp x.body fits in
+      ⊎_elim
+      {C = (x.stamp ≡ cycle_of c 0) × (cycle_of c to + 1 ≡ x.stamp)
+      × (here.phases.swept + 1 ≡ x.stamp)}
+      (λ there. absurd (omega (arith, there, ahead, most)))
+      (λ b.
+      (let p = b.1 in let q = b.2 in (
+        omega (arith, p, ahead, most),
+        omega (arith, p, ahead, most),
+        omega (arith, p, q, ahead, most),
+      )))
+      (h.inv.phased.apart to h.inside)
+
+  reaches : may_reach here x.stamp ≡ true
+  reaches = ⊎_elim {C = may_reach here x.stamp ≡ true}
+      (λ (ahead : cycle_of c to < x.stamp).
+      let b = behind ahead in
+      or_right (leb x.stamp here.phases.cycle) _
+      (and_from _ _
+      (not_from_false _ (ne_eqb here.own 0
+      (λ e.
+      (let zero_is : to ≡ 0 = sym own ∙ e in
+      let same : cycle_of c to ≡ cycle_of c 0 = ap (cycle_of c) zero_is in
+      omega (arith, same, ahead, b.0)))))
+      (and_from _ _ (le-leb x.stamp (here.phases.cycle + 1) (omega (arith, b.1)))
+      (le-leb here.phases.cycle here.phases.swept (omega (arith, b.1, b.2))))))
+      (λ (there : x.stamp ≤ cycle_of c to). or_left _ _ (le-leb x.stamp here.phases.cycle there))
+      (cases_lt (cycle_of c to) x.stamp)
+
+  within : are_within here.shape (mentioned x.body) ≡ true
+  within =
+      subst (λ (z : Shaped). are_within z (mentioned x.body) ≡ true)
+      (sym (h.inv.base.shapes to h.inside))
+      (all-within shape (mentioned x.body)
+      (all-map (Safe c) (λ r. is_within shape r ≡ true) (safe-within h.inv) (mentioned x.body)
+      (h.inv.closed.messages from to place x h.flight)))
+
+  follows : may_follow here from x.body ≡ true
+  follows = by x.body fits
+    where
+      by : (b : Body) → BodyFits shape.nodes (phases_of c) from to x.stamp b
+          → may_follow here from b ≡ true
+      by body.Begin f = eq-eqb from 0 f.0
+      by (body.Token t) f =
+          eq-eqb from (token_sender here)
+          (f.0 ∙ ap (λ (z : ℕ). (z + 1) % shape.nodes) (sym own)
+          ∙ ap (λ (z : ℕ). (here.own + 1) % z)
+          (sym (ap (λ (z : Shaped). z.nodes) (h.inv.base.shapes to h.inside))))
+      by (body.Mark r) f = eq-eqb r.node here.own (f.0 ∙ sym own)
+      by (body.Give label reference) f = refl
+      by (body.Put target slot reference) f = eq-eqb target.node here.own (f.0 ∙ sym own)
+      by (body.Get target slot label) f = eq-eqb target.node here.own (f.0 ∙ sym own)
+      by body.Ended f = eq-eqb from 0 f.0
+      by body.Swept f = eq-eqb here.own 0 (own ∙ f.0)
+
+  -- the node as it is once it has joined the message's cycle
+  abbrev settled_node : LocalState
+  settled_node = (joined here x.stamp).local
+
+  not-open-before : cycle_of c to < x.stamp → (here.phases.ended == x.stamp) ≡ false
+  not-open-before ahead =
+      ne_eqb here.phases.ended x.stamp
+      (λ e. (let w = h.inv.phased.ended to in omega (arith, e, w, ahead)))
+
+  none-held : (t : Token) (stamp : ℕ) → x ≡ record { stamp = stamp; body = body.Token t }
+      → Marking (phases_of c 0) → here.ring.token ≡ None
+  none-held t stamp is marking = by here.ring.token refl
+    where
+      by : (o : Option Token) → here.ring.token ≡ o → o ≡ None
+      by None e = refl
+      by (Some k) e =
+          let round = h.inv.tokens.round marking in
+          let flown : IsInFlight c from to place (record { stamp = stamp; body = body.Token t }) =
+          subst (IsInFlight c from to place) is h.flight in
+          absurd (way-not-node from to place to
+          (round.only t (on_way from to place) (is_sent from to place stamp flown)
+          ∙ sym (round.only k (at_node to) (is_held to e))))
+
+  settled-token : (t : Token) → x.body ≡ body.Token t → Marking (phases_of c 0)
+      → x.stamp ≡ cycle_of c 0
+      → (is_marking settled_node x.stamp && is_none settled_node.ring.token) ≡ true
+  settled-token t is marking now = ⊎_elim
+      {C = (is_marking settled_node x.stamp && is_none settled_node.ring.token) ≡ true}
+      (λ (ahead : cycle_of c to < x.stamp).
+      let joins : joined here x.stamp ≡ join here x.stamp =
+      cond-true (ltb (cycle_of c to) x.stamp) (join here x.stamp) (at_rest here)
+      (lt-ltb _ _ ahead) in
+      let phases : settled_node.phases ≡ record here.phases { cycle = x.stamp; cursor = 0 } =
+      ap (λ (w : Work). w.local.phases) joins ∙ join-phases here x.stamp (not-open-before ahead) in
+      let token : settled_node.ring.token ≡ None =
+      ap (λ (w : Work). w.local.ring.token) joins ∙ join-token here x.stamp (not-open-before ahead)
+      ∙ none-held t x.stamp whole marking in
+      and_from _ _
+      (and_from _ _
+      (eq-eqb x.stamp settled_node.phases.cycle (sym (ap (λ (z : Phases). z.cycle) phases)))
+      (ap (λ (z : Phases). not (z.ended == z.cycle)) phases
+      ∙ not_from_false _ (not-open-before ahead)))
+      (ap (λ (o : Option Token). is_none o) token))
+      (λ (there : x.stamp ≤ cycle_of c to).
+      let stays : joined here x.stamp ≡ at_rest here =
+      cond-false (ltb (cycle_of c to) x.stamp) (join here x.stamp) (at_rest here)
+      (le-ltb _ _ there) in
+      let joined_now : Joined c to =
+      (let w = latest h.inv to h.inside in omega (arith, now, there, w)) in
+      subst (λ (w : Work). (is_marking w.local x.stamp && is_none w.local.ring.token) ≡ true)
+      (sym stays)
+      (and_from _ _
+      (and_from _ _ (eq-eqb x.stamp here.phases.cycle (now ∙ sym joined_now))
+      (marking-open h.inv marking joined_now))
+      (ap (λ (o : Option Token). is_none o) (none-held t x.stamp whole marking))))
+      (cases_lt (cycle_of c to) x.stamp)
+    where
+      whole : x ≡ record { stamp = x.stamp; body = body.Token t }
+      whole = ap (λ (b : Body). record { stamp = x.stamp; body = b }) is
+
+  -- when marking has ended every node has joined
+  rest-settled : Resting (phases_of c 0) → x.stamp ≡ cycle_of c 0
+      → (joined here x.stamp ≡ at_rest here) × (x.stamp ≡ here.phases.cycle)
+  rest-settled rest now =
+      let joined_now : Joined c to = resting-joined h.inv rest h.inside in (
+        cond-false (ltb (cycle_of c to) x.stamp) (join here x.stamp) (at_rest here)
+            (le-ltb (cycle_of c to) x.stamp (omega (arith, now, joined_now))),
+        now ∙ sym joined_now,
+      )
+
+  no-token-held : Resting (phases_of c 0) → here.ring.token ≡ None
+  no-token-held rest = by here.ring.token refl
+    where
+      by : (o : Option Token) → here.ring.token ≡ o → o ≡ None
+      by None e = refl
+      by (Some k) e = absurd (h.inv.tokens.rest k (at_node to) rest (is_held to e))
+
+  settles : may_settle settled_node x.stamp x.body ≡ true
+  settles = by x.body refl fits
+    where
+      by : (b : Body) → x.body ≡ b → BodyFits shape.nodes (phases_of c) from to x.stamp b
+          → may_settle settled_node x.stamp b ≡ true
+      by body.Begin e f = refl
+      by (body.Mark r) e f = refl
+      by (body.Give label reference) e f = refl
+      by (body.Put target slot reference) e f = refl
+      by (body.Get target slot label) e f = refl
+      by (body.Token t) e f = settled-token t e f.1 f.2
+      by body.Ended e f =
+          let both = rest-settled f.1 f.2 in
+          subst (λ (w : Work).
+          (is_marking w.local x.stamp && (is_calm w.local.heap && is_none w.local.ring.token))
+          ≡ true)
+          (sym both.0)
+          (and_from _ _
+          (and_from _ _ (eq-eqb x.stamp here.phases.cycle both.1)
+          (not_from_false _ (ne_eqb here.phases.ended here.phases.cycle
+          (λ same. (let w = f.3 in let v = f.2 in omega (arith, same, w, v, both.1))))))
+          (and_from _ _ (ap (λ (z : List ℕ). length z == 0) (h.inv.rested.grey to f.1))
+          (ap (λ (o : Option Token). is_none o) (no-token-held f.1))))
+      by body.Swept e f =
+          let rest : Resting (phases_of c 0) =
+          (let a = f.3 in
+          let b = h.inv.phased.swept from in
+          let k = h.inv.phased.first from in
+          let l = h.inv.phased.ended 0 in
+          omega (arith, a, b, k, l)) in
+          let both = rest-settled rest f.2 in
+          subst (λ (w : Work). (x.stamp == w.local.phases.cycle) ≡ true) (sym both.0)
+          (eq-eqb x.stamp here.phases.cycle both.1)
+
+  taken-whole : may_take here from x.stamp x.body ≡ true
+  taken-whole = and_from _ _ reaches (and_from _ _ within (and_from _ _ follows settles))
 
 -- the tests of a receipt
 turn-passes : (shape : Shaped) (w : World) (m : Delivery) → KeepsSent w
-    → Sound shape (cut w (λ _. false))
+    → Inv shape (cut w (λ _. false))
     → (m.from < shape.nodes) × (m.to < shape.nodes) × (m.from ≢ m.to) → IsReleased w m
     → m.number ≤ got_from (node_at w.current m.to).local m.from + 1
     → AllPass (tests_of (node_at w.current m.to) m)
-turn-passes shape w m h sound between there turn =
+turn-passes shape w m h inv between there turn =
     let c : Cut = cut w (λ _. false) in
     let p : LocalState = (node_at w.current m.to).local in
     let x : Message = m.message in
-    let may : (is_repeat p m.from m.number || may_take p x.stamp x.body) ≡ true =
-    ⊎_elim {C = (is_repeat p m.from m.number || may_take p x.stamp x.body) ≡ true}
+    let may : (is_repeat p m.from m.number || may_take p m.from x.stamp x.body) ≡ true =
+    ⊎_elim {C = (is_repeat p m.from m.number || may_take p m.from x.stamp x.body) ≡ true}
     (λ again. or_left _ _ again)
     (λ first.
     let later : got_from p m.from < m.number = leb-false m.number (got_from p m.from) first in
-    or_right _ _
-    (flight-taken sound between.1 (cut-in_flight w (λ _. false) m h refl there (omega arith))))
+    let arrival : Arrival shape c m.from m.to (taken c m.from m.to) x = record {
+      inv = inv;
+      inside = between.1;
+      flight = cut-in_flight w (λ _. false) m h refl there (omega (arith, later, turn));
+    } in
+    or_right _ _ (taken-whole arrival))
     (cases_Bool (is_repeat p m.from m.number)) in (
-      between-nodes shape c sound m.from m.to between.0 between.1 between.2,
+      between-nodes inv.base m.from m.to between.0 between.1 between.2,
       (le-leb m.number _ turn, (may, tt)),
     )
 
 pub none-refused-in-turn : NoneRefusedInTurn
 none-refused-in-turn shape within steps from to number stamp b e there refused =
     let w : World = run (new_world shape) steps in
-    let x : Message = record { stamp = stamp; body = b } in
-    let m : Delivery = record { from = from; to = to; number = number; message = x } in
+    let m : Delivery = record
+    { from = from; to = to; number = number; message = record { stamp = stamp; body = b } } in
     let s : NodeState = node_at w.current to in
     let h : KeepsSent w = run-keeps-sent (new_world shape) steps (new-keeps-sent shape) in
-    let sound : Sound shape (cut w (λ _. false)) = all-sound shape within steps (λ _. false) in
+    let inv : Inv shape (cut w (λ _. false)) = all-inv shape within steps (λ _. false) in
     let between =
-    released-between shape.nodes w m (all-sound shape within steps (λ _. true)).base there in
+    released-between w m (all-inv shape within steps (λ _. true)).base there in
     ⊎_elim
     (λ turn.
-    inl (receive-passed s m e (turn-passes shape w m h sound between there (leb-true number _ turn))
+    inl (receive-passed s m e (turn-passes shape w m h inv between there (leb-true number _ turn))
     refused))
     (λ early. inr (
       receive-early s m e
-          (between-nodes shape (cut w (λ _. false)) sound from to between.0 between.1 between.2)
+          (between-nodes inv.base from to between.0 between.1 between.2)
           early
           refused,
       leb-false number _ early,

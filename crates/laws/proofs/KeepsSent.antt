@@ -14,8 +14,10 @@ SentMore s t = (j : ℕ) → Grows (sent_to s j) (sent_to t j)
 
 pub sent-onward : Onward SentMore
 sent-onward = record {
-  same = λ s j. grows-refl _;
-  both = λ s t u g h j. grows-trans (sent_to s j) (sent_to t j) (sent_to u j) (g j) (h j);
+  order = record {
+    same = λ s j. grows-refl _;
+    both = λ s t u g h j. grows-trans (sent_to s j) (sent_to t j) (sent_to u j) (g j) (h j);
+  };
   acts = λ s e t a own answered j. act-grows s e t a j answered;
   receives = λ s m t a answered j. receive-grows s m t a j answered;
 }
@@ -48,4 +50,4 @@ keeps-sent w s h = record {
 }
 
 pub new-keeps-sent : (shape : Shaped) → KeepsSent (new_world shape)
-new-keeps-sent shape = record { width = refl; sent = new-behind sent-onward shape }
+new-keeps-sent shape = record { width = refl; sent = new-behind sent-onward.order shape }

@@ -1,5 +1,9 @@
 -- Look-ups in lists, stated as what holds at each place, with a default past the end and no bounds.
-use Rattle.std.proofs.Common.{◌≡◌, ℕ, zero, suc, List, [], ◌∷◌, ◌++◌, ap, sym, ◌∙◌, append_assoc, append-nil, Some, slice_get, ltb, ltb-true, get_or, set, ◌<◌, ◌≤◌, le_refl, true, arith, subst, ◌⊎◌, inl, inr}
+use Rattle.std.proofs.Common.{◌≡◌, ℕ, zero, suc, List, [], ◌∷◌, ◌++◌, ap, sym, ◌∙◌, append_assoc, append-nil, Some, slice_get, ltb, ltb-true, get_or, set, ◌<◌, ◌≤◌, le_refl, true, arith, subst, ◌⊎◌, inl, inr, ⊎_elim, ◌≢◌, refl, length, Option, None, option_to_list, unwrap_or}
+use Rattle.std.specs.Prelude.{is_some}
+use Rattle.std.proofs.lemmas.Bool.{cases_eq}
+use Rattle.ids.specs.declared.names.Ref.{Ref}
+use Rattle.model.specs.References.{IfAny}
 use Rattle.std.specs.List.{AllByRecursion}
 use Rattle.std.proofs.lemmas.Option.{slice_get_within}
 use Rattle.model.specs.Cuts.{Among}
@@ -55,3 +59,59 @@ pub all-map : {A : Type 0} (P Q : A → Type 0) → ((x : A) → P x → Q x) �
     → AllByRecursion P xs → AllByRecursion Q xs
 all-map P Q each [] all = tt
 all-map P Q each (x ∷ xs) all = (each x all.0, all-map P Q each xs all.1)
+
+pub any-map : (P Q : Ref → Type 0) → ((r : Ref) → P r → Q r) → (o : Option Ref) → IfAny P o
+    → IfAny Q o
+any-map P Q each None h = tt
+any-map P Q each (Some r) h = each r h
+
+pub any-some : (P : Ref → Type 0) (o : Option Ref) (r : Ref) → IfAny P o → o ≡ Some r → P r
+any-some P None r h e = absurd cc
+any-some P (Some s) r h e = let same : s ≡ r = cc in subst P same h
+
+pub any-list : (P : Ref → Type 0) (o : Option Ref) → IfAny P o → AllByRecursion P (option_to_list o)
+any-list P None h = tt
+any-list P (Some r) h = (h, tt)
+
+pub list-any : (P : Ref → Type 0) (o : Option Ref) → AllByRecursion P (option_to_list o) → IfAny P o
+list-any P None h = tt
+list-any P (Some r) h = h.0
+
+pub any-there : (P : Ref → Type 0) (o : Option Ref) (d : Ref) → is_some o ≡ true → IfAny P o
+    → P (unwrap_or o d)
+any-there P None d there h = absurd cc
+any-there P (Some r) d there h = h
+
+-- a number is in a list or not
+pub among-or-not : (k : ℕ) (xs : List ℕ) → Among k xs ⊎ (Among k xs → ⊥)
+among-or-not k [] = inr (λ h. h)
+among-or-not k (x ∷ xs) = ⊎_elim {C = Among k (x ∷ xs) ⊎ (Among k (x ∷ xs) → ⊥)}
+    (λ (e : k ≡ x). inl (inl e))
+    (λ (other : k ≢ x). ⊎_elim {C = Among k (x ∷ xs) ⊎ (Among k (x ∷ xs) → ⊥)}
+    (λ there. inl (inr there))
+    (λ never. inr (λ h. ⊎_elim {C = ⊥} (λ e. other e) (λ t. never t) h))
+    (among-or-not k xs))
+    (cases_eq k x)
+
+pub among-append_left : {A : Type 0} (x : A) (xs ys : List A) → Among x xs → Among x (xs ++ ys)
+among-append_left x [] ys h = absurd h
+among-append_left x (y ∷ xs) ys (inl e) = inl e
+among-append_left x (y ∷ xs) ys (inr h) = inr (among-append_left x xs ys h)
+
+pub among-append_right : {A : Type 0} (x : A) (xs ys : List A) → Among x ys → Among x (xs ++ ys)
+among-append_right x [] ys h = h
+among-append_right x (y ∷ xs) ys h = inr (among-append_right x xs ys h)
+
+pub among-append : {A : Type 0} (x : A) (xs ys : List A) → Among x (xs ++ ys)
+    → Among x xs ⊎ Among x ys
+among-append x [] ys h = inr h
+among-append x (y ∷ xs) ys (inl e) = inl (inl e)
+among-append x (y ∷ xs) ys (inr h) =
+    ⊎_elim {C = Among x (y ∷ xs) ⊎ Among x ys} (λ a. inl (inr a)) (λ b. inr b)
+    (among-append x xs ys h)
+
+-- the last element
+pub slice_get-last : {A : Type 0} (xs : List A) (y : A)
+    → slice_get (xs ++ y ∷ []) (length xs) ≡ Some y
+slice_get-last [] y = refl
+slice_get-last (x ∷ xs) y = slice_get-last xs y

@@ -13,17 +13,14 @@ use Rattle.model.specs.declared.step.Outcome.TheVariants as outcome
 use Rattle.model.specs.State.{NodeState, node_at, new_node, got_from, sent_to}
 use Rattle.model.specs.Steps.{act, is_own, is_addressed}
 use Rattle.model.specs.World.{World, new_world, run, numbered, released, acknowledged, release_count, take_step, IsInNet}
-use Rattle.model.specs.Cuts.{cut}
 use Rattle.laws.specs.Statements.{NetGrows, NoneBeyond, AcknowledgementsGoThrough, HandsGoThrough, AcknowledgedIsTakenIn}
 use Rattle.laws.proofs.Lookups.{Grows, slice_get-grows}
 use Rattle.laws.proofs.StepFacts.{Delivery, act-ok, Receipt, repeated, next, receipt-cases}
 use Rattle.laws.proofs.Onward.{Onward, Behind, new-behind, run-behind, run-saved}
-use Rattle.laws.proofs.OwnEvents.{own-heard}
-use Rattle.laws.proofs.Receipts.{receipt-heard}
+use Rattle.laws.proofs.Stands.{own-stands, taken-takes}
 use Rattle.laws.proofs.KeepsSent.{sent-onward, new-keeps-sent, run-count}
 use Rattle.laws.proofs.Cuts.{released-numbered, run-keeps-sent}
-use Rattle.laws.proofs.Deliveries.{between-nodes}
-use Rattle.laws.proofs.Live.{all-sound}
+use Rattle.laws.proofs.Base.{own-heard, taken-heard, between-nodes, all-base}
 
 -- a message keeps its number
 numbered-grows : (xs ys : List Message) (number : ℕ) (x : Message)
@@ -51,26 +48,29 @@ act-heard : (s : NodeState) (e : Event) (t : NodeState) (a : Answer) → is_own 
     → act s e ≡ Ok (t, a) → HeardMore s t
 act-heard s e t a own answered =
     subst (HeardMore s) (sym (act-ok s e t a answered).state)
-    (own-heard s.local (map length s.sent) e own)
+    (own-heard (own-stands s.local (map length s.sent) e own))
 
 receive-heard : (s : NodeState) (m : Delivery) (t : NodeState) (a : Answer) → Receipt s m t a
     → HeardMore s t
 receive-heard s m t a (repeated same says) = subst (HeardMore s) (sym same) (λ j. le_refl _)
 receive-heard s m t a (next turn may found) =
     subst (HeardMore s) (sym found.state)
-    (receipt-heard s.local m.from m.number m.message.stamp m.message.body (omega arith))
+    (taken-heard (taken-takes s.local m.from m.number m.message.stamp m.message.body) (omega arith))
 
 heard-onward : Onward HeardMore
 heard-onward = record {
-  same = λ s from. le_refl _;
-  both = λ s t u g h from. le_trans (g from) (h from);
+  order = record {
+    same = λ s from. le_refl _;
+    both = λ s t u g h from. le_trans (g from) (h from);
+  };
   acts = act-heard;
   receives = λ s m t a answered. receive-heard s m t a (receipt-cases s m t a answered);
 }
 
-run-heard : (shape : Shaped) (steps : List Step) → Behind HeardMore (run (new_world shape) steps)
+pub run-heard : (shape : Shaped) (steps : List Step)
+    → Behind HeardMore (run (new_world shape) steps)
 run-heard shape steps =
-    run-behind heard-onward (new_world shape) steps (new-behind heard-onward shape)
+    run-behind heard-onward (new_world shape) steps (new-behind heard-onward.order shape)
 
 -- as many nodes as the shape has
 node-count : (shape : Shaped) (steps : List Step)
@@ -99,7 +99,7 @@ acknowledged-sent : (shape : Shaped) → IsShape shape → (steps : List Step) (
     → acknowledged (run (new_world shape) steps) from to
     ≤ release_count (run (new_world shape) steps) from to
 acknowledged-sent shape within steps from to =
-    (all-sound shape within steps (λ _. true)).base.within from to
+    (all-base shape within steps (λ _. true)).within from to
 
 pub none-beyond : NoneBeyond
 none-beyond shape within steps from to number there =
@@ -114,8 +114,7 @@ pub ack-addressed : (shape : Shaped) → IsShape shape → (steps : List Step) (
     → is_addressed (node_at (run (new_world shape) steps).current to).local from to ≡ true
 ack-addressed shape within steps from to number there =
     let count = node-count shape steps in
-    between-nodes shape (cut (run (new_world shape) steps) (λ _. false))
-    (all-sound shape within steps (λ _. false)) from to
+    between-nodes (all-base shape within steps (λ _. false)) from to
     (subst (λ (n : ℕ). from < n) count there.0)
     (subst (λ (n : ℕ). to < n) count there.1)
     there.2
@@ -147,6 +146,5 @@ hands-go-through shape within steps from to f t apart =
     (subst (λ (k : ℕ). from < k) (sym count) f)
     (subst (λ (k : ℕ). to < k) (sym count) t)
     apart
-    (between-nodes shape (cut w (λ _. false)) (all-sound shape within steps (λ _. false)) to from t
-    f (λ e. apart (sym e)))
+    (between-nodes (all-base shape within steps (λ _. false)) to from t f (λ e. apart (sym e)))
     (acknowledged-sent shape within steps from to)

@@ -1,8 +1,9 @@
 -- What is no event changes nothing.
-use Rattle.std.proofs.Common.{◌≡◌, ℕ, true, false, ◌==◌, ◌&&◌, List, [], length, map, set, Option, None, Some, Result, Ok, Err, refl, ap, ◌∙◌, subst}
+use Rattle.std.proofs.Common.{◌≡◌, ℕ, Bool, true, false, ◌==◌, ◌&&◌, List, [], ◌∷◌, length, map, set, Option, None, Some, Result, Ok, Err, refl, ap, ◌∙◌, subst, leb}
 use Rattle.std.proofs.lemmas.Bool.{cond_both}
 use Rattle.std.proofs.lemmas.List.{set-get_or}
 use Rattle.ids.specs.declared.refusal.Refusal.{Refusal}
+use Rattle.ids.specs.declared.refusal.Refusal.TheVariants.{AckBeyond, WrongNode}
 use Rattle.msg.specs.declared.body.Message.{Message}
 use Rattle.model.specs.declared.event.Event.{Event}
 use Rattle.model.specs.declared.event.Event.TheVariants as event
@@ -11,11 +12,14 @@ use Rattle.model.specs.declared.event.Answer.TheVariants as answer
 use Rattle.model.specs.declared.step.Step.TheVariants as step
 use Rattle.model.specs.declared.step.Outcome.{Outcome}
 use Rattle.model.specs.declared.step.Outcome.TheVariants as outcome
+use Rattle.model.specs.Checks.{guarded}
 use Rattle.model.specs.State.{LocalState, NodeState, no_node, node_at}
-use Rattle.model.specs.Steps.{Effect, act, made, taken_in, is_own, append_all, allocated, copied, dropped, loaded, stored, cleared, word_read, word_set, given, accepted, put_asked, get_asked}
-use Rattle.model.specs.World.{World, released, moved, delivery, is_node, take_step, outcome_of, world_after, is_eventful}
+use Rattle.model.specs.Effects.{Effect, answers}
+use Rattle.model.specs.Steps.{act, made, taken_in, is_own, is_addressed, append_all, allocated, copied, dropped, loaded, stored, cleared, word_read, word_set, given, accepted, put_asked, get_asked}
+use Rattle.model.specs.Collecting.{without_token, is_concluded, probe, begun, scanned, conclude, judged, handed_on, passed, swept_slots}
+use Rattle.model.specs.World.{World, released, acknowledged, release_count, moved, delivery, is_node, take_step, outcome_of, world_after, is_eventful}
 use Rattle.laws.specs.Statements.{OnlyEventsChange}
-use Rattle.laws.proofs.StepFacts.{handing-both, Delivery, given_to, act-ok, Receipt, repeated, next, receipt-cases}
+use Rattle.laws.proofs.StepFacts.{Delivery, given_to, act-ok, Receipt, repeated, next, receipt-cases}
 
 -- an answer that makes no event
 abbrev IsQuiet : Answer → Type 0
@@ -26,11 +30,22 @@ record IsNothing (p : LocalState) (x : Effect) : Type 0 where
   pub local : x.local ≡ p
   pub sends : x.sends ≡ []
 
+quiet-passed : (p : LocalState) → IsQuiet (passed p).answer → ⊥
+unfolding passed
+quiet-passed p =
+    cond_both (p.own == 0) (judged p) (handed_on p) (λ (x : Effect). IsQuiet x.answer → ⊥)
+    (λ _. cond_both (is_concluded p.ring)
+    (answers (conclude p) (answer.Ended p.phases.cycle))
+    (answers (probe (record p { ring = without_token p.ring })) answer.ProbeAgain)
+    (λ (x : Effect). IsQuiet x.answer → ⊥) (λ _ quiet. absurd cc) (λ _ quiet. absurd cc))
+    (λ _ quiet. absurd cc)
+
 quiet-effect : (p : LocalState) (counts : List ℕ) (e : Event)
     → is_own e ≡ true → IsQuiet (made p counts e).answer → IsNothing p (made p counts e)
 unfolding allocated copied dropped loaded stored cleared word_read word_set given accepted put_asked
-    get_asked
+    get_asked begun scanned swept_slots
 quiet-effect p counts (event.Word object) own quiet = record { local = refl; sends = refl }
+quiet-effect p counts event.Pass own quiet = absurd (quiet-passed p quiet)
 quiet-effect p counts (event.Data d) own quiet = absurd cc
 quiet-effect p counts (event.Ack a) own quiet = absurd cc
 quiet-effect p counts e own quiet = absurd cc
@@ -79,6 +94,12 @@ quiet-delivery w from to number (Some x) quiet =
     (receipt-cases (node_at w.current to) m t a answered))
     quiet
 
+-- what is only tested
+quiet-test : (w : World) (cs : List (Bool × Refusal)) (o : Outcome) → Leaves w (guarded cs (w, o))
+quiet-test w [] o quiet = refl
+quiet-test w ((true, r) ∷ cs) o quiet = quiet-test w cs o quiet
+quiet-test w ((false, r) ∷ cs) o quiet = refl
+
 pub only-events-change : OnlyEventsChange
 unfolding take_step
 only-events-change w (step.Act i e) =
@@ -99,6 +120,10 @@ only-events-change w (step.Deliver from to number) =
     (λ _ _. refl)
 only-events-change w (step.Hand from to) =
     cond_both (is_node w from && is_node w to) _ _ (Leaves w)
-    (λ _. cond_both (from == to) _ _ (Leaves w) (λ _ _. refl)
-    (λ _. handing-both (Leaves w) w from to (λ _. refl) (λ e _. refl)))
+    (λ _. cond_both (from == to) _ _ (Leaves w)
+    (λ _ _. refl)
+    (λ _.
+    quiet-test w ((is_addressed (node_at w.current from).local to from, WrongNode)
+    ∷ (leb (acknowledged w from to) (release_count w from to), AckBeyond) ∷ [])
+    (outcome.Handed (acknowledged w from to))))
     (λ _ _. refl)

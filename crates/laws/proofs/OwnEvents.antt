@@ -1,142 +1,349 @@
--- What a node's own events change.
-use Rattle.std.proofs.Common.{◌≡◌, ℕ, ◌<◌, ◌≤◌, true, eq-eqb, ◌||◌, ltb, ltb-true, length, length-append, length-set, get_or, le_of_eq, arith, List, [], ◌∷◌, None, Some, refl, ap, sym}
+-- The invariant after each event of a program.
+use Rattle.std.proofs.Common.{◌≡◌, ℕ, suc, ◌<◌, ◌⊎◌, Bool, true, false, List, [], ◌∷◌, drop, get_or, set, Option, None, Some, option_to_list, refl, sym, ap, ◌∙◌, subst, inl, inr, arith, append-nil}
+use Rattle.std.proofs.lemmas.Bool.{ltb-true, eqb-true}
+use Rattle.ids.specs.Limits.{Shaped}
 use Rattle.ids.specs.declared.names.Ref.{Ref}
+use Rattle.msg.specs.declared.body.Body.{Body}
 use Rattle.msg.specs.declared.body.Body.TheVariants as body
+use Rattle.msg.specs.declared.body.Message.{Message}
 use Rattle.model.specs.declared.event.Event.{Event}
 use Rattle.model.specs.declared.event.Event.TheVariants as event
+use Rattle.model.specs.declared.event.Letter.{Letter}
 use Rattle.model.specs.Checks.{AllPass}
-use Rattle.model.specs.State.{Object, Slot, Occupied, Retired, LocalState, no_node, register_at, slot_at, got_from}
-use Rattle.model.specs.Heaps.{slots_with, next_generation, with_object, new_object, new_reference, no_reference, named, place_loaded, oldest_letter}
-use Rattle.model.specs.Steps.{is_own, tests, made, allocated, copied, dropped, loaded, stored, cleared, word_read, word_set, given, accepted, put_asked, get_asked}
-use Rattle.model.proofs.References.{holds-with_register, holds-with_object, holds-with_place, holds-with_word, holds-place_of, holds-letter_gone, any-list, any-there}
-use Rattle.laws.proofs.Lookups.{nothing-below-zero}
-use Rattle.laws.proofs.Invariant.{FreeSlots}
-use Rattle.laws.proofs.Facts.{IsOccupied, EventFacts, slots-same, slots-object, slots-rewritten, heap-alone, sends-alone, new-object-there}
-use Rattle.laws.proofs.Fitting.{FittingFacts, fits-alone, fits-rewritten, fits-sent}
+use Rattle.model.specs.State.{Object, Occupied, Heap, Phases, NodeState, register_at, slot_at}
+use Rattle.model.specs.Heaps.{no_letter, with_object, new_object, new_reference, no_reference, named, object_at, place_of, place_loaded, oldest_letter, with_place}
+use Rattle.model.specs.References.{IfAny}
+use Rattle.model.specs.Effects.{Work, at_rest, Effect}
+use Rattle.model.specs.Counting.{append}
+use Rattle.model.specs.Shading.{is_open, shade_all}
+use Rattle.model.specs.Steps.{is_own, tests, made, append_all, allocated, copied, dropped, loaded, stored, cleared, word_read, word_set, given, accepted, put_asked, get_asked}
+use Rattle.model.specs.Cuts.{Cut, Among, Becomes}
+use Rattle.model.proofs.Lookups.{at_set, at_set_if}
+use Rattle.laws.proofs.Lookups.{any-some, any-list, any-there}
+use Rattle.laws.proofs.Invariant.{cycle_of, Resting, Safe, Holds, holds_marked, holds_asked, RootsAll, Inv}
+use Rattle.laws.proofs.Inner.{Known, known-roots, resting-joined, occupied-inside}
+use Rattle.laws.proofs.Acting.{with_heap, put, put-here, becomes-put, onward}
+use Rattle.laws.proofs.Slots.{object-placed, found-object, same-object}
+use Rattle.laws.proofs.HeapSteps.{re_rooted, roots-inner, Rewriting, rewrite-inner, object-inner}
+use Rattle.laws.proofs.Counts.{append-reference, Sending, send-inner}
+use Rattle.laws.proofs.Moves.{worked, Moves, inner-moves, moves-through, moves-none, Met, Shadeable, shade-met}
 
--- the one reference that an own event brings is a new object's
-abbrev pub InHand : LocalState → Event → (Ref → Type 0) → Type 0
-InHand p (event.Alloc register places) P = P (new_reference p.own p.heap)
-InHand p e P = Unit {0}
+-- ---- the steps of which events consist
 
-pub own-facts : (p : LocalState) (counts : List ℕ) (e : Event) → is_own e ≡ true
-    → AllPass (tests p e) → FreeSlots p.heap.slots p.heap.free
-    → EventFacts (InHand p e) p (made p counts e).local (made p counts e).sends
+pub roots-moves : {shape : Shaped} {c d : Cut} {i : ℕ} (rs : List (Option Ref)) (ls : List Letter)
+    → i < shape.nodes → Becomes c d i (re_rooted (c i) rs ls)
+    → RootsAll (Known c i) (record (c i).local.heap { registers = rs; letters = ls })
+    → Inv shape c → Moves shape c d i
+roots-moves rs ls inside becomes known inv =
+    inner-moves (roots-inner rs ls inside becomes known inv) refl
+
+-- a register gets a reference that is known, or nothing
+pub register-known : {shape : Shaped} {c : Cut} {i : ℕ} (k : ℕ) (v : Option Ref) → Inv shape c
+    → IfAny (Known c i) v
+    → RootsAll (Known c i)
+    (record (c i).local.heap { registers = set (c i).local.heap.registers k v })
+register-known {c = c} {i = i} k v inv known =
+    let old = known-roots i inv in
+    record {
+      registers = λ j.
+          at_set (IfAny (Known c i)) (c i).local.heap.registers k j v None known (old.registers j);
+      letters = old.letters;
+    }
+
+pub letters-dropped : (ls : List Letter) (k : ℕ)
+    → get_or (drop 1 ls) k no_letter ≡ get_or ls (suc k) no_letter
+letters-dropped [] k = refl
+letters-dropped (l ∷ ls) k = refl
+
+-- a place of an object gets one
+pub place-rewriting : {c : Cut} {i : ℕ} (place : ℕ) (v : Option Ref) → IfAny (Known c i) v
+    → Rewriting c i (λ o. record o { places = set o.places place v })
+place-rewriting {c = c} {i = i} place v known = record {
+  mark = λ o. refl;
+  places = λ o j.
+      at_set_if (λ z. (z ≡ get_or o.places j None) ⊎ IfAny (Known c i) z) o.places place j v None
+      (λ _. inr known) (inl refl);
+}
+
+pub rewrite-moves : {shape : Shaped} {c d : Cut} {i : ℕ} (r : Ref) (place : ℕ) (v : Option Ref)
+    → i < shape.nodes → Becomes c d i (with_heap (c i) (with_place (c i).local.heap r place v))
+    → IfAny (Known c i) v → Inv shape c → Moves shape c d i
+rewrite-moves r place v inside becomes known inv =
+    inner-moves (rewrite-inner r _ inside becomes (place-rewriting place v known) inv) refl
+
+-- a message with references that are known is sent
+pub send-moves : {shape : Shaped} {c d : Cut} {i to : ℕ} {b : Body} → Sending shape c i to b
+    → Becomes c d i (worked (c i) (append to b (c i).local)) → Moves shape c d i
+send-moves {c = c} {d = d} {i = i} {to = to} {b = b} s becomes =
+    inner-moves
+    (send-inner s
+    (subst (λ (z : Work). Becomes c d i (worked (c i) z))
+    (append-reference to b (c i).local s.reference) becomes))
+    refl
+
+-- ---- the value that a place holds is known once it is shaded
+
+-- what stands in a place of an object of the node
+pub place-there : (h : Heap) (r : Ref) (place : ℕ) (v : Ref)
+    → place_of (object_at h r) place ≡ Some v
+    → (o : Object) × (slot_at h r.slot ≡ Occupied r.generation o)
+    × (get_or o.places place None ≡ Some v)
+place-there h r place v e = by (object_at h r) refl e
+  where
+    by : (found : Option Object) → object_at h r ≡ found → place_of found place ≡ Some v
+        → (o : Object) × (slot_at h r.slot ≡ Occupied r.generation o)
+        × (get_or o.places place None ≡ Some v)
+    by None is never = absurd cc
+    by (Some o) is at = (o, found-object h r o is, at)
+
+-- The object is known to the node, which owns it: so what it holds is safe, and held where the node
+-- has no grey object.
+pub record Reading (shape : Shaped) (c : Cut) (i : ℕ) (r : Ref) : Type 0 where
+  pub inv : Inv shape c
+  pub inside : i < shape.nodes
+  pub own : r.node ≡ i
+  pub known : Known c i r
+
+pub read-safe : {shape : Shaped} {c : Cut} {i : ℕ} {r : Ref} (place : ℕ) (v : Ref)
+    → Reading shape c i r → place_of (object_at (c i).local.heap r) place ≡ Some v → Safe c v
+read-safe {c = c} {i = i} {r = r} place v s e =
+    let found = place-there (c i).local.heap r place v e in
+    let safe : Safe c r = s.known.safe in
+    let same : safe.object ≡ found.0 =
+    same-object (slot_at (c i).local.heap r.slot) r.generation safe.object found.0
+    (ap (λ (z : ℕ). slot_at (c z).local.heap r.slot) (sym s.own) ∙ safe.there) found.1 in
+    any-some (Safe c) (get_or found.0.places place None) v
+    (s.inv.closed.places i r.slot r.generation found.0 found.1
+    (λ rest. ap (λ (z : Object). z.mark) (sym same) ∙ safe.marked rest) place)
+    found.2
+
+pub read-held : {shape : Shaped} {c : Cut} {i : ℕ} {r : Ref} (place : ℕ) (v : Ref)
+    → Reading shape c i r → place_of (object_at (c i).local.heap r) place ≡ Some v
+    → is_open (c i).local ≡ true → (c i).local.heap.grey ≡ [] → Holds (c i).local v
+read-held {c = c} {i = i} {r = r} place v s e opened grey =
+    let found = place-there (c i).local.heap r place v e in
+    any-some (Holds (c i).local) (get_or found.0.places place None) v
+    (s.inv.held.blacks i r.slot r.generation found.0 opened found.1
+    (marked (s.known.held opened) found.0 found.1)
+    (λ a. subst (λ (z : List ℕ). Among r.slot z) grey a) place)
+    found.2
+  where
+    marked : Holds (c i).local r → (o : Object)
+        → slot_at (c i).local.heap r.slot ≡ Occupied r.generation o → o.mark ≡ cycle_of c i
+    marked (holds_marked x own there mark) o at =
+        ap (λ (z : Object). z.mark)
+        (same-object (slot_at (c i).local.heap r.slot) r.generation o x at there) ∙ mark
+    marked (holds_asked far asked) o at = absurd (far (s.own ∙ sym (s.inv.base.own i s.inside)))
+
+pub among-option : (v : Option Ref) (r : Ref) → Among r (option_to_list v) → v ≡ Some r
+among-option None r never = absurd never
+among-option (Some s) r (inl e) = ap Some (sym e)
+among-option (Some s) r (inr never) = absurd never
+
+pub read-shadeable : {shape : Shaped} {c : Cut} {i : ℕ} {r : Ref} (place : ℕ)
+    → Reading shape c i r
+    → Shadeable shape c i (option_to_list (place_of (object_at (c i).local.heap r) place))
+read-shadeable {c = c} {i = i} {r = r} place s = record {
+  inv = s.inv;
+  inside = s.inside;
+  safe = λ v a.
+      read-safe place v s (among-option (place_of (object_at (c i).local.heap r) place) v a);
+  quiet = λ opened.
+      inl (λ grey v a.
+      read-held place v s (among-option (place_of (object_at (c i).local.heap r) place) v a)
+      opened grey);
+}
+
+pub known-option : {c : Cut} {i : ℕ} (v : Option Ref)
+    → ((r : Ref) → Among r (option_to_list v) → Known c i r) → IfAny (Known c i) v
+known-option None all = tt
+known-option (Some r) all = all r (inl refl)
+
+-- ---- events of a program
+
+-- the events of a collection cycle
+abbrev pub is_cyclic : Event → Bool
+is_cyclic event.Begin = true
+is_cyclic event.Scan = true
+is_cyclic event.Pass = true
+is_cyclic (event.Sweep count) = true
+is_cyclic e = false
+
+abbrev pub effect_work : Effect → Work
+effect_work x = record { local = x.local; sends = x.sends }
+
+-- a node acts, on events of its own
+pub record OwnStep (shape : Shaped) (c d : Cut) (i : ℕ) (counts : List ℕ) (e : Event) : Type 0 where
+  pub inv : Inv shape c
+  pub inside : i < shape.nodes
+  pub own : is_own e ≡ true
+  pub passed : AllPass (tests (c i).local e)
+  pub becomes : Becomes c d i (worked (c i) (effect_work (made (c i).local counts e)))
+
+pub program-moves : {shape : Shaped} {c d : Cut} (i : ℕ) (counts : List ℕ) (e : Event)
+    → is_cyclic e ≡ false → OwnStep shape c d i counts e → Moves shape c d i
 unfolding allocated copied dropped loaded stored cleared word_read word_set given accepted put_asked
     get_asked
-own-facts p counts (event.Alloc register places) own passed f =
-    let o : Object = new_object p.phases.cycle places in
-    heap-alone p _ (slots-object p.heap o f)
-    (λ P all new.
-    holds-with_register P (with_object p.heap o) register (Some (new_reference p.own p.heap))
-    (holds-with_object P p.heap p.phases.cycle places all) new)
-own-facts p counts (event.Copy register source) own passed f =
-    heap-alone p _ (slots-same p.heap) (λ P all _.
-    holds-with_register P p.heap register (register_at p.heap source) all (all.registers source))
-own-facts p counts (event.Drop register) own passed f =
-    heap-alone p _ (slots-same p.heap)
-    (λ P all _. holds-with_register P p.heap register None all tt)
-own-facts p counts (event.Load register object place) own passed f =
-    heap-alone p _ (slots-same p.heap)
-    (λ P all _.
-    holds-with_register P p.heap register (place_loaded p.heap object place) all
-    (holds-place_of P p.heap (named p.heap object) place all))
-own-facts p counts (event.Store object place register) own passed f =
-    heap-alone p _ (slots-rewritten p.heap (named p.heap object) _)
-    (λ P all _.
-    holds-with_place P p.heap (named p.heap object) place (register_at p.heap register) all
-    (all.registers register))
-own-facts p counts (event.Clear object place) own passed f =
-    heap-alone p _ (slots-rewritten p.heap (named p.heap object) _)
-    (λ P all _. holds-with_place P p.heap (named p.heap object) place None all tt)
-own-facts p counts (event.Word object) own passed f =
-    heap-alone p _ (slots-same p.heap) (λ P all _. all)
-own-facts p counts (event.SetWord object word) own passed f =
-    heap-alone p _ (slots-rewritten p.heap (named p.heap object) _)
-    (λ P all _. holds-with_word P p.heap (named p.heap object) word all)
-own-facts p counts (event.Give to label register) own passed f =
-    sends-alone p to (body.Give label (register_at p.heap register))
-    (λ P all. any-list P (register_at p.heap register) (all.registers register))
-own-facts p counts (event.Accept register) own passed f =
-    heap-alone p _ (slots-same p.heap)
-    (λ P all _.
-    holds-with_register P _ register (oldest_letter p.heap).reference
-    (holds-letter_gone P p.heap all) (all.letters 0))
-own-facts p counts (event.Put object place register) own passed f =
-    sends-alone p (named p.heap object).node
-    (body.Put (named p.heap object) place (register_at p.heap register))
-    (λ P all. (
-      any-there P (register_at p.heap object) no_reference passed.1.1.0 (all.registers object),
-      any-list P (register_at p.heap register) (all.registers register),
-    ))
-own-facts p counts (event.Get object place label) own passed f =
-    sends-alone p (named p.heap object).node (body.Get (named p.heap object) place label)
-    (λ P all.
-    (any-there P (register_at p.heap object) no_reference passed.1.0 (all.registers object), tt))
-own-facts p counts (event.Data d) own passed f = absurd cc
-own-facts p counts (event.Ack a) own passed f = absurd cc
-
--- nodes and messages fit each other
-fits-object : (free : List ℕ) (slots : List Slot) (o : Object) (limit : ℕ)
-    → (ltb 0 (length free) || ltb (length slots) limit) ≡ true → length slots ≤ limit
-    → length (slots_with free slots o) ≤ limit
-fits-object [] slots o limit room within =
-    let below : length slots < limit = ltb-true (length slots) limit room in
-    omega (arith, below, length-append slots (Occupied 1 o ∷ []))
-fits-object (k ∷ free) slots o limit room within =
-    omega
-    (arith, within, length-set slots k (Occupied (next_generation (get_or slots k Retired)) o))
-
-pub own-fits : (p : LocalState) (counts : List ℕ) (e : Event) → is_own e ≡ true
-    → AllPass (tests p e) → FittingFacts p (made p counts e).local (made p counts e).sends
-unfolding allocated copied dropped loaded stored cleared word_read word_set given accepted put_asked
-    get_asked
-own-fits p counts (event.Alloc register places) own passed =
-    fits-alone p _ (fits-object p.heap.free p.heap.slots (new_object p.phases.cycle places)
-    p.shape.slots passed.1.1.0)
-own-fits p counts (event.Store object place register) own passed =
-    fits-rewritten p (named p.heap object) _
-own-fits p counts (event.Clear object place) own passed = fits-rewritten p (named p.heap object) _
-own-fits p counts (event.SetWord object word) own passed = fits-rewritten p (named p.heap object) _
-own-fits p counts (event.Give to label register) own passed =
-    fits-sent p to (body.Give label (register_at p.heap register)) refl
-own-fits p counts (event.Put object place register) own passed =
-    fits-sent p (named p.heap object).node
-    (body.Put (named p.heap object) place (register_at p.heap register)) (eq-eqb _ _ refl)
-own-fits p counts (event.Get object place label) own passed =
-    fits-sent p (named p.heap object).node (body.Get (named p.heap object) place label)
-    (eq-eqb _ _ refl)
-own-fits p counts (event.Data d) own passed = absurd cc
-own-fits p counts (event.Ack a) own passed = absurd cc
-own-fits p counts e own passed = fits-alone p _ (λ within. within)
-
--- What an event brings is a new object of the node.
-pub own-hand : (p : LocalState) (counts : List ℕ) (e : Event) → FreeSlots p.heap.slots p.heap.free
-    → (P : Ref → Type 0)
-    → ((r : Ref) → r.node ≡ p.own
-    → IsOccupied (slot_at (made p counts e).local.heap r.slot) r.generation → P r) → InHand p e P
-unfolding allocated
-own-hand p counts (event.Alloc register places) f P new =
-    new (new_reference p.own p.heap) refl
-    (new-object-there p.heap (new_object p.phases.cycle places) f)
-own-hand p counts e f P new = tt
-
--- nothing is taken in
-pub own-got : (p : LocalState) (counts : List ℕ) (e : Event) → is_own e ≡ true
-    → (made p counts e).local.got ≡ p.got
-unfolding allocated copied dropped loaded stored cleared word_read word_set given accepted put_asked
-    get_asked
-own-got p counts (event.Data d) own = absurd cc
-own-got p counts (event.Ack a) own = absurd cc
-own-got p counts e own = refl
-
-pub own-heard : (p : LocalState) (counts : List ℕ) (e : Event) → is_own e ≡ true → (from : ℕ)
-    → got_from p from ≤ got_from (made p counts e).local from
-own-heard p counts e own from =
-    le_of_eq (ap (λ (z : List ℕ). get_or z from 0) (sym (own-got p counts e own)))
-
--- the node that stands past the end of a list refuses every event
-pub no-node-refuses : (e : Event) → is_own e ≡ true → AllPass (tests no_node.local e) → ⊥
-no-node-refuses (event.Data d) own passed = absurd cc
-no-node-refuses (event.Ack a) own passed = absurd cc
-no-node-refuses e own passed = nothing-below-zero _ passed.0
+program-moves {shape = shape} {c = c} {d = d} i counts (event.Alloc register places) plain step =
+    let s : NodeState = c i in
+    let h : Heap = s.local.heap in
+    let o : Object = new_object s.local.phases.cycle places in
+    let r : Ref = new_reference s.local.own h in
+    let t : NodeState = with_heap s (with_object h o) in
+    let first : Moves shape c (put c i t) i =
+    inner-moves
+    (object-inner places step.inside (becomes-put c i t) step.passed.1.1.0 step.inv) refl in
+    let b : Becomes (put c i t) d i
+    (re_rooted (put c i t i) (set (put c i t i).local.heap.registers register (Some r))
+    (put c i t i).local.heap.letters) =
+    onward t (λ z. re_rooted z (set z.local.heap.registers register (Some r)) z.local.heap.letters)
+    step.becomes in
+    let placed : slot_at t.local.heap r.slot ≡ Occupied r.generation o =
+    object-placed h.free h.slots o (step.inv.tidy i).free in
+    let there : slot_at (put c i t i).local.heap r.slot ≡ Occupied r.generation o =
+    ap (λ (z : NodeState). slot_at z.local.heap r.slot) (put-here c i t) ∙ placed in
+    let here : r.node ≡ i = step.inv.base.own i step.inside in
+    let cycle : (j : ℕ) → cycle_of (put c i t) j ≡ cycle_of c j =
+    λ j. ap (λ (z : ℕ → Phases). (z j).cycle) first.phases in
+    let known : Known (put c i t) i r = record {
+      safe = record {
+        object = o;
+        there = ap (λ (z : ℕ). slot_at (put c i t z).local.heap r.slot) here ∙ there;
+        marked = λ rest.
+            resting-joined step.inv
+            (subst (λ (z : ℕ → Phases). Resting (z 0)) first.phases rest) step.inside
+            ∙ sym (cycle 0);
+      };
+      held = λ _.
+          holds_marked o
+          (ap (λ (z : NodeState). z.local.own) (sym (put-here c i t))) there
+          (ap (λ (z : NodeState). z.local.phases.cycle) (sym (put-here c i t)));
+    } in
+    moves-through first
+    (roots-moves _ _ step.inside b (register-known register (Some r) first.inv known) first.inv)
+program-moves {c = c} i counts (event.Copy register source) plain step =
+    roots-moves _ _ step.inside step.becomes
+    (register-known register (register_at (c i).local.heap source) step.inv
+    ((known-roots i step.inv).registers source)) step.inv
+program-moves {c = c} i counts (event.Drop register) plain step =
+    roots-moves _ _ step.inside step.becomes (register-known register None step.inv tt) step.inv
+program-moves {shape = shape} {c = c} {d = d} i counts (event.Load register object place) plain
+    step =
+    let s : NodeState = c i in
+    let v : Option Ref = place_loaded s.local.heap object place in
+    let w : Work = shade_all (at_rest s.local) (option_to_list v) in
+    let t : NodeState = worked s w in
+    let r : Ref = named s.local.heap object in
+    let reads : Reading shape c i r = record {
+      inv = step.inv;
+      inside = step.inside;
+      own = eqb-true r.node s.local.own step.passed.1.1.1.0 ∙ step.inv.base.own i step.inside;
+      known = any-there (Known c i) (register_at s.local.heap object) no_reference step.passed.1.1.0
+          ((known-roots i step.inv).registers object);
+    } in
+    let first : Met shape c (put c i t) i (option_to_list v) =
+    shade-met (read-shadeable place reads) (becomes-put c i t) in
+    let became : Becomes c d i
+    (re_rooted t (set t.local.heap.registers register v) t.local.heap.letters) =
+    subst (λ (z : List (ℕ × Message)). Becomes c d i
+    (record {
+      local = record w.local
+          { heap = record w.local.heap { registers = set w.local.heap.registers register v } };
+      sent = append_all s.sent z;
+    })) (append-nil w.sends) step.becomes in
+    let b : Becomes (put c i t) d i
+    (re_rooted (put c i t i) (set (put c i t i).local.heap.registers register v)
+    (put c i t i).local.heap.letters) =
+    onward t (λ z. re_rooted z (set z.local.heap.registers register v) z.local.heap.letters)
+    became in
+    moves-through first.moves
+    (roots-moves _ _ step.inside b
+    (register-known register v first.moves.inv (known-option v first.known)) first.moves.inv)
+program-moves {c = c} i counts (event.Store object place register) plain step =
+    rewrite-moves (named (c i).local.heap object) place (register_at (c i).local.heap register)
+    step.inside
+    step.becomes ((known-roots i step.inv).registers register) step.inv
+program-moves {c = c} i counts (event.Clear object place) plain step =
+    rewrite-moves (named (c i).local.heap object) place None step.inside step.becomes tt step.inv
+program-moves i counts (event.Word object) plain step =
+    moves-none step.becomes step.inv
+program-moves {c = c} i counts (event.SetWord object word) plain step =
+    let writes : Rewriting c i (λ o. record o { word = word }) =
+    record { mark = λ o. refl; places = λ o j. inl refl } in
+    inner-moves
+    (rewrite-inner (named (c i).local.heap object) _ step.inside step.becomes writes step.inv)
+    refl
+program-moves {shape = shape} {c = c} i counts (event.Give to label register) plain step =
+    let nodes : (c i).local.shape.nodes ≡ shape.nodes =
+    ap (λ (z : Shaped). z.nodes) (step.inv.base.shapes i step.inside) in
+    let receiver : to < (c i).local.shape.nodes = ltb-true to _ step.passed.0 in
+    let sends : Sending shape c i to (body.Give label (register_at (c i).local.heap register)) =
+    record {
+      inv = step.inv;
+      inside = step.inside;
+      receiver = omega (arith, receiver, nodes);
+      reference = refl;
+      known = any-list (Known c i) (register_at (c i).local.heap register)
+          ((known-roots i step.inv).registers register);
+      targets = tt;
+    } in
+    send-moves sends step.becomes
+program-moves {c = c} i counts (event.Accept register) plain step =
+    let old = known-roots i step.inv in
+    let known : RootsAll (Known c i) (record (c i).local.heap {
+      registers = set (c i).local.heap.registers register
+          (oldest_letter (c i).local.heap).reference;
+      letters = drop 1 (c i).local.heap.letters;
+    }) = record {
+      registers = λ j.
+          at_set (IfAny (Known c i)) (c i).local.heap.registers register j
+          (oldest_letter (c i).local.heap).reference None (old.letters 0) (old.registers j);
+      letters = λ k.
+          subst (λ (z : Letter). IfAny (Known c i) z.reference)
+          (sym (letters-dropped (c i).local.heap.letters k)) (old.letters (suc k));
+    } in
+    roots-moves _ _ step.inside step.becomes known step.inv
+program-moves {shape = shape} {c = c} i counts (event.Put object place register) plain step =
+    let r : Ref = named (c i).local.heap object in
+    let known : Known c i r =
+    any-there (Known c i) (register_at (c i).local.heap object) no_reference step.passed.1.1.0
+    ((known-roots i step.inv).registers object) in
+    let sends : Sending shape c i r.node
+    (body.Put r place (register_at (c i).local.heap register)) =
+    record {
+      inv = step.inv;
+      inside = step.inside;
+      receiver = occupied-inside r.node r.slot r.generation known.safe.object step.inv.base
+          known.safe.there;
+      reference = refl;
+      known = (
+        known,
+        any-list (Known c i) (register_at (c i).local.heap register)
+            ((known-roots i step.inv).registers register),
+      );
+      targets = refl;
+    } in
+    send-moves sends step.becomes
+program-moves {shape = shape} {c = c} i counts (event.Get object place label) plain step =
+    let r : Ref = named (c i).local.heap object in
+    let known : Known c i r =
+    any-there (Known c i) (register_at (c i).local.heap object) no_reference step.passed.1.0
+    ((known-roots i step.inv).registers object) in
+    let sends : Sending shape c i r.node (body.Get r place label) = record {
+      inv = step.inv;
+      inside = step.inside;
+      receiver = occupied-inside r.node r.slot r.generation known.safe.object step.inv.base
+          known.safe.there;
+      reference = refl;
+      known = (known, tt);
+      targets = refl;
+    } in
+    send-moves sends step.becomes
+program-moves i counts event.Begin plain step = absurd cc
+program-moves i counts event.Scan plain step = absurd cc
+program-moves i counts event.Pass plain step = absurd cc
+program-moves i counts (event.Sweep count) plain step = absurd cc
+program-moves i counts (event.Data d) plain step =
+    let own : is_own (event.Data d) ≡ true = step.own in absurd cc
+program-moves i counts (event.Ack a) plain step =
+    let own : is_own (event.Ack a) ≡ true = step.own in absurd cc

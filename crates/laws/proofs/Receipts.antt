@@ -1,59 +1,579 @@
--- What taking in a message changes.
-use Rattle.std.proofs.Common.{◌≡◌, ℕ, ◌≤◌, List, get_or, Option, set, refl, sym, subst, true}
-use Rattle.std.proofs.lemmas.Bool.{and_parts}
+-- The invariant after a node has taken in a message: it joins the message's cycle where it isn't
+-- there yet, sees to the references, does what the body asks for, and counts the message.
+use Rattle.std.proofs.Common.{◌≡◌, ◌≢◌, ℕ, ℤ, pos, ◌+◌, ◌+ℤ◌, ◌-ℤ◌, ◌<◌, ◌≤◌, ltb, ltb-true, true, List, [], ◌∷◌, ◌++◌, length, get_or, set, Option, None, Some, refl, sym, ap, ◌∙◌, subst, ⊎_elim, inl, inr, arith, append-nil}
 use Rattle.std.specs.List.{AllByRecursion}
+use Rattle.std.proofs.lemmas.Int.{ints}
+use Rattle.std.proofs.lemmas.Bool.{cases_Bool, cond-true, cond-false, cond_both, eq-eqb, lt-ltb, ltb-false, not_from_true}
+use Rattle.ids.specs.Limits.{Shaped}
 use Rattle.ids.specs.declared.names.Ref.{Ref}
 use Rattle.msg.specs.declared.body.Body.{Body}
 use Rattle.msg.specs.declared.body.Body.TheVariants as body
-use Rattle.model.specs.State.{LocalState, no_node, got_from}
-use Rattle.model.specs.Heaps.{object_at, place_of}
-use Rattle.model.specs.Steps.{carried, taken_in, count_in, take_body, is_addressed}
-use Rattle.model.proofs.References.{holds-with_place, holds-place_of, holds-with_letter, any-list, list-any}
-use Rattle.laws.proofs.Lookups.{set-no_fewer, nothing-below-zero}
-use Rattle.laws.proofs.Facts.{EventFacts, slots-same, slots-rewritten, heap-alone, sends-alone}
-use Rattle.laws.proofs.Fitting.{FittingFacts, fits-alone, fits-rewritten, fits-sent}
+use Rattle.msg.specs.declared.body.Colour.TheVariants.{Black}
+use Rattle.msg.specs.declared.body.Token.{Token}
+use Rattle.msg.specs.declared.body.Message.{Message}
+use Rattle.model.specs.declared.balance.Balance.{Balance}
+use Rattle.model.specs.declared.balance.Balance.TheVariants.{Earlier, Recent}
+use Rattle.model.specs.declared.event.Letter.{Letter}
+use Rattle.model.specs.State.{Object, Occupied, Phases, Ring, LocalState, NodeState, slot_at, got_from}
+use Rattle.model.specs.Heaps.{no_letter, with_place, with_letter}
+use Rattle.model.specs.References.{IfAny}
+use Rattle.model.specs.Effects.{Work, at_rest, then}
+use Rattle.model.specs.Counting.{is_reference, balance_of, counted_down}
+use Rattle.model.specs.Shading.{is_open, join, joined, shade_all, vouch_all}
+use Rattle.model.specs.Steps.{carried, count_in, take_carried, take_body, settled, append_all}
+use Rattle.model.specs.Cuts.{Cut, taken, IsInFlight, Among, Becomes}
+use Rattle.model.proofs.ShadingParts.{shade_all-open, shade_all-closed, vouch_all-open, vouch_all-closed, shaded_work}
+use Rattle.model.proofs.Lookups.{at_push}
+use Rattle.laws.proofs.Lookups.{all-among}
+use Rattle.laws.proofs.Turns.{at_turn, flies}
+use Rattle.laws.proofs.Invariant.{phases_of, cycle_of, Marking, Resting, Joined, Safe, Holds, holds_marked, holds_asked, Covered, RootsAll, StampFits, Inv}
+use Rattle.laws.proofs.Inner.{Known, known-roots, inner-inv, marking-open, open-joined, mentioned-carried}
+use Rattle.laws.proofs.Acting.{with_heap, put, put-here, becomes-put, latest}
+use Rattle.laws.proofs.HeapSteps.{re_rooted}
+use Rattle.laws.proofs.Counts.{reference-counts, Kind, mark-kind, reference-kind, Counting, counted_local, count-inner}
+use Rattle.laws.proofs.Moves.{worked, Moves, moves-through, Met, Shadeable, shade-met, Vouchable, vouch-met}
+use Rattle.laws.proofs.OwnEvents.{roots-moves, rewrite-moves, known-option}
+use Rattle.laws.proofs.Joins.{entering, enter-turn, enter-slots, Joining, join-inv}
+use Rattle.laws.proofs.Dressing.{bare, Dressing, dress-moves, roots-all}
 
--- a message brings the references that it carries
-pub receipt-facts : (p : LocalState) (from number stamp : ℕ) (b : Body)
-    → EventFacts (λ P. AllByRecursion P (carried b)) p (taken_in p from number stamp b).local
-    (taken_in p from number stamp b).sends
-unfolding taken_in count_in take_body
-receipt-facts p from number stamp (body.Give label reference) =
-    heap-alone p _ (slots-same p.heap)
-    (λ P all brought.
-    holds-with_letter P p.heap (record { from = from; label = label; reference = reference }) all
-    (list-any P reference brought))
-receipt-facts p from number stamp (body.Put target place reference) =
-    heap-alone p _ (slots-rewritten p.heap target _) (λ P all brought.
-    holds-with_place P p.heap target place reference all (list-any P reference brought.1))
-receipt-facts p from number stamp (body.Get target place label) =
-    let held : Option Ref = place_of (object_at p.heap target) place in
-    sends-alone p from (body.Give label held)
-    (λ P all. any-list P held (holds-place_of P p.heap target place all))
-receipt-facts p from number stamp b = heap-alone p _ (slots-same p.heap) (λ P all brought. all)
+-- ---- a node joins the cycle of a message
 
--- nodes and messages fit each other
-pub receipt-fits : (p : LocalState) (from number stamp : ℕ) (b : Body)
-    → FittingFacts p (taken_in p from number stamp b).local (taken_in p from number stamp b).sends
-unfolding taken_in count_in take_body
-receipt-fits p from number stamp (body.Put target place reference) = fits-rewritten p target _
-receipt-fits p from number stamp (body.Get target place label) =
-    fits-sent p from (body.Give label (place_of (object_at p.heap target) place)) refl
-receipt-fits p from number stamp b = fits-alone p _ (λ within. within)
+-- what joining leaves to the next step
+pub record HasJoined (shape : Shaped) (c d : Cut) (i : ℕ) : Type 0 where
+  pub inv : Inv shape d
+  pub first : phases_of d 0 ≡ phases_of c 0
+  pub flight : (from to place : ℕ) (x : Message) → IsInFlight c from to place x
+      → IsInFlight d from to place x
+  pub got : (d i).local.got ≡ (c i).local.got
+  pub reached : cycle_of d i ≡ cycle_of c 0
 
--- one more message is taken in
-pub receipt-got : (p : LocalState) (from number stamp : ℕ) (b : Body)
-    → (taken_in p from number stamp b).local.got ≡ set p.got from number
-unfolding taken_in count_in take_body
-receipt-got p from number stamp (body.Get target place label) = refl
-receipt-got p from number stamp b = refl
+pub join-step : {shape : Shaped} {c d : Cut} (i : ℕ) → Inv shape c → i < shape.nodes
+    → cycle_of c i < cycle_of c 0
+    → Becomes c d i (worked (c i) (join (c i).local (cycle_of c 0))) → HasJoined shape c d i
+join-step {shape = shape} {c = c} {d = d} i inv inside behind becomes =
+    let s : NodeState = c i in
+    let n : ℕ = cycle_of c 0 in
+    let s1 : NodeState = re_rooted s [] [] in
+    let c1 : Cut = put c i s1 in
+    let s2 : NodeState = record {
+      local = entering (bare s.local) n (length s.local.heap.slots ∷ []) s.local.ring.token;
+      sent = s.sent;
+    } in
+    let c2 : Cut = put c1 i s2 in
+    let first : Moves shape c c1 i =
+    roots-moves [] [] inside (becomes-put c i s1)
+    (record { registers = λ k. tt; letters = λ k. tt }) inv in
+    let at1 : c1 i ≡ s1 = put-here c i s1 in
+    let cycle1 : cycle_of c1 0 ≡ n = ap (λ (z : ℕ → Phases). (z 0).cycle) first.phases in
+    let other : i ≢ 0 =
+    λ e.
+    (let same : cycle_of c i ≡ cycle_of c 0 = ap (cycle_of c) e in omega (arith, same, behind)) in
+    let marking : Marking (phases_of c 0) =
+    ⊎_elim {C = Marking (phases_of c 0)} (λ there. absurd (omega (arith, there, behind))) (λ b. b.0)
+    (inv.phased.apart i inside) in
+    let marking1 : Marking (phases_of c1 0) =
+    subst (λ (z : ℕ → Phases). Marking (z 0)) (sym first.phases) marking in
+    let b2 : Becomes c1 c2 i (record {
+      local = entering (c1 i).local (cycle_of c1 0) (length s.local.heap.slots ∷ [])
+          (c1 i).local.ring.token;
+      sent = (c1 i).sent;
+    }) =
+    subst (λ (z : ℕ). Becomes c1 c2 i (record {
+      local = entering (c1 i).local z (length s.local.heap.slots ∷ []) (c1 i).local.ring.token;
+      sent = (c1 i).sent;
+    })) (sym cycle1)
+    (subst (λ (z : NodeState). Becomes c1 c2 i (record {
+      local = entering z.local n (length s.local.heap.slots ∷ []) z.local.ring.token;
+      sent = z.sent;
+    })) (sym at1) (becomes-put c1 i s2)) in
+    let joining : Joining shape c1 c2 i (length s.local.heap.slots ∷ []) = record {
+      inv = first.inv;
+      inside = inside;
+      other = other;
+      empty =
+          subst (λ (z : NodeState). RootsAll (λ _. ⊥) z.local.heap) (sym at1)
+          (record { registers = λ k. tt; letters = λ k. tt });
+      marking = marking1;
+      behind = λ e.
+          (let a : cycle_of c1 i ≡ cycle_of c i =
+          ap (λ (z : ℕ → Phases). (z i).cycle) first.phases in
+          omega (arith, e, a, cycle1, behind));
+      becomes = b2;
+    } in
+    let inv2 : Inv shape c2 = join-inv joining in
+    let first2 : phases_of c2 0 ≡ phases_of c1 0 =
+    ap (λ (z : NodeState). z.local.phases) ((becomes-put c1 i s2).others 0 (λ e. other (sym e))) in
+    let safe2 : (r : Ref) → Safe c1 r → Safe c2 r = λ r z. record {
+      object = z.object;
+      there = enter-slots b2 r.node r.slot ∙ z.there;
+      marked = λ rest.
+          absurd
+          (let w : Resting (phases_of c1 0) = subst Resting first2 rest in
+          omega (arith, w, marking1));
+    } in
+    let dressing : Dressing shape c2 d i n s = record {
+      inv = inv2;
+      inside = inside;
+      now = put-here c1 i s2;
+      calm = (inv.tidy i).calm
+          (not_from_true _ (eq-eqb _ _
+          (⊎_elim {C = s.local.phases.ended ≡ s.local.phases.cycle}
+          (λ there. absurd (omega (arith, there, behind)))
+          (λ b.
+          (let x = inv.phased.swept i in
+          let y = inv.phased.ended i in omega (arith, b.1, b.2, x, y)))
+          (inv.phased.apart i inside))));
+      before = λ e. (let w = inv.phased.ended i in omega (arith, e, w, behind));
+      safe = λ r a.
+          safe2 r (first.safe r (roots-all (Safe c) s.local.heap (inv.closed.roots i) r a));
+      becomes = record {
+        changed = becomes.changed;
+        others = λ j k.
+            becomes.others j k
+            ∙ sym ((becomes-put c1 i s2).others j k ∙ (becomes-put c i s1).others j k);
+      };
+    } in
+    let last : Moves shape c2 d i = dress-moves dressing in
+    record {
+      inv = last.inv;
+      first = ap (λ (z : ℕ → Phases). z 0) last.phases ∙ first2
+          ∙ ap (λ (z : ℕ → Phases). z 0) first.phases;
+      flight = λ from to place x f.
+          last.flight from to place x
+          (flies (enter-turn b2) from to place x (first.flight from to place x f)
+          (let same : taken c2 from to ≡ taken c1 from to =
+          at_turn (λ l z. got_from z.local from ≡ taken c1 from l) (enter-turn b2) refl
+          (λ l _. refl) to in
+          let w = (first.flight from to place x f).later in
+          omega (arith, same, w)));
+      got =
+          last.got
+          ∙ ap (λ (z : NodeState). z.local.got) (put-here c1 i s2);
+      reached =
+          ap (λ (z : ℕ → Phases). (z i).cycle) last.phases
+          ∙ ap (λ (z : NodeState). z.local.phases.cycle) (put-here c1 i s2);
+    }
 
-pub receipt-heard : (p : LocalState) (from number stamp : ℕ) (b : Body) → got_from p from ≤ number
-    → (j : ℕ) → got_from p j ≤ got_from (taken_in p from number stamp b).local j
-receipt-heard p from number stamp b more j =
-    subst (λ (z : List ℕ). got_from p j ≤ get_or z j 0) (sym (receipt-got p from number stamp b))
-    (set-no_fewer p.got from number more j)
+-- ---- counting may come last
 
--- the node that stands past the end of a list takes nothing in
-pub no-node-takes_nothing : (from to : ℕ) → is_addressed no_node.local from to ≡ true → ⊥
-no-node-takes_nothing from to h = nothing-below-zero from (and_parts _ _ (and_parts _ _ h).1).0
+ring-earlier_later : (b : Option Balance) (r : Ring) (k : ℤ)
+    → record (counted_down b r) { earlier = (counted_down b r).earlier +ℤ k }
+    ≡ counted_down b (record r { earlier = r.earlier +ℤ k })
+ring-earlier_later (Some Earlier) r k =
+    let e : (r.earlier -ℤ pos 1) +ℤ k ≡ (r.earlier +ℤ k) -ℤ pos 1 = omega (arith, ints) in
+    ap (λ (z : ℤ). record r { colour = Black; earlier = z }) e
+ring-earlier_later (Some Recent) r k = refl
+ring-earlier_later None r k = refl
+
+-- one counted work
+abbrev pub counted_work : ℕ → ℕ → ℕ → Body → Work → Work
+counted_work from number stamp b w =
+    record { local = count_in from number stamp b w.local; sends = w.sends }
+
+pub count-shade : (from number stamp : ℕ) (b : Body) (p : LocalState) (rs : List Ref)
+    → shade_all (at_rest (count_in from number stamp b p)) rs
+    ≡ counted_work from number stamp b (shade_all (at_rest p) rs)
+unfolding count_in
+count-shade from number stamp b p rs = ⊎_elim
+    {C = shade_all (at_rest (count_in from number stamp b p)) rs
+    ≡ counted_work from number stamp b (shade_all (at_rest p) rs)}
+    (λ opened.
+    shade_all-open (count_in from number stamp b p) [] rs opened
+    ∙ ap (λ (z : Ring). record {
+      local = record (shaded_work p [] rs).local { got = set p.got from number; ring = z };
+      sends = (shaded_work p [] rs).sends;
+    }) (ring-earlier_later (balance_of p.phases.cycle stamp b) p.ring _)
+    ∙ ap (counted_work from number stamp b) (sym (shade_all-open p [] rs opened)))
+    (λ shut.
+    shade_all-closed (at_rest (count_in from number stamp b p)) rs shut
+    ∙ ap (counted_work from number stamp b) (sym (shade_all-closed (at_rest p) rs shut)))
+    (cases_Bool (is_open p))
+
+count-vouch : (from number stamp : ℕ) (b : Body) (p : LocalState) (rs : List Ref)
+    → vouch_all (at_rest (count_in from number stamp b p)) rs
+    ≡ counted_work from number stamp b (vouch_all (at_rest p) rs)
+unfolding count_in
+count-vouch from number stamp b p rs = ⊎_elim
+    {C = vouch_all (at_rest (count_in from number stamp b p)) rs
+    ≡ counted_work from number stamp b (vouch_all (at_rest p) rs)}
+    (λ opened.
+    vouch_all-open (count_in from number stamp b p) [] rs opened
+    ∙ ap (counted_work from number stamp b) (sym (vouch_all-open p [] rs opened)))
+    (λ shut.
+    vouch_all-closed (at_rest (count_in from number stamp b p)) rs shut
+    ∙ ap (counted_work from number stamp b) (sym (vouch_all-closed (at_rest p) rs shut)))
+    (cases_Bool (is_open p))
+
+pub count-carried : (from number stamp : ℕ) (b : Body) (p : LocalState)
+    → take_carried stamp b (count_in from number stamp b p)
+    ≡ counted_work from number stamp b (take_carried stamp b p)
+unfolding count_in
+count-carried from number stamp b p = ⊎_elim
+    {C = take_carried stamp b (count_in from number stamp b p)
+    ≡ counted_work from number stamp b (take_carried stamp b p)}
+    (λ older.
+    cond-true (ltb stamp p.phases.cycle)
+    (shade_all (at_rest (count_in from number stamp b p)) (carried b)) _ older
+    ∙ count-shade from number stamp b p (carried b)
+    ∙ ap (counted_work from number stamp b)
+    (sym (cond-true (ltb stamp p.phases.cycle) (shade_all (at_rest p) (carried b)) _ older)))
+    (λ same.
+    cond-false (ltb stamp p.phases.cycle) _
+    (vouch_all (at_rest (count_in from number stamp b p)) (carried b)) same
+    ∙ count-vouch from number stamp b p (carried b)
+    ∙ ap (counted_work from number stamp b)
+    (sym (cond-false (ltb stamp p.phases.cycle) _ (vouch_all (at_rest p) (carried b)) same)))
+    (cases_Bool (ltb stamp p.phases.cycle))
+
+-- ---- a message with references, or a Mark
+
+-- The node is in the cycle of the message x, which is the first in flight from node j, or past it.
+pub record Taking (shape : Shaped) (c : Cut) (i j : ℕ) (x : Message) : Type 0 where
+  pub inv : Inv shape c
+  pub inside : i < shape.nodes
+  pub flight : IsInFlight c j i (taken c j i) x
+  pub reached : x.stamp ≤ cycle_of c i
+
+-- after other steps the message is still the first
+pub later-taking : {shape : Shaped} {c d : Cut} {i j : ℕ} {x : Message} → Taking shape c i j x
+    → Moves shape c d i → Taking shape d i j x
+later-taking {c = c} {d = d} {i = i} {j = j} {x = x} s m = record {
+  inv = m.inv;
+  inside = s.inside;
+  flight =
+      subst (λ (z : ℕ). IsInFlight d j i z x) (ap (λ (z : List ℕ). get_or z j 0) (sym m.got))
+      (m.flight j i (taken c j i) x s.flight);
+  reached =
+      (let same : cycle_of d i ≡ cycle_of c i = ap (λ (z : ℕ → Phases). (z i).cycle) m.phases in
+      (let w = s.reached in omega (arith, w, same)));
+}
+
+-- the message is counted, and that is all that is left
+pub count-last : {shape : Shaped} {c d e : Cut} {i j : ℕ} {x : Message} → Taking shape c i j x
+    → Moves shape c d i → Kind d i x
+    → ((t : Token) → x.body ≡ body.Token t → ⊥)
+    → ((r : Ref) → x.body ≡ body.Mark r
+    → (o : Object) × (slot_at (d r.node).local.heap r.slot ≡ Occupied r.generation o)
+    × (o.mark ≡ cycle_of d 0))
+    → (t : NodeState) → d i ≡ t
+    → Becomes d e i (record {
+      local = count_in j (taken c j i + 1) x.stamp x.body t.local;
+      sent = t.sent;
+    })
+    → Inv shape e
+unfolding count_in
+count-last {shape = shape} {c = c} {d = d} {e = e} {i = i} {j = j} {x = x} s m kind no_token target
+    t at becomes =
+    let now : Taking shape d i j x = later-taking s m in
+    let counting : Counting shape d i j x = record {
+      inv = m.inv;
+      inside = s.inside;
+      flight = now.flight;
+      kind = kind;
+      no_token = no_token;
+      target = target;
+    } in
+    let same : taken d j i ≡ taken c j i = ap (λ (z : List ℕ). get_or z j 0) m.got in
+    inner-inv (count-inner counting
+    (subst (λ (z : ℕ). Becomes d e i (record {
+      local = counted_local (d i).local j (z + 1) x.stamp x.body;
+      sent = (d i).sent;
+    })) (sym same)
+    (subst (λ (z : NodeState). Becomes d e i (record {
+      local = counted_local z.local j (taken c j i + 1) x.stamp x.body;
+      sent = z.sent;
+    })) (sym at) becomes)))
+
+-- from the cut before to the one after some steps of the node
+pub becomes-from : {c d e : Cut} {i : ℕ} {s t : NodeState} → Becomes c d i s → Becomes c e i t
+    → Becomes d e i t
+becomes-from a b = record {
+  changed = b.changed;
+  others = λ j other. b.others j other ∙ sym (a.others j other);
+}
+
+-- what the message carries is seen to
+pub carried-met : {shape : Shaped} {c d : Cut} {i j : ℕ} {x : Message} → Taking shape c i j x
+    → is_reference x.body ≡ true → StampFits (phases_of c 0) x.stamp
+    → Becomes c d i (worked (c i) (take_carried x.stamp x.body (c i).local))
+    → Met shape c d i (carried x.body)
+carried-met {shape = shape} {c = c} {d = d} {i = i} {j = j} {x = x} s is fits becomes =
+    let safe : (r : Ref) → Among r (carried x.body) → Safe c r =
+    λ r a.
+    all-among (Safe c) (carried x.body)
+    (subst (λ (z : List Ref). AllByRecursion (Safe c) z) (mentioned-carried x.body is)
+    (s.inv.closed.messages j i (taken c j i) x s.flight)) r a in
+    ⊎_elim {C = Met shape c d i (carried x.body)}
+    (λ older.
+    let less : x.stamp < cycle_of c i = ltb-true x.stamp (cycle_of c i) older in
+    let shadeable : Shadeable shape c i (carried x.body) = record {
+      inv = s.inv;
+      inside = s.inside;
+      safe = safe;
+      quiet = λ opened.
+          inr (
+            record {
+              from = j;
+              to = i;
+              place = taken c j i;
+              message = x;
+              flight = s.flight;
+              counted =
+                  reference-counts (cycle_of c 0) x.stamp x.body is
+                  ∙ lt-ltb x.stamp (cycle_of c 0)
+                  (let w = latest s.inv i s.inside in omega (arith, less, w));
+            },
+            ⊎_elim {C = Marking (phases_of c 0)}
+                (λ now. absurd (let w = latest s.inv i s.inside in omega (arith, now, less, w)))
+                (λ before. before.0) fits,
+          );
+    } in
+    shade-met shadeable
+    (subst (λ (z : Work). Becomes c d i (worked (c i) z))
+    (cond-true (ltb x.stamp (cycle_of c i)) (shade_all (at_rest (c i).local) (carried x.body)) _
+    older) becomes))
+    (λ same.
+    let most : cycle_of c i ≤ x.stamp = ltb-false x.stamp (cycle_of c i) same in
+    let vouchable : Vouchable shape c i (carried x.body) = record {
+      inv = s.inv;
+      inside = s.inside;
+      safe = safe;
+      covered = λ marking opened r a.
+          all-among (Covered c) (carried x.body)
+          (s.inv.cover.messages marking j i (taken c j i) x s.flight
+          (let w = open-joined s.inv s.inside opened in
+          let z = s.reached in
+          omega (arith, w, z, most))) r a;
+    } in
+    vouch-met vouchable
+    (subst (λ (z : Work). Becomes c d i (worked (c i) z))
+    (cond-false (ltb x.stamp (cycle_of c i)) _ (vouch_all (at_rest (c i).local) (carried x.body))
+    same) becomes))
+    (cases_Bool (ltb x.stamp (cycle_of c i)))
+
+abbrev pub Settles : Cut → Cut → ℕ → ℕ → ℕ → Body → Type 0
+Settles c d i j stamp b =
+    Becomes c d i (worked (c i) (settled j (taken c j i + 1) stamp b (c i).local))
+
+-- it is no Mark
+pub no-mark : (d : Cut) (b : Body) → is_reference b ≡ true → (r : Ref) → b ≡ body.Mark r
+    → (o : Object) × (slot_at (d r.node).local.heap r.slot ≡ Occupied r.generation o)
+    × (o.mark ≡ cycle_of d 0)
+no-mark d b is r e =
+    absurd (let never : is_reference (body.Mark r) ≡ true = ap is_reference (sym e) ∙ is in cc)
+
+pub no-token : (b : Body) → is_reference b ≡ true → (t : Token) → b ≡ body.Token t → ⊥
+no-token b is t e =
+    absurd (let never : is_reference (body.Token t) ≡ true = ap is_reference (sym e) ∙ is in cc)
+
+-- a letter
+pub take-give : {shape : Shaped} {c d : Cut} {i j stamp : ℕ} (label : ℕ) (reference : Option Ref)
+    → Taking shape c i j (record { stamp = stamp; body = body.Give label reference })
+    → StampFits (phases_of c 0) stamp → Settles c d i j stamp (body.Give label reference)
+    → Inv shape d
+unfolding settled take_body count_in
+take-give {shape = shape} {c = c} {d = d} {i = i} {j = j} {stamp = stamp} label reference s fits
+    becomes =
+    let b : Body = body.Give label reference in
+    let x : Message = record { stamp = stamp; body = b } in
+    let w : Work = take_carried stamp b (c i).local in
+    let l : Letter = record { from = j; label = label; reference = reference } in
+    let s1 : NodeState = worked (c i) w in
+    let c1 : Cut = put c i s1 in
+    let s2 : NodeState = re_rooted s1 s1.local.heap.registers (s1.local.heap.letters ++ l ∷ []) in
+    let c2 : Cut = put c1 i s2 in
+    let met : Met shape c c1 i (carried b) = carried-met s refl fits (becomes-put c i s1) in
+    let at1 : c1 i ≡ s1 = put-here c i s1 in
+    let old = known-roots i met.moves.inv in
+    let b2 : Becomes c1 c2 i
+    (re_rooted (c1 i) (c1 i).local.heap.registers ((c1 i).local.heap.letters ++ l ∷ [])) =
+    subst (λ (z : NodeState).
+    Becomes c1 c2 i (re_rooted z z.local.heap.registers (z.local.heap.letters ++ l ∷ [])))
+    (sym at1) (becomes-put c1 i s2) in
+    let second : Moves shape c1 c2 i =
+    roots-moves (c1 i).local.heap.registers ((c1 i).local.heap.letters ++ l ∷ []) s.inside b2
+    (record {
+      registers = old.registers;
+      letters = λ k.
+          at_push (λ z. IfAny (Known c1 i) z.reference) (c1 i).local.heap.letters k l no_letter
+          (known-option reference met.known) tt (old.letters k);
+    }) met.moves.inv in
+    let moves : Moves shape c c2 i = moves-through met.moves second in
+    let later : Taking shape c2 i j x = later-taking s moves in
+    let equal : worked (c i) (settled j (taken c j i + 1) stamp b (c i).local)
+    ≡ record { local = count_in j (taken c j i + 1) stamp b s2.local; sent = s2.sent } =
+    give-is (c i) (taken c j i + 1) in
+    count-last s moves
+    (reference-kind x moves.inv s.inside refl
+    (subst (λ (z : ℕ → Phases). StampFits (z 0) stamp) (sym moves.phases) fits) later.reached)
+    (no-token b refl) (no-mark c2 b refl) s2 (put-here c1 i s2)
+    (becomes-from (becomes-put c1 i s2)
+    (becomes-from (becomes-put c i s1) (subst (λ (z : NodeState). Becomes c d i z) equal becomes)))
+  where
+    give-is : (z : NodeState) (number : ℕ)
+        → worked z (settled j number stamp (body.Give label reference) z.local)
+        ≡ record {
+          local = count_in j number stamp (body.Give label reference)
+              (record (take_carried stamp (body.Give label reference) z.local).local {
+                heap =
+                    with_letter (take_carried stamp (body.Give label reference) z.local).local.heap
+                    (record { from = j; label = label; reference = reference });
+              });
+          sent = append_all z.sent (take_carried stamp (body.Give label reference) z.local).sends;
+        }
+    give-is z number =
+        let b : Body = body.Give label reference in
+        ap (λ (w : Work). worked z (then w (take_body j stamp b)))
+        (count-carried j number stamp b z.local)
+        ∙ ap (λ (ms : List (ℕ × Message)). record {
+          local = count_in j number stamp b
+              (record (take_carried stamp b z.local).local {
+                heap = with_letter (take_carried stamp b z.local).local.heap
+                    (record { from = j; label = label; reference = reference });
+              });
+          sent = append_all z.sent ms;
+        }) (append-nil (take_carried stamp b z.local).sends)
+
+-- a place is written
+pub take-put : {shape : Shaped} {c d : Cut} {i j stamp : ℕ} (target : Ref) (place : ℕ)
+    (reference : Option Ref)
+    → Taking shape c i j (record { stamp = stamp; body = body.Put target place reference })
+    → StampFits (phases_of c 0) stamp → Settles c d i j stamp (body.Put target place reference)
+    → Inv shape d
+unfolding settled take_body count_in
+take-put {shape = shape} {c = c} {d = d} {i = i} {j = j} {stamp = stamp} target place reference s
+    fits becomes =
+    let b : Body = body.Put target place reference in
+    let x : Message = record { stamp = stamp; body = b } in
+    let w : Work = take_carried stamp b (c i).local in
+    let s1 : NodeState = worked (c i) w in
+    let c1 : Cut = put c i s1 in
+    let s2 : NodeState = with_heap s1 (with_place s1.local.heap target place reference) in
+    let c2 : Cut = put c1 i s2 in
+    let met : Met shape c c1 i (carried b) = carried-met s refl fits (becomes-put c i s1) in
+    let at1 : c1 i ≡ s1 = put-here c i s1 in
+    let b2 : Becomes c1 c2 i
+    (with_heap (c1 i) (with_place (c1 i).local.heap target place reference)) =
+    subst (λ (z : NodeState).
+    Becomes c1 c2 i (with_heap z (with_place z.local.heap target place reference)))
+    (sym at1) (becomes-put c1 i s2) in
+    let second : Moves shape c1 c2 i =
+    rewrite-moves target place reference s.inside b2
+    (known-option reference (λ r a. met.known r (inr a))) met.moves.inv in
+    let moves : Moves shape c c2 i = moves-through met.moves second in
+    let later : Taking shape c2 i j x = later-taking s moves in
+    count-last s moves
+    (reference-kind x moves.inv s.inside refl
+    (subst (λ (z : ℕ → Phases). StampFits (z 0) stamp) (sym moves.phases) fits) later.reached)
+    (no-token b refl) (no-mark c2 b refl) s2 (put-here c1 i s2)
+    (becomes-from (becomes-put c1 i s2)
+    (becomes-from (becomes-put c i s1)
+    (subst (λ (z : NodeState). Becomes c d i z) (put-is (c i) (taken c j i + 1)) becomes)))
+  where
+    put-is : (z : NodeState) (number : ℕ)
+        → worked z (settled j number stamp (body.Put target place reference) z.local)
+        ≡ record {
+          local = count_in j number stamp (body.Put target place reference)
+              (record (take_carried stamp (body.Put target place reference) z.local).local {
+                heap =
+                    with_place
+                    (take_carried stamp (body.Put target place reference) z.local).local.heap
+                    target place reference;
+              });
+          sent = append_all z.sent
+              (take_carried stamp (body.Put target place reference) z.local).sends;
+        }
+    put-is z number =
+        let b : Body = body.Put target place reference in
+        ap (λ (w : Work). worked z (then w (take_body j stamp b)))
+        (count-carried j number stamp b z.local)
+        ∙ ap (λ (ms : List (ℕ × Message)). record {
+          local = count_in j number stamp b
+              (record (take_carried stamp b z.local).local {
+                heap = with_place (take_carried stamp b z.local).local.heap target place reference;
+              });
+          sent = append_all z.sent ms;
+        }) (append-nil (take_carried stamp b z.local).sends)
+
+-- an object is marked
+pub take-mark : {shape : Shaped} {c d : Cut} {i j stamp : ℕ} (r : Ref)
+    → Taking shape c i j (record { stamp = stamp; body = body.Mark r })
+    → Settles c d i j stamp (body.Mark r) → Inv shape d
+unfolding settled take_body count_in
+take-mark {shape = shape} {c = c} {d = d} {i = i} {j = j} {stamp = stamp} r s becomes =
+    let b : Body = body.Mark r in
+    let x : Message = record { stamp = stamp; body = b } in
+    let fits = s.inv.messages.fits j i (taken c j i) x s.flight in
+    let marking : Marking (phases_of c 0) = fits.1 in
+    let joined_now : Joined c i =
+    (let z = s.reached in let w = latest s.inv i s.inside in omega (arith, z, w, fits.2)) in
+    let s1 : NodeState = worked (c i) (shade_all (at_rest (c i).local) (r ∷ [])) in
+    let c1 : Cut = put c i s1 in
+    let safe : Safe c r = (s.inv.closed.messages j i (taken c j i) x s.flight).0 in
+    let shadeable : Shadeable shape c i (r ∷ []) = record {
+      inv = s.inv;
+      inside = s.inside;
+      safe = λ z a.
+          ⊎_elim {C = Safe c z} (λ e. subst (Safe c) (sym e) safe) (λ never. absurd never) a;
+      quiet = λ _.
+          inr (
+            record {
+              from = j;
+              to = i;
+              place = taken c j i;
+              message = x;
+              flight = s.flight;
+              counted = eq-eqb stamp (cycle_of c 0) fits.2;
+            },
+            marking,
+          );
+    } in
+    let met : Met shape c c1 i (r ∷ []) = shade-met shadeable (becomes-put c i s1) in
+    let inv1 : Inv shape c1 = met.moves.inv in
+    let marking1 : Marking (phases_of c1 0) =
+    subst (λ (z : ℕ → Phases). Marking (z 0)) (sym met.moves.phases) marking in
+    let cycles : (k : ℕ) → cycle_of c1 k ≡ cycle_of c k =
+    λ k. ap (λ (z : ℕ → Phases). (z k).cycle) met.moves.phases in
+    let joined1 : Joined c1 i = cycles i ∙ joined_now ∙ sym (cycles 0) in
+    let held : Holds (c1 i).local r =
+    (met.known r (inl refl)).held (marking-open inv1 marking1 joined1) in
+    let stamps : stamp ≡ cycle_of c1 0 = fits.2 ∙ sym (cycles 0) in
+    count-last s met.moves
+    (subst (λ (z : ℕ). Kind c1 i (record { stamp = z; body = b })) (sym stamps)
+    (mark-kind c1 i r joined1))
+    (λ t e. absurd cc)
+    (λ z e.
+    (let same : r ≡ z = mark-of r z e in
+    subst
+    (λ (y : Ref). (o : Object) × (slot_at (c1 y.node).local.heap y.slot ≡ Occupied y.generation o)
+    × (o.mark ≡ cycle_of c1 0)) same
+    (target-marked inv1 joined1 (fits.0) held)))
+    s1 (put-here c i s1)
+    (becomes-from (becomes-put c i s1)
+    (subst (λ (z : NodeState). Becomes c d i z) (mark-is (c i) (taken c j i + 1)) becomes))
+  where
+    mark-of : (a z : Ref) → body.Mark a ≡ body.Mark z → a ≡ z
+    mark-of a z e = cc
+
+    target-marked : {e : Cut} → Inv shape e → Joined e i → r.node ≡ i → Holds (e i).local r
+        → (o : Object) × (slot_at (e r.node).local.heap r.slot ≡ Occupied r.generation o)
+        × (o.mark ≡ cycle_of e 0)
+    target-marked {e = e} inv joined here (holds_marked o own there mark) =
+        (o, ap (λ (z : ℕ). slot_at (e z).local.heap r.slot) here ∙ there, mark ∙ joined)
+    target-marked inv joined here (holds_asked far asked) =
+        absurd (far (here ∙ sym (inv.base.own i s.inside)))
+
+    mark-is : (z : NodeState) (number : ℕ)
+        → worked z (settled j number stamp (body.Mark r) z.local)
+        ≡ record {
+          local = count_in j number stamp (body.Mark r)
+              (shade_all (at_rest z.local) (r ∷ [])).local;
+          sent = append_all z.sent (shade_all (at_rest z.local) (r ∷ [])).sends;
+        }
+    mark-is z number =
+        let b : Body = body.Mark r in
+        let p : LocalState = count_in j number stamp b z.local in
+        ap (λ (w : Work). worked z (then w (take_body j stamp b)))
+        (cond_both (ltb stamp p.phases.cycle) (at_rest p) (at_rest p) (λ w. w ≡ at_rest p)
+        (λ _. refl) (λ _. refl))
+        ∙ ap (worked z) (count-shade j number stamp b z.local (r ∷ []))

@@ -13,8 +13,9 @@ use Rattle.model.specs.declared.step.Outcome.{Outcome}
 use Rattle.model.specs.declared.step.Outcome.TheVariants as outcome
 use Rattle.model.specs.Checks.{guarded, AllPass}
 use Rattle.model.specs.State.{NodeState, node_at, sent_to, got_from}
-use Rattle.model.specs.Steps.{Effect, tests, made, receipt_tests, receipt, is_addressed, is_repeat, may_take, taken_in, unchanged, fits, all_tests, checked, after, act, receive, append_all, is_own}
-use Rattle.model.specs.World.{World, released, acknowledged, release_count, moved, delivery, handing, is_node, take_step, outcome_of, world_after, happens}
+use Rattle.model.specs.Effects.{Effect, unchanged}
+use Rattle.model.specs.Steps.{tests, made, receipt_tests, receipt, is_addressed, is_repeat, may_take, taken_in, fits, all_tests, checked, after, act, receive, append_all, is_own}
+use Rattle.model.specs.World.{World, released, acknowledged, release_count, moved, delivery, is_node, take_step, outcome_of, world_after, happens}
 use Rattle.model.proofs.Checks.{guarded-ok, guarded-passes, passed-parts}
 use Rattle.model.proofs.Lookups.{at_set_if}
 use Rattle.laws.proofs.Lookups.{Grows, grows-refl, grows-trans}
@@ -88,9 +89,9 @@ receive-ok s m t a h =
 -- which the node may take in, and is taken in.
 pub data Receipt (s : NodeState) (m : Delivery) (t : NodeState) (a : Answer) : Type 0 where
   repeated : t ≡ s → a ≡ answer.Repeat → Receipt s m t a
-  next : IsTurnOf s m → may_take s.local m.message.stamp m.message.body ≡ true
-      → Stepped s (tests_of s m)
-      (taken_in s.local m.from m.number m.message.stamp m.message.body) t a
+  next : IsTurnOf s m → may_take s.local m.from m.message.stamp m.message.body ≡ true
+      → Stepped s (tests_of s m) (taken_in s.local m.from m.number m.message.stamp m.message.body) t
+      a
       → Receipt s m t a
 
 pub receipt-cases : (s : NodeState) (m : Delivery) (t : NodeState) (a : Answer)
@@ -105,8 +106,8 @@ receipt-cases s m t a h =
     elim (cases_Bool (is_repeat s.local m.from m.number)) as (λ _. Receipt s m t a) [
       | inl again ↦ let same =
           as_found (unchanged s.local answer.Repeat)
-          (cond-true (is_repeat s.local m.from m.number) _ _ again) in
-          repeated same.state same.answer
+          (cond-true (is_repeat s.local m.from m.number) _ _ again) in repeated same.state
+          same.answer
       | inr first ↦ next
           (let later : got_from s.local m.from < m.number = leb-false m.number _ first in
           omega arith)
@@ -192,15 +193,12 @@ delivered-happening w from to number (Some x) within there =
     moved-happening w to (given_to (node_at w.current to) m)
     (λ t a h. delivered m t a (record { within = within; there = there; answered = h }))
 
--- an acknowledgement is handed over, or refused
-pub handing-both : (P : Result (World × Outcome) Refusal → Type 0) (w : World) (from to : ℕ)
-    → P (Ok (w, outcome.Handed (acknowledged w from to))) → ((e : Refusal) → P (Err e))
-    → P (handing w from to)
-handing-both P w from to answered refused =
-    cond_both (is_addressed (node_at w.current from).local to from) _ _ P
-    (λ _. cond_both (leb (acknowledged w from to) (release_count w from to)) _ _ P
-    (λ _. answered) (λ _. refused AckBeyond))
-    (λ _. refused WrongNode)
+-- what is only tested leaves the space as it was
+tested-happening : (w : World) (cs : List (Bool × Refusal)) (o : Outcome)
+    → Happening w (world_after w (guarded cs (w, o)))
+tested-happening w [] o = nothing
+tested-happening w ((true, r) ∷ cs) o = tested-happening w cs o
+tested-happening w ((false, r) ∷ cs) o = nothing
 
 pub happening : (w : World) (s : Step) → Happening w (happens w s)
 unfolding take_step
@@ -225,10 +223,13 @@ happening w (step.Deliver from to number) =
     (ltb-true _ _ (and_parts (is_node w from) (is_node w to) within).1) refl)
     (λ _. nothing)
 happening w (step.Hand from to) =
-    let P : Result (World × Outcome) Refusal → Type 0 = λ r. Happening w (world_after w r) in
-    cond_both (is_node w from && is_node w to) _ _ P
-    (λ _. cond_both (from == to) _ _ P (λ _. nothing)
-    (λ _. handing-both P w from to nothing (λ e. nothing)))
+    cond_both (is_node w from && is_node w to) _ _ (λ r. Happening w (world_after w r))
+    (λ _. cond_both (from == to) _ _ (λ r. Happening w (world_after w r))
+    (λ _. nothing)
+    (λ _.
+    tested-happening w ((is_addressed (node_at w.current from).local to from, WrongNode)
+    ∷ (leb (acknowledged w from to) (release_count w from to), AckBeyond) ∷ [])
+    (outcome.Handed (acknowledged w from to))))
     (λ _. nothing)
 
 -- a delivery that was answered

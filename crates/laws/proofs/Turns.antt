@@ -1,13 +1,13 @@
--- One node of a cut changes, and sends messages: what holds of each node, and what is in
--- flight, afterwards.
-use Rattle.std.proofs.Common.{◌≡◌, ◌≢◌, ℕ, ◌≤◌, List, [], ◌∷◌, ◌++◌, length, get_or, set, Some, slice_get, refl, sym, ap, subst, inl, inr, ⊎_elim, ◌⊎◌, length-append, arith}
+-- One node of a cut changes, and sends messages: what holds of each node, and what is in flight,
+-- afterwards.
+use Rattle.std.proofs.Common.{◌≡◌, ◌≢◌, ℕ, ◌+◌, ◌<◌, ◌≤◌, ◌∙◌, le_refl, length-set, get_or-set_same, List, [], ◌∷◌, ◌++◌, length, get_or, set, Some, slice_get, refl, sym, ap, subst, inl, inr, ⊎_elim, ◌⊎◌, length-append, arith}
 use Rattle.std.proofs.lemmas.Bool.{cases_eq}
 use Rattle.msg.specs.declared.body.Message.{Message}
 use Rattle.model.specs.State.{LocalState, NodeState, got_from, sent_to}
 use Rattle.model.specs.Steps.{append_all}
 use Rattle.model.specs.Cuts.{Cut, taken, IsInFlight, Among, Becomes}
 use Rattle.model.proofs.Lookups.{at_set_if}
-use Rattle.laws.proofs.Lookups.{slice_get-push}
+use Rattle.laws.proofs.Lookups.{slice_get-push, slice_get-grows, slice_get-last}
 use Rattle.laws.proofs.StepFacts.{append_all-grows}
 
 -- The node i has a new part and sent the messages; it forgot none that it had taken in.
@@ -77,3 +77,78 @@ sent-grows {c = c} {i = i} {ms = ms} t from to =
     (let more = append_all-grows (c i).sent ms to in
     omega (arith, ap length more.1, length-append (sent_to (c i) to) more.0))
     (λ j _. omega arith) from
+
+-- what was in flight still is, unless it was taken in
+pub flies : {c d : Cut} {i : ℕ} {p : LocalState} {ms : List (ℕ × Message)} → Turn c d i p ms
+    → (from to place : ℕ) (x : Message) → IsInFlight c from to place x → taken d from to ≤ place
+    → IsInFlight d from to place x
+flies {c = c} {i = i} {ms = ms} t from to place x flight later = record {
+  later = later;
+  there = at_turn (λ j s.
+      slice_get (sent_to (c j) to) place ≡ Some x → slice_get (sent_to s to) place ≡ Some x) t
+      (λ there.
+      slice_get-grows (sent_to (c i) to) _ place x (append_all-grows (c i).sent ms to) there)
+      (λ j _ there. there) from flight.there;
+}
+
+-- where a message that is sent comes to stand
+pub record StandsAt (c : Cut) (from to : ℕ) (x : Message) : Type 0 where
+  pub place : ℕ
+  pub flight : IsInFlight c from to place x
+
+record Appended (sent : List (List Message)) (ms : List (ℕ × Message)) (to : ℕ) (x : Message)
+    : Type 0 where
+  place : ℕ
+  later : length (get_or sent to []) ≤ place
+  there : slice_get (get_or (append_all sent ms) to []) place ≡ Some x
+
+appended-at : (sent : List (List Message)) (ms : List (ℕ × Message)) (to : ℕ) (x : Message)
+    → to < length sent → Among (to, x) ms → Appended sent ms to x
+appended-at sent [] to x inside never = absurd never
+appended-at sent ((other, y) ∷ ms) to x inside (inl e) =
+    let here : to ≡ other = ap (λ (z : ℕ × Message). z.0) e in
+    let same : x ≡ y = ap (λ (z : ℕ × Message). z.1) e in
+    let longer : List Message = get_or sent other [] ++ y ∷ [] in
+    let placed : slice_get (get_or (set sent other longer) to []) (length (get_or sent to []))
+    ≡ Some x =
+    ap (λ (z : List Message). slice_get z (length (get_or sent to [])))
+    (ap (λ (z : ℕ). get_or (set sent other longer) z []) here
+    ∙ get_or-set_same sent other longer [] (subst (λ (z : ℕ). z < length sent) here inside))
+    ∙ ap (λ (z : ℕ). slice_get longer (length (get_or sent z []))) here
+    ∙ slice_get-last (get_or sent other []) y
+    ∙ ap Some (sym same) in
+    record {
+      place = length (get_or sent to []);
+      later = le_refl _;
+      there = slice_get-grows _ _ (length (get_or sent to [])) x
+          (append_all-grows (set sent other longer) ms to) placed;
+    }
+appended-at sent ((other, y) ∷ ms) to x inside (inr rest) =
+    let longer : List Message = get_or sent other [] ++ y ∷ [] in
+    let found = appended-at (set sent other longer) ms to x
+    (subst (λ (z : ℕ). to < z) (sym (length-set sent other longer)) inside) rest in
+    let more : length (get_or sent to []) ≤ length (get_or (set sent other longer) to []) =
+    at_set_if (λ z. length (get_or sent to []) ≤ length z) sent other to longer []
+    (λ (e : other ≡ to).
+    let grew : length longer ≡ length (get_or sent other []) + 1 =
+    length-append (get_or sent other []) (y ∷ []) in
+    let at : length (get_or sent to []) ≡ length (get_or sent other []) =
+    ap (λ (z : ℕ). length (get_or sent z [])) (sym e) in
+    omega (arith, grew, at)) (le_refl _) in
+    record { place = found.place; later = omega (arith, more, found.later); there = found.there }
+
+-- what is sent is in flight then
+pub sent-flies : {c d : Cut} {i : ℕ} {p : LocalState} {ms : List (ℕ × Message)} → Turn c d i p ms
+    → (to : ℕ) (x : Message) → to < length (c i).sent
+    → taken d i to ≤ length (sent_to (c i) to) → Among (to, x) ms → StandsAt d i to x
+sent-flies {c = c} {d = d} {i = i} {ms = ms} t to x inside heard sent =
+    let found = appended-at (c i).sent ms to x inside sent in
+    record {
+      place = found.place;
+      flight = record {
+        later = omega (arith, heard, found.later);
+        there =
+            ap (λ (z : NodeState). slice_get (sent_to z to) found.place) t.becomes.changed
+            ∙ found.there;
+      };
+    }

@@ -15,10 +15,12 @@ use Rattle.model.specs.declared.event.Answer.TheVariants as answer
 use Rattle.model.specs.declared.step.Step.{Step}
 use Rattle.model.specs.declared.step.Step.TheVariants as step
 use Rattle.model.specs.declared.step.Outcome.TheVariants as outcome
-use Rattle.model.specs.State.{got_from, node_at}
+use Rattle.model.specs.declared.event.Answer.{Answer}
+use Rattle.model.specs.State.{Object, Occupied, NodeState, got_from, node_at, slot_at}
 use Rattle.model.specs.Steps.{target_of, act, receive}
 use Rattle.model.specs.World.{World, new_world, run, happens, released, acknowledged, release_count, take_step, outcome_of, is_event, IsInNet}
 use Rattle.model.specs.Cuts.{cut, IsLive, Reachable, PlainRun}
+use Rattle.model.specs.Agreement.{total, flow, is_counted, balance, EndsAlike, OldGarbage}
 
 -- A step that is no event leaves any space as it is.
 abbrev pub OnlyEventsChange : Type 0
@@ -42,9 +44,9 @@ ReachIsLive =
     → Reachable (cut (run (new_world shape) steps) choice) r
     → IsLive (cut (run (new_world shape) steps) choice) r
 
--- A message about an object is taken in by the object's owner, who still has it: a Put finds what
--- it is to write, and a Get what it is to read, however long they were on their way and whatever
--- was saved and restarted meanwhile.
+-- A message about an object is taken in by the object's owner, who still has it: a Mark finds what
+-- it is to mark, a Put what it is to write, and a Get what it is to read, however long they were on
+-- their way, whatever was swept meanwhile, and whatever was saved and restarted.
 abbrev pub TargetsAreLive : Type 0
 TargetsAreLive =
     (shape : Shaped) → IsShape shape
@@ -55,6 +57,59 @@ TargetsAreLive =
     ≡ Ok (outcome.Answer answer.Received)
     → (target.node ≡ to) × IsLive (cut (run (new_world shape) steps) (λ _. false)) target
 
+-- The balances add up: in every cut at every time, what the nodes have sent of the messages that
+-- node 0's cycle counts, less what they have taken in of them, is how many of them are in flight.
+abbrev pub BalancesAddUp : Type 0
+BalancesAddUp =
+    (shape : Shaped) → IsShape shape → (steps : List Step) (choice : ℕ → Bool)
+    → total shape.nodes
+    (λ i.
+    balance (cut (run (new_world shape) steps) choice 0).local.phases.cycle
+    (cut (run (new_world shape) steps) choice i).local)
+    ≡ flow shape.nodes
+    (is_counted (cut (run (new_world shape) steps) choice 0).local.phases.cycle)
+    (cut (run (new_world shape) steps) choice)
+
+-- No two nodes disagree whether a cycle's marking has ended, in any cut at any time. Where one
+-- counts it as ended it has terminated: every node has joined the cycle, none that is in it has a
+-- grey object, and nothing that it counts is in flight; node 0 counts it as ended too, and so does
+-- every node that has gone on to a later cycle.
+abbrev pub NodesAgree : Type 0
+NodesAgree =
+    (shape : Shaped) → IsShape shape
+    → (steps : List Step) (choice : ℕ → Bool) (i cycle : ℕ) → i < shape.nodes
+    → cycle ≤ (cut (run (new_world shape) steps) choice i).local.phases.ended
+    → EndsAlike shape.nodes cycle (cut (run (new_world shape) steps) choice)
+
+-- A sweep frees nothing that is reachable: what can be reached in a cut that takes the node's
+-- current state is in its slot before the sweep and after it, whatever the other nodes' states in
+-- the cut, current or saved.
+abbrev pub SweepsFreeNoneReachable : Type 0
+SweepsFreeNoneReachable =
+    (shape : Shaped) → IsShape shape
+    → (steps : List Step) (choice : ℕ → Bool) (i count : ℕ) (s : NodeState) (a : Answer) (r : Ref)
+    → choice i ≡ false
+    → act (node_at (run (new_world shape) steps).current i) (event.Sweep count) ≡ Ok (s, a)
+    → Reachable (cut (run (new_world shape) steps) choice) r → r.node ≡ i
+    → (o : Object)
+    × (slot_at (node_at (run (new_world shape) steps).current i).local.heap r.slot
+    ≡ Occupied r.generation o)
+    × (slot_at s.local.heap r.slot ≡ Occupied r.generation o)
+
+-- Old garbage goes, rings of objects across nodes included. Take any time before node 0 begins a
+-- cycle, and an object that its owner had saved then and that could be reached in no cut. In no cut
+-- of a later time does its owner still have it, once it has swept that cycle or a later one.
+abbrev pub OldGarbageGoes : Type 0
+OldGarbageGoes =
+    (shape : Shaped) → IsShape shape
+    → (earlier later : List Step) (choice : ℕ → Bool) (cycle : ℕ) (r : Ref)
+    → (node_at (run (new_world shape) earlier).current 0).local.phases.cycle < cycle
+    → OldGarbage (run (new_world shape) earlier) r
+    → cycle
+    ≤ (cut (run (run (new_world shape) earlier) later) choice r.node).local.phases.swept
+    → IsLive (cut (run (run (new_world shape) earlier) later) choice) r
+    → ⊥
+
 -- What was released once is released ever after: messages, and acknowledgements too, whatever was
 -- saved and restarted meanwhile. So a frame may be given to its receiver at any later time.
 abbrev pub NetGrows : Type 0
@@ -63,8 +118,9 @@ NetGrows =
     → IsInNet (run (new_world shape) earlier) f
     → IsInNet (run (run (new_world shape) earlier) later) f
 
--- A released message is for its receiver. It is refused in two cases alone: where the answer that
--- it asks for would need a number above the greatest, and where it comes before its turn.
+-- A released message is for its receiver. It is refused in two cases alone: where a message that it
+-- makes the receiver send would need a number above the greatest, and where it comes before its
+-- turn.
 abbrev pub NoneRefusedInTurn : Type 0
 NoneRefusedInTurn =
     (shape : Shaped) → IsShape shape
@@ -92,8 +148,8 @@ AcknowledgementsGoThrough =
     → act (node_at (run (new_world shape) steps).current a.to) (event.Ack a)
     ≡ Ok (node_at (run (new_world shape) steps).current a.to, answer.Done)
 
--- The greatest acknowledgement between two nodes is the one that is handed over, and that may
--- be done at any time.
+-- The greatest acknowledgement between two nodes is the one that is handed over, and that may be
+-- done at any time.
 abbrev pub HandsGoThrough : Type 0
 HandsGoThrough =
     (shape : Shaped) → IsShape shape

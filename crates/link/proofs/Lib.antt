@@ -1,3 +1,4 @@
 pub mod OneLink
 pub mod EveryLink
+pub mod Announcing
 mod Ends

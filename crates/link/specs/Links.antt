@@ -1,5 +1,5 @@
 -- What a contract sees of `Links`.
-use Rattle.std.specs.Prelude.{◌≡◌, ℕ, ◌+◌, ◌<◌, ◌≤◌, ◌^◌, Bool, List, [], ◌∷◌, length, map, replicate, slice_index_or, slice_set}
+use Rattle.std.specs.Prelude.{◌≡◌, ℕ, zero, suc, ◌+◌, ◌<◌, ◌≤◌, ◌^◌, ◌==◌, Bool, cond, List, [], ◌∷◌, ◌++◌, length, map, replicate, slice_index_or, slice_set}
 use Rattle.ids.specs.declared.limits.TheConstants.{GREATEST_NUMBER}
 use Rattle.msg.specs.declared.body.Message.{Message}
 use Rattle.model.specs.Steps.{fits}
@@ -33,6 +33,26 @@ fits_to v to x = fits (map used v.links) ((to, x) ∷ [])
 
 abbrev pub appended_to : LinksView → ℕ → Message → LinksView
 appended_to v to x = record v { links = append_to v.links ((to, x) ∷ []) }
+
+-- a message for a node, unless that is the one that sends it
+abbrev pub for_other : ℕ → Message → ℕ → List (ℕ × Message)
+for_other own x to = cond (to == own) [] ((to, x) ∷ [])
+
+-- the same message for each other node below this number, in order of their numbers
+abbrev pub for_others : ℕ → Message → ℕ → List (ℕ × Message)
+for_others own x zero = []
+for_others own x (suc n) = for_others own x n ++ for_other own x n
+
+-- a message for every node but one gets all its numbers
+abbrev pub fits_others : LinksView → ℕ → Message → Bool
+fits_others v own x = fits (map used v.links) (for_others own x (length v.links))
+
+-- the message is appended for the other nodes below this number, and for all of them
+abbrev pub announced_below : LinksView → ℕ → Message → ℕ → LinksView
+announced_below v own x n = record v { links = append_to v.links (for_others own x n) }
+
+abbrev pub announced : LinksView → ℕ → Message → LinksView
+announced v own x = announced_below v own x (length v.links)
 
 abbrev pub retracted_to : LinksView → ℕ → LinksView
 retracted_to v to = record v { links = slice_set v.links to (retracted (link_at v to)) }

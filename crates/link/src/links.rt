@@ -1,14 +1,16 @@
 ghost use Rattle.std.specs.Prelude.{◌≡◌, ◌≢◌, ◌+◌, ◌<◌, ◌≤◌, true, false, length, map, slice_index_or, IfSome, IfOk, IfErr, OnOk, OnErr};
 ghost use Rattle.ids.specs.declared.limits.TheConstants.{GREATEST_NUMBER};
 ghost use Rattle.ids.specs.declared.refusal.Refusal.TheVariants.{AckBeyond, LinkSpent, Memory};
-ghost use Rattle.model.specs.View.{used, message_of, released_at};
+ghost use Rattle.model.specs.Steps.{fits};
+ghost use Rattle.model.specs.View.{used, append_to, message_of, released_at};
 ghost use Rattle.link.specs.Receivers.{offered};
-ghost use Rattle.link.specs.Links.{IsLinks, new_links, link_at, got_at, ack_at, fits_to, appended_to, retracted_to, trimmed_to, taken_next_from, kept_links};
+ghost use Rattle.msg.specs.declared.body.Message.{Message};
+ghost use Rattle.link.specs.Links.{LinksView, IsLinks, new_links, link_at, got_at, ack_at, fits_to, appended_to, for_other, fits_others, announced_below, announced, retracted_to, trimmed_to, taken_next_from, kept_links};
 ghost use Rattle.link.specs.Ends.{new_ends, kept_ends};
 
 use crate::receiver::{Offer, Receiver};
 use crate::sender::Sender;
-use ids::Refusal;
+use ids::{GREATEST_NUMBER, Refusal};
 use msg::Message;
 use std::alloc::Global;
 use std::marker::Model;
@@ -108,6 +110,81 @@ impl Links {
         ensures sound { IsLinks self.new }
     {
         self.by_node[usize::from(to)].sender.append(message)
+    }
+
+    /// Appends the same message for every node but `own`, in ascending order: for all of them or
+    /// for none. [`Refusal::LinkSpent`] where one of their links has no number left; where all have
+    /// one, [`Refusal::Memory`] where a growth was refused. The links are then as they were.
+    pub fn announce(&mut self, own: u8, message: Message) -> Result<(), Refusal>
+        ensures fits { OnOk result (fits_others self.old own message ≡ true) }
+        ensures done { OnOk result (self.new ≡ announced self.old own message) }
+        ensures refused { IfErr result
+            (λ e. e ≢ Memory → (e ≡ LinkSpent) × (fits_others self.old own message ≡ false)) }
+        ensures memory { IfErr result
+            (λ e. e ≡ Memory → fits_others self.old own message ≡ true) }
+        ensures unchanged { OnErr result (self.new ≡ self.old) }
+        ensures sound { IsLinks self.new }
+    {
+        if !self.fits_others(own) {
+            return Err(Refusal::LinkSpent);
+        }
+        for to in 0..self.width() {
+            let Ok(()) = self.append_other(own, to, message) else {
+                self.retract_others(own, to);
+                return Err(Refusal::Memory);
+            };
+        }
+        Ok(())
+    }
+
+    // Whether every node but `own` has a number left.
+    fn fits_others(&self, own: u8) -> bool
+        ensures value { (x : Message) → result ≡ fits_others self.now own x }
+        ensures sound { IsLinks self.now }
+    {
+        let mut fits = true;
+        for to in 0..self.width() {
+            fits = fits && self.fits_other(own, to);
+        }
+        fits
+    }
+
+    // Whether a node has a number left, or is `own`.
+    fn fits_other(&self, own: u8, to: u8) -> bool
+        requires { to < length self.now.links }
+        ensures { (x : Message) → result ≡ fits (map used self.now.links) (for_other own x to) }
+    {
+        to == own || self.used(to) < GREATEST_NUMBER
+    }
+
+    // Appends a message for a node, unless that is `own`.
+    fn append_other(&mut self, own: u8, to: u8, message: Message) -> Result<(), Refusal>
+        requires { to < length self.old.links }
+        ensures done { OnOk result (self.new ≡ record self.old {
+          links = append_to self.old.links (for_other own message to);
+        }) }
+        ensures unchanged { OnErr result (self.new ≡ self.old) }
+        ensures sound { IsLinks self.old → IsLinks self.new }
+    {
+        if to != own {
+            self.append(to, message)?;
+        }
+        Ok(())
+    }
+
+    // Takes back what was announced last to the nodes below a number.
+    fn retract_others(&mut self, own: u8, below: u8)
+        requires { below ≤ length self.old.links }
+        ensures { (v : LinksView) (x : Message) → IsLinks v
+            → self.old ≡ announced_below v own x below → self.new ≡ v }
+    {
+        let mut left = below;
+        while left > 0 {
+            left -= 1;
+            if left != own {
+                self.retract(left);
+            }
+        }
     }
 
     /// Takes back the message that was appended last for the node `to`, if no saved node holds it;

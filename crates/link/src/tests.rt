@@ -233,3 +233,17 @@ fn from_each_node_messages_are_taken_in(rt: HostRuntime) -> Result<(), Refusal> 
     assert_eq!(rt; (copy.taken(1), copy.ack_number(1)), (1, 1));
     Ok(())
 }
+
+#[test]
+fn a_message_is_announced_to_all_others(rt: HostRuntime) -> Result<(), Refusal> {
+    let mut links = Links::new(rt.alloc(), 3)?;
+    assert_eq!(rt; links.width(), 3);
+    links.announce(1, letter(1))?;
+    assert_eq!(rt; links.width(), 3);
+    assert_eq!(rt; (links.used(0), links.used(1), links.used(2)), (1, 0, 1));
+    assert_eq!(rt;
+        (links.message(0, 1), links.message(2, 1)),
+        (Some(letter(1)), Some(letter(1)))
+    );
+    Ok(())
+}

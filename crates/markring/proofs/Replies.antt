@@ -4,7 +4,7 @@ use Rattle.ids.specs.Limits.{Shaped}
 use Rattle.ids.specs.declared.refusal.Refusal.{Refusal}
 use Rattle.ids.specs.declared.refusal.Refusal.TheVariants.{Memory}
 use Rattle.model.specs.Checks.{IsFirstRefusal}
-use Rattle.model.specs.World.{FollowsStep, World, new_world, is_step_memory_free, take_step}
+use Rattle.model.specs.World.{FollowsStep, World, new_world, is_shading_step, is_step_memory_free, take_step}
 use Rattle.model.specs.declared.step.Step.{Step}
 use Rattle.model.specs.declared.step.Outcome.{Outcome}
 use Rattle.model.specs.declared.step.Outcome.TheVariants as outcome
@@ -24,7 +24,7 @@ module _ {S : Type 0} (shows : S → World → Type 0) where
   -- a step that was taken
   pub outcome_shows : (h : Held) (step : Step) (x y : S) (o : Outcome)
       → ShowsHeld shows (state.Open x) h
-      → ((w : World) → shows x w → FollowsStep shows w (Ok o) y (take_step w step))
+      → ((w : World) → shows x w → FollowsStep shows w step (Ok o) y)
       → (k : Held) × TakesStep h step (reply.Outcome o) k × ShowsHeld shows (state.Open y) k
   outcome_shows awaited step x y o shown follows = absurd shown
   outcome_shows denied step x y o shown follows = absurd shown
@@ -34,7 +34,7 @@ module _ {S : Type 0} (shows : S → World → Type 0) where
   -- one that was refused
   pub refusal_shows : (h : Held) (step : Step) (x y : S) (e : Refusal)
       → ShowsHeld shows (state.Open x) h
-      → ((w : World) → shows x w → IsFirstRefusal e (take_step w step)
+      → ((w : World) → shows x w → IsFirstRefusal (is_shading_step step) e (take_step w step)
       × (is_step_memory_free w step ≡ true → e ≢ Memory) × shows y w)
       → (k : Held) × TakesStep h step (reply.Refused e) k × ShowsHeld shows (state.Open y) k
   refusal_shows awaited step x y e shown refused = absurd shown

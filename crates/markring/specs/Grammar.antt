@@ -55,10 +55,11 @@ of_three first second third make a b c =
     option_and_then (λ x. of_two second third (λ y z. make x y z) b c) (first a)
 
 -- what a verb says with no operand, with one, with two and with three
-unfoldable pub alone : ℕ → List ℕ → Option Line
-alone node verb =
-    cond (bytes_eq verb (codes "save")) (Some (line.Step (step.Save node)))
-    (cond (bytes_eq verb (codes "state")) (Some (line.State node)) None)
+unfoldable pub with_none : List ℕ → Option Event
+with_none verb =
+    cond (bytes_eq verb (codes "begin")) (Some event.Begin)
+    (cond (bytes_eq verb (codes "scan")) (Some event.Scan)
+    (cond (bytes_eq verb (codes "pass")) (Some event.Pass) None))
 
 unfoldable pub with_one : List ℕ → List ℕ → Option Event
 with_one verb a =
@@ -67,7 +68,9 @@ with_one verb a =
     (cond (bytes_eq verb (codes "accept"))
     (option_map (λ register. event.Accept register) (u16_of a))
     (cond (bytes_eq verb (codes "word"))
-    (option_map (λ object. event.Word object) (u16_of a)) None))
+    (option_map (λ object. event.Word object) (u16_of a))
+    (cond (bytes_eq verb (codes "sweep"))
+    (option_map (λ count. event.Sweep count) (u32_of a)) None)))
 
 unfoldable pub with_two : List ℕ → List ℕ → List ℕ → Option Event
 with_two verb a b =
@@ -97,6 +100,14 @@ with_three verb a b c =
 
 abbrev pub acted : ℕ → Option Event → Option Line
 acted node event = option_map (λ e. line.Step (step.Act node e)) event
+
+-- a verb that stands alone after a node's number
+unfoldable pub alone : ℕ → List ℕ → Option Line
+alone node verb =
+    cond (bytes_eq verb (codes "save")) (Some (line.Step (step.Save node)))
+    (cond (bytes_eq verb (codes "restart")) (Some (line.Step (step.Restart node)))
+    (cond (bytes_eq verb (codes "state")) (Some (line.State node))
+    (acted node (with_none verb))))
 
 -- what stands after a node's number
 unfoldable pub node_line_of : ℕ → List (List ℕ) → Option Line

@@ -5,7 +5,7 @@ use Rattle.std.specs.Str.Lines.{lines}
 use Rattle.ids.specs.Limits.{Shaped, IsShape}
 use Rattle.ids.specs.declared.refusal.Refusal.TheVariants.{Memory, NoNode}
 use Rattle.model.specs.Checks.{IsFirstRefusal}
-use Rattle.model.specs.World.{World, new_world, is_step_memory_free, take_step}
+use Rattle.model.specs.World.{World, new_world, is_shading_step, is_step_memory_free, take_step}
 use Rattle.model.specs.declared.step.Outcome.TheVariants as outcome
 use Rattle.model.specs.declared.step.Step.{Step}
 use Rattle.markring.specs.declared.line.Line.{Line}
@@ -45,7 +45,8 @@ abbrev pub IsStepReply : World → Step → Reply → Held → Type 0
 IsStepReply w step (reply.Outcome o) later =
     (v : World) × (take_step w step ≡ Ok (v, o)) × (later ≡ there v)
 IsStepReply w step (reply.Refused e) later =
-    IsFirstRefusal e (take_step w step) × (is_step_memory_free w step ≡ true → e ≢ Memory)
+    IsFirstRefusal (is_shading_step step) e (take_step w step)
+    × (is_step_memory_free w step ≡ true → e ≢ Memory)
     × (later ≡ there w)
 IsStepReply w step reply.Nothing later = ⊥
 IsStepReply w step (reply.Summary s) later = ⊥

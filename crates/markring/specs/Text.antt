@@ -5,6 +5,7 @@ use Rattle.ids.specs.declared.refusal.Refusal.{Refusal}
 use Rattle.ids.specs.Refusals.{refusal_text}
 use Rattle.ids.specs.Texts.{optional_text, reference_text}
 use Rattle.msg.specs.Texts.{colour_text}
+use Rattle.msg.specs.declared.body.Token.{Token}
 use Rattle.model.specs.declared.event.Letter.{Letter}
 use Rattle.model.specs.declared.event.Answer.{Answer}
 use Rattle.model.specs.declared.event.Answer.TheVariants as answer
@@ -17,6 +18,18 @@ letter_text l =
     codes "from " ++ (decimal l.from ++ (codes " label "
     ++ (decimal l.label ++ (codes " " ++ optional_text l.reference))))
 
+-- the token as it was handed on
+abbrev pub passed_text : Token → List ℕ
+passed_text t = codes "passed " ++ (signed_decimal t.q ++ (codes " " ++ colour_text t.colour))
+
+-- whether all slots are swept
+abbrev pub done_or_more : Bool → List ℕ
+done_or_more true = codes "done"
+done_or_more false = codes "more"
+
+abbrev pub freed_text : ℕ → Bool → List ℕ
+freed_text count done = codes "freed " ++ (decimal count ++ (codes " " ++ done_or_more done))
+
 abbrev pub answer_text : Answer → List ℕ
 answer_text (answer.New r) = reference_text r
 answer_text answer.Done = codes "ok"
@@ -24,6 +37,12 @@ answer_text (answer.Value r) = optional_text r
 answer_text (answer.Word n) = decimal n
 answer_text (answer.Sent n) = codes "sent " ++ decimal n
 answer_text (answer.Letter l) = letter_text l
+answer_text (answer.Begun cycle) = codes "cycle " ++ decimal cycle
+answer_text (answer.Scanned r) = codes "scanned " ++ reference_text r
+answer_text (answer.Passed token) = passed_text token
+answer_text answer.ProbeAgain = codes "probe again"
+answer_text (answer.Ended cycle) = codes "ended " ++ decimal cycle
+answer_text (answer.Freed count done) = freed_text count done
 answer_text answer.Received = codes "received"
 answer_text answer.Repeat = codes "repeat"
 

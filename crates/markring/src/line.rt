@@ -4,7 +4,7 @@ ghost use Rattle.std.specs.Char.{is_ascii_digit};
 ghost use Rattle.std.specs.List.{list_all};
 ghost use Rattle.model.specs.Steps.{is_own};
 ghost use Rattle.model.specs.World.{is_own_step};
-ghost use Rattle.markring.specs.Grammar.{alone, u8_of, delivery_of, hand_of, is_number, is_own_line, line_of, command_of, u64_of, u16_of, node_line_of, space_of, with_one, with_three, with_two, u32_of, words_of};
+ghost use Rattle.markring.specs.Grammar.{alone, u8_of, delivery_of, hand_of, is_number, is_own_line, line_of, command_of, u64_of, u16_of, node_line_of, space_of, with_none, with_one, with_three, with_two, u32_of, words_of};
 
 use model::{Event, Step};
 
@@ -129,7 +129,7 @@ fn node_line(node: u8, words: &[&str]) -> Option<Line>
     Some(Line::Step(Step::Act(node, event)))
 }
 
-/// What a verb says with no operand.
+/// What a verb says that stands alone after a node's number.
 #[tactic(auto, unfolding(crate::specs::Grammar::alone))]
 fn alone(node: u8, verb: &str) -> Option<Line>
     ensures reads { result ≡ alone node verb.now }
@@ -137,7 +137,22 @@ fn alone(node: u8, verb: &str) -> Option<Line>
 {
     match verb {
         "save" => Some(Line::Step(Step::Save(node))),
+        "restart" => Some(Line::Step(Step::Restart(node))),
         "state" => Some(Line::State(node)),
+        verb => Some(Line::Step(Step::Act(node, with_none(verb)?))),
+    }
+}
+
+/// What a verb says with no operand.
+#[tactic(auto, unfolding(crate::specs::Grammar::with_none))]
+fn with_none(verb: &str) -> Option<Event>
+    ensures reads { result ≡ with_none verb.now }
+    ensures own { IfSome result (λ e. IsTrue (is_own e)) }
+{
+    match verb {
+        "begin" => Some(Event::Begin),
+        "scan" => Some(Event::Scan),
+        "pass" => Some(Event::Pass),
         _ => None,
     }
 }
@@ -157,6 +172,9 @@ fn with_one(verb: &str, a: &str) -> Option<Event>
         }),
         "word" => Some(Event::Word {
             object: read_u16(a)?,
+        }),
+        "sweep" => Some(Event::Sweep {
+            count: read_u32(a)?,
         }),
         _ => None,
     }

@@ -2,7 +2,7 @@
 ghost use Rattle.std.specs.Prelude.{◌≡◌, ◌≤◌, ◌⊎◌, IfOk, IfErr, OnOk, IsTrue, ◌≢◌};
 ghost use Rattle.std.specs.Io.KnownBytes.{Appends};
 ghost use Rattle.ids.specs.declared.refusal.Refusal.TheVariants.{Memory};
-ghost use Rattle.model.specs.World.{World, FollowsStep, new_world, is_own_step, is_step_memory_free, take_step};
+ghost use Rattle.model.specs.World.{World, FollowsStep, new_world, is_own_step, is_step_memory_free};
 ghost use Rattle.world.specs.Shows.{ShowsWorld, summary_at};
 ghost use Rattle.markring.specs.Grammar.{line_of, words_of};
 ghost use Rattle.markring.specs.Script.{Moves, PrintsNoScript, PrintsReplies, RunsScript, TakesLine, TakesSpace, TakesState, TakesStep, reply_text, status_after};
@@ -41,7 +41,7 @@ trait Space: Drop + Sized {
     fn step(&mut self, step: Step) -> Result<Outcome, Refusal>
         requires own { IsTrue (is_own_step step) }
         ensures follows { (w : World) → shows self.old w
-            → FollowsStep shows w result self.new (take_step w step) }
+            → FollowsStep shows w step result self.new }
         ensures memory_free { (w : World) → shows self.old w → IsTrue (is_step_memory_free w step)
             → IfErr result (λ e. e ≢ Memory) };
 

@@ -1,18 +1,21 @@
 //! The texts of what a script's lines come to.
 ghost use Rattle.std.specs.Prelude.{◌≡◌, Some, IfOk, IfErr, string_bytes};
 ghost use Rattle.ids.specs.declared.refusal.Refusal.TheVariants.{Memory};
-ghost use Rattle.markring.specs.Text.{outcome_text, summary_text, yes_or_no};
+ghost use Rattle.markring.specs.Text.{done_or_more, outcome_text, summary_text, yes_or_no};
 
 use ids::{RefOrDash, Refusal};
 use model::{Answer, Letter, Outcome};
+use msg::Token;
 use node::Summary;
 use std::alloc::Global;
 use std::fmt;
 
 /// The text of what became of a step: a reference, a reference or `-` for what stood in a place, an
 /// object's word, `ok`, `sent` and the message's number, `from`, the sender, `label`, the label and
-/// the reference or `-`, `received`, `repeat`, `ack` and the number acknowledged, or `no frame`.
-/// The only refusal is [`Refusal::Memory`].
+/// the reference or `-`, `cycle` and the cycle that begins, `scanned` and the reference, `passed`,
+/// the token's sum and its colour, `probe again`, `ended` and the cycle, `freed`, the count and
+/// `done` or `more`, `received`, `repeat`, `ack` and the number acknowledged, or `no frame`. The
+/// only refusal is [`Refusal::Memory`].
 pub fn answer_text(alloc: Global, outcome: &Outcome) -> Result<String, Refusal>
     ensures text { IfOk result (λ s. string_bytes s ≡ outcome_text outcome.now) }
     ensures refused { IfErr result (λ e. e ≡ Memory) }
@@ -43,6 +46,16 @@ impl fmt::Display for OutcomeText {
                     },
                 ),
             ) => write!(f, "from {from} label {label} {}", RefOrDash(reference)),
+            Outcome::Answer(Answer::Begun(cycle)) => write!(f, "cycle {cycle}"),
+            Outcome::Answer(Answer::Scanned(reference)) => write!(f, "scanned {reference}"),
+            Outcome::Answer(Answer::Passed(Token { colour, q })) => {
+                write!(f, "passed {q} {colour}")
+            }
+            Outcome::Answer(Answer::ProbeAgain) => write!(f, "probe again"),
+            Outcome::Answer(Answer::Ended(cycle)) => write!(f, "ended {cycle}"),
+            Outcome::Answer(Answer::Freed { count, done }) => {
+                write!(f, "freed {count} {}", done_or_more(done))
+            }
             Outcome::Answer(Answer::Received) => write!(f, "received"),
             Outcome::Answer(Answer::Repeat) => write!(f, "repeat"),
             Outcome::Answer(Answer::Done) | Outcome::Done => write!(f, "ok"),
@@ -78,6 +91,12 @@ impl fmt::Display for SummaryText {
         write!(f, "colour {colour} old {earlier} cur {recent} ")?;
         write!(f, "grey {grey} live {live} token {token} letters {letters}")
     }
+}
+
+fn done_or_more(done: bool) -> &'static str
+    ensures { result.now ≡ done_or_more done }
+{
+    if done { "done" } else { "more" }
 }
 
 fn yes_or_no(yes: bool) -> &'static str

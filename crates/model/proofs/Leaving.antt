@@ -1,7 +1,9 @@
 -- What every event leaves as it was, on the node as it stands: proved once, from
 -- what the event does.
-use Rattle.std.proofs.Common.{◌≡◌, ℕ, Bool, List, [], ◌∷◌, ◌++◌, map, get_or, set, Option, Some, None, Result, Ok, Err, refl, ap, sym, ◌∙◌}
-use Rattle.std.proofs.lemmas.Bool.{cond_both}
+use Rattle.std.proofs.Common.{◌≡◌, ℕ, ◌+◌, ◌==◌, Bool, List, [], ◌∷◌, ◌++◌, map, get_or, set, Option, Some, None, option_to_list, Result, Ok, Err, refl, ap, sym, ◌∙◌, subst, ⊎_elim}
+use Rattle.std.specs.Prelude.{nat_lt}
+use Rattle.std.proofs.lemmas.Bool.{cases_Bool, cond_both}
+use Rattle.ids.specs.declared.names.Ref.{Ref}
 use Rattle.ids.specs.declared.refusal.Refusal.{Refusal}
 use Rattle.msg.specs.declared.body.Body.{Body}
 use Rattle.msg.specs.declared.body.Body.TheVariants as body
@@ -11,11 +13,17 @@ use Rattle.model.specs.declared.event.Event.{Event}
 use Rattle.model.specs.declared.event.Event.TheVariants as event
 use Rattle.model.specs.declared.event.Answer.{Answer}
 use Rattle.model.specs.declared.event.Answer.TheVariants as answer
-use Rattle.model.specs.State.{LocalState}
-use Rattle.model.specs.Steps.{Effect, tests, made, ack_of, is_repeat, unchanged, taken_in, all_tests, allocated, copied, dropped, loaded, stored, cleared, word_read, word_set, given, accepted, put_asked, get_asked, count_in, take_body}
+use Rattle.model.specs.State.{LocalState, slot_at}
+use Rattle.model.specs.Heaps.{object_at, place_of, place_loaded}
+use Rattle.model.specs.Effects.{Work, at_rest, Effect, answers, unchanged}
+use Rattle.model.specs.Counting.{append, announce}
+use Rattle.model.specs.Shading.{is_open, shade_all, vouch_all, filled, roots, enter, join, joined, last_grey, without_last_grey}
+use Rattle.model.specs.Collecting.{without_token, is_concluded, probe, begun, places_in, scan, scanned, conclude, judged, handed_on, passed, swept_slots}
+use Rattle.model.specs.Steps.{tests, made, ack_of, is_shading, is_repeat, carried, taken_in, settled, take_carried, all_tests, allocated, copied, dropped, loaded, stored, cleared, word_read, word_set, given, accepted, put_asked, get_asked, count_in, take_body}
 use Rattle.model.specs.View.{Link, NodeView, Performed, Leaves, no_link, used, appended, append_to, ack_tests, let_go, view_act, base_of, kept_of}
 use Rattle.model.proofs.Checks.{guarded-ok}
 use Rattle.model.proofs.Lookups.{map-set_same}
+use Rattle.model.proofs.ShadingParts.{shade_all-closed, shade_all-open, vouch_all-closed, vouch_all-open}
 use Rattle.model.proofs.Shown.{view-ok}
 
 -- where a node stands, and in what space
@@ -23,28 +31,123 @@ record StandsAs (p q : LocalState) : Type 0 where
   shape : q.shape ≡ p.shape
   own : q.own ≡ p.own
 
+same-stands : (p : LocalState) → StandsAs p p
+same-stands p = record { shape = refl; own = refl }
+
+stands-through : {p q r : LocalState} → StandsAs p q → StandsAs q r → StandsAs p r
+stands-through first second =
+    record { shape = second.shape ∙ first.shape; own = second.own ∙ first.own }
+
+shaded-stands : (w : Work) (rs : List Ref) → StandsAs w.local (shade_all w rs).local
+shaded-stands w rs =
+    ⊎_elim {C = StandsAs w.local (shade_all w rs).local}
+    (λ opened.
+    subst
+    (λ (x : Work). StandsAs w.local x.local)
+    (sym (shade_all-open w.local w.sends rs opened))
+    (record { shape = refl; own = refl }))
+    (λ shut.
+    subst
+    (λ (x : Work). StandsAs w.local x.local)
+    (sym (shade_all-closed w rs shut))
+    (same-stands w.local))
+    (cases_Bool (is_open w.local))
+
+vouched-stands : (w : Work) (rs : List Ref) → StandsAs w.local (vouch_all w rs).local
+vouched-stands w rs =
+    ⊎_elim {C = StandsAs w.local (vouch_all w rs).local}
+    (λ opened.
+    subst
+    (λ (x : Work). StandsAs w.local x.local)
+    (sym (vouch_all-open w.local w.sends rs opened))
+    (record { shape = refl; own = refl }))
+    (λ shut.
+    subst
+    (λ (x : Work). StandsAs w.local x.local)
+    (sym (vouch_all-closed w rs shut))
+    (same-stands w.local))
+    (cases_Bool (is_open w.local))
+
+join-stands : (p : LocalState) (cycle : ℕ) → StandsAs p (join p cycle).local
+unfolding join enter
+join-stands p cycle =
+    stands-through
+    (record { shape = refl; own = refl })
+    (shaded-stands (at_rest (enter p cycle)) (filled (roots p.heap)))
+
+joined-stands : (p : LocalState) (stamp : ℕ) → StandsAs p (joined p stamp).local
+joined-stands p stamp =
+    cond_both (nat_lt p.phases.cycle stamp) (join p stamp) (at_rest p)
+    (λ (x : Work). StandsAs p x.local)
+    (λ _. join-stands p stamp)
+    (λ _. same-stands p)
+
+carried-stands : (stamp : ℕ) (b : Body) (p : LocalState) → StandsAs p (take_carried stamp b p).local
+carried-stands stamp b p =
+    cond_both (nat_lt stamp p.phases.cycle)
+    (shade_all (at_rest p) (carried b))
+    (vouch_all (at_rest p) (carried b))
+    (λ (x : Work). StandsAs p x.local)
+    (λ _. shaded-stands (at_rest p) (carried b))
+    (λ _. vouched-stands (at_rest p) (carried b))
+
+body-stands : (from stamp : ℕ) (b : Body) (p : LocalState)
+    → StandsAs p (take_body from stamp b p).local
+unfolding take_body append
+body-stands from stamp body.Begin p = same-stands p
+body-stands from stamp (body.Token token) p = record { shape = refl; own = refl }
+body-stands from stamp (body.Mark target) p = shaded-stands (at_rest p) (target ∷ [])
+body-stands from stamp (body.Give label reference) p = record { shape = refl; own = refl }
+body-stands from stamp (body.Put target place reference) p = record { shape = refl; own = refl }
+body-stands from stamp (body.Get target place label) p =
+    stands-through
+    (shaded-stands (at_rest p) (option_to_list (place_of (object_at p.heap target) place)))
+    (record { shape = refl; own = refl })
+body-stands from stamp body.Ended p = record { shape = refl; own = refl }
+body-stands from stamp body.Swept p = record { shape = refl; own = refl }
+
+settled-stands : (from number stamp : ℕ) (b : Body) (p : LocalState)
+    → StandsAs p (settled from number stamp b p).local
+unfolding settled count_in
+settled-stands from number stamp b p =
+    stands-through
+    (stands-through
+    (record { shape = refl; own = refl })
+    (carried-stands stamp b (count_in from number stamp b p)))
+    (body-stands from stamp b (take_carried stamp b (count_in from number stamp b p)).local)
+
 taken-stands : (p : LocalState) (from number stamp : ℕ) (b : Body)
     → StandsAs p (taken_in p from number stamp b).local
-unfolding taken_in count_in take_body
-taken-stands p from number stamp body.Begin = record { shape = refl; own = refl }
-taken-stands p from number stamp (body.Token token) = record { shape = refl; own = refl }
-taken-stands p from number stamp (body.Mark target) = record { shape = refl; own = refl }
-taken-stands p from number stamp (body.Give label reference) = record { shape = refl; own = refl }
-taken-stands p from number stamp (body.Put target place reference) = record {
-  shape = refl;
-  own = refl;
-}
-taken-stands p from number stamp (body.Get target place label) = record { shape = refl; own = refl }
-taken-stands p from number stamp body.Ended = record { shape = refl; own = refl }
-taken-stands p from number stamp body.Swept = record { shape = refl; own = refl }
+unfolding taken_in
+taken-stands p from number stamp b =
+    stands-through
+    (joined-stands p stamp)
+    (settled-stands from number stamp b (joined p stamp).local)
+
+passed-stands : (p : LocalState) → StandsAs p (passed p).local
+unfolding passed append announce probe conclude
+passed-stands p =
+    cond_both (p.own == 0) (judged p) (handed_on p)
+    (λ (x : Effect). StandsAs p x.local)
+    (λ _.
+    cond_both (is_concluded p.ring)
+    (answers (conclude p) (answer.Ended p.phases.cycle))
+    (answers (probe (record p { ring = without_token p.ring })) answer.ProbeAgain)
+    (λ (x : Effect). StandsAs p x.local)
+    (λ _. record { shape = refl; own = refl })
+    (λ _. record { shape = refl; own = refl }))
+    (λ _. record { shape = refl; own = refl })
 
 made-stands : (p : LocalState) (counts : List ℕ) (e : Event) → StandsAs p (made p counts e).local
-unfolding allocated copied dropped loaded stored cleared word_read word_set given accepted put_asked
-    get_asked
+unfolding append announce allocated copied dropped loaded stored cleared word_read word_set given
+    accepted put_asked get_asked begun probe scanned scan swept_slots
 made-stands p counts (event.Alloc register places) = record { shape = refl; own = refl }
 made-stands p counts (event.Copy register source) = record { shape = refl; own = refl }
 made-stands p counts (event.Drop register) = record { shape = refl; own = refl }
-made-stands p counts (event.Load register object place) = record { shape = refl; own = refl }
+made-stands p counts (event.Load register object place) =
+    stands-through
+    (shaded-stands (at_rest p) (option_to_list (place_loaded p.heap object place)))
+    (record { shape = refl; own = refl })
 made-stands p counts (event.Store object place register) = record { shape = refl; own = refl }
 made-stands p counts (event.Clear object place) = record { shape = refl; own = refl }
 made-stands p counts (event.Word object) = record { shape = refl; own = refl }
@@ -53,11 +156,21 @@ made-stands p counts (event.Give to label register) = record { shape = refl; own
 made-stands p counts (event.Accept register) = record { shape = refl; own = refl }
 made-stands p counts (event.Put object place register) = record { shape = refl; own = refl }
 made-stands p counts (event.Get object place label) = record { shape = refl; own = refl }
+made-stands p counts event.Begin =
+    stands-through (join-stands p (p.phases.cycle + 1)) (record { shape = refl; own = refl })
+made-stands p counts event.Scan =
+    stands-through
+    (record { shape = refl; own = refl })
+    (shaded-stands
+    (at_rest (record p { heap = without_last_grey p.heap }))
+    (filled (places_in (slot_at p.heap (last_grey p.heap)))))
+made-stands p counts event.Pass = passed-stands p
+made-stands p counts (event.Sweep count) = record { shape = refl; own = refl }
 made-stands p counts (event.Data d) =
     cond_both (is_repeat p d.from d.number) (unchanged p answer.Repeat)
     (taken_in p d.from d.number d.stamp d.body)
     (λ (x : Effect). StandsAs p x.local)
-    (λ _. record { shape = refl; own = refl })
+    (λ _. same-stands p)
     (λ _. taken-stands p d.from d.number d.stamp d.body)
 made-stands p counts (event.Ack a) = record { shape = refl; own = refl }
 
@@ -79,7 +192,7 @@ let_go-none links o none = ap (let_go links) none
 
 -- what a call made of an event left as every event leaves it
 pub act-leaves : (n new : NodeView) (e : Event) (r : Result Answer Refusal)
-    → Performed r n new (view_act n e) → Leaves n new e
+    → Performed (is_shading e) r n new (view_act n e) → Leaves n new e
 unfolding view_act
 act-leaves n new e (Err f) p =
     let same : new ≡ n = p.unchanged in

@@ -1,6 +1,10 @@
 pub mod Checks
 pub mod Lookups
 pub mod IdleWrites
+pub mod Balances
+pub mod ShadingParts
+pub mod Appending
+pub mod Joining
 pub mod Shown
 pub mod Leaving
 pub mod References

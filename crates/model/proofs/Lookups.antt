@@ -2,19 +2,26 @@
 use Rattle.std.proofs.Common.{◌≡◌, ℕ, zero, suc, ◌+◌, ◌<◌, List, [], ◌∷◌, ◌++◌, length, map, take, drop, get_or, set, slice_get, replicate, ap, sym, ◌∙◌, refl, arith}
 use Rattle.std.proofs.lemmas.List.{take-append-drop}
 
--- What holds at each place of two lists of one length still holds after a write to one place of
--- both, where it holds of what was written.
-module _ {A B : Type 0} (P : A → B → Type 0) (d : A) (e : B) {x : A} {y : B} (here : P x y) where
-  pub both_set : (xs : List A) (ys : List B) (i : ℕ) → length xs ≡ length ys
-      → ((k : ℕ) → P (get_or xs k d) (get_or ys k e))
-      → (k : ℕ) → P (get_or (set xs i x) k d) (get_or (set ys i y) k e)
-  both_set [] [] i w h k = h k
-  both_set [] (b ∷ ys) i w h k = absurd (omega arith)
-  both_set (a ∷ xs) [] i w h k = absurd (omega arith)
-  both_set (a ∷ xs) (b ∷ ys) zero w h zero = here
-  both_set (a ∷ xs) (b ∷ ys) zero w h (suc k) = h (suc k)
-  both_set (a ∷ xs) (b ∷ ys) (suc i) w h zero = h zero
-  both_set (a ∷ xs) (b ∷ ys) (suc i) w h (suc k) = both_set xs ys i (omega arith) (λ j. h (suc j)) k
+-- What holds at a place of two lists of one length still holds after a write to one place of both.
+module _ {A B : Type 0} (P : A → B → Type 0) (d : A) (e : B) (x : A) (y : B) where
+  -- where it holds of what was written if that place was written
+  pub both_set_if : (xs : List A) (ys : List B) (i : ℕ) → length xs ≡ length ys → (k : ℕ)
+      → (i ≡ k → P x y) → P (get_or xs k d) (get_or ys k e)
+      → P (get_or (set xs i x) k d) (get_or (set ys i y) k e)
+  both_set_if [] [] i w k p h = h
+  both_set_if [] (b ∷ ys) i w k p h = absurd (omega arith)
+  both_set_if (a ∷ xs) [] i w k p h = absurd (omega arith)
+  both_set_if (a ∷ xs) (b ∷ ys) zero w zero p h = p refl
+  both_set_if (a ∷ xs) (b ∷ ys) zero w (suc k) p h = h
+  both_set_if (a ∷ xs) (b ∷ ys) (suc i) w zero p h = h
+  both_set_if (a ∷ xs) (b ∷ ys) (suc i) w (suc k) p h =
+      both_set_if xs ys i (omega arith) k (λ q. p (ap suc q)) h
+
+  -- where it holds of what was written, wherever that went, and held everywhere
+  pub both_set : (xs : List A) (ys : List B) (i : ℕ) → length xs ≡ length ys → P x y
+      → ((k : ℕ) → P (get_or xs k d) (get_or ys k e)) → (k : ℕ)
+      → P (get_or (set xs i x) k d) (get_or (set ys i y) k e)
+  both_set xs ys i w p h k = both_set_if xs ys i w k (λ _. p) (h k)
 
 -- two lists of one length that two functions can't tell apart at any place
 pub maps_agree : {A B : Type 0} (f : A → ℕ) (g : B → ℕ) (xs : List A) (ys : List B) (d : A) (e : B)

@@ -1,5 +1,5 @@
 -- Each change of a heap keeps a property of all references that the heap holds.
-use Rattle.std.proofs.Common.{◌≡◌, ℕ, zero, suc, ◌+◌, true, cond, ◌==◌, List, [], ◌∷◌, drop, replicate, get_or, is_some, Option, Some, None, refl, sym, subst}
+use Rattle.std.proofs.Common.{◌≡◌, ℕ, zero, suc, ◌+◌, ◌-◌, true, cond, ◌==◌, List, [], ◌∷◌, ◌++◌, length, map, take, drop, replicate, get_or, is_some, Option, Some, None, refl, sym, subst}
 use Rattle.std.specs.List.{AllByRecursion}
 use Rattle.std.specs.Option.{option_to_list, unwrap_or}
 use Rattle.std.proofs.lemmas.Bool.{cond_both}
@@ -7,10 +7,13 @@ use Rattle.std.proofs.lemmas.Grind.{get_or_after_one}
 use Rattle.ids.specs.Limits.{Shaped}
 use Rattle.ids.specs.declared.names.Ref.{Ref}
 use Rattle.model.specs.declared.event.Letter.{Letter}
-use Rattle.model.specs.State.{Object, Slot, Free, Occupied, Retired, Heap, new_heap}
+use Rattle.model.specs.State.{Object, Slot, Free, Occupied, Retired, Heap, slot_at, new_heap}
 use Rattle.model.specs.Heaps.{with_register, with_object, new_object, next_generation, slots_with, object_of, object_at, place_of, rewritten, with_rewritten, with_place, with_word, with_letter, no_letter}
+use Rattle.model.specs.Shading.{is_unmarked, with_mark, make_grey, make_all_grey, filled, reference_of, roots, without_last_grey}
+use Rattle.model.specs.Collecting.{greatest_generation, is_garbage, generation_in, places_in, vacated_slot, vacated, Sweeping, sweep_one, sweep_some}
 use Rattle.model.specs.References.{IfAny, HoldsOnly}
 use Rattle.model.proofs.Lookups.{at_set, at_push}
+use Rattle.model.proofs.ShadingParts.{filled-append}
 
 pub holds-with_register : (P : Ref → Type 0) (h : Heap) (k : ℕ) (r : Option Ref) → HoldsOnly P h
     → IfAny P r → HoldsOnly P (with_register h k r)
@@ -167,3 +170,123 @@ any-there P (Some s) r there h = h
 
 pub any-some : (P : Ref → Type 0) (v : Option Ref) (r : Ref) → IfAny P v → v ≡ Some r → P r
 any-some P v r h there = subst (IfAny P) there h
+
+-- ---- marking and sweeping
+
+marks_no_place : (P : Ref → Type 0) (h : Heap) (grey : List ℕ) → HoldsOnly P h
+    → HoldsOnly P (record h { grey = grey })
+marks_no_place P h grey all =
+    record { registers = all.registers; letters = all.letters; places = all.places }
+
+pub holds-make_grey : (P : Ref → Type 0) (cycle : ℕ) (h : Heap) (r : Ref) → HoldsOnly P h
+    → HoldsOnly P (make_grey cycle h r)
+unfolding make_grey
+holds-make_grey P cycle h r all =
+    cond_both
+    (is_unmarked cycle (object_at h r))
+    (record (with_rewritten h r (with_mark cycle)) { grey = h.grey ++ r.slot ∷ [] })
+    h
+    (HoldsOnly P)
+    (λ _.
+    marks_no_place P
+    (with_rewritten h r (with_mark cycle))
+    (h.grey ++ r.slot ∷ [])
+    (holds-with_rewritten P h r (with_mark cycle) (λ o j there. there) all))
+    (λ _. all)
+
+pub holds-make_all_grey : (P : Ref → Type 0) (own cycle : ℕ) (h : Heap) (rs : List Ref)
+    → HoldsOnly P h → HoldsOnly P (make_all_grey own cycle h rs)
+holds-make_all_grey P own cycle h [] all = all
+holds-make_all_grey P own cycle h (r ∷ rs) all =
+    holds-make_all_grey P own cycle (cond (r.node == own) (make_grey cycle h r) h) rs
+    (cond_both (r.node == own) (make_grey cycle h r) h
+    (HoldsOnly P)
+    (λ _. holds-make_grey P cycle h r all)
+    (λ _. all))
+
+pub holds-without_last_grey : (P : Ref → Type 0) (h : Heap) → HoldsOnly P h
+    → HoldsOnly P (without_last_grey h)
+holds-without_last_grey P h all = marks_no_place P h (take (length h.grey - 1) h.grey) all
+
+vacated_slot_holds : (P : Ref → Type 0) (g : ℕ) → SlotHolds P (vacated_slot g)
+vacated_slot_holds P g =
+    cond_both (g == greatest_generation) Retired (Free (g + 1))
+    (SlotHolds P)
+    (λ _ k o j e. absurd cc)
+    (λ _ k o j e. absurd cc)
+
+holds-vacated : (P : Ref → Type 0) (h : Heap) (k g : ℕ) → HoldsOnly P h
+    → HoldsOnly P (vacated h k g)
+holds-vacated P h k g all = record {
+  registers = all.registers;
+  letters = all.letters;
+  places = λ i generation o j e.
+      at_set (SlotHolds P) h.slots k i (vacated_slot g) Retired
+      (vacated_slot_holds P g)
+      (λ f x l. all.places i f x l)
+      generation o j e;
+}
+
+pub holds-sweep_one : (P : Ref → Type 0) (cycle k : ℕ) (s : Sweeping) → HoldsOnly P s.heap
+    → HoldsOnly P (sweep_one cycle k s).heap
+unfolding sweep_one
+holds-sweep_one P cycle k s all =
+    cond_both
+    (is_garbage cycle (get_or s.heap.slots k Retired))
+    (record {
+      heap = vacated s.heap k (generation_in (get_or s.heap.slots k Retired));
+      freed = s.freed + 1;
+    })
+    s
+    (λ (z : Sweeping). HoldsOnly P z.heap)
+    (λ _. holds-vacated P s.heap k (generation_in (get_or s.heap.slots k Retired)) all)
+    (λ _. all)
+
+pub holds-sweep_some : (P : Ref → Type 0) (cycle k count : ℕ) (s : Sweeping) → HoldsOnly P s.heap
+    → HoldsOnly P (sweep_some cycle k count s).heap
+holds-sweep_some P cycle k zero s all = all
+holds-sweep_some P cycle k (suc n) s all =
+    holds-sweep_some P cycle (k + 1) n (sweep_one cycle k s) (holds-sweep_one P cycle k s all)
+
+-- ---- what is shaded together
+
+pub all-append : {X : Type 0} (P : X → Type 0) (xs ys : List X) → AllByRecursion P xs
+    → AllByRecursion P ys → AllByRecursion P (xs ++ ys)
+all-append P [] ys first second = second
+all-append P (x ∷ xs) ys first second = (first.0, all-append P xs ys first.1 second)
+
+-- what is there of a list has the property that each has
+pub holds-filled : (P : Ref → Type 0) (os : List (Option Ref))
+    → ((k : ℕ) → IfAny P (get_or os k None)) → AllByRecursion P (filled os)
+holds-filled P [] h = tt
+holds-filled P (o ∷ os) h =
+    all-append P (option_to_list o) (filled os)
+    (any-list P o (h zero))
+    (holds-filled P os (λ k. h (suc k)))
+
+letter-references : (P : Ref → Type 0) (ls : List Letter)
+    → ((k : ℕ) → IfAny P (get_or ls k no_letter).reference) → (k : ℕ)
+    → IfAny P (get_or (map reference_of ls) k None)
+letter-references P [] h k = tt
+letter-references P (l ∷ ls) h zero = h zero
+letter-references P (l ∷ ls) h (suc k) = letter-references P ls (λ i. h (suc i)) k
+
+-- what programs hold
+pub holds-roots : (P : Ref → Type 0) (h : Heap) → HoldsOnly P h
+    → AllByRecursion P (filled (roots h))
+holds-roots P h all =
+    subst (AllByRecursion P) (sym (filled-append h.registers (map reference_of h.letters)))
+    (all-append P (filled h.registers) (filled (map reference_of h.letters))
+    (holds-filled P h.registers all.registers)
+    (holds-filled P (map reference_of h.letters) (letter-references P h.letters all.letters)))
+
+places_in_slot : (P : Ref → Type 0) (s : Slot) → SlotHolds P s
+    → AllByRecursion P (filled (places_in s))
+places_in_slot P (Free g) h = tt
+places_in_slot P (Occupied g o) h = holds-filled P o.places (λ j. h g o j refl)
+places_in_slot P Retired h = tt
+
+-- what the places of a slot's object hold
+pub holds-places : (P : Ref → Type 0) (h : Heap) (k : ℕ) → HoldsOnly P h
+    → AllByRecursion P (filled (places_in (slot_at h k)))
+holds-places P h k all = places_in_slot P (slot_at h k) (λ g o j. all.places k g o j)

@@ -15,8 +15,9 @@ use Rattle.model.specs.declared.event.Event.TheVariants as event
 use Rattle.model.specs.declared.event.Answer.TheVariants as answer
 use Rattle.msg.specs.declared.frame.Data.{Data}
 use Rattle.model.specs.State.{LocalState, NodeState, got_from}
-use Rattle.model.specs.Checks.{guarded, AllPass}
-use Rattle.model.specs.Steps.{Effect, checked, tests, made, fits, ack_of, is_addressed, is_repeat, may_take, receipt_tests, receipt, taken_in, unchanged, act, after, append_all}
+use Rattle.model.specs.Checks.{guarded, AllPass, IsOkOrSpent, IsReplaced}
+use Rattle.model.specs.Effects.{Effect, unchanged}
+use Rattle.model.specs.Steps.{checked, tests, made, fits, ack_of, is_addressed, is_repeat, may_take, receipt_tests, receipt, taken_in, act, after, is_shading, append_all}
 use Rattle.model.specs.View.{Link, NodeView, ShowsSent, Shows, link_to, IsTold, Follows, Performs, no_link, used, appended, append_to, ack_tests, trimmed, let_go, view_act, view_after, view_done}
 use Rattle.model.proofs.Checks.{guarded-ok, guarded-passes, guarded-pass, guarded-without, passed-parts, passed-both, guarded-passed}
 use Rattle.model.proofs.Lookups.{both_set, maps_agree}
@@ -42,8 +43,8 @@ shows_sends links sent (m ∷ ms) h =
     shows_sends (set links m.0 (appended (get_or links m.0 no_link) m.1))
     (set sent m.0 (get_or sent m.0 [] ++ m.1 ∷ [])) ms (record {
       width = length-set links m.0 _ ∙ h.width ∙ sym (length-set sent m.0 _);
-      each = both_set ShowsSent no_link [] (shows_appended _ _ _ (h.each m.0)) links sent m.0
-          h.width h.each;
+      each = both_set ShowsSent no_link [] _ _ links sent m.0 h.width
+          (shows_appended _ _ _ (h.each m.0)) h.each;
     })
 
 used_is : (l : Link) (sent : List Message) → ShowsSent l sent → used l ≡ length sent
@@ -92,9 +93,8 @@ shows_let_go links sent (Some a) h = record {
       → ShowsSent
       (get_or (set links a.from (trimmed (get_or links a.from no_link) a.number)) i no_link)
       (get_or z i [])) (set-get_or sent a.from [])
-      (both_set ShowsSent no_link [] (shows_trimmed _ _ a.number (h.each a.from)) links sent a.from
-      h.width
-      h.each);
+      (both_set ShowsSent no_link [] _ _ links sent a.from h.width
+      (shows_trimmed _ _ a.number (h.each a.from)) h.each);
 }
 
 -- the tests of an acknowledgement that a state can't make
@@ -140,85 +140,112 @@ view-err : (n : NodeView) (links : List Link) (r : Result Effect Refusal) (e : R
 view-err n links (Ok x) e h = absurd cc
 view-err n links (Err f) e h = let same : f ≡ e = cc in ap (λ z. Err z) same
 
--- the tests, the number of messages and the effect are those of the state
-module _ (n new : NodeView) (s : NodeState) (e : Event) (h : Shows n s) where
-  follows_effect : (r : Result Answer Refusal) (ts : List (Bool × Refusal)) (x : Effect)
-      (f : List (Bool × Refusal))
-      → Performs r new
-      (view_after n (let_go n.links (ack_of e)) (guarded (unheard ts n (ack_of e) f) x))
-      → Follows e r new (after s (guarded (ts ++ f) x))
-  follows_effect (Ok a) ts x f p =
-      let found =
-      view-ok n new (let_go n.links (ack_of e)) (guarded (unheard ts n (ack_of e) f) x) a p in
-      let same : x ≡ found.0 = guarded-ok (unheard ts n (ack_of e) f) x found.0 found.1 in
+spent-told : (o : Option Ack) (e : Refusal) → e ≡ LinkSpent → IsTold o e
+spent-told None e h = tt
+spent-told (Some a) e h = λ beyond. let wrong : LinkSpent ≡ AckBeyond = sym h ∙ beyond in absurd cc
+
+-- what memory is refused in place of: of the state the same as of the node as it stands
+module _ (n : NodeView) (s : NodeState) (o : Option Ack) (links : List Link)
+    (ts f : List (Bool × Refusal)) (x : Effect) where
+  spent-heard : (r : Result Effect Refusal) → guarded (unheard ts n o f) x ≡ r
+      → IsOkOrSpent (view_after n links r) → IsOkOrSpent (after s (guarded (ts ++ f) x))
+  spent-heard (Ok y) h t =
+      subst (λ (z : Result (NodeState × Answer) Refusal). IsOkOrSpent z)
+      (sym
+      (ap (after s)
+      (guarded-pass (ts ++ f) x (passed-heard ts f n o (guarded-passes (unheard ts n o f) x y h)))))
+      tt
+  spent-heard (Err e) h t =
+      subst (λ (z : Result (NodeState × Answer) Refusal). IsOkOrSpent z)
+      (sym (ap (after s) (refused-heard ts f n o x e (spent-told o e t) h))) t
+
+  replaced-heard : (shading : Bool)
+      → IsReplaced shading (view_after n links (guarded (unheard ts n o f) x))
+      → IsReplaced shading (after s (guarded (ts ++ f) x))
+  replaced-heard false h =
+      let found = view-answered n links (guarded (unheard ts n o f) x) h in
       let passed : AllPass (ts ++ f) =
-      passed-heard ts f n (ack_of e)
-      (guarded-passes (unheard ts n (ack_of e) f) x found.0 found.1) in
-      let all : ShowAll (append_to (let_go n.links (ack_of e)) x.sends)
-      (append_all s.sent x.sends) =
-      shows_sends (let_go n.links (ack_of e)) s.sent x.sends
-      (shows_let_go n.links s.sent (ack_of e) (record { width = h.width; each = h.links })) in
-      let shown : Shows
-      (record n { local = x.local; links = append_to (let_go n.links (ack_of e)) x.sends })
-      (record { local = x.local; sent = append_all s.sent x.sends }) =
-      record { local = refl; width = all.width; links = all.each } in (
-        record { local = x.local; sent = append_all s.sent x.sends },
-        ap (after s) (guarded-pass (ts ++ f) x passed)
-            ∙ ap
-            (λ (z : Answer). Ok (record { local = x.local; sent = append_all s.sent x.sends }, z))
-            (ap (λ (z : Effect). z.answer) same ∙ sym found.3),
-        subst
-            (λ (z : NodeView).
-            Shows z (record { local = x.local; sent = append_all s.sent x.sends }))
-            (ap (λ (z : Effect). record n {
-              local = z.local;
-              links = append_to (let_go n.links (ack_of e)) z.sends;
-            }) same ∙ sym found.2) shown,
-      )
-  follows_effect (Err r) ts x f p = λ told. (
-    (λ ne.
-        ap (after s)
-        (refused-heard ts f n (ack_of e) x r told
-        (view-err n (let_go n.links (ack_of e)) (guarded (unheard ts n (ack_of e) f) x) r
-        (p.0 ne)))),
-    (λ full.
+      passed-heard ts f n o (guarded-passes (unheard ts n o f) x found.0 found.1) in
+      subst (λ (z : Result (NodeState × Answer) Refusal). IsOk z)
+      (sym (ap (after s) (guarded-pass (ts ++ f) x passed))) refl
+  replaced-heard true h =
+      spent-heard (guarded (unheard ts n o f) x) refl h
+
+-- the tests, the number of messages and the effect are those of the state
+module _ (n : NodeView) (s : NodeState) (e : Event) (ts f : List (Bool × Refusal)) (x : Effect)
+  where
+    follows_effect : (new : NodeView) (r : Result Answer Refusal) → Shows n s
+        → Performs (is_shading e) r new
+        (view_after n (let_go n.links (ack_of e)) (guarded (unheard ts n (ack_of e) f) x))
+        → Follows e r new (after s (guarded (ts ++ f) x))
+    follows_effect new (Ok a) h p =
         let found =
-        view-answered n (let_go n.links (ack_of e)) (guarded (unheard ts n (ack_of e) f) x)
-        (p.1 full) in
+        view-ok n new (let_go n.links (ack_of e)) (guarded (unheard ts n (ack_of e) f) x) a p in
+        let same : x ≡ found.0 = guarded-ok (unheard ts n (ack_of e) f) x found.0 found.1 in
         let passed : AllPass (ts ++ f) =
         passed-heard ts f n (ack_of e)
         (guarded-passes (unheard ts n (ack_of e) f) x found.0 found.1) in
-        subst (λ (z : Result (NodeState × Answer) Refusal). IsOk z)
-        (sym (ap (after s) (guarded-pass (ts ++ f) x passed))) refl),
-  )
+        let all : ShowAll (append_to (let_go n.links (ack_of e)) x.sends)
+        (append_all s.sent x.sends) =
+        shows_sends (let_go n.links (ack_of e)) s.sent x.sends
+        (shows_let_go n.links s.sent (ack_of e) (record { width = h.width; each = h.links })) in
+        let shown : Shows
+        (record n { local = x.local; links = append_to (let_go n.links (ack_of e)) x.sends })
+        (record { local = x.local; sent = append_all s.sent x.sends }) =
+        record { local = refl; width = all.width; links = all.each } in (
+          record { local = x.local; sent = append_all s.sent x.sends },
+          ap (after s) (guarded-pass (ts ++ f) x passed)
+              ∙ ap
+              (λ (z : Answer). Ok (record { local = x.local; sent = append_all s.sent x.sends }, z))
+              (ap (λ (z : Effect). z.answer) same ∙ sym found.3),
+          subst
+              (λ (z : NodeView).
+              Shows z (record { local = x.local; sent = append_all s.sent x.sends }))
+              (ap (λ (z : Effect). record n {
+                local = z.local;
+                links = append_to (let_go n.links (ack_of e)) z.sends;
+              }) same ∙ sym found.2) shown,
+        )
+    follows_effect new (Err r) h p = λ told. (
+      (λ ne.
+          ap (after s)
+          (refused-heard ts f n (ack_of e) x r told
+          (view-err n (let_go n.links (ack_of e)) (guarded (unheard ts n (ack_of e) f) x) r
+          (p.0 ne)))),
+      (λ full.
+          replaced-heard n s (ack_of e) (let_go n.links (ack_of e)) ts f x (is_shading e)
+          (p.1 full)),
+    )
 
 -- What a node answered to an event, and the node after it, follow the event on every
 -- state that it shows.
 pub act-shown : (n new : NodeView) (e : Event) (r : Result Answer Refusal)
-    → Performs r new (view_act n e) → (s : NodeState) → Shows n s → Follows e r new (act s e)
+    → Performs (is_shading e) r new (view_act n e) → (s : NodeState) → Shows n s
+    → Follows e r new (act s e)
 unfolding act view_act
 act-shown n new e r p s h =
     let local : n.local ≡ s.local = h.local in
     let counts : map used n.links ≡ map length s.sent = counts_agree n s h in
-    let ready : Performs r new
+    let ready : Performs (is_shading e) r new
     (view_after n (let_go n.links (ack_of e))
     (checked (tests s.local e ++ ack_tests n (ack_of e)) (map length s.sent)
     (made s.local (map length s.sent) e))) =
     subst (λ (c : List ℕ).
-    Performs r new
+    Performs (is_shading e) r new
     (view_after n (let_go n.links (ack_of e))
     (checked (tests s.local e ++ ack_tests n (ack_of e)) c (made s.local c e)))) counts
     (subst (λ (z : LocalState).
-    Performs r new
+    Performs (is_shading e) r new
     (view_after n (let_go n.links (ack_of e))
     (checked (tests z e ++ ack_tests n (ack_of e)) (map used n.links)
     (made z (map used n.links) e)))) local p) in
-    follows_effect n new s e h r (tests s.local e) (made s.local (map length s.sent) e)
-    ((fits (map length s.sent) (made s.local (map length s.sent) e).sends, LinkSpent) ∷ []) ready
+    follows_effect n s e (tests s.local e)
+    ((fits (map length s.sent) (made s.local (map length s.sent) e).sends, LinkSpent) ∷ [])
+    (made s.local (map length s.sent) e) new r h ready
 
 -- a message that the node may take in, in its turn
 pub view-taken_in : (n : NodeView) (d : Data) → is_addressed n.local d.from d.to ≡ true
-    → d.number ≡ got_from n.local d.from + 1 → may_take n.local d.stamp d.body ≡ true
+    → d.number ≡ got_from n.local d.from + 1 → may_take n.local d.from d.stamp d.body ≡ true
     → view_act n (event.Data d)
     ≡ view_done n (taken_in n.local d.from (got_from n.local d.from + 1) d.stamp d.body)
 unfolding view_act

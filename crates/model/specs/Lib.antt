@@ -1,8 +1,13 @@
 pub mod Checks
 pub mod State
 pub mod Heaps
+pub mod Effects
+pub mod Counting
+pub mod Shading
+pub mod Collecting
 pub mod Steps
 pub mod View
 pub mod World
 pub mod Cuts
 pub mod References
+pub mod Agreement

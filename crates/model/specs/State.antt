@@ -56,7 +56,7 @@ pub record LocalState : Type 0 where
   pub shape : Shaped
   pub own : ℕ
   pub heap : Heap
-  -- references of other nodes whose marking was asked for in this cycle
+  -- references of other nodes that were shaded or vouched for in this cycle
   pub asked : List Ref
   pub phases : Phases
   pub ring : Ring

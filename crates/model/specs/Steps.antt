@@ -1,6 +1,6 @@
 -- What an event does to a node ("Events" in docs/RULES.md). An event is a list of tests in the
 -- order of its refusals, an effect that is total, and one last test: that its messages get numbers.
-use Rattle.std.specs.Prelude.{ℕ, pos, ◌+◌, ◌+ℤ◌, ◌-ℤ◌, Bool, true, false, ◌&&◌, ◌||◌, not, cond, nat_lt, nat_le, ◌==◌, List, [], ◌∷◌, ◌++◌, length, map, Option, Some, None, option_to_list, Result, Ok, Err, slice_index_or, slice_set}
+use Rattle.std.specs.Prelude.{ℕ, ◌+◌, Bool, true, false, ◌&&◌, ◌||◌, not, cond, nat_lt, nat_le, ◌==◌, List, [], ◌∷◌, ◌++◌, length, map, Option, Some, None, is_none, option_to_list, Result, Ok, Err, slice_index_or, slice_set}
 use Rattle.ids.specs.Limits.{Shaped}
 use Rattle.ids.specs.declared.names.Ref.{Ref}
 use Rattle.ids.specs.declared.limits.TheConstants.{GREATEST_NUMBER}
@@ -9,57 +9,24 @@ use Rattle.ids.specs.declared.refusal.Refusal.TheVariants.{NoNode, SelfSend, Lin
 use Rattle.msg.specs.declared.body.Body.{Body}
 use Rattle.msg.specs.declared.body.Body.TheVariants as body
 use Rattle.msg.specs.declared.body.Message.{Message}
-use Rattle.msg.specs.declared.body.Colour.TheVariants.{Black}
 use Rattle.msg.specs.declared.frame.Ack.{Ack}
 use Rattle.model.specs.declared.event.Event.{Event}
 use Rattle.model.specs.declared.event.Event.TheVariants as event
 use Rattle.model.specs.declared.event.Answer.{Answer}
 use Rattle.model.specs.declared.event.Answer.TheVariants as answer
 use Rattle.model.specs.Checks.{guarded}
-use Rattle.model.specs.State.{Heap, Ring, LocalState, NodeState, register_at, got_from}
+use Rattle.model.specs.State.{LocalState, NodeState, register_at, got_from}
 use Rattle.model.specs.Heaps.{with_register, with_place, with_word, new_reference, named, object_at, word_of, oldest_letter, with_letter, alloc_heap, register_copied, place_of, place_loaded, letter_taken, alloc_tests, copy_tests, drop_tests, load_tests, store_tests, clear_tests, word_tests, put_tests, get_tests, accept_tests, register_tests}
+use Rattle.model.specs.Effects.{Work, at_rest, then, Effect, answers, becomes, unchanged}
+use Rattle.model.specs.Counting.{balance_of, counted_down, append}
+use Rattle.model.specs.Shading.{is_open, is_calm, shade, shade_all, vouch_all, joined}
+use Rattle.model.specs.Collecting.{token_sender, begin_tests, begun, scan_tests, scanned, pass_tests, passed, sweep_tests, swept_slots, reports_sweep}
 
--- a node's part after some step, and the messages that it appended, each with
--- its receiver, in order
-pub record Work : Type 0 where
-  pub local : LocalState
-  pub sends : List (ℕ × Message)
-
--- one step after another
-abbrev pub then : Work → (LocalState → Work) → Work
-then w f = record { local = (f w.local).local; sends = w.sends ++ (f w.local).sends }
-
--- what an event does: the part, the messages, the answer
-pub record Effect : Type 0 where
-  pub local : LocalState
-  pub sends : List (ℕ × Message)
-  pub answer : Answer
-
-abbrev pub answers : Work → Answer → Effect
-answers w a = record { local = w.local; sends = w.sends; answer = a }
-
--- the part alone changes
-abbrev pub becomes : LocalState → Heap → Answer → Effect
-becomes p h a = record { local = record p { heap = h }; sends = []; answer = a }
-
--- nothing changes
-abbrev pub unchanged : LocalState → Answer → Effect
-unchanged p a = record { local = p; sends = []; answer = a }
-
--- The messages that carry references are counted: one that is sent counts one up at its sender,
--- with those of the current cycle.
-abbrev pub counted_up : LocalState → LocalState
-counted_up p = record p { ring = record p.ring { recent = p.ring.recent +ℤ pos 1 } }
-
--- a message that carries references to another node; counts says for each node how many messages
--- were appended so far
+-- A message to another node that is answered with its number; counts says for each node how many
+-- messages were appended so far.
 abbrev pub sends_one : LocalState → List ℕ → ℕ → Body → Effect
 sends_one p counts to b =
-    record {
-      local = counted_up p;
-      sends = (to, record { stamp = p.phases.cycle; body = b }) ∷ [];
-      answer = answer.Sent (slice_index_or counts to 0 + 1);
-    }
+    answers (append to b p) (answer.Sent (slice_index_or counts to 0 + 1))
 
 -- Alloc
 unfoldable pub allocated : LocalState → ℕ → ℕ → Effect
@@ -75,11 +42,18 @@ copied p register source = becomes p (register_copied p.heap register source) an
 unfoldable pub dropped : LocalState → ℕ → Effect
 dropped p register = becomes p (with_register p.heap register None) answer.Done
 
--- Load
+-- Load: what the place holds is shaded, and then the register gets it
+abbrev pub with_loaded : ℕ → Option Ref → LocalState → Work
+with_loaded register v p = at_rest (record p { heap = with_register p.heap register v })
+
+abbrev pub load_value : LocalState → ℕ → Option Ref → Effect
+load_value p register v =
+    answers
+    (then (shade_all (at_rest p) (option_to_list v)) (with_loaded register v))
+    (answer.Value v)
+
 unfoldable pub loaded : LocalState → ℕ → ℕ → ℕ → Effect
-loaded p register object place =
-    becomes p (with_register p.heap register (place_loaded p.heap object place))
-    (answer.Value (place_loaded p.heap object place))
+loaded p register object place = load_value p register (place_loaded p.heap object place)
 
 -- Store
 unfoldable pub stored : LocalState → ℕ → ℕ → ℕ → Effect
@@ -167,80 +141,103 @@ abbrev pub are_within : Shaped → List Ref → Bool
 are_within shape [] = true
 are_within shape (r ∷ rs) = is_within shape r && are_within shape rs
 
--- A body that the node with this number may follow: what a message is about is the node's own. The
--- bodies of marking aren't followed yet.
-abbrev pub may_follow : ℕ → Body → Bool
-may_follow own (body.Give label reference) = true
-may_follow own (body.Put target place reference) = target.node == own
-may_follow own (body.Get target place label) = target.node == own
-may_follow own b = false
+-- The node is in the cycle of a message with this stamp, or past it, or may join it. Node 0 begins
+-- cycles and joins none; another one joins the next one alone, and only when it has swept its own.
+abbrev pub may_reach : LocalState → ℕ → Bool
+may_reach p stamp =
+    nat_le stamp p.phases.cycle
+    || (not (p.own == 0)
+    && (nat_le stamp (p.phases.cycle + 1) && nat_le p.phases.cycle p.phases.swept))
+
+-- A body that the node may follow when it comes from there: what it is about is the node's own;
+-- node 0 alone says that a cycle begins and that marking has ended, and alone hears who has swept.
+abbrev pub may_follow : LocalState → ℕ → Body → Bool
+may_follow p from body.Begin = from == 0
+may_follow p from (body.Token token) = from == token_sender p
+may_follow p from (body.Mark target) = target.node == p.own
+may_follow p from (body.Give label reference) = true
+may_follow p from (body.Put target place reference) = target.node == p.own
+may_follow p from (body.Get target place label) = target.node == p.own
+may_follow p from body.Ended = from == 0
+may_follow p from body.Swept = p.own == 0
+
+-- the node is in the cycle of this stamp, and doesn't know its marking to have ended
+abbrev pub is_marking : LocalState → ℕ → Bool
+is_marking p stamp = (stamp == p.phases.cycle) && is_open p
+
+-- What the ring and the sweep say must be true of a node that has joined the message's cycle.
+abbrev pub may_settle : LocalState → ℕ → Body → Bool
+may_settle p stamp (body.Token token) = is_marking p stamp && is_none p.ring.token
+may_settle p stamp body.Ended =
+    is_marking p stamp && (is_calm p.heap && is_none p.ring.token)
+may_settle p stamp body.Swept = stamp == p.phases.cycle
+may_settle p stamp b = true
 
 -- a message that the node may take in, in its turn
-abbrev pub may_take : LocalState → ℕ → Body → Bool
-may_take p stamp b =
-    nat_le stamp p.phases.cycle && (are_within p.shape (mentioned b) && may_follow p.own b)
-
--- a body that is counted: it carries references, whether or not the one that may
--- be left out is there
-abbrev pub is_reference : Body → Bool
-is_reference (body.Give label reference) = true
-is_reference (body.Put target place reference) = true
-is_reference (body.Get target place label) = true
-is_reference b = false
-
--- A counted message that is taken in counts one down: with those of the current cycle where it was
--- sent in that cycle. One of an earlier cycle counts with those, and makes the node black.
-abbrev pub counted_down : ℕ → ℕ → Ring → Ring
-counted_down cycle stamp r =
-    cond (nat_lt stamp cycle) (record r { colour = Black; earlier = r.earlier -ℤ pos 1 })
-    (record r { recent = r.recent -ℤ pos 1 })
+abbrev pub may_take : LocalState → ℕ → ℕ → Body → Bool
+may_take p from stamp b =
+    may_reach p stamp
+    && (are_within p.shape (mentioned b)
+    && (may_follow p from b && may_settle (joined p stamp).local stamp b))
 
 -- the message counts as taken in
-unfoldable pub count_in : LocalState → ℕ → ℕ → ℕ → Body → Work
-count_in p from number stamp b =
-    record {
-      local = record p {
-        got = slice_set p.got from number;
-        ring = cond (is_reference b) (counted_down p.phases.cycle stamp p.ring) p.ring;
-      };
-      sends = [];
+unfoldable pub count_in : ℕ → ℕ → ℕ → Body → LocalState → LocalState
+count_in from number stamp b p =
+    record p {
+      got = slice_set p.got from number;
+      ring = counted_down (balance_of p.phases.cycle stamp b) p.ring;
     }
 
--- what its body asks for: a letter is added; a place is written; what stands in
--- a place is sent back
-unfoldable pub take_body : ℕ → Body → LocalState → Work
-take_body from (body.Give label reference) p =
-    record {
-      local = record p {
-        heap = with_letter p.heap
-            (record { from = from; label = label; reference = reference });
-      };
-      sends = [];
-    }
-take_body from (body.Put target place reference) p =
-    record { local = record p { heap = with_place p.heap target place reference }; sends = [] }
-take_body from (body.Get target place label) p =
-    record {
-      local = counted_up p;
-      sends = (
-        from,
-        record {
-          stamp = p.phases.cycle;
-          body = body.Give label (place_of (object_at p.heap target) place);
-        },
-      ) ∷ [];
-    }
-take_body from b p = record { local = p; sends = [] }
+-- What it carries is shaded where it comes from an earlier cycle than the node's, and vouched for
+-- where it comes from the same.
+abbrev pub take_carried : ℕ → Body → LocalState → Work
+take_carried stamp b p =
+    cond
+    (nat_lt stamp p.phases.cycle)
+    (shade_all (at_rest p) (carried b))
+    (vouch_all (at_rest p) (carried b))
+
+-- a place is read for another node: what it holds is shaded, and then sent back
+abbrev pub answer_get : ℕ → ℕ → Option Ref → LocalState → Work
+answer_get from label v p =
+    then (shade_all (at_rest p) (option_to_list v)) (append from (body.Give label v))
+
+-- what its body asks for: the token is held; an object is marked; a letter is added; a place is
+-- written; what stands in a place is sent back; marking has ended; a node has swept
+unfoldable pub take_body : ℕ → ℕ → Body → LocalState → Work
+take_body from stamp body.Begin p = at_rest p
+take_body from stamp (body.Token token) p =
+    at_rest (record p { ring = record p.ring { token = Some token } })
+take_body from stamp (body.Mark target) p = shade (at_rest p) target
+take_body from stamp (body.Give label reference) p =
+    at_rest (record p {
+      heap = with_letter p.heap (record { from = from; label = label; reference = reference });
+    })
+take_body from stamp (body.Put target place reference) p =
+    at_rest (record p { heap = with_place p.heap target place reference })
+take_body from stamp (body.Get target place label) p =
+    answer_get from label (place_of (object_at p.heap target) place) p
+take_body from stamp body.Ended p =
+    at_rest (record p { phases = record p.phases { ended = p.phases.cycle } })
+take_body from stamp body.Swept p =
+    at_rest (record p {
+      phases = record p.phases { reports = slice_set p.phases.reports from stamp };
+    })
+
+-- a message is taken in by a node that is in its cycle or past it
+unfoldable pub settled : ℕ → ℕ → ℕ → Body → LocalState → Work
+settled from number stamp b p =
+    then (take_carried stamp b (count_in from number stamp b p)) (take_body from stamp b)
 
 unfoldable pub taken_in : LocalState → ℕ → ℕ → ℕ → Body → Effect
 taken_in p from number stamp b =
-    answers (then (count_in p from number stamp b) (take_body from b)) answer.Received
+    answers (then (joined p stamp) (settled from number stamp b)) answer.Received
 
 abbrev pub receipt_tests : LocalState → ℕ → ℕ → ℕ → ℕ → Body → List (Bool × Refusal)
 receipt_tests p from to number stamp b =
     (is_addressed p from to, WrongNode)
     ∷ (nat_le number (got_from p from + 1), OutOfOrder)
-    ∷ (is_repeat p from number || may_take p stamp b, WrongNode)
+    ∷ (is_repeat p from number || may_take p from stamp b, WrongNode)
     ∷ []
 
 abbrev pub receipt : LocalState → ℕ → ℕ → ℕ → Body → Effect
@@ -263,6 +260,10 @@ tests p (event.Give to label register) =
 tests p (event.Accept register) = accept_tests p.heap register
 tests p (event.Put object place register) = put_tests p.own p.heap object place register
 tests p (event.Get object place label) = get_tests p.own p.heap object place
+tests p event.Begin = begin_tests p
+tests p event.Scan = scan_tests p
+tests p event.Pass = pass_tests p
+tests p (event.Sweep count) = sweep_tests p
 tests p (event.Data d) = receipt_tests p d.from d.to d.number d.stamp d.body
 tests p (event.Ack a) = (is_addressed p a.from a.to, WrongNode) ∷ []
 
@@ -280,6 +281,10 @@ made p counts (event.Give to label register) = given p counts to label register
 made p counts (event.Accept register) = accepted p register
 made p counts (event.Put object place register) = put_asked p counts object place register
 made p counts (event.Get object place label) = get_asked p counts object place label
+made p counts event.Begin = begun p
+made p counts event.Scan = scanned p
+made p counts event.Pass = passed p
+made p counts (event.Sweep count) = swept_slots p count
 made p counts (event.Data d) = receipt p d.from d.number d.stamp d.body
 made p counts (event.Ack a) = unchanged p answer.Done
 
@@ -334,7 +339,17 @@ is_own (event.Data d) = false
 is_own (event.Ack a) = false
 is_own e = true
 
--- An event that is never refused for want of memory. A message may want some in its turn alone.
+-- An event that shades. It may append any number of Marks, and how many shows only when it looks at
+-- each reference in turn, so memory may be refused before a link shows to have no number left.
+abbrev pub is_shading : Event → Bool
+is_shading (event.Load register object place) = true
+is_shading event.Begin = true
+is_shading event.Scan = true
+is_shading (event.Data d) = true
+is_shading e = false
+
+-- An event that is never refused for want of memory. A message may want some in its turn alone, and
+-- a sweep only to report that it is done.
 abbrev pub is_memory_free : LocalState → Event → Bool
 is_memory_free p (event.Copy register source) = true
 is_memory_free p (event.Drop register) = true
@@ -343,6 +358,7 @@ is_memory_free p (event.Clear object place) = true
 is_memory_free p (event.Word object) = true
 is_memory_free p (event.SetWord object word) = true
 is_memory_free p (event.Accept register) = true
+is_memory_free p (event.Sweep count) = not (reports_sweep p count)
 is_memory_free p (event.Data d) = not (is_next p d.from d.number)
 is_memory_free p (event.Ack a) = true
 is_memory_free p e = false

@@ -11,7 +11,8 @@ use Rattle.model.specs.declared.event.Event.{Event}
 use Rattle.model.specs.declared.event.Answer.{Answer}
 use Rattle.model.specs.Checks.{IsFirstRefusal}
 use Rattle.model.specs.State.{LocalState, NodeState, new_local, got_from}
-use Rattle.model.specs.Steps.{Effect, checked, tests, made, ack_of, taken_in}
+use Rattle.model.specs.Effects.{Effect}
+use Rattle.model.specs.Steps.{checked, tests, made, ack_of, taken_in, is_shading}
 
 -- What a node keeps of the messages to another node: the highest number that was acknowledged, the
 -- messages after it, and how many of all its messages a saved node holds.
@@ -150,19 +151,21 @@ IsTold (Some a) e = e ≢ AckBeyond
 abbrev pub Follows : Event → Result Answer Refusal → NodeView → Result (NodeState × Answer) Refusal
     → Type 0
 Follows e (Ok a) new stepped = (s : NodeState) × (stepped ≡ Ok (s, a)) × Shows new s
-Follows e (Err r) new stepped = IsTold (ack_of e) r → IsFirstRefusal r stepped
+Follows e (Err r) new stepped = IsTold (ack_of e) r → IsFirstRefusal (is_shading e) r stepped
 
--- the same against the event on the node as it stood
-abbrev pub Performs : Result Answer Refusal → NodeView → Result (NodeView × Answer) Refusal → Type 0
-Performs (Ok a) new stepped = stepped ≡ Ok (new, a)
-Performs (Err e) new stepped = IsFirstRefusal e stepped
+-- The same against the event on the node as it stood; the first of these says whether the event
+-- shades.
+abbrev pub Performs : Bool → Result Answer Refusal → NodeView → Result (NodeView × Answer) Refusal
+    → Type 0
+Performs shading (Ok a) new stepped = stepped ≡ Ok (new, a)
+Performs shading (Err e) new stepped = IsFirstRefusal shading e stepped
 
--- What a call made of an event, of which the second is what the definitions say: an answer
--- is that of the event, and the node afterwards too; a refusal is the first that applies,
--- and changes nothing.
-pub record Performed (result : Result Answer Refusal) (old new : NodeView)
+-- What a call made of an event, of which the last is what the definitions say: an answer is that
+-- of the event, and the node afterwards too; a refusal is the first that applies, and changes
+-- nothing.
+pub record Performed (shading : Bool) (result : Result Answer Refusal) (old new : NodeView)
     (stepped : Result (NodeView × Answer) Refusal) : Type 0 where
-  pub performs : Performs result new stepped
+  pub performs : Performs shading result new stepped
   pub unchanged : OnErr result (new ≡ old)
 
 -- What every event leaves as it was: where the node stands and in what space, what a saved node

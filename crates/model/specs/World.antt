@@ -14,7 +14,7 @@ use Rattle.model.specs.declared.step.Outcome.{Outcome}
 use Rattle.model.specs.declared.step.Outcome.TheVariants as outcome
 use Rattle.model.specs.Checks.{guarded, IsFirstRefusal}
 use Rattle.model.specs.State.{NodeState, new_node, node_at, got_from, sent_to}
-use Rattle.model.specs.Steps.{act, receive, is_own, is_addressed, is_next, is_memory_free}
+use Rattle.model.specs.Steps.{act, receive, is_own, is_addressed, is_next, is_memory_free, is_shading}
 
 pub record World : Type 0 where
   pub current : List NodeState
@@ -123,6 +123,14 @@ is_own_step (step.Restart i) = true
 is_own_step (step.Deliver from to number) = true
 is_own_step (step.Hand from to) = true
 
+-- a step whose event shades
+abbrev pub is_shading_step : Step → Bool
+is_shading_step (step.Act i e) = is_shading e
+is_shading_step (step.Save i) = false
+is_shading_step (step.Restart i) = false
+is_shading_step (step.Deliver from to number) = true
+is_shading_step (step.Hand from to) = false
+
 -- a step that is never refused for want of memory
 abbrev pub is_step_memory_free : World → Step → Bool
 is_step_memory_free w (step.Act i e) =
@@ -139,10 +147,11 @@ is_step_memory_free w (step.Hand from to) = true
 -- `shows` says which space of the definitions one of the code shows. An answer is the definition's,
 -- and the space of the definition is then shown; a refusal is the first that applies, and the same
 -- space is shown as before.
-abbrev pub FollowsStep : {S : Type 0} → (S → World → Type 0) → World → Result Outcome Refusal → S
-    → Result (World × Outcome) Refusal → Type 0
-FollowsStep shows w (Ok o) new stepped = (v : World) × (stepped ≡ Ok (v, o)) × shows new v
-FollowsStep shows w (Err e) new stepped = IsFirstRefusal e stepped × shows new w
+abbrev pub FollowsStep : {S : Type 0} → (S → World → Type 0) → World → Step
+    → Result Outcome Refusal → S → Type 0
+FollowsStep shows w s (Ok o) new = (v : World) × (take_step w s ≡ Ok (v, o)) × shows new v
+FollowsStep shows w s (Err e) new =
+    IsFirstRefusal (is_shading_step s) e (take_step w s) × shows new w
 
 -- Whether what became of a step is an event of the space. Reading a word is none, nor is a message
 -- that was taken in before, one that isn't there, an acknowledgement handed over, and what was

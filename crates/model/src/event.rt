@@ -1,5 +1,5 @@
 use ids::Ref;
-use msg::{Ack, Data};
+use msg::{Ack, Data, Token};
 
 /// A received message that waits for the program: who sent it, its label, and its reference
 /// where one was sent.
@@ -79,6 +79,17 @@ pub enum Event {
         place: u8,
         label: u32,
     },
+    /// Begins the next cycle. Only node 0 may, once the last one is swept everywhere.
+    Begin,
+    /// Marks what the places of a grey object refer to.
+    Scan,
+    /// Hands the token on. At node 0 decides whether marking has ended, and where it may not have,
+    /// sends the token round again.
+    Pass,
+    /// Looks at the next slots, at most this many, and frees the objects that aren't marked.
+    Sweep {
+        count: u32,
+    },
     /// A message from another node.
     Data(Data),
     /// Another node acknowledges the messages that it has taken in and saved.
@@ -100,6 +111,18 @@ pub enum Answer {
     Sent(u64),
     /// The letter that was taken.
     Letter(Letter),
+    /// The cycle that begins.
+    Begun(u64),
+    /// The object whose places were looked at.
+    Scanned(Ref),
+    /// The token as it was handed on.
+    Passed(Token),
+    /// Marking may not have ended yet, and the token goes round again.
+    ProbeAgain,
+    /// Marking has ended in this cycle.
+    Ended(u64),
+    /// How many objects were freed, and whether the node has swept all its slots.
+    Freed { count: u32, done: bool },
     /// The message was taken in.
     Received,
     /// The message was taken in before, and changes nothing.

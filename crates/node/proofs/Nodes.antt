@@ -1,93 +1,83 @@
 -- Each change of a node as it stands keeps what is true of every node.
-use Rattle.std.proofs.Common.{◌≡◌, ℕ, ℤ, pos, ◌+◌, ◌-◌, ◌<◌, ◌+ℤ◌, ◌-ℤ◌, List, [], ◌∷◌, length, get_or, sym, ◌∙◌, subst, true, arith}
-use Rattle.std.proofs.lemmas.Int.{ints}
+use Rattle.std.proofs.Common.{◌≡◌, ℕ, ◌+◌, ◌-◌, ◌<◌, ◌≤◌, [], ◌∷◌, length, get_or, replicate, Option, refl, sym, ◌∙◌, subst, true, arith}
 use Rattle.std.proofs.lemmas.Bool.{and_parts, ltb-true}
 use Rattle.std.proofs.lemmas.List.{length-set, length-map, length-replicate, get_or-drop}
+use Rattle.std.proofs.lemmas.List.Elements.{All-replicate}
 use Rattle.std.proofs.Math.ListN.{get_or-map}
 use Rattle.ids.specs.Limits.{Shaped, IsShape}
+use Rattle.msg.specs.declared.body.Body.{Body}
 use Rattle.msg.specs.declared.body.Message.{Message}
-use Rattle.model.specs.State.{Heap}
+use Rattle.control.specs.Phases.{IsPhases}
+use Rattle.model.specs.declared.balance.Balance.{Balance}
+use Rattle.model.specs.Counting.{balance_of, counted_up, counted_down, stamped}
+use Rattle.model.specs.State.{Heap, Ring, new_phases}
 use Rattle.model.specs.Steps.{is_addressed}
-use Rattle.model.specs.View.{Link, NodeView, no_link, appended, append_to, trimmed, all_kept, new_view}
+use Rattle.model.specs.View.{Link, NodeView, no_link, trimmed, all_kept, new_view}
 use Rattle.model.specs.References.{HoldsOnly, IsWithin, IsSendable, no_message}
-use Rattle.model.proofs.Lookups.{at_set, at_push, get_or-replicate_any}
+use Rattle.model.proofs.Lookups.{at_set, get_or-replicate_any}
 use Rattle.model.proofs.References.{holds-new_heap}
 use Rattle.link.specs.Links.{LinksView, IsLinks, appended_to, taken_next_from, trimmed_to, kept_links, new_links}
-use Rattle.node.specs.Invariant.{AllSendable, AreLinked, IsBalanced, IsNode, links_of}
-use Rattle.node.proofs.Balances.{balance-sent, balance-counted, balance-kept, balance-trimmed}
+use Rattle.safra.specs.Balances.{IsBounded}
+use Rattle.safra.proofs.Bounds.{bounded_new, bounded_up}
+use Rattle.node.specs.Invariant.{AreLinked, IsBalanced, IsNode, links_of, number_sum}
+use Rattle.node.proofs.Appended.{linked-appended, numbers-appended, one-may}
+use Rattle.node.proofs.Balances.{balance-taken, balance-kept, balance-trimmed}
 
--- the heap alone changed
-pub node-heap : (n : NodeView) (h : Heap) → IsNode n → HoldsOnly (IsWithin n.local.shape) h →
-    IsNode (record n { local = record n.local { heap = h } })
-node-heap n h old all = record {
+-- the heap alone changed, and has no fewer slots
+pub node-heap : (n : NodeView) (h : Heap) → IsNode n → HoldsOnly (IsWithin n.local.shape) h
+    → length n.local.heap.slots ≤ length h.slots
+    → IsNode (record n { local = record n.local { heap = h } })
+node-heap n h old all more = record {
   shape = old.shape;
   own = old.own;
   references = all;
+  phases = record {
+    phases = old.phases.phases;
+    cursor = omega (arith, old.phases.cursor, more);
+    reports = old.phases.reports;
+  };
   links = record {
     width = old.links.width;
     links = old.links.links;
     messages = old.links.messages;
   };
-  balance = record {
-    sum = old.balance.sum;
-    difference = old.balance.difference;
-    opposite = old.balance.opposite;
-    negated = old.balance.negated;
-  };
+  balance = old.balance;
 }
 
--- the links and the balance changed
-abbrev pub rewired : NodeView → LinksView → ℤ → NodeView
-rewired n l z =
+-- the links and the ring changed
+abbrev pub rewired : NodeView → LinksView → Ring → NodeView
+rewired n l r =
     record n {
-      local = record n.local { got = l.got; ring = record n.local.ring { recent = z } };
+      local = record n.local { got = l.got; ring = r };
       links = l.links;
       acks = l.acks;
     }
 
 -- what a call left of them, where the definitions have this
-pub record Rewires (v : LinksView) (y : ℤ) (l : LinksView) (z : ℤ) : Type 0 where
+pub record Rewires (v : LinksView) (q : Ring) (l : LinksView) (r : Ring) : Type 0 where
   pub sound : IsLinks l
   pub links : l ≡ v
-  pub balance : z ≡ y
+  pub ring : r ≡ q
 
-node-rewired : (n : NodeView) (v : LinksView) (y : ℤ) {l : LinksView} {z : ℤ} → IsNode n
-    → Rewires v y l z → (IsLinks v → AreLinked n.local.shape v)
-    → IsBalanced (record n.local.ring { recent = y }) v.links v.got → IsNode (rewired n l z)
-node-rewired n v y {l = l} {z = z} old w linked balance =
+pub node-rewired : (n : NodeView) (v : LinksView) (q : Ring) {l : LinksView} {r : Ring} → IsNode n
+    → Rewires v q l r → (IsLinks v → AreLinked n.local.shape v) → IsBalanced q v.links v.got
+    → IsNode (rewired n l r)
+node-rewired n v q {l = l} {r = r} old w linked balance =
     let now : AreLinked n.local.shape l =
     subst (AreLinked n.local.shape) (sym w.links) (linked (subst IsLinks w.links w.sound)) in
     record {
       shape = old.shape;
       own = old.own;
       references = old.references;
+      phases = old.phases;
       links = now;
-      balance = rw (w.links, w.balance) balance;
+      balance = rw (w.links, w.ring) balance;
     }
 
 -- ---- links
 
 no_message-sendable : (shape : Shaped) → IsSendable shape no_message
 no_message-sendable shape = record { stamp = omega arith; references = tt; place = tt }
-
-sendable-append : (shape : Shaped) (links : List Link) (to : ℕ) (x : Message)
-    → AllSendable shape links →
-    IsSendable shape x → AllSendable shape (append_to links ((to, x) ∷ []))
-sendable-append shape links to x all here = λ i k.
-    at_set (λ (l : Link). IsSendable shape (get_or l.unacknowledged k no_message)) links to i
-    (appended (get_or links to no_link) x) no_link
-    (at_push (IsSendable shape) (get_or links to no_link).unacknowledged k x no_message here
-    (no_message-sendable shape) (all to k))
-    (all i k)
-
-linked-sent : (shape : Shaped) (l : LinksView) (to : ℕ) (x : Message) → AreLinked shape l
-    → IsSendable shape x →
-    IsLinks (appended_to l to x) → AreLinked shape (appended_to l to x)
-linked-sent shape l to x h sendable links = record {
-  width = length-set l.links to _ ∙ h.width;
-  links = links;
-  messages = sendable-append shape l.links to x h.messages sendable;
-}
 
 linked-trimmed : (shape : Shaped) (l : LinksView) (from number : ℕ) → AreLinked shape l →
     IsLinks (trimmed_to l from number) → AreLinked shape (trimmed_to l from number)
@@ -114,54 +104,73 @@ linked-kept shape l h links = record {
       (sym (get_or-map all_kept l.links i no_link)) (h.messages i k);
 }
 
--- ---- as the code has it: what a call of the links left, and the balance beside it
+-- ---- as the code has it: what a call of the links left, and the ring beside it
 
-pub node-sent : (n : NodeView) (to : ℕ) (x : Message) {l : LinksView} {z : ℤ} → IsNode n
-    → to < n.local.shape.nodes → IsSendable n.local.shape x
-    → Rewires (appended_to (links_of n) to x) (n.local.ring.recent +ℤ pos 1) l z
-    → IsNode (rewired n l z)
-node-sent n to x old there sendable w =
-    let inside : to < length n.links = omega (arith, there, old.links.width) in
-    node-rewired n (appended_to (links_of n) to x) (n.local.ring.recent +ℤ pos 1) old w
-    (linked-sent n.local.shape (links_of n) to x old.links sendable)
-    (balance-sent n.local.ring n.links n.local.got to x old.balance inside)
+pub node-sent : (n : NodeView) (to : ℕ) (b : Body) {l : LinksView} {r : Ring} → IsNode n
+    → to < n.local.shape.nodes → IsSendable n.local.shape (stamped n.local b)
+    → Rewires (appended_to (links_of n) to (stamped n.local b))
+    (counted_up (balance_of n.local.phases.cycle n.local.phases.cycle b) n.local.ring) l r
+    → IsNode (rewired n l r)
+node-sent n to b old there sendable w =
+    let x : Message = stamped n.local b in
+    let k = balance_of n.local.phases.cycle n.local.phases.cycle b in
+    let may = one-may n.local.shape to x there sendable in
+    node-rewired n (appended_to (links_of n) to x) (counted_up k n.local.ring) old w
+    (linked-appended n.local.shape (links_of n) ((to, x) ∷ []) old.links may)
+    (subst (λ (most : ℕ). IsBounded most (counted_up k n.local.ring))
+    (sym (numbers-appended n.local.shape (links_of n) ((to, x) ∷ []) old.links may))
+    (bounded_up (number_sum n.links n.local.got) k n.local.ring old.balance))
 
-pub node-counted : (n : NodeView) (from : ℕ) {l : LinksView} {z : ℤ} → IsNode n
-    → from < n.local.shape.nodes
-    → Rewires (taken_next_from (links_of n) from) (n.local.ring.recent -ℤ pos 1) l z
-    → IsNode (rewired n l z)
-node-counted n from old there w =
+pub node-taken : (n : NodeView) (from : ℕ) (b : Option Balance) {l : LinksView} {r : Ring}
+    → IsNode n → from < n.local.shape.nodes
+    → Rewires (taken_next_from (links_of n) from) (counted_down b n.local.ring) l r
+    → IsNode (rewired n l r)
+node-taken n from b old there w =
     let inside : from < length n.local.got =
     omega (arith, there, old.links.width, old.links.links.received) in
-    node-rewired n (taken_next_from (links_of n) from) (n.local.ring.recent -ℤ pos 1) old w
+    node-rewired n (taken_next_from (links_of n) from) (counted_down b n.local.ring) old w
     (λ links. record { width = old.links.width; links = links; messages = old.links.messages })
-    (balance-counted n.local.ring n.links n.local.got from old.balance inside)
+    (balance-taken b n.local.ring n.links n.local.got from old.balance inside)
 
 pub node-trimmed : (n : NodeView) (from number : ℕ) {l : LinksView} → IsNode n
     → from < n.local.shape.nodes
-    → Rewires (trimmed_to (links_of n) from number) n.local.ring.recent l n.local.ring.recent
-    → IsNode (rewired n l n.local.ring.recent)
+    → Rewires (trimmed_to (links_of n) from number) n.local.ring l n.local.ring
+    → IsNode (rewired n l n.local.ring)
 node-trimmed n from number old there w =
     let inside : from < length n.links = omega (arith, there, old.links.width) in
-    node-rewired n (trimmed_to (links_of n) from number) n.local.ring.recent old w
+    node-rewired n (trimmed_to (links_of n) from number) n.local.ring old w
     (linked-trimmed n.local.shape (links_of n) from number old.links)
     (balance-trimmed n.local.ring n.links n.local.got from number old.balance inside)
 
 pub node-kept : (n : NodeView) {l : LinksView} → IsNode n
-    → Rewires (kept_links (links_of n)) n.local.ring.recent l n.local.ring.recent
-    → IsNode (rewired n l n.local.ring.recent)
+    → Rewires (kept_links (links_of n)) n.local.ring l n.local.ring
+    → IsNode (rewired n l n.local.ring)
 node-kept n old w =
-    node-rewired n (kept_links (links_of n)) n.local.ring.recent old w
+    node-rewired n (kept_links (links_of n)) n.local.ring old w
     (linked-kept n.local.shape (links_of n) old.links)
     (balance-kept n.local.ring n.links n.local.got old.balance)
 
+phases-new : (nodes : ℕ) → IsPhases (new_phases nodes)
+phases-new nodes = record {
+  swept = omega arith;
+  ended = omega arith;
+  cycle = omega arith;
+  within = omega arith;
+  cursor = λ _. refl;
+  reports = All-replicate (λ (k : ℕ). k ≤ 0) nodes 0 (omega arith);
+}
+
 pub node-new : (shape : Shaped) (own : ℕ) → IsShape shape → own < shape.nodes
-    → IsLinks (new_links shape.nodes) →
-    IsNode (new_view shape own)
+    → IsLinks (new_links shape.nodes) → IsNode (new_view shape own)
 node-new shape own s within links = record {
   shape = s;
   own = within;
   references = holds-new_heap (IsWithin shape) shape;
+  phases = record {
+    phases = phases-new shape.nodes;
+    cursor = omega arith;
+    reports = length-replicate {A = ℕ} shape.nodes 0;
+  };
   links = record {
     width = length-replicate shape.nodes no_link;
     links = links;
@@ -169,12 +178,7 @@ node-new shape own s within links = record {
         subst (λ (l : Link). IsSendable shape (get_or l.unacknowledged k no_message))
         (sym (get_or-replicate_any shape.nodes i no_link)) (no_message-sendable shape);
   };
-  balance = record {
-    sum = omega (arith, ints);
-    difference = omega (arith, ints);
-    opposite = omega (arith, ints);
-    negated = omega (arith, ints);
-  };
+  balance = bounded_new (number_sum (replicate shape.nodes no_link) (replicate shape.nodes 0));
 }
 
 -- a frame that is addressed to the node comes from another node of the shape

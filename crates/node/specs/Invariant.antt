@@ -1,11 +1,13 @@
 -- What is true of every node that stands ("Well-formed nodes" in docs/RULES.md), by what it reads.
-use Rattle.std.specs.Prelude.{◌≡◌, ℕ, pos, neg_ℤ, ◌+◌, ◌+ℤ◌, ◌-ℤ◌, ◌<◌, ◌≤ℤ◌, List, length, slice_index_or}
+use Rattle.std.specs.Prelude.{◌≡◌, ℕ, ◌+◌, ◌<◌, ◌≤◌, List, length, slice_index_or}
 use Rattle.std.specs.List.{sum_by}
 use Rattle.ids.specs.Limits.{Shaped, IsShape}
 use Rattle.link.specs.Links.{LinksView, IsLinks}
-use Rattle.model.specs.State.{Ring}
+use Rattle.model.specs.State.{Slot, Phases, Ring}
 use Rattle.model.specs.View.{Link, NodeView, used, no_link}
 use Rattle.model.specs.References.{HoldsOnly, IsWithin, IsSendable, no_message}
+use Rattle.control.specs.Phases.{IsPhases}
+use Rattle.safra.specs.Balances.{IsBounded}
 
 -- how many messages were appended, and how many taken in
 abbrev pub number_sum : List Link → List ℕ → ℕ
@@ -13,11 +15,8 @@ number_sum links got = sum_by used links + sum_by (λ (k : ℕ). k) got
 
 -- The two balances together are no larger than the number of messages, whatever their signs: so
 -- they fit their type.
-pub record IsBalanced (r : Ring) (links : List Link) (got : List ℕ) : Type 0 where
-  pub sum : (r.earlier +ℤ r.recent) ≤ℤ pos (number_sum links got)
-  pub difference : (r.earlier -ℤ r.recent) ≤ℤ pos (number_sum links got)
-  pub opposite : (r.recent -ℤ r.earlier) ≤ℤ pos (number_sum links got)
-  pub negated : neg_ℤ (r.earlier +ℤ r.recent) ≤ℤ pos (number_sum links got)
+abbrev pub IsBalanced : Ring → List Link → List ℕ → Type 0
+IsBalanced r links got = IsBounded (number_sum links got) r
 
 -- every message that is kept may be sent in a space of this shape
 abbrev pub AllSendable : Shaped → List Link → Type 0
@@ -34,9 +33,16 @@ pub record AreLinked (shape : Shaped) (l : LinksView) : Type 0 where
 abbrev pub links_of : NodeView → LinksView
 links_of n = record { links = n.links; got = n.local.got; acks = n.acks }
 
+-- the phases of a node with so many slots, in a space of so many nodes
+pub record ArePhased (nodes : ℕ) (slots : List Slot) (p : Phases) : Type 0 where
+  pub phases : IsPhases p
+  pub cursor : p.cursor ≤ length slots
+  pub reports : length p.reports ≡ nodes
+
 pub record IsNode (n : NodeView) : Type 0 where
   pub shape : IsShape n.local.shape
   pub own : n.local.own < n.local.shape.nodes
   pub references : HoldsOnly (IsWithin n.local.shape) n.local.heap
+  pub phases : ArePhased n.local.shape.nodes n.local.heap.slots n.local.phases
   pub links : AreLinked n.local.shape (links_of n)
   pub balance : IsBalanced n.local.ring n.links n.local.got

@@ -3,4 +3,5 @@ pub mod Inside
 pub mod Frames
 pub mod Summaries
 pub mod Sending
+pub mod Cycles
 pub mod Taking

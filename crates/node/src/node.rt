@@ -1,7 +1,7 @@
 ghost use Rattle.std.specs.Prelude.{◌≡◌, ◌≢◌, ◌<◌, ◌≤◌, IsTrue, IfOk, IfErr, OnErr};
 ghost use Rattle.ids.specs.declared.refusal.Refusal.TheVariants.{Memory, NoNode};
 ghost use Rattle.model.specs.State.{NodeState};
-ghost use Rattle.model.specs.Steps.{act, is_addressed, is_memory_free};
+ghost use Rattle.model.specs.Steps.{act, is_addressed, is_memory_free, is_shading};
 ghost use Rattle.model.specs.View.{
   is_other,
   Shows,
@@ -15,32 +15,37 @@ ghost use Rattle.model.specs.View.{
 };
 
 mod asking;
+mod collecting;
 mod frames;
+mod joining;
 mod objects;
+mod reading;
+mod settling;
 mod taking;
 
 use crate::summary::Summary;
+use control::Phases;
 use heap::Heap;
-use ids::{NodeId, Refusal, Shape};
+use ids::{NodeId, Ref, Refusal, Shape};
+use indexmap::IndexSet;
 use link::Links;
 use model::{Answer, Event};
-use msg::Colour;
+use safra::Ring;
 use std::alloc::Global;
 use std::marker::Model;
 
-/// The collection cycle that every node has joined: none has begun.
-const NO_CYCLE: u64 = 0;
-
-/// One node: its heap, and for each other node its messages to there that aren't acknowledged and
-/// how much it took in from there.
+/// One node: its heap, its part in the collection cycles and in the ring, and for each other node
+/// its messages to there that aren't acknowledged and how much it took in from there.
 #[derive(Drop)]
 pub struct Node {
     shape: Shape,
     own: u8,
     heap: Heap,
+    // References of other nodes that were asked for in this cycle, in order.
+    asked: IndexSet<Ref>,
+    phases: Phases,
+    ring: Ring,
     links: Links,
-    // Messages with references that were sent less those taken in.
-    recent: i64,
 }
 
 impl Model for Node {
@@ -76,18 +81,21 @@ impl Node {
             shape,
             own: own.number,
             heap: Heap::new(alloc, shape)?,
+            asked: IndexSet::new(alloc),
+            phases: Phases::new(alloc, shape.nodes())?,
+            ring: Ring::new(),
             links: Links::new(alloc, shape.nodes())?,
-            recent: 0,
         })
     }
 
     /// Performs one event. The refusals come in the order in which docs/RULES.md lists them for
-    /// each event, and `Memory` after all of them, where a growth was refused. A refused event
-    /// changes nothing. `Copy`, `Drop`, `Store`, `Clear`, `Word`, `SetWord`, `Accept`, `Ack` and a
-    /// message that isn't the next one are never refused memory. `Word` and a message that was
-    /// taken in before change nothing.
+    /// each event, and `Memory` after all of them, where a growth was refused; `Load`, `Begin`,
+    /// `Scan` and a message may be refused memory in place of `LinkSpent` too. A refused event
+    /// changes nothing. `Copy`, `Drop`, `Store`, `Clear`, `Word`, `SetWord`, `Accept`, a `Sweep`
+    /// that leaves slots or is node 0's, `Ack` and a message that isn't the next one are never
+    /// refused memory. `Word` and a message that was taken in before change nothing.
     pub fn act(&mut self, event: Event) -> Result<Answer, Refusal>
-        ensures performs { Performs result self.new (view_act self.old event) }
+        ensures performs { Performs (is_shading event) result self.new (view_act self.old event) }
         ensures states { (s : NodeState) → Shows self.old s
             → Follows event result self.new (act s event) }
         ensures unchanged { OnErr result (self.new ≡ self.old) }
@@ -99,7 +107,8 @@ impl Node {
     }
 
     fn perform(&mut self, event: Event) -> Result<Answer, Refusal>
-        ensures performed { Performed result self.old self.new (view_act self.old event) }
+        ensures performed { Performed (is_shading event) result self.old self.new
+            (view_act self.old event) }
         ensures memory_free { IsTrue (is_memory_free self.old.local event)
             → IfErr result (λ e. e ≢ Memory) }
     {
@@ -136,6 +145,10 @@ impl Node {
                 place,
                 label,
             } => self.get(object, place, label),
+            Event::Begin => self.begin(),
+            Event::Scan => self.scan(),
+            Event::Pass => self.pass(),
+            Event::Sweep { count } => self.sweep(count),
             Event::Data(frame) => self.take_in(frame),
             Event::Ack(ack) => self.acknowledge(ack),
         }
@@ -152,23 +165,20 @@ impl Node {
     pub fn state(&self) -> Summary
         ensures value { result ≡ summary_of self.now.local }
         ensures sound { IsNode self.now }
-        ensures slots { IsSlotted (record {
-          heap = self.now.local.heap;
-          limit = self.now.local.shape.slots;
-        }) }
+        ensures slots { IsSlotted self.now.local.heap self.now.local.shape.slots }
     {
         Summary {
             shape: self.shape,
             own: self.own,
-            cycle: NO_CYCLE,
-            ended: 0,
-            swept: 0,
-            colour: Colour::White,
-            earlier: 0,
-            recent: self.recent,
+            cycle: self.phases.cycle(),
+            ended: self.phases.ended(),
+            swept: self.phases.swept(),
+            colour: self.ring.colour(),
+            earlier: self.ring.earlier(),
+            recent: self.ring.recent(),
             grey: self.heap.grey(),
             live: self.heap.live(),
-            has_token: false,
+            has_token: self.ring.token().is_some(),
             letters: self.heap.letters(),
         }
     }
@@ -183,8 +193,10 @@ impl Node {
             shape: self.shape,
             own: self.own,
             heap: self.heap.copy(alloc)?,
+            asked: self.asked.clone()?,
+            phases: self.phases.copy(alloc)?,
+            ring: self.ring,
             links: self.links.copy(alloc)?,
-            recent: self.recent,
         })
     }
 

@@ -1,6 +1,8 @@
 mod asking;
+mod collecting;
 mod links;
 mod objects;
+mod taking;
 
 use crate::{Answer, Event, Letter, Node, Summary};
 use ids::{NodeId, Ref, Refusal, Shape};
@@ -142,42 +144,85 @@ fn new_summary(shape: Shape, own: u8) -> Summary {
     }
 }
 
-// What a node shows of itself: its numbers, and what it sent to another.
-fn shown(node: &Node, other: u8) -> (Summary, u64, [Option<Frame>; 4], [Option<Frame>; 4]) {
-    (
-        node.state(),
-        node.appended(other),
-        [0, 1, 2, 3].map(|place| node.frame_at(other, place)),
-        [0, 1, 2, 3].map(|number| node.numbered_frame(other, number)),
-    )
+// The node's numbers are these.
+fn check_state(rt: &impl Abort, node: &Node, state: Summary) {
+    assert_eq!(rt; node.state(), state);
+}
+
+// The node has sent so many messages to the other.
+fn check_appended(rt: &impl Abort, node: &Node, to: u8, count: u64) {
+    assert_eq!(rt; node.appended(to), count, "{to}");
+}
+
+// Under these numbers the node has these messages for the other.
+fn check_numbered(rt: &impl Abort, node: &Node, to: u8, rows: &[(u64, Option<Frame>)]) {
+    for (number, frame) in rows {
+        assert_eq!(rt; node.numbered_frame(to, *number), *frame, "{to} {number}");
+    }
+}
+
+// At these places the node gives out these messages for the other.
+fn check_given(rt: &impl Abort, node: &Node, to: u8, rows: &[(u8, Option<Frame>)]) {
+    for (place, frame) in rows {
+        assert_eq!(rt; node.frame_at(to, *place), *frame, "{to} {place}");
+    }
+}
+
+// The node tells the other that it has saved what it took in up to this number.
+fn check_ack(rt: &impl Abort, node: &Node, from: u8, frame: Option<Frame>) {
+    assert_eq!(rt; node.ack_for(from), frame, "{from}");
+}
+
+// Both nodes show the same of themselves and of what they sent to node 1.
+fn check_same(rt: &impl Abort, one: &Node, other: &Node) {
+    assert_eq!(rt; one.state(), other.state());
+    assert_eq!(rt; one.appended(1), other.appended(1));
+    for place in 0..4 {
+        assert_eq!(rt; one.frame_at(1, place), other.frame_at(1, place));
+    }
+    for number in 0..4 {
+        assert_eq!(rt; one.numbered_frame(1, number), other.numbered_frame(1, number));
+    }
+}
+
+// What the node shows now is what its next image holds.
+fn save(node: &mut Node) {
+    node.kept();
+}
+
+// The event has this answer, or is refused so.
+fn answer(rt: &impl Abort, acting: &mut Node, event: Event, expected: Result<Answer, Refusal>) {
+    assert_eq!(rt; acting.act(event), expected, "{event:?}");
+}
+
+// The node refuses the event so, and stays as it is.
+fn refuse(rt: &impl Abort, acting: &mut Node, event: Event, refusal: Refusal) {
+    let before = acting.state();
+    assert_eq!(rt; acting.act(event), Err(refusal), "{event:?}");
+    assert_eq!(rt; acting.state(), before);
 }
 
 // Each event has the answer that stands beside it.
 fn answer_all(rt: &impl Abort, acting: &mut Node, rows: &[(Event, Answer)]) {
-    for (event, answer) in rows {
-        assert_eq!(rt; acting.act(*event), Ok(*answer), "{event:?}");
+    for (event, expected) in rows {
+        assert_eq!(rt; acting.act(*event), Ok(*expected), "{event:?}");
     }
 }
 
 // The message of this number goes from one node to the other.
-fn deliver(
-    rt: &impl Abort,
-    sender: &Node,
-    receiver: &mut Node,
-    number: u64,
-) -> Result<Answer, Refusal> {
+fn deliver(rt: &impl Abort, sender: &Node, receiver: &mut Node, number: u64) {
     let sent = match sender.numbered_frame(receiver.state().own, number) {
         Some(Frame::Data(sent)) => Some(sent),
         Some(Frame::Ack(_)) | None => None,
     };
-    receiver.act(Event::Data(sent.expect(rt, "the sender has sent the message")))
+    let sent = sent.expect(rt, "the sender has sent the message");
+    answer(rt, receiver, Event::Data(sent), Ok(Answer::Received));
 }
 
 // These messages of one node are taken in by the other.
 fn deliver_all(rt: &impl Abort, sender: &Node, receiver: &mut Node, numbers: &[u64]) {
     for number in numbers {
-        let received = deliver(rt, sender, receiver, *number);
-        assert_eq!(rt; received, Ok(Answer::Received), "{number}");
+        deliver(rt, sender, receiver, *number);
     }
 }
 
@@ -191,9 +236,9 @@ fn two_nodes(rt: &impl Abort, memory: Global) -> Result<(Node, Node), Refusal> {
         (give(0, 1, 0), Answer::Sent(1)),
     ];
     answer_all(rt, &mut owner, &rows);
-    deliver(rt, &owner, &mut asking, 1)?;
-    let taken = asking.act(accept(0));
-    assert_eq!(rt; taken, Ok(letter(1, 1, Some(object(1, 0, 1)))));
+    deliver(rt, &owner, &mut asking, 1);
+    let rows = [(accept(0), letter(1, 1, Some(object(1, 0, 1))))];
+    answer_all(rt, &mut asking, &rows);
     Ok((asking, owner))
 }
 
@@ -202,9 +247,11 @@ fn a_new_node_is_empty(rt: HostRuntime) -> Result<(), Refusal> {
     let shape = space(&rt, 4, 16);
     for own in [0, 1] {
         let new = node(&rt, rt.alloc(), shape, own)?;
+        check_state(&rt, &new, new_summary(shape, own));
         for other in 0..3 {
-            let empty = (new_summary(shape, own), 0, [None; 4], [None; 4]);
-            assert_eq!(rt; shown(&new, other), empty);
+            check_appended(&rt, &new, other, 0);
+            check_numbered(&rt, &new, other, &[(0, None), (1, None)]);
+            check_given(&rt, &new, other, &[(0, None), (1, None)]);
         }
     }
     let beyond = node(&rt, rt.alloc(), shape, 2);
@@ -216,21 +263,39 @@ fn a_new_node_is_empty(rt: HostRuntime) -> Result<(), Refusal> {
 fn a_copy_goes_its_own_way(rt: HostRuntime) -> Result<(), Refusal> {
     let shape = space(&rt, 4, 16);
     let mut original = node(&rt, rt.alloc(), shape, 0)?;
-    original.act(alloc(1, 1))?;
-    original.act(give(1, 7, 0))?;
-    original.kept();
+    let rows = [
+        (alloc(1, 1), Answer::New(first(0))),
+        (give(1, 7, 0), Answer::Sent(1)),
+    ];
+    answer_all(&rt, &mut original, &rows);
+    save(&mut original);
     let mut copy = original.copy(rt.alloc())?;
-    assert_eq!(rt; shown(&copy, 1), shown(&original, 1));
+    check_same(&rt, &copy, &original);
     let sent = Frame::Data(message(&rt, 1, 0, give_body(7, None)));
-    assert_eq!(rt; copy.frame_at(1, 0), Some(sent));
+    check_given(&rt, &copy, 1, &[(0, Some(sent))]);
 
-    assert_eq!(rt; copy.act(give(1, 8, 0)), Ok(Answer::Sent(2)));
-    copy.kept();
-    assert_eq!(rt; (copy.appended(1), original.appended(1)), (2, 1));
-    assert_eq!(rt; original.numbered_frame(1, 2), None);
-    assert_eq!(rt; copy.act(alloc(0, 0)), Ok(Answer::New(first(1))));
-    assert_eq!(rt; (copy.state().live, original.state().live), (2, 1));
-    assert_eq!(rt; copy.act(set_word(1, 5)), Ok(Answer::Done));
-    assert_eq!(rt; original.act(word(1)), Ok(Answer::Word(0)));
+    answer_all(&rt, &mut copy, &[(give(1, 8, 0), Answer::Sent(2))]);
+    save(&mut copy);
+    check_appended(&rt, &copy, 1, 2);
+    check_appended(&rt, &original, 1, 1);
+    check_numbered(&rt, &original, 1, &[(2, None)]);
+    let rows = [
+        (alloc(0, 0), Answer::New(first(1))),
+        (set_word(1, 5), Answer::Done),
+    ];
+    answer_all(&rt, &mut copy, &rows);
+    answer_all(&rt, &mut original, &[(word(1), Answer::Word(0))]);
+    let before = Summary {
+        live: 1,
+        recent: 1,
+        ..new_summary(shape, 0)
+    };
+    check_state(&rt, &original, before);
+    let after = Summary {
+        live: 2,
+        recent: 2,
+        ..before
+    };
+    check_state(&rt, &copy, after);
     Ok(())
 }

@@ -1,3 +1,13 @@
 mod Rows
 mod ObjectRows
 mod LinkRows
+mod Words
+mod MarkRows
+mod CycleRows
+mod NextRows
+mod SweepRows
+mod RingRows
+mod ShadingRows
+mod TurnRows
+mod LimitRows
+mod GarbageRows

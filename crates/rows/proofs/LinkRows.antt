@@ -14,7 +14,9 @@ use Rattle.model.specs.declared.step.Step.TheVariants as step
 use Rattle.model.specs.declared.step.Outcome.{Outcome}
 use Rattle.model.specs.declared.step.Outcome.TheVariants as outcome
 use Rattle.model.specs.State.{node_at}
-use Rattle.model.specs.Steps.{act, receive, allocated, word_read, given, taken_in, count_in, take_body}
+use Rattle.model.specs.Counting.{append}
+use Rattle.model.specs.Shading.{shade, vouch}
+use Rattle.model.specs.Steps.{settled, act, receive, allocated, word_read, given, taken_in, count_in, take_body}
 use Rattle.model.specs.View.{Link, NodeView, new_view, no_link, link_to, released_at, view_act}
 use Rattle.model.specs.World.{World, take_step, new_world, run, is_eventful}
 use Rattle.rows.proofs.ObjectRows.{word, reads}
@@ -39,7 +41,7 @@ pub acknowledged-saved : Holds (space 2 4 16) (
     ∷ (step.Hand 1 1, no_frame)
     ∷ (step.Hand 2 2, refused NoNode)
     ∷ [])
-unfolding take_step act receive given taken_in count_in take_body
+unfolding take_step act receive given taken_in count_in take_body append shade vouch settled
 acknowledged-saved = refl
 
 -- messages are taken in in order and once
@@ -57,7 +59,8 @@ in_turn =
     ∷ []
 
 pub order-and-once : Holds (space 2 4 16) in_turn
-unfolding take_step act receive allocated given taken_in count_in take_body
+unfolding take_step act receive allocated given taken_in count_in take_body append shade vouch
+    settled
 order-and-once = refl
 
 abbrev space_after : Shaped → Table → World
@@ -68,7 +71,8 @@ balance w node = (node_at w.current node).local.ring.recent
 
 -- and each that was taken in counts one down
 pub counted-once : balance (space_after (space 2 4 16) in_turn) 1 ≡ negsuc 1
-unfolding take_step act receive allocated given taken_in count_in take_body
+unfolding take_step act receive allocated given taken_in count_in take_body append shade vouch
+    settled
 counted-once = refl
 
 -- what is an event of the space, and what isn't
@@ -89,7 +93,8 @@ mixed =
 pub events : Holds (space 2 4 16) mixed
     × (map is_eventful (outcomes_of mixed)
     ≡ true ∷ false ∷ true ∷ false ∷ true ∷ true ∷ false ∷ false ∷ true ∷ false ∷ [])
-unfolding take_step act receive allocated word_read given taken_in count_in take_body
+unfolding take_step act receive allocated word_read given taken_in count_in take_body append shade
+    vouch settled
 events = (refl, refl)
 
 -- node 0 after 33 messages to node 1, all of them saved

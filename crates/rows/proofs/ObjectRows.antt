@@ -9,35 +9,37 @@ use Rattle.model.specs.declared.step.Step.{Step}
 use Rattle.model.specs.declared.step.Step.TheVariants as step
 use Rattle.model.specs.declared.step.Outcome.{Outcome}
 use Rattle.model.specs.declared.step.Outcome.TheVariants as outcome
-use Rattle.model.specs.Steps.{act, receive, allocated, copied, dropped, loaded, stored, cleared, word_read, word_set, given, accepted, put_asked, get_asked, taken_in, count_in, take_body}
+use Rattle.model.specs.Counting.{append}
+use Rattle.model.specs.Shading.{shade, vouch}
+use Rattle.model.specs.Steps.{settled, act, receive, allocated, copied, dropped, loaded, stored, cleared, word_read, word_set, given, accepted, put_asked, get_asked, taken_in, count_in, take_body}
 use Rattle.model.specs.World.{take_step}
 use Rattle.rows.proofs.Rows.{Table, object, space, alloc, drop_register, give, accept, made, sent, dropped_now, received, letter, empty_letter, done, refused, Holds}
 
-abbrev copy : ℕ → ℕ → ℕ → Step
+abbrev pub copy : ℕ → ℕ → ℕ → Step
 copy node register source = step.Act node (event.Copy register source)
 
-abbrev load : ℕ → ℕ → ℕ → ℕ → Step
+abbrev pub load : ℕ → ℕ → ℕ → ℕ → Step
 load node register object place = step.Act node (event.Load register object place)
 
-abbrev store : ℕ → ℕ → ℕ → ℕ → Step
+abbrev pub store : ℕ → ℕ → ℕ → ℕ → Step
 store node object place register = step.Act node (event.Store object place register)
 
-abbrev clear : ℕ → ℕ → ℕ → Step
+abbrev pub clear : ℕ → ℕ → ℕ → Step
 clear node object place = step.Act node (event.Clear object place)
 
 abbrev pub word : ℕ → ℕ → Step
 word node object = step.Act node (event.Word object)
 
-abbrev set_word : ℕ → ℕ → ℕ → Step
+abbrev pub set_word : ℕ → ℕ → ℕ → Step
 set_word node object value = step.Act node (event.SetWord object value)
 
-abbrev put : ℕ → ℕ → ℕ → ℕ → Step
+abbrev pub put : ℕ → ℕ → ℕ → ℕ → Step
 put node object place register = step.Act node (event.Put object place register)
 
-abbrev get : ℕ → ℕ → ℕ → ℕ → Step
+abbrev pub get : ℕ → ℕ → ℕ → ℕ → Step
 get node object place label = step.Act node (event.Get object place label)
 
-abbrev value : Option Ref → Result Outcome Refusal
+abbrev pub value : Option Ref → Result Outcome Refusal
 value r = Ok (outcome.Answer (answer.Value r))
 
 abbrev pub reads : ℕ → Result Outcome Refusal
@@ -70,7 +72,7 @@ pub stored-loaded : Holds (space 2 4 16) (
     ∷ (load 0 3 0 1, value None)
     ∷ (drop_register 0 3, refused EmptyRegister)
     ∷ [])
-unfolding take_step act allocated dropped loaded stored cleared
+unfolding take_step act allocated dropped loaded stored cleared shade
 stored-loaded = refl
 
 -- a copied register names the same object, and the word is the object's
@@ -106,7 +108,8 @@ pub load-refusals : Holds (space 2 256 16) (
     ∷ (load 0 1 0 8, refused NoField)
     ∷ (give 0 0 1 0, refused SelfSend)
     ∷ [])
-unfolding take_step act receive allocated loaded given accepted taken_in count_in take_body
+unfolding take_step act receive allocated loaded given accepted taken_in count_in take_body append
+    shade vouch settled
 load-refusals = refl
 
 -- the refusals of the others, each in order
@@ -136,7 +139,7 @@ pub object-refusals : Holds (space 2 3 16) (
     ∷ (set_word 0 0 9, refused Remote)
     ∷ [])
 unfolding take_step act receive allocated copied loaded stored cleared word_read word_set given
-    accepted taken_in count_in take_body
+    accepted taken_in count_in take_body append shade vouch settled
 object-refusals = refl
 
 -- a place of another node's object is written and read by messages; where there is no such
@@ -161,7 +164,7 @@ pub put-got : Holds (space 2 4 16) (
     ∷ (put 0 1 0 0, refused Local)
     ∷ [])
 unfolding take_step act receive allocated loaded given accepted put_asked get_asked taken_in
-    count_in take_body
+    count_in take_body append shade vouch settled
 put-got = refl
 
 -- an empty register empties the place; the refusals of both, in order
@@ -191,5 +194,5 @@ pub put-refusals : Holds (space 2 3 16) (
     ∷ (load 1 1 0 0, value None)
     ∷ [])
 unfolding take_step act receive allocated loaded stored given accepted put_asked get_asked taken_in
-    count_in take_body
+    count_in take_body append shade vouch settled
 put-refusals = refl

@@ -17,7 +17,10 @@ use Rattle.model.specs.declared.step.Outcome.{Outcome}
 use Rattle.model.specs.declared.step.Outcome.TheVariants as outcome
 use Rattle.model.specs.State.{Free, Occupied, Retired, Heap, NodeState, new_heap, new_local, new_node}
 use Rattle.model.specs.Heaps.{heap_alloc}
-use Rattle.model.specs.Steps.{Effect, effect, act, receive, allocated, dropped, given, accepted, taken_in, count_in, take_body}
+use Rattle.model.specs.Counting.{append}
+use Rattle.model.specs.Shading.{shade, vouch}
+use Rattle.model.specs.Effects.{Effect}
+use Rattle.model.specs.Steps.{settled, effect, act, receive, allocated, dropped, given, accepted, taken_in, count_in, take_body}
 use Rattle.model.specs.World.{outcomes, new_world, take_step}
 
 abbrev pub object : ℕ → ℕ → ℕ → Ref
@@ -101,7 +104,8 @@ pub one-reference : Holds (space 3 4 16) (
     ∷ (step.Deliver 1 2 1, received)
     ∷ (accept 2 0, letter 1 8 (object 0 0 1))
     ∷ [])
-unfolding take_step act receive allocated dropped given accepted taken_in count_in take_body
+unfolding take_step act receive allocated dropped given accepted taken_in count_in take_body append
+    shade vouch settled
 one-reference = refl
 
 -- nothing leaves before it is saved, and nothing is taken in twice
@@ -115,7 +119,8 @@ pub saved-first : Holds (space 2 4 16) (
     ∷ (accept 0 0, letter 1 7 (object 1 0 1))
     ∷ (accept 0 0, refused NoLetter)
     ∷ [])
-unfolding take_step act receive allocated dropped given accepted taken_in count_in take_body
+unfolding take_step act receive allocated dropped given accepted taken_in count_in take_body append
+    shade vouch settled
 saved-first = refl
 
 -- messages are taken in in order, and letters are read in that order
@@ -130,7 +135,8 @@ pub in-order : Holds (space 3 4 16) (
     ∷ (accept 2 0, empty_letter 0 4)
     ∷ (accept 2 0, empty_letter 0 5)
     ∷ [])
-unfolding take_step act receive allocated dropped given accepted taken_in count_in take_body
+unfolding take_step act receive allocated dropped given accepted taken_in count_in take_body append
+    shade vouch settled
 in-order = refl
 
 -- a letter without a reference empties the register
@@ -142,7 +148,8 @@ pub emptied : Holds (space 2 4 16) (
     ∷ (accept 1 2, empty_letter 0 9)
     ∷ (drop_register 1 2, refused EmptyRegister)
     ∷ [])
-unfolding take_step act receive allocated dropped given accepted taken_in count_in take_body
+unfolding take_step act receive allocated dropped given accepted taken_in count_in take_body append
+    shade vouch settled
 emptied = refl
 
 -- a restart takes back what was not saved, its numbers and slots too
@@ -155,7 +162,8 @@ pub taken-back : Holds (space 3 4 16) (
     ∷ (alloc 2 3 0, made (object 2 0 1))
     ∷ (give 2 0 16 3, sent 1)
     ∷ [])
-unfolding take_step act receive allocated dropped given accepted taken_in count_in take_body
+unfolding take_step act receive allocated dropped given accepted taken_in count_in take_body append
+    shade vouch settled
 taken-back = refl
 
 -- what was released stays so, and a receiver that forgets it takes it in again
@@ -173,7 +181,8 @@ pub released-again : Holds (space 3 4 16) (
     ∷ (step.Deliver 2 1 1, repeat)
     ∷ (accept 1 1, empty_letter 2 10)
     ∷ [])
-unfolding take_step act receive allocated dropped given accepted taken_in count_in take_body
+unfolding take_step act receive allocated dropped given accepted taken_in count_in take_body append
+    shade vouch settled
 released-again = refl
 
 -- refusals, and the order in which they are met
@@ -202,14 +211,15 @@ pub refusals : Holds (space 2 2 1) (
     ∷ (step.Deliver 0 1 0, no_frame)
     ∷ (step.Deliver 0 1 2, no_frame)
     ∷ [])
-unfolding take_step act receive allocated dropped given accepted taken_in count_in take_body
+unfolding take_step act receive allocated dropped given accepted taken_in count_in take_body append
+    shade vouch settled
 refusals = refl
 
 -- each call answers what stands beside it
-abbrev Call : Type 0
+abbrev pub Call : Type 0
 Call = Result Answer Refusal × Result Answer Refusal
 
-abbrev Answers : List Call → Type 0
+abbrev pub Answers : List Call → Type 0
 Answers rows = map (λ (r : Call). r.0) rows ≡ map (λ (r : Call). r.1) rows
 
 abbrev answer_of : Result (NodeState × Answer) Refusal → Result Answer Refusal
@@ -230,16 +240,16 @@ pub wrong-messages : Answers (
     ∷ (offered 1 1 1 0 None, Err WrongNode)
     ∷ (offered 2 1 1 0 None, Err WrongNode)
     ∷ (offered 2 1 2 0 None, Err WrongNode)
-    ∷ (offered 0 1 1 1 None, Err WrongNode)
+    ∷ (offered 0 1 1 2 None, Err WrongNode)
     ∷ (offered 0 1 1 0 (Some (object 2 0 1)), Err WrongNode)
     ∷ (offered 0 1 1 0 (Some (object 1 16 1)), Err WrongNode)
     ∷ (offered 0 1 2 1 None, Err OutOfOrder)
     ∷ (offered 0 1 0 1 (Some (object 2 0 1)), Ok answer.Repeat)
     ∷ [])
-unfolding receive taken_in count_in take_body
+unfolding receive taken_in count_in take_body append shade vouch settled
 wrong-messages = refl
 
-abbrev effect_answer : Result Effect Refusal → Result Answer Refusal
+abbrev pub effect_answer : Result Effect Refusal → Result Answer Refusal
 effect_answer (Ok x) = Ok x.answer
 effect_answer (Err e) = Err e
 
@@ -254,7 +264,7 @@ pub numbers : Answers (
     ∷ (given_after (GREATEST_NUMBER - 1), Ok (answer.Sent 281474976710656))
     ∷ (given_after GREATEST_NUMBER, Err LinkSpent)
     ∷ [])
-unfolding given
+unfolding given append
 numbers = refl
 
 -- A heap of three slots whose slots 2 and 0 were freed in this order: slot 0 is used first.

@@ -1,5 +1,5 @@
 -- An acknowledgement that the code's space hands over is that of the definitions.
-use Rattle.std.proofs.Common.{◌≡◌, ◌≢◌, ℕ, ◌<◌, ◌≤◌, true, List, [], ◌∷◌, length, get_or, Result, Ok, Err, refl, ap, sym, ◌∙◌, le_refl, arith, eq-eqb}
+use Rattle.std.proofs.Common.{◌≡◌, ◌≢◌, ℕ, ◌<◌, ◌≤◌, true, false, List, [], ◌∷◌, length, get_or, Result, Ok, Err, refl, ap, sym, ◌∙◌, le_refl, arith, eq-eqb}
 use Rattle.std.specs.Prelude.{nat_le}
 use Rattle.std.proofs.lemmas.Bool.{ne_eqb, le-leb, lt-leb, cond-true, cond-false}
 use Rattle.std.proofs.lemmas.List.{set-get_or}
@@ -17,7 +17,7 @@ use Rattle.model.specs.View.{NodeView, link_to, view_act}
 use Rattle.model.specs.World.{World, take_step, acknowledged, release_count}
 use Rattle.model.proofs.Shown.{ack-done, ack-refused}
 use Rattle.laws.proofs.StepFacts.{act-ok}
-use Rattle.laws.proofs.Deliveries.{addressed-between}
+use Rattle.laws.proofs.Base.{addressed-between}
 use Rattle.world.specs.Sites.{SiteView}
 use Rattle.world.specs.Shows.{ShowsWorld, Stepped, Given, IsSim, IsAckOf, site_at}
 use Rattle.world.proofs.Refusals.{first-by}
@@ -86,8 +86,8 @@ module _ {n : List SiteView} {w : World} {from to : ℕ} {a : Ack} (h : ShowsWor
             rw (same, set-get_or w.current from no_node)
             (hand-within (ack-done u v a x performs).0);
         refuses = λ f first.
-            first-by (view_act u (event.Ack a)) (take_step w (step.Hand from to)) f
-            (λ is. let refusal = ack-refused u a f ack.addressed is in
+            first-by false (view_act u (event.Ack a)) (take_step w (step.Hand from to)) f
+            (λ g is. let refusal = ack-refused u a g ack.addressed is in
             rw refusal.0 (hand-beyond refusal.1))
             (λ v is. rw (hand-within (ack-done u v.0 a v.1 is).0) refl)
             first;

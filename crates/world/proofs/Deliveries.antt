@@ -130,7 +130,7 @@ module _ {n : List SiteView} {from to number : ℕ} {bytes : List ℕ} (apart : 
       let received = act-receives (node_at w.current to) d from to number x.message same in
       let sender : d.from ≡ from = cc in
       let place : d.number ≡ number = cc in
-      moves shown refl
+      moves shown refl refl
       (cond-true _ _ _ are ∙ ap (delivery w from to number) x.there
       ∙ ap (moved w to) (sym received))
       (λ free. rw (sender, place) (next-free _ _ _ x.message are x.there free)))

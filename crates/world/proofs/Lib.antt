@@ -8,3 +8,6 @@ pub mod Deliveries
 pub mod Acks
 pub mod New
 pub mod Runs
+pub mod Finding
+pub mod Following
+pub mod Reached

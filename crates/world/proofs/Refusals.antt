@@ -1,31 +1,39 @@
 -- Refusals that are the first to apply.
-use Rattle.std.proofs.Common.{◌≡◌, ◌≢◌, Result, Ok, Err, refl}
+use Rattle.std.proofs.Common.{◌≡◌, ◌≢◌, Bool, true, false, Result, Ok, Err, refl}
 use Rattle.std.specs.Prelude.{IsOk}
 use Rattle.ids.specs.declared.refusal.Refusal.{Refusal}
-use Rattle.ids.specs.declared.refusal.Refusal.TheVariants.{Memory}
-use Rattle.model.specs.Checks.{IsFirstRefusal}
+use Rattle.ids.specs.declared.refusal.Refusal.TheVariants.{Memory, LinkSpent}
+use Rattle.model.specs.Checks.{IsReplaced, IsFirstRefusal}
 
 -- what the definitions refuse
-pub first-refused : {Y : Type 0} (r : Result Y Refusal) (e : Refusal) → e ≢ Memory → r ≡ Err e
-    → IsFirstRefusal e r
-first-refused r e other h = (λ _. h, λ memory. absurd (other memory))
+pub first-refused : {Y : Type 0} (shading : Bool) (r : Result Y Refusal) (e : Refusal) → e ≢ Memory
+    → r ≡ Err e → IsFirstRefusal shading e r
+first-refused shading r e other h = (λ _. h, λ memory. absurd (other memory))
 
 -- memory, in place of an answer
 pub first-memory : {Y : Type 0} (r : Result Y Refusal) (e : Refusal) → e ≡ Memory → IsOk r
-    → IsFirstRefusal e r
+    → IsFirstRefusal false e r
 first-memory r e memory h = (λ other. absurd (other memory), λ _. h)
 
-ok-is : {X : Type 0} (r : Result X Refusal) → IsOk r → (v : X) × (r ≡ Ok v)
-ok-is (Ok v) ok = (v, refl)
-ok-is (Err e) ok = absurd cc
+-- Where one call is refused or answered, another is too, and for the same: so what is put in place
+-- of the one stands in place of the other.
+replaced-by : {X Y : Type 0} (shading : Bool) (x : Result X Refusal) (y : Result Y Refusal)
+    → ((f : Refusal) → x ≡ Err f → y ≡ Err f) → ((v : X) → x ≡ Ok v → IsOk y)
+    → IsReplaced shading x → IsReplaced shading y
+replaced-by false (Ok v) y refuses answers h = answers v refl
+replaced-by false (Err f) y refuses answers h = absurd cc
+replaced-by true (Ok v) (Ok w) refuses answers h = tt
+replaced-by true (Ok v) (Err g) refuses answers h = let none = answers v refl in absurd cc
+replaced-by true (Err f) y refuses answers h = rw (refuses f refl) h
 
 -- what is refused and answered where something else is
-pub first-by : {X Y : Type 0} (x : Result X Refusal) (y : Result Y Refusal) (e : Refusal)
-    → (x ≡ Err e → y ≡ Err e) → ((v : X) → x ≡ Ok v → IsOk y) → IsFirstRefusal e x
-    → IsFirstRefusal e y
-first-by x y e f g h = (λ other. f (h.0 other), λ memory. let v = ok-is x (h.1 memory) in g v.0 v.1)
+pub first-by : {X Y : Type 0} (shading : Bool) (x : Result X Refusal) (y : Result Y Refusal)
+    (e : Refusal) → ((f : Refusal) → x ≡ Err f → y ≡ Err f) → ((v : X) → x ≡ Ok v → IsOk y)
+    → IsFirstRefusal shading e x → IsFirstRefusal shading e y
+first-by shading x y e refuses answers h =
+    (λ other. refuses e (h.0 other), λ memory. replaced-by shading x y refuses answers (h.1 memory))
 
 -- what a refusal other than of memory says
-pub refused-as : {Y : Type 0} (r : Result Y Refusal) (e : Refusal) → IsFirstRefusal e r → e ≢ Memory
-    → r ≡ Err e
-refused-as r e h other = h.0 other
+pub refused-as : {Y : Type 0} (shading : Bool) (r : Result Y Refusal) (e : Refusal)
+    → IsFirstRefusal shading e r → e ≢ Memory → r ≡ Err e
+refused-as shading r e h other = h.0 other

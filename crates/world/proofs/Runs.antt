@@ -3,7 +3,7 @@ use Rattle.std.proofs.Common.{◌≡◌, List, [], ◌∷◌, ◌++◌, Result, 
 use Rattle.ids.specs.declared.refusal.Refusal.{Refusal}
 use Rattle.model.specs.declared.step.Step.{Step}
 use Rattle.model.specs.declared.step.Outcome.{Outcome}
-use Rattle.model.specs.World.{World, FollowsStep, new_world, take_step, world_after, happens, run}
+use Rattle.model.specs.World.{World, FollowsStep, new_world, take_step, is_shading_step, world_after, happens, run}
 use Rattle.world.specs.Sites.{SiteView}
 use Rattle.world.specs.Shows.{ShowsWorld, ExtendsRun}
 use Rattle.world.proofs.Refusals.{refused-as}
@@ -14,7 +14,7 @@ run-push w [] s = refl
 run-push w (t ∷ ts) s = run-push (happens w t) ts s
 
 pub extends_run : (r : Result Outcome Refusal) (n m : List SiteView) (s : Step)
-    → ((w : World) → ShowsWorld n w → FollowsStep ShowsWorld w r m (take_step w s))
+    → ((w : World) → ShowsWorld n w → FollowsStep ShowsWorld w s r m)
     → ExtendsRun r n m s
 extends_run (Ok o) n m s follows shape steps h taken =
     let w : World = run (new_world shape) steps in
@@ -24,6 +24,7 @@ extends_run (Ok o) n m s follows shape steps h taken =
 extends_run (Err e) n m s follows shape steps h taken =
     let w : World = run (new_world shape) steps in
     let after = follows w h in
-    let stepped = refused-as (take_step w s) e after.0 (λ memory. taken (ap (λ z. Err z) memory)) in
+    let stepped = refused-as (is_shading_step s) (take_step w s) e after.0
+    (λ memory. taken (ap (λ z. Err z) memory)) in
     subst (ShowsWorld m) (sym (run-push (new_world shape) steps s ∙ ap (world_after w) stepped))
     after.1

@@ -71,7 +71,7 @@ node-more B C more h = record {
 }
 
 -- what a node kept under a number is the message of that number
-message-shown : (l : Link) (sent : List Message) (k : ℕ) → ShowsSent l sent → l.base ≤ k
+pub message-shown : (l : Link) (sent : List Message) (k : ℕ) → ShowsSent l sent → l.base ≤ k
     → message_of l (k + 1) ≡ slice_get sent k
 message-shown l sent k h low =
     let place : k + 1 - l.base - 1 ≡ k - l.base = omega arith in

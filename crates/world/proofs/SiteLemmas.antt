@@ -4,7 +4,7 @@ use Rattle.std.proofs.lemmas.List.{length-drop, length_push, length-replicate, m
 use Rattle.std.proofs.Math.ListN.{get_or-map}
 use Rattle.std.proofs.Math.Nat.{min-eq_left, sub-add-eq-max}
 use Rattle.ids.specs.Limits.{Shaped}
-use Rattle.std.specs.Prelude.{IsTrue, IfOk, IfErr}
+use Rattle.std.specs.Prelude.{IsTrue, IfOk, IfErr, OnErr}
 use Rattle.std.proofs.lemmas.Result.{MatchResult-weaker}
 use Rattle.ids.specs.declared.refusal.Refusal.{Refusal}
 use Rattle.ids.specs.declared.refusal.Refusal.TheVariants.{Memory}
@@ -13,8 +13,8 @@ use Rattle.msg.specs.declared.frame.Ack.{Ack}
 use Rattle.model.specs.declared.event.Event.{Event}
 use Rattle.model.specs.declared.event.Event.TheVariants as event
 use Rattle.model.specs.declared.event.Answer.{Answer}
-use Rattle.model.specs.Steps.{ack_of, is_memory_free}
-use Rattle.model.specs.View.{Link, NodeView, Performed, Leaves, no_link, link_to, used, appended, append_to, trimmed, let_go, view_act, new_view, all_kept, kept_view, base_of, kept_of}
+use Rattle.model.specs.Steps.{ack_of, is_memory_free, is_shading}
+use Rattle.model.specs.View.{Link, NodeView, Performed, Performs, Leaves, no_link, link_to, used, appended, append_to, trimmed, let_go, view_act, new_view, all_kept, kept_view, base_of, kept_of}
 use Rattle.model.proofs.Lookups.{at_set_if, get_or-replicate_any}
 use Rattle.model.proofs.Shown.{view-ok, ack-done}
 use Rattle.world.specs.Outboxes.{no_outbox, released_frames}
@@ -73,7 +73,7 @@ let_go-used links (Some a) j =
     (omega (arith, length-drop (a.number - old.base) old.unacknowledged))
 
 act-used : (n new : NodeView) (e : Event) (r : Result Answer Refusal) (j : ℕ)
-    → Performed r n new (view_act n e) → used (link_to n j) ≤ used (link_to new j)
+    → Performed (is_shading e) r n new (view_act n e) → used (link_to n j) ≤ used (link_to new j)
 unfolding view_act
 act-used n new e (Err f) j p =
     subst (λ (v : NodeView). used (link_to n j) ≤ used (link_to v j)) (sym p.unchanged) (le_refl _)
@@ -99,7 +99,7 @@ trimmed-base l number held few =
 -- what an answered event lets go of
 acted-lets_go : {rows : List (List (List ℕ))} {n new : NodeView} {e : Event}
     {r : Result Answer Refusal} → (o : Option Ack) → IsBacked rows n → Leaves n new e
-    → Performed r n new (view_act n e) → ack_of e ≡ o
+    → Performed (is_shading e) r n new (view_act n e) → ack_of e ≡ o
     → IfOk r (λ x. (bases new ≡ bases_acked (bases n) o) × IsAckWithin (λ j. (link_to n j).kept) o)
 acted-lets_go {r = Err f} o h left p is = tt
 acted-lets_go {r = Ok x} None h left p none = (left.bases none, tt)
@@ -114,7 +114,7 @@ acted-lets_go {n = n} {new = new} {e = e} {r = Ok x} (Some a) h left p is =
 
 acted-base : {rows : List (List (List ℕ))} {n new : NodeView} {e : Event}
     {r : Result Answer Refusal} → (j : ℕ) → IsBacked rows n → Leaves n new e
-    → Performed r n new (view_act n e) → (link_to new j).base ≤ (link_to new j).kept
+    → Performed (is_shading e) r n new (view_act n e) → (link_to new j).base ≤ (link_to new j).kept
 acted-base {r = Err f} j h left p = rw p.unchanged (h.base j)
 acted-base {n = n} {new = new} {e = e} {r = Ok x} j h left p =
     let done = acted-lets_go (ack_of e) h left p refl in
@@ -129,39 +129,50 @@ acted-base {n = n} {new = new} {e = e} {r = Ok x} j h left p =
           left.kept,
     )
 
-pub site-acted : (q : SiteView) (v : NodeView) (e : Event) (r : Result Answer Refusal) → IsSite q
-    → Leaves q.current v e → Performed r q.current v (view_act q.current e)
-    → IsSite (record q { current = v })
-site-acted q v e r h left p =
-    let kept = λ (j : ℕ). link-same kept_of v q.current j left.kept in
-    record {
-      shape = h.shape ∙ sym left.shape;
-      own = h.own ∙ sym left.own;
-      width = h.width ∙ ap (λ (s : Shaped). s.nodes) (sym left.shape);
-      current = record {
-        base = λ j. acted-base j h.current left p;
-        kept = λ j. omega (arith, h.current.kept j, kept j, act-used q.current v e r j p);
-        frames = λ j apart.
-            omega (arith, h.current.frames j (λ own. apart (own ∙ sym left.own)), kept j);
-      };
-      saved = h.saved;
-    }
+-- what a call of a node leaves of the site whose current one it was
+module _ (n saved v : NodeView) (rows : List (List (List ℕ))) (e : Event)
+    (r : Result Answer Refusal)
+    (h : IsSite (record { current = n; saved = saved; released = rows })) (left : Leaves n v e)
+    (performs : Performs (is_shading e) r v (view_act n e)) (same : OnErr r (v ≡ n))
+  where
+    performed : Performed (is_shading e) r n v (view_act n e)
+    performed = record { performs = performs; unchanged = same }
 
-pub acts : (q : SiteView) (v : NodeView) (e : Event) (r : Result Answer Refusal) → IsSite q
-    → Leaves q.current v e → Performed r q.current v (view_act q.current e)
-    → (IsTrue (is_memory_free q.current.local e) → IfErr r (λ f. f ≢ Memory))
-    → Acted r q (record q { current = v }) e
-acts q v e r h left p free = record {
-  performs = p.performs;
-  unchanged = MatchResult-weaker r p.unchanged (λ x _. tt)
-      (λ f same. ap (λ (n : NodeView). record q { current = n }) same);
-  others = refl;
-  leaves = left;
-  lets_go = MatchResult-weaker r
-      (acted-lets_go (ack_of e) h.current left p refl) (λ x done. done.0)
-      (λ f _. tt);
-  memory_free = free;
-}
+    pub site_acted : IsSite (record { current = v; saved = saved; released = rows })
+    site_acted =
+        let kept = λ (j : ℕ). link-same kept_of v n j left.kept in
+        record {
+          shape = h.shape ∙ sym left.shape;
+          own = h.own ∙ sym left.own;
+          width = h.width ∙ ap (λ (s : Shaped). s.nodes) (sym left.shape);
+          current = record {
+            base = λ j. acted-base j h.current left performed;
+            kept = λ j. omega (arith, h.current.kept j, kept j, act-used n v e r j performed);
+            frames = λ j apart.
+                omega (arith, h.current.frames j (λ own. apart (own ∙ sym left.own)), kept j);
+          };
+          saved = h.saved;
+        }
+
+    pub acts : (IsTrue (is_memory_free n.local e) → IfErr r (λ f. f ≢ Memory))
+        → Acted r (record { current = n; saved = saved; released = rows })
+        (record { current = v; saved = saved; released = rows }) e
+    acts free =
+        let q : NodeView → SiteView = λ m. record {
+          current = m;
+          saved = saved;
+          released = rows;
+        } in
+        record {
+          performs = performs;
+          unchanged = MatchResult-weaker r same (λ x _. tt) (λ f same. ap q same);
+          others = refl;
+          leaves = left;
+          lets_go = MatchResult-weaker r
+              (acted-lets_go (ack_of e) h.current left performed refl) (λ x done. done.0)
+              (λ f _. tt);
+          memory_free = free;
+        }
 
 -- ---- saves
 

@@ -18,9 +18,9 @@ use Rattle.model.specs.declared.step.Step.TheVariants as step
 use Rattle.model.specs.declared.step.Outcome.{Outcome}
 use Rattle.model.specs.declared.step.Outcome.TheVariants as outcome
 use Rattle.model.specs.State.{NodeState, node_at}
-use Rattle.model.specs.Steps.{act, ack_of, is_own, is_memory_free}
+use Rattle.model.specs.Steps.{act, ack_of, is_own, is_memory_free, is_shading}
 use Rattle.model.specs.View.{NodeView, IsTold, view_act, all_kept, kept_view, base_of}
-use Rattle.model.specs.World.{World, FollowsStep, take_step, is_node, moved, acknowledged, is_step_memory_free}
+use Rattle.model.specs.World.{World, FollowsStep, take_step, is_node, moved, acknowledged, is_step_memory_free, is_shading_step}
 use Rattle.model.proofs.Shown.{act-shown}
 use Rattle.node.specs.Invariant.{IsNode}
 use Rattle.node.specs.Summaries.{summary_of}
@@ -77,7 +77,7 @@ module _ {n : List SiteView} {w : World} (h : ShowsWorld n w) where
 
 -- it is refused, and changes nothing
 refusing : {n m : List SiteView} (s : Step) (e : Refusal) → m ≡ n
-    → ((w : World) → ShowsWorld n w → IsFirstRefusal e (take_step w s))
+    → ((w : World) → ShowsWorld n w → IsFirstRefusal (is_shading_step s) e (take_step w s))
     → ((w : World) → ShowsWorld n w → is_step_memory_free w s ≡ true → e ≢ Memory)
     → Stepped (Err e) n m s
 refusing s e same first free = record {
@@ -89,7 +89,7 @@ refusing s e same first free = record {
 
 -- it is answered
 answering : {n m : List SiteView} (s : Step) (o : Outcome)
-    → ((w : World) → ShowsWorld n w → FollowsStep ShowsWorld w (Ok o) m (take_step w s))
+    → ((w : World) → ShowsWorld n w → FollowsStep ShowsWorld w s (Ok o) m)
     → bases_of m ≡ bases_after (bases_of n) s o → Stepped (Ok o) n m s
 answering s o follows lets_go = record {
   follows = follows;
@@ -101,7 +101,7 @@ answering s o follows lets_go = record {
 pub no-node : (n : List SiteView) (s : Step) → NamesNoNode n s → Stepped (Err NoNode) n n s
 no-node n s past =
     refusing s NoNode refl
-    (λ w h. first-refused _ NoNode (λ e. absurd cc) (takes-no-node h s past))
+    (λ w h. first-refused _ _ NoNode (λ e. absurd cc) (takes-no-node h s past))
     (λ w h free e. absurd cc)
 
 -- a refusal that never comes, since no space could be shown
@@ -123,8 +123,9 @@ pub record Gives (n : List SiteView) (w : World) (i : ℕ) (e : Event) (s : Step
   pub answers : (v : NodeView) (t : NodeState) (x : Answer)
       → view_act (site_at n i).current e ≡ Ok (v, x) → act (node_at w.current i) e ≡ Ok (t, x)
       → take_step w s ≡ Ok (record w { current = set w.current i t }, o x)
-  pub refuses : (f : Refusal) → IsFirstRefusal f (view_act (site_at n i).current e)
-      → IsFirstRefusal f (take_step w s)
+  pub refuses : (f : Refusal)
+      → IsFirstRefusal (is_shading e) f (view_act (site_at n i).current e)
+      → IsFirstRefusal (is_shading_step s) f (take_step w s)
   pub within : IsAckWithin (acknowledged w i) (ack_of e)
   pub free : is_step_memory_free w s ≡ true → is_memory_free (site_at n i).current.local e ≡ true
 
@@ -181,18 +182,21 @@ given {n = n} {m = m} {i = i} {e = e} {s = s} {o = o} {r = Ok x} h lets_go gives
 
 -- a step that moves a node by an event that is no acknowledgement
 pub moves : {n : List SiteView} {w : World} {i : ℕ} {e : Event} {s : Step} → ShowsWorld n w
-    → ack_of e ≡ None → take_step w s ≡ moved w i (act (node_at w.current i) e)
+    → ack_of e ≡ None → is_shading_step s ≡ is_shading e
+    → take_step w s ≡ moved w i (act (node_at w.current i) e)
     → (is_step_memory_free w s ≡ true → is_memory_free (node_at w.current i).local e ≡ true)
     → Gives n w i e s outcome.Answer
-moves {n = n} {w = w} {i = i} {e = e} {s = s} h none step free = record {
+moves {n = n} {w = w} {i = i} {e = e} {s = s} h none kind step free = record {
   answers = λ v t x _ stepped. step ∙ ap (moved w i) stepped;
   refuses = λ f first.
       let u : NodeView = (site_at n i).current in
       let told : IsTold (ack_of e) f = rw none tt in
       let refused = act-shown u u e (Err f) first (node_at w.current i)
       (h.each i).current.shows told in
-      first-by (act (node_at w.current i) e) (take_step w s) f (λ is. step ∙ ap (moved w i) is)
-      (λ x is. rw (step, is) refl) refused;
+      rw kind
+      (first-by (is_shading e) (act (node_at w.current i) e) (take_step w s) f
+      (λ g is. step ∙ ap (moved w i) is)
+      (λ x is. rw (step, is) refl) refused);
   within = rw none tt;
   free = λ is. rw (h.each i).current.shows.local (free is);
 }
@@ -215,7 +219,7 @@ acted {i = i} {e = e} h own =
     given h (lets-nothing-go i e (step.Act i e) (own-none e own) (λ all x. refl))
     (λ w shown.
     let there = is-node shown i h.within in
-    moves shown (own-none e own) (cond-true _ _ _ there ∙ cond-true _ _ _ own)
+    moves shown (own-none e own) refl (cond-true _ _ _ there ∙ cond-true _ _ _ own)
     (λ free. rw there at free))
 
 -- ---- steps of the other kinds
@@ -223,20 +227,22 @@ acted {i = i} {e = e} h own =
 module _ {n m : List SiteView} {i : ℕ} {q p : SiteView} (c : Changes n m i q p) where
   -- memory was refused, in place of an answer
   starved : (s : Step) (e : Refusal) → p ≡ q → e ≡ Memory
+      → is_shading_step s ≡ false
       → ((w : World) → ShowsWorld n w → IsOk (take_step w s) × (is_step_memory_free w s ≡ false))
       → Stepped (Err e) n m s
-  starved s e same memory wants =
-      refusing s e (unchanged-sites c same) (λ w h. first-memory _ e memory (wants w h).0)
+  starved s e same memory plain wants =
+      refusing s e (unchanged-sites c same)
+      (λ w h. rw plain (first-memory _ e memory (wants w h).0))
       (λ w h free. absurd (both_ways _ (wants w h).1 free))
 
   pub save-starved : (e : Refusal) → p ≡ q → e ≡ Memory → Stepped (Err e) n m (step.Save i)
   save-starved e same memory =
-      starved (step.Save i) e same memory
+      starved (step.Save i) e same memory refl
       (λ w h. (rw (save-step h i c.within) refl, rw (is-node h i c.within) refl))
 
   pub restart-starved : (e : Refusal) → p ≡ q → e ≡ Memory → Stepped (Err e) n m (step.Restart i)
   restart-starved e same memory =
-      starved (step.Restart i) e same memory
+      starved (step.Restart i) e same memory refl
       (λ w h. (rw (restart-step h i c.within) refl, rw (is-node h i c.within) refl))
 
   pub saved : IsSim n → Saves q p → IsNode q.current → Stepped (Ok outcome.Done) n m (step.Save i)

@@ -4,3 +4,4 @@ pub mod InsideOutbox
 pub mod Sites
 pub mod InsideSite
 pub mod Shows
+pub mod Reach

@@ -14,7 +14,7 @@ use Rattle.model.specs.declared.step.Outcome.TheVariants as outcome
 use Rattle.model.specs.State.{NodeState, node_at, sent_to}
 use Rattle.model.specs.Steps.{is_addressed}
 use Rattle.model.specs.View.{NodeView, Shows, link_to}
-use Rattle.model.specs.World.{World, KeepsSent, FollowsStep, acknowledged, new_world, run, take_step, is_node, is_step_memory_free}
+use Rattle.model.specs.World.{World, KeepsSent, FollowsStep, acknowledged, new_world, run, is_node, is_step_memory_free}
 use Rattle.node.specs.Summaries.{summary_of}
 use Rattle.node.specs.declared.summary.Summary.{Summary}
 use Rattle.world.specs.Outboxes.{IsFrameOf, numbered_bytes}
@@ -107,7 +107,7 @@ bases_after all s o = all
 -- is then shown; a refusal is the first that applies, and changes nothing.
 pub record Stepped (result : Result Outcome Refusal) (old new : List SiteView)
     (s : Step) : Type 0 where
-  pub follows : (w : World) → ShowsWorld old w → FollowsStep ShowsWorld w result new (take_step w s)
+  pub follows : (w : World) → ShowsWorld old w → FollowsStep ShowsWorld w s result new
   pub unchanged : OnErr result (new ≡ old)
   pub lets_go : IfOk result (λ o. bases_of new ≡ bases_after (bases_of old) s o)
   pub memory_free : (w : World) → ShowsWorld old w → IsTrue (is_step_memory_free w s)

@@ -6,7 +6,7 @@ use Rattle.ids.specs.declared.refusal.Refusal.TheVariants.{Memory}
 use Rattle.msg.specs.declared.frame.Ack.{Ack}
 use Rattle.model.specs.declared.event.Event.{Event}
 use Rattle.model.specs.declared.event.Answer.{Answer}
-use Rattle.model.specs.Steps.{ack_of, is_memory_free}
+use Rattle.model.specs.Steps.{ack_of, is_memory_free, is_shading}
 use Rattle.model.specs.View.{NodeView, Performs, Leaves, view_act, new_view, kept_view, link_to, used, base_of}
 use Rattle.world.specs.Outboxes.{Releases}
 
@@ -59,7 +59,7 @@ bases_acked all (Some a) = bases_to all a.from a.number
 
 -- what the current node answered to an event, and the site after it
 pub record Acted (result : Result Answer Refusal) (old new : SiteView) (e : Event) : Type 0 where
-  pub performs : Performs result new.current (view_act old.current e)
+  pub performs : Performs (is_shading e) result new.current (view_act old.current e)
   pub unchanged : OnErr result (new ≡ old)
   pub others : new ≡ record old { current = new.current }
   pub leaves : Leaves old.current new.current e

@@ -5,11 +5,13 @@
 mod frames;
 mod headline;
 mod outbox;
+mod reaching;
 mod sim;
 mod site;
 
 pub use headline::laws;
 pub use model::{Answer, Event, Letter, Outcome, Step};
+pub use reaching::reach;
 pub use sim::Sim;
 
 #[cfg(test)]

@@ -1,10 +1,11 @@
-ghost use Rattle.std.specs.Prelude.{◌≡◌, ◌<◌, length, slice_get, IsTrue, IfOk, IfErr, OnErr, ◌≢◌};
+ghost use Rattle.std.specs.Prelude.{◌≡◌, ◌<◌, length, cond, slice_get, IsTrue, IfOk, IfErr, OnErr, ◌≢◌};
 ghost use Rattle.std.specs.Option.{option_copied, option_map};
 ghost use Rattle.ids.specs.declared.refusal.Refusal.TheVariants.{Memory};
 ghost use Rattle.model.specs.Steps.{is_own};
-ghost use Rattle.model.specs.World.{World, FollowsStep, new_world, take_step, is_own_step, is_step_memory_free};
+ghost use Rattle.node.specs.Summaries.{summary_of};
+ghost use Rattle.model.specs.World.{World, FollowsStep, new_world, is_own_step, is_step_memory_free};
 ghost use Rattle.model.specs.declared.step.Step.TheVariants as step;
-ghost use Rattle.world.specs.Shows.{ShowsWorld, Stepped, ExtendsRun, Given, IsAckOf, bases_of, bases_after, frame_at, summary_at};
+ghost use Rattle.world.specs.Shows.{ShowsWorld, Stepped, ExtendsRun, Given, IsAckOf, bases_of, bases_after, frame_at, site_at, summary_at};
 
 use crate::site::Site;
 use ids::{NodeId, Refusal, Shape};
@@ -57,7 +58,7 @@ impl Sim {
     pub fn step(&mut self, step: Step) -> Result<Outcome, Refusal>
         requires own { IsTrue (is_own_step step) }
         ensures follows { (w : World) → ShowsWorld self.old w
-            → FollowsStep ShowsWorld w result self.new (take_step w step) }
+            → FollowsStep ShowsWorld w step result self.new }
         ensures runs { ExtendsRun result self.old self.new step }
         ensures lets_go { IfOk result (λ o.
             bases_of self.new ≡ bases_after (bases_of self.old) step o) }
@@ -91,13 +92,25 @@ impl Sim {
     /// The current node of this number, in numbers.
     #[tactic(auto, using(crate::proofs::Steps::state_shown))]
     pub fn state(&self, number: u8) -> Option<Summary>
-        ensures { (w : World) → ShowsWorld self.now w → result ≡ summary_at w number }
+        ensures here { result
+            ≡ option_map (λ q. summary_of q.current.local) (slice_get self.now number) }
+        ensures shown { (w : World) → ShowsWorld self.now w → result ≡ summary_at w number }
     {
         Some(self.node(number)?.state())
     }
 
+    /// The saved node of this number, where `saved` is true, and else the current one.
+    pub(crate) fn chosen(&self, number: u8, saved: bool) -> &Node
+        requires { number < length self.now }
+        ensures { result.now ≡ cond saved (site_at self.now number).saved
+            (site_at self.now number).current }
+    {
+        let site = &self.sites[usize::from(number)];
+        if saved { site.saved() } else { site.node() }
+    }
+
     /// How many nodes there are.
-    fn count(&self) -> u8
+    pub(crate) fn count(&self) -> u8
         ensures { result ≡ length self.now }
     {
         self.sites.len() as u8

@@ -56,7 +56,15 @@ impl Site {
         &self.current
     }
 
+    /// The saved node.
+    pub fn saved(&self) -> &Node
+        ensures { result.now ≡ self.now.saved }
+    {
+        &self.saved
+    }
+
     /// Gives the current node an event. It refuses what the node refuses; then nothing changes.
+    #[tactic(auto, using(crate::proofs::SiteLemmas::site_acted, crate::proofs::SiteLemmas::acts))]
     pub fn act(&mut self, event: Event) -> Result<Answer, Refusal>
         ensures { Acted result self.old self.new event }
     {

@@ -1,6 +1,6 @@
-ghost use Rattle.std.specs.Prelude.{◌≡◌, length, Ok, Err, OnOk, OnErr, IfOk, IfErr};
-ghost use Rattle.ids.specs.declared.refusal.Refusal.TheVariants.{Memory};
+ghost use Rattle.std.specs.Prelude.{◌≡◌, ◌<◌, ◌-◌, length, Ok, Err, OnErr, IfOk, IfErr};
 ghost use Rattle.model.specs.Heaps.{with_letter, heap_accept};
+ghost use Rattle.heap.specs.Heap.{KeepsRoom};
 
 use super::Heap;
 use ids::Refusal;
@@ -17,6 +17,7 @@ impl Heap {
         ensures done { IfOk result
             (λ l. heap_accept self.old.heap register ≡ Ok (self.new.heap, l)) }
         ensures limit { self.new.limit ≡ self.old.limit }
+        ensures room { KeepsRoom self.old self.new }
 
         ensures refused { IfErr result (λ e. heap_accept self.old.heap register ≡ Err e) }
         ensures unchanged { OnErr result (self.new ≡ self.old) }
@@ -31,17 +32,16 @@ impl Heap {
         Ok(letter)
     }
 
-    /// Puts a letter behind those that wait.
-    ///
-    /// It answers [`Refusal::Memory`] where there is no memory for it. The heap is then as it was.
-    pub fn add_letter(&mut self, letter: Letter) -> Result<(), Refusal>
-        ensures done { OnOk result
-            (self.new ≡ record self.old { heap = with_letter self.old.heap letter }) }
-        ensures refused { IfErr result (λ e. e ≡ Memory) }
-        ensures unchanged { OnErr result (self.new ≡ self.old) }
+    /// Puts a letter behind those that wait. It takes no memory: the room for it was made by
+    /// [`Heap::make_room`].
+    pub fn add_letter(&mut self, letter: Letter)
+        requires { 0 < self.old.letter_room }
+        ensures { self.new ≡ record self.old {
+          heap = with_letter self.old.heap letter;
+          letter_room = self.old.letter_room - 1;
+        } }
     {
-        self.letters.push_back(letter)?;
-        Ok(())
+        self.letters.push_back_reserved(letter);
     }
 
     /// How many letters wait.

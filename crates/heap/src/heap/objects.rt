@@ -1,11 +1,14 @@
-ghost use Rattle.std.specs.Prelude.{◌≡◌, ◌<◌, ◌≤◌, count_by, is_some, IsTrue, option_copied};
-ghost use Rattle.std.specs.Prelude.{Ok, Err, OnOk, OnErr, IfOk, IfErr};
+ghost use Rattle.std.specs.Prelude.{◌≡◌, ◌<◌, ◌≤◌, length, count_by, is_some, IsTrue, option_copied};
+ghost use Rattle.std.specs.Prelude.{false, Ok, Err, OnOk, OnErr, IfOk, IfErr};
 ghost use Rattle.ids.specs.Limits.{reference_fits};
 ghost use Rattle.ids.specs.declared.limits.TheConstants.{GREATEST_NODES};
 ghost use Rattle.model.specs.Checks.{guarded, IsFirstRefusal};
 ghost use Rattle.model.specs.Heaps.{object_at, place_of, with_place, with_word, heap_alloc};
-ghost use Rattle.model.specs.Heaps.{heap_load, heap_store, heap_clear, heap_word, heap_set_word};
-ghost use Rattle.heap.specs.Heap.{IsSlotted, is_occupied};
+ghost use Rattle.model.specs.Heaps.{load_tests, place_loaded};
+ghost use Rattle.model.specs.Heaps.{heap_store, heap_clear, heap_word, heap_set_word};
+ghost use Rattle.model.specs.State.{slot_at};
+ghost use Rattle.heap.specs.Heap.{KeepsRoom, IsSlotted, is_occupied};
+ghost use Rattle.heap.specs.Stored.{object_in};
 ghost use Rattle.heap.specs.Tests.{place_tests, object_tests};
 
 use super::Heap;
@@ -27,11 +30,13 @@ impl Heap {
             heap_alloc self.old.limit own cycle self.old.heap register places
             ≡ Ok (self.new.heap, r)) }
         ensures limit { self.new.limit ≡ self.old.limit }
+        ensures room { KeepsRoom self.old self.new }
         ensures within { IfOk result (λ r. (r.slot < self.old.limit) × (1 ≤ r.generation)) }
         ensures named { own < GREATEST_NODES → IfOk result (λ r. IsTrue (reference_fits r)) }
 
         ensures refused { IfErr result (λ e.
-            IsFirstRefusal e (heap_alloc self.old.limit own cycle self.old.heap register places)) }
+            IsFirstRefusal false e
+            (heap_alloc self.old.limit own cycle self.old.heap register places)) }
         ensures unchanged { OnErr result (self.new ≡ self.old) }
     {
         if register as usize >= self.registers.len() {
@@ -57,37 +62,31 @@ impl Heap {
         Ok(reference)
     }
 
-    /// Reads a place of the object that the register `object` names: `register` then holds what
-    /// stands there, or nothing where the place is empty. That is the answer too. `own` is the
-    /// node's number.
+    /// What a load gives: what stands in a place of the object that the register `object` names, or
+    /// nothing where the place is empty. It is to go into `register`, by [`Heap::set_register`].
+    /// `own` is the node's number.
     ///
     /// It answers [`Refusal::NoRegister`] where one of the two is no register,
     /// [`Refusal::EmptyRegister`] where `object` is empty, [`Refusal::Remote`] where it names an
     /// object of another node, and [`Refusal::NoField`] where the object isn't there or has no such
-    /// place. The heap is then as it was.
-    #[tactic(auto, unfolding(model::specs::Heaps::heap_load))]
-    pub fn load(
-        &mut self,
+    /// place.
+    #[tactic(auto, unfolding(model::specs::Heaps::heap_register))]
+    pub fn loaded(
+        &self,
         own: u8,
         register: u16,
         object: u16,
         place: u8,
     ) -> Result<Option<Ref>, Refusal>
-        ensures done { IfOk result
-            (λ r. heap_load own self.old.heap register object place ≡ Ok (self.new.heap, r)) }
-        ensures limit { self.new.limit ≡ self.old.limit }
-
-        ensures refused { IfErr result
-            (λ e. heap_load own self.old.heap register object place ≡ Err e) }
-        ensures unchanged { OnErr result (self.new ≡ self.old) }
+        ensures value { result ≡ guarded (load_tests own self.now.heap register object place)
+            (place_loaded self.now.heap object place) }
+        ensures there { OnOk result (register < length self.now.heap.registers) }
     {
         if register as usize >= self.registers.len() {
             return Err(Refusal::NoRegister);
         }
         let named = self.local(own, object)?;
-        let reference = self.read_place(named, place)?;
-        self.registers[register as usize] = reference;
-        Ok(reference)
+        self.read_place(named, place)
     }
 
     /// Writes what `register` holds into a place of the object that the register `object` names.
@@ -102,6 +101,7 @@ impl Heap {
         ensures done { OnOk result
             (heap_store own self.old.heap object place register ≡ Ok self.new.heap) }
         ensures limit { self.new.limit ≡ self.old.limit }
+        ensures room { KeepsRoom self.old self.new }
 
         ensures refused { IfErr result
             (λ e. heap_store own self.old.heap object place register ≡ Err e) }
@@ -127,6 +127,7 @@ impl Heap {
     pub fn clear(&mut self, own: u8, object: u16, place: u8) -> Result<(), Refusal>
         ensures done { OnOk result (heap_clear own self.old.heap object place ≡ Ok self.new.heap) }
         ensures limit { self.new.limit ≡ self.old.limit }
+        ensures room { KeepsRoom self.old self.new }
 
         ensures refused { IfErr result (λ e. heap_clear own self.old.heap object place ≡ Err e) }
         ensures unchanged { OnErr result (self.new ≡ self.old) }
@@ -163,6 +164,7 @@ impl Heap {
         ensures done { OnOk result
             (heap_set_word own self.old.heap object word ≡ Ok self.new.heap) }
         ensures limit { self.new.limit ≡ self.old.limit }
+        ensures room { KeepsRoom self.old self.new }
 
         ensures refused { IfErr result (λ e. heap_set_word own self.old.heap object word ≡ Err e) }
         ensures unchanged { OnErr result (self.new ≡ self.old) }
@@ -174,7 +176,7 @@ impl Heap {
     /// How many objects there are.
     pub fn live(&self) -> u32
         ensures value { result ≡ count_by is_occupied self.now.heap.slots }
-        ensures slots { IsSlotted self.now }
+        ensures slots { IsSlotted self.now.heap self.now.limit }
     {
         self.objects.len()
     }
@@ -204,10 +206,20 @@ impl Heap {
     }
 
     // The object of a reference to this heap's node, while it is there.
-    fn object(&self, reference: Ref) -> Option<&StoredObject>
+    pub(super) fn object(&self, reference: Ref) -> Option<&StoredObject>
         ensures { option_copied result ≡ object_at self.now.heap reference }
     {
         self.objects.get(key(reference))
+    }
+
+    // The object in a slot.
+    pub(super) fn stored(&self, slot: u32) -> Option<&StoredObject>
+        ensures { option_copied result ≡ object_in (slot_at self.now.heap slot) }
+    {
+        match self.objects.key_at(slot) {
+            Some(key) => self.objects.get(key),
+            None => None,
+        }
     }
 
     // What stands in a place that is there.
@@ -251,7 +263,7 @@ impl Heap {
 }
 
 // Where a node's heap keeps the object of this reference.
-fn key(reference: Ref) -> Key
+pub(super) fn key(reference: Ref) -> Key
     ensures { result ≡ record { slot = reference.slot; generation = reference.generation } }
 {
     Key {

@@ -1,6 +1,7 @@
-ghost use Rattle.std.specs.Prelude.{◌≡◌, Ok, Err, OnOk, OnErr, IfErr};
+ghost use Rattle.std.specs.Prelude.{◌≡◌, ◌<◌, length, Ok, Err, OnOk, OnErr, IfErr};
 ghost use Rattle.model.specs.Checks.{guarded};
-ghost use Rattle.model.specs.Heaps.{named, heap_copy, heap_drop, heap_register};
+ghost use Rattle.model.specs.Heaps.{named, with_register, heap_copy, heap_drop, heap_register};
+ghost use Rattle.heap.specs.Heap.{KeepsRoom};
 ghost use Rattle.heap.specs.Tests.{named_tests};
 
 use super::Heap;
@@ -28,6 +29,7 @@ impl Heap {
     pub fn copy_register(&mut self, register: u16, source: u16) -> Result<(), Refusal>
         ensures done { OnOk result (heap_copy self.old.heap register source ≡ Ok self.new.heap) }
         ensures limit { self.new.limit ≡ self.old.limit }
+        ensures room { KeepsRoom self.old self.new }
 
         ensures refused { IfErr result (λ e. heap_copy self.old.heap register source ≡ Err e) }
         ensures unchanged { OnErr result (self.new ≡ self.old) }
@@ -51,6 +53,7 @@ impl Heap {
     pub fn drop_register(&mut self, register: u16) -> Result<(), Refusal>
         ensures done { OnOk result (heap_drop self.old.heap register ≡ Ok self.new.heap) }
         ensures limit { self.new.limit ≡ self.old.limit }
+        ensures room { KeepsRoom self.old self.new }
 
         ensures refused { IfErr result (λ e. heap_drop self.old.heap register ≡ Err e) }
         ensures unchanged { OnErr result (self.new ≡ self.old) }
@@ -60,6 +63,15 @@ impl Heap {
         }
         self.registers[register as usize] = None;
         Ok(())
+    }
+
+    /// The register becomes this.
+    pub fn set_register(&mut self, register: u16, value: Option<Ref>)
+        requires { register < length self.old.heap.registers }
+        ensures { self.new
+            ≡ record self.old { heap = with_register self.old.heap register value } }
+    {
+        self.registers[register as usize] = value;
     }
 
     // What the register names, where that is an object of the node with this number.

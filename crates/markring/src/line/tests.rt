@@ -53,6 +53,7 @@ fn lines_are_read(rt: HostRuntime) {
             "  ack  00000000000000000003   0 ",
             Line::Step(Step::Hand { from: 3, to: 0 }),
         ),
+        ("255 restart", Line::Step(Step::Restart(255))),
         ("255 state", Line::State(255)),
         (" 00  state  ", Line::State(0)),
     ] {
@@ -124,6 +125,25 @@ fn lines_about_objects_are_read(rt: HostRuntime) {
 }
 
 #[test]
+fn lines_about_cycles_are_read(rt: HostRuntime) {
+    for (text, event) in [
+        ("3 begin", Event::Begin),
+        ("3  scan ", Event::Scan),
+        ("03 pass", Event::Pass),
+        ("3 sweep 0", Event::Sweep { count: 0 }),
+        (
+            "3 sweep 4294967295",
+            Event::Sweep {
+                count: 4_294_967_295,
+            },
+        ),
+    ] {
+        let expected = Some(Line::Step(Step::Act(3, event)));
+        assert_eq!(rt; Line::parse(text), expected, "{text:?}");
+    }
+}
+
+#[test]
 fn other_lines_are_no_commands(rt: HostRuntime) {
     for text in [
         "save",
@@ -147,6 +167,17 @@ fn other_lines_are_no_commands(rt: HostRuntime) {
         "0 alloc 1 2 3",
         "0 give 1 7",
         "0 give 1 7 0 0",
+        "begin",
+        "0 begin 1",
+        "0 scan 1",
+        "0 pass 1",
+        "0 sweep",
+        "0 sweep 1 2",
+        "0 sweep 4294967296",
+        "0 Sweep 1",
+        "0 restart 0",
+        "restart 0",
+        "0 cycle",
         "256 save",
         "space 256 4 16",
         "space 2 65536 16",

@@ -1,3 +1,5 @@
+mod cycles;
+
 use super::{Space, run, sim};
 use ids::{Refusal, Shape};
 use model::{Outcome, Step};
@@ -107,6 +109,9 @@ fn refusals_come_in_their_order(rt: HostRuntime) -> Result<(), Fail> {
         "0 alloc 0 8 -> 0.0.1",
         "0 load 1 0 8 -> refused 9 NoField",
         "0 give 0 1 0 -> refused 11 SelfSend",
+        "1 begin -> refused 14 NotDirector",
+        "0 begin -> cycle 1",
+        "0 begin -> refused 15 CycleRunning",
         "2 save -> refused 7 NoNode",
         "ack 0 2 -> refused 7 NoNode",
         "2 state -> refused 7 NoNode",

@@ -1,7 +1,7 @@
 use super::{SummaryText, answer_text};
 use ids::{Ref, Shape};
 use model::{Answer, Letter, Outcome};
-use msg::Colour;
+use msg::{Colour, Token};
 use node::Summary;
 use std::test::Fail;
 
@@ -21,6 +21,22 @@ fn outcomes_have_texts(rt: HostRuntime) -> Result<(), Fail> {
         from: 12,
         label: 0,
         reference: None,
+    };
+    let white = Token {
+        colour: Colour::White,
+        q: 0,
+    };
+    let black = Token {
+        colour: Colour::Black,
+        q: i64::MIN,
+    };
+    let freed_all = Answer::Freed {
+        count: 4_294_967_295,
+        done: true,
+    };
+    let freed_none = Answer::Freed {
+        count: 0,
+        done: false,
     };
     for (outcome, expected) in [
         (
@@ -46,6 +62,23 @@ fn outcomes_have_texts(rt: HostRuntime) -> Result<(), Fail> {
             "from 0 label 7 15.1048575.4294967295",
         ),
         (Outcome::Answer(Answer::Letter(bare)), "from 12 label 0 -"),
+        (
+            Outcome::Answer(Answer::Begun(281_474_976_710_656)),
+            "cycle 281474976710656",
+        ),
+        (
+            Outcome::Answer(Answer::Scanned(reference)),
+            "scanned 15.1048575.4294967295",
+        ),
+        (Outcome::Answer(Answer::Passed(white)), "passed 0 white"),
+        (
+            Outcome::Answer(Answer::Passed(black)),
+            "passed -9223372036854775808 black",
+        ),
+        (Outcome::Answer(Answer::ProbeAgain), "probe again"),
+        (Outcome::Answer(Answer::Ended(1)), "ended 1"),
+        (Outcome::Answer(freed_all), "freed 4294967295 done"),
+        (Outcome::Answer(freed_none), "freed 0 more"),
         (Outcome::Answer(Answer::Received), "received"),
         (Outcome::Answer(Answer::Repeat), "repeat"),
         (Outcome::Done, "ok"),

@@ -1,21 +1,23 @@
 //! The events that send a message to another node.
-ghost use Rattle.std.specs.Prelude.{◌≡◌, ◌≢◌, ◌+◌, ◌<◌, ◌≤◌, ◌+ℤ◌, ◌≤ℤ◌, ◌^◌, pos, [], ◌∷◌, true, false, map, slice_index_or, IfOk, IfErr, OnErr};
+ghost use Rattle.std.specs.Prelude.{◌≡◌, ◌≢◌, ◌+◌, ◌<◌, ◌≤◌, [], ◌∷◌, true, false, map, slice_index_or, IfOk, IfErr, OnErr};
 ghost use Rattle.ids.specs.declared.refusal.Refusal.TheVariants.{LinkSpent, Memory};
 ghost use Rattle.model.specs.References.{IsSendable};
 ghost use Rattle.model.specs.Steps.{fits};
 ghost use Rattle.model.specs.View.{Performed, view_act, used};
 ghost use Rattle.model.specs.declared.event.Event.TheVariants as event;
-ghost use Rattle.node.specs.Sending.{message_of_body, with_sent};
+ghost use Rattle.model.specs.Counting.{stamped};
+ghost use Rattle.node.specs.Sending.{with_sent};
 
-use super::{NO_CYCLE, Node};
+use super::Node;
 use ids::{GREATEST_PLACES, Refusal};
 use model::Answer;
 use msg::{Body, Message};
+use safra::balance_of;
 
 impl Node {
-    #[tactic(auto, unfolding(model::specs::View::view_act, model::specs::Steps::given, model::specs::Heaps::heap_register))]
+    #[tactic(auto, unfolding(model::specs::View::view_act, model::specs::Steps::given, model::specs::Counting::append, model::specs::Heaps::heap_register))]
     pub(crate) fn give(&mut self, to: u8, label: u32, register: u16) -> Result<Answer, Refusal>
-        ensures { Performed result self.old self.new
+        ensures { Performed false result self.old self.new
             (view_act self.old (event.Give to label register)) }
     {
         if to >= self.shape.nodes() {
@@ -29,9 +31,9 @@ impl Node {
         Ok(Answer::Sent(number))
     }
 
-    #[tactic(auto, unfolding(model::specs::View::view_act, model::specs::Steps::put_asked, model::specs::Heaps::heap_register))]
+    #[tactic(auto, unfolding(model::specs::View::view_act, model::specs::Steps::put_asked, model::specs::Counting::append, model::specs::Heaps::heap_register))]
     pub(crate) fn put(&mut self, object: u16, place: u8, register: u16) -> Result<Answer, Refusal>
-        ensures { Performed result self.old self.new
+        ensures { Performed false result self.old self.new
             (view_act self.old (event.Put object place register)) }
     {
         let target = self.heap.register(object)?;
@@ -54,9 +56,9 @@ impl Node {
         Ok(Answer::Sent(number))
     }
 
-    #[tactic(auto, unfolding(model::specs::View::view_act, model::specs::Steps::get_asked, model::specs::Heaps::heap_register))]
+    #[tactic(auto, unfolding(model::specs::View::view_act, model::specs::Steps::get_asked, model::specs::Counting::append, model::specs::Heaps::heap_register))]
     pub(crate) fn get(&mut self, object: u16, place: u8, label: u32) -> Result<Answer, Refusal>
-        ensures { Performed result self.old self.new
+        ensures { Performed false result self.old self.new
             (view_act self.old (event.Get object place label)) }
     {
         let Some(target) = self.heap.register(object)? else {
@@ -77,35 +79,26 @@ impl Node {
         Ok(Answer::Sent(number))
     }
 
-    /// Appends a message that carries references for another node, counts it, and gives its number.
-    /// `LinkSpent` where no number is left, and after it `Memory`, where a growth was refused.
+    /// Appends a message for the node `to`, counts it, and gives its number. `LinkSpent` where no
+    /// number is left, and after it `Memory`, where a growth was refused. The node is then as it
+    /// was.
     pub(crate) fn send(&mut self, to: u8, body: Body) -> Result<u64, Refusal>
         requires there { to < self.old.local.shape.nodes }
-        requires sendable { IsSendable self.old.local.shape (message_of_body self.old body) }
+        requires sendable { IsSendable self.old.local.shape (stamped self.old.local body) }
         ensures fits { IfOk result (λ n.
-            fits (map used self.old.links) ((to, message_of_body self.old body) ∷ []) ≡ true) }
+            fits (map used self.old.links) ((to, stamped self.old.local body) ∷ []) ≡ true) }
         ensures done { IfOk result (λ n. self.new ≡ with_sent self.old to body) }
         ensures number { IfOk result (λ n. n ≡ slice_index_or (map used self.old.links) to 0 + 1) }
         ensures refused { IfErr result (λ e. e ≢ Memory → (e ≡ LinkSpent)
-            × (fits (map used self.old.links) ((to, message_of_body self.old body) ∷ []) ≡ false)) }
+            × (fits (map used self.old.links) ((to, stamped self.old.local body) ∷ []) ≡ false)) }
         ensures last { IfErr result (λ e. e ≡ Memory
-            → fits (map used self.old.links) ((to, message_of_body self.old body) ∷ []) ≡ true) }
+            → fits (map used self.old.links) ((to, stamped self.old.local body) ∷ []) ≡ true) }
         ensures unchanged { OnErr result (self.new ≡ self.old) }
     {
-        let message = Message {
-            stamp: NO_CYCLE,
-            body,
-        };
+        let cycle = self.phases.cycle();
+        let message = Message { stamp: cycle, body };
         let number = self.links.append(to, message)?;
-        self.recent = one_more(self.recent);
+        self.ring.sent(balance_of(cycle, cycle, body));
         Ok(number)
     }
-}
-
-/// A balance after one more message.
-fn one_more(balance: i64) -> i64
-    requires { balance ≤ℤ pos (2 ^ 53) }
-    ensures { result ≡ balance +ℤ pos 1 }
-{
-    balance + 1
 }

@@ -1,27 +1,28 @@
 //! The events on a node's own registers, objects and letters.
-ghost use Rattle.std.specs.Prelude.{◌≡◌, ◌≢◌, IfErr, OnErr};
+ghost use Rattle.std.specs.Prelude.{◌≡◌, ◌≢◌, true, false, IfErr, OnErr};
 ghost use Rattle.ids.specs.declared.refusal.Refusal.TheVariants.{Memory};
 ghost use Rattle.model.specs.View.{Performed, Performs, view_act};
 ghost use Rattle.model.specs.declared.event.Event.TheVariants as event;
 
-use super::{NO_CYCLE, Node};
+use super::Node;
+use barrier::shade_all;
 use ids::Refusal;
 use model::Answer;
 
 impl Node {
     #[tactic(auto, unfolding(model::specs::View::view_act, model::specs::Steps::allocated, model::specs::Heaps::heap_alloc))]
     pub(crate) fn allocate(&mut self, register: u16, places: u8) -> Result<Answer, Refusal>
-        ensures { Performed result self.old self.new
+        ensures { Performed false result self.old self.new
             (view_act self.old (event.Alloc register places)) }
     {
         let own = self.own;
-        let reference = self.heap.alloc(own, NO_CYCLE, register, places)?;
+        let reference = self.heap.alloc(own, self.phases.cycle(), register, places)?;
         Ok(Answer::New(reference))
     }
 
     #[tactic(auto, unfolding(model::specs::View::view_act, model::specs::Steps::copied, model::specs::Heaps::heap_copy))]
     pub(crate) fn copy_register(&mut self, register: u16, source: u16) -> Result<Answer, Refusal>
-        ensures performed { Performed result self.old self.new
+        ensures performed { Performed false result self.old self.new
             (view_act self.old (event.Copy register source)) }
         ensures memory_free { IfErr result (λ e. e ≢ Memory) }
     {
@@ -31,7 +32,7 @@ impl Node {
 
     #[tactic(auto, unfolding(model::specs::View::view_act, model::specs::Steps::dropped, model::specs::Heaps::heap_drop))]
     pub(crate) fn drop_register(&mut self, register: u16) -> Result<Answer, Refusal>
-        ensures performed { Performed result self.old self.new
+        ensures performed { Performed false result self.old self.new
             (view_act self.old (event.Drop register)) }
         ensures memory_free { IfErr result (λ e. e ≢ Memory) }
     {
@@ -39,19 +40,31 @@ impl Node {
         Ok(Answer::Done)
     }
 
-    #[tactic(auto, using(crate::proofs::Sound::load_references), unfolding(model::specs::View::view_act, model::specs::Steps::loaded, model::specs::Heaps::heap_load))]
     pub(crate) fn load(&mut self, register: u16, object: u16, place: u8) -> Result<Answer, Refusal>
-        ensures { Performed result self.old self.new
+        ensures { Performed true result self.old self.new
             (view_act self.old (event.Load register object place)) }
     {
         let own = self.own;
-        let value = self.heap.load(own, register, object, place)?;
+        let value = self.heap.loaded(own, register, object, place)?;
+        let cycle = self.phases.cycle();
+        let ended = self.phases.ended();
+        shade_all(
+            &mut self.heap,
+            &mut self.asked,
+            &mut self.ring,
+            &mut self.links,
+            own,
+            cycle,
+            ended,
+            &[value],
+        )?;
+        self.heap.set_register(register, value);
         Ok(Answer::Value(value))
     }
 
-    #[tactic(auto, using(crate::proofs::Sound::store_references), unfolding(model::specs::View::view_act, model::specs::Steps::stored, model::specs::Heaps::heap_store))]
+    #[tactic(auto, using(crate::proofs::Refusing::store_refused), unfolding(model::specs::View::view_act, model::specs::Steps::stored, model::specs::Heaps::heap_store))]
     pub(crate) fn store(&mut self, object: u16, place: u8, register: u16) -> Result<Answer, Refusal>
-        ensures performed { Performed result self.old self.new
+        ensures performed { Performed false result self.old self.new
             (view_act self.old (event.Store object place register)) }
         ensures memory_free { IfErr result (λ e. e ≢ Memory) }
     {
@@ -60,9 +73,9 @@ impl Node {
         Ok(Answer::Done)
     }
 
-    #[tactic(auto, using(crate::proofs::Sound::clear_references), unfolding(model::specs::View::view_act, model::specs::Steps::cleared, model::specs::Heaps::heap_clear))]
+    #[tactic(auto, using(crate::proofs::Sound::clear_references, crate::proofs::Sound::clear_slots), unfolding(model::specs::View::view_act, model::specs::Steps::cleared, model::specs::Heaps::heap_clear))]
     pub(crate) fn clear(&mut self, object: u16, place: u8) -> Result<Answer, Refusal>
-        ensures performed { Performed result self.old self.new
+        ensures performed { Performed false result self.old self.new
             (view_act self.old (event.Clear object place)) }
         ensures memory_free { IfErr result (λ e. e ≢ Memory) }
     {
@@ -73,16 +86,16 @@ impl Node {
 
     #[tactic(auto, unfolding(model::specs::View::view_act, model::specs::Steps::word_read, model::specs::Heaps::heap_word))]
     pub(crate) fn word(&self, object: u16) -> Result<Answer, Refusal>
-        ensures performs { Performs result self.now (view_act self.now (event.Word object)) }
+        ensures performs { Performs false result self.now (view_act self.now (event.Word object)) }
         ensures memory_free { IfErr result (λ e. e ≢ Memory) }
     {
         let word = self.heap.word(self.own, object)?;
         Ok(Answer::Word(word))
     }
 
-    #[tactic(auto, using(crate::proofs::Sound::set_word_references), unfolding(model::specs::View::view_act, model::specs::Steps::word_set, model::specs::Heaps::heap_set_word))]
+    #[tactic(auto, using(crate::proofs::Sound::set_word_references, crate::proofs::Sound::set_word_slots), unfolding(model::specs::View::view_act, model::specs::Steps::word_set, model::specs::Heaps::heap_set_word))]
     pub(crate) fn set_word(&mut self, object: u16, word: u64) -> Result<Answer, Refusal>
-        ensures performed { Performed result self.old self.new
+        ensures performed { Performed false result self.old self.new
             (view_act self.old (event.SetWord object word)) }
         ensures memory_free { IfErr result (λ e. e ≢ Memory) }
     {
@@ -93,7 +106,7 @@ impl Node {
 
     #[tactic(auto, unfolding(model::specs::View::view_act, model::specs::Steps::accepted, model::specs::Heaps::heap_accept))]
     pub(crate) fn accept(&mut self, register: u16) -> Result<Answer, Refusal>
-        ensures performed { Performed result self.old self.new
+        ensures performed { Performed false result self.old self.new
             (view_act self.old (event.Accept register)) }
         ensures memory_free { IfErr result (λ e. e ≢ Memory) }
     {

@@ -1,31 +1,33 @@
 //! The events that come from other nodes: messages and acknowledgements.
-ghost use Rattle.std.specs.Prelude.{◌≡◌, ◌≢◌, ◌-ℤ◌, ◌≤ℤ◌, ◌^◌, ◌<◌, pos, neg_ℤ, option_to_list, IsTrue, IfErr, OnErr};
-ghost use Rattle.ids.specs.declared.limits.TheConstants.{GREATEST_NUMBER};
+ghost use Rattle.std.specs.Prelude.{◌≡◌, ◌≢◌, ◌<◌, true, false, option_to_list, IsTrue, IfErr, OnErr};
 ghost use Rattle.ids.specs.declared.refusal.Refusal.TheVariants.{Memory};
-ghost use Rattle.model.specs.State.{got_from};
+ghost use Rattle.model.proofs.Joining.{settles_joining};
+ghost use Rattle.model.specs.Shading.{joined};
 ghost use Rattle.model.specs.Steps.{
   are_within,
+  is_marking,
   is_memory_free,
   is_within,
   may_follow,
+  may_reach,
+  may_settle,
   may_take,
   mentioned,
 };
 ghost use Rattle.model.specs.View.{Performed, view_act, view_taken};
 ghost use Rattle.model.specs.declared.event.Event.TheVariants as event;
-ghost use Rattle.msg.specs.declared.body.Body.TheVariants as body;
-ghost use Rattle.node.specs.Taking.{IsTakable, with_counted};
+ghost use Rattle.node.specs.Taking.{IsTakable};
 
-use super::{NO_CYCLE, Node};
+use super::Node;
 use ids::{Ref, Refusal};
 use link::Offer;
-use model::{Answer, Letter};
+use model::Answer;
 use msg::{Ack, Body, Data};
 
 impl Node {
     #[tactic(auto, unfolding(model::specs::View::view_act, model::specs::Steps::taken_in))]
     pub(crate) fn take_in(&mut self, frame: Data) -> Result<Answer, Refusal>
-        ensures performed { Performed result self.old self.new
+        ensures performed { Performed true result self.old self.new
             (view_act self.old (event.Data frame)) }
         ensures memory_free { IsTrue (is_memory_free self.old.local (event.Data frame))
             → IfErr result (λ e. e ≢ Memory) }
@@ -37,41 +39,38 @@ impl Node {
             Offer::Repeat => return Ok(Answer::Repeat),
             Offer::Next => {}
         }
-        if !self.may_take(frame.stamp, frame.body) {
+        if !self.may_take(frame.from, frame.stamp, frame.body) {
             return Err(Refusal::WrongNode);
         }
-        self.follow(frame.from, frame.stamp, frame.body)
+        self.take(frame.from, frame.stamp, frame.body)
     }
 
     /// Takes in a message that the node may take in, in its turn.
-    fn follow(&mut self, from: u8, stamp: u64, body: Body) -> Result<Answer, Refusal>
-        requires takable { IsTakable self.old.local from stamp body }
-        requires may { IsTrue (may_follow self.old.local.own body) }
-        ensures { Performed result self.old self.new (view_taken self.old from stamp body) }
+    fn take(&mut self, from: u8, stamp: u64, body: Body) -> Result<Answer, Refusal>
+        requires { IsTakable self.old.local from stamp body }
+        ensures { Performed true result self.old self.new (view_taken self.old from stamp body) }
     {
-        match body {
-            Body::Give { label, reference } => self.take_give(from, stamp, label, reference),
-            Body::Put {
-                target,
-                place,
-                reference,
-            } => self.take_put(from, stamp, target, place, reference),
-            Body::Get {
-                target,
-                place,
-                label,
-            } => self.take_get(from, stamp, target, place, label),
-            Body::Begin | Body::Token(_) | Body::Mark { .. } | Body::Ended | Body::Swept => {
-                unreachable!()
-            }
+        if stamp > self.phases.cycle() {
+            self.take_joining(from, stamp, body)
+        } else {
+            self.take_settled(from, stamp, body)
         }
     }
 
-    fn may_take(&self, stamp: u64, body: Body) -> bool
-        ensures { result ≡ may_take self.now.local stamp body }
+    fn may_take(&self, from: u8, stamp: u64, body: Body) -> bool
+        ensures { result ≡ may_take self.now.local from stamp body }
     {
-        let own = self.own;
-        stamp <= NO_CYCLE && (self.has_room_for(body) && may_follow(own, body))
+        self.may_reach(stamp)
+            && (self.has_room_for(body)
+                && (self.may_follow(from, body) && self.may_settle(stamp, body)))
+    }
+
+    /// Whether the node is in this cycle or past it, or may join it.
+    fn may_reach(&self, stamp: u64) -> bool
+        ensures { result ≡ may_reach self.now.local stamp }
+    {
+        let cycle = self.phases.cycle();
+        stamp <= cycle || (self.own != 0 && (stamp <= cycle + 1 && cycle <= self.phases.swept()))
     }
 
     /// Whether the shape has room for every reference in the body.
@@ -105,78 +104,82 @@ impl Node {
         reference.node < self.shape.nodes() && reference.slot < self.shape.slots()
     }
 
-    #[tactic(auto, unfolding(model::specs::Steps::taken_in, model::specs::Steps::count_in, model::specs::Steps::take_body))]
-    fn take_give(
-        &mut self,
-        from: u8,
-        stamp: u64,
-        label: u32,
-        reference: Option<Ref>,
-    ) -> Result<Answer, Refusal>
-        requires takable { IsTakable self.old.local from stamp (body.Give label reference) }
-        ensures { Performed result self.old self.new
-            (view_taken self.old from stamp (body.Give label reference)) }
+    /// Whether the node follows such a body that comes from there.
+    fn may_follow(&self, from: u8, body: Body) -> bool
+        ensures { result ≡ may_follow self.now.local from body }
     {
-        self.heap.add_letter(Letter {
-            from,
-            label,
-            reference,
-        })?;
-        self.count_in(from);
-        Ok(Answer::Received)
+        match body {
+            Body::Begin | Body::Ended => from == 0,
+            Body::Token(_) => from == (self.own + 1) % self.shape.nodes(),
+            Body::Mark { target } | Body::Put { target, .. } | Body::Get { target, .. } => {
+                target.node == self.own
+            }
+            Body::Give { .. } => true,
+            Body::Swept => self.own == 0,
+        }
     }
 
-    #[tactic(auto, unfolding(model::specs::Steps::taken_in, model::specs::Steps::count_in, model::specs::Steps::take_body))]
-    fn take_put(
-        &mut self,
-        from: u8,
-        stamp: u64,
-        target: Ref,
-        place: u8,
-        reference: Option<Ref>,
-    ) -> Result<Answer, Refusal>
-        requires takable { IsTakable self.old.local from stamp (body.Put target place reference) }
-        ensures { Performed result self.old self.new
-            (view_taken self.old from stamp (body.Put target place reference)) }
+    /// Whether the body is true of the node once it has joined the message's cycle.
+    fn may_settle(&self, stamp: u64, body: Body) -> bool
+        ensures { result ≡ may_settle (joined self.now.local stamp).local stamp body }
     {
-        self.heap.set_place(target, place, reference);
-        self.count_in(from);
-        Ok(Answer::Received)
+        if stamp > self.phases.cycle() {
+            self.settles_joining(stamp, body)
+        } else {
+            self.settles(stamp, body)
+        }
     }
 
-    #[tactic(auto, unfolding(model::specs::Steps::taken_in, model::specs::Steps::count_in, model::specs::Steps::take_body))]
-    fn take_get(
-        &mut self,
-        from: u8,
-        stamp: u64,
-        target: Ref,
-        place: u8,
-        label: u32,
-    ) -> Result<Answer, Refusal>
-        requires takable { IsTakable self.old.local from stamp (body.Get target place label) }
-        ensures { Performed result self.old self.new
-            (view_taken self.old from stamp (body.Get target place label)) }
+    /// The same of a node that joins that cycle, seen before it does.
+    fn settles_joining(&self, stamp: u64, body: Body) -> bool
+        ensures { result ≡ settles_joining self.now.local stamp body }
     {
-        let reference = self.heap.place(target, place);
-        self.send(from, Body::Give { label, reference })?;
-        self.count_in(from);
-        Ok(Answer::Received)
+        match body {
+            Body::Token(_) => self.ring.token().is_none(),
+            Body::Ended => {
+                (self.heap.grey() == 0 && !self.heap.wakes_root(self.own, stamp))
+                    && self.ring.token().is_none()
+            }
+            Body::Begin
+            | Body::Mark { .. }
+            | Body::Give { .. }
+            | Body::Put { .. }
+            | Body::Get { .. }
+            | Body::Swept => true,
+        }
     }
 
-    /// Counts a message with references as taken in.
-    fn count_in(&mut self, from: u8)
-        requires there { from < self.old.local.shape.nodes }
-        requires room { got_from self.old.local from < GREATEST_NUMBER }
-        ensures { self.new ≡ with_counted self.old from }
+    /// The same of a node that is in that cycle or past it.
+    fn settles(&self, stamp: u64, body: Body) -> bool
+        ensures { result ≡ may_settle self.now.local stamp body }
     {
-        self.links.take_next(from);
-        self.recent = one_less(self.recent);
+        match body {
+            Body::Token(_) => self.is_marking(stamp) && self.ring.token().is_none(),
+            Body::Ended => {
+                self.is_marking(stamp) && (self.heap.grey() == 0 && self.ring.token().is_none())
+            }
+            Body::Swept => stamp == self.phases.cycle(),
+            Body::Begin
+            | Body::Mark { .. }
+            | Body::Give { .. }
+            | Body::Put { .. }
+            | Body::Get { .. } => true,
+        }
+    }
+
+    /// Whether the node is in this cycle and doesn't know its marking to have ended.
+    fn is_marking(&self, stamp: u64) -> bool
+        ensures { result ≡ is_marking self.now.local stamp }
+    {
+        let cycle = self.phases.cycle();
+        stamp == cycle && self.phases.ended() != cycle
     }
 
     /// Lets go of the messages that were acknowledged.
     #[tactic(auto, unfolding(model::specs::View::view_act))]
     pub(crate) fn acknowledge(&mut self, ack: Ack) -> Result<Answer, Refusal>
-        ensures performed { Performed result self.old self.new (view_act self.old (event.Ack ack)) }
+        ensures performed { Performed false result self.old self.new
+            (view_act self.old (event.Ack ack)) }
         ensures memory_free { IfErr result (λ e. e ≢ Memory) }
     {
         if !self.is_addressed(ack.from, ack.to) {
@@ -185,23 +188,4 @@ impl Node {
         self.links.trim(ack.from, ack.number)?;
         Ok(Answer::Done)
     }
-}
-
-/// Whether the node of this number follows such a body.
-fn may_follow(own: u8, body: Body) -> bool
-    ensures { result ≡ may_follow own body }
-{
-    match body {
-        Body::Give { .. } => true,
-        Body::Put { target, .. } | Body::Get { target, .. } => target.node == own,
-        Body::Begin | Body::Token(_) | Body::Mark { .. } | Body::Ended | Body::Swept => false,
-    }
-}
-
-/// A balance after one less.
-fn one_less(balance: i64) -> i64
-    requires { neg_ℤ (pos (2 ^ 53)) ≤ℤ balance }
-    ensures { result ≡ balance -ℤ pos 1 }
-{
-    balance - 1
 }

@@ -1,6 +1,6 @@
 use super::{
-    accept, alloc, answer_all, deliver_all, first, get, get_body, give_body, letter, load, node,
-    object, put, store, two_nodes,
+    accept, alloc, answer_all, check_appended, check_numbered, deliver_all, first, get, get_body,
+    give_body, letter, load, node, object, put, refuse, store, two_nodes,
 };
 use crate::{Answer, Event};
 use ids::{Refusal, Shape};
@@ -19,12 +19,14 @@ fn a_place_is_written_and_read_by_messages(rt: HostRuntime) -> Result<(), Refusa
     answer_all(&rt, &mut asking, &rows);
 
     deliver_all(&rt, &asking, &mut owner, &[1, 2, 3]);
-    let written = owner.act(load(1, 0, 1));
-    assert_eq!(rt; written, Ok(Answer::Value(Some(first(0)))));
-    assert_eq!(rt; owner.act(load(1, 0, 0)), Ok(Answer::Value(None)));
+    let rows = [
+        (load(1, 0, 1), Answer::Value(Some(first(0)))),
+        (load(1, 0, 0), Answer::Value(None)),
+    ];
+    answer_all(&rt, &mut owner, &rows);
     deliver_all(&rt, &asking, &mut owner, &[4]);
-    assert_eq!(rt; owner.act(load(1, 0, 1)), Ok(Answer::Value(None)));
-    assert_eq!(rt; owner.appended(0), 3);
+    answer_all(&rt, &mut owner, &[(load(1, 0, 1), Answer::Value(None))]);
+    check_appended(&rt, &owner, 0, 3);
 
     deliver_all(&rt, &owner, &mut asking, &[2, 3]);
     let rows = [
@@ -32,7 +34,7 @@ fn a_place_is_written_and_read_by_messages(rt: HostRuntime) -> Result<(), Refusa
         (accept(2), letter(1, 10, None)),
     ];
     answer_all(&rt, &mut asking, &rows);
-    assert_eq!(rt; asking.act(accept(3)), Err(Refusal::NoLetter));
+    refuse(&rt, &mut asking, accept(3), Refusal::NoLetter);
     Ok(())
 }
 
@@ -49,8 +51,9 @@ fn the_node_that_asked_is_answered(rt: HostRuntime) -> Result<(), Refusal> {
         (Event::Data(read), Answer::Received),
     ];
     answer_all(&rt, &mut owner, &rows);
-    assert_eq!(rt; (owner.appended(0), owner.appended(2)), (0, 1));
+    check_appended(&rt, &owner, 0, 0);
+    check_appended(&rt, &owner, 2, 1);
     let sent = Data::new(1, 2, 1, 0, give_body(9, Some(own)));
-    assert_eq!(rt; owner.numbered_frame(2, 1), sent.map(Frame::Data));
+    check_numbered(&rt, &owner, 2, &[(1, sent.map(Frame::Data))]);
     Ok(())
 }

@@ -1,5 +1,7 @@
 use super::{
-    accept, ack, alloc, first, give, give_body, letter, message, new_summary, node, shown, space,
+    accept, ack, alloc, answer, answer_all, check_ack, check_appended, check_given,
+    check_numbered, check_state, first, give, give_body, letter, message, new_summary, node,
+    refuse, save, space,
 };
 use crate::{Answer, Event, Node, Summary};
 use ids::Refusal;
@@ -11,36 +13,39 @@ use std::process::Abort;
 fn what_is_saved_is_given_out(rt: HostRuntime) -> Result<(), Refusal> {
     let shape = space(&rt, 4, 16);
     let mut sender = node(&rt, rt.alloc(), shape, 0)?;
-    assert_eq!(rt; sender.act(alloc(0, 0)), Ok(Answer::New(first(0))));
-    assert_eq!(rt; sender.act(give(1, 7, 0)), Ok(Answer::Sent(1)));
-    assert_eq!(rt; sender.appended(1), 1);
+    let rows = [
+        (alloc(0, 0), Answer::New(first(0))),
+        (give(1, 7, 0), Answer::Sent(1)),
+    ];
+    answer_all(&rt, &mut sender, &rows);
+    check_appended(&rt, &sender, 1, 1);
     let live = Summary {
         live: 1,
         recent: 1,
         ..new_summary(shape, 0)
     };
-    assert_eq!(rt; sender.state(), live);
+    check_state(&rt, &sender, live);
 
-    let older = Frame::Data(message(&rt, 1, 0, give_body(7, Some(first(0)))));
-    assert_eq!(rt; sender.frame_at(1, 0), None);
-    assert_eq!(rt; sender.numbered_frame(1, 1), Some(older));
-    sender.kept();
-    assert_eq!(rt; sender.frame_at(1, 0), Some(older));
-    for (to, place) in [(1, 1), (0, 0), (2, 0)] {
-        assert_eq!(rt; sender.frame_at(to, place), None, "{to} {place}");
-    }
-    for (to, number) in [(1, 0), (1, 2), (0, 1), (2, 1)] {
-        assert_eq!(rt; sender.numbered_frame(to, number), None, "{to} {number}");
+    let older = Some(Frame::Data(message(&rt, 1, 0, give_body(7, Some(first(0))))));
+    check_given(&rt, &sender, 1, &[(0, None)]);
+    check_numbered(&rt, &sender, 1, &[(0, None), (1, older), (2, None)]);
+    save(&mut sender);
+    check_given(&rt, &sender, 1, &[(0, older), (1, None)]);
+    for other in [0, 2] {
+        check_given(&rt, &sender, other, &[(0, None)]);
+        check_numbered(&rt, &sender, other, &[(1, None)]);
     }
 
-    assert_eq!(rt; sender.act(Event::Drop { register: 0 }), Ok(Answer::Done));
-    assert_eq!(rt; sender.act(give(1, 8, 0)), Ok(Answer::Sent(2)));
-    assert_eq!(rt; sender.frame_at(1, 0), Some(older));
-    assert_eq!(rt; sender.frame_at(1, 1), None);
-    let newer = Frame::Data(message(&rt, 2, 0, give_body(8, None)));
-    assert_eq!(rt; sender.numbered_frame(1, 2), Some(newer));
-    sender.kept();
-    assert_eq!(rt; sender.frame_at(1, 1), Some(newer));
+    let rows = [
+        (Event::Drop { register: 0 }, Answer::Done),
+        (give(1, 8, 0), Answer::Sent(2)),
+    ];
+    answer_all(&rt, &mut sender, &rows);
+    check_given(&rt, &sender, 1, &[(0, older), (1, None)]);
+    let newer = Some(Frame::Data(message(&rt, 2, 0, give_body(8, None))));
+    check_numbered(&rt, &sender, 1, &[(1, older), (2, newer)]);
+    save(&mut sender);
+    check_given(&rt, &sender, 1, &[(0, older), (1, newer)]);
     Ok(())
 }
 
@@ -50,10 +55,9 @@ fn messages_are_taken_in_in_order_and_once(rt: HostRuntime) -> Result<(), Refusa
     let mut receiver = node(&rt, rt.alloc(), shape, 1)?;
     let reference = Some(first(0));
     let next = Event::Data(message(&rt, 1, 0, give_body(7, reference)));
-    assert_eq!(rt; receiver.act(next), Ok(Answer::Received));
-    assert_eq!(rt; receiver.act(next), Ok(Answer::Repeat));
+    answer_all(&rt, &mut receiver, &[(next, Answer::Received), (next, Answer::Repeat)]);
     let later = Event::Data(message(&rt, 3, 0, give_body(8, None)));
-    assert_eq!(rt; receiver.act(later), Err(Refusal::OutOfOrder));
+    refuse(&rt, &mut receiver, later, Refusal::OutOfOrder);
     let taken = Summary {
         recent: -1,
         ..new_summary(shape, 1)
@@ -62,15 +66,15 @@ fn messages_are_taken_in_in_order_and_once(rt: HostRuntime) -> Result<(), Refusa
         letters: 1,
         ..taken
     };
-    assert_eq!(rt; receiver.state(), waiting);
+    check_state(&rt, &receiver, waiting);
 
-    assert_eq!(rt; receiver.act(accept(2)), Ok(letter(0, 7, reference)));
-    assert_eq!(rt; receiver.act(accept(2)), Err(Refusal::NoLetter));
-    assert_eq!(rt; receiver.state(), taken);
+    answer_all(&rt, &mut receiver, &[(accept(2), letter(0, 7, reference))]);
+    refuse(&rt, &mut receiver, accept(2), Refusal::NoLetter);
+    check_state(&rt, &receiver, taken);
 
-    assert_eq!(rt; receiver.act(give(0, 9, 2)), Ok(Answer::Sent(1)));
+    answer_all(&rt, &mut receiver, &[(give(0, 9, 2), Answer::Sent(1))]);
     let back = Data::new(1, 0, 1, 0, give_body(9, reference));
-    assert_eq!(rt; receiver.numbered_frame(0, 1), back.map(Frame::Data));
+    check_numbered(&rt, &receiver, 0, &[(1, back.map(Frame::Data))]);
     Ok(())
 }
 
@@ -78,49 +82,37 @@ fn messages_are_taken_in_in_order_and_once(rt: HostRuntime) -> Result<(), Refusa
 fn full_window(rt: &impl Abort, memory: Global) -> Result<Node, Refusal> {
     let mut sender = node(rt, memory, space(rt, 1, 1), 0)?;
     for number in 1..34 {
-        let answer = sender.act(give(1, 7, 0));
-        assert_eq!(rt; answer, Ok(Answer::Sent(number)));
+        answer(rt, &mut sender, give(1, 7, 0), Ok(Answer::Sent(number)));
     }
-    sender.kept();
+    save(&mut sender);
     Ok(sender)
 }
 
 // These places of its window have the messages of the numbers beside them.
 fn find_all(rt: &impl Abort, sender: &Node, rows: &[(u8, u64)]) {
     for (place, number) in rows {
-        let sent = Frame::Data(message(rt, *number, 0, give_body(7, None)));
-        assert_eq!(rt; sender.frame_at(1, *place), Some(sent), "{place}");
-        assert_eq!(rt; sender.numbered_frame(1, *number), Some(sent), "{number}");
+        let sent = Some(Frame::Data(message(rt, *number, 0, give_body(7, None))));
+        check_given(rt, sender, 1, &[(*place, sent)]);
+        check_numbered(rt, sender, 1, &[(*number, sent)]);
     }
 }
 
 #[test]
 fn an_acknowledgement_moves_the_window(rt: HostRuntime) -> Result<(), Refusal> {
     let mut sender = full_window(&rt, rt.alloc())?;
-    let before = sender.state();
     find_all(&rt, &sender, &[(0, 1), (31, 32)]);
-    assert_eq!(rt; sender.frame_at(1, 32), None);
-    assert_eq!(rt; sender.act(ack(&rt, 1, 0, 34)), Err(Refusal::AckBeyond));
-    assert_eq!(rt; sender.act(ack(&rt, 1, 0, 1)), Ok(Answer::Done));
-    assert_eq!(rt; sender.state(), before);
-    assert_eq!(rt; sender.appended(1), 33);
-    assert_eq!(rt; sender.numbered_frame(1, 1), None);
-    find_all(&rt, &sender, &[(0, 2), (30, 32), (31, 33)]);
-    let moved = shown(&sender, 1);
-    for number in [0, 1] {
-        assert_eq!(rt;
-            sender.act(ack(&rt, 1, 0, number)),
-            Ok(Answer::Done),
-            "{number}"
-        );
-        assert_eq!(rt; shown(&sender, 1), moved, "{number}");
-        find_all(&rt, &sender, &[(0, 2), (31, 33)]);
+    check_given(&rt, &sender, 1, &[(32, None)]);
+    refuse(&rt, &mut sender, ack(&rt, 1, 0, 34), Refusal::AckBeyond);
+    for number in [1, 0, 1] {
+        answer(&rt, &mut sender, ack(&rt, 1, 0, number), Ok(Answer::Done));
+        check_appended(&rt, &sender, 1, 33);
+        check_numbered(&rt, &sender, 1, &[(1, None)]);
+        find_all(&rt, &sender, &[(0, 2), (30, 32), (31, 33)]);
     }
-    assert_eq!(rt; sender.act(ack(&rt, 1, 0, 33)), Ok(Answer::Done));
-    assert_eq!(rt; sender.state(), before);
-    assert_eq!(rt; sender.frame_at(1, 0), None);
-    assert_eq!(rt; sender.numbered_frame(1, 33), None);
-    assert_eq!(rt; sender.act(give(1, 8, 0)), Ok(Answer::Sent(34)));
+    answer(&rt, &mut sender, ack(&rt, 1, 0, 33), Ok(Answer::Done));
+    check_given(&rt, &sender, 1, &[(0, None)]);
+    check_numbered(&rt, &sender, 1, &[(33, None)]);
+    answer(&rt, &mut sender, give(1, 8, 0), Ok(Answer::Sent(34)));
     Ok(())
 }
 
@@ -129,19 +121,19 @@ fn what_was_saved_is_acknowledged(rt: HostRuntime) -> Result<(), Refusal> {
     let mut receiver = node(&rt, rt.alloc(), space(&rt, 4, 16), 1)?;
     let none = Ack::new(1, 0, 0).map(Frame::Ack);
     let one = Ack::new(1, 0, 1).map(Frame::Ack);
-    assert_eq!(rt; receiver.ack_for(0), none);
+    check_ack(&rt, &receiver, 0, none);
     let taken = Event::Data(message(&rt, 1, 0, give_body(7, None)));
-    assert_eq!(rt; receiver.act(taken), Ok(Answer::Received));
-    assert_eq!(rt; receiver.ack_for(0), none);
-    receiver.kept();
-    assert_eq!(rt; receiver.ack_for(0), one);
+    answer(&rt, &mut receiver, taken, Ok(Answer::Received));
+    check_ack(&rt, &receiver, 0, none);
+    save(&mut receiver);
+    check_ack(&rt, &receiver, 0, one);
     let taken = Event::Data(message(&rt, 2, 0, give_body(8, None)));
-    assert_eq!(rt; receiver.act(taken), Ok(Answer::Received));
-    assert_eq!(rt; receiver.ack_for(0), one);
+    answer(&rt, &mut receiver, taken, Ok(Answer::Received));
+    check_ack(&rt, &receiver, 0, one);
     let copy = receiver.copy(rt.alloc())?;
-    assert_eq!(rt; copy.ack_for(0), one);
+    check_ack(&rt, &copy, 0, one);
     for from in [1, 2, 16, 255] {
-        assert_eq!(rt; receiver.ack_for(from), None, "{from}");
+        check_ack(&rt, &receiver, from, None);
     }
     Ok(())
 }

@@ -1,4 +1,6 @@
-use super::{alloc, answer_all, clear, copy, first, load, node, set_word, space, store, word};
+use super::{
+    alloc, answer_all, clear, copy, first, load, node, refuse, set_word, space, store, word,
+};
 use crate::{Answer, Event};
 use ids::Refusal;
 
@@ -22,8 +24,8 @@ fn what_is_stored_is_loaded(rt: HostRuntime) -> Result<(), Refusal> {
         (load(3, 0, 1), Answer::Value(None)),
     ];
     answer_all(&rt, &mut acting, &rows);
-    let dropped = acting.act(Event::Drop { register: 3 });
-    assert_eq!(rt; dropped, Err(Refusal::EmptyRegister));
+    let dropped = Event::Drop { register: 3 };
+    refuse(&rt, &mut acting, dropped, Refusal::EmptyRegister);
     Ok(())
 }
 

@@ -1,6 +1,7 @@
 use Rattle.laws.proofs.NoEvent.{only-events-change}
 use Rattle.laws.proofs.Cuts.{cuts-extend}
-use Rattle.laws.proofs.Live.{reach-is-live}
+use Rattle.laws.proofs.Live.{reach-is-live, sweeps-free-none-reachable, nodes-agree, balances-add-up}
+use Rattle.laws.proofs.OldGarbage.{old-garbage-goes}
 use Rattle.laws.proofs.Deliveries.{targets-are-live, none-refused-in-turn}
 use Rattle.laws.proofs.Net.{net-grows, none-beyond, acknowledgements-go-through, hands-go-through, acknowledged-is-taken-in}
 use Rattle.world.proofs.headline.laws.Goals as goal
@@ -13,6 +14,18 @@ returns-clause-cuts_extend c = cuts-extend
 
 pub returns-clause-live : goal.returns-clause-live
 returns-clause-live c = reach-is-live
+
+pub returns-clause-frees_none_reachable : goal.returns-clause-frees_none_reachable
+returns-clause-frees_none_reachable c = sweeps-free-none-reachable
+
+pub returns-clause-agreement : goal.returns-clause-agreement
+returns-clause-agreement c = nodes-agree
+
+pub returns-clause-balances : goal.returns-clause-balances
+returns-clause-balances c = balances-add-up
+
+pub returns-clause-old_garbage : goal.returns-clause-old_garbage
+returns-clause-old_garbage c = old-garbage-goes
 
 pub returns-clause-targets : goal.returns-clause-targets
 returns-clause-targets c = targets-are-live

@@ -18,7 +18,7 @@ invariant_of-self-2 c =
           (record {
             sound = c.in_ok-trim.ensures.sound;
             links = c.in_ok-trim.ensures.done;
-            balance = refl;
+            ring = refl;
           });
       limit = c.self.invariant.limit;
     }

@@ -1,7 +1,7 @@
 use Rattle.std.proofs.Common.{◌<◌, arith, ◌∙◌, subst}
 use Rattle.model.specs.References.{IsWithin}
 use Rattle.node.specs.Inside.{view_of}
-use Rattle.node.proofs.Sound.{alloc_references, alloc-names}
+use Rattle.node.proofs.Sound.{alloc_references, alloc-names, alloc-slots}
 use Rattle.node.proofs.Nodes.{node-heap}
 use Rattle.node.proofs.node.Node.allocate.Goals as goal
 
@@ -18,6 +18,7 @@ invariant_of-self-2 c =
     let held =
     alloc_references (IsWithin c.self.inside.shape) _ _ _ _ _ _ _ _ done named old.references in
     record {
-      node = node-heap (view_of c.self.inside) c.alloc.new.self.heap old held;
+      node = node-heap (view_of c.self.inside) c.alloc.new.self.heap old held
+          (alloc-slots _ _ _ _ _ _ _ _ done);
       limit = c.in_ok-reference.ensures.limit ∙ c.self.invariant.limit;
     }

@@ -6,6 +6,6 @@ use Rattle.node.proofs.node.Node.kept.Goals as goal
 pub invariant_of-self : goal.invariant_of-self
 invariant_of-self c = record {
   node = node-kept (view_of c.self.inside) c.self.invariant.node
-      (record { sound = c.kept.ensures.sound; links = c.kept.ensures.done; balance = refl });
+      (record { sound = search; links = search; ring = refl });
   limit = c.self.invariant.limit;
 }

@@ -14,11 +14,11 @@ loop-number-preserved c =
 pub invariant_of-result : goal.invariant_of-result
 invariant_of-result c =
     let all : c.loop-number.number ≡ c.args.shape.nodes =
-    omega (arith, c.nodes-number-end.ensures.value) in
-    rw (c.loop-number.invariant, all) (new-sim c.args.shape c.nodes-number-end.ensures.within)
+    search arith in
+    rw (c.loop-number.invariant, all) (new-sim c.args.shape search)
 
 pub returns-clause-made : goal.returns-clause-made
 returns-clause-made c =
     let all : c.loop-number.number ≡ c.args.shape.nodes =
-    omega (arith, c.nodes-number-end.ensures.value) in
+    search arith in
     rw (c.loop-number.invariant, all) (new-shows c.args.shape)

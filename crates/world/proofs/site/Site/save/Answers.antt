@@ -1,7 +1,42 @@
-use Rattle.std.proofs.Common.{length, ap, ◌∙◌}
+use Rattle.std.proofs.Common.{List, length, map, ap, sym, ◌∙◌, ℕ, subst}
 use Rattle.std.proofs.lemmas.List.{with_items_is, length-map}
+use Rattle.std.proofs.lemmas.Result.{err_from_is_err_and}
+use Rattle.world.specs.Outboxes.{released_frames}
+use Rattle.world.specs.Sites.{SiteView, IsSite}
 use Rattle.world.proofs.SiteLemmas.{site-saved}
 use Rattle.world.proofs.site.Site.save.Goals as goal
+
+-- frames that were made and not released show nowhere
+pub invariant_of-self : goal.invariant_of-self
+invariant_of-self c =
+    let wrote = with_items_is c.self.inside.outboxes c.release_all.new.row
+    (c.release_all.auto.row ∙ c.deref_mut.ensures.len) in
+    let same = c.in_err-release_all.ensures.unchanged
+    ∙ ap (map released_frames) c.deref_mut.ensures.value in
+    rw wrote
+    (subst
+    (λ (rows : List (List (List ℕ))).
+    IsSite (record {
+      current = c.self.inside.current;
+      saved = c.self.inside.saved;
+      released = rows;
+    }))
+    (sym same) c.self.invariant)
+
+pub returns-in_err-release_all-clause-unchanged : goal.returns-in_err-release_all-clause-unchanged
+returns-in_err-release_all-clause-unchanged c =
+    let wrote = with_items_is c.self.inside.outboxes c.release_all.new.row
+    (c.release_all.auto.row ∙ c.deref_mut.ensures.len) in
+    let same = c.in_err-release_all.ensures.unchanged
+    ∙ ap (map released_frames) c.deref_mut.ensures.value in
+    let site : List (List (List ℕ)) → SiteView = λ rows. record {
+      current = c.self.inside.current;
+      saved = c.self.inside.saved;
+      released = rows;
+    } in
+    let p = err_from_is_err_and c.from_residual-in_err-release_all.result
+    c.from_residual-in_err-release_all.ensures.1 in
+    rw (← c.self.view_is, wrote, p.1) (ap site same)
 
 pub invariant_of-self-2 : goal.invariant_of-self-2
 invariant_of-self-2 c =

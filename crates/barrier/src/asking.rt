@@ -1,0 +1,117 @@
+ghost use Rattle.std.specs.Prelude.{◌≡◌, ℕ, List, ◌++◌, ◌+◌, ◌<◌, ◌≤◌, ◌^◌, length, take, option_to_list, IfOk, IfErr, OnOk, OnErr};
+ghost use Rattle.std.specs.List.{AllByRecursion};
+ghost use Rattle.ids.specs.declared.limits.TheConstants.{GREATEST_NODES};
+ghost use Rattle.ids.specs.declared.names.Ref.{Ref as Reference};
+ghost use Rattle.ids.specs.declared.refusal.Refusal.TheVariants.{Memory};
+ghost use Rattle.model.specs.Shading.{filled, unasked, marks_for};
+ghost use Rattle.link.specs.Links.{LinksView, IsLinks};
+ghost use Rattle.barrier.specs.Asked.{IsAsked, IsRefused};
+
+use crate::marks::{append_marks, retract_marks};
+use ids::{Ref, Refusal};
+use indexmap::IndexSet;
+use link::Links;
+
+/// Asks the owners of these references to mark them: each that is another node's and isn't among
+/// those asked for comes last among them, once, and a Mark of this cycle comes last on the link to
+/// its node, in the same order. The node's own are passed over. It gives how many were asked for
+/// before: those after them have the new Marks.
+///
+/// [`Refusal::Memory`] where a growth was refused; [`Refusal::LinkSpent`] where a Mark gets no
+/// number, which may show only after memory was wanted for others. All is then as it was.
+pub fn ask(
+    asked: &mut IndexSet<Ref>,
+    links: &mut Links,
+    own: u8,
+    cycle: u64,
+    references: &[Option<Ref>],
+) -> Result<usize, Refusal>
+    requires nodes { AllByRecursion (λ r. r.node < length links.old.links)
+        (filled references.now) }
+    ensures before { IfOk result (λ before. before ≡ length asked.old.keys) }
+    ensures done { let new = unasked own asked.old.keys (filled references.now) in
+        OnOk result (IsAsked asked.old.keys new cycle links.old asked.new.keys links.new) }
+    ensures few { length links.old.links ≤ GREATEST_NODES →
+        OnOk result (length asked.new.keys ≤ length asked.old.keys + 2 ^ 52) }
+    ensures refused { let new = unasked own asked.old.keys (filled references.now) in
+        IfErr result (IsRefused links.old (marks_for cycle new)) }
+    ensures unchanged { OnErr result
+        ((asked.new.keys ≡ asked.old.keys) × (links.new ≡ links.old)) }
+    ensures width { length links.new.links ≡ length links.old.links }
+    ensures sound { OnOk result (IsLinks links.new) }
+{
+    let before = vouch(asked, own, references)?;
+    if let Err(refusal) = append_marks(links, cycle, &asked.as_slice()[before..]) {
+        asked.truncate(before);
+        return Err(refusal);
+    }
+    Ok(before)
+}
+
+/// Takes back what [`ask`] did, or more than one call of it in turn: the references after the
+/// first so many are no longer asked for, and the Mark of each, which was appended last for its
+/// node, is retracted. All of them are to have Marks: what was vouched for after them is to be
+/// taken back first, by [`unvouch`]. It takes no memory, and time for each reference that goes.
+pub fn unask(asked: &mut IndexSet<Ref>, links: &mut Links, before: usize)
+    ensures back { (keys new : List Reference) (cycle : ℕ) (was : LinksView) →
+        before ≡ length keys → IsLinks was →
+        IsAsked keys new cycle was asked.old.keys links.old →
+        (asked.new.keys ≡ keys) × (links.new ≡ was) }
+    ensures width { length links.new.links ≡ length links.old.links }
+    ensures sound { IsLinks links.new }
+{
+    let kept = before.min(asked.len());
+    retract_marks(links, &asked.as_slice()[kept..]);
+    asked.truncate(kept);
+}
+
+/// Counts these references as asked for without asking, since the node that they came from has seen
+/// to their Marks: each that is another node's and isn't among those asked for comes last among
+/// them, once. The node's own are passed over. It gives how many were asked for before.
+///
+/// [`Refusal::Memory`] where a growth was refused; what was asked for is then as it was.
+pub fn vouch(
+    asked: &mut IndexSet<Ref>,
+    own: u8,
+    references: &[Option<Ref>],
+) -> Result<usize, Refusal>
+    ensures before { IfOk result (λ before. before ≡ length asked.old.keys) }
+    ensures done { let new = unasked own asked.old.keys (filled references.now) in
+        OnOk result (asked.new.keys ≡ asked.old.keys ++ new) }
+    ensures refused { IfErr result (λ e. e ≡ Memory) }
+    ensures unchanged { OnErr result (asked.new.keys ≡ asked.old.keys) }
+{
+    let known = asked.len();
+    for reference in references {
+        if let Err(refusal) = include(asked, own, *reference) {
+            asked.truncate(known);
+            return Err(refusal);
+        }
+    }
+    Ok(known)
+}
+
+/// Counts a reference as asked for, as [`vouch`] does; where there is none, nothing changes.
+pub fn include(asked: &mut IndexSet<Ref>, own: u8, reference: Option<Ref>) -> Result<(), Refusal>
+    ensures done { let new = unasked own asked.old.keys (option_to_list reference) in
+        OnOk result (asked.new.keys ≡ asked.old.keys ++ new) }
+    ensures refused { IfErr result (λ e. e ≡ Memory) }
+    ensures unchanged { OnErr result (asked.new.keys ≡ asked.old.keys) }
+{
+    if let Some(reference) = reference
+        && reference.node != own
+    {
+        asked.insert(reference)?;
+    }
+    Ok(())
+}
+
+/// Takes back what [`vouch`] did, or more than one call of it in turn: the references after the
+/// first so many no longer count as asked for. It takes no memory, and time for each that goes.
+pub fn unvouch(asked: &mut IndexSet<Ref>, before: usize)
+    ensures rest { asked.new.keys ≡ take before asked.old.keys }
+    ensures back { (keys new : List Reference) → before ≡ length keys →
+        asked.old.keys ≡ keys ++ new → asked.new.keys ≡ keys }
+{
+    asked.truncate(before);
+}

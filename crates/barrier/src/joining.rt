@@ -1,0 +1,48 @@
+ghost use Rattle.std.specs.Prelude.{◌≡◌, [], ◌<◌, ◌≤◌, ◌^◌, length, IfOk, IfErr, OnOk, OnErr};
+ghost use Rattle.std.specs.List.{AllByRecursion};
+ghost use Rattle.ids.specs.declared.limits.TheConstants.{GREATEST_NODES};
+ghost use Rattle.model.specs.Shading.{filled, roots, unasked, marks_for};
+ghost use Rattle.link.specs.Links.{IsLinks};
+ghost use Rattle.barrier.specs.Asked.{IsAsked, IsRefused};
+
+use crate::asking::include;
+use crate::marks::append_marks;
+use heap::Heap;
+use ids::{Ref, Refusal};
+use indexmap::IndexSet;
+use link::Links;
+use std::alloc::Global;
+
+/// Asks for what the node's program holds, as a node does that joins this cycle: the references of
+/// registers and letters that are other nodes' make a new set, each once, and a Mark of each comes
+/// last on the link to its node, in the same order. The heap stays as it is. Where something after
+/// it is refused, [`unask`](crate::unask) on the new set takes the Marks back, all from 0 on.
+///
+/// [`Refusal::Memory`] where a growth was refused; [`Refusal::LinkSpent`] where a Mark gets no
+/// number, which may show only after memory was wanted for others. The links are then as they were.
+pub fn ask_for_roots(
+    alloc: Global,
+    heap: &Heap,
+    links: &mut Links,
+    own: u8,
+    cycle: u64,
+) -> Result<IndexSet<Ref>, Refusal>
+    requires nodes { AllByRecursion (λ r. r.node < length links.old.links)
+        (filled (roots heap.now.heap)) }
+    ensures done { let new = unasked own [] (filled (roots heap.now.heap)) in
+        IfOk result (λ asked. IsAsked [] new cycle links.old asked.keys links.new) }
+    ensures few { length links.old.links ≤ GREATEST_NODES →
+        IfOk result (λ asked. length asked.keys ≤ 2 ^ 52) }
+    ensures refused { let new = unasked own [] (filled (roots heap.now.heap)) in
+        IfErr result (IsRefused links.old (marks_for cycle new)) }
+    ensures unchanged { OnErr result (links.new ≡ links.old) }
+    ensures width { length links.new.links ≡ length links.old.links }
+    ensures sound { OnOk result (IsLinks links.new) }
+{
+    let mut asked = IndexSet::new(alloc);
+    for number in 0..heap.root_count() {
+        include(&mut asked, own, heap.root(number))?;
+    }
+    append_marks(links, cycle, asked.as_slice())?;
+    Ok(asked)
+}

@@ -1,0 +1,28 @@
+//! Shading many references, all or nothing. To shade an object of the node is to mark it, and to
+//! shade one of another node is to ask its owner for that, by a Mark, once in a cycle.
+//!
+//! What can be refused comes first: room on the heap's list of grey objects, and then [`ask`],
+//! [`ask_for_roots`] or [`vouch`], which leave all as it was where they are refused, and which
+//! [`unask`] and [`unvouch`] take back where something after them is. Marking objects and counting
+//! Marks comes last and can't be refused. [`shade_all`] and [`scan`] do both.
+//!
+//! The references that were asked for are an [`IndexSet`](indexmap::IndexSet), the oldest first: so
+//! what comes after the first so many tells which Marks were sent since, and taking back needs
+//! neither memory nor a list of its own.
+//!
+//! Each reference costs one look-up in the set or in the heap. Nothing else is read.
+#![tactic(auto)]
+
+mod asking;
+mod joining;
+mod marks;
+mod scanning;
+mod shading;
+
+pub use asking::{ask, unask, unvouch, vouch};
+pub use joining::ask_for_roots;
+pub use scanning::scan;
+pub use shading::shade_all;
+
+#[cfg(test)]
+mod tests;

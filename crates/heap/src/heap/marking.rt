@@ -1,0 +1,204 @@
+//! Marking: the room that it wants, shading, the roots, and the grey objects.
+ghost use Rattle.std.specs.Prelude.{◌≡◌, ℕ, ◌+◌, ◌^◌, ◌<◌, ◌≤◌, length, slice_index_or};
+ghost use Rattle.std.specs.Prelude.{None, is_none, option_to_list, IsOk, IfSome, IfErr, OnOk};
+ghost use Rattle.std.specs.List.{list_any};
+ghost use Rattle.ids.specs.declared.refusal.Refusal.TheVariants.{Memory};
+ghost use Rattle.model.specs.State.{slot_at};
+ghost use Rattle.model.specs.Heaps.{object_at};
+ghost use Rattle.model.specs.Shading.{is_unmarked, wakes, make_grey, make_all_grey};
+ghost use Rattle.model.specs.Shading.{filled, roots, is_calm};
+ghost use Rattle.model.specs.Shading.{last_grey, without_last_grey};
+ghost use Rattle.model.specs.Collecting.{places_in};
+ghost use Rattle.heap.specs.Heap.{Holds, HasRoom, KeepsRoom, Became, reference_in};
+
+use super::Heap;
+use super::objects::key;
+use ids::{Ref, Refusal};
+
+impl Heap {
+    /// Makes room for so many grey objects and so many letters, so that they want no memory later.
+    /// Nothing else changes. Where there is room for them already it takes no memory and never
+    /// fails; a growth moves all grey objects or all letters, and doubles the room for them.
+    ///
+    /// It answers [`Refusal::Memory`] where a growth was refused. There may be more room then than
+    /// before, and never less.
+    pub fn make_room(&mut self, greys: usize, letters: usize) -> Result<(), Refusal>
+        ensures room { OnOk result (HasRoom self.new greys letters) }
+        ensures same { Holds self.new self.old.heap self.old.limit }
+        ensures keeps { KeepsRoom self.old self.new }
+        ensures spared { HasRoom self.old greys letters → IsOk result }
+        ensures refused { IfErr result (λ e. e ≡ Memory) }
+    {
+        self.grey.reserve(greys)?;
+        self.letters.reserve(letters)?;
+        Ok(())
+    }
+
+    /// Shades what is this node's of the references: each object that is there and isn't marked by
+    /// `cycle` yet is marked, and its slot comes last among the grey ones. References of other
+    /// nodes, and to objects that aren't there any more, change nothing. `own` is the node's
+    /// number. It takes no memory: the room for all the references was made by
+    /// [`Heap::make_room`].
+    pub fn shade(&mut self, own: u8, cycle: u64, references: &[Option<Ref>])
+        requires { length references.now ≤ self.old.room }
+        ensures { Became self.old self.new
+            (make_all_grey own cycle self.old.heap (filled references.now))
+            (length references.now) }
+    {
+        for reference in references {
+            self.shade_one(own, cycle, *reference);
+        }
+    }
+
+    /// Shades what the program holds, as [`Heap::shade`] does: the registers in order, then the
+    /// letters, oldest first. It takes no memory: the room for all of them,
+    /// [`Heap::root_count`], was made by [`Heap::make_room`].
+    pub fn shade_roots(&mut self, own: u8, cycle: u64)
+        requires { length (roots self.old.heap) ≤ self.old.room }
+        ensures { Became self.old self.new
+            (make_all_grey own cycle self.old.heap (filled (roots self.old.heap)))
+            (length (roots self.old.heap)) }
+    {
+        let count = self.root_count();
+        for number in 0..count {
+            let reference = self.root(number);
+            self.shade_one(own, cycle, reference);
+        }
+    }
+
+    /// How many roots there are: registers and letters, also those that hold no reference. There
+    /// are fewer than 2^16 registers, and fewer than 2^63 letters.
+    pub fn root_count(&self) -> usize
+        ensures count { result ≡ length (roots self.now.heap) }
+        ensures within { result < 2 ^ 63 + 2 ^ 16 }
+    {
+        self.registers.len() + self.letters.len()
+    }
+
+    /// What the root of this number holds: the registers come first, in order, and then the
+    /// letters, oldest first. Nothing where there is no such root. It looks at this root alone.
+    pub fn root(&self, number: usize) -> Option<Ref>
+        ensures { result ≡ slice_index_or (roots self.now.heap) number None }
+    {
+        if number < self.registers.len() {
+            return self.registers[number];
+        }
+        match self.letters.get(number - self.registers.len()) {
+            Some(letter) => letter.reference,
+            None => None,
+        }
+    }
+
+    /// Whether shading the roots in this cycle would turn an object grey. `own` is the node's
+    /// number. It looks at the roots up to the first such one.
+    pub fn wakes_root(&self, own: u8, cycle: u64) -> bool
+        ensures { result
+            ≡ list_any (wakes own cycle self.now.heap) (filled (roots self.now.heap)) }
+    {
+        for number in 0..self.root_count() {
+            if self.wakes(own, cycle, self.root(number)) {
+                return true;
+            }
+        }
+        false
+    }
+
+    /// How many marked objects are still to be scanned.
+    pub fn grey(&self) -> usize
+        ensures { result ≡ length self.now.heap.grey }
+    {
+        self.grey.len()
+    }
+
+    /// The slot of the grey object that is to be scanned next, which is the one that turned grey
+    /// last; None where no object is grey.
+    pub fn last_grey(&self) -> Option<u32>
+        ensures none { is_none result ≡ is_calm self.now.heap }
+        ensures value { IfSome result (λ slot. slot ≡ last_grey self.now.heap) }
+    {
+        self.grey.last().copied()
+    }
+
+    /// Takes the object that is to be scanned next off the list of the grey ones. It stays marked.
+    /// Where no object is grey, nothing changes.
+    pub fn pop_grey(&mut self)
+        ensures { Became self.old self.new (without_last_grey self.old.heap) 0 }
+    {
+        self.grey.pop();
+    }
+
+    /// The reference to what is in a slot, by the generation that the slot has: that of its object,
+    /// or of the next one where the slot is free, or 0 where it is retired or was never used. `own`
+    /// is the node's number.
+    pub fn reference_at(&self, own: u8, slot: u32) -> Ref
+        ensures { result ≡ reference_in own self.now.heap slot }
+    {
+        Ref {
+            node: own,
+            slot,
+            generation: self.objects.generation_at(slot).unwrap_or(0),
+        }
+    }
+
+    /// What the places of the object in a slot hold, in order. An object has at most eight places;
+    /// those that it doesn't have are empty here, and so are all where the slot has no object.
+    #[tactic(auto, using(crate::proofs::Shades::no_place))]
+    pub fn places(&self, slot: u32) -> [Option<Ref>; 8]
+        ensures filled { filled result ≡ filled (places_in (slot_at self.now.heap slot)) }
+        ensures each { (j : ℕ) → slice_index_or result j None
+            ≡ slice_index_or (places_in (slot_at self.now.heap slot)) j None }
+    {
+        match self.stored(slot) {
+            Some(object) => object.places(),
+            None => [None; 8],
+        }
+    }
+
+    // Shades what is there, if it is this node's.
+    fn shade_one(&mut self, own: u8, cycle: u64, reference: Option<Ref>)
+        requires { 0 < self.old.room }
+        ensures { Became self.old self.new
+            (make_all_grey own cycle self.old.heap (option_to_list reference)) 1 }
+    {
+        if let Some(reference) = reference {
+            if reference.node == own {
+                self.make_grey(cycle, reference);
+            }
+        }
+    }
+
+    // Marks an object of this heap, if it is there and isn't marked yet.
+    fn make_grey(&mut self, cycle: u64, object: Ref)
+        requires { 0 < self.old.room }
+        ensures { Became self.old self.new (make_grey cycle self.old.heap object) 1 }
+    {
+        let marked = match self.objects.get_mut(key(object)) {
+            Some(object) => object.mark(cycle),
+            None => false,
+        };
+        if marked {
+            self.grey.push_reserved(object.slot);
+        }
+    }
+
+    // Whether shading what is there would turn an object grey.
+    fn wakes(&self, own: u8, cycle: u64, reference: Option<Ref>) -> bool
+        ensures { result
+            ≡ list_any (wakes own cycle self.now.heap) (option_to_list reference) }
+    {
+        match reference {
+            Some(reference) => reference.node == own && self.is_unmarked(cycle, reference),
+            None => false,
+        }
+    }
+
+    // Whether an object of this heap is there, and isn't marked by this cycle.
+    fn is_unmarked(&self, cycle: u64, reference: Ref) -> bool
+        ensures { result ≡ is_unmarked cycle (object_at self.now.heap reference) }
+    {
+        match self.object(reference) {
+            Some(object) => !object.is_marked(cycle),
+            None => false,
+        }
+    }
+}

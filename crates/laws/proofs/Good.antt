@@ -1,0 +1,172 @@
+-- What is good in one node: in its heap, among what it asked for, and in what it sends. Shading,
+-- vouching and joining keep it so.
+use Rattle.std.proofs.Common.{◌≡◌, ℕ, ◌≤◌, true, List, [], ◌++◌, sym, ap, subst, ⊎_elim, arith}
+use Rattle.std.proofs.lemmas.Bool.{cases_Bool}
+use Rattle.ids.specs.declared.names.Ref.{Ref}
+use Rattle.msg.specs.declared.body.Body.{Body}
+use Rattle.msg.specs.declared.body.Body.TheVariants as body
+use Rattle.msg.specs.declared.body.Message.{Message}
+use Rattle.model.specs.State.{Heap, Ring, LocalState}
+use Rattle.model.specs.Effects.{Work, at_rest}
+use Rattle.model.specs.Counting.{append, announce, stamped}
+use Rattle.model.specs.Shading.{is_in, is_open, filled, roots, enter, join, shade_all, vouch_all, make_all_grey, unasked, mark_for}
+use Rattle.model.specs.Steps.{carried}
+use Rattle.model.specs.Cuts.{Among}
+use Rattle.model.proofs.ShadingParts.{shade_all-open, shade_all-closed, vouch_all-open, vouch_all-closed, shaded_work}
+use Rattle.laws.proofs.Lookups.{among-append}
+use Rattle.laws.proofs.Meets.{in-append, unasked-from, marks-from}
+use Rattle.laws.proofs.Dressing.{roots-all}
+use Rattle.laws.proofs.Light.{is_idle, idle-carries}
+use Rattle.laws.proofs.PhaseSteps.{others-are}
+use Rattle.laws.proofs.GoodHeaps.{GoodHeap, heap-greyed, heap-entered}
+
+pub record GoodPart (G : Ref → Type 0) (since : ℕ) (p : LocalState) : Type 0 where
+  pub heap : GoodHeap G since p.own p.phases.cycle p.phases.swept p.heap
+  -- what the node asked for in the cycle `since` or a later one is good
+  pub asked : since ≤ p.phases.cycle → (r : Ref) → is_in r p.asked ≡ true → G r
+  pub phase : p.phases.swept ≤ p.phases.cycle
+
+-- What a message carries is good. What it asks for is, where its cycle is `since` or a later one.
+pub record GoodMessage (G : Ref → Type 0) (since : ℕ) (x : Message) : Type 0 where
+  pub carries : (r : Ref) → Among r (carried x.body) → G r
+  pub asks : (r : Ref) → x.body ≡ body.Mark r → since ≤ x.stamp → G r
+
+-- what a step leaves is good, and so is what it sends
+pub record GoodDone (G : Ref → Type 0) (since : ℕ) (p : LocalState) (ms : List (ℕ × Message))
+    : Type 0 where
+  pub part : GoodPart G since p
+  pub sends : (to : ℕ) (x : Message) → Among (to, x) ms → GoodMessage G since x
+
+pub done-quiet : {G : Ref → Type 0} {since : ℕ} {p : LocalState} → GoodPart G since p
+    → GoodDone G since p []
+done-quiet good = record { part = good; sends = λ to x never. absurd never }
+
+pub done-through : {G : Ref → Type 0} {since : ℕ} {p q : LocalState} {ms ns : List (ℕ × Message)}
+    → GoodDone G since p ms → GoodDone G since q ns → GoodDone G since q (ms ++ ns)
+done-through {G = G} {since = since} {ms = ms} {ns = ns} a b = record {
+  part = b.part;
+  sends = λ to x among.
+      ⊎_elim {C = GoodMessage G since x} (λ first. a.sends to x first) (λ then. b.sends to x then)
+      (among-append (to, x) ms ns among);
+}
+
+-- ---- parts that change by little
+
+pub part-with : {G : Ref → Type 0} {since : ℕ} {p : LocalState} (h : Heap) → GoodPart G since p
+    → GoodHeap G since p.own p.phases.cycle p.phases.swept h
+    → GoodPart G since (record p { heap = h })
+part-with h good heap = record { heap = heap; asked = good.asked; phase = good.phase }
+
+pub part-ringed : {G : Ref → Type 0} {since : ℕ} {p : LocalState} (r : Ring) → GoodPart G since p
+    → GoodPart G since (record p { ring = r })
+part-ringed r good = record { heap = good.heap; asked = good.asked; phase = good.phase }
+
+-- ---- messages
+
+-- what neither carries nor asks
+pub idle-good : {G : Ref → Type 0} {since : ℕ} (x : Message) → is_idle x.body ≡ true
+    → GoodMessage G since x
+idle-good x idle = record {
+  carries = λ r a. absurd (subst (Among r) (idle-carries x.body idle) a);
+  asks = λ r e _. absurd (let marks : is_idle (body.Mark r) ≡ true =
+      subst (λ (z : Body). is_idle z ≡ true) e idle in cc);
+}
+
+pub append-good : {G : Ref → Type 0} {since : ℕ} (to : ℕ) (b : Body) (p : LocalState)
+    → GoodMessage G since (stamped p b) → GoodPart G since p
+    → GoodDone G since (append to b p).local (append to b p).sends
+unfolding append
+append-good {G = G} {since = since} to b p message good = record {
+  part = part-ringed _ good;
+  sends = λ k x a.
+      ⊎_elim {C = GoodMessage G since x}
+      (λ (e : (k, x) ≡ (to, stamped p b)).
+      subst (GoodMessage G since) (sym (ap (λ (z : ℕ × Message). z.1) e)) message)
+      (λ never. absurd never) a;
+}
+
+pub announce-good : {G : Ref → Type 0} {since : ℕ} (b : Body) (p : LocalState) → is_idle b ≡ true
+    → GoodPart G since p → GoodDone G since (announce b p).local (announce b p).sends
+unfolding announce
+announce-good {G = G} {since = since} b p idle good = record {
+  part = good;
+  sends = λ to x a.
+      subst (GoodMessage G since) (sym (others-are p b p.shape.nodes to x a).0)
+      (idle-good (stamped p b) idle);
+}
+
+-- ---- shading, vouching, joining
+
+-- the heap afterwards, and what was asked for
+met-good : {G : Ref → Type 0} {since : ℕ} (p : LocalState) (rs : List Ref) (r : Ring)
+    → GoodPart G since p → (since ≤ p.phases.cycle → (r : Ref) → Among r rs → G r)
+    → GoodPart G since (record p {
+      heap = make_all_grey p.own p.phases.cycle p.heap rs;
+      asked = p.asked ++ unasked p.own p.asked rs;
+      ring = r;
+    })
+met-good {G = G} p rs ring good brought = record {
+  heap = heap-greyed rs good.phase brought good.heap;
+  asked = λ there r known.
+      ⊎_elim {C = G r} (λ before. good.asked there r before)
+      (λ new. brought there r (unasked-from p.own p.asked rs r new).0)
+      (in-append r p.asked (unasked p.own p.asked rs) known);
+  phase = good.phase;
+}
+
+-- references are shaded that are good in case the node has reached the cycle `since`
+pub shade-good : {G : Ref → Type 0} {since : ℕ} (p : LocalState) (rs : List Ref)
+    → GoodPart G since p → (since ≤ p.phases.cycle → (r : Ref) → Among r rs → G r)
+    → GoodDone G since (shade_all (at_rest p) rs).local (shade_all (at_rest p) rs).sends
+shade-good {G = G} {since = since} p rs good brought =
+    ⊎_elim {C = GoodDone G since (shade_all (at_rest p) rs).local (shade_all (at_rest p) rs).sends}
+    (λ opened.
+    subst (λ (w : Work). GoodDone G since w.local w.sends) (sym (shade_all-open p [] rs opened))
+    (record {
+      part = met-good p rs (shaded_work p [] rs).local.ring good brought;
+      sends = λ to x a. marks to x (marks-from p.phases.cycle (unasked p.own p.asked rs) to x a);
+    }))
+    (λ shut.
+    subst (λ (w : Work). GoodDone G since w.local w.sends)
+    (sym (shade_all-closed (at_rest p) rs shut)) (done-quiet good))
+    (cases_Bool (is_open p))
+  where
+    marks : (to : ℕ) (x : Message)
+        → (r : Ref) × Among r (unasked p.own p.asked rs) × ((to, x) ≡ mark_for p.phases.cycle r)
+        → GoodMessage G since x
+    marks to x found =
+        subst (GoodMessage G since) (sym (ap (λ (z : ℕ × Message). z.1) found.2))
+        (record {
+          carries = λ r never. absurd never;
+          asks = λ r e there.
+              (let same : found.0 ≡ r = cc in
+              subst G same (brought there found.0
+              (unasked-from p.own p.asked rs found.0 found.1).0));
+        })
+
+pub vouch-good : {G : Ref → Type 0} {since : ℕ} (p : LocalState) (rs : List Ref)
+    → GoodPart G since p → (since ≤ p.phases.cycle → (r : Ref) → Among r rs → G r)
+    → GoodDone G since (vouch_all (at_rest p) rs).local (vouch_all (at_rest p) rs).sends
+vouch-good {G = G} {since = since} p rs good brought =
+    ⊎_elim {C = GoodDone G since (vouch_all (at_rest p) rs).local (vouch_all (at_rest p) rs).sends}
+    (λ opened.
+    subst (λ (w : Work). GoodDone G since w.local w.sends) (sym (vouch_all-open p [] rs opened))
+    (done-quiet (met-good p rs p.ring good brought)))
+    (λ shut.
+    subst (λ (w : Work). GoodDone G since w.local w.sends)
+    (sym (vouch_all-closed (at_rest p) rs shut)) (done-quiet good))
+    (cases_Bool (is_open p))
+
+-- the node goes on to a later cycle, with nothing grey
+pub join-good : {G : Ref → Type 0} {since : ℕ} (p : LocalState) (cycle : ℕ) → p.heap.grey ≡ []
+    → p.phases.cycle ≤ cycle → GoodPart G since p
+    → GoodDone G since (join p cycle).local (join p cycle).sends
+unfolding join enter
+join-good {G = G} p cycle calm more good =
+    shade-good (enter p cycle) (filled (roots p.heap))
+    (record {
+      heap = heap-entered cycle calm good.heap;
+      asked = λ _ r never. absurd cc;
+      phase = (let w = good.phase in omega (arith, w, more));
+    })
+    (λ _. roots-all G p.heap good.heap.roots)

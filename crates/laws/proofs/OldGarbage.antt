@@ -1,0 +1,238 @@
+-- Old garbage goes. Let what could be reached in a cut be good, and what wasn't given out there
+-- yet: then what a node has kept through the sweep of a cycle that began later is good.
+use Rattle.std.proofs.Common.{◌≡◌, ℕ, ◌<◌, ◌≤◌, ◌⊎◌, false, Bool, List, [], ◌∷◌, length, get_or, Option, None, Some, slice_get, sym, ap, ◌∙◌, subst, ⊎_elim, inl, inr, arith, le_refl}
+use Rattle.std.proofs.lemmas.Bool.{cases_lt, cond_both}
+use Rattle.std.proofs.lemmas.List.{get_or_past}
+use Rattle.std.proofs.lemmas.Option.{slice_get-get_or}
+use Rattle.ids.specs.Limits.{Shaped, IsShape}
+use Rattle.ids.specs.declared.names.Ref.{Ref}
+use Rattle.msg.specs.declared.body.Body.TheVariants as body
+use Rattle.msg.specs.declared.body.Message.{Message}
+use Rattle.model.specs.declared.event.Answer.{Answer}
+use Rattle.model.specs.declared.event.Letter.{Letter}
+use Rattle.model.specs.declared.step.Step.{Step}
+use Rattle.model.specs.State.{Object, Occupied, NodeState, node_at, sent_to, slot_at}
+use Rattle.model.specs.Heaps.{no_letter}
+use Rattle.model.specs.References.{IfAny}
+use Rattle.model.specs.World.{World, new_world, happens, run}
+use Rattle.model.specs.Cuts.{Cut, cut, IsInFlight, IsLive, Reachable, in_register, in_letter, in_message, in_place}
+use Rattle.laws.specs.Statements.{OldGarbageGoes}
+use Rattle.laws.proofs.StepFacts.{Delivery, act-ok, Receipt, repeated, next, receipt-cases, Happening, nothing, acted, delivered, saved, restarted, happening}
+use Rattle.laws.proofs.Onward.{Compares, Behind, new-behind, behind-changed, behind-saved, behind-restarted}
+use Rattle.laws.proofs.Cuts.{cuts-extend}
+use Rattle.laws.proofs.Base.{at-new}
+use Rattle.laws.proofs.Invariant.{PlacesAll, phases_of, cycle_of, Tidy, BodyFits, Inv}
+use Rattle.laws.proofs.Inner.{occupied-inside}
+use Rattle.laws.proofs.Acting.{latest}
+use Rattle.laws.proofs.Dressing.{option-holds}
+use Rattle.laws.proofs.New.{new-unsent}
+use Rattle.laws.proofs.Live.{Whole, run-whole, all-whole, new-whole, all-inv}
+use Rattle.laws.proofs.Past.{PastAt, occupied-past, Ages, ages-same, ages-through, ages-own, ages-taken}
+use Rattle.laws.proofs.GoodHeaps.{own_reference}
+use Rattle.laws.proofs.Good.{GoodPart, GoodMessage}
+use Rattle.laws.proofs.GoodCuts.{GoodCut, run-good}
+
+-- ---- a saved state is no later than the current one
+
+abbrev Older : NodeState → NodeState → Type 0
+Older s t = Ages s.local t.local
+
+older : Compares Older
+older = record {
+  same = λ s. ages-same s.local;
+  both = λ s t u a b. ages-through a b;
+}
+
+received-older : (s : NodeState) (m : Delivery) (t : NodeState) (a : Answer) → Receipt s m t a
+    → Older s t
+received-older s m t a (repeated same says) =
+    subst (Older s) (sym same) (ages-same s.local)
+received-older s m t a (next turn may found) =
+    subst (Older s) (sym found.state)
+    (ages-taken s.local m.from m.number m.message.stamp m.message.body)
+
+older-happening : (w v : World) → Happening w v
+    → ((i : ℕ) → Tidy (node_at w.current i).local) → Behind Older w → Behind Older v
+older-happening w v nothing tidy h = h
+older-happening w v (acted i e t a x) tidy h =
+    let s : NodeState = node_at w.current i in
+    behind-changed older w i t h
+    (subst (Older s) (sym (act-ok s e t a x.answered).state)
+    (ages-own s.local _ e x.own (tidy i).free))
+older-happening w v (delivered m t a x) tidy h =
+    let s : NodeState = node_at w.current m.to in
+    behind-changed older w m.to t h
+    (received-older s m t a (receipt-cases s m t a x.answered))
+older-happening w v (saved i within) tidy h = behind-saved older w i h
+older-happening w v (restarted i within) tidy h = behind-restarted older w i h
+
+older-run : (w : World) (steps : List Step)
+    → ((some : List Step) (i : ℕ) → Tidy (node_at (run w some).current i).local)
+    → Behind Older w → Behind Older (run w steps)
+older-run w [] tidy h = h
+older-run w (s ∷ ss) tidy h =
+    older-run (happens w s) ss (λ some. tidy (s ∷ some))
+    (older-happening w (happens w s) (happening w s) (tidy []) h)
+
+all-older : (shape : Shaped) → IsShape shape → (steps : List Step)
+    → Behind Older (run (new_world shape) steps)
+all-older shape limits steps =
+    older-run (new_world shape) steps
+    (λ some. (all-inv shape limits some (λ _. false)).tidy)
+    (new-behind older shape)
+
+-- ---- every cut is good where everything is
+
+abbrev Anything : Ref → Type 0
+Anything r = Unit {0}
+
+new-good : (shape : Shaped) (choice : ℕ → Bool) → GoodCut Anything 0 (cut (new_world shape) choice)
+new-good shape choice = record {
+  part = λ i. at-new shape choice i (λ s. GoodPart Anything 0 s.local) (λ z own. record {
+    heap = record {
+      roots = record { registers = λ k. any _; letters = λ k. tt };
+      places = λ k g o there. absurd cc;
+      marks = λ k g o there more. tt;
+      grey = λ k g o never. absurd never;
+      kept = λ k g o there. absurd cc;
+    };
+    asked = λ _ r _. tt;
+    phase = le_refl 0;
+  });
+  messages = λ from to place x flight.
+      absurd
+      (at-new shape choice from (λ s. slice_get (sent_to s to) place ≡ Some x → ⊥)
+      (λ z own. new-unsent z own to place x) flight.there);
+  new = λ r _. tt;
+}
+  where
+    any : (v : Option Ref) → IfAny Anything v
+    any None = tt
+    any (Some r) = tt
+
+all-good : (shape : Shaped) → IsShape shape → (steps : List Step) (choice : ℕ → Bool)
+    → GoodCut Anything 0 (cut (run (new_world shape) steps) choice)
+all-good shape limits steps choice =
+    let before = cuts-extend shape limits [] steps choice in
+    run-good limits before.1 (new-whole shape limits before.0) (new-good shape before.0)
+
+-- ---- what is good from some cut on: what could be reached there, or wasn't given out yet
+
+abbrev FromHere : Cut → Ref → Type 0
+FromHere c r = Reachable c r ⊎ (PastAt (c r.node).local.heap r.slot r.generation → ⊥)
+
+-- a cut in which node 0 hasn't begun the cycle
+module _ {shape : Shaped} {c : Cut} (cycle : ℕ) (inv : Inv shape c) (kept : GoodCut Anything 0 c)
+    (before : cycle_of c 0 < cycle) where
+  -- and no other node has joined it
+  below : (i : ℕ) → cycle_of c i < cycle
+  below i = ⊎_elim {C = cycle_of c i < cycle}
+      (λ (inside : i < shape.nodes). (let w = latest inv i inside in omega (arith, w, before)))
+      (λ (past : shape.nodes ≤ i).
+      subst (λ (s : NodeState). s.local.phases.cycle < cycle) (sym (inv.base.none i past))
+      (omega (arith, before)))
+      (cases_lt i shape.nodes)
+
+  letter-reached : (i k : ℕ) (r : Ref)
+      → (get_or (c i).local.heap.letters k no_letter).reference ≡ Some r → Reachable c r
+  letter-reached i k r e =
+      let ls : List Letter = (c i).local.heap.letters in
+      ⊎_elim {C = Reachable c r}
+      (λ (inside : k < length ls).
+      in_letter i k (get_or ls k no_letter) (slice_get-get_or ls k no_letter inside) e)
+      (λ (past : length ls ≤ k).
+      absurd (let none : None ≡ Some r =
+      sym (ap (λ (l : Letter). l.reference) (get_or_past ls k no_letter past)) ∙ e in cc))
+      (cases_lt k (length ls))
+
+  -- an object that is there was given out, so it could be reached if it is good
+  places-reached : (i k g : ℕ) (o : Object) → slot_at (c i).local.heap k ≡ Occupied g o
+      → FromHere c (own_reference (c i).local.own k g) → PlacesAll (FromHere c) o
+  places-reached i k g o there is j =
+      let own : (c i).local.own ≡ i = inv.base.own i (occupied-inside i k g o inv.base there) in
+      let here : slot_at (c (c i).local.own).local.heap k ≡ Occupied g o =
+      ap (λ (z : ℕ). slot_at (c z).local.heap k) own ∙ there in
+      option-holds (FromHere c) (get_or o.places j None) (λ r e.
+      ⊎_elim {C = FromHere c r}
+      (λ reached. inl (in_place (own_reference (c i).local.own k g) o j reached here e))
+      (λ never. absurd (never (occupied-past (c (c i).local.own).local.heap k g o here)))
+      is)
+
+  part-here : (i : ℕ) → GoodPart (FromHere c) cycle (c i).local
+  part-here i = record {
+    heap = record {
+      roots = record {
+        registers = λ k. option-holds (FromHere c) _ (λ r e. inl (in_register i k e));
+        letters = λ k. option-holds (FromHere c) _ (λ r e. inl (letter-reached i k r e));
+      };
+      places = places-reached i;
+      marks = λ k g o there more.
+          absurd (let w = (inv.tidy i).marks k g o there in let v = below i in
+          omega (arith, w, v, more));
+      grey = (kept.part i).heap.grey;
+      kept = (kept.part i).heap.kept;
+    };
+    asked = λ there. absurd (let v = below i in omega (arith, v, there));
+    phase = (kept.part i).phase;
+  }
+
+  -- Marks are of node 0's cycle
+  message-here : (from to place : ℕ) (x : Message) → IsInFlight c from to place x
+      → GoodMessage (FromHere c) cycle x
+  message-here from to place x flight = record {
+    carries = λ r a. inl (in_message from to place x flight a);
+    asks = λ r e there.
+        absurd (let fits : BodyFits shape.nodes (phases_of c) from to x.stamp (body.Mark r) =
+        subst (λ z. BodyFits shape.nodes (phases_of c) from to x.stamp z) e
+        (inv.messages.fits from to place x flight) in
+        let w = fits.2 in omega (arith, w, there, before));
+  }
+
+  good-here : GoodCut (FromHere c) cycle c
+  good-here = record {
+    part = part-here;
+    messages = message-here;
+    new = λ r never. inr never;
+  }
+
+-- ---- the theorem
+
+-- what a node has kept through the sweep of a cycle is good from before the cycle
+swept-reached : {c d : Cut} {cycle : ℕ} (r : Ref) → (d r.node).local.own ≡ r.node
+    → GoodCut (FromHere c) cycle d → cycle ≤ (d r.node).local.phases.swept → IsLive d r
+    → PastAt (c r.node).local.heap r.slot r.generation → Reachable c r
+swept-reached {c = c} {d = d} {cycle = cycle} r own good done live past =
+    let part = (good.part r.node).heap in
+    let mark : (d r.node).local.phases.swept ≤ live.object.mark =
+    part.kept r.slot r.generation live.object live.there in
+    ⊎_elim {C = Reachable c r} (λ reached. reached) (λ never. absurd (never past))
+    (subst (λ (z : ℕ). FromHere c (own_reference z r.slot r.generation)) own
+    (part.marks r.slot r.generation live.object live.there (omega (arith, mark, done))))
+
+pub old-garbage-goes : OldGarbageGoes
+old-garbage-goes shape limits earlier later choice cycle r before old done live =
+    let w : World = run (new_world shape) earlier in
+    let d : Cut = cut (run w later) choice in
+    let extends = cuts-extend shape limits earlier later choice in
+    let c : Cut = cut w extends.0 in
+    let behind : Behind Older w = all-older shape limits earlier in
+    let since : (i : ℕ) → Older (node_at w.saved i) (c i) =
+    λ i.
+    cond_both (extends.0 i) (node_at w.saved i) (node_at w.current i)
+    (Older (node_at w.saved i)) (λ _. ages-same _) (λ _. behind i) in
+    let first : cycle_of c 0 ≤ (node_at w.current 0).local.phases.cycle =
+    cond_both (extends.0 0) (node_at w.saved 0) (node_at w.current 0)
+    (λ z. z.local.phases.cycle ≤ (node_at w.current 0).local.phases.cycle)
+    (λ _. (behind 0).cycle) (λ _. le_refl _) in
+    let whole : Whole shape c = all-whole shape limits earlier extends.0 in
+    let base = (run-whole limits extends.1 whole).inv.base in
+    let own : (d r.node).local.own ≡ r.node =
+    base.own r.node (occupied-inside r.node r.slot r.generation live.object base live.there) in
+    let good : GoodCut (FromHere c) cycle d =
+    run-good limits extends.1 whole
+    (good-here cycle whole.inv
+    (all-good shape limits earlier extends.0) (omega (arith, first, before))) in
+    old.unreachable extends.0
+    (swept-reached r own good done live
+    ((since r.node).past r.slot r.generation
+    (occupied-past (node_at w.saved r.node).local.heap r.slot r.generation old.object old.saved)))

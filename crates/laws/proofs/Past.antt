@@ -1,0 +1,280 @@
+-- What was given out once stays so: no event of a node, and no message, takes a generation back or
+-- lets the node's cycle fall.
+use Rattle.std.proofs.Common.{◌≡◌, ℕ, zero, suc, ◌+◌, ◌<◌, ◌≤◌, ◌==◌, true, cond, List, [], ◌∷◌, ◌++◌, length, length-set, length-append, get_or, set, option_to_list, sym, subst, ⊎_elim, arith, le_refl, le_trans, ltb, ltb-true}
+use Rattle.std.proofs.lemmas.Bool.{cases_Bool, cond_both}
+use Rattle.std.proofs.lemmas.List.{get_or_append_left}
+use Rattle.ids.specs.declared.names.Ref.{Ref}
+use Rattle.model.specs.Collecting.{greatest_generation}
+use Rattle.msg.specs.declared.body.Body.{Body}
+use Rattle.msg.specs.declared.body.Body.TheVariants as body
+use Rattle.model.specs.declared.event.Event.{Event}
+use Rattle.model.specs.declared.event.Event.TheVariants as event
+use Rattle.model.specs.declared.event.Answer.TheVariants as answer
+use Rattle.model.specs.State.{Object, Slot, Free, Occupied, Retired, Heap, LocalState, slot_at}
+use Rattle.model.specs.Heaps.{named, rewritten, with_rewritten, slots_with, next_slot, next_generation, generation_for, object_at, place_of, place_loaded}
+use Rattle.model.specs.Effects.{Work, at_rest, Effect, answers}
+use Rattle.model.specs.Counting.{append, announce}
+use Rattle.model.specs.Shading.{is_open, is_unmarked, with_mark, make_grey, make_all_grey, shade_all, vouch_all, filled, roots, enter, join, joined, last_grey, without_last_grey}
+use Rattle.model.specs.Collecting.{without_token, is_concluded, probe, begun, places_in, scan, scanned, conclude, judged, handed_on, passed, is_garbage, generation_in, vacated_slot, vacated, Sweeping, sweep_one, sweep_some, looked_at, swept_slots}
+use Rattle.model.specs.Steps.{is_own, made, carried, taken_in, settled, take_carried, take_body, count_in, allocated, copied, dropped, loaded, stored, cleared, word_read, word_set, given, accepted, put_asked, get_asked}
+use Rattle.model.proofs.Lookups.{at_set_if}
+use Rattle.model.proofs.ShadingParts.{shade_all-open, shade_all-closed, vouch_all-open, vouch_all-closed}
+use Rattle.laws.proofs.Invariant.{IsFree, FreeSlots}
+use Rattle.laws.proofs.Slots.{occupied-within}
+use Rattle.laws.proofs.Sweeps.{garbage-there}
+
+-- the slot has given this generation out, and will not again
+abbrev pub PastSlot : Slot → ℕ → Type 0
+PastSlot (Free next) generation = generation < next
+PastSlot (Occupied g o) generation = generation ≤ g
+PastSlot Retired generation = Unit {0}
+
+pub record PastAt (h : Heap) (k generation : ℕ) : Type 0 where
+  pub used : k < length h.slots
+  pub past : PastSlot (slot_at h k) generation
+
+-- what is there was given out
+pub occupied-past : (h : Heap) (k g : ℕ) (o : Object) → slot_at h k ≡ Occupied g o → PastAt h k g
+occupied-past h k g o there = record {
+  used = occupied-within h.slots k g o there;
+  past = subst (λ (s : Slot). PastSlot s g) (sym there) (le_refl g);
+}
+
+-- the next new object's generation is not
+pub new-not_past : (named : List ℕ) (slots : List Slot) → FreeSlots slots named
+    → next_slot named slots < length slots
+    → PastSlot (get_or slots (next_slot named slots) Retired) (generation_for named slots) → ⊥
+new-not_past [] slots f used past = omega (arith, used)
+new-not_past (k ∷ ks) slots f used past =
+    let s : Slot = get_or slots k Retired in
+    let free : PastSlot (Free (next_generation s)) (next_generation s) =
+    subst (λ (z : Slot). PastSlot z (next_generation s)) f.free.0 past in
+    omega (arith, free)
+
+-- from one state of a node to a later one
+pub record Ages (p q : LocalState) : Type 0 where
+  pub cycle : p.phases.cycle ≤ q.phases.cycle
+  pub past : (k generation : ℕ) → PastAt p.heap k generation → PastAt q.heap k generation
+
+pub ages-through : {p q r : LocalState} → Ages p q → Ages q r → Ages p r
+ages-through a b = record {
+  cycle = le_trans a.cycle b.cycle;
+  past = λ k g x. b.past k g (a.past k g x);
+}
+
+-- ---- heaps
+
+abbrev Later : Heap → Heap → Type 0
+Later h g = (k generation : ℕ) → PastAt h k generation → PastAt g k generation
+
+later-set : (h : Heap) (i : ℕ) (s : Slot)
+    → ((generation : ℕ) → PastSlot (slot_at h i) generation → PastSlot s generation)
+    → Later h (record h { slots = set h.slots i s })
+later-set h i s kept k generation x = record {
+  used = (let w = x.used in
+      let e : length (set h.slots i s) ≡ length h.slots = length-set h.slots i s in
+      omega (arith, w, e));
+  past = at_set_if (λ z. PastSlot z generation) h.slots i k s Retired
+      (λ (e : i ≡ k).
+      kept generation (subst (λ (n : ℕ). PastSlot (slot_at h n) generation) (sym e) x.past))
+      x.past;
+}
+
+past-rewritten : (f : Object → Object) (g : ℕ) (s : Slot) (generation : ℕ) → PastSlot s generation
+    → PastSlot (rewritten f g s) generation
+past-rewritten f g (Free n) generation h = h
+past-rewritten f g (Occupied n o) generation h = h
+past-rewritten f g Retired generation h = h
+
+later-rewritten : (h : Heap) (r : Ref) (f : Object → Object) → Later h (with_rewritten h r f)
+later-rewritten h r f =
+    later-set h r.slot (rewritten f r.generation (slot_at h r.slot))
+    (past-rewritten f r.generation (slot_at h r.slot))
+
+later-grey : (cycle : ℕ) (h : Heap) (r : Ref) → Later h (make_grey cycle h r)
+unfolding make_grey
+later-grey cycle h r =
+    cond_both (is_unmarked cycle (object_at h r))
+    (record (with_rewritten h r (with_mark cycle)) { grey = h.grey ++ r.slot ∷ [] }) h (Later h)
+    (λ _ k g x.
+    (let y = later-rewritten h r (with_mark cycle) k g x in
+    record { used = y.used; past = y.past }))
+    (λ _ k g x. x)
+
+later-all_grey : (own cycle : ℕ) (h : Heap) (rs : List Ref) → Later h (make_all_grey own cycle h rs)
+later-all_grey own cycle h [] k g x = x
+later-all_grey own cycle h (r ∷ rs) k g x =
+    later-all_grey own cycle (cond (r.node == own) (make_grey cycle h r) h) rs k g
+    (cond_both (r.node == own) (make_grey cycle h r) h (λ z. PastAt z k g)
+    (λ _. later-grey cycle h r k g x) (λ _. x))
+
+past-free : (s : Slot) (generation : ℕ) → IsFree s → PastSlot s generation
+    → generation ≤ next_generation s
+past-free (Free n) generation free h = omega (arith, h)
+past-free (Occupied n o) generation free h = absurd cc
+past-free Retired generation free h = absurd cc
+
+later-object : (named : List ℕ) (slots : List Slot) (o : Object) → FreeSlots slots named
+    → (k generation : ℕ) → k < length slots → PastSlot (get_or slots k Retired) generation
+    → (k < length (slots_with named slots o))
+    × PastSlot (get_or (slots_with named slots o) k Retired) generation
+later-object [] slots o f k generation used past = (
+  (let e = length-append slots (Occupied 1 o ∷ []) in omega (arith, used, e)),
+  subst (λ (z : Slot). PastSlot z generation)
+      (sym (get_or_append_left slots (Occupied 1 o ∷ []) Retired k used)) past,
+)
+later-object (j ∷ js) slots o f k generation used past =
+    let s : Slot = Occupied (next_generation (get_or slots j Retired)) o in (
+      (let e = length-set slots j s in omega (arith, used, e)),
+      at_set_if (λ z. PastSlot z generation) slots j k s Retired
+          (λ (e : j ≡ k).
+          past-free (get_or slots j Retired) generation f.free.0
+          (subst (λ (n : ℕ). PastSlot (get_or slots n Retired) generation) (sym e) past))
+          past,
+    )
+
+past-vacated : (g generation : ℕ) → generation ≤ g → PastSlot (vacated_slot g) generation
+past-vacated g generation h =
+    cond_both (g == greatest_generation) Retired (Free (g + 1)) (λ z. PastSlot z generation)
+    (λ _. tt) (λ _. (let w : generation < g + 1 = omega (arith, h) in w))
+
+later-sweep_one : (cycle i : ℕ) (s : Sweeping) → Later s.heap (sweep_one cycle i s).heap
+unfolding sweep_one
+later-sweep_one cycle i s =
+    let g : ℕ = generation_in (slot_at s.heap i) in
+    cond_both (is_garbage cycle (slot_at s.heap i))
+    (record { heap = vacated s.heap i g; freed = s.freed + 1 }) s
+    (λ (z : Sweeping). Later s.heap z.heap)
+    (λ garbage k generation x.
+    (let found = garbage-there cycle (slot_at s.heap i) garbage in
+    let y = later-set s.heap i (vacated_slot g)
+    (λ n h. past-vacated g n (subst (λ (z : Slot). PastSlot z n) found.1 h)) k generation x in
+    record { used = y.used; past = y.past }))
+    (λ _ k generation x. x)
+
+later-sweep : (cycle i n : ℕ) (s : Sweeping) → Later s.heap (sweep_some cycle i n s).heap
+later-sweep cycle i zero s k g x = x
+later-sweep cycle i (suc n) s k g x =
+    later-sweep cycle (i + 1) n (sweep_one cycle i s) k g (later-sweep_one cycle i s k g x)
+
+-- ---- nodes
+
+-- where slots stay, and the cycle
+pub ages-same : (p : LocalState) → Ages p p
+ages-same p = record { cycle = le_refl _; past = λ k g x. x }
+
+pub ages-shade : (w : Work) (rs : List Ref) → Ages w.local (shade_all w rs).local
+ages-shade w rs = ⊎_elim {C = Ages w.local (shade_all w rs).local}
+    (λ opened.
+    subst (λ (x : Work). Ages w.local x.local) (sym (shade_all-open w.local w.sends rs opened))
+    (record {
+      cycle = le_refl _;
+      past = later-all_grey w.local.own w.local.phases.cycle w.local.heap rs;
+    }))
+    (λ shut.
+    subst (λ (x : Work). Ages w.local x.local) (sym (shade_all-closed w rs shut))
+    (ages-same w.local))
+    (cases_Bool (is_open w.local))
+
+pub ages-vouch : (w : Work) (rs : List Ref) → Ages w.local (vouch_all w rs).local
+ages-vouch w rs = ⊎_elim {C = Ages w.local (vouch_all w rs).local}
+    (λ opened.
+    subst (λ (x : Work). Ages w.local x.local) (sym (vouch_all-open w.local w.sends rs opened))
+    (record {
+      cycle = le_refl _;
+      past = later-all_grey w.local.own w.local.phases.cycle w.local.heap rs;
+    }))
+    (λ shut.
+    subst (λ (x : Work). Ages w.local x.local) (sym (vouch_all-closed w rs shut))
+    (ages-same w.local))
+    (cases_Bool (is_open w.local))
+
+pub ages-join : (p : LocalState) (cycle : ℕ) → p.phases.cycle ≤ cycle → Ages p (join p cycle).local
+unfolding join enter
+ages-join p cycle more =
+    ages-through {q = enter p cycle}
+    (record { cycle = more; past = λ k g x. record { used = x.used; past = x.past } })
+    (ages-shade (at_rest (enter p cycle)) (filled (roots p.heap)))
+
+pub ages-taken : (p : LocalState) (from number stamp : ℕ) (b : Body)
+    → Ages p (taken_in p from number stamp b).local
+unfolding taken_in settled count_in take_body append
+ages-taken p from number stamp b =
+    let w : LocalState = (joined p stamp).local in
+    let q : LocalState = count_in from number stamp b w in
+    ages-through
+    (cond_both (ltb p.phases.cycle stamp) (join p stamp) (at_rest p) (λ (x : Work). Ages p x.local)
+    (λ ahead. ages-join p stamp (let l = ltb-true p.phases.cycle stamp ahead in omega (arith, l)))
+    (λ _. ages-same p))
+    (ages-through {q = q} (record { cycle = le_refl _; past = λ k g x. x })
+    (ages-through
+    (cond_both (ltb stamp q.phases.cycle) (shade_all (at_rest q) (carried b))
+    (vouch_all (at_rest q) (carried b))
+    (λ (x : Work). Ages q x.local)
+    (λ _. ages-shade (at_rest q) (carried b)) (λ _. ages-vouch (at_rest q) (carried b)))
+    (ages-body from stamp b (take_carried stamp b q).local)))
+  where
+    ages-body : (j s : ℕ) (z : Body) (y : LocalState) → Ages y (take_body j s z y).local
+    ages-body j s (body.Mark target) y = ages-shade (at_rest y) (target ∷ [])
+    ages-body j s (body.Put target place reference) y =
+        record { cycle = le_refl _; past = later-rewritten y.heap target _ }
+    ages-body j s (body.Get target place label) y =
+        ages-through
+        (ages-shade (at_rest y) (option_to_list (place_of (object_at y.heap target) place)))
+        (record { cycle = le_refl _; past = λ k g x. x })
+    ages-body j s z y = record {
+      cycle = le_refl _;
+      past = λ k g x. record { used = x.used; past = x.past };
+    }
+
+ages-passed : (p : LocalState) → Ages p (passed p).local
+unfolding passed append announce probe conclude
+ages-passed p =
+    cond_both (p.own == 0) (judged p) (handed_on p) (λ (x : Effect). Ages p x.local)
+    (λ _.
+    cond_both (is_concluded p.ring)
+    (answers (conclude p) (answer.Ended p.phases.cycle))
+    (answers (probe (record p { ring = without_token p.ring })) answer.ProbeAgain)
+    (λ (x : Effect). Ages p x.local)
+    (λ _. record { cycle = le_refl _; past = λ k g x. x })
+    (λ _. record { cycle = le_refl _; past = λ k g x. x }))
+    (λ _. record { cycle = le_refl _; past = λ k g x. x })
+
+-- an event of the node's own, where the free list names free slots
+pub ages-own : (p : LocalState) (counts : List ℕ) (e : Event) → is_own e ≡ true
+    → FreeSlots p.heap.slots p.heap.free → Ages p (made p counts e).local
+unfolding append announce allocated copied dropped loaded stored cleared word_read word_set given
+    accepted put_asked get_asked begun probe scanned scan swept_slots
+ages-own p counts (event.Alloc register places) own f = record {
+  cycle = le_refl _;
+  past = λ k g x.
+      (let y = later-object p.heap.free p.heap.slots _ f k g x.used x.past in
+      record { used = y.0; past = y.1 });
+}
+ages-own p counts (event.Load register object place) own f =
+    ages-through (ages-shade (at_rest p) (option_to_list (place_loaded p.heap object place)))
+    (record { cycle = le_refl _; past = λ k g x. record { used = x.used; past = x.past } })
+ages-own p counts (event.Store object place register) own f =
+    record { cycle = le_refl _; past = later-rewritten p.heap (named p.heap object) _ }
+ages-own p counts (event.Clear object place) own f =
+    record { cycle = le_refl _; past = later-rewritten p.heap (named p.heap object) _ }
+ages-own p counts (event.SetWord object word) own f =
+    record { cycle = le_refl _; past = later-rewritten p.heap (named p.heap object) _ }
+ages-own p counts event.Begin own f =
+    ages-through (ages-join p (p.phases.cycle + 1) (omega arith))
+    (record { cycle = le_refl _; past = λ k g x. x })
+ages-own p counts event.Scan own f =
+    ages-through {q = record p { heap = without_last_grey p.heap }}
+    (record { cycle = le_refl _; past = λ k g x. record { used = x.used; past = x.past } })
+    (ages-shade (at_rest (record p { heap = without_last_grey p.heap }))
+    (filled (places_in (slot_at p.heap (last_grey p.heap)))))
+ages-own p counts event.Pass own f = ages-passed p
+ages-own p counts (event.Sweep count) own f = record {
+  cycle = le_refl _;
+  past = later-sweep p.phases.cycle p.phases.cursor (looked_at p count)
+      (record { heap = p.heap; freed = 0 });
+}
+ages-own p counts (event.Data d) own f = absurd cc
+ages-own p counts (event.Ack a) own f = absurd cc
+ages-own p counts e own f =
+    record { cycle = le_refl _; past = λ k g x. record { used = x.used; past = x.past } }

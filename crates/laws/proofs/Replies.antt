@@ -1,0 +1,560 @@
+-- The invariant after a node has taken in a Get, which it answers, or a message of the ring or of
+-- the phases; and so after any receipt.
+use Rattle.std.proofs.Common.{◌≡◌, ◌≢◌, ℕ, ℤ, pos, ◌+◌, ◌+ℤ◌, ◌-ℤ◌, ◌<◌, ◌≤◌, ◌⊎◌, ltb, ltb-true, true, false, List, [], ◌∷◌, ◌++◌, length, get_or, set, Option, None, Some, option_to_list, refl, sym, ap, ◌∙◌, subst, ⊎_elim, inl, inr, arith, le_refl, length-set, get_or-set_same, get_or-set_other}
+use Rattle.std.proofs.lemmas.Int.{ints}
+use Rattle.std.proofs.lemmas.Bool.{cases_Bool, cases_eq, cond-true, cond-false, cond_both, eq-eqb, ltb-false, both_ways, not_from_true}
+use Rattle.std.proofs.Math.Path.{fun_ext}
+use Rattle.ids.specs.Limits.{Shaped}
+use Rattle.ids.specs.declared.names.Ref.{Ref}
+use Rattle.msg.specs.declared.body.Body.{Body}
+use Rattle.msg.specs.declared.body.Body.TheVariants as body
+use Rattle.msg.specs.declared.body.Token.{Token}
+use Rattle.msg.specs.declared.body.Message.{Message}
+use Rattle.model.specs.declared.balance.Balance.{Balance}
+use Rattle.model.specs.declared.balance.Balance.TheVariants.{Earlier, Recent}
+use Rattle.model.specs.State.{Phases, Ring, LocalState, NodeState, got_from}
+use Rattle.model.specs.Heaps.{object_at, place_of}
+use Rattle.model.specs.Effects.{Work, at_rest, then}
+use Rattle.model.specs.Counting.{is_reference, balance_of, counted_down, append}
+use Rattle.model.specs.Shading.{is_open, join, joined, shade_all, vouch_all}
+use Rattle.model.specs.Steps.{carried, count_in, take_carried, take_body, settled, taken_in, append_all}
+use Rattle.model.specs.Cuts.{Cut, taken, IsInFlight, Among, Becomes}
+use Rattle.model.proofs.Lookups.{at_set_if}
+use Rattle.laws.proofs.Turns.{at_turn}
+use Rattle.laws.proofs.Flights.{flight-inside}
+use Rattle.laws.proofs.Invariant.{phases_of, cycle_of, Marking, Resting, Joined, StampFits, BodyFits, is_single, Phased, Inv}
+use Rattle.laws.proofs.Inner.{Known, resting-joined}
+use Rattle.laws.proofs.Acting.{put, put-here, becomes-put, latest}
+use Rattle.laws.proofs.Counts.{append-reference, reference-kind, Sending}
+use Rattle.laws.proofs.Moves.{worked, append_all-append, Moves, moves-through, Met, shade-met}
+use Rattle.laws.proofs.OwnEvents.{send-moves, Reading, read-shadeable, known-option, effect_work}
+use Rattle.laws.proofs.Lookups.{any-list}
+use Rattle.laws.proofs.Light.{is_idle, idle-carries, Hears, hears-turn}
+use Rattle.laws.proofs.TokenSteps.{arrive-inv}
+use Rattle.laws.proofs.PhaseSteps.{hear-inv}
+use Rattle.laws.proofs.Receipts.{HasJoined, join-step, counted_work, count-shade, count-carried, Taking, later-taking, count-last, becomes-from, carried-met, Settles, no-mark, no-token, take-give, take-put, take-mark}
+
+-- ---- a place is read for another node
+
+recent-later : (b : Option Balance) (r : Ring)
+    → record (counted_down b r) { recent = (counted_down b r).recent +ℤ pos 1 }
+    ≡ counted_down b (record r { recent = r.recent +ℤ pos 1 })
+recent-later (Some Earlier) r = refl
+recent-later (Some Recent) r =
+    let e : (r.recent -ℤ pos 1) +ℤ pos 1 ≡ (r.recent +ℤ pos 1) -ℤ pos 1 = omega (arith, ints) in
+    ap (λ (z : ℤ). record r { recent = z }) e
+recent-later None r = refl
+
+count-append : (from number stamp to : ℕ) (b reply : Body) (p : LocalState)
+    → is_reference reply ≡ true
+    → append to reply (count_in from number stamp b p)
+    ≡ counted_work from number stamp b (append to reply p)
+unfolding count_in
+count-append from number stamp to b reply p is =
+    append-reference to reply (count_in from number stamp b p) is
+    ∙ ap (λ (z : Ring). record {
+      local = record p { got = set p.got from number; ring = z };
+      sends = (to, record { stamp = p.phases.cycle; body = reply }) ∷ [];
+    }) (recent-later (balance_of p.phases.cycle stamp b) p.ring)
+    ∙ ap (counted_work from number stamp b) (sym (append-reference to reply p is))
+
+pub take-get : {shape : Shaped} {c d : Cut} {i j stamp : ℕ} (target : Ref) (place label : ℕ)
+    → Taking shape c i j (record { stamp = stamp; body = body.Get target place label })
+    → target.node ≡ i → StampFits (phases_of c 0) stamp
+    → Settles c d i j stamp (body.Get target place label) → Inv shape d
+unfolding settled take_body count_in
+take-get {shape = shape} {c = c} {d = d} {i = i} {j = j} {stamp = stamp} target place label s own
+    fits becomes =
+    let b : Body = body.Get target place label in
+    let x : Message = record { stamp = stamp; body = b } in
+    let s1 : NodeState = worked (c i) (take_carried stamp b (c i).local) in
+    let c1 : Cut = put c i s1 in
+    let at1 : c1 i ≡ s1 = put-here c i s1 in
+    let v : Option Ref = place_of (object_at s1.local.heap target) place in
+    let s2 : NodeState = worked s1 (shade_all (at_rest s1.local) (option_to_list v)) in
+    let c2 : Cut = put c1 i s2 in
+    let at2 : c2 i ≡ s2 = put-here c1 i s2 in
+    let s3 : NodeState = worked s2 (append j (body.Give label v) s2.local) in
+    let c3 : Cut = put c2 i s3 in
+    let met : Met shape c c1 i (carried b) = carried-met s refl fits (becomes-put c i s1) in
+    let reads : Reading shape c1 i target = record {
+      inv = met.moves.inv;
+      inside = s.inside;
+      own = own;
+      known = met.known target (inl refl);
+    } in
+    let b2 : Becomes c1 c2 i (worked (c1 i) (shade_all (at_rest (c1 i).local)
+    (option_to_list (place_of (object_at (c1 i).local.heap target) place)))) =
+    subst (λ (z : NodeState). Becomes c1 c2 i (worked z (shade_all (at_rest z.local)
+    (option_to_list (place_of (object_at z.local.heap target) place)))))
+    (sym at1) (becomes-put c1 i s2) in
+    let second : Met shape c1 c2 i
+    (option_to_list (place_of (object_at (c1 i).local.heap target) place)) =
+    shade-met (read-shadeable place reads) b2 in
+    let known : (r : Ref) → Among r (option_to_list v) → Known c2 i r =
+    subst (λ (z : NodeState). (r : Ref)
+    → Among r (option_to_list (place_of (object_at z.local.heap target) place)) → Known c2 i r) at1
+    second.known in
+    let sender : j < shape.nodes = (flight-inside j i (taken c j i) x s.inv.base s.flight).0 in
+    let sends : Sending shape c2 i j (body.Give label v) = record {
+      inv = second.moves.inv;
+      inside = s.inside;
+      receiver = sender;
+      reference = refl;
+      known = any-list (Known c2 i) v (known-option v known);
+      targets = tt;
+    } in
+    let b3 : Becomes c2 c3 i (worked (c2 i) (append j (body.Give label v) (c2 i).local)) =
+    subst (λ (z : NodeState). Becomes c2 c3 i (worked z (append j (body.Give label v) z.local)))
+    (sym at2)
+    (becomes-put c2 i s3) in
+    let third : Moves shape c2 c3 i = send-moves sends b3 in
+    let moves : Moves shape c c3 i = moves-through met.moves (moves-through second.moves third) in
+    let later : Taking shape c3 i j x = later-taking s moves in
+    count-last s moves
+    (reference-kind x moves.inv s.inside refl
+    (subst (λ (z : ℕ → Phases). StampFits (z 0) stamp) (sym moves.phases) fits) later.reached)
+    (no-token b refl) (no-mark c3 b refl) s3 (put-here c2 i s3)
+    (becomes-from (becomes-put c2 i s3) (becomes-from (becomes-put c1 i s2)
+    (becomes-from (becomes-put c i s1)
+    (subst (λ (z : NodeState). Becomes c d i z) (get-is (c i) (taken c j i + 1)) becomes))))
+  where
+    get-is : (z : NodeState) (number : ℕ)
+        → worked z (settled j number stamp (body.Get target place label) z.local)
+        ≡ (let w = take_carried stamp (body.Get target place label) z.local in
+        let v = place_of (object_at w.local.heap target) place in
+        let y = shade_all (at_rest w.local) (option_to_list v) in
+        let u = append j (body.Give label v) y.local in
+        record {
+          local = count_in j number stamp (body.Get target place label) u.local;
+          sent = append_all (append_all (append_all z.sent w.sends) y.sends) u.sends;
+        })
+    get-is z number =
+        let b : Body = body.Get target place label in
+        let w : Work = take_carried stamp b z.local in
+        let v : Option Ref = place_of (object_at w.local.heap target) place in
+        let y : Work = shade_all (at_rest w.local) (option_to_list v) in
+        let u : Work = append j (body.Give label v) y.local in
+        ap (λ (k : Work). worked z (then k (take_body j stamp b)))
+        (count-carried j number stamp b z.local)
+        ∙ ap (λ (k : Work). worked z (record {
+          local = (append j (body.Give label v) k.local).local;
+          sends = w.sends ++ (k.sends ++ (append j (body.Give label v) k.local).sends);
+        })) (count-shade j number stamp b w.local (option_to_list v))
+        ∙ ap (λ (k : Work). worked z (record {
+          local = k.local;
+          sends = w.sends ++ (y.sends ++ k.sends);
+        })) (count-append j number stamp j b (body.Give label v) y.local refl)
+        ∙ ap (λ (k : List (List Message)). record {
+          local = count_in j number stamp b u.local;
+          sent = k;
+        }) (append_all-append z.sent w.sends (y.sends ++ u.sends)
+        ∙ append_all-append (append_all z.sent w.sends) y.sends u.sends)
+
+-- ---- messages that carry nothing
+
+-- nothing is shaded, and nothing is counted
+idle-settled : (from number stamp : ℕ) (b : Body) (p : LocalState) → is_idle b ≡ true
+    → settled from number stamp b p
+    ≡ then (at_rest (count_in from number stamp b p)) (take_body from stamp b)
+unfolding settled
+idle-settled from number stamp b p is =
+    let q : LocalState = count_in from number stamp b p in
+    ap (λ (w : Work). then w (take_body from stamp b))
+    (cond_both (ltb stamp q.phases.cycle) (shade_all (at_rest q) (carried b))
+    (vouch_all (at_rest q) (carried b))
+    (λ w. w ≡ at_rest q)
+    (λ _. ap (shade_all (at_rest q)) (idle-carries b is))
+    (λ _. ap (vouch_all (at_rest q)) (idle-carries b is)))
+
+idle-becomes : {c d : Cut} (i j stamp : ℕ) (b : Body) → is_idle b ≡ true → Settles c d i j stamp b
+    → Becomes c d i
+    (worked (c i)
+    (then (at_rest (count_in j (taken c j i + 1) stamp b (c i).local)) (take_body j stamp b)))
+idle-becomes {c = c} {d = d} i j stamp b is becomes =
+    subst (λ (z : Work). Becomes c d i (worked (c i) z))
+    (idle-settled j (taken c j i + 1) stamp b (c i).local is) becomes
+
+take-begin : {shape : Shaped} {c d : Cut} {i j stamp : ℕ}
+    → Taking shape c i j (record { stamp = stamp; body = body.Begin })
+    → Settles c d i j stamp body.Begin → Inv shape d
+unfolding take_body count_in
+take-begin {shape = shape} {c = c} {d = d} {i = i} {j = j} {stamp = stamp} s becomes =
+    let x : Message = record { stamp = stamp; body = body.Begin } in
+    let q : LocalState = record (c i).local { got = set (c i).local.got j (taken c j i + 1) } in
+    let b : Becomes c d i (record { local = q; sent = (c i).sent }) =
+    idle-becomes i j stamp body.Begin refl becomes in
+    let hears : Hears shape c d i q j x = record {
+      inv = s.inv;
+      inside = s.inside;
+      becomes = b;
+      flight = s.flight;
+      idle = refl;
+      cycle = refl;
+      got = refl;
+      earlier = refl;
+      recent = refl;
+    } in
+    let turn = hears-turn hears in
+    let phases : phases_of d ≡ phases_of c =
+    fun_ext (at_turn (λ l z. z.local.phases ≡ phases_of c l) turn refl (λ l _. refl)) in
+    hear-inv (record {
+      hears = hears;
+      own = refl;
+      same_shape = refl;
+      heap = refl;
+      asked = refl;
+      ring = refl;
+      no_token = λ t e. absurd cc;
+      ended = ap (λ (z : ℕ → Phases). (z 0).ended) phases;
+      opened = λ o. o;
+      calm = λ shut. (s.inv.tidy i).calm shut;
+      phased = subst (Phased shape.nodes) (sym phases) s.inv.phased;
+      sweep = (refl, refl);
+      fits = λ from to place y flight _. (
+        (λ _. ap (λ (z : ℕ → Phases). (z to).ended) phases),
+        (λ _. ap (λ (z : ℕ → Phases). get_or (z 0).reports from 0) phases),
+      );
+    })
+
+take-token : {shape : Shaped} {c d : Cut} {i j stamp : ℕ} (t : Token)
+    → Taking shape c i j (record { stamp = stamp; body = body.Token t })
+    → Settles c d i j stamp (body.Token t) → Inv shape d
+unfolding take_body count_in
+take-token {shape = shape} {c = c} {d = d} {i = i} {j = j} {stamp = stamp} t s becomes =
+    let fits = s.inv.messages.fits j i (taken c j i) _ s.flight in
+    let b : Becomes c d i (record {
+      local = record (c i).local {
+        got = set (c i).local.got j (taken c j i + 1);
+        ring = record (c i).local.ring { token = Some t };
+      };
+      sent = (c i).sent;
+    }) = idle-becomes i j stamp (body.Token t) refl becomes in
+    arrive-inv (record {
+      inv = s.inv;
+      inside = s.inside;
+      flight = s.flight;
+      reached = (let z = s.reached in
+          let w = latest s.inv i s.inside in omega (arith, z, w, fits.2));
+      becomes = b;
+    })
+
+take-ended : {shape : Shaped} {c d : Cut} {i j stamp : ℕ}
+    → Taking shape c i j (record { stamp = stamp; body = body.Ended })
+    → Settles c d i j stamp body.Ended → Inv shape d
+unfolding take_body count_in
+take-ended {shape = shape} {c = c} {d = d} {i = i} {j = j} {stamp = stamp} s becomes =
+    let x : Message = record { stamp = stamp; body = body.Ended } in
+    let p : LocalState = (c i).local in
+    let q : LocalState = record p {
+      got = set p.got j (taken c j i + 1);
+      phases = record p.phases { ended = p.phases.cycle };
+    } in
+    let b : Becomes c d i (record { local = q; sent = (c i).sent }) =
+    idle-becomes i j stamp body.Ended refl becomes in
+    let fits = s.inv.messages.fits j i (taken c j i) x s.flight in
+    let resting : Resting (phases_of c 0) = fits.1 in
+    let joined_now : Joined c i = resting-joined s.inv resting s.inside in
+    let other : i ≢ 0 = λ e.
+    (let w : (phases_of c 0).ended < cycle_of c 0 =
+    subst (λ (z : ℕ). (phases_of c z).ended < cycle_of c 0) e fits.3 in
+    omega (arith, w, resting)) in
+    let hears : Hears shape c d i q j x = record {
+      inv = s.inv;
+      inside = s.inside;
+      becomes = b;
+      flight = s.flight;
+      idle = refl;
+      cycle = refl;
+      got = refl;
+      earlier = refl;
+      recent = refl;
+    } in
+    let turn = hears-turn hears in
+    let first : phases_of d 0 ≡ phases_of c 0 =
+    ap (λ (z : NodeState). z.local.phases) (b.others 0 (λ e. other (sym e))) in
+    let cycles : (l : ℕ) → cycle_of d l ≡ cycle_of c l =
+    at_turn (λ l z. z.local.phases.cycle ≡ cycle_of c l) turn refl (λ l _. refl) in
+    let swept : (l : ℕ) → (phases_of d l).swept ≡ (phases_of c l).swept =
+    at_turn (λ l z. z.local.phases.swept ≡ (phases_of c l).swept) turn refl (λ l _. refl) in
+    let shut : is_open q ≡ false = not_from_true _ (eq-eqb p.phases.cycle p.phases.cycle refl) in
+    hear-inv (record {
+      hears = hears;
+      own = refl;
+      same_shape = refl;
+      heap = refl;
+      asked = refl;
+      ring = refl;
+      no_token = λ t e. absurd cc;
+      ended = ap (λ (z : Phases). z.ended) first;
+      opened = λ o. absurd (both_ways _ shut o);
+      calm = λ _. s.inv.rested.grey i resting;
+      phased = record {
+        swept = at_turn (λ l z. z.local.phases.swept ≤ z.local.phases.ended) turn
+            (let a = s.inv.phased.swept i in let e = s.inv.phased.ended i in omega (arith, a, e))
+            (λ l _. s.inv.phased.swept l);
+        ended = at_turn (λ l z. z.local.phases.ended ≤ z.local.phases.cycle) turn (le_refl _)
+            (λ l _. s.inv.phased.ended l);
+        cycle = λ l. omega (arith, s.inv.phased.cycle l, swept l, cycles l);
+        cursor = at_turn (λ l z. z.local.phases.swept ≡ z.local.phases.ended
+            → z.local.phases.cursor ≡ 0) turn
+            (λ same.
+            absurd (let a = s.inv.phased.swept i in omega (arith, same, a, joined_now, fits.3)))
+            (λ l _. s.inv.phased.cursor l);
+        first = at_turn (λ l z. z.local.phases.ended ≤ (phases_of d 0).ended) turn
+            (let k : (phases_of d 0).ended ≡ (phases_of c 0).ended =
+            ap (λ (z : Phases). z.ended) first in
+            omega (arith, k, joined_now, resting))
+            (λ l _.
+            (let k : (phases_of d 0).ended ≡ (phases_of c 0).ended =
+            ap (λ (z : Phases). z.ended) first in
+            omega (arith, k, s.inv.phased.first l)));
+        apart = λ l inside. inl (cycles l ∙ resting-joined s.inv resting inside ∙ sym (cycles 0));
+        reports = λ l above inside.
+            (let same : get_or (phases_of d 0).reports l 0 ≡ get_or (phases_of c 0).reports l 0 =
+            ap (λ (z : Phases). get_or z.reports l 0) first in
+            omega (arith, same, swept l, s.inv.phased.reports l above inside));
+        reporters = ap (λ (z : Phases). length z.reports) first ∙ s.inv.phased.reporters;
+      };
+      sweep = (refl, refl);
+      fits = λ from to place y flight later. (
+        (λ e. ⊎_elim {C = (phases_of d to).ended ≡ (phases_of c to).ended}
+            (λ (at : to ≡ i).
+            let sender : from ≡ 0 =
+            (subst (λ (z : Body). BodyFits shape.nodes (phases_of c) from to y.stamp z) e
+            (s.inv.messages.fits from to place y flight)).0 in
+            let from_j : from ≡ j = sender ∙ sym fits.0 in
+            let flown : IsInFlight c j i place y =
+            subst (λ (z : ℕ). IsInFlight c z i place y) from_j
+            (subst (λ (z : ℕ). IsInFlight c from z place y) at flight) in
+            let same : place ≡ taken c j i =
+            s.inv.messages.once j i place (taken c j i) y x flown s.flight e (ap is_single e) in
+            let now : taken d j i ≡ taken c j i + 1 =
+            ap (λ (z : NodeState). got_from z.local j) b.changed
+            ∙ get_or-set_same p.got j (taken c j i + 1) 0
+            (let w : j < length p.got =
+            (let inside = flight-inside j i (taken c j i) x s.inv.base s.flight in
+            omega (arith, inside.0, s.inv.base.heard i s.inside)) in w) in
+            let after : taken d j i ≤ place =
+            subst (λ (z : ℕ). taken d z i ≤ place) from_j
+            (subst (λ (z : ℕ). taken d from z ≤ place) at later) in
+            absurd (omega (arith, same, now, after)))
+            (λ (away : to ≢ i). ap (λ (z : NodeState). z.local.phases.ended) (b.others to away))
+            (cases_eq to i)),
+        (λ _. ap (λ (z : Phases). get_or z.reports from 0) first),
+      );
+    })
+
+take-swept : {shape : Shaped} {c d : Cut} {i j stamp : ℕ}
+    → Taking shape c i j (record { stamp = stamp; body = body.Swept })
+    → Settles c d i j stamp body.Swept → Inv shape d
+unfolding take_body count_in
+take-swept {shape = shape} {c = c} {d = d} {i = i} {j = j} {stamp = stamp} s becomes =
+    let x : Message = record { stamp = stamp; body = body.Swept } in
+    let p : LocalState = (c i).local in
+    let q : LocalState = record p {
+      got = set p.got j (taken c j i + 1);
+      phases = record p.phases { reports = set p.phases.reports j stamp };
+    } in
+    let b : Becomes c d i (record { local = q; sent = (c i).sent }) =
+    idle-becomes i j stamp body.Swept refl becomes in
+    let fits = s.inv.messages.fits j i (taken c j i) x s.flight in
+    let zero_is : i ≡ 0 = fits.0 in
+    let hears : Hears shape c d i q j x = record {
+      inv = s.inv;
+      inside = s.inside;
+      becomes = b;
+      flight = s.flight;
+      idle = refl;
+      cycle = refl;
+      got = refl;
+      earlier = refl;
+      recent = refl;
+    } in
+    let turn = hears-turn hears in
+    let cycles : (l : ℕ) → cycle_of d l ≡ cycle_of c l =
+    at_turn (λ l z. z.local.phases.cycle ≡ cycle_of c l) turn refl (λ l _. refl) in
+    let swept : (l : ℕ) → (phases_of d l).swept ≡ (phases_of c l).swept =
+    at_turn (λ l z. z.local.phases.swept ≡ (phases_of c l).swept) turn refl (λ l _. refl) in
+    let ended : (l : ℕ) → (phases_of d l).ended ≡ (phases_of c l).ended =
+    at_turn (λ l z. z.local.phases.ended ≡ (phases_of c l).ended) turn refl (λ l _. refl) in
+    let cursor : (l : ℕ) → (phases_of d l).cursor ≡ (phases_of c l).cursor =
+    at_turn (λ l z. z.local.phases.cursor ≡ (phases_of c l).cursor) turn refl (λ l _. refl) in
+    let reports : (phases_of d 0).reports ≡ set (phases_of c 0).reports j stamp =
+    ap (λ (z : ℕ). (phases_of d z).reports) (sym zero_is)
+    ∙ ap (λ (z : NodeState). z.local.phases.reports) b.changed
+    ∙ ap (λ (z : ℕ). set (phases_of c z).reports j stamp) zero_is in
+    hear-inv (record {
+      hears = hears;
+      own = refl;
+      same_shape = refl;
+      heap = refl;
+      asked = refl;
+      ring = refl;
+      no_token = λ t e. absurd cc;
+      ended = ended 0;
+      opened = λ o. o;
+      calm = λ shut. (s.inv.tidy i).calm shut;
+      phased = record {
+        swept = λ l. omega (arith, s.inv.phased.swept l, swept l, ended l);
+        ended = λ l. omega (arith, s.inv.phased.ended l, ended l, cycles l);
+        cycle = λ l. omega (arith, s.inv.phased.cycle l, swept l, cycles l);
+        cursor = λ l same.
+            cursor l ∙ s.inv.phased.cursor l (sym (swept l) ∙ same ∙ ended l);
+        first = λ l. omega (arith, s.inv.phased.first l, ended l, ended 0);
+        apart = λ l inside. ⊎_elim {C = (cycle_of d l ≡ cycle_of d 0)
+            ⊎ (Marking (phases_of d 0) × (cycle_of d l + 1 ≡ cycle_of d 0)
+            × ((phases_of d l).swept + 1 ≡ cycle_of d 0))}
+            (λ there. inl (cycles l ∙ there ∙ sym (cycles 0)))
+            (λ behind.
+            inr (
+              omega (arith, behind.0, ended 0, cycles 0),
+              omega
+                  (arith, behind.1, cycles l, cycles 0),
+              omega (arith, behind.2, swept l, cycles 0),
+            ))
+            (s.inv.phased.apart l inside);
+        reports = λ l above inside.
+            subst (λ (z : List ℕ). get_or z l 0 ≤ (phases_of d l).swept) (sym reports)
+            (at_set_if (λ z. z ≤ (phases_of d l).swept) (phases_of c 0).reports j l stamp 0
+            (λ (e : j ≡ l).
+            let done : (phases_of c l).swept ≡ cycle_of c 0 =
+            ap (λ (z : ℕ). (phases_of c z).swept) (sym e) ∙ fits.3 in
+            omega (arith, done, fits.2, swept l))
+            (let w = s.inv.phased.reports l above inside in omega (arith, w, swept l)));
+        reporters = ap length reports ∙ length-set (phases_of c 0).reports j stamp
+            ∙ s.inv.phased.reporters;
+      };
+      sweep = (refl, refl);
+      fits = λ from to place y flight later. (
+        (λ _. ended to),
+        (λ e.
+            ⊎_elim
+            {C = get_or (phases_of d 0).reports from 0 ≡ get_or (phases_of c 0).reports from 0}
+            (λ (from_j : from ≡ j).
+            let receiver : to ≡ 0 =
+            (subst (λ (z : Body). BodyFits shape.nodes (phases_of c) from to y.stamp z) e
+            (s.inv.messages.fits from to place y flight)).0 in
+            let at : to ≡ i = receiver ∙ sym zero_is in
+            let flown : IsInFlight c j i place y =
+            subst (λ (z : ℕ). IsInFlight c z i place y) from_j
+            (subst (λ (z : ℕ). IsInFlight c from z place y) at flight) in
+            let same : place ≡ taken c j i =
+            s.inv.messages.once j i place (taken c j i) y x flown s.flight e (ap is_single e) in
+            let now : taken d j i ≡ taken c j i + 1 =
+            ap (λ (z : NodeState). got_from z.local j) b.changed
+            ∙ get_or-set_same p.got j (taken c j i + 1) 0
+            (let w : j < length p.got =
+            (let inside = flight-inside j i (taken c j i) x s.inv.base s.flight in
+            omega (arith, inside.0, s.inv.base.heard i s.inside)) in w) in
+            let after : taken d j i ≤ place =
+            subst (λ (z : ℕ). taken d z i ≤ place) from_j
+            (subst (λ (z : ℕ). taken d from z ≤ place) at later) in
+            absurd (omega (arith, same, now, after)))
+            (λ (away : from ≢ j).
+            ap (λ (z : List ℕ). get_or z from 0) reports
+            ∙ get_or-set_other (phases_of c 0).reports j from stamp 0 away)
+            (cases_eq from j)),
+      );
+    })
+
+-- ---- any message, at a node that is in its cycle or past it
+
+pub settle-inv : {shape : Shaped} {c d : Cut} {i j : ℕ} (stamp : ℕ) (b : Body)
+    → Taking shape c i j (record { stamp = stamp; body = b }) → Settles c d i j stamp b
+    → BodyFits shape.nodes (phases_of c) j i stamp b → Inv shape d
+settle-inv stamp body.Begin s becomes fits = take-begin s becomes
+settle-inv stamp (body.Token t) s becomes fits = take-token t s becomes
+settle-inv stamp (body.Mark r) s becomes fits = take-mark r s becomes
+settle-inv stamp (body.Give label reference) s becomes fits =
+    take-give label reference s fits becomes
+settle-inv stamp (body.Put target place reference) s becomes fits =
+    take-put target place reference s fits.1 becomes
+settle-inv stamp (body.Get target place label) s becomes fits =
+    take-get target place label s fits.0 fits.1 becomes
+settle-inv stamp body.Ended s becomes fits = take-ended s becomes
+settle-inv stamp body.Swept s becomes fits = take-swept s becomes
+
+-- ---- any message
+
+-- no stamp is of a later cycle
+pub stamp-most : (n : ℕ) (ph : ℕ → Phases) (from to s : ℕ) (b : Body)
+    → BodyFits n ph from to s b → s ≤ (ph 0).cycle
+stamp-most n ph from to s body.Begin f = f.1
+stamp-most n ph from to s (body.Token t) f = omega (arith, f.2)
+stamp-most n ph from to s (body.Mark r) f = omega (arith, f.2)
+stamp-most n ph from to s (body.Give label reference) f =
+    ⊎_elim {C = s ≤ (ph 0).cycle} (λ now. omega (arith, now))
+    (λ b. (let w = b.1 in omega (arith, w))) f
+stamp-most n ph from to s (body.Put target place reference) f =
+    ⊎_elim {C = s ≤ (ph 0).cycle} (λ now. omega (arith, now))
+    (λ b. (let w = b.1 in omega (arith, w))) f.1
+stamp-most n ph from to s (body.Get target place label) f =
+    ⊎_elim {C = s ≤ (ph 0).cycle} (λ now. omega (arith, now))
+    (λ b. (let w = b.1 in omega (arith, w))) f.1
+stamp-most n ph from to s body.Ended f = omega (arith, f.2)
+stamp-most n ph from to s body.Swept f = omega (arith, f.2)
+
+pub taken-inv : {shape : Shaped} {c d : Cut} {i j : ℕ} (x : Message) → Inv shape c
+    → i < shape.nodes → IsInFlight c j i (taken c j i) x
+    → Becomes c d i
+    (worked (c i) (effect_work (taken_in (c i).local j (taken c j i + 1) x.stamp x.body)))
+    → Inv shape d
+unfolding taken_in
+taken-inv {shape = shape} {c = c} {d = d} {i = i} {j = j} x inv inside flight becomes =
+    let fits = inv.messages.fits j i (taken c j i) x flight in
+    let number : ℕ = taken c j i + 1 in
+    ⊎_elim {C = Inv shape d}
+    (λ ahead.
+    let above : cycle_of c i < x.stamp = ltb-true (cycle_of c i) x.stamp ahead in
+    let most : x.stamp ≤ cycle_of c 0 =
+    stamp-most shape.nodes (phases_of c) j i x.stamp x.body fits in
+    let now : x.stamp ≡ cycle_of c 0 =
+    ⊎_elim {C = x.stamp ≡ cycle_of c 0} (λ there. absurd (omega (arith, there, above, most)))
+    (λ behind. (let w = behind.1 in omega (arith, w, above, most))) (inv.phased.apart i inside) in
+    let w : Work = join (c i).local (cycle_of c 0) in
+    let s1 : NodeState = worked (c i) w in
+    let c1 : Cut = put c i s1 in
+    let at1 : c1 i ≡ s1 = put-here c i s1 in
+    let has : HasJoined shape c c1 i =
+    join-step i inv inside (omega (arith, above, now)) (becomes-put c i s1) in
+    let same : taken c1 j i ≡ taken c j i = ap (λ (z : List ℕ). get_or z j 0) has.got in
+    let later : Taking shape c1 i j x = record {
+      inv = has.inv;
+      inside = inside;
+      flight =
+          subst (λ (z : ℕ). IsInFlight c1 j i z x) (sym same)
+          (has.flight j i (taken c j i) x flight);
+      reached = (let z = has.reached in omega (arith, z, most));
+    } in
+    let joins : joined (c i).local x.stamp ≡ w =
+    cond-true (ltb (cycle_of c i) x.stamp) (join (c i).local x.stamp) (at_rest (c i).local) ahead
+    ∙ ap (join (c i).local) now in
+    let state : worked (c i) (then (joined (c i).local x.stamp) (settled j number x.stamp x.body))
+    ≡ worked s1 (settled j number x.stamp x.body s1.local) =
+    ap (λ (z : Work). worked (c i) (then z (settled j number x.stamp x.body))) joins
+    ∙ ap (λ (z : List (List Message)). record {
+      local = (settled j number x.stamp x.body w.local).local;
+      sent = z;
+    }) (append_all-append (c i).sent w.sends (settled j number x.stamp x.body w.local).sends) in
+    let b1 : Becomes c1 d i (worked s1 (settled j number x.stamp x.body s1.local)) =
+    becomes-from (becomes-put c i s1) (subst (λ (z : NodeState). Becomes c d i z) state becomes) in
+    settle-inv x.stamp x.body later
+    (subst (λ (z : NodeState).
+    Becomes c1 d i (worked z (settled j (taken c1 j i + 1) x.stamp x.body z.local))) (sym at1)
+    (subst (λ (z : ℕ). Becomes c1 d i (worked s1 (settled j (z + 1) x.stamp x.body s1.local)))
+    (sym same) b1))
+    (has.inv.messages.fits j i (taken c1 j i) x later.flight))
+    (λ there.
+    let here : Taking shape c i j x = record {
+      inv = inv;
+      inside = inside;
+      flight = flight;
+      reached = ltb-false (cycle_of c i) x.stamp there;
+    } in
+    settle-inv x.stamp x.body here
+    (subst (λ (z : Work). Becomes c d i (worked (c i) (then z (settled j number x.stamp x.body))))
+    (cond-false (ltb (cycle_of c i) x.stamp) (join (c i).local x.stamp) (at_rest (c i).local) there)
+    becomes)
+    fits)
+    (cases_Bool (ltb (cycle_of c i) x.stamp))

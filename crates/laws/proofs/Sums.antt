@@ -1,0 +1,137 @@
+-- Sums over the first numbers, and how many messages of a list pass a test.
+use Rattle.std.proofs.Common.{◌≡◌, ◌≢◌, ℕ, zero, suc, ℤ, pos, ◌+◌, ◌+ℤ◌, ◌<◌, ◌≤◌, Bool, true, cond, List, [], ◌∷◌, ◌++◌, length, drop, Some, slice_get, refl, sym, ap, ◌∙◌, subst, ⊎_elim, arith}
+use Rattle.std.specs.Prelude.{◌≤ℤ◌}
+use Rattle.std.proofs.lemmas.Int.{ints}
+use Rattle.std.proofs.lemmas.Bool.{cases_eq}
+use Rattle.msg.specs.declared.body.Message.{Message}
+use Rattle.model.specs.Agreement.{total, number_of}
+
+pub total-same : (n : ℕ) (f g : ℕ → ℤ) → ((j : ℕ) → j < n → g j ≡ f j) → total n g ≡ total n f
+total-same zero f g same = refl
+total-same (suc n) f g same =
+    let before : total n g ≡ total n f =
+    total-same n f g (λ j h. same j (let k : j < suc n = omega (arith, h) in k)) in
+    omega (arith, ints, before, same n (let k : n < suc n = omega arith in k))
+
+-- one summand differs
+pub total-one : (n : ℕ) (f g : ℕ → ℤ) (i : ℕ) (d : ℤ) → i < n → g i ≡ f i +ℤ d
+    → ((j : ℕ) → j < n → j ≢ i → g j ≡ f j) → total n g ≡ total n f +ℤ d
+total-one zero f g i d inside here same = absurd (omega (arith, inside))
+total-one (suc n) f g i d inside here same = ⊎_elim {C = total (suc n) g ≡ total (suc n) f +ℤ d}
+    (λ (e : n ≡ i).
+    let before : total n g ≡ total n f =
+    total-same n f g (λ j h. same j (let k : j < suc n = omega (arith, h) in k)
+    (λ (q : j ≡ i). let k : n < n = subst (λ (z : ℕ). z < n) (q ∙ sym e) h in omega (arith, k))) in
+    let last : g n ≡ f n +ℤ d = subst (λ (z : ℕ). g z ≡ f z +ℤ d) (sym e) here in
+    omega (arith, ints, before, last))
+    (λ (other : n ≢ i).
+    let less : i < n = ⊎_elim {C = i < n}
+    (λ (q : n ≡ i). absurd (other q))
+    (λ (q : n ≢ i). omega (arith, inside, q)) (cases_eq n i) in
+    let before : total n g ≡ total n f +ℤ d =
+    total-one n f g i d less here
+    (λ j h. same j (let k : j < suc n = omega (arith, h) in k)) in
+    omega (arith, ints, before, same n (let k : n < suc n = omega arith in k) other))
+    (cases_eq n i)
+
+pub total-add : (n : ℕ) (f g h : ℕ → ℤ) → ((j : ℕ) → j < n → h j ≡ f j +ℤ g j)
+    → total n h ≡ total n f +ℤ total n g
+total-add zero f g h same = omega (arith, ints)
+total-add (suc n) f g h same =
+    let before : total n h ≡ total n f +ℤ total n g =
+    total-add n f g h (λ j q. same j (let k : j < suc n = omega (arith, q) in k)) in
+    omega (arith, ints, before, same n (let k : n < suc n = omega arith in k))
+
+pub total-zero : (n : ℕ) (f : ℕ → ℤ) → ((j : ℕ) → j < n → f j ≡ pos 0) → total n f ≡ pos 0
+total-zero zero f none = refl
+total-zero (suc n) f none =
+    let before : total n f ≡ pos 0 =
+    total-zero n f (λ j q. none j (let k : j < suc n = omega (arith, q) in k)) in
+    omega (arith, ints, before, none n (let k : n < suc n = omega arith in k))
+
+pub total-nonneg : (n : ℕ) (f : ℕ → ℤ) → ((j : ℕ) → j < n → pos 0 ≤ℤ f j) → pos 0 ≤ℤ total n f
+total-nonneg zero f some = omega (arith, ints)
+total-nonneg (suc n) f some =
+    let before : pos 0 ≤ℤ total n f =
+    total-nonneg n f (λ j q. some j (let k : j < suc n = omega (arith, q) in k)) in
+    omega (arith, ints, before, some n (let k : n < suc n = omega arith in k))
+
+-- each summand is at most the sum, where none is negative
+pub total-part : (n : ℕ) (f : ℕ → ℤ) (i : ℕ) → i < n → ((j : ℕ) → j < n → pos 0 ≤ℤ f j)
+    → f i ≤ℤ total n f
+total-part zero f i inside some = absurd (omega (arith, inside))
+total-part (suc n) f i inside some = ⊎_elim {C = f i ≤ℤ total (suc n) f}
+    (λ (e : n ≡ i).
+    let before : pos 0 ≤ℤ total n f =
+    total-nonneg n f (λ j q. some j (let k : j < suc n = omega (arith, q) in k)) in
+    let last : f i ≡ f n = ap f (sym e) in
+    omega (arith, ints, before, last))
+    (λ (other : n ≢ i).
+    let less : i < n = omega (arith, inside, other) in
+    let before : f i ≤ℤ total n f =
+    total-part n f i less (λ j q. some j (let k : j < suc n = omega (arith, q) in k)) in
+    omega (arith, ints, before, some n (let k : n < suc n = omega arith in k)))
+    (cases_eq n i)
+
+pub total-le : (n : ℕ) (f g : ℕ → ℤ) → ((j : ℕ) → j < n → f j ≤ℤ g j) → total n f ≤ℤ total n g
+total-le zero f g some = omega (arith, ints)
+total-le (suc n) f g some =
+    let before : total n f ≤ℤ total n g =
+    total-le n f g (λ j q. some j (let k : j < suc n = omega (arith, q) in k)) in
+    omega (arith, ints, before, some n (let k : n < suc n = omega arith in k))
+
+-- ---- messages that pass a test
+
+pub number-append : (f : Message → Bool) (xs ys : List Message)
+    → number_of f (xs ++ ys) ≡ number_of f xs + number_of f ys
+number-append f [] ys = omega arith
+number-append f (x ∷ xs) ys = omega (arith, number-append f xs ys)
+
+drop-append : (g : ℕ) (xs ys : List Message) → g ≤ length xs → drop g (xs ++ ys) ≡ drop g xs ++ ys
+drop-append zero xs ys h = refl
+drop-append (suc g) [] ys h = absurd (omega (arith, h))
+drop-append (suc g) (x ∷ xs) ys h =
+    drop-append g xs ys (let k : g ≤ length xs = omega (arith, h) in k)
+
+-- one more at the end
+pub number-push : (f : Message → Bool) (g : ℕ) (xs : List Message) (x : Message) → g ≤ length xs
+    → number_of f (drop g (xs ++ x ∷ [])) ≡ number_of f (drop g xs) + cond (f x) 1 0
+number-push f g xs x h =
+    ap (number_of f) (drop-append g xs (x ∷ []) h)
+    ∙ number-append f (drop g xs) (x ∷ [])
+    ∙ (let e : number_of f (drop g xs) + (cond (f x) 1 0 + 0)
+    ≡ number_of f (drop g xs) + cond (f x) 1 0 = omega arith in e)
+
+-- the first one leaves
+pub number-take : (f : Message → Bool) (g : ℕ) (xs : List Message) (x : Message)
+    → slice_get xs g ≡ Some x
+    → number_of f (drop g xs) ≡ number_of f (drop (g + 1) xs) + cond (f x) 1 0
+number-take f g [] x h = absurd cc
+number-take f zero (y ∷ xs) x h =
+    let same : y ≡ x = cc in
+    subst (λ (z : Message). cond (f y) 1 0 + number_of f xs ≡ number_of f xs + cond (f z) 1 0) same
+    (omega arith)
+number-take f (suc g) (y ∷ xs) x h =
+    number-take f g xs x h
+    ∙ ap (λ (k : ℕ). number_of f (drop k (y ∷ xs)) + cond (f x) 1 0)
+    (let e : suc (g + 1) ≡ suc g + 1 = omega arith in e)
+
+pub number-same : (f g : Message → Bool) (xs : List Message)
+    → ((k : ℕ) (x : Message) → slice_get xs k ≡ Some x → f x ≡ g x)
+    → number_of f xs ≡ number_of g xs
+number-same f g [] same = refl
+number-same f g (x ∷ xs) same =
+    let first : f x ≡ g x = same zero x refl in
+    let rest : number_of f xs ≡ number_of g xs = number-same f g xs (λ k y h. same (suc k) y h) in
+    ap (λ (b : Bool). cond b 1 0 + number_of f xs) first ∙ ap (λ (m : ℕ). cond (g x) 1 0 + m) rest
+
+-- one that passes makes it positive
+pub number-at : (f : Message → Bool) (xs : List Message) (k : ℕ) (x : Message)
+    → slice_get xs k ≡ Some x → f x ≡ true → 0 < number_of f xs
+number-at f [] k x h passes = absurd cc
+number-at f (y ∷ xs) zero x h passes =
+    let same : y ≡ x = cc in
+    let one : ◌≡◌ {A = ℕ} (cond (f y) 1 0) 1 =
+    ap (λ (z : Message). cond (f z) 1 0) same ∙ ap (λ (b : Bool). cond b 1 0) passes in
+    omega (arith, one)
+number-at f (y ∷ xs) (suc k) x h passes = omega (arith, number-at f xs k x h passes)

@@ -1,0 +1,575 @@
+-- The invariant after a node has swept some of its slots, and after it has
+-- reported that it is done.
+use Rattle.std.proofs.Common.{◌≡◌, ◌≢◌, ℕ, zero, suc, ◌+◌, ◌<◌, ◌≤◌, ◌⊎◌, ◌==◌, eqb, true, false, List, [], ◌∷◌, length, get_or, set, Option, None, refl, sym, ap, ◌∙◌, subst, ⊎_elim, inl, arith, le_refl, length-set, get_or-set_same, get_or-set_other}
+use Rattle.std.specs.List.{AllByRecursion, IsDistinct}
+use Rattle.std.proofs.lemmas.Bool.{cases_eq, cases_lt, cases_Bool, cond_both, cond-true, cond-false, eq-eqb, ne_eqb, eqb-true, both_ways, not_from_true, not-false}
+use Rattle.std.proofs.Math.Path.{fun_ext}
+use Rattle.ids.specs.Limits.{Shaped}
+use Rattle.ids.specs.declared.names.Ref.{Ref}
+use Rattle.model.specs.Collecting.{greatest_generation}
+use Rattle.msg.specs.declared.body.Body.{Body}
+use Rattle.msg.specs.declared.body.Body.TheVariants as body
+use Rattle.msg.specs.declared.body.Message.{Message}
+use Rattle.model.specs.State.{Object, Slot, Free, Occupied, Retired, Heap, Phases, LocalState, slot_at}
+use Rattle.model.specs.Heaps.{no_letter}
+use Rattle.model.specs.Counting.{stamped}
+use Rattle.model.specs.Collecting.{is_garbage, generation_in, vacated_slot, vacated_free, vacated, Sweeping, sweep_one, sweep_some}
+use Rattle.model.specs.Shading.{is_open}
+use Rattle.model.specs.References.{IfAny}
+use Rattle.model.specs.Steps.{append_all, mentioned}
+use Rattle.model.specs.Cuts.{Cut, IsInFlight, Among, Becomes}
+use Rattle.model.proofs.Lookups.{at_set_if}
+use Rattle.laws.proofs.Lookups.{all-map, any-map}
+use Rattle.laws.proofs.Turns.{Turn, at_turn, flew}
+use Rattle.laws.proofs.Base.{BaseStep, base-step}
+use Rattle.laws.proofs.Tallies.{tally-same, tallies-turn}
+use Rattle.laws.proofs.Inner.{roots-map, resting-joined, sweeping-resting}
+use Rattle.laws.proofs.Slots.{occupied-within, still-free}
+use Rattle.laws.proofs.Invariant.{phases_of, cycle_of, Marking, Resting, Joined, Safe, Holds, RootsAll, PlacesAll, IsFree, FreeSlots, Tidy, Phased, BodyFits, Inv}
+use Rattle.laws.proofs.Light.{is_idle, light-inv, Speaks, speaks-flows}
+use Rattle.laws.proofs.RingSteps.{token-back, flew-one}
+use Rattle.laws.proofs.PhaseSteps.{fits-moved, Quietly, quiet-tokens}
+
+-- ---- a heap of which the slots from one number up to another were swept
+
+pub record SweptHeap (cycle from to : ℕ) (h g : Heap) : Type 0 where
+  pub registers : g.registers ≡ h.registers
+  pub letters : g.letters ≡ h.letters
+  pub grey : g.grey ≡ h.grey
+  pub width : length g.slots ≡ length h.slots
+  pub back : (k e : ℕ) (y : Object) → slot_at g k ≡ Occupied e y
+      → (slot_at h k ≡ Occupied e y) × (from ≤ k → k < to → y.mark ≡ cycle)
+  pub keeps : (k e : ℕ) (x : Object) → slot_at h k ≡ Occupied e x → x.mark ≡ cycle
+      → slot_at g k ≡ Occupied e x
+  pub free : FreeSlots h.slots h.free → FreeSlots g.slots g.free
+
+swept-none : (cycle from : ℕ) (h : Heap) → SweptHeap cycle from from h h
+swept-none cycle from h = record {
+  registers = refl;
+  letters = refl;
+  grey = refl;
+  width = refl;
+  back = λ k e y there. (there, λ least most. absurd (omega (arith, least, most)));
+  keeps = λ k e x there mark. there;
+  free = λ f. f;
+}
+
+-- a slot that garbage is in
+pub garbage-there : (cycle : ℕ) (s : Slot) → is_garbage cycle s ≡ true
+    → (o : Object) × (s ≡ Occupied (generation_in s) o) × (o.mark ≢ cycle)
+garbage-there cycle (Free g) h = absurd cc
+garbage-there cycle (Occupied g o) h =
+    (o, refl, λ (e : o.mark ≡ cycle). both_ways _ (not_from_true _ (eq-eqb o.mark cycle e)) h)
+garbage-there cycle Retired h = absurd cc
+
+garbage-not : (cycle : ℕ) (s : Slot) (g : ℕ) (o : Object) → is_garbage cycle s ≡ false
+    → s ≡ Occupied g o → o.mark ≡ cycle
+garbage-not cycle s g o clean there =
+    eqb-true o.mark cycle (not-false _ (ap (is_garbage cycle) (sym there) ∙ clean))
+
+vacant : (g e : ℕ) (y : Object) → vacated_slot g ≡ Occupied e y → ⊥
+vacant g e y =
+    cond_both (g == greatest_generation) Retired (Free (g + 1)) (λ z. z ≡ Occupied e y → ⊥)
+    (λ _ h. absurd cc) (λ _ h. absurd cc)
+
+-- its slot isn't among the free ones
+named-apart : (slots : List Slot) (j g : ℕ) (o : Object) (ks : List ℕ)
+    → get_or slots j Retired ≡ Occupied g o
+    → AllByRecursion (λ k. IsFree (get_or slots k Retired)) ks
+    → AllByRecursion (λ k. eqb j k ≡ false) ks
+named-apart slots j g o [] there all = tt
+named-apart slots j g o (k ∷ ks) there all = (
+  ne_eqb j k (λ (e : j ≡ k).
+      absurd (let both : IsFree (Occupied g o) =
+      subst IsFree (ap (λ (z : ℕ). get_or slots z Retired) (sym e) ∙ there) all.0 in cc)),
+  named-apart slots j g o ks there all.1,
+)
+
+vacated-free : (slots : List Slot) (j g : ℕ) (o : Object) (ks : List ℕ)
+    → get_or slots j Retired ≡ Occupied g o → FreeSlots slots ks
+    → FreeSlots (set slots j (vacated_slot g)) (vacated_free j g ks)
+unfolding IsDistinct
+vacated-free slots j g o ks there f =
+    let apart = named-apart slots j g o ks there f.free in
+    let inside : j < length slots = occupied-within slots j g o there in
+    let placed : get_or (set slots j (vacated_slot g)) j Retired ≡ vacated_slot g =
+    get_or-set_same slots j (vacated_slot g) Retired inside in
+    let others = still-free slots j (vacated_slot g) ks f.free apart in
+    ⊎_elim {C = FreeSlots (set slots j (vacated_slot g)) (vacated_free j g ks)}
+    (λ last.
+    subst (λ (z : List ℕ). FreeSlots (set slots j (vacated_slot g)) z)
+    (sym (cond-true (g == greatest_generation) ks (j ∷ ks) last))
+    (record { free = others; once = f.once }))
+    (λ more.
+    subst (λ (z : List ℕ). FreeSlots (set slots j (vacated_slot g)) z)
+    (sym (cond-false (g == greatest_generation) ks (j ∷ ks) more))
+    (record {
+      free = (
+        subst IsFree (sym (placed
+            ∙ cond-false (g == greatest_generation) Retired (Free (g + 1)) more)) refl,
+        others,
+      );
+      once = (apart, f.once);
+    }))
+    (cases_Bool (g == greatest_generation))
+
+swept-one : (cycle k : ℕ) (s : Sweeping)
+    → SweptHeap cycle k (k + 1) s.heap (sweep_one cycle k s).heap
+unfolding sweep_one
+swept-one cycle k s =
+    let g : ℕ = generation_in (slot_at s.heap k) in
+    cond_both (is_garbage cycle (slot_at s.heap k))
+    (record { heap = vacated s.heap k g; freed = s.freed + 1 }) s
+    (λ (z : Sweeping). SweptHeap cycle k (k + 1) s.heap z.heap)
+    (λ garbage.
+    let found = garbage-there cycle (slot_at s.heap k) garbage in
+    record {
+      registers = refl;
+      letters = refl;
+      grey = refl;
+      width = length-set s.heap.slots k (vacated_slot g);
+      back = λ j e y there. ⊎_elim {C = (slot_at s.heap j ≡ Occupied e y)
+          × (k ≤ j → j < k + 1 → y.mark ≡ cycle)}
+          (λ (at : j ≡ k).
+          absurd (vacant g e y (sym (get_or-set_same s.heap.slots k (vacated_slot g) Retired
+          (occupied-within s.heap.slots k g found.0 found.1))
+          ∙ ap (λ (z : ℕ). get_or (set s.heap.slots k (vacated_slot g)) z Retired) (sym at)
+          ∙ there)))
+          (λ (other : j ≢ k). (
+            sym (get_or-set_other s.heap.slots k j (vacated_slot g) Retired other) ∙ there,
+            λ least most. absurd (omega (arith, least, most, other)),
+          ))
+          (cases_eq j k);
+      keeps = λ j e x there mark.
+          at_set_if (λ z. z ≡ Occupied e x) s.heap.slots k j (vacated_slot g) Retired
+          (λ (at : k ≡ j).
+          absurd (found.2 (ap (λ (z : Object). z.mark)
+          (let both : Occupied g found.0 ≡ Occupied e x =
+          sym found.1 ∙ ap (slot_at s.heap) at ∙ there in
+          let o : found.0 ≡ x = cc in o) ∙ mark)))
+          there;
+      free = vacated-free s.heap.slots k g found.0 s.heap.free found.1;
+    })
+    (λ clean. record {
+      registers = refl;
+      letters = refl;
+      grey = refl;
+      width = refl;
+      back = λ j e y there. (
+        there,
+        λ least most.
+            garbage-not cycle (slot_at s.heap k) e y clean
+            (ap (slot_at s.heap) (let at : k ≡ j = omega (arith, least, most) in at) ∙ there),
+      );
+      keeps = λ j e x there mark. there;
+      free = λ f. f;
+    })
+
+swept-through : {cycle a b z : ℕ} {h f g : Heap} → a ≤ b → b ≤ z → SweptHeap cycle a b h f
+    → SweptHeap cycle b z f g → SweptHeap cycle a z h g
+swept-through {cycle = cycle} {a = a} {b = b} {z = z} first second x y = record {
+  registers = y.registers ∙ x.registers;
+  letters = y.letters ∙ x.letters;
+  grey = y.grey ∙ x.grey;
+  width = y.width ∙ x.width;
+  back = λ k e o there.
+      let later = y.back k e o there in
+      let before = x.back k e o later.0 in (
+        before.0,
+        λ least most. ⊎_elim {C = o.mark ≡ cycle}
+            (λ (below : k < b). before.1 least below)
+            (λ (past : b ≤ k). later.1 past most)
+            (cases_lt k b),
+      );
+  keeps = λ k e o there mark. y.keeps k e o (x.keeps k e o there mark) mark;
+  free = λ f. y.free (x.free f);
+}
+
+pub swept-some : (cycle k n : ℕ) (s : Sweeping)
+    → SweptHeap cycle k (k + n) s.heap (sweep_some cycle k n s).heap
+swept-some cycle k zero s =
+    subst (λ (z : ℕ). SweptHeap cycle k z s.heap s.heap) (let e : k ≡ k + 0 = omega arith in e)
+    (swept-none cycle k s.heap)
+swept-some cycle k (suc n) s =
+    subst
+    (λ (z : ℕ). SweptHeap cycle k z s.heap (sweep_some cycle (k + 1) n (sweep_one cycle k s)).heap)
+    (let e : k + 1 + n ≡ k + suc n = omega arith in e)
+    (swept-through (omega arith) (omega arith) (swept-one cycle k s)
+    (swept-some cycle (k + 1) n (sweep_one cycle k s)))
+
+-- ---- the node has swept
+
+abbrev pub sweeping_local : LocalState → Heap → ℕ → ℕ → LocalState
+sweeping_local p h swept cursor =
+    record p { heap = h; phases = record p.phases { swept = swept; cursor = cursor } }
+
+pub record SweepStep (shape : Shaped) (c d : Cut) (i : ℕ) (h : Heap) (to swept cursor : ℕ) : Type 0
+  where
+    pub inv : Inv shape c
+    pub inside : i < shape.nodes
+    pub ready : (c i).local.phases.swept < (c i).local.phases.ended
+    pub heap : SweptHeap (cycle_of c i) (c i).local.phases.cursor to (c i).local.heap h
+    -- all slots are swept, or the cursor moves on
+    pub moves : ((swept ≡ cycle_of c i) × (cursor ≡ 0) × (length (c i).local.heap.slots ≡ to))
+        ⊎ ((swept ≡ (c i).local.phases.swept) × (cursor ≡ to))
+    pub becomes : Becomes c d i (record {
+      local = sweeping_local (c i).local h swept cursor;
+      sent = (c i).sent;
+    })
+
+module _ {shape : Shaped} {c d : Cut} {i : ℕ} {h : Heap} {to swept cursor : ℕ}
+    (s : SweepStep shape c d i h to swept cursor) where
+  abbrev swept_now : LocalState
+  swept_now = sweeping_local (c i).local h swept cursor
+
+  pub sweep-turn : Turn c d i swept_now []
+  sweep-turn = record { becomes = s.becomes; heard = λ from. le_refl _ }
+
+  -- marking has ended, as the node knows
+  pub sweep-resting : Resting (phases_of c 0)
+  sweep-resting = sweeping-resting s.inv s.inside s.ready
+
+  sweep-joined : Joined c i
+  sweep-joined = resting-joined s.inv sweep-resting s.inside
+
+  sweep-ended : (c i).local.phases.ended ≡ cycle_of c 0
+  sweep-ended =
+      let a = s.inv.phased.cycle i in
+      let b = s.inv.phased.ended i in
+      omega (arith, sweep-joined, a, b, s.ready)
+
+  pub sweep-unswept : (c i).local.phases.swept < cycle_of c 0
+  sweep-unswept = omega (arith, s.ready, sweep-ended)
+
+  sweep-cycle : (j : ℕ) → cycle_of d j ≡ cycle_of c j
+  sweep-cycle = at_turn (λ j z. z.local.phases.cycle ≡ cycle_of c j) sweep-turn refl (λ j _. refl)
+
+  sweep-ends : (j : ℕ) → (phases_of d j).ended ≡ (phases_of c j).ended
+  sweep-ends =
+      at_turn (λ j z. z.local.phases.ended ≡ (phases_of c j).ended) sweep-turn refl (λ j _. refl)
+
+  sweep-reports : (j : ℕ) → (phases_of d j).reports ≡ (phases_of c j).reports
+  sweep-reports =
+      at_turn (λ j z. z.local.phases.reports ≡ (phases_of c j).reports) sweep-turn refl
+      (λ j _. refl)
+
+  sweep-marking : Marking (phases_of d 0) → ⊥
+  sweep-marking m = omega (arith, m, sweep-cycle 0, sweep-ends 0, sweep-resting)
+
+  -- what is safe stays
+  pub sweep-safe : (r : Ref) → Safe c r → Safe d r
+  sweep-safe r safe =
+      let mark : safe.object.mark ≡ cycle_of c 0 = safe.marked sweep-resting in
+      record {
+        object = safe.object;
+        there =
+            at_turn (λ l z. slot_at (c l).local.heap r.slot ≡ Occupied r.generation safe.object
+            → slot_at z.local.heap r.slot ≡ Occupied r.generation safe.object) sweep-turn
+            (λ there. s.heap.keeps r.slot r.generation safe.object there (mark ∙ sym sweep-joined))
+            (λ l _ there. there) r.node safe.there;
+        marked = λ _. mark ∙ sym (sweep-cycle 0);
+      }
+
+  -- what is there was there
+  sweep-back : (j k g : ℕ) (o : Object) → slot_at (d j).local.heap k ≡ Occupied g o
+      → slot_at (c j).local.heap k ≡ Occupied g o
+  sweep-back j k g o =
+      at_turn (λ l z. slot_at z.local.heap k ≡ Occupied g o
+      → slot_at (c l).local.heap k ≡ Occupied g o) sweep-turn
+      (λ there. (s.heap.back k g o there).0) (λ l _ there. there) j
+
+  sweep-behind : (k g : ℕ) (o : Object) → slot_at h k ≡ Occupied g o
+      → (k < cursor) ⊎ (swept ≡ cycle_of c 0) → o.mark ≡ cycle_of c 0
+  sweep-behind k g o there past =
+      let back = s.heap.back k g o there in
+      let below : k < to → o.mark ≡ cycle_of c 0 =
+      λ most. ⊎_elim {C = o.mark ≡ cycle_of c 0}
+      (λ (before : k < (c i).local.phases.cursor).
+      s.inv.rested.behind i k g o sweep-resting back.0 (inl before))
+      (λ (now : (c i).local.phases.cursor ≤ k). back.1 now most ∙ sweep-joined)
+      (cases_lt k (c i).local.phases.cursor) in
+      ⊎_elim {C = o.mark ≡ cycle_of c 0}
+      (λ last.
+      let inside : k < length (c i).local.heap.slots =
+      occupied-within (c i).local.heap.slots k g o back.0 in
+      below (omega (arith, inside, last.2)))
+      (λ more. ⊎_elim {C = o.mark ≡ cycle_of c 0}
+      (λ (less : k < cursor). below (omega (arith, less, more.1)))
+      (λ done. absurd (omega (arith, done, more.0, sweep-unswept)))
+      past)
+      s.moves
+
+  sweep-swept : swept ≤ (c i).local.phases.ended
+  sweep-swept = ⊎_elim {C = swept ≤ (c i).local.phases.ended}
+      (λ last. omega (arith, last.0, sweep-joined, sweep-ended))
+      (λ more. omega (arith, more.0, s.ready)) s.moves
+
+  sweep-more : (c i).local.phases.swept ≤ swept
+  sweep-more = ⊎_elim {C = (c i).local.phases.swept ≤ swept}
+      (λ last. omega (arith, last.0, sweep-joined, sweep-unswept))
+      (λ more. omega (arith, more.0)) s.moves
+
+  sweep-phased : Phased shape.nodes (phases_of d)
+  sweep-phased = record {
+    swept = at_turn (λ j z. z.local.phases.swept ≤ z.local.phases.ended) sweep-turn sweep-swept
+        (λ j _. s.inv.phased.swept j);
+    ended = λ j. omega (arith, s.inv.phased.ended j, sweep-ends j, sweep-cycle j);
+    cycle = at_turn (λ j z. z.local.phases.cycle ≤ z.local.phases.swept + 1) sweep-turn
+        (let a = s.inv.phased.cycle i in omega (arith, a, sweep-more))
+        (λ j _. s.inv.phased.cycle j);
+    cursor = at_turn (λ j z. z.local.phases.swept ≡ z.local.phases.ended
+        → z.local.phases.cursor ≡ 0) sweep-turn
+        (λ same. ⊎_elim {C = cursor ≡ 0} (λ last. last.1)
+        (λ more. absurd (omega (arith, same, more.0, s.ready))) s.moves)
+        (λ j _. s.inv.phased.cursor j);
+    first = λ j. omega (arith, s.inv.phased.first j, sweep-ends j, sweep-ends 0);
+    apart = λ j inside.
+        inl (sweep-cycle j ∙ resting-joined s.inv sweep-resting inside ∙ sym (sweep-cycle 0));
+    reports = λ j above inside.
+        (let same : get_or (phases_of d 0).reports j 0 ≡ get_or (phases_of c 0).reports j 0 =
+        ap (λ (z : List ℕ). get_or z j 0) (sweep-reports 0) in
+        let more : (phases_of c j).swept ≤ (phases_of d j).swept =
+        at_turn (λ l z. (phases_of c l).swept ≤ z.local.phases.swept) sweep-turn sweep-more
+        (λ l _. le_refl _) j in
+        omega (arith, same, more, s.inv.phased.reports j above inside));
+    reporters = ap length (sweep-reports 0) ∙ s.inv.phased.reporters;
+  }
+
+  sweep-was : (from k place : ℕ) (x : Message) → IsInFlight d from k place x
+      → IsInFlight c from k place x
+  sweep-was from k place x flight = ⊎_elim {C = IsInFlight c from k place x}
+      (λ before. before) (λ new. absurd new.1) (flew sweep-turn from k place x flight)
+
+  sweep-fits : (from k : ℕ) (x : Message) → BodyFits shape.nodes (phases_of c) from k x.stamp x.body
+      → BodyFits shape.nodes (phases_of d) from k x.stamp x.body
+  sweep-fits from k x fits =
+      fits-moved shape.nodes (phases_of c) (phases_of d) from k x.stamp x.body
+      (record {
+        first = (sweep-cycle 0, sweep-ends 0);
+        ended = λ _. sweep-ends k;
+        swept = λ e. (
+          at_turn (λ l z. l ≡ from → z.local.phases.swept ≡ (phases_of c l).swept) sweep-turn
+              (λ (at : i ≡ from).
+              absurd (let says : BodyFits shape.nodes (phases_of c) from k x.stamp body.Swept =
+              subst (λ (z : Body). BodyFits shape.nodes (phases_of c) from k x.stamp z) e fits in
+              let done : (phases_of c i).swept ≡ cycle_of c 0 =
+              ap (λ (z : ℕ). (phases_of c z).swept) at ∙ says.3 in
+              omega (arith, done, sweep-unswept)))
+              (λ l _ _. refl) from refl,
+          ap (λ (z : List ℕ). get_or z from 0) (sweep-reports 0),
+        );
+      })
+      fits
+
+  pub sweep-inv : Inv shape d
+  sweep-inv = record {
+    base =
+        (let step : BaseStep shape c d i swept_now [] = record {
+          inside = s.inside;
+          turn = sweep-turn;
+          own = refl;
+          same_shape = refl;
+          heard = refl;
+          within = λ from. s.inv.base.within from i;
+        } in
+        base-step step s.inv.base);
+    tidy = at_turn (λ j z. Tidy z.local) sweep-turn
+        (record {
+          free = s.heap.free (s.inv.tidy i).free;
+          room = (let w = (s.inv.tidy i).room in let e = s.heap.width in omega (arith, w, e));
+          marks = λ k g o there. (s.inv.tidy i).marks k g o (s.heap.back k g o there).0;
+          calm = λ shut. s.heap.grey ∙ (s.inv.tidy i).calm shut;
+        })
+        (λ j _. s.inv.tidy j);
+    phased = sweep-phased;
+    messages = record {
+      fits = λ from k place x flight.
+          sweep-fits from k x
+          (s.inv.messages.fits from k place x (sweep-was from k place x flight));
+      once = λ from k a b x y fx fy.
+          s.inv.messages.once from k a b x y (sweep-was from k a x fx) (sweep-was from k b y fy);
+    };
+    closed = record {
+      roots = at_turn (λ j z. RootsAll (Safe d) z.local.heap) sweep-turn
+          (let old = roots-map (Safe c) (Safe d) sweep-safe (s.inv.closed.roots i) in
+          record {
+            registers =
+                subst (λ (z : List (Option Ref)). (k : ℕ) → IfAny (Safe d) (get_or z k None))
+                (sym s.heap.registers) old.registers;
+            letters = subst (λ z. (k : ℕ) → IfAny (Safe d) (get_or z k no_letter).reference)
+                (sym s.heap.letters) old.letters;
+          })
+          (λ j _. roots-map (Safe c) (Safe d) sweep-safe (s.inv.closed.roots j));
+      places = λ j k g o there marked l.
+          any-map (Safe c) (Safe d) sweep-safe _
+          (s.inv.closed.places j k g o (sweep-back j k g o there)
+          (λ _.
+          marked (sweep-ends 0 ∙ sweep-resting ∙ sym (sweep-cycle 0)) ∙ sweep-cycle 0) l);
+      messages = λ from k place x flight.
+          all-map (Safe c) (Safe d) sweep-safe (mentioned x.body)
+          (s.inv.closed.messages from k place x (sweep-was from k place x flight));
+    };
+    cover = record {
+      asked = λ marking. absurd (sweep-marking marking);
+      messages = λ marking. absurd (sweep-marking marking);
+    };
+    held = record {
+      roots = at_turn (λ j z. is_open z.local ≡ true → RootsAll (Holds z.local) z.local.heap)
+          sweep-turn (λ opened. absurd (both_ways _ shut-now opened)) (λ j _. s.inv.held.roots j);
+      blacks = λ j k g o.
+          at_turn (λ l z. is_open z.local ≡ true → slot_at z.local.heap k ≡ Occupied g o
+          → o.mark ≡ z.local.phases.cycle → (Among k z.local.heap.grey → ⊥)
+          → PlacesAll (Holds z.local) o) sweep-turn
+          (λ opened. absurd (both_ways _ shut-now opened)) (λ l _. s.inv.held.blacks l k g o) j;
+    };
+    rested = record {
+      grey = λ j _.
+          at_turn (λ l z. z.local.heap.grey ≡ []) sweep-turn
+          (s.heap.grey ∙ s.inv.rested.grey i sweep-resting)
+          (λ l _. s.inv.rested.grey l sweep-resting) j;
+      behind = λ j k g o _ there past.
+          at_turn (λ l z. slot_at z.local.heap k ≡ Occupied g o
+          → (k < z.local.phases.cursor) ⊎ (z.local.phases.swept ≡ cycle_of c 0)
+          → o.mark ≡ cycle_of c 0) sweep-turn
+          (λ t p. sweep-behind k g o t p)
+          (λ l _ t p. s.inv.rested.behind l k g o sweep-resting t p)
+          j there
+          (subst (λ (z : ℕ). (k < (phases_of d j).cursor) ⊎ ((phases_of d j).swept ≡ z))
+          (sweep-cycle 0) past)
+          ∙ sym (sweep-cycle 0);
+    };
+    flows =
+        (let speaks : Speaks shape c d i swept_now [] = record {
+          inv = s.inv;
+          inside = s.inside;
+          turn = sweep-turn;
+          cycle = refl;
+          got = refl;
+          earlier = refl;
+          recent = refl;
+          all = tt;
+          idle = λ k x a. absurd a;
+        } in
+        speaks-flows speaks);
+    tokens = record {
+      round = λ marking. absurd (sweep-marking marking);
+      rest = λ t z _ at.
+          s.inv.tokens.rest t z sweep-resting
+          (token-back sweep-turn refl (λ k x y a. absurd a) t z at);
+    };
+    tallies = tallies-turn shape.nodes sweep-turn
+        (tally-same sweep-turn refl refl (s.inv.tallies i s.inside)) s.inv.tallies;
+  }
+    where
+      shut-now : is_open swept_now ≡ false
+      shut-now =
+          not_from_true _ (eq-eqb (c i).local.phases.ended (c i).local.phases.cycle
+          (sweep-ended ∙ sym sweep-joined))
+
+-- ---- and reports it
+
+pub record Reporting (shape : Shaped) (c d : Cut) (i : ℕ) : Type 0 where
+  pub inv : Inv shape c
+  pub inside : i < shape.nodes
+  pub other : i ≢ 0
+  pub resting : Resting (phases_of c 0)
+  pub swept : (phases_of c i).swept ≡ cycle_of c 0
+  pub unreported : get_or (phases_of c 0).reports i 0 < cycle_of c 0
+  pub first : (place : ℕ) (x : Message) → IsInFlight c i 0 place x → x.body ≡ body.Swept → ⊥
+  pub becomes : Becomes c d i (record {
+    local = (c i).local;
+    sent = append_all (c i).sent ((0, stamped (c i).local body.Swept) ∷ []);
+  })
+
+pub report-inv : {shape : Shaped} {c d : Cut} {i : ℕ} → Reporting shape c d i → Inv shape d
+report-inv {shape = shape} {c = c} {d = d} {i = i} h =
+    let p : LocalState = (c i).local in
+    let x : Message = stamped p body.Swept in
+    let ms : List (ℕ × Message) = (0, x) ∷ [] in
+    let turn : Turn c d i p ms = record { becomes = h.becomes; heard = λ from. le_refl _ } in
+    let phases : phases_of d ≡ phases_of c =
+    fun_ext (at_turn (λ j z. z.local.phases ≡ phases_of c j) turn refl (λ j _. refl)) in
+    let joined : Joined c i = resting-joined h.inv h.resting h.inside in
+    let idle : (to : ℕ) (y : Message) → Among (to, y) ms → is_idle y.body ≡ true =
+    λ to y a. ⊎_elim {C = is_idle y.body ≡ true}
+    (λ e. ap (λ (z : ℕ × Message). is_idle z.1.body) e) (λ never. absurd never) a in
+    let quiet : Quietly shape.nodes c d i p ms = record {
+      turn = turn;
+      inside = h.inside;
+      cycle = refl;
+      ended = ap (λ (z : ℕ → Phases). (z 0).ended) phases;
+      grey = refl;
+      earlier = refl;
+      colour = refl;
+      token = refl;
+      none = λ to y t a e. ⊎_elim {C = ⊥}
+          (λ (is : (to, y) ≡ (0, x)).
+          absurd (let never : body.Swept ≡ body.Token t =
+          ap (λ (z : ℕ × Message). z.1.body) (sym is) ∙ e in cc))
+          (λ never. never) a;
+      stays = λ from place stamp t flight. flight.later;
+    } in
+    light-inv (record {
+      inv = h.inv;
+      inside = h.inside;
+      turn = turn;
+      own = refl;
+      same_shape = refl;
+      heard = refl;
+      within = λ from. h.inv.base.within from i;
+      heap = refl;
+      asked = refl;
+      cycle = refl;
+      ended = ap (λ (z : ℕ → Phases). (z 0).ended) phases;
+      opened = λ o. o;
+      calm = λ shut. (h.inv.tidy i).calm shut;
+      idle = idle;
+      marks = λ from place stamp r flight. flight.later;
+      flows =
+          (let speaks : Speaks shape c d i p ms = record {
+            inv = h.inv;
+            inside = h.inside;
+            turn = turn;
+            cycle = refl;
+            got = refl;
+            earlier = refl;
+            recent = refl;
+            all = ((let w = h.inside in omega (arith, w)), tt);
+            idle = idle;
+          } in
+          speaks-flows speaks);
+      owed = (refl, refl);
+      phased = subst (Phased shape.nodes) (sym phases) h.inv.phased;
+      messages = record {
+        fits = λ from to place y flight.
+            subst (λ (z : ℕ → Phases). BodyFits shape.nodes z from to y.stamp y.body) (sym phases)
+            (⊎_elim {C = BodyFits shape.nodes (phases_of c) from to y.stamp y.body}
+            (λ before. h.inv.messages.fits from to place y before)
+            (λ new.
+            subst (λ (z : ℕ). BodyFits shape.nodes (phases_of c) z to y.stamp y.body) (sym new.0)
+            (subst (λ (z : Message). BodyFits shape.nodes (phases_of c) i to z.stamp z.body)
+            (sym new.2)
+            (new.1, h.other, joined, h.swept, h.unreported)))
+            (flew-one turn from to place y flight));
+        once = λ from to k l y z fy fz same single. ⊎_elim {C = k ≡ l}
+            (λ ey. ⊎_elim {C = k ≡ l}
+            (λ ez. h.inv.messages.once from to k l y z ey ez same single)
+            (λ nz.
+            absurd (clash from to k y ey nz.0 nz.1 (same ∙ ap (λ (m : Message). m.body) nz.2)))
+            (flew-one turn from to l z fz))
+            (λ ny. ⊎_elim {C = k ≡ l}
+            (λ ez.
+            absurd (clash from to l z ez ny.0 ny.1 (sym same ∙ ap (λ (m : Message). m.body) ny.2)))
+            (λ nz. ny.3 ∙ sym nz.3)
+            (flew-one turn from to l z fz))
+            (flew-one turn from to k y fy);
+      };
+      tokens = quiet-tokens quiet h.inv.tokens;
+      behind = λ k g o rest there past. h.inv.rested.behind i k g o rest there past;
+    })
+  where
+    clash : (from to k : ℕ) (y : Message) → IsInFlight c from to k y → from ≡ i → to ≡ 0
+        → y.body ≡ body.Swept → ⊥
+    clash from to k y flight a b e =
+        h.first k y (subst (λ (z : ℕ). IsInFlight c i z k y) b
+        (subst (λ (z : ℕ). IsInFlight c z to k y) a flight)) e

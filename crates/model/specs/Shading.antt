@@ -1,0 +1,149 @@
+-- Marking what references name, by hand of the owner or by a message to it ("Shading and vouching"
+-- in docs/RULES.md). The colours are those of Dijkstra, Lamport, Martin, Scholten and Steffens.
+use Rattle.std.specs.Prelude.{ℕ, pos, ◌-◌, ◌+ℤ◌, Bool, false, cond, not, nat_lt, ◌==◌, ◌&&◌, ◌||◌, List, [], ◌∷◌, ◌++◌, length, take, map, Option, Some, None, option_to_list, slice_index_or}
+use Rattle.std.specs.List.{list_any}
+use Rattle.ids.specs.declared.names.Ref.{Ref}
+use Rattle.msg.specs.declared.body.Body.TheVariants as body
+use Rattle.msg.specs.declared.body.Colour.TheVariants.{Black}
+use Rattle.msg.specs.declared.body.Message.{Message}
+use Rattle.model.specs.declared.event.Letter.{Letter}
+use Rattle.model.specs.State.{Object, Heap, Ring, LocalState}
+use Rattle.model.specs.Heaps.{object_at, with_rewritten}
+use Rattle.model.specs.Effects.{Work, at_rest, then}
+use Rattle.model.specs.Counting.{append}
+
+abbrev pub is_same : Ref → Ref → Bool
+is_same a b = (a.node == b.node) && ((a.slot == b.slot) && (a.generation == b.generation))
+
+abbrev pub is_in : Ref → List Ref → Bool
+is_in r rs = list_any (is_same r) rs
+
+-- The node has joined a cycle whose marking it doesn't know to have ended. While it isn't so,
+-- nothing is shaded.
+abbrev pub is_open : LocalState → Bool
+is_open p = not (p.phases.ended == p.phases.cycle)
+
+-- a live object that isn't marked in this cycle
+abbrev pub is_unmarked : ℕ → Option Object → Bool
+is_unmarked cycle None = false
+is_unmarked cycle (Some o) = not (o.mark == cycle)
+
+abbrev pub with_mark : ℕ → Object → Object
+with_mark cycle o = record o { mark = cycle }
+
+-- an object of the node that shading would turn grey
+abbrev pub wakes : ℕ → ℕ → Heap → Ref → Bool
+wakes own cycle h r = (r.node == own) && is_unmarked cycle (object_at h r)
+
+-- an unmarked object is marked, and its slot comes last on the grey list
+unfoldable pub make_grey : ℕ → Heap → Ref → Heap
+make_grey cycle h r =
+    cond
+    (is_unmarked cycle (object_at h r))
+    (record (with_rewritten h r (with_mark cycle)) { grey = h.grey ++ r.slot ∷ [] })
+    h
+
+-- an object of the node
+abbrev pub shade_local : Work → Ref → Work
+shade_local w r =
+    record w { local = record w.local { heap = make_grey w.local.phases.cycle w.local.heap r } }
+
+-- the reference comes last among those asked for
+abbrev pub with_asked : Work → Ref → Work
+with_asked w r = record w { local = record w.local { asked = w.local.asked ++ r ∷ [] } }
+
+-- A reference is met: an object of the node is marked; one of another node, where it wasn't asked
+-- for in this cycle, leaves the work named last.
+abbrev pub met : Work → Ref → Work → Work
+met w r new =
+    cond
+    (is_open w.local)
+    (cond (r.node == w.local.own) (shade_local w r) (cond (is_in r w.local.asked) w new))
+    w
+
+-- the owner of an object of another node is asked to mark it, once in a cycle
+unfoldable pub shade : Work → Ref → Work
+shade w r = met w r (then (with_asked w r) (append r.node (body.Mark r)))
+
+abbrev pub shade_all : Work → List Ref → Work
+shade_all w [] = w
+shade_all w (r ∷ rs) = shade_all (shade w r) rs
+
+-- A reference that came with the node's own cycle: its sender has seen to the Mark, and none is
+-- sent.
+unfoldable pub vouch : Work → Ref → Work
+vouch w r = met w r (with_asked w r)
+
+abbrev pub vouch_all : Work → List Ref → Work
+vouch_all w [] = w
+vouch_all w (r ∷ rs) = vouch_all (vouch w r) rs
+
+-- the references that are there
+abbrev pub filled : List (Option Ref) → List Ref
+filled [] = []
+filled (o ∷ os) = option_to_list o ++ filled os
+
+abbrev pub reference_of : Letter → Option Ref
+reference_of l = l.reference
+
+-- what a node's program holds: its registers in order, and then its letters, oldest first
+abbrev pub roots : Heap → List (Option Ref)
+roots h = h.registers ++ map reference_of h.letters
+
+-- What was sent and taken in with references in the cycle that is left counts with all before it
+-- from now on, and the node is black.
+abbrev pub entered : Ring → Ring
+entered r = record r { colour = Black; earlier = r.earlier +ℤ r.recent; recent = pos 0 }
+
+unfoldable pub enter : LocalState → ℕ → LocalState
+enter p cycle =
+    record p {
+      asked = [];
+      phases = record p.phases { cycle = cycle; cursor = 0 };
+      ring = entered p.ring;
+    }
+
+-- the node joins a cycle: what its program holds is shaded
+unfoldable pub join : LocalState → ℕ → Work
+join p cycle = shade_all (at_rest (enter p cycle)) (filled (roots p.heap))
+
+-- a node joins the cycle of a message, unless it is there already or past it
+abbrev pub joined : LocalState → ℕ → Work
+joined p stamp = cond (nat_lt p.phases.cycle stamp) (join p stamp) (at_rest p)
+
+-- no object is grey
+abbrev pub is_calm : Heap → Bool
+is_calm h = length h.grey == 0
+
+-- it stays so where none of these references would turn an object grey
+abbrev pub stays_calm : ℕ → ℕ → Heap → List Ref → Bool
+stays_calm own cycle h rs = is_calm h && not (list_any (wakes own cycle h) rs)
+
+-- the grey object that is scanned next, and the heap without it on its list
+abbrev pub last_grey : Heap → ℕ
+last_grey h = slice_index_or h.grey (length h.grey - 1) 0
+
+abbrev pub without_last_grey : Heap → Heap
+without_last_grey h = record h { grey = take (length h.grey - 1) h.grey }
+
+-- ---- the same by parts: what is shaded of the heap, what is asked for, and the Marks for that
+
+abbrev pub make_all_grey : ℕ → ℕ → Heap → List Ref → Heap
+make_all_grey own cycle h [] = h
+make_all_grey own cycle h (r ∷ rs) =
+    make_all_grey own cycle (cond (r.node == own) (make_grey cycle h r) h) rs
+
+-- the references to other nodes that weren't asked for, each once
+abbrev pub unasked : ℕ → List Ref → List Ref → List Ref
+unasked own asked [] = []
+unasked own asked (r ∷ rs) =
+    cond
+    (r.node == own || is_in r asked)
+    (unasked own asked rs)
+    (r ∷ unasked own (asked ++ r ∷ []) rs)
+
+abbrev pub mark_for : ℕ → Ref → ℕ × Message
+mark_for cycle r = (r.node, record { stamp = cycle; body = body.Mark r })
+
+abbrev pub marks_for : ℕ → List Ref → List (ℕ × Message)
+marks_for cycle rs = map (mark_for cycle) rs

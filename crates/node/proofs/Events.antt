@@ -1,0 +1,121 @@
+-- What the definitions make of an event at a node as it stands, by its tests and its messages.
+use Rattle.std.proofs.Common.{◌≡◌, ◌≢◌, ℕ, Bool, true, false, List, [], ◌∷◌, ◌++◌, map, Result, Ok, Err, ap, refl, sym, ◌∙◌, subst}
+use Rattle.std.specs.List.{AllByRecursion}
+use Rattle.ids.specs.declared.names.Ref.{Ref}
+use Rattle.ids.specs.declared.refusal.Refusal.{Refusal}
+use Rattle.ids.specs.declared.refusal.Refusal.TheVariants.{LinkSpent, Memory}
+use Rattle.msg.specs.declared.body.Message.{Message}
+use Rattle.model.specs.declared.event.Answer.{Answer}
+use Rattle.model.specs.Checks.{guarded, AllPass, IsFirstRefusal, IsOkOrSpent, IsReplaced}
+use Rattle.model.specs.Effects.{Work, Effect}
+use Rattle.model.specs.State.{Heap, Phases, Ring, LocalState}
+use Rattle.model.specs.Steps.{checked, fits}
+use Rattle.model.specs.View.{NodeView, append_to, used, view_after}
+use Rattle.model.proofs.Checks.{guarded-passed}
+use Rattle.link.specs.Links.{LinksView}
+use Rattle.barrier.specs.Parts.{part_of, IsDone}
+use Rattle.node.specs.Invariant.{links_of}
+
+-- ---- lists of tests
+
+-- the first test that fails is the same where more tests follow
+guarded-err : {A B : Type 0} (cs ds : List (Bool × Refusal)) (x : A) (y : B) (e : Refusal)
+    → guarded cs x ≡ Err e → guarded (cs ++ ds) y ≡ Err e
+guarded-err [] ds x y e h = absurd cc
+guarded-err ((true, r) ∷ cs) ds x y e h = guarded-err cs ds x y e h
+guarded-err ((false, r) ∷ cs) ds x y e h = cc
+
+-- what no test refuses never is
+pub guarded-never : {A : Type 0} (cs : List (Bool × Refusal)) (x : A) (k : Refusal)
+    → AllByRecursion (λ c. c.1 ≢ k) cs → guarded cs x ≢ Err k
+guarded-never [] x k others h = absurd cc
+guarded-never ((true, r) ∷ cs) x k others h = guarded-never cs x k others.1 h
+guarded-never ((false, r) ∷ cs) x k others h = others.0 (let same : r ≡ k = cc in same)
+
+-- ---- an event that brings no acknowledgement
+
+-- the node with these parts, after it appended these messages
+abbrev pub after_step : NodeView → LocalState → List (ℕ × Message) → NodeView
+after_step n p ms = record n { local = p; links = append_to n.links ms }
+
+abbrev pub judged_view : NodeView → List (Bool × Refusal) → Effect
+    → Result (NodeView × Answer) Refusal
+judged_view n ts x = view_after n n.links (checked ts (map used n.links) x)
+
+-- the node with these parts, and what it has of its links
+abbrev pub with_parts : NodeView → Heap → List Ref → Phases → Ring → LinksView → NodeView
+with_parts n h asked phases ring l =
+    record n {
+      local = record n.local { heap = h; asked = asked; phases = phases; ring = ring; got = l.got };
+      links = l.links;
+      acks = l.acks;
+    }
+
+module _ (n : NodeView) (h : Heap) (asked : List Ref) (ring : Ring) (l : LinksView) where
+  -- nothing changed
+  pub parts-same : h ≡ n.local.heap → asked ≡ n.local.asked → ring ≡ n.local.ring → l ≡ links_of n
+      → with_parts n h asked n.local.phases ring l ≡ n
+  parts-same a b c d =
+      ap (λ (z : Heap). with_parts n z asked n.local.phases ring l) a
+      ∙ ap (λ (z : List Ref). with_parts n n.local.heap z n.local.phases ring l) b
+      ∙ ap (λ (z : Ring). with_parts n n.local.heap n.local.asked n.local.phases z l) c
+      ∙ ap (with_parts n n.local.heap n.local.asked n.local.phases n.local.ring) d
+
+  -- what a call left is what the definitions leave
+  pub parts-done : (w : Work) → IsDone w (part_of n.local h asked ring) (links_of n) l
+      → with_parts n h asked n.local.phases ring l ≡ after_step n w.local w.sends
+  parts-done w done =
+      ap (with_parts n h asked n.local.phases ring) done.links
+      ∙ ap (λ (q : LocalState). after_step n q w.sends) done.now
+
+-- an answer, with the node after it
+abbrev pub okay : NodeView → Answer → Result (NodeView × Answer) Refusal
+okay m a = Ok (m, a)
+
+module _ (n : NodeView) (ts : List (Bool × Refusal)) (x : Effect) where
+  pub past_tests : AllPass ts → judged_view n ts x ≡ judged_view n [] x
+  past_tests all =
+      ap (view_after n n.links)
+      (guarded-passed ts ((fits (map used n.links) x.sends, LinkSpent) ∷ []) x all)
+
+  pub answered : AllPass ts → fits (map used n.links) x.sends ≡ true
+      → judged_view n ts x ≡ Ok (after_step n x.local x.sends, x.answer)
+  answered all fit = past_tests all ∙ rw fit refl
+
+  spent : AllPass ts → fits (map used n.links) x.sends ≡ false → judged_view n ts x ≡ Err LinkSpent
+  spent all none = past_tests all ∙ rw none refl
+
+  -- one of its own tests refuses it
+  pub test_refused : {A : Type 0} (shading : Bool) (y : A) (e : Refusal) → guarded ts y ≡ Err e
+      → e ≢ Memory → IsFirstRefusal shading e (judged_view n ts x)
+  test_refused shading y e h never = (
+    λ other. ap (view_after n n.links)
+        (guarded-err ts ((fits (map used n.links) x.sends, LinkSpent) ∷ []) y x e h),
+    λ memory. absurd (never memory),
+  )
+
+  -- a message of it was refused, and the event shades
+  pub shading_refused : (e : Refusal) → AllPass ts
+      → (e ≢ Memory → (e ≡ LinkSpent) × (fits (map used n.links) x.sends ≡ false))
+      → IsFirstRefusal true e (judged_view n ts x)
+  shading_refused e all h = (
+    λ other. spent all (h other).1
+        ∙ ap (λ (z : Refusal). Err z) (sym (h other).0),
+    λ memory. subst (IsReplaced true) (sym (past_tests all))
+        (either (fits (map used n.links) x.sends)),
+  )
+    where
+      either : (b : Bool) → IsOkOrSpent (view_after n n.links (guarded ((b, LinkSpent) ∷ []) x))
+      either true = tt
+      either false = refl
+
+  -- the same where it doesn't, and memory is wanted last
+  pub sending_refused : (e : Refusal) → AllPass ts
+      → (e ≢ Memory → (e ≡ LinkSpent) × (fits (map used n.links) x.sends ≡ false))
+      → (e ≡ Memory → fits (map used n.links) x.sends ≡ true)
+      → IsFirstRefusal false e (judged_view n ts x)
+  sending_refused e all h last = (
+    λ other. spent all (h other).1
+        ∙ ap (λ (z : Refusal). Err z) (sym (h other).0),
+    λ memory. subst (IsReplaced false) (sym (answered all (last memory))) refl,
+  )

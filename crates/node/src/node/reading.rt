@@ -1,0 +1,70 @@
+//! What a node holds, for who looks at it from outside: the roots of its program, its objects, and
+//! how much it took in.
+ghost use Rattle.std.specs.Prelude.{◌≡◌, ℕ, ◌<◌, length, slice_index_or, is_some, None};
+ghost use Rattle.model.specs.State.{got_from, slot_at};
+ghost use Rattle.model.specs.Heaps.{object_at};
+ghost use Rattle.model.specs.Shading.{filled, roots};
+ghost use Rattle.model.specs.Collecting.{places_in};
+ghost use Rattle.model.specs.View.{link_to, message_of};
+
+use super::Node;
+use ids::Ref;
+use msg::Message;
+
+impl Node {
+    /// How many roots there are, which are what the program holds: its registers, and the letters
+    /// that wait, also those that hold no reference.
+    pub fn root_count(&self) -> usize
+        ensures { result ≡ length (roots self.now.local.heap) }
+    {
+        self.heap.root_count()
+    }
+
+    /// What the root of this number holds: the registers come first, in order, and then the
+    /// letters, oldest first. None where it holds no reference, or there is no such root.
+    pub fn root(&self, number: usize) -> Option<Ref>
+        ensures { result ≡ slice_index_or (roots self.now.local.heap) number None }
+    {
+        self.heap.root(number)
+    }
+
+    /// Whether an object of this node is still there. It doesn't look at the reference's node.
+    pub fn is_live(&self, object: Ref) -> bool
+        ensures { result ≡ is_some (object_at self.now.local.heap object) }
+    {
+        self.heap.is_live(object)
+    }
+
+    /// What the places of the object in a slot hold, in order; all are empty where the slot has no
+    /// object.
+    pub fn places(&self, slot: u32) -> [Option<Ref>; 8]
+        ensures filled { filled result ≡ filled (places_in (slot_at self.now.local.heap slot)) }
+        ensures each { (j : ℕ) → slice_index_or result j None
+            ≡ slice_index_or (places_in (slot_at self.now.local.heap slot)) j None }
+    {
+        self.heap.places(slot)
+    }
+
+    /// How many messages of the node `from` were taken in; 0 where there is no such node.
+    pub fn taken_from(&self, from: u8) -> u64
+        ensures { result ≡ got_from self.now.local from }
+    {
+        if from < self.shape.nodes() {
+            self.links.taken(from)
+        } else {
+            0
+        }
+    }
+
+    /// The message of this number for the node `to`, released or not, while the node keeps it; None
+    /// where there is no such node.
+    pub fn message(&self, to: u8, number: u64) -> Option<Message>
+        ensures { result ≡ message_of (link_to self.now to) number }
+    {
+        if to < self.shape.nodes() {
+            self.links.message(to, number)
+        } else {
+            None
+        }
+    }
+}

@@ -1,0 +1,33 @@
+use Rattle.std.proofs.Common.{◌≡◌, ◌⊎◌, length, subst, arith}
+use Rattle.world.specs.Reach.{Adds, IsHeld, IsLinked, chosen}
+use Rattle.world.proofs.Finding.{Below, adds-then, below-more}
+use Rattle.world.proofs.reaching.add_roots.Goals as goal
+
+pub loop-number-preserved : goal.loop-number-preserved
+loop-number-preserved c =
+    below-more
+    (λ i r.
+    IsHeld (chosen c.args.sim.now c.args.saved.now i) r
+    ⊎ IsLinked c.args.sim.now c.args.saved.now i r)
+    c.loop-number.number c.loop-number.invariant
+    (adds-then (rw (c.chosen-node.ensures, c.from.ensures) at c.in_ok-add_held.ensures.done)
+    c.in_ok-add_links.ensures.done)
+
+pub returns-clause-done : goal.returns-clause-done
+returns-clause-done c =
+    let all : c.loop-number.number ≡ length c.args.sim.now =
+    omega (
+      arith,
+      c.loop-number.auto.number-end,
+      c.loop-number-test.false,
+      c.count-number-end.ensures,
+    ) in
+    subst
+    (λ n.
+    Adds c.args.found.now.keys c.loop-number.found.keys
+    (Below
+    (λ i r.
+    IsHeld (chosen c.args.sim.now c.args.saved.now i) r
+    ⊎ IsLinked c.args.sim.now c.args.saved.now i r)
+    n))
+    all c.loop-number.invariant

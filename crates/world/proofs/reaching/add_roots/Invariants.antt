@@ -1,0 +1,9 @@
+use Rattle.std.proofs.Common.{◌⊎◌}
+use Rattle.world.specs.Reach.{chosen, Adds, IsHeld, IsLinked}
+use Rattle.world.proofs.Finding.{Below}
+use Rattle.world.proofs.reaching.add_roots.Given as goal
+
+abbrev pub invariant-loop-number : goal.invariant-loop-number
+invariant-loop-number l =
+    Adds l.fn.found.keys l.found.keys
+    (Below (λ i r. IsHeld (chosen l.sim l.saved i) r ⊎ IsLinked l.sim l.saved i r) l.number)

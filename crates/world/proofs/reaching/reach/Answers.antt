@@ -1,0 +1,16 @@
+use Rattle.std.proofs.Common.{◌∙◌}
+use Rattle.world.proofs.Reached.{reached}
+use Rattle.world.proofs.reaching.reach.Goals as goal
+
+pub returns-clause-reached : goal.returns-clause-reached
+returns-clause-reached c =
+    reached
+    (record {
+      start = c.add_roots.new.found.keys;
+      found = c.follow.new.found.keys;
+      all = c.in_ok-all.all.items;
+      roots = rw c.new-found.ensures.empty at c.in_ok-add_roots.ensures.done;
+      follows = c.in_ok-follow.ensures.done;
+      same = c.in_ok-all.ensures.items ∙ c.as_slice.ensures.keys;
+      moved = c.in_ok-sort.ensures.permutation;
+    })

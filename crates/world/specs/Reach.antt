@@ -1,0 +1,84 @@
+-- What a search for references has found. A test's list of them is searched in turn: what the
+-- registers, letters and messages of all nodes refer to, and then what stands in the places of each.
+use Rattle.std.specs.Prelude.{◌≡◌, ℕ, ◌+◌, ◌<◌, ◌≤◌, ◌++◌, Bool, false, cond, List, [], length, Option, Some, None, ◌⊎◌, slice_index_or}
+use Rattle.std.specs.Ordering.{nat_cmp, ordering_then}
+use Rattle.std.specs.declared.cmp.Ordering.{Ordering}
+use Rattle.ids.specs.declared.names.Ref.{Ref}
+use Rattle.msg.specs.declared.body.Message.{Message}
+use Rattle.model.specs.State.{Object, slot_at, got_from}
+use Rattle.model.specs.Heaps.{object_at}
+use Rattle.model.specs.Shading.{roots, filled}
+use Rattle.model.specs.Steps.{carried}
+use Rattle.model.specs.View.{NodeView, link_to, message_of}
+use Rattle.model.specs.Cuts.{Among}
+use Rattle.world.specs.Sites.{SiteView}
+use Rattle.world.specs.Shows.{site_at}
+
+-- the order of references: by node, slot and generation
+abbrev pub in_order : Ref → Ref → Ordering
+in_order a b =
+    ordering_then (nat_cmp a.node b.node)
+    (ordering_then (nat_cmp a.slot b.slot) (nat_cmp a.generation b.generation))
+
+-- of each node the saved one, where the choice is true, and else the current one
+abbrev pub chosen : List SiteView → List Bool → ℕ → NodeView
+chosen sites saved i =
+    cond (slice_index_or saved i false) (site_at sites i).saved (site_at sites i).current
+
+-- what a register or a letter of the node refers to
+abbrev pub IsHeld : NodeView → Ref → Type 0
+IsHeld n r = (k : ℕ) × (slice_index_or (roots n.local.heap) k None ≡ Some r)
+
+-- the references that a message carries, if there is one
+abbrev pub carried_by : Option Message → List Ref
+carried_by None = []
+carried_by (Some x) = carried x.body
+
+-- the message in this place among all from one node to another is kept by the one, the other hasn't
+-- taken it in, and it carries the reference
+abbrev pub IsCarriedAt : (from to : NodeView) → ℕ → Ref → Type 0
+IsCarriedAt from to place r =
+    (x : Message) × (got_from to.local from.local.own ≤ place)
+    × (message_of (link_to from to.local.own) (place + 1) ≡ Some x) × Among r (carried x.body)
+
+abbrev pub IsCarried : (from to : NodeView) → Ref → Type 0
+IsCarried from to r = (place : ℕ) × IsCarriedAt from to place r
+
+-- so of the messages of one node to all nodes
+abbrev pub IsLinked : List SiteView → List Bool → ℕ → Ref → Type 0
+IsLinked sites saved i r =
+    (j : ℕ) × (j < length sites) × IsCarried (chosen sites saved i) (chosen sites saved j) r
+
+abbrev pub IsRoot : List SiteView → List Bool → Ref → Type 0
+IsRoot sites saved r =
+    (i : ℕ) × (i < length sites)
+    × (IsHeld (chosen sites saved i) r ⊎ IsLinked sites saved i r)
+
+abbrev pub places_of : Option Object → List Ref
+places_of None = []
+places_of (Some o) = filled o.places
+
+-- the reference stands in a place of the node's object, which is live
+abbrev pub Standing : NodeView → Ref → Ref → Type 0
+Standing n owner r = Among r (places_of (object_at n.local.heap owner))
+
+-- The second list is the first one with more behind it: it has all that pass the test, and nothing
+-- else besides.
+pub record Adds (before after : List Ref) (test : Ref → Type 0) : Type 0 where
+  pub more : List Ref
+  pub grown : after ≡ before ++ more
+  pub has : (r : Ref) → test r → Among r after
+  pub only : (r : Ref) → Among r after → Among r before ⊎ test r
+
+-- what can be found from a list
+pub data IsFound (nodes : ℕ → NodeView) (start : List Ref) : Ref → Type 0 where
+  given : {r : Ref} → Among r start → IsFound nodes start r
+  standing : {r : Ref} (owner : Ref) → IsFound nodes start owner
+      → Standing (nodes owner.node) owner r → IsFound nodes start r
+
+-- the second list has all that can be found from the first one, and nothing else
+pub record Follows (nodes : ℕ → NodeView) (before after : List Ref) : Type 0 where
+  pub kept : (r : Ref) → Among r before → Among r after
+  pub closed : (owner r : Ref) → Among owner after → Standing (nodes owner.node) owner r
+      → Among r after
+  pub only : (r : Ref) → Among r after → IsFound nodes before r
