@@ -181,7 +181,10 @@ fn check_same(rt: &impl Abort, one: &Node, other: &Node) {
         assert_eq!(rt; one.frame_at(1, place), other.frame_at(1, place));
     }
     for number in 0..4 {
-        assert_eq!(rt; one.numbered_frame(1, number), other.numbered_frame(1, number));
+        assert_eq!(rt;
+            one.numbered_frame(1, number),
+            other.numbered_frame(1, number)
+        );
     }
 }
 

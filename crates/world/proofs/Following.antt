@@ -1,13 +1,13 @@
 -- The parts of a search: what one node's messages carry, what stands in the places of an object, and
 -- how far the search has come.
-use Rattle.std.proofs.Common.{◌≡◌, ℕ, ◌+◌, ◌-◌, ◌<◌, ◌≤◌, Bool, true, false, cond, List, [], length, ◌==◌, get_or, slice_get, Option, Some, None, ◌⊎◌, inl, inr, refl, ap, sym, ◌∙◌, subst, ⊎_elim, arith}
+use Rattle.std.proofs.Common.{◌≡◌, ℕ, ◌+◌, ◌-◌, ◌<◌, ◌≤◌, Bool, true, false, cond, List, length, ◌==◌, get_or, slice_get, Option, Some, None, refl, ap, sym, ◌∙◌, subst, ⊎_elim, arith}
 use Rattle.std.specs.Prelude.{is_some, nat_le}
 use Rattle.std.proofs.lemmas.Bool.{cases_lt}
 use Rattle.std.proofs.lemmas.List.{get_or_past, get_or_append_left}
 use Rattle.std.proofs.lemmas.Option.{slice_get_past}
 use Rattle.ids.specs.declared.names.Ref.{Ref}
 use Rattle.msg.specs.declared.body.Message.{Message}
-use Rattle.model.specs.State.{Slot, Free, Occupied, Retired, Heap, Object, slot_at, got_from}
+use Rattle.model.specs.State.{Slot, Free, Occupied, Retired, Heap, slot_at, got_from}
 use Rattle.model.specs.Heaps.{object_of, object_at}
 use Rattle.model.specs.Collecting.{places_in}
 use Rattle.model.specs.Shading.{filled}

@@ -1,32 +1,30 @@
 -- What a search finds is what can be reached.
-use Rattle.std.proofs.Common.{◌≡◌, ℕ, ◌==◌, ◌+◌, ◌-◌, ◌<◌, ◌≤◌, Bool, true, false, cond, List, [], length, map, get_or, slice_get, replicate, Option, Some, None, ◌⊎◌, inl, inr, refl, ap, sym, ◌∙◌, subst, ⊎_elim, le_trans, le_refl, eq-eqb, arith}
-use Rattle.std.specs.Prelude.{nat_le}
+use Rattle.std.proofs.Common.{◌≡◌, ℕ, ◌==◌, ◌+◌, ◌-◌, ◌<◌, ◌≤◌, Bool, true, false, cond, List, [], length, map, get_or, slice_get, Option, Some, None, inl, inr, refl, ap, sym, ◌∙◌, subst, ⊎_elim, le_trans, le_refl, eq-eqb, arith}
 use Rattle.std.proofs.Math.ListN.{get_or-map}
-use Rattle.std.proofs.lemmas.Bool.{cases_lt, cond-true, le-leb, eqb-true}
+use Rattle.std.proofs.lemmas.Bool.{cases_lt, cond-true, eqb-true}
 use Rattle.std.proofs.lemmas.List.FromFn.{length-map-range_with_len}
 use Rattle.std.proofs.lemmas.List.{get_or_past, get_or_default, get_or_append_left, get_or-append-add, get_or-append_right}
 use Rattle.std.specs.List.Sorted.{IsPermutation}
 use Rattle.std.proofs.lemmas.List.Sorted.{Contains-permutation, IsPermutation-sym}
-use Rattle.std.proofs.lemmas.Option.{same_Some, slice_get-get_or, slice_get_past, get_or_from_slice_get}
+use Rattle.std.proofs.lemmas.Option.{slice_get-get_or, get_or_from_slice_get}
 use Rattle.ids.specs.Limits.{Shaped, IsShape}
 use Rattle.ids.specs.declared.names.Ref.{Ref}
 use Rattle.msg.specs.declared.body.Message.{Message}
 use Rattle.model.specs.declared.event.Letter.{Letter}
 use Rattle.model.specs.declared.step.Step.{Step}
-use Rattle.model.specs.State.{Slot, Free, Occupied, Retired, Heap, Object, LocalState, NodeState, slot_at, register_at, got_from, sent_to, node_at, no_node, new_node}
-use Rattle.model.specs.Heaps.{object_of, object_at}
+use Rattle.model.specs.State.{Slot, Free, Occupied, Retired, Heap, Object, LocalState, NodeState, register_at, got_from, sent_to, node_at, no_node, new_node}
+use Rattle.model.specs.Heaps.{object_of}
 use Rattle.model.specs.Shading.{roots, filled, reference_of}
-use Rattle.model.specs.Steps.{carried}
-use Rattle.model.specs.View.{Link, NodeView, ShowsSent, link_to, used, message_of}
+use Rattle.model.specs.View.{Link, link_to}
 use Rattle.model.specs.World.{World, new_world, run, acknowledged}
-use Rattle.model.specs.Cuts.{Cut, cut, taken, Among, IsInFlight, Reachable, in_register, in_letter, in_message, in_place}
+use Rattle.model.specs.Cuts.{Cut, cut, taken, Among, Reachable, in_register, in_letter, in_message, in_place}
 use Rattle.laws.proofs.Invariant.{Base}
 use Rattle.laws.proofs.Base.{all-base, inside-where}
 use Rattle.laws.proofs.Net.{run-heard}
 use Rattle.laws.proofs.KeepsSent.{run-count}
 use Rattle.world.specs.Sites.{SiteView}
 use Rattle.world.specs.Shows.{ShowsNode, ShowsWorld, site_at}
-use Rattle.world.specs.Reach.{Adds, Follows, IsFound, given, standing, IsHeld, IsCarried, IsCarriedAt, IsLinked, IsRoot, Standing, places_of, chosen}
+use Rattle.world.specs.Reach.{Adds, Follows, IsFound, given, standing, IsCarried, IsRoot, places_of, chosen}
 use Rattle.world.proofs.Finding.{no_ref, among-filled, filled-among, among-place, place-among}
 use Rattle.world.proofs.Following.{some-within}
 use Rattle.world.proofs.Shows.{message-shown}

@@ -5,7 +5,7 @@ use Rattle.std.specs.Ordering.{nat_cmp, ordering_then}
 use Rattle.std.specs.declared.cmp.Ordering.{Ordering}
 use Rattle.ids.specs.declared.names.Ref.{Ref}
 use Rattle.msg.specs.declared.body.Message.{Message}
-use Rattle.model.specs.State.{Object, slot_at, got_from}
+use Rattle.model.specs.State.{Object, got_from}
 use Rattle.model.specs.Heaps.{object_at}
 use Rattle.model.specs.Shading.{roots, filled}
 use Rattle.model.specs.Steps.{carried}

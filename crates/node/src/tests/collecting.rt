@@ -33,7 +33,12 @@ fn a_cycle_frees_what_nothing_refers_to(rt: HostRuntime) -> Result<(), Refusal> 
     answer_all(&rt, &mut director, &rows);
     refuse(&rt, &mut director, Event::Begin, Refusal::CycleRunning);
     refuse(&rt, &mut director, Event::Pass, Refusal::NothingToDo);
-    refuse(&rt, &mut director, Event::Sweep { count: 1 }, Refusal::NothingToDo);
+    refuse(
+        &rt,
+        &mut director,
+        Event::Sweep { count: 1 },
+        Refusal::NothingToDo,
+    );
     // The place is read before its object is scanned: what it holds turns grey too.
     let rows = [
         (load(2, 0, 0), Answer::Value(Some(first(1)))),

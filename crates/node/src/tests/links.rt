@@ -1,7 +1,6 @@
 use super::{
-    accept, ack, alloc, answer, answer_all, check_ack, check_appended, check_given,
-    check_numbered, check_state, first, give, give_body, letter, message, new_summary, node,
-    refuse, save, space,
+    accept, ack, alloc, answer, answer_all, check_ack, check_appended, check_given, check_numbered,
+    check_state, first, give, give_body, letter, message, new_summary, node, refuse, save, space,
 };
 use crate::{Answer, Event, Node, Summary};
 use ids::Refusal;
@@ -55,7 +54,11 @@ fn messages_are_taken_in_in_order_and_once(rt: HostRuntime) -> Result<(), Refusa
     let mut receiver = node(&rt, rt.alloc(), shape, 1)?;
     let reference = Some(first(0));
     let next = Event::Data(message(&rt, 1, 0, give_body(7, reference)));
-    answer_all(&rt, &mut receiver, &[(next, Answer::Received), (next, Answer::Repeat)]);
+    answer_all(
+        &rt,
+        &mut receiver,
+        &[(next, Answer::Received), (next, Answer::Repeat)],
+    );
     let later = Event::Data(message(&rt, 3, 0, give_body(8, None)));
     refuse(&rt, &mut receiver, later, Refusal::OutOfOrder);
     let taken = Summary {

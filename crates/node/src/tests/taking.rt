@@ -106,7 +106,11 @@ fn a_late_reference_is_shaded_and_another_vouched_for(rt: HostRuntime) -> Result
 fn a_mark_turns_an_object_grey_once(rt: HostRuntime) -> Result<(), Refusal> {
     let shape = space(&rt, 4, 16);
     let mut receiver = with_object(&rt, rt.alloc(), shape)?;
-    answer_all(&rt, &mut receiver, &[(Event::Drop { register: 0 }, Answer::Done)]);
+    answer_all(
+        &rt,
+        &mut receiver,
+        &[(Event::Drop { register: 0 }, Answer::Done)],
+    );
     let rows = [
         comes(&rt, 1, 1, Body::Begin),
         comes(&rt, 2, 1, mark_of(own())),
@@ -152,7 +156,12 @@ fn a_place_is_written_and_read_while_the_node_marks(rt: HostRuntime) -> Result<(
     };
     check_state(&rt, &owner, taken);
     check_appended(&rt, &owner, 0, 1);
-    check_numbered(&rt, &owner, 0, &[(1, sent(1, give_body(9, Some(first(0)))))]);
+    check_numbered(
+        &rt,
+        &owner,
+        0,
+        &[(1, sent(1, give_body(9, Some(first(0)))))],
+    );
     Ok(())
 }
 
@@ -180,7 +189,12 @@ fn a_get_that_joins_is_answered_behind_the_marks(rt: HostRuntime) -> Result<(), 
     check_state(&rt, &owner, joined);
     check_appended(&rt, &owner, 0, 2);
     check_numbered(&rt, &owner, 0, &[(1, sent(1, mark_of(first(0))))]);
-    check_numbered(&rt, &owner, 0, &[(2, sent(2, give_body(9, Some(first(0)))))]);
+    check_numbered(
+        &rt,
+        &owner,
+        0,
+        &[(2, sent(2, give_body(9, Some(first(0)))))],
+    );
     Ok(())
 }
 
