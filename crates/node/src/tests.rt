@@ -297,7 +297,7 @@ fn a_copy_goes_its_own_way(rt: HostRuntime) -> Result<(), Refusal> {
     let after = Summary {
         live: 2,
         recent: 2,
-        ..before
+        ..new_summary(shape, 0)
     };
     check_state(&rt, &copy, after);
     Ok(())
