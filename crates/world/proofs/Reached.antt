@@ -1,11 +1,13 @@
 -- What a search finds is what can be reached.
-use Rattle.std.proofs.Common.{◌≡◌, ℕ, ◌==◌, ◌+◌, ◌-◌, ◌<◌, ◌≤◌, Bool, true, false, cond, List, [], length, map, get_or, slice_get, Option, Some, None, inl, inr, refl, ap, sym, ◌∙◌, subst, ⊎_elim, le_trans, le_refl, eq-eqb, arith}
+use Rattle.std.proofs.Common.{◌≡◌, ℕ, ◌==◌, ◌&&◌, ◌+◌, ◌-◌, ◌<◌, ◌≤◌, Bool, true, false, cond, List, [], length, map, get_or, slice_get, Option, Some, None, inl, inr, refl, ap, ap₂, sym, ◌∙◌, subst, ⊎_elim, le_trans, le_refl, eq-eqb, arith}
 use Rattle.std.proofs.Math.ListN.{get_or-map}
 use Rattle.std.proofs.lemmas.Bool.{cases_lt, cond-true, eqb-true}
 use Rattle.std.proofs.lemmas.List.FromFn.{length-map-range_with_len}
 use Rattle.std.proofs.lemmas.List.{get_or_past, get_or_default, get_or_append_left, get_or-append-add, get_or-append_right}
+use Rattle.std.specs.List.{IsDistinct}
 use Rattle.std.specs.List.Sorted.{IsPermutation}
 use Rattle.std.proofs.lemmas.List.Sorted.{Contains-permutation, IsPermutation-sym}
+use Rattle.std.proofs.lemmas.Map.Keys.{IsDistinct-IsPermutation}
 use Rattle.std.proofs.lemmas.Option.{slice_get-get_or, get_or_from_slice_get}
 use Rattle.ids.specs.Limits.{Shaped, IsShape}
 use Rattle.ids.specs.declared.names.Ref.{Ref}
@@ -14,7 +16,7 @@ use Rattle.model.specs.declared.event.Letter.{Letter}
 use Rattle.model.specs.declared.step.Step.{Step}
 use Rattle.model.specs.State.{Slot, Free, Occupied, Retired, Heap, Object, LocalState, NodeState, register_at, got_from, sent_to, node_at, no_node, new_node}
 use Rattle.model.specs.Heaps.{object_of}
-use Rattle.model.specs.Shading.{roots, filled, reference_of}
+use Rattle.model.specs.Shading.{roots, filled, reference_of, is_same}
 use Rattle.model.specs.View.{Link, link_to}
 use Rattle.model.specs.World.{World, new_world, run, acknowledged}
 use Rattle.model.specs.Cuts.{Cut, cut, taken, Among, Reachable, in_register, in_letter, in_message, in_place}
@@ -274,3 +276,24 @@ reached {n = n} {saved = saved} {sorted = sorted} s shape steps within shown r =
           (reached-found n saved shape steps within shown s.start s.found s.roots s.follows r
           there)),
     )
+
+-- it doesn't matter which of two references is asked about first
+same_flips : (r s : Ref) → is_same r s ≡ is_same s r
+same_flips r s =
+    ap₂ ◌&&◌ (flip r.node s.node) (ap₂ ◌&&◌ (flip r.slot s.slot) (flip r.generation s.generation))
+  where
+    flip : (a b : ℕ) → (a == b) ≡ (b == a)
+    flip a b = by (a == b) (b == a) refl refl
+      where
+        by : (x y : Bool) → (a == b) ≡ x → (b == a) ≡ y → x ≡ y
+        by true true _ _ = refl
+        by false false _ _ = refl
+        by true false e f = sym (eq-eqb b a (sym (eqb-true a b e))) ∙ f
+        by false true e f = sym e ∙ eq-eqb a b (sym (eqb-true b a f))
+
+-- what was found comes once, in whatever order
+pub once-sorted : {found all sorted : List Ref} → all ≡ found → IsPermutation all sorted
+    → IsDistinct is_same found → IsDistinct is_same sorted
+once-sorted {found = found} {all = all} {sorted = sorted} same moved once =
+    IsDistinct-IsPermutation is_same same_flips all sorted moved
+    (subst (IsDistinct is_same) (sym same) once)

@@ -1,10 +1,11 @@
 //! What can be reached, for tests.
 ghost use Rattle.std.specs.Prelude.{◌≡◌, ◌<◌, false, List, length, IfOk, IfErr, OnOk, Some, slice_index_or, ◌↔◌};
+ghost use Rattle.std.specs.List.{IsDistinct};
 ghost use Rattle.std.specs.List.Sorted.{IsSorted};
 ghost use Rattle.ids.specs.Limits.{IsShape, Shaped};
 ghost use Rattle.ids.specs.declared.refusal.Refusal.TheVariants.{Memory};
 ghost use Rattle.model.specs.Cuts.{cut, Among, Reachable};
-ghost use Rattle.model.specs.Shading.{filled};
+ghost use Rattle.model.specs.Shading.{filled, is_same};
 ghost use Rattle.model.specs.Steps.{carried};
 ghost use Rattle.model.specs.World.{new_world, run};
 ghost use Rattle.model.specs.declared.step.Step.{Step};
@@ -20,8 +21,8 @@ use std::alloc::Global;
 
 /// The references that can be reached where of each node the saved state is taken for which `saved`
 /// is true, and of the others the current one: those in registers and letters, those that messages
-/// in flight carry, and with each all that stand in the places of its object. They are sorted by
-/// node, slot and generation. `Memory` where a growth was refused. It is for tests: it looks at all
+/// in flight carry, and with each all that stand in the places of its object. Each comes once, and
+/// they are sorted by node, slot and generation. `Memory` where a growth was refused. It is for tests: it looks at all
 /// nodes, and at every message that they keep, and takes time in proportion to these and to the
 /// objects that it finds.
 pub fn reach(alloc: Global, sim: &Sim, saved: &[bool]) -> Result<Vec<Ref>, Refusal>
@@ -31,6 +32,7 @@ pub fn reach(alloc: Global, sim: &Sim, saved: &[bool]) -> Result<Vec<Ref>, Refus
         → IfOk result (λ rs. (r : Ref) → Among r rs.items ↔ Reachable
         (cut (run (new_world shape) steps) (λ i. slice_index_or saved.now i false)) r) }
     ensures sorted { IfOk result (λ rs. IsSorted in_order rs.items) }
+    ensures once { IfOk result (λ rs. IsDistinct is_same rs.items) }
     ensures refused { IfErr result (λ e. e ≡ Memory) }
 {
     let mut found = IndexSet::new(alloc);

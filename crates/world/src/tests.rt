@@ -1,3 +1,5 @@
+mod reaching;
+
 use crate::{Answer, Event, Letter, Outcome, Sim, Step, laws};
 use ids::{Ref, Refusal, Shape};
 use msg::Colour;

@@ -1,5 +1,5 @@
 use Rattle.std.proofs.Common.{◌∙◌}
-use Rattle.world.proofs.Reached.{reached}
+use Rattle.world.proofs.Reached.{once-sorted, reached}
 use Rattle.world.proofs.reaching.reach.Goals as goal
 
 pub returns-clause-reached : goal.returns-clause-reached
@@ -14,3 +14,8 @@ returns-clause-reached c =
       same = c.in_ok-all.ensures.items ∙ c.as_slice.ensures.keys;
       moved = c.in_ok-sort.ensures.permutation;
     })
+
+pub returns-clause-once : goal.returns-clause-once
+returns-clause-once c =
+    once-sorted (c.in_ok-all.ensures.items ∙ c.as_slice.ensures.keys)
+    c.in_ok-sort.ensures.permutation c.as_slice.ensures.unique
