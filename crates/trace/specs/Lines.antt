@@ -1,0 +1,61 @@
+-- The texts of a trace ("Traces" in docs/FORMATS.md).
+use Rattle.std.specs.Prelude.{ℕ, List, ◌++◌, codes, decimal}
+use Rattle.ids.specs.Refusals.{number_of}
+use Rattle.model.specs.declared.event.Event.{Event}
+use Rattle.model.specs.declared.event.Event.TheVariants as event
+use Rattle.trace.specs.declared.call.Call.{Call}
+use Rattle.trace.specs.declared.call.Call.TheVariants.{Alloc, Copy, Drop, Load, Store, Clear, Word, SetWord, Give, Accept, Put, Get, Begin, Scan, Pass, Sweep, Data, Ack, Save, Reopen}
+use Rattle.trace.specs.declared.call.Outcome.{Outcome}
+use Rattle.trace.specs.declared.call.Outcome.TheVariants.{Done, Repeat, Refused}
+use Rattle.trace.specs.declared.trace.Line.{Line}
+
+abbrev pub call_of : Event → Call
+call_of (event.Alloc register places) = Alloc
+call_of (event.Copy register source) = Copy
+call_of (event.Drop register) = Drop
+call_of (event.Load register object place) = Load
+call_of (event.Store object place register) = Store
+call_of (event.Clear object place) = Clear
+call_of (event.Word object) = Word
+call_of (event.SetWord object word) = SetWord
+call_of (event.Give to label register) = Give
+call_of (event.Accept register) = Accept
+call_of (event.Put object place register) = Put
+call_of (event.Get object place label) = Get
+call_of event.Begin = Begin
+call_of event.Scan = Scan
+call_of event.Pass = Pass
+call_of (event.Sweep count) = Sweep
+call_of (event.Data d) = Data
+call_of (event.Ack a) = Ack
+
+abbrev pub word_of : Call → List ℕ
+word_of Alloc = codes "alloc"
+word_of Copy = codes "copy"
+word_of Drop = codes "drop"
+word_of Load = codes "load"
+word_of Store = codes "store"
+word_of Clear = codes "clear"
+word_of Word = codes "word"
+word_of SetWord = codes "setword"
+word_of Give = codes "give"
+word_of Accept = codes "accept"
+word_of Put = codes "put"
+word_of Get = codes "get"
+word_of Begin = codes "begin"
+word_of Scan = codes "scan"
+word_of Pass = codes "pass"
+word_of Sweep = codes "sweep"
+word_of Data = codes "data"
+word_of Ack = codes "ack"
+word_of Save = codes "save"
+word_of Reopen = codes "reopen"
+
+-- a refusal is written by its number
+abbrev pub outcome_text : Outcome → List ℕ
+outcome_text Done = codes "ok"
+outcome_text Repeat = codes "repeat"
+outcome_text (Refused e) = decimal (number_of e)
+
+abbrev pub line_text : Line → List ℕ
+line_text l = word_of l.call ++ (codes " " ++ outcome_text l.outcome)

@@ -1,0 +1,110 @@
+ghost use Rattle.std.specs.Prelude.{◌≡◌, Some};
+ghost use Rattle.trace.specs.Lines.{call_of, outcome_text, word_of};
+
+use ids::Refusal;
+use model::Event;
+use std::fmt;
+
+/// What was asked of a node's thread: an event of its node, a save, or a reopening of its disk.
+#[derive(Clone, Copy, Debug, PartialEq, Eq)]
+pub enum Call {
+    Alloc,
+    Copy,
+    Drop,
+    Load,
+    Store,
+    Clear,
+    Word,
+    SetWord,
+    Give,
+    Accept,
+    Put,
+    Get,
+    Begin,
+    Scan,
+    Pass,
+    Sweep,
+    Data,
+    Ack,
+    Save,
+    Reopen,
+}
+
+impl Call {
+    /// The call that is this event.
+    pub fn of(event: &Event) -> Call
+        ensures { result ≡ call_of event.now }
+    {
+        match event {
+            Event::Alloc { .. } => Call::Alloc,
+            Event::Copy { .. } => Call::Copy,
+            Event::Drop { .. } => Call::Drop,
+            Event::Load { .. } => Call::Load,
+            Event::Store { .. } => Call::Store,
+            Event::Clear { .. } => Call::Clear,
+            Event::Word { .. } => Call::Word,
+            Event::SetWord { .. } => Call::SetWord,
+            Event::Give { .. } => Call::Give,
+            Event::Accept { .. } => Call::Accept,
+            Event::Put { .. } => Call::Put,
+            Event::Get { .. } => Call::Get,
+            Event::Begin => Call::Begin,
+            Event::Scan => Call::Scan,
+            Event::Pass => Call::Pass,
+            Event::Sweep { .. } => Call::Sweep,
+            Event::Data(_) => Call::Data,
+            Event::Ack(_) => Call::Ack,
+        }
+    }
+
+    /// The call's word, as scripts have it; `reopen` for a reopening.
+    pub fn word(self) -> &'static str
+        ensures { result.now ≡ word_of self }
+    {
+        match self {
+            Call::Alloc => "alloc",
+            Call::Copy => "copy",
+            Call::Drop => "drop",
+            Call::Load => "load",
+            Call::Store => "store",
+            Call::Clear => "clear",
+            Call::Word => "word",
+            Call::SetWord => "setword",
+            Call::Give => "give",
+            Call::Accept => "accept",
+            Call::Put => "put",
+            Call::Get => "get",
+            Call::Begin => "begin",
+            Call::Scan => "scan",
+            Call::Pass => "pass",
+            Call::Sweep => "sweep",
+            Call::Data => "data",
+            Call::Ack => "ack",
+            Call::Save => "save",
+            Call::Reopen => "reopen",
+        }
+    }
+}
+
+/// What came of a call.
+#[derive(Clone, Copy, Debug, PartialEq, Eq)]
+pub enum Outcome {
+    /// It was done.
+    Done,
+    /// The message was taken in before.
+    Repeat,
+    /// It was refused.
+    Refused(Refusal),
+}
+
+impl fmt::Display for Outcome {
+    ghost output = { λ o. Some (outcome_text o) };
+
+    fn fmt<W: fmt::Write>(&self, f: &mut fmt::Formatter<W>) -> fmt::Result {
+        match self {
+            Outcome::Done => write!(f, "ok"),
+            Outcome::Repeat => write!(f, "repeat"),
+            Outcome::Refused(refusal) => write!(f, "{}", refusal.number()),
+        }
+    }
+}

@@ -1,0 +1,11 @@
+//! The last events of a node's thread and what came of them, for who looks for a fault.
+#![tactic(auto)]
+
+mod call;
+mod trace;
+
+pub use call::{Call, Outcome};
+pub use trace::{Line, Trace};
+
+#[cfg(test)]
+mod tests;

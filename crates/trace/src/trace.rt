@@ -1,0 +1,79 @@
+ghost use Rattle.std.specs.Prelude.{◌≡◌, ◌++◌, [], ◌∷◌, map, Some, IfOk, IfErr, string_bytes};
+ghost use Rattle.circular_buffer.specs.Buffer.{keep_last};
+ghost use Rattle.ids.specs.declared.limits.TheConstants.{TRACE_EVENTS};
+ghost use Rattle.ids.specs.declared.refusal.Refusal.TheVariants.{Memory};
+ghost use Rattle.trace.specs.Lines.{line_text};
+
+use crate::call::{Call, Outcome};
+use circular_buffer::HeapCircularBuffer;
+use ids::{Refusal, TRACE_EVENTS};
+use std::alloc::Global;
+use std::fmt;
+use std::marker::Model;
+
+/// A call and what came of it. Its text is the call's word, and `ok`, `repeat` or the number of the
+/// refusal.
+#[derive(Clone, Copy, Debug, PartialEq, Eq)]
+pub struct Line {
+    pub call: Call,
+    pub outcome: Outcome,
+}
+
+impl fmt::Display for Line {
+    ghost output = { λ l. Some (line_text l) };
+
+    fn fmt<W: fmt::Write>(&self, f: &mut fmt::Formatter<W>) -> fmt::Result {
+        write!(f, "{} {}", self.call.word(), self.outcome)
+    }
+}
+
+/// The last [`TRACE_EVENTS`] calls.
+#[derive(Drop)]
+pub struct Trace {
+    lines: HeapCircularBuffer<Line, Global>,
+}
+
+impl Model for Trace {
+    ghost use Rattle.std.specs.Prelude.{◌≡◌, List};
+    ghost use Rattle.ids.specs.declared.limits.TheConstants.{TRACE_EVENTS};
+    ghost use Rattle.trace.specs.declared.trace.Line.{Line};
+
+    ghost Value = { List Line };
+
+    ghost view = { λ t. t.lines.items };
+
+    ghost invariant = { λ t. t.lines.capacity ≡ TRACE_EVENTS };
+}
+
+impl Trace {
+    /// A trace of no call yet, with room for all that it will hold. `Memory` where that is refused.
+    pub fn new(alloc: Global) -> Result<Trace, Refusal>
+        ensures empty { IfOk result (λ t. t ≡ []) }
+        ensures refused { IfErr result (λ e. e ≡ Memory) }
+    {
+        let lines = HeapCircularBuffer::with_capacity(alloc, TRACE_EVENTS)?;
+        Ok(Trace { lines })
+    }
+
+    /// Adds a call, in place of the oldest one where the trace is full. It takes no memory.
+    pub fn push(&mut self, call: Call, outcome: Outcome)
+        ensures { self.new
+            ≡ keep_last TRACE_EVENTS (self.old ++ record { call = call; outcome = outcome } ∷ []) }
+    {
+        self.lines.push_back(Line { call, outcome });
+    }
+
+    /// The texts of the calls, the oldest first. `Memory` where a growth was refused.
+    pub fn lines(&self, alloc: Global) -> Result<Vec<String>, Refusal>
+        ensures texts { IfOk result (λ v. map string_bytes v.items ≡ map line_text self.now) }
+        ensures refused { IfErr result (λ e. e ≡ Memory) }
+    {
+        let mut texts = Vec::with_capacity(alloc, self.lines.len())?;
+        for place in 0..self.lines.len() {
+            if let Some(line) = self.lines.get(place) {
+                texts.push(format!(in alloc; "{line}")?)?;
+            }
+        }
+        Ok(texts)
+    }
+}
