@@ -22,7 +22,8 @@ use Rattle.model.specs.World.{World, KeepsSent, new_world, run, numbered}
 use Rattle.model.specs.Cuts.{Cut, cut, taken, IsInFlight, IsLive}
 use Rattle.model.proofs.Joining.{join-phases, join-token}
 use Rattle.laws.specs.Statements.{TargetsAreLive, NoneRefusedInTurn}
-use Rattle.laws.proofs.Lookups.{all-map}
+use Rattle.model.proofs.Slots.{occupied-within}
+use Rattle.model.proofs.Lookups.{all-map}
 use Rattle.laws.proofs.StepFacts.{Delivery, IsReleased, tests_of, Receipt, repeated, next, receipt-cases, deliver-answer, receive-passed, receive-early}
 use Rattle.laws.proofs.KeepsSent.{new-keeps-sent}
 use Rattle.laws.proofs.Cuts.{released-numbered, cut-in_flight, run-keeps-sent}
@@ -30,7 +31,6 @@ use Rattle.laws.proofs.Base.{inside-where, between-nodes}
 use Rattle.laws.proofs.Invariant.{phases_of, cycle_of, Marking, Resting, Joined, Safe, Base, BodyFits, at_node, on_way, is_held, is_sent, Inv}
 use Rattle.laws.proofs.Inner.{resting-joined, marking-open, occupied-inside}
 use Rattle.laws.proofs.Acting.{latest}
-use Rattle.laws.proofs.Slots.{occupied-within}
 use Rattle.laws.proofs.RingSteps.{way-not-node}
 use Rattle.laws.proofs.Replies.{stamp-most}
 use Rattle.laws.proofs.Live.{all-inv}

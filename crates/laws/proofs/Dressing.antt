@@ -12,11 +12,11 @@ use Rattle.model.specs.Effects.{Work, at_rest}
 use Rattle.model.specs.Shading.{is_open, filled, reference_of, roots, enter, join, shade_all, make_all_grey}
 use Rattle.model.specs.Cuts.{Cut, Among, Becomes}
 use Rattle.model.proofs.ShadingParts.{shade_all-open, shaded_work, filled-append}
+use Rattle.model.proofs.Slots.{occupied-within}
 use Rattle.laws.proofs.Lookups.{among-append_left, among-append_right, among-append}
 use Rattle.laws.proofs.Invariant.{Safe, RootsAll, Inv}
 use Rattle.laws.proofs.Inner.{Known}
 use Rattle.laws.proofs.Acting.{with_heap, put, put-here, becomes-put}
-use Rattle.laws.proofs.Slots.{occupied-within}
 use Rattle.laws.proofs.Greys.{greys-all, GreyApart, grey-apart}
 use Rattle.laws.proofs.HeapSteps.{re_rooted, scanned-inner}
 use Rattle.laws.proofs.OwnEvents.{roots-moves}

@@ -18,7 +18,8 @@ use Rattle.model.specs.Shading.{is_open}
 use Rattle.model.specs.Steps.{carried, mentioned}
 use Rattle.model.specs.Cuts.{Cut, IsInFlight, Among, Becomes}
 use Rattle.model.specs.Agreement.{total, counts, is_counted, balance}
-use Rattle.laws.proofs.Lookups.{all-map, any-map}
+use Rattle.model.proofs.Lookups.{all-map}
+use Rattle.laws.proofs.Lookups.{any-map}
 use Rattle.laws.proofs.Turns.{Turn, at_turn, flew}
 use Rattle.laws.proofs.Sums.{total-same}
 use Rattle.laws.proofs.Safra.{Safra, PassiveAbove, safra-verdict}

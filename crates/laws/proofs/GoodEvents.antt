@@ -20,10 +20,10 @@ use Rattle.model.specs.Collecting.{without_token, whitened, is_concluded, new_to
 use Rattle.model.specs.Steps.{is_own, tests, made, carried, taken_in, settled, take_carried, take_body, count_in, allocated, copied, dropped, loaded, stored, cleared, word_read, word_set, given, accepted, put_asked, get_asked}
 use Rattle.model.specs.Cuts.{Among}
 use Rattle.model.proofs.Lookups.{at_set, at_push}
+use Rattle.model.proofs.Slots.{occupied-within}
 use Rattle.laws.proofs.Lookups.{any-list, any-there, all-among}
 use Rattle.laws.proofs.Stands.{joined-stands, carried-stands}
 use Rattle.laws.proofs.Invariant.{Tidy}
-use Rattle.laws.proofs.Slots.{occupied-within}
 use Rattle.laws.proofs.Dressing.{option-holds}
 use Rattle.laws.proofs.Sweeps.{SweptHeap, swept-some}
 use Rattle.laws.proofs.OwnEvents.{letters-dropped}

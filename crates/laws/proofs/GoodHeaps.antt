@@ -10,10 +10,11 @@ use Rattle.model.specs.Shading.{is_calm, is_unmarked, with_mark, make_grey, make
 use Rattle.model.specs.Collecting.{places_in}
 use Rattle.model.specs.Cuts.{Among}
 use Rattle.model.proofs.Lookups.{at_set}
+use Rattle.model.proofs.Slots.{found-object, occupied-within, unmarked-there}
 use Rattle.laws.proofs.Lookups.{among-append_left, among-append_right, among-append}
 use Rattle.laws.proofs.Invariant.{FreeSlots, RootsAll, PlacesAll}
-use Rattle.laws.proofs.Slots.{occupied-within, found-object, object-where, no-places, rewritten-back}
-use Rattle.laws.proofs.Greys.{unmarked-there, Greys, greys-all, Turned, as_was, turned}
+use Rattle.laws.proofs.Slots.{object-where, no-places, rewritten-back}
+use Rattle.laws.proofs.Greys.{Greys, greys-all, Turned, as_was, turned}
 use Rattle.laws.proofs.Dressing.{filled-all, option-holds}
 use Rattle.laws.proofs.OwnEvents.{place-there}
 use Rattle.laws.proofs.Sweeps.{SweptHeap}

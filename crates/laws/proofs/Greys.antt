@@ -1,16 +1,17 @@
 -- What becomes of slots as objects turn grey.
-use Rattle.std.proofs.Common.{◌≡◌, ◌≢◌, ℕ, ◌⊎◌, true, false, cond, ◌==◌, List, [], ◌∷◌, ◌++◌, Option, None, Some, refl, sym, ap, ◌∙◌, subst, ⊎_elim, inl, inr, get_or-set_same, append-nil, append_assoc}
+use Rattle.std.proofs.Common.{◌≡◌, ◌≢◌, ℕ, ◌⊎◌, true, false, cond, ◌==◌, List, [], ◌∷◌, ◌++◌, Option, refl, sym, ap, ◌∙◌, subst, ⊎_elim, inl, inr, get_or-set_same, append-nil, append_assoc}
 use Rattle.model.specs.declared.event.Letter.{Letter}
-use Rattle.std.proofs.lemmas.Bool.{cases_Bool, cond_both, cond-true, cond-false, eqb-true, eq-eqb, not-false, not_from_true, both_ways}
+use Rattle.std.proofs.lemmas.Bool.{cases_Bool, cond_both, cond-true, cond-false, eqb-true, eq-eqb, not-false}
 use Rattle.ids.specs.declared.names.Ref.{Ref}
 use Rattle.model.specs.State.{Object, Slot, Occupied, Retired, Heap, slot_at}
 use Rattle.model.specs.Heaps.{rewritten, with_rewritten, object_at}
 use Rattle.model.specs.Shading.{is_unmarked, with_mark, make_grey, make_all_grey}
 use Rattle.model.specs.Cuts.{Among}
 use Rattle.model.proofs.Lookups.{at_set_if}
+use Rattle.model.proofs.Slots.{found-object, object-there, occupied-within, unmarked-there}
 use Rattle.laws.proofs.Lookups.{among-append_left, among-append_right}
 use Rattle.laws.proofs.Inner.{StaysIn}
-use Rattle.laws.proofs.Slots.{occupied-within, object-there, found-object, Rewrites, rewritten-rewrites}
+use Rattle.laws.proofs.Slots.{Rewrites, rewritten-rewrites}
 
 -- the object y was there, or was marked now and is grey
 pub data Turned (P : Ref → Type 0) (own cycle : ℕ) (h g : Heap) (k e : ℕ) (y : Object) : Type 0
@@ -86,13 +87,6 @@ greys-through {cycle = cycle} {h = h} {f = f} {g = g} a b = record {
   grows = λ k x. b.grows k (a.grows k x);
   back = λ k e y there. turned-twice k e y a b (b.back k e y there);
 }
-
--- an unmarked object is there
-pub unmarked-there : (cycle : ℕ) (o : Option Object) → is_unmarked cycle o ≡ true
-    → (x : Object) × (o ≡ Some x) × (x.mark ≢ cycle)
-unmarked-there cycle None h = absurd cc
-unmarked-there cycle (Some x) h =
-    (x, refl, λ (e : x.mark ≡ cycle). both_ways _ (not_from_true _ (eq-eqb x.mark cycle e)) h)
 
 greys-one : (P : Ref → Type 0) (own cycle : ℕ) (h : Heap) (r : Ref) → r.node ≡ own → P r
     → Greys P own cycle h (make_grey cycle h r)

@@ -16,7 +16,8 @@ use Rattle.model.specs.Shading.{is_in, is_open}
 use Rattle.model.specs.References.{IfAny}
 use Rattle.model.specs.Steps.{carried, mentioned}
 use Rattle.model.specs.Cuts.{Cut, taken, IsInFlight, Among}
-use Rattle.laws.proofs.Lookups.{all-map, any-map, among-or-not}
+use Rattle.model.proofs.Lookups.{all-map}
+use Rattle.laws.proofs.Lookups.{any-map, among-or-not}
 use Rattle.laws.proofs.Turns.{Turn, at_turn, flew, flies, sent-flies}
 use Rattle.laws.proofs.Safra.{Safra}
 use Rattle.laws.proofs.Base.{inside-where, BaseStep, base-step}

@@ -13,7 +13,8 @@ use Rattle.model.specs.State.{Object, Occupied, Phases, LocalState, NodeState, s
 use Rattle.model.specs.Shading.{is_in, is_open, entered}
 use Rattle.model.specs.Steps.{carried, mentioned}
 use Rattle.model.specs.Cuts.{Cut, IsInFlight, Among, Becomes}
-use Rattle.laws.proofs.Lookups.{all-map, any-map}
+use Rattle.model.proofs.Lookups.{all-map}
+use Rattle.laws.proofs.Lookups.{any-map}
 use Rattle.laws.proofs.Turns.{Turn, at_turn, flew, flies}
 use Rattle.laws.proofs.Rings.{RingStep, safra-turn}
 use Rattle.laws.proofs.Flights.{SendsCounted, flows-sent}

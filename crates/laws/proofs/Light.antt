@@ -15,8 +15,8 @@ use Rattle.model.specs.Shading.{is_in, is_open}
 use Rattle.model.specs.Steps.{carried, mentioned}
 use Rattle.model.specs.Cuts.{Cut, taken, IsInFlight, Among, Becomes}
 use Rattle.model.specs.Agreement.{counts, is_counted, balance}
-use Rattle.model.proofs.Lookups.{at_set_if}
-use Rattle.laws.proofs.Lookups.{all-map, any-map, set-no_fewer}
+use Rattle.model.proofs.Lookups.{all-map, at_set_if}
+use Rattle.laws.proofs.Lookups.{any-map, set-no_fewer}
 use Rattle.laws.proofs.Turns.{Turn, at_turn, flew, flies}
 use Rattle.laws.proofs.Flights.{number_sent, SendsCounted, flows-sent, TakesCounted, flows-taken}
 use Rattle.laws.proofs.Base.{BaseStep, base-step}

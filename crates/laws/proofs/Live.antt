@@ -26,6 +26,7 @@ use Rattle.model.specs.Cuts.{Cut, cut, Among, Reachable, in_register, in_letter,
 use Rattle.model.specs.Agreement.{counts}
 use Rattle.model.proofs.Lookups.{get_or-replicate_any}
 use Rattle.laws.specs.Statements.{ReachIsLive, BalancesAddUp, NodesAgree, SweepsFreeNoneReachable}
+use Rattle.model.proofs.Slots.{same-object}
 use Rattle.laws.proofs.Lookups.{any-some, all-among}
 use Rattle.laws.proofs.Cuts.{cuts-extend}
 use Rattle.laws.proofs.StepFacts.{act-ok}
@@ -34,7 +35,6 @@ use Rattle.laws.proofs.Invariant.{phases_of, cycle_of, Resting, Joined, Safe, St
 use Rattle.laws.proofs.Inner.{resting-joined, sweeping-resting}
 use Rattle.laws.proofs.Counts.{reference-counts}
 use Rattle.laws.proofs.Sweeps.{swept-some}
-use Rattle.laws.proofs.Slots.{same-object}
 use Rattle.laws.proofs.Plain.{plain-inv}
 use Rattle.laws.proofs.New.{new-inv}
 use Rattle.laws.proofs.Unwrapping.{Numbered, plain-numbered, unwrapped}

@@ -55,11 +55,6 @@ all-among P [] all x never = absurd never
 all-among P (y ∷ ys) all x (inl same) = subst P (sym same) all.0
 all-among P (y ∷ ys) all x (inr later) = all-among P ys all.1 x later
 
-pub all-map : {A : Type 0} (P Q : A → Type 0) → ((x : A) → P x → Q x) → (xs : List A)
-    → AllByRecursion P xs → AllByRecursion Q xs
-all-map P Q each [] all = tt
-all-map P Q each (x ∷ xs) all = (each x all.0, all-map P Q each xs all.1)
-
 pub any-map : (P Q : Ref → Type 0) → ((r : Ref) → P r → Q r) → (o : Option Ref) → IfAny P o
     → IfAny Q o
 any-map P Q each None h = tt

@@ -16,12 +16,13 @@ use Rattle.model.specs.References.{IfAny}
 use Rattle.model.specs.Cuts.{Cut, Among, Becomes}
 use Rattle.model.specs.Agreement.{is_counted}
 use Rattle.model.proofs.ShadingParts.{shaded_work, vouched_work}
+use Rattle.model.proofs.Slots.{same-object}
 use Rattle.laws.proofs.Flights.{number_sent}
 use Rattle.laws.proofs.Rings.{Counted}
 use Rattle.laws.proofs.Invariant.{phases_of, cycle_of, Marking, Resting, Joined, Safe, Holds, holds_marked, holds_asked, Covered, is_marked, is_asked, RootsAll, Tidy, FreeSlots, fresh_balance, is_fresh, Inv}
 use Rattle.laws.proofs.Inner.{Known, Same, Origin, kept, greyed, Sent, sends_mark, Inner, known-roots, occupied-inside, open-joined}
 use Rattle.laws.proofs.Acting.{outer-inner, balance-joined, fresh-joined}
-use Rattle.laws.proofs.Slots.{rewrites-free, same-object}
+use Rattle.laws.proofs.Slots.{rewrites-free}
 use Rattle.laws.proofs.Greys.{Greys, greys-all, Turned, as_was, turned, all-marked, wakes-any}
 
 -- ---- lists of references

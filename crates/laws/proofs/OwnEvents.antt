@@ -19,11 +19,12 @@ use Rattle.model.specs.Shading.{is_open, shade_all}
 use Rattle.model.specs.Steps.{is_own, tests, made, append_all, allocated, copied, dropped, loaded, stored, cleared, word_read, word_set, given, accepted, put_asked, get_asked}
 use Rattle.model.specs.Cuts.{Cut, Among, Becomes}
 use Rattle.model.proofs.Lookups.{at_set, at_set_if}
+use Rattle.model.proofs.Slots.{found-object, same-object}
 use Rattle.laws.proofs.Lookups.{any-some, any-list, any-there}
 use Rattle.laws.proofs.Invariant.{cycle_of, Resting, Safe, Holds, holds_marked, holds_asked, RootsAll, Inv}
 use Rattle.laws.proofs.Inner.{Known, known-roots, resting-joined, occupied-inside}
 use Rattle.laws.proofs.Acting.{with_heap, put, put-here, becomes-put, onward}
-use Rattle.laws.proofs.Slots.{object-placed, found-object, same-object}
+use Rattle.laws.proofs.Slots.{object-placed}
 use Rattle.laws.proofs.HeapSteps.{re_rooted, roots-inner, Rewriting, rewrite-inner, object-inner}
 use Rattle.laws.proofs.Counts.{append-reference, Sending, send-inner}
 use Rattle.laws.proofs.Moves.{worked, Moves, inner-moves, moves-through, moves-none, Met, Shadeable, shade-met}

@@ -19,8 +19,8 @@ use Rattle.model.specs.Collecting.{without_token, is_concluded, probe, begun, pl
 use Rattle.model.specs.Steps.{is_own, made, carried, taken_in, settled, take_carried, take_body, count_in, allocated, copied, dropped, loaded, stored, cleared, word_read, word_set, given, accepted, put_asked, get_asked}
 use Rattle.model.proofs.Lookups.{at_set_if}
 use Rattle.model.proofs.ShadingParts.{shade_all-open, shade_all-closed, vouch_all-open, vouch_all-closed}
+use Rattle.model.proofs.Slots.{occupied-within}
 use Rattle.laws.proofs.Invariant.{IsFree, FreeSlots}
-use Rattle.laws.proofs.Slots.{occupied-within}
 use Rattle.laws.proofs.Sweeps.{garbage-there}
 
 -- the slot has given this generation out, and will not again

@@ -1,55 +1,21 @@
 -- What becomes of slots as an object is made or rewritten.
-use Rattle.std.proofs.Common.{◌≡◌, ◌≢◌, ℕ, zero, suc, ◌<◌, ◌≤◌, ◌⊎◌, ◌||◌, true, false, cond, ◌==◌, eqb, List, [], ◌∷◌, ◌++◌, length, length-set, length-append, get_or, set, drop, replicate, Option, None, Some, refl, sym, ap, ◌∙◌, subst, ⊎_elim, inl, inr, arith, get_or-set_same, get_or-set_other, ltb, ltb-true}
+use Rattle.std.proofs.Common.{◌≡◌, ◌≢◌, ℕ, zero, suc, ◌<◌, ◌≤◌, ◌⊎◌, ◌||◌, true, false, cond, ◌==◌, eqb, List, [], ◌∷◌, ◌++◌, length, length-set, length-append, get_or, set, drop, replicate, Option, None, refl, sym, ap, ◌∙◌, subst, ⊎_elim, inl, inr, arith, get_or-set_same, get_or-set_other, ltb, ltb-true}
 use Rattle.std.specs.List.{AllByRecursion}
-use Rattle.std.proofs.lemmas.Bool.{cases_lt, cases_eq, cond_both, cond-true, eqb-true, eqb-false, eq-eqb}
+use Rattle.std.proofs.lemmas.Bool.{cases_lt, cases_eq, cond_both, eqb-false}
 use Rattle.std.proofs.lemmas.List.{get_or_past, get_or_push, get_or_append_left}
 use Rattle.std.proofs.lemmas.Map.Keys.{IsDistinct-head, IsDistinct-tail}
 use Rattle.ids.specs.declared.names.Ref.{Ref}
 use Rattle.model.specs.State.{Object, Slot, Free, Occupied, Retired, Heap, slot_at}
-use Rattle.model.specs.Heaps.{rewritten, with_rewritten, slots_with, next_slot, next_generation, generation_for, object_of, object_at}
-use Rattle.model.proofs.Lookups.{at_set_if, at_push}
-use Rattle.laws.proofs.Lookups.{all-map}
+use Rattle.model.specs.Heaps.{rewritten, with_rewritten, slots_with, next_slot, next_generation, generation_for}
+use Rattle.model.proofs.Lookups.{all-map, at_set_if, at_push}
+use Rattle.model.proofs.Slots.{slot-within, occupied-within}
 use Rattle.laws.proofs.Invariant.{IsFree, FreeSlots}
 use Rattle.laws.proofs.Inner.{StaysIn}
-
--- ---- look-ups
-
-pub slot-within : (slots : List Slot) (k : ℕ) → (get_or slots k Retired ≡ Retired → ⊥)
-    → k < length slots
-slot-within slots k there =
-    ⊎_elim (λ within. within) (λ past. absurd (there (get_or_past slots k Retired past)))
-    (cases_lt k (length slots))
-
-pub occupied-within : (slots : List Slot) (k g : ℕ) (o : Object)
-    → get_or slots k Retired ≡ Occupied g o → k < length slots
-occupied-within slots k g o there =
-    slot-within slots k (λ (e : get_or slots k Retired ≡ Retired).
-    absurd (let both : Retired ≡ Occupied g o = sym e ∙ there in cc))
 
 free-within : (slots : List Slot) (k : ℕ) → IsFree (get_or slots k Retired) → k < length slots
 free-within slots k f =
     slot-within slots k (λ (e : get_or slots k Retired ≡ Retired).
     absurd (let both : IsFree Retired = subst IsFree e f in cc))
-
--- the same slot, the same object
-pub same-object : (s : Slot) (g : ℕ) (x y : Object) → s ≡ Occupied g x → s ≡ Occupied g y → x ≡ y
-same-object s g x y a b = let both : Occupied g x ≡ Occupied g y = sym a ∙ b in cc
-
-object-in : (s : Slot) (g : ℕ) (o : Object) → object_of s g ≡ Some o → s ≡ Occupied g o
-object-in (Free f) g o h = absurd cc
-object-in (Occupied f x) g o h =
-    cond_both (f == g) (Some x) None (λ z. z ≡ Some o → Occupied f x ≡ Occupied g o)
-    (λ e is. let n : f ≡ g = eqb-true f g e in let y : x ≡ o = cc in cc)
-    (λ _ never. absurd cc) h
-object-in Retired g o h = absurd cc
-
-pub object-there : (s : Slot) (g : ℕ) (o : Object) → s ≡ Occupied g o → object_of s g ≡ Some o
-object-there s g o h =
-    ap (λ (z : Slot). object_of z g) h ∙ cond-true (g == g) (Some o) None (eq-eqb g g refl)
-
-pub found-object : (h : Heap) (r : Ref) (o : Object) → object_at h r ≡ Some o
-    → slot_at h r.slot ≡ Occupied r.generation o
-found-object h r o found = object-in (slot_at h r.slot) r.generation o found
 
 -- ---- a new object
 

@@ -18,13 +18,14 @@ use Rattle.model.specs.Shading.{is_open}
 use Rattle.model.specs.References.{IfAny}
 use Rattle.model.specs.Steps.{append_all, mentioned}
 use Rattle.model.specs.Cuts.{Cut, IsInFlight, Among, Becomes}
-use Rattle.model.proofs.Lookups.{at_set_if}
-use Rattle.laws.proofs.Lookups.{all-map, any-map}
+use Rattle.model.proofs.Lookups.{all-map, at_set_if}
+use Rattle.model.proofs.Slots.{occupied-within}
+use Rattle.laws.proofs.Lookups.{any-map}
 use Rattle.laws.proofs.Turns.{Turn, at_turn, flew}
 use Rattle.laws.proofs.Base.{BaseStep, base-step}
 use Rattle.laws.proofs.Tallies.{tally-same, tallies-turn}
 use Rattle.laws.proofs.Inner.{roots-map, resting-joined, sweeping-resting}
-use Rattle.laws.proofs.Slots.{occupied-within, still-free}
+use Rattle.laws.proofs.Slots.{still-free}
 use Rattle.laws.proofs.Invariant.{phases_of, cycle_of, Marking, Resting, Joined, Safe, Holds, RootsAll, PlacesAll, IsFree, FreeSlots, Tidy, Phased, BodyFits, Inv}
 use Rattle.laws.proofs.Light.{is_idle, light-inv, Speaks, speaks-flows}
 use Rattle.laws.proofs.RingSteps.{token-back, flew-one}

@@ -8,4 +8,7 @@ pub mod Joining
 pub mod Shown
 pub mod Leaving
 pub mod References
+pub mod Slots
+pub mod Stocks
+pub mod Asking
 pub mod Runs

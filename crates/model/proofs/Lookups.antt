@@ -1,5 +1,6 @@
 -- Look-ups in lists, alone and side by side.
 use Rattle.std.proofs.Common.{◌≡◌, ℕ, zero, suc, ◌+◌, ◌<◌, List, [], ◌∷◌, ◌++◌, length, map, take, drop, get_or, set, slice_get, replicate, ap, sym, ◌∙◌, refl, arith}
+use Rattle.std.specs.List.{AllByRecursion}
 use Rattle.std.proofs.lemmas.List.{take-append-drop}
 
 -- What holds at a place of two lists of one length still holds after a write to one place of both.
@@ -65,6 +66,12 @@ map-set_same f [] i x d h = refl
 map-set_same {B = B} f (a ∷ xs) zero x d h = ap (λ (z : B). z ∷ map f xs) h
 map-set_same {B = B} f (a ∷ xs) (suc i) x d h =
     ap (λ (z : List B). f a ∷ z) (map-set_same f xs i x d h)
+
+-- what holds of each element, where something else follows from it
+pub all-map : {A : Type 0} (P Q : A → Type 0) → ((x : A) → P x → Q x) → (xs : List A)
+    → AllByRecursion P xs → AllByRecursion Q xs
+all-map P Q each [] all = tt
+all-map P Q each (x ∷ xs) all = (each x all.0, all-map P Q each xs all.1)
 
 -- a list of one value has it everywhere, and past the end
 pub get_or-replicate_any : {A : Type 0} (n k : ℕ) (a : A) → get_or (replicate n a) k a ≡ a

@@ -10,4 +10,5 @@ pub mod View
 pub mod World
 pub mod Cuts
 pub mod References
+pub mod WellFormed
 pub mod Agreement

@@ -1,0 +1,380 @@
+-- Each change of a node's heap keeps what is true of the heap of every node.
+use Rattle.std.proofs.Common.{◌≡◌, ◌≢◌, ℕ, zero, suc, ◌+◌, ◌-◌, ◌<◌, ◌≤◌, ◌==◌, Bool, true, false, cond, eqb, List, [], ◌∷◌, ◌++◌, length, take, drop, get_or, set, Option, None, refl, sym, ap, ◌∙◌, subst, arith, get_or-set_same}
+use Rattle.std.specs.List.{AllByRecursion, IsDistinct}
+use Rattle.std.proofs.lemmas.Bool.{cond_both, cond-true, eqb-true, eq-eqb, ne_eqb}
+use Rattle.std.proofs.lemmas.List.{length-set, length-replicate, get_or_append_left}
+use Rattle.ids.specs.Limits.{Shaped}
+use Rattle.ids.specs.declared.limits.TheConstants.{GREATEST_PLACES}
+use Rattle.ids.specs.declared.names.Ref.{Ref}
+use Rattle.model.specs.declared.event.Letter.{Letter}
+use Rattle.model.specs.State.{Object, Slot, Free, Occupied, Retired, Heap, slot_at, new_heap}
+use Rattle.model.specs.Heaps.{with_register, with_object, new_object, next_generation, slots_with, object_at, rewritten, with_rewritten, with_place, with_word, with_letter}
+use Rattle.model.specs.Shading.{is_unmarked, with_mark, make_grey, make_all_grey, is_calm, without_last_grey}
+use Rattle.model.specs.Collecting.{greatest_generation, is_garbage, generation_in, vacated_slot, vacated, Sweeping, sweep_one, sweep_some}
+use Rattle.model.specs.WellFormed.{IsOther, IsObject, IsSlotOf, HasMarked, IsStocked}
+use Rattle.model.proofs.Lookups.{all-map, at_set, at_set_if, at_push}
+use Rattle.model.proofs.References.{all-append}
+use Rattle.model.proofs.Slots.{slot-within, occupied-within, found-object, unmarked-there}
+
+-- ---- lists
+
+-- one element more, which differs from those before it
+pub distinct-push : {A : Type 0} (same : A → A → Bool) (xs : List A) (x : A) → IsDistinct same xs
+    → AllByRecursion (λ (y : A). same y x ≡ false) xs → IsDistinct same (xs ++ x ∷ [])
+unfolding IsDistinct
+distinct-push same [] x once apart = (tt, tt)
+distinct-push {A = A} same (y ∷ ys) x once apart = (
+  all-append (λ (z : A). same y z ≡ false) ys (x ∷ []) once.0 (apart.0, tt),
+  distinct-push same ys x once.1 apart.1,
+)
+
+-- the first elements of a list
+all-take : {A : Type 0} (P : A → Type 0) (n : ℕ) (xs : List A) → AllByRecursion P xs
+    → AllByRecursion P (take n xs)
+all-take P zero xs all = tt
+all-take P (suc n) [] all = tt
+all-take P (suc n) (x ∷ xs) all = (all.0, all-take P n xs all.1)
+
+distinct-take : {A : Type 0} (same : A → A → Bool) (n : ℕ) (xs : List A) → IsDistinct same xs
+    → IsDistinct same (take n xs)
+unfolding IsDistinct
+distinct-take same zero xs once = tt
+distinct-take same (suc n) [] once = tt
+distinct-take {A = A} same (suc n) (x ∷ xs) once =
+    (all-take (λ (y : A). same x y ≡ false) n xs once.0, distinct-take same n xs once.1)
+
+all-rest : {A : Type 0} (P : A → Type 0) (xs : List A) → AllByRecursion P xs
+    → AllByRecursion P (drop 1 xs)
+all-rest P [] all = tt
+all-rest P (x ∷ xs) all = all.1
+
+none-left : (xs : List ℕ) → length xs ≡ 0 → xs ≡ []
+none-left [] none = refl
+none-left (x ∷ xs) none = absurd (omega (arith, none))
+
+pub calm-empty : (h : Heap) → is_calm h ≡ true → h.grey ≡ []
+calm-empty h calm = none-left h.grey (eqb-true (length h.grey) 0 calm)
+
+-- a marked slot is one of the list
+marked-within : (cycle : ℕ) (slots : List Slot) (k : ℕ) → HasMarked cycle (get_or slots k Retired)
+    → k < length slots
+marked-within cycle slots k there =
+    slot-within slots k (λ (e : get_or slots k Retired ≡ Retired).
+    absurd (let never : HasMarked cycle Retired = subst (HasMarked cycle) e there in never))
+
+-- ---- a new heap
+
+pub stocked-new : (shape : Shaped) (own : ℕ) → IsStocked shape own 0 0 (new_heap shape)
+unfolding IsDistinct
+stocked-new shape own = record {
+  registers = length-replicate {A = Option Ref} shape.registers None;
+  letters = tt;
+  slots = λ k. tt;
+  grey = tt;
+  once = tt;
+  calm = λ _. refl;
+}
+
+module _ (shape : Shaped) (own cycle ended : ℕ) (h : Heap) (old : IsStocked shape own cycle ended h)
+  where
+    -- ---- registers and letters
+
+    pub stocked-register : (k : ℕ) (r : Option Ref)
+        → IsStocked shape own cycle ended (with_register h k r)
+    stocked-register k r = record {
+      registers = length-set h.registers k r ∙ old.registers;
+      letters = old.letters;
+      slots = old.slots;
+      grey = old.grey;
+      once = old.once;
+      calm = old.calm;
+    }
+
+    pub stocked-letter : (l : Letter) → IsOther shape own l.from
+        → IsStocked shape own cycle ended (with_letter h l)
+    stocked-letter l from = record {
+      registers = old.registers;
+      letters = all-append (λ (z : Letter). IsOther shape own z.from) h.letters (l ∷ []) old.letters
+          (from, tt);
+      slots = old.slots;
+      grey = old.grey;
+      once = old.once;
+      calm = old.calm;
+    }
+
+    pub stocked-letter_gone : IsStocked shape own cycle ended (record h { letters = drop 1 h.letters })
+    stocked-letter_gone = record {
+      registers = old.registers;
+      letters = all-rest (λ (z : Letter). IsOther shape own z.from) h.letters old.letters;
+      slots = old.slots;
+      grey = old.grey;
+      once = old.once;
+      calm = old.calm;
+    }
+
+    -- ---- slots
+
+    -- a list of slots in which what was marked still is
+    stocked-slots : (slots : List Slot) (free : List ℕ)
+        → ((k : ℕ) → IsSlotOf cycle (get_or slots k Retired))
+        → ((k : ℕ) → HasMarked cycle (slot_at h k) → HasMarked cycle (get_or slots k Retired))
+        → IsStocked shape own cycle ended (record h { slots = slots; free = free })
+    stocked-slots slots free all marked = record {
+      registers = old.registers;
+      letters = old.letters;
+      slots = all;
+      grey = all-map (λ (k : ℕ). HasMarked cycle (slot_at h k))
+          (λ (k : ℕ). HasMarked cycle (get_or slots k Retired)) marked h.grey old.grey;
+      once = old.once;
+      calm = old.calm;
+    }
+
+    -- a new object
+
+    born-later : (s : Slot) → IsSlotOf cycle s → 1 ≤ next_generation s
+    born-later (Free g) is = omega (arith, is)
+    born-later (Occupied g o) is = is.born
+    born-later Retired is = omega arith
+
+    new-slot : (g places : ℕ) → 1 ≤ g → places ≤ GREATEST_PLACES
+        → IsSlotOf cycle (Occupied g (new_object cycle places))
+    new-slot g places born few = record {
+      born = born;
+      places = (let wide = length-replicate {A = Option Ref} places None in omega (arith, wide, few));
+      mark = omega arith;
+    }
+
+    pub stocked-object : (places : ℕ) → places ≤ GREATEST_PLACES
+        → IsStocked shape own cycle ended (with_object h (new_object cycle places))
+    stocked-object places few =
+        stocked-slots (slots_with h.free h.slots (new_object cycle places)) (drop 1 h.free)
+        (λ k. all h.free k) (λ k. marked h.free k)
+      where
+        all : (free : List ℕ) (k : ℕ)
+            → IsSlotOf cycle (get_or (slots_with free h.slots (new_object cycle places)) k Retired)
+        all [] k =
+            at_push (IsSlotOf cycle) h.slots k (Occupied 1 (new_object cycle places)) Retired
+            (new-slot 1 places (omega arith) few) tt (old.slots k)
+        all (j ∷ free) k =
+            at_set (IsSlotOf cycle) h.slots j k
+            (Occupied (next_generation (slot_at h j)) (new_object cycle places)) Retired
+            (new-slot (next_generation (slot_at h j)) places
+            (born-later (slot_at h j) (old.slots j)) few)
+            (old.slots k)
+
+        marked : (free : List ℕ) (k : ℕ) → HasMarked cycle (slot_at h k)
+            → HasMarked cycle (get_or (slots_with free h.slots (new_object cycle places)) k Retired)
+        marked [] k there =
+            subst (HasMarked cycle)
+            (sym (get_or_append_left h.slots (Occupied 1 (new_object cycle places) ∷ []) Retired k
+            (marked-within cycle h.slots k there)))
+            there
+        marked (j ∷ free) k there =
+            at_set (HasMarked cycle) h.slots j k
+            (Occupied (next_generation (slot_at h j)) (new_object cycle places)) Retired refl there
+
+    -- an object is rewritten, which keeps how many places it has, and a mark of this cycle
+
+    rewritten-slot : (f : Object → Object) (generation : ℕ) (s : Slot)
+        → ((g : ℕ) (o : Object) → IsObject cycle g o → IsObject cycle g (f o)) → IsSlotOf cycle s
+        → IsSlotOf cycle (rewritten f generation s)
+    rewritten-slot f generation (Free g) keeps is = is
+    rewritten-slot f generation (Occupied g o) keeps is =
+        cond_both (g == generation) (f o) o (IsObject cycle g) (λ _. keeps g o is) (λ _. is)
+    rewritten-slot f generation Retired keeps is = is
+
+    rewritten-marked : (f : Object → Object) (generation : ℕ) (s : Slot)
+        → ((o : Object) → o.mark ≡ cycle → (f o).mark ≡ cycle) → HasMarked cycle s
+        → HasMarked cycle (rewritten f generation s)
+    rewritten-marked f generation (Free g) keeps is = is
+    rewritten-marked f generation (Occupied g o) keeps is =
+        cond_both (g == generation) (f o) o (λ (z : Object). z.mark ≡ cycle) (λ _. keeps o is)
+        (λ _. is)
+    rewritten-marked f generation Retired keeps is = is
+
+    module _ (r : Ref) (f : Object → Object)
+        (sound : (g : ℕ) (o : Object) → IsObject cycle g o → IsObject cycle g (f o))
+        (marks : (o : Object) → o.mark ≡ cycle → (f o).mark ≡ cycle)
+      where
+        pub still-marked : (k : ℕ) → HasMarked cycle (slot_at h k)
+            → HasMarked cycle (slot_at (with_rewritten h r f) k)
+        still-marked k there =
+            at_set_if (HasMarked cycle) h.slots r.slot k
+            (rewritten f r.generation (slot_at h r.slot)) Retired
+            (λ at.
+            rewritten-marked f r.generation (slot_at h r.slot) marks
+            (subst (λ (j : ℕ). HasMarked cycle (slot_at h j)) (sym at) there))
+            there
+
+        pub stocked-rewritten : IsStocked shape own cycle ended (with_rewritten h r f)
+        stocked-rewritten =
+            stocked-slots (with_rewritten h r f).slots h.free
+            (λ k.
+            at_set (IsSlotOf cycle) h.slots r.slot k
+            (rewritten f r.generation (slot_at h r.slot)) Retired
+            (rewritten-slot f r.generation (slot_at h r.slot) sound (old.slots r.slot))
+            (old.slots k))
+            still-marked
+
+    pub stocked-place : (r : Ref) (place : ℕ) (v : Option Ref)
+        → IsStocked shape own cycle ended (with_place h r place v)
+    stocked-place r place v =
+        stocked-rewritten r (λ o. record o { places = set o.places place v })
+        (λ g o is. record {
+          born = is.born;
+          places = (let wide = length-set o.places place v in
+              let few = is.places in
+              omega (arith, wide, few));
+          mark = is.mark;
+        })
+        (λ o there. there)
+
+    pub stocked-word : (r : Ref) (word : ℕ) → IsStocked shape own cycle ended (with_word h r word)
+    stocked-word r word =
+        stocked-rewritten r (λ o. record o { word = word })
+        (λ g o is. record { born = is.born; places = is.places; mark = is.mark })
+        (λ o there. there)
+
+    -- ---- grey objects
+
+    pub stocked-make_grey : (r : Ref) → ended ≢ cycle
+        → IsStocked shape own cycle ended (make_grey cycle h r)
+    unfolding make_grey
+    stocked-make_grey r opened =
+        cond_both (is_unmarked cycle (object_at h r))
+        (record (with_rewritten h r (with_mark cycle)) { grey = h.grey ++ r.slot ∷ [] }) h
+        (IsStocked shape own cycle ended) turned (λ _. old)
+      where
+        sound : (g : ℕ) (o : Object) → IsObject cycle g o → IsObject cycle g (with_mark cycle o)
+        sound g o is = record { born = is.born; places = is.places; mark = omega arith }
+
+        marks : (o : Object) → o.mark ≡ cycle → (with_mark cycle o).mark ≡ cycle
+        marks o e = refl
+
+        now-marked : (x : Object) → slot_at h r.slot ≡ Occupied r.generation x
+            → HasMarked cycle (slot_at (with_rewritten h r (with_mark cycle)) r.slot)
+        now-marked x there =
+            subst (HasMarked cycle)
+            (sym (get_or-set_same h.slots r.slot
+            (rewritten (with_mark cycle) r.generation (slot_at h r.slot)) Retired
+            (occupied-within h.slots r.slot r.generation x there)
+            ∙ ap (rewritten (with_mark cycle) r.generation) there
+            ∙ ap (Occupied r.generation) (cond-true (r.generation == r.generation)
+            (with_mark cycle x) x (eq-eqb r.generation r.generation refl))))
+            refl
+
+        apart : (x : Object) → slot_at h r.slot ≡ Occupied r.generation x → x.mark ≢ cycle → (k : ℕ)
+            → HasMarked cycle (slot_at h k) → eqb k r.slot ≡ false
+        apart x there white k marked =
+            ne_eqb k r.slot
+            (λ (e : k ≡ r.slot).
+            white (subst (HasMarked cycle) (ap (slot_at h) e ∙ there) marked))
+
+        turned : is_unmarked cycle (object_at h r) ≡ true
+            → IsStocked shape own cycle ended
+            (record (with_rewritten h r (with_mark cycle)) { grey = h.grey ++ r.slot ∷ [] })
+        turned unmarked =
+            let found = unmarked-there cycle (object_at h r) unmarked in
+            let there = found-object h r found.0 found.1 in
+            let base = stocked-rewritten r (with_mark cycle) sound marks in
+            record {
+              registers = old.registers;
+              letters = old.letters;
+              slots = base.slots;
+              grey = all-append
+                  (λ (k : ℕ). HasMarked cycle (slot_at (with_rewritten h r (with_mark cycle)) k))
+                  h.grey (r.slot ∷ []) base.grey (now-marked found.0 there, tt);
+              once = distinct-push eqb h.grey r.slot old.once
+                  (all-map (λ (k : ℕ). HasMarked cycle (slot_at h k)) (λ k. eqb k r.slot ≡ false)
+                  (apart found.0 there found.2) h.grey old.grey);
+              calm = λ done. absurd (opened done);
+            }
+
+    -- the last one is scanned, and a sweep and a later cycle find none
+
+    pub stocked-scanned : IsStocked shape own cycle ended (without_last_grey h)
+    stocked-scanned = record {
+      registers = old.registers;
+      letters = old.letters;
+      slots = old.slots;
+      grey = all-take (λ (k : ℕ). HasMarked cycle (slot_at h k)) (length h.grey - 1) h.grey old.grey;
+      once = distinct-take eqb (length h.grey - 1) h.grey old.once;
+      calm = λ done.
+          ap (λ (ks : List ℕ). take (length ks - 1) ks) (old.calm done);
+    }
+
+    slot-later : (later : ℕ) (s : Slot) → cycle ≤ later → IsSlotOf cycle s → IsSlotOf later s
+    slot-later later (Free g) more is = is
+    slot-later later (Occupied g o) more is =
+        let mark = is.mark in
+        record { born = is.born; places = is.places; mark = omega (arith, mark, more) }
+    slot-later later Retired more is = is
+
+    pub stocked-later : (later last : ℕ) → cycle ≤ later → h.grey ≡ []
+        → IsStocked shape own later last h
+    stocked-later later last more none = record {
+      registers = old.registers;
+      letters = old.letters;
+      slots = λ k. slot-later later (slot_at h k) more (old.slots k);
+      grey = subst (AllByRecursion (λ (k : ℕ). HasMarked later (slot_at h k))) (sym none) tt;
+      once = old.once;
+      calm = λ _. none;
+    }
+
+-- ---- many objects turn grey
+
+pub stocked-greyed : (shape : Shaped) (own cycle ended : ℕ) (h : Heap) (rs : List Ref)
+    → ended ≢ cycle → IsStocked shape own cycle ended h
+    → IsStocked shape own cycle ended (make_all_grey own cycle h rs)
+stocked-greyed shape own cycle ended h [] opened old = old
+stocked-greyed shape own cycle ended h (r ∷ rs) opened old =
+    stocked-greyed shape own cycle ended (cond (r.node == own) (make_grey cycle h r) h) rs opened
+    (cond_both (r.node == own) (make_grey cycle h r) h (IsStocked shape own cycle ended)
+    (λ _. stocked-make_grey shape own cycle ended h old r opened)
+    (λ _. old))
+
+-- ---- slots are swept, where nothing is grey
+
+vacated-sound : (cycle : ℕ) (s : Slot) → is_garbage cycle s ≡ true → IsSlotOf cycle s
+    → IsSlotOf cycle (vacated_slot (generation_in s))
+vacated-sound cycle (Free g) garbage is = absurd cc
+vacated-sound cycle (Occupied g o) garbage is =
+    cond_both (g == greatest_generation) Retired (Free (g + 1)) (IsSlotOf cycle)
+    (λ _. tt)
+    (λ _. let born = is.born in omega (arith, born))
+vacated-sound cycle Retired garbage is = absurd cc
+
+module _ (shape : Shaped) (own cycle ended : ℕ) where
+  swept-one : (k : ℕ) (s : Sweeping) → s.heap.grey ≡ [] → IsStocked shape own cycle ended s.heap
+      → IsStocked shape own cycle ended (sweep_one cycle k s).heap
+      × ((sweep_one cycle k s).heap.grey ≡ [])
+  unfolding sweep_one
+  swept-one k s none old =
+      let g : ℕ = generation_in (slot_at s.heap k) in
+      cond_both (is_garbage cycle (slot_at s.heap k))
+      (record { heap = vacated s.heap k g; freed = s.freed + 1 }) s
+      (λ (z : Sweeping). IsStocked shape own cycle ended z.heap × (z.heap.grey ≡ []))
+      (λ garbage. (
+        record {
+          registers = old.registers;
+          letters = old.letters;
+          slots = λ j.
+              at_set (IsSlotOf cycle) s.heap.slots k j (vacated_slot g) Retired
+              (vacated-sound cycle (slot_at s.heap k) garbage (old.slots k)) (old.slots j);
+          grey = subst
+              (AllByRecursion (λ (j : ℕ). HasMarked cycle (slot_at (vacated s.heap k g) j)))
+              (sym none) tt;
+          once = old.once;
+          calm = old.calm;
+        },
+        none,
+      ))
+      (λ _. (old, none))
+
+  pub stocked-swept : (k count : ℕ) (s : Sweeping) → s.heap.grey ≡ []
+      → IsStocked shape own cycle ended s.heap
+      → IsStocked shape own cycle ended (sweep_some cycle k count s).heap
+  stocked-swept k zero s none old = old
+  stocked-swept k (suc n) s none old =
+      let one = swept-one k s none old in
+      stocked-swept (k + 1) n (sweep_one cycle k s) one.1 one.0

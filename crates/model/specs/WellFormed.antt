@@ -1,0 +1,70 @@
+-- What is true of the parts of every node, besides the references that it holds ("Well-formed
+-- nodes" in docs/RULES.md): of its heap, of what it asked for, of its token, of the reports that
+-- it has, and of its link to itself.
+use Rattle.std.specs.Prelude.{◌≡◌, ◌≢◌, ℕ, eqb, ◌<◌, ◌≤◌, List, [], length, Option, Some, None, slice_index_or}
+use Rattle.std.specs.List.{AllByRecursion, IsDistinct}
+use Rattle.ids.specs.Limits.{Shaped}
+use Rattle.ids.specs.declared.names.Ref.{Ref}
+use Rattle.ids.specs.declared.limits.TheConstants.{GREATEST_PLACES}
+use Rattle.msg.specs.declared.body.Token.{Token}
+use Rattle.model.specs.declared.event.Letter.{Letter}
+use Rattle.model.specs.State.{Object, Slot, Free, Occupied, Retired, Heap, slot_at}
+use Rattle.model.specs.Shading.{is_same}
+use Rattle.model.specs.References.{IsWithin, no_message}
+use Rattle.model.specs.View.{Link, no_link}
+
+-- another node of the shape
+abbrev pub IsOther : Shaped → ℕ → ℕ → Type 0
+IsOther shape own i = (i < shape.nodes) × (i ≢ own)
+
+-- an object of this generation, at a node in this cycle
+pub record IsObject (cycle generation : ℕ) (o : Object) : Type 0 where
+  pub born : 1 ≤ generation
+  pub places : length o.places ≤ GREATEST_PLACES
+  pub mark : o.mark ≤ cycle
+
+-- A slot is free once its first object has gone: so its next one has at least generation 2.
+abbrev pub IsSlotOf : ℕ → Slot → Type 0
+IsSlotOf cycle (Free g) = 2 ≤ g
+IsSlotOf cycle (Occupied g o) = IsObject cycle g o
+IsSlotOf cycle Retired = Unit {0}
+
+-- the slot has an object that this cycle marked
+abbrev pub HasMarked : ℕ → Slot → Type 0
+HasMarked cycle (Free g) = ⊥
+HasMarked cycle (Occupied g o) = o.mark ≡ cycle
+HasMarked cycle Retired = ⊥
+
+-- The heap of a node: its registers, its letters, its slots, and its grey objects, of which there
+-- are none where marking has ended.
+pub record IsStocked (shape : Shaped) (own cycle ended : ℕ) (h : Heap) : Type 0 where
+  pub registers : length h.registers ≡ shape.registers
+  pub letters : AllByRecursion (λ (l : Letter). IsOther shape own l.from) h.letters
+  pub slots : (k : ℕ) → IsSlotOf cycle (slot_at h k)
+  pub grey : AllByRecursion (λ (k : ℕ). HasMarked cycle (slot_at h k)) h.grey
+  pub once : IsDistinct eqb h.grey
+  pub calm : ended ≡ cycle → h.grey ≡ []
+
+-- a node asks for what other nodes own, each reference once
+pub record AreAsked (shape : Shaped) (own : ℕ) (asked : List Ref) : Type 0 where
+  pub within : AllByRecursion (IsWithin shape) asked
+  pub others : AllByRecursion (λ (r : Ref). r.node ≢ own) asked
+  pub once : IsDistinct is_same asked
+
+-- the token is held only while marking goes on
+abbrev pub IsHeld : ℕ → ℕ → Option Token → Type 0
+IsHeld cycle ended None = Unit {0}
+IsHeld cycle ended (Some token) = ended < cycle
+
+-- node 0 alone has reports, and none of its own
+pub record AreReports (own : ℕ) (reports : List ℕ) : Type 0 where
+  pub first : slice_index_or reports 0 0 ≡ 0
+  pub others : own ≢ 0 → (i : ℕ) → slice_index_or reports i 0 ≡ 0
+
+-- A node sends nothing to itself, and takes nothing in from itself. No message that it keeps is of
+-- a later cycle.
+pub record AreTimely (own cycle : ℕ) (links : List Link) (got : List ℕ) : Type 0 where
+  pub unused : slice_index_or links own no_link ≡ no_link
+  pub unheard : slice_index_or got own 0 ≡ 0
+  pub stamps : (i k : ℕ)
+      → (slice_index_or (slice_index_or links i no_link).unacknowledged k no_message).stamp ≤ cycle
