@@ -1,13 +1,13 @@
 -- What a node counts of its own messages.
-use Rattle.std.proofs.Common.{◌≡◌, ℕ, ◌≤◌, pos, ◌+ℤ◌, true, [], ◌∷◌, Option, Some, ap, arith, le-ltb}
+use Rattle.std.proofs.Common.{◌≡◌, ℕ, ◌≤◌, pos, ◌+ℤ◌, true, [], ◌∷◌, Option, Some, None, refl, ap, arith, le-ltb}
 use Rattle.std.specs.Prelude.{nat_lt}
 use Rattle.std.proofs.lemmas.Bool.{cond-false}
 use Rattle.msg.specs.declared.body.Body.{Body}
 use Rattle.msg.specs.declared.body.Body.TheVariants as body
 use Rattle.model.specs.declared.balance.Balance.{Balance}
 use Rattle.model.specs.declared.balance.Balance.TheVariants.{Earlier, Recent}
-use Rattle.model.specs.State.{LocalState}
-use Rattle.model.specs.Counting.{is_reference, reference_balance, balance_of, counted_up, stamped, append}
+use Rattle.model.specs.State.{Ring, LocalState}
+use Rattle.model.specs.Counting.{is_reference, reference_balance, balance_of, counted_up, counted_down, stamped, append}
 
 -- references that are sent count with those of the cycle
 pub own-reference : (cycle : ℕ) → reference_balance cycle cycle ≡ Recent
@@ -39,3 +39,14 @@ append-reference to b p is =
       sends = (to, stamped p b) ∷ [];
     })
     (own-balance p.phases.cycle b is)
+
+-- counting leaves the token where it is
+pub up-token : (b : Option Balance) (r : Ring) → (counted_up b r).token ≡ r.token
+up-token (Some Earlier) r = refl
+up-token (Some Recent) r = refl
+up-token None r = refl
+
+pub down-token : (b : Option Balance) (r : Ring) → (counted_down b r).token ≡ r.token
+down-token (Some Earlier) r = refl
+down-token (Some Recent) r = refl
+down-token None r = refl

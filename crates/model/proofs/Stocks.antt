@@ -1,17 +1,18 @@
 -- Each change of a node's heap keeps what is true of the heap of every node.
-use Rattle.std.proofs.Common.{◌≡◌, ◌≢◌, ℕ, zero, suc, ◌+◌, ◌-◌, ◌<◌, ◌≤◌, ◌==◌, Bool, true, false, cond, eqb, List, [], ◌∷◌, ◌++◌, length, take, drop, get_or, set, Option, None, refl, sym, ap, ◌∙◌, subst, arith, get_or-set_same}
+use Rattle.std.proofs.Common.{◌≡◌, ◌≢◌, ℕ, zero, suc, ◌+◌, ◌-◌, ◌<◌, ◌≤◌, ◌==◌, Bool, true, false, cond, eqb, List, [], ◌∷◌, ◌++◌, length, take, drop, get_or, set, Option, Some, None, refl, sym, ap, ◌∙◌, subst, arith, get_or-set_same}
 use Rattle.std.specs.List.{AllByRecursion, IsDistinct}
-use Rattle.std.proofs.lemmas.Bool.{cond_both, cond-true, eqb-true, eq-eqb, ne_eqb}
+use Rattle.std.proofs.lemmas.Bool.{cond_both, cond-true, eqb-true, eqb-false, eq-eqb, ne_eqb, not-true}
 use Rattle.std.proofs.lemmas.List.{length-set, length-replicate, get_or_append_left}
 use Rattle.ids.specs.Limits.{Shaped}
 use Rattle.ids.specs.declared.limits.TheConstants.{GREATEST_PLACES}
 use Rattle.ids.specs.declared.names.Ref.{Ref}
+use Rattle.msg.specs.declared.body.Token.{Token}
 use Rattle.model.specs.declared.event.Letter.{Letter}
-use Rattle.model.specs.State.{Object, Slot, Free, Occupied, Retired, Heap, slot_at, new_heap}
+use Rattle.model.specs.State.{Object, Slot, Free, Occupied, Retired, Heap, LocalState, slot_at, new_heap}
 use Rattle.model.specs.Heaps.{with_register, with_object, new_object, next_generation, slots_with, object_at, rewritten, with_rewritten, with_place, with_word, with_letter}
-use Rattle.model.specs.Shading.{is_unmarked, with_mark, make_grey, make_all_grey, is_calm, without_last_grey}
+use Rattle.model.specs.Shading.{is_open, is_unmarked, with_mark, make_grey, make_all_grey, is_calm, without_last_grey}
 use Rattle.model.specs.Collecting.{greatest_generation, is_garbage, generation_in, vacated_slot, vacated, Sweeping, sweep_one, sweep_some}
-use Rattle.model.specs.WellFormed.{IsOther, IsObject, IsSlotOf, HasMarked, IsStocked}
+use Rattle.model.specs.WellFormed.{IsOther, IsObject, IsSlotOf, HasMarked, IsStocked, IsHeld}
 use Rattle.model.proofs.Lookups.{all-map, at_set, at_set_if, at_push}
 use Rattle.model.proofs.References.{all-append}
 use Rattle.model.proofs.Slots.{slot-within, occupied-within, found-object, unmarked-there}
@@ -61,6 +62,17 @@ marked-within : (cycle : ℕ) (slots : List Slot) (k : ℕ) → HasMarked cycle 
 marked-within cycle slots k there =
     slot-within slots k (λ (e : get_or slots k Retired ≡ Retired).
     absurd (let never : HasMarked cycle Retired = subst (HasMarked cycle) e there in never))
+
+-- while the node marks, its cycle isn't the one that ended last
+pub open-apart : (p : LocalState) → is_open p ≡ true → p.phases.ended ≢ p.phases.cycle
+open-apart p opened =
+    eqb-false p.phases.ended p.phases.cycle (not-true (p.phases.ended == p.phases.cycle) opened)
+
+-- a token may be held in a cycle that hasn't ended
+pub held-before : (cycle ended : ℕ) (token : Option Token) → ended < cycle
+    → IsHeld cycle ended token
+held-before cycle ended None before = tt
+held-before cycle ended (Some token) before = before
 
 -- ---- a new heap
 
@@ -335,23 +347,23 @@ stocked-greyed shape own cycle ended h (r ∷ rs) opened old =
 
 -- ---- slots are swept, where nothing is grey
 
-vacated-sound : (cycle : ℕ) (s : Slot) → is_garbage cycle s ≡ true → IsSlotOf cycle s
+vacated-sound : (cycle of : ℕ) (s : Slot) → is_garbage of s ≡ true → IsSlotOf cycle s
     → IsSlotOf cycle (vacated_slot (generation_in s))
-vacated-sound cycle (Free g) garbage is = absurd cc
-vacated-sound cycle (Occupied g o) garbage is =
+vacated-sound cycle of (Free g) garbage is = absurd cc
+vacated-sound cycle of (Occupied g o) garbage is =
     cond_both (g == greatest_generation) Retired (Free (g + 1)) (IsSlotOf cycle)
     (λ _. tt)
     (λ _. let born = is.born in omega (arith, born))
-vacated-sound cycle Retired garbage is = absurd cc
+vacated-sound cycle of Retired garbage is = absurd cc
 
-module _ (shape : Shaped) (own cycle ended : ℕ) where
+module _ (shape : Shaped) (own cycle ended of : ℕ) where
   swept-one : (k : ℕ) (s : Sweeping) → s.heap.grey ≡ [] → IsStocked shape own cycle ended s.heap
-      → IsStocked shape own cycle ended (sweep_one cycle k s).heap
-      × ((sweep_one cycle k s).heap.grey ≡ [])
+      → IsStocked shape own cycle ended (sweep_one of k s).heap
+      × ((sweep_one of k s).heap.grey ≡ [])
   unfolding sweep_one
   swept-one k s none old =
       let g : ℕ = generation_in (slot_at s.heap k) in
-      cond_both (is_garbage cycle (slot_at s.heap k))
+      cond_both (is_garbage of (slot_at s.heap k))
       (record { heap = vacated s.heap k g; freed = s.freed + 1 }) s
       (λ (z : Sweeping). IsStocked shape own cycle ended z.heap × (z.heap.grey ≡ []))
       (λ garbage. (
@@ -360,7 +372,7 @@ module _ (shape : Shaped) (own cycle ended : ℕ) where
           letters = old.letters;
           slots = λ j.
               at_set (IsSlotOf cycle) s.heap.slots k j (vacated_slot g) Retired
-              (vacated-sound cycle (slot_at s.heap k) garbage (old.slots k)) (old.slots j);
+              (vacated-sound cycle of (slot_at s.heap k) garbage (old.slots k)) (old.slots j);
           grey = subst
               (AllByRecursion (λ (j : ℕ). HasMarked cycle (slot_at (vacated s.heap k g) j)))
               (sym none) tt;
@@ -373,8 +385,8 @@ module _ (shape : Shaped) (own cycle ended : ℕ) where
 
   pub stocked-swept : (k count : ℕ) (s : Sweeping) → s.heap.grey ≡ []
       → IsStocked shape own cycle ended s.heap
-      → IsStocked shape own cycle ended (sweep_some cycle k count s).heap
+      → IsStocked shape own cycle ended (sweep_some of k count s).heap
   stocked-swept k zero s none old = old
   stocked-swept k (suc n) s none old =
       let one = swept-one k s none old in
-      stocked-swept (k + 1) n (sweep_one cycle k s) one.1 one.0
+      stocked-swept (k + 1) n (sweep_one of k s) one.1 one.0

@@ -1,17 +1,15 @@
 -- Every node's balances stay within the number of its messages.
-use Rattle.std.proofs.Common.{◌≡◌, ℕ, ◌+◌, ◌*◌, ◌^◌, ◌<◌, ◌≤◌, List, [], ◌∷◌, length, map, get_or, set, Option, sym, ap, ◌∙◌, subst, refl, arith}
+use Rattle.std.proofs.Common.{◌≡◌, ℕ, ◌+◌, ◌*◌, ◌^◌, ◌<◌, ◌≤◌, List, [], ◌∷◌, length, map, get_or, set, sym, ap, ◌∙◌, subst, refl, arith}
 use Rattle.std.specs.List.{sum, sum_by}
 use Rattle.std.proofs.lemmas.List.Sums.{sum_by-set, sum_by-le, sum-map}
 use Rattle.std.proofs.lemmas.List.Elements.{All-from_get_or}
 use Rattle.ids.specs.declared.limits.TheConstants.{GREATEST_NODES, GREATEST_NUMBER}
-use Rattle.model.specs.declared.balance.Balance.{Balance}
 use Rattle.model.specs.State.{Ring}
-use Rattle.model.specs.Counting.{counted_down}
 use Rattle.model.specs.View.{Link, NodeView, no_link, used, all_kept, trimmed}
 use Rattle.link.specs.Links.{LinksView, IsLinks}
 use Rattle.link.proofs.OneLink.{used-trimmed}
 use Rattle.safra.specs.Balances.{IsBounded}
-use Rattle.safra.proofs.Bounds.{bounded_more, bounded_down}
+use Rattle.safra.proofs.Bounds.{bounded_more}
 use Rattle.node.specs.Invariant.{IsBalanced, IsNode, links_of, number_sum}
 
 -- a sum of terms that have a bound has one
@@ -29,20 +27,6 @@ sum_by-same f g xs h = sym (sum-map f (map g xs)) ∙ ap sum (seen f g xs h) ∙
   seen f g [] h = refl
   seen f g (x ∷ xs) h =
       ap (λ (k : ℕ). k ∷ map f (map g xs)) (h x) ∙ ap (λ (ks : List ℕ). f x ∷ ks) (seen f g xs h)
-
--- ---- one message more
-
-pub balance-taken : (b : Option Balance) (r : Ring) (links : List Link) (got : List ℕ) (from : ℕ)
-    → IsBalanced r links got → from < length got
-    → IsBalanced (counted_down b r) links (set got from (get_or got from 0 + 1))
-balance-taken b r links got from h inside =
-    let k : ℕ = get_or got from 0 in
-    let more : sum_by (λ (j : ℕ). j) (set got from (k + 1)) + k
-    ≡ sum_by (λ (j : ℕ). j) got + (k + 1) =
-    sum_by-set (λ (j : ℕ). j) got from (k + 1) 0 inside in
-    let within : number_sum links got + 1 ≤ number_sum links (set got from (k + 1)) =
-    omega (arith, more) in
-    bounded_more _ _ (counted_down b r) within (bounded_down (number_sum links got) b r h)
 
 -- ---- the same numbers, and so the same bound
 

@@ -1,7 +1,7 @@
 -- Node 0 begins a cycle.
-use Rattle.std.proofs.Common.{◌≡◌, ◌≢◌, ℕ, ◌+◌, ◌-◌, ◌<◌, ◌≤◌, ◌==◌, ◌&&◌, Bool, true, false, List, [], ◌∷◌, ◌++◌, length, map, Err, ap, sym, ◌∙◌, subst, refl, arith, append_assoc, length-append}
-use Rattle.std.specs.List.{AllByRecursion}
-use Rattle.std.proofs.lemmas.Bool.{ne_eqb}
+use Rattle.std.proofs.Common.{◌≡◌, ◌≢◌, ℕ, ◌+◌, ◌-◌, ◌<◌, ◌≤◌, ◌==◌, ◌&&◌, Bool, true, false, List, [], ◌∷◌, ◌++◌, drop, length, map, Err, ap, sym, ◌∙◌, subst, refl, arith, le_refl, append_assoc, length-append}
+use Rattle.std.specs.List.{AllByRecursion, list_all}
+use Rattle.std.proofs.lemmas.Bool.{and_parts, eqb-true, ne_eqb}
 use Rattle.std.proofs.lemmas.List.{length-map}
 use Rattle.ids.specs.Limits.{Shaped}
 use Rattle.ids.specs.declared.limits.TheConstants.{GREATEST_CYCLE}
@@ -19,13 +19,15 @@ use Rattle.model.specs.Counting.{announce, append, to_others}
 use Rattle.model.specs.Effects.{Effect, Work}
 use Rattle.model.specs.State.{Heap, Phases, Ring, LocalState}
 use Rattle.model.specs.Collecting.{begin_tests, begun, new_token, probe, whitened}
-use Rattle.model.specs.References.{HoldsOnly, IsWithin}
+use Rattle.model.specs.References.{IsWithin}
 use Rattle.model.specs.Shading.{enter, entered, filled, join, make_all_grey, mark_for, marks_for, roots, unasked}
 use Rattle.model.specs.Steps.{fits}
 use Rattle.model.specs.View.{Link, NodeView, append_to, used, view_act}
 use Rattle.model.proofs.Appending.{append_to-append, fits-append, length-append_to}
 use Rattle.model.proofs.References.{holds-make_all_grey, holds-roots}
-use Rattle.model.proofs.ShadingParts.{shade_all-open, shaded_work, unasked-all}
+use Rattle.model.proofs.ShadingParts.{shade_all-open, shaded_work}
+use Rattle.model.proofs.Stocks.{held-before, stocked-greyed, stocked-later}
+use Rattle.model.proofs.Asking.{asked-more, asked-none}
 use Rattle.control.specs.Phases.{IsPhases, cycle_tests, in_cycle}
 use Rattle.safra.specs.Balances.{IsBounded}
 use Rattle.safra.specs.Rings.{counted_marks}
@@ -34,8 +36,8 @@ use Rattle.link.specs.Links.{LinksView, IsLinks, appended_to, fits_others, fits_
 use Rattle.link.proofs.Announcing.{to_others-is}
 use Rattle.barrier.specs.Asked.{IsAsked, all_appended}
 use Rattle.node.specs.Cycles.{begins}
-use Rattle.node.specs.Invariant.{AreLinked, IsNode, links_of, number_sum}
-use Rattle.node.proofs.Appended.{MaySend, both-may, linked-appended, marks-may, nodes-within, numbers-appended, one-may, others-may}
+use Rattle.node.specs.Invariant.{IsNode, links_of, number_sum}
+use Rattle.node.proofs.Appended.{MaySend, both-may, linked-appended, linked-later, marks-may, nodes-within, numbers-appended, one-may, others-may}
 use Rattle.node.proofs.Balances.{bounded-same}
 use Rattle.node.proofs.Events.{after_step, answered, guarded-never, okay, shading_refused, test_refused, with_parts}
 
@@ -212,67 +214,95 @@ module _ (n : NodeView) (cycle : ℕ) (next : cycle ≡ n.local.phases.cycle + 1
         ∙ ap (λ (z : LinksView). okay (with_parts n h asked phases ring z) (answer.Begun cycle))
         (sym links-is)
 
-    all-may : IsNode n → cycle ≤ GREATEST_CYCLE → MaySend n.local.shape (marks ++ rest)
-    all-may old within =
+    all-may : IsNode n → cycle ≤ GREATEST_CYCLE → n.local.own ≡ 0
+        → MaySend n.local.shape n.local.own cycle (marks ++ rest)
+    all-may old within first =
         let s : Shaped = n.local.shape in
+        let own : ℕ = n.local.own in
         let last : s.nodes - 1 < s.nodes = omega (arith, old.shape.least_nodes) in
+        let other : s.nodes - 1 ≢ own =
+        (λ (e : s.nodes - 1 ≡ own). absurd (omega (arith, e, first, old.shape.least_nodes))) in
         let begin : Message = record { stamp = cycle; body = body.Begin } in
-        both-may s marks rest
-        (marks-may s cycle (new_asked n.local) within
-        (unasked-all (IsWithin s) n.local.own [] (root_list n.local)
-        (holds-roots (IsWithin s) n.local.heap old.references)))
-        (both-may s
+        both-may s own cycle marks rest
+        (marks-may s own cycle [] (root_list n.local) within
+        (holds-roots (IsWithin s) n.local.heap old.references))
+        (both-may s own cycle
         ((s.nodes - 1, record { stamp = cycle; body = body.Token new_token }) ∷ [])
-        (for_others n.local.own begin s.nodes)
-        (one-may s (s.nodes - 1) _ last (record { stamp = within; references = tt; place = tt }))
-        (others-may s n.local.own begin
-        (record { stamp = within; references = tt; place = tt })))
+        (for_others own begin s.nodes)
+        (one-may s own cycle (s.nodes - 1) _ last other
+        (record { stamp = within; references = tt; place = tt }) (le_refl cycle))
+        (others-may s own cycle begin
+        (record { stamp = within; references = tt; place = tt }) (le_refl cycle)))
+
+    -- the cycle before has ended here
+    done-before : IsNode n → n.local.phases.ended ≡ n.local.phases.cycle
+    done-before old =
+        let p : Phases = n.local.phases in
+        let over : p.swept ≡ p.cycle =
+        eqb-true p.swept p.cycle
+        (and_parts (p.swept == p.cycle) (list_all (λ report. report == p.cycle) (drop 1 p.reports))
+        tests.1.0).0 in
+        omega (arith, over, old.phases.phases.swept, old.phases.phases.ended)
 
     pub node-begun : IsNode n → IsPhases phases → IsLinks l
         → IsNode (with_parts n h asked phases ring l)
     node-begun old sound links =
         let p : LocalState = n.local in
+        let s : Shaped = p.shape in
+        let rs : List Ref = root_list p in
         let ms : List (ℕ × Message) = marks ++ rest in
-        let within : cycle ≤ GREATEST_CYCLE =
-        subst (λ (k : Phases). k.cycle ≤ GREATEST_CYCLE) phases-is sound.within in
-        let may = all-may old within in
-        let now : AreLinked p.shape l =
-        subst (AreLinked p.shape) (sym links-is)
-        (linked-appended p.shape (links_of n) ms old.links may (subst IsLinks links-is links)) in
+        let new : Heap = make_all_grey p.own cycle p.heap rs in
+        let now : Ring = whitened (counted_marks (length (new_asked p)) (entered p.ring)) in
+        let later : Phases = in_cycle cycle p.phases in
+        let sent : LinksView = all_appended (links_of n) ms in
+        let phased : IsPhases later = subst IsPhases phases-is sound in
+        let over = done-before old in
+        let apart : p.phases.ended ≢ cycle =
+        (λ (e : p.phases.ended ≡ cycle). absurd (omega (arith, e, over, next))) in
+        let more : p.phases.cycle ≤ cycle = omega (arith, next) in
+        let may = all-may old phased.within (eqb-true p.own 0 tests.0) in
+        let before = linked-later cycle more old.links in
+        let roots = holds-roots (IsWithin s) p.heap old.references in
         let marked : IsBounded (number_sum n.links p.got + length (new_asked p))
         (counted_marks (length (new_asked p)) (entered p.ring)) =
         bounded_marks (number_sum n.links p.got) (length (new_asked p)) (entered p.ring)
         (bounded_entered (number_sum n.links p.got) p.ring old.balance) in
-        let more : number_sum n.links p.got + length (new_asked p)
-        ≤ number_sum l.links l.got =
-        subst
-        (λ (v : LinksView).
-        number_sum n.links p.got + length (new_asked p) ≤ number_sum v.links v.got)
-        (sym links-is)
-        (omega (
+        let many : number_sum n.links p.got + length (new_asked p)
+        ≤ number_sum (append_to n.links ms) p.got =
+        omega (
           arith,
-          numbers-appended p.shape (links_of n) ms old.links may,
+          numbers-appended s p.own cycle (links_of n) ms before may,
           length-append marks rest,
           length-map (new_asked p) (mark_for cycle),
-        )) in
-        record {
+        ) in
+        subst (λ (z : Heap). IsNode (with_parts n z asked phases ring l)) (sym heap-is)
+        (subst (λ (z : List Ref). IsNode (with_parts n new z phases ring l)) (sym asked-is)
+        (subst (λ (z : Phases). IsNode (with_parts n new (new_asked p) z ring l)) (sym phases-is)
+        (subst (λ (z : Ring). IsNode (with_parts n new (new_asked p) later z l)) (sym ring-is)
+        (subst (λ (z : LinksView). IsNode (with_parts n new (new_asked p) later now z))
+        (sym links-is)
+        (record {
           shape = old.shape;
           own = old.own;
-          references = subst (HoldsOnly (IsWithin p.shape)) (sym heap-is)
-              (holds-make_all_grey (IsWithin p.shape) p.own cycle p.heap (root_list p)
-              old.references);
+          references = holds-make_all_grey (IsWithin s) p.own cycle p.heap rs old.references;
+          stocked = stocked-greyed s p.own cycle p.phases.ended p.heap rs apart
+              (stocked-later s p.own p.phases.cycle p.phases.ended p.heap old.stocked cycle
+              p.phases.ended more (old.stocked.calm over));
+          asked = asked-more s p.own [] rs (asked-none s p.own) roots;
           phases = record {
-            phases = sound;
-            cursor = subst (λ (k : Phases). k.cursor ≤ length h.slots) (sym phases-is)
-                (omega arith);
-            reports = ap (λ (k : Phases). length k.reports) phases-is ∙ old.phases.reports;
+            phases = phased;
+            cursor = omega arith;
+            reports = old.phases.reports;
+            heard = old.phases.heard;
           };
-          links = now;
-          balance = bounded_more _ _ ring more
-              (bounded-same _ ring (counted_marks (length (new_asked p)) (entered p.ring))
-              (ap (λ (r : Ring). r.earlier) ring-is) (ap (λ (r : Ring). r.recent) ring-is)
+          token = held-before cycle p.phases.ended p.ring.token (omega (arith, over, next));
+          links = linked-appended s p.own cycle (links_of n) ms before may
+              (subst IsLinks links-is links);
+          balance =
+              bounded_more _ _ now many
+              (bounded-same _ now (counted_marks (length (new_asked p)) (entered p.ring)) refl refl
               marked);
-        }
+        })))))
 
 -- ---- as the code has it
 

@@ -1,10 +1,11 @@
 mod Events
 mod Refusing
 mod Appended
-mod Sound
 mod Balances
 mod Nodes
+mod Sound
 mod Shaded
+mod Messages
 mod Loading
 mod Scanning
 mod Passing
@@ -12,6 +13,7 @@ mod Sweeping
 mod Beginning
 mod Parts
 mod Taken
+mod Follows
 mod Standing
 mod Errands
 mod Outcomes

@@ -17,6 +17,7 @@ use Rattle.model.specs.Steps.{fits, load_value, loaded}
 use Rattle.model.specs.View.{NodeView, used, view_act}
 use Rattle.model.proofs.Checks.{guarded-ok, guarded-passes}
 use Rattle.model.proofs.References.{any-list, holds-place_of, holds-with_register}
+use Rattle.model.proofs.Stocks.{stocked-register}
 use Rattle.link.specs.Links.{LinksView, IsLinks}
 use Rattle.barrier.specs.Asked.{IsRefused}
 use Rattle.barrier.specs.Parts.{part_of, IsDone}
@@ -117,4 +118,5 @@ module _ (n : NodeView) (register object place : ℕ) (value : Option Ref)
         (holds-with_register (IsWithin shading.local.shape) shading.local.heap register value
         shaded.references (subst (λ (s : Shaped). IfAny (IsWithin s) value)
         (sym (shaded-shape n.local (filled (value ∷ [])))) there))
+        (stocked-register _ _ _ _ _ shaded.stocked register value)
         (le_refl _))

@@ -1,6 +1,7 @@
 -- Each change of a node as it stands keeps what is true of every node.
-use Rattle.std.proofs.Common.{◌≡◌, ℕ, ◌+◌, ◌-◌, ◌<◌, ◌≤◌, [], ◌∷◌, length, get_or, replicate, Option, refl, sym, ◌∙◌, subst, true, arith}
-use Rattle.std.proofs.lemmas.Bool.{and_parts, ltb-true}
+use Rattle.std.proofs.Common.{◌≡◌, ◌≢◌, ℕ, ◌+◌, ◌-◌, ◌<◌, ◌≤◌, ◌==◌, not, [], ◌∷◌, length, get_or, replicate, refl, sym, ap, ◌∙◌, subst, true, arith, le_refl}
+use Rattle.std.specs.Prelude.{nat_lt}
+use Rattle.std.proofs.lemmas.Bool.{and_parts, eqb-false, ltb-true, not-true}
 use Rattle.std.proofs.lemmas.List.{length-set, length-map, length-replicate, get_or-drop}
 use Rattle.std.proofs.lemmas.List.Elements.{All-replicate}
 use Rattle.std.proofs.Math.ListN.{get_or-map}
@@ -8,38 +9,47 @@ use Rattle.ids.specs.Limits.{Shaped, IsShape}
 use Rattle.msg.specs.declared.body.Body.{Body}
 use Rattle.msg.specs.declared.body.Message.{Message}
 use Rattle.control.specs.Phases.{IsPhases}
-use Rattle.model.specs.declared.balance.Balance.{Balance}
-use Rattle.model.specs.Counting.{balance_of, counted_up, counted_down, stamped}
+use Rattle.model.specs.Counting.{balance_of, counted_up, stamped}
 use Rattle.model.specs.State.{Heap, Ring, new_phases}
 use Rattle.model.specs.Steps.{is_addressed}
 use Rattle.model.specs.View.{Link, NodeView, no_link, trimmed, all_kept, new_view}
 use Rattle.model.specs.References.{HoldsOnly, IsWithin, IsSendable, no_message}
+use Rattle.model.specs.WellFormed.{IsOther, IsStocked, IsHeld}
 use Rattle.model.proofs.Lookups.{at_set, get_or-replicate_any}
+use Rattle.model.proofs.Asking.{asked-none, reports-new, timely-new, timely-trimmed, timely-kept}
+use Rattle.model.proofs.Balances.{up-token}
 use Rattle.model.proofs.References.{holds-new_heap}
-use Rattle.link.specs.Links.{LinksView, IsLinks, appended_to, taken_next_from, trimmed_to, kept_links, new_links}
+use Rattle.model.proofs.Stocks.{stocked-new}
+use Rattle.link.specs.Links.{LinksView, IsLinks, appended_to, trimmed_to, kept_links, new_links}
 use Rattle.safra.specs.Balances.{IsBounded}
 use Rattle.safra.proofs.Bounds.{bounded_new, bounded_up}
 use Rattle.node.specs.Invariant.{AreLinked, IsBalanced, IsNode, links_of, number_sum}
 use Rattle.node.proofs.Appended.{linked-appended, numbers-appended, one-may}
-use Rattle.node.proofs.Balances.{balance-taken, balance-kept, balance-trimmed}
+use Rattle.node.proofs.Balances.{balance-kept, balance-trimmed}
 
 -- the heap alone changed, and has no fewer slots
 pub node-heap : (n : NodeView) (h : Heap) → IsNode n → HoldsOnly (IsWithin n.local.shape) h
+    → IsStocked n.local.shape n.local.own n.local.phases.cycle n.local.phases.ended h
     → length n.local.heap.slots ≤ length h.slots
     → IsNode (record n { local = record n.local { heap = h } })
-node-heap n h old all more = record {
+node-heap n h old all stocked more = record {
   shape = old.shape;
   own = old.own;
   references = all;
+  stocked = stocked;
+  asked = old.asked;
   phases = record {
     phases = old.phases.phases;
     cursor = omega (arith, old.phases.cursor, more);
     reports = old.phases.reports;
+    heard = old.phases.heard;
   };
+  token = old.token;
   links = record {
     width = old.links.width;
     links = old.links.links;
     messages = old.links.messages;
+    timely = old.links.timely;
   };
   balance = old.balance;
 }
@@ -60,16 +70,22 @@ pub record Rewires (v : LinksView) (q : Ring) (l : LinksView) (r : Ring) : Type 
   pub ring : r ≡ q
 
 pub node-rewired : (n : NodeView) (v : LinksView) (q : Ring) {l : LinksView} {r : Ring} → IsNode n
-    → Rewires v q l r → (IsLinks v → AreLinked n.local.shape v) → IsBalanced q v.links v.got
-    → IsNode (rewired n l r)
-node-rewired n v q {l = l} {r = r} old w linked balance =
-    let now : AreLinked n.local.shape l =
-    subst (AreLinked n.local.shape) (sym w.links) (linked (subst IsLinks w.links w.sound)) in
+    → Rewires v q l r → q.token ≡ n.local.ring.token
+    → (IsLinks v → AreLinked n.local.shape n.local.own n.local.phases.cycle v)
+    → IsBalanced q v.links v.got → IsNode (rewired n l r)
+node-rewired n v q {l = l} {r = r} old w same linked balance =
+    let now : AreLinked n.local.shape n.local.own n.local.phases.cycle l =
+    subst (AreLinked n.local.shape n.local.own n.local.phases.cycle) (sym w.links)
+    (linked (subst IsLinks w.links w.sound)) in
     record {
       shape = old.shape;
       own = old.own;
       references = old.references;
+      stocked = old.stocked;
+      asked = old.asked;
       phases = old.phases;
+      token = subst (IsHeld n.local.phases.cycle n.local.phases.ended)
+          (sym (ap (λ (z : Ring). z.token) w.ring ∙ same)) old.token;
       links = now;
       balance = rw (w.links, w.ring) balance;
     }
@@ -79,9 +95,10 @@ node-rewired n v q {l = l} {r = r} old w linked balance =
 no_message-sendable : (shape : Shaped) → IsSendable shape no_message
 no_message-sendable shape = record { stamp = omega arith; references = tt; place = tt }
 
-linked-trimmed : (shape : Shaped) (l : LinksView) (from number : ℕ) → AreLinked shape l →
-    IsLinks (trimmed_to l from number) → AreLinked shape (trimmed_to l from number)
-linked-trimmed shape l from number h links = record {
+linked-trimmed : (shape : Shaped) (own cycle : ℕ) (l : LinksView) (from number : ℕ) → from ≢ own
+    → AreLinked shape own cycle l → IsLinks (trimmed_to l from number)
+    → AreLinked shape own cycle (trimmed_to l from number)
+linked-trimmed shape own cycle l from number other h links = record {
   width = length-set l.links from _ ∙ h.width;
   links = links;
   messages = λ i k.
@@ -92,62 +109,58 @@ linked-trimmed shape l from number h links = record {
       (sym (get_or-drop (number - old.base) old.unacknowledged k no_message))
       (h.messages from (number - old.base + k)))
       (h.messages i k);
+  timely = timely-trimmed own cycle l.links l.got h.timely from number other;
 }
 
-linked-kept : (shape : Shaped) (l : LinksView) → AreLinked shape l → IsLinks (kept_links l) →
-    AreLinked shape (kept_links l)
-linked-kept shape l h links = record {
+linked-kept : (shape : Shaped) (own cycle : ℕ) (l : LinksView) → AreLinked shape own cycle l
+    → IsLinks (kept_links l) → AreLinked shape own cycle (kept_links l)
+linked-kept shape own cycle l h links = record {
   width = length-map l.links all_kept ∙ h.width;
   links = links;
   messages = λ i k.
       subst (λ (z : Link). IsSendable shape (get_or z.unacknowledged k no_message))
       (sym (get_or-map all_kept l.links i no_link)) (h.messages i k);
+  timely = timely-kept own cycle l.links l.got h.timely;
 }
 
 -- ---- as the code has it: what a call of the links left, and the ring beside it
 
 pub node-sent : (n : NodeView) (to : ℕ) (b : Body) {l : LinksView} {r : Ring} → IsNode n
-    → to < n.local.shape.nodes → IsSendable n.local.shape (stamped n.local b)
+    → IsOther n.local.shape n.local.own to → IsSendable n.local.shape (stamped n.local b)
     → Rewires (appended_to (links_of n) to (stamped n.local b))
     (counted_up (balance_of n.local.phases.cycle n.local.phases.cycle b) n.local.ring) l r
     → IsNode (rewired n l r)
 node-sent n to b old there sendable w =
+    let s : Shaped = n.local.shape in
+    let own : ℕ = n.local.own in
+    let cycle : ℕ = n.local.phases.cycle in
     let x : Message = stamped n.local b in
-    let k = balance_of n.local.phases.cycle n.local.phases.cycle b in
-    let may = one-may n.local.shape to x there sendable in
+    let k = balance_of cycle cycle b in
+    let may = one-may s own cycle to x there.0 there.1 sendable (le_refl cycle) in
     node-rewired n (appended_to (links_of n) to x) (counted_up k n.local.ring) old w
-    (linked-appended n.local.shape (links_of n) ((to, x) ∷ []) old.links may)
+    (up-token k n.local.ring)
+    (linked-appended s own cycle (links_of n) ((to, x) ∷ []) old.links may)
     (subst (λ (most : ℕ). IsBounded most (counted_up k n.local.ring))
-    (sym (numbers-appended n.local.shape (links_of n) ((to, x) ∷ []) old.links may))
+    (sym (numbers-appended s own cycle (links_of n) ((to, x) ∷ []) old.links may))
     (bounded_up (number_sum n.links n.local.got) k n.local.ring old.balance))
 
-pub node-taken : (n : NodeView) (from : ℕ) (b : Option Balance) {l : LinksView} {r : Ring}
-    → IsNode n → from < n.local.shape.nodes
-    → Rewires (taken_next_from (links_of n) from) (counted_down b n.local.ring) l r
-    → IsNode (rewired n l r)
-node-taken n from b old there w =
-    let inside : from < length n.local.got =
-    omega (arith, there, old.links.width, old.links.links.received) in
-    node-rewired n (taken_next_from (links_of n) from) (counted_down b n.local.ring) old w
-    (λ links. record { width = old.links.width; links = links; messages = old.links.messages })
-    (balance-taken b n.local.ring n.links n.local.got from old.balance inside)
-
 pub node-trimmed : (n : NodeView) (from number : ℕ) {l : LinksView} → IsNode n
-    → from < n.local.shape.nodes
+    → IsOther n.local.shape n.local.own from
     → Rewires (trimmed_to (links_of n) from number) n.local.ring l n.local.ring
     → IsNode (rewired n l n.local.ring)
 node-trimmed n from number old there w =
-    let inside : from < length n.links = omega (arith, there, old.links.width) in
-    node-rewired n (trimmed_to (links_of n) from number) n.local.ring old w
-    (linked-trimmed n.local.shape (links_of n) from number old.links)
+    let inside : from < length n.links = omega (arith, there.0, old.links.width) in
+    node-rewired n (trimmed_to (links_of n) from number) n.local.ring old w refl
+    (linked-trimmed n.local.shape n.local.own n.local.phases.cycle (links_of n) from number there.1
+    old.links)
     (balance-trimmed n.local.ring n.links n.local.got from number old.balance inside)
 
 pub node-kept : (n : NodeView) {l : LinksView} → IsNode n
     → Rewires (kept_links (links_of n)) n.local.ring l n.local.ring
     → IsNode (rewired n l n.local.ring)
 node-kept n old w =
-    node-rewired n (kept_links (links_of n)) n.local.ring old w
-    (linked-kept n.local.shape (links_of n) old.links)
+    node-rewired n (kept_links (links_of n)) n.local.ring old w refl
+    (linked-kept n.local.shape n.local.own n.local.phases.cycle (links_of n) old.links)
     (balance-kept n.local.ring n.links n.local.got old.balance)
 
 phases-new : (nodes : ℕ) → IsPhases (new_phases nodes)
@@ -166,22 +179,30 @@ node-new shape own s within links = record {
   shape = s;
   own = within;
   references = holds-new_heap (IsWithin shape) shape;
+  stocked = stocked-new shape own;
+  asked = asked-none shape own;
   phases = record {
     phases = phases-new shape.nodes;
     cursor = omega arith;
     reports = length-replicate {A = ℕ} shape.nodes 0;
+    heard = reports-new own shape.nodes;
   };
+  token = tt;
   links = record {
     width = length-replicate shape.nodes no_link;
     links = links;
     messages = λ i k.
         subst (λ (l : Link). IsSendable shape (get_or l.unacknowledged k no_message))
         (sym (get_or-replicate_any shape.nodes i no_link)) (no_message-sendable shape);
+    timely = timely-new own shape.nodes;
   };
   balance = bounded_new (number_sum (replicate shape.nodes no_link) (replicate shape.nodes 0));
 }
 
 -- a frame that is addressed to the node comes from another node of the shape
 pub addressed-from : (n : NodeView) (from to : ℕ) → is_addressed n.local from to ≡ true
-    → from < n.local.shape.nodes
-addressed-from n from to h = ltb-true _ _ (and_parts _ _ (and_parts _ _ h).1).0
+    → IsOther n.local.shape n.local.own from
+addressed-from n from to h =
+    let parts = and_parts (nat_lt from n.local.shape.nodes) (not (from == n.local.own))
+    (and_parts (to == n.local.own) _ h).1 in
+    (ltb-true _ _ parts.0, eqb-false from n.local.own (not-true (from == n.local.own) parts.1))

@@ -1,9 +1,9 @@
 -- What the code leaves of a node that takes a message in, and what that is by the definitions.
 use Rattle.std.proofs.Common.{◌≡◌, ◌≢◌, ℕ, ◌+◌, ◌-◌, ◌^◌, ◌<◌, ◌≤◌, Bool, true, false, ◌==◌, ◌&&◌, not, List, [], ◌++◌, length, map, ℤ, pos, ◌+ℤ◌, ◌||◌, Option, Ok, Err, refl, ap, sym, ◌∙◌, subst, arith}
-use Rattle.std.specs.Prelude.{nat_le}
+use Rattle.std.specs.Prelude.{nat_le, nat_lt}
 use Rattle.std.proofs.Common.{le-ltb, lt-ltb}
 use Rattle.std.proofs.lemmas.Int.{ints}
-use Rattle.std.proofs.lemmas.Bool.{and_parts, lt-leb, leb-true, ne_eqb}
+use Rattle.std.proofs.lemmas.Bool.{and_parts, cond-false, cond-true, lt-leb, leb-true, ne_eqb}
 use Rattle.ids.specs.declared.names.Ref.{Ref}
 use Rattle.ids.specs.declared.refusal.Refusal.{Refusal}
 use Rattle.ids.specs.declared.refusal.Refusal.TheVariants.{LinkSpent, Memory}
@@ -11,11 +11,12 @@ use Rattle.msg.specs.declared.body.Body.{Body}
 use Rattle.msg.specs.declared.body.Message.{Message}
 use Rattle.model.specs.declared.event.Answer.TheVariants as answer
 use Rattle.model.specs.State.{Heap, Phases, Ring, LocalState, got_from}
-use Rattle.model.specs.Shading.{is_open, filled, make_all_grey, marks_for, roots, entered}
-use Rattle.model.specs.Effects.{answers}
+use Rattle.model.specs.Shading.{is_open, filled, join, make_all_grey, marks_for, roots, entered}
+use Rattle.model.specs.Effects.{Work, answers, at_rest}
 use Rattle.model.specs.Steps.{fits, taken_in, mentioned, may_reach, are_within, may_follow, may_settle}
 use Rattle.model.specs.Shading.{joined}
 use Rattle.model.specs.View.{NodeView, Performed, used, append_to, view_taken}
+use Rattle.model.proofs.Stocks.{open-apart}
 use Rattle.link.specs.Links.{LinksView, IsLinks, taken_next_from}
 use Rattle.control.specs.Phases.{IsPhases, in_cycle}
 use Rattle.safra.specs.Rings.{counted_marks}
@@ -24,8 +25,9 @@ use Rattle.barrier.specs.Asked.{all_appended}
 use Rattle.node.specs.Invariant.{IsNode, links_of}
 use Rattle.node.specs.declared.node.settling.Met.{Met}
 use Rattle.node.specs.Taking.{AreSent, IsTakable, brought_by, met_by, met_references, sought, count_due, reply_of, due, looked_after, body_heap, body_phases, ring_after, followed, settled_parts, sought_roots, joining_asked, joining_count, joining_due, joined_parts, assembled}
-use Rattle.node.proofs.Taken.{taken-settled, taken-joined, performed-taken, performed-refused}
-use Rattle.node.proofs.Standing.{comes, reached-here, reached-joined, met-small, taken-stands, assembled-same}
+use Rattle.node.proofs.Taken.{join-is, taken-settled, taken-joined, performed-taken, performed-refused}
+use Rattle.node.proofs.Follows.{Suits}
+use Rattle.node.proofs.Standing.{Reached, comes, reached-here, reached-joined, met-small, taken-stands, assembled-same}
 
 -- What the code leaves: q is the node that is in the message's cycle or past it, and these messages
 -- were sent on the way there.
@@ -64,6 +66,16 @@ may-follow q from stamp b t =
     let second = and_parts (are_within q.shape (mentioned b))
     (may_follow q from b && may_settle (joined q stamp).local stamp b) first.1 in
     (and_parts (may_follow q from b) (may_settle (joined q stamp).local stamp b) second.1).0
+
+may-settle : (q : LocalState) (from stamp : ℕ) (b : Body) → IsTakable q from stamp b
+    → may_settle (joined q stamp).local stamp b ≡ true
+may-settle q from stamp b t =
+    let first = and_parts (may_reach q stamp)
+    (are_within q.shape (mentioned b)
+    && (may_follow q from b && may_settle (joined q stamp).local stamp b)) t.may in
+    let second = and_parts (are_within q.shape (mentioned b))
+    (may_follow q from b && may_settle (joined q stamp).local stamp b) first.1 in
+    (and_parts (may_follow q from b) (may_settle (joined q stamp).local stamp b) second.1).1
 
 -- What was sent and counted before the message itself is.
 pub record Sends (n : NodeView) (from cycle : ℕ) (m : Met) (reply : Option Message)
@@ -179,6 +191,16 @@ module _ (n : NodeView) (from stamp : ℕ) (b : Body) (old : IsNode n)
         taken-settled n.local from (got_from n.local from + 1) stamp b (is_open n.local)
         (le-ltb n.local.phases.cycle stamp reached) refl (may-follow n.local from stamp b t)
 
+    settled-suits : Suits n.local from stamp (is_open n.local) b
+    settled-suits = record {
+      follows = may-follow n.local from stamp b t;
+      settles = subst (λ (w : Work). may_settle w.local stamp b ≡ true)
+          (cond-false (nat_lt n.local.phases.cycle stamp) (join n.local stamp) (at_rest n.local)
+          (le-ltb n.local.phases.cycle stamp reached))
+          (may-settle n.local from stamp b t);
+      opened = open-apart n.local;
+    }
+
     abbrev settled_node : NodeView
     settled_node =
         record n {
@@ -198,8 +220,8 @@ module _ (n : NodeView) (from stamp : ℕ) (b : Body) (old : IsNode n)
         → IsBounded (2 ^ 53 - 1) (looked_after n.local (settled_met n stamp b)).ring
     settled-small links =
         met-small n n.local.heap n.local.asked n.local.phases n.local.ring [] from stamp
-        (is_open n.local) (brought_by n.local.heap b) b old (comes n from stamp b old t)
-        (reached-here n old) links
+        (is_open n.local) b old (comes n from stamp b old t) (reached-here n old) settled-suits
+        links
 
     module _ (h : Heap) (asked : List Ref) (p : Phases) (r : Ring) (l : LinksView)
         (left : Left n.local (links_of n) [] from stamp b n.local.phases.cycle
@@ -214,8 +236,7 @@ module _ (n : NodeView) (from stamp : ℕ) (b : Body) (old : IsNode n)
         settled-stands phases links =
             subst IsNode (sym settled-now)
             (taken-stands n n.local.heap n.local.asked n.local.phases n.local.ring [] from stamp
-            (is_open n.local) (brought_by n.local.heap b) b old (comes n from stamp b old t)
-            (reached-here n old)
+            (is_open n.local) b old (comes n from stamp b old t) (reached-here n old) settled-suits
             (subst IsPhases left.phases phases)
             (subst IsLinks left.links links))
 
@@ -389,6 +410,31 @@ module _ (n : NodeView) (from stamp : ℕ) (b : Body) (v : Option Ref) (m : Met)
 module _ (n : NodeView) (from stamp : ℕ) (b : Body) (old : IsNode n)
     (t : IsTakable n.local from stamp b) (later : n.local.phases.cycle < stamp)
   where
+    joined-before : n.local.phases.ended < stamp
+    joined-before = omega (arith, old.phases.phases.ended, later)
+
+    joined-apart : (n.local.phases.ended == stamp) ≡ false
+    joined-apart =
+        ne_eqb n.local.phases.ended stamp (λ same. absurd (omega (arith, same, joined-before)))
+
+    joined-suits : Suits (joined_parts n.local stamp) from stamp true b
+    joined-suits = record {
+      follows = may-follow n.local from stamp b t;
+      settles = subst (λ (w : Work). may_settle w.local stamp b ≡ true)
+          (cond-true (nat_lt n.local.phases.cycle stamp) (join n.local stamp) (at_rest n.local)
+          (lt-ltb n.local.phases.cycle stamp later)
+          ∙ join-is n.local from 0 stamp b joined-apart)
+          (may-settle n.local from stamp b t);
+      opened = λ _ same. absurd (omega (arith, same, joined-before));
+    }
+
+    joined-reached : IsPhases (in_cycle stamp n.local.phases)
+        → Reached n (joined_parts n.local stamp).heap (joined_parts n.local stamp).asked
+        (joined_parts n.local stamp).phases (joined_parts n.local stamp).ring
+        (marks_for stamp (roots_of n))
+    joined-reached phases =
+        reached-joined n stamp old t.cycle later (joins-next n.local from stamp b t later).1 phases
+
     abbrev joined_node : NodeView
     joined_node =
         record n {
@@ -405,8 +451,7 @@ module _ (n : NodeView) (from stamp : ℕ) (b : Body) (old : IsNode n)
     joined-is =
         taken-joined n.local from (got_from n.local from + 1) stamp b
         (lt-ltb n.local.phases.cycle stamp later)
-        (let less : n.local.phases.ended < stamp = omega (arith, old.phases.phases.ended, later) in
-        ne_eqb n.local.phases.ended stamp (λ same. absurd (omega (arith, same, less))))
+        joined-apart
         (may-follow n.local from stamp b t)
 
     pub joined-refused : (new : NodeView) (e : Refusal)
@@ -434,8 +479,7 @@ module _ (n : NodeView) (from stamp : ℕ) (b : Body) (old : IsNode n)
           ∙ ap (all_appended (links_of n)) (due-joining n from stamp b _ _ _ read g sends.room)) in
           subst (IsBounded (2 ^ 53 - 1)) (sym (ring-joining n from stamp b _ _ _ read sends))
           (met-small n j.heap j.asked j.phases j.ring (marks_for stamp (roots_of n)) from stamp true
-          (brought_by n.local.heap b) b old (comes n from stamp b old t)
-          (reached-joined n stamp old t.cycle phases)
+          b old (comes n from stamp b old t) (joined-reached phases) joined-suits
           (subst IsLinks all links))
 
       module _ (h : Heap) (asked : List Ref) (p : Phases) (r : Ring) (l : LinksView)
@@ -452,8 +496,7 @@ module _ (n : NodeView) (from stamp : ℕ) (b : Body) (old : IsNode n)
               let j : LocalState = joined_parts n.local stamp in
               subst IsNode (sym joined-now)
               (taken-stands n j.heap j.asked j.phases j.ring (marks_for stamp (roots_of n)) from
-              stamp true (brought_by n.local.heap b) b old (comes n from stamp b old t)
-              (reached-joined n stamp old t.cycle phases)
+              stamp true b old (comes n from stamp b old t) (joined-reached phases) joined-suits
               (subst IsPhases left.phases now)
               (subst IsLinks left.links links))
 

@@ -1,5 +1,5 @@
 -- The token is handed on, or judged by node 0.
-use Rattle.std.proofs.Common.{◌≡◌, ◌≢◌, ℕ, ◌-◌, ◌≤◌, ◌==◌, Bool, true, false, cond, List, [], ◌∷◌, length, map, ap, sym, ◌∙◌, subst, refl, arith}
+use Rattle.std.proofs.Common.{◌≡◌, ◌≢◌, ℕ, ◌-◌, ◌≤◌, ◌==◌, Bool, true, false, cond, List, [], ◌∷◌, length, map, ap, sym, ◌∙◌, subst, refl, arith, le_refl}
 use Rattle.std.specs.Prelude.{is_some}
 use Rattle.std.proofs.lemmas.Bool.{cond-true, cond-false}
 use Rattle.ids.specs.declared.refusal.Refusal.{Refusal}
@@ -13,12 +13,15 @@ use Rattle.model.specs.declared.event.Event.TheVariants as event
 use Rattle.model.specs.Checks.{AllPass, IsFirstRefusal}
 use Rattle.model.specs.Counting.{announce, append, stamped}
 use Rattle.model.specs.Effects.{Effect, answers}
-use Rattle.model.specs.State.{Phases, Ring, LocalState}
+use Rattle.ids.specs.Limits.{Shaped}
+use Rattle.ids.specs.declared.names.Ref.{Ref}
+use Rattle.model.specs.State.{Heap, Phases, Ring, LocalState}
 use Rattle.model.specs.Collecting.{conclude, forwarded, handed_on, is_concluded, judged, new_token, pass_tests, passed, probe, whitened, without_token}
 use Rattle.model.specs.Shading.{is_calm}
 use Rattle.model.specs.Steps.{fits}
-use Rattle.model.specs.View.{NodeView, used, view_act, view_done}
+use Rattle.model.specs.View.{NodeView, append_to, used, view_act, view_done}
 use Rattle.model.specs.References.{IsSendable}
+use Rattle.model.proofs.Stocks.{stocked-later}
 use Rattle.control.specs.Phases.{IsPhases, with_ended}
 use Rattle.safra.proofs.Bounds.{bounded_more}
 use Rattle.safra.specs.declared.verdict.Verdict.TheVariants.{Ended, Probe}
@@ -26,7 +29,7 @@ use Rattle.safra.specs.Verdicts.{judged_ring, verdict_of}
 use Rattle.link.specs.Links.{LinksView, IsLinks, announced, fits_others, for_others}
 use Rattle.link.proofs.Announcing.{to_others-is}
 use Rattle.node.specs.Cycles.{with_token_sent}
-use Rattle.node.specs.Invariant.{AreLinked, IsNode, links_of, number_sum}
+use Rattle.node.specs.Invariant.{IsNode, links_of, number_sum}
 use Rattle.node.proofs.Appended.{MaySend, linked-appended, numbers-appended, others-may}
 use Rattle.node.proofs.Balances.{bounded-same}
 use Rattle.node.proofs.Events.{after_step, answered, judged_view, okay, past_tests, sending_refused, test_refused, with_parts}
@@ -241,32 +244,41 @@ module _ (n : NodeView) (cycle : ℕ) (now : cycle ≡ n.local.phases.cycle)
 -- ---- the node is as every node
 
 pub node-ended : {n : NodeView} {x : Message} {phases : Phases} {ring : Ring} {l : LinksView}
-    → IsNode n → IsSendable n.local.shape x → IsPhases phases
-    → phases ≡ with_ended n.local.phases → ring ≡ judged_ring n.local.ring → IsLinks l
-    → l ≡ announced (links_of n) n.local.own x
+    → IsNode n → n.local.heap.grey ≡ [] → IsSendable n.local.shape x
+    → x.stamp ≤ n.local.phases.cycle → IsPhases phases → phases ≡ with_ended n.local.phases
+    → ring ≡ judged_ring n.local.ring → IsLinks l → l ≡ announced (links_of n) n.local.own x
     → IsNode (with_parts n n.local.heap n.local.asked phases ring l)
-node-ended {n = n} {x = x} {ring = ring} {l = l} old sendable sound a b links d =
+node-ended {n = n} {x = x} {phases = phases} {ring = ring} {l = l} old none sendable stamp sound a b
+    links d =
+    let s : Shaped = n.local.shape in
+    let p : Phases = n.local.phases in
+    let heap : Heap = n.local.heap in
+    let asked : List Ref = n.local.asked in
+    let r : Ring = judged_ring n.local.ring in
     let ms : List (ℕ × Message) = for_others n.local.own x (length n.links) in
-    let may = subst (λ (k : ℕ). MaySend n.local.shape (for_others n.local.own x k))
-    (sym old.links.width) (others-may n.local.shape n.local.own x sendable) in
-    let now : AreLinked n.local.shape l =
-    subst (AreLinked n.local.shape) (sym d)
-    (linked-appended n.local.shape (links_of n) ms old.links may (subst IsLinks d links)) in
-    let more : number_sum n.links n.local.got ≤ number_sum l.links l.got =
-    subst (λ (v : LinksView). number_sum n.links n.local.got ≤ number_sum v.links v.got) (sym d)
-    (omega (arith, numbers-appended n.local.shape (links_of n) ms old.links may)) in
-    record {
+    let may = subst (λ (k : ℕ). MaySend s n.local.own p.cycle (for_others n.local.own x k))
+    (sym old.links.width) (others-may s n.local.own p.cycle x sendable stamp) in
+    let more : number_sum n.links n.local.got ≤ number_sum (append_to n.links ms) n.local.got =
+    omega (arith, numbers-appended s n.local.own p.cycle (links_of n) ms old.links may) in
+    subst (λ (z : Phases). IsNode (with_parts n heap asked z ring l)) (sym a)
+    (subst (λ (z : Ring). IsNode (with_parts n heap asked (with_ended p) z l)) (sym b)
+    (subst (λ (z : LinksView). IsNode (with_parts n heap asked (with_ended p) r z)) (sym d)
+    (record {
       shape = old.shape;
       own = old.own;
       references = old.references;
+      stocked = stocked-later s n.local.own p.cycle p.ended heap old.stocked p.cycle p.cycle
+          (le_refl p.cycle) none;
+      asked = old.asked;
       phases = record {
-        phases = sound;
-        cursor = subst (λ (p : Phases). p.cursor ≤ length n.local.heap.slots) (sym a)
-            old.phases.cursor;
-        reports = ap (λ (p : Phases). length p.reports) a ∙ old.phases.reports;
+        phases = subst IsPhases a sound;
+        cursor = old.phases.cursor;
+        reports = old.phases.reports;
+        heard = old.phases.heard;
       };
-      links = now;
-      balance = bounded_more _ _ ring more
-          (bounded-same (number_sum n.links n.local.got) ring n.local.ring
-          (ap (λ (r : Ring). r.earlier) b) (ap (λ (r : Ring). r.recent) b) old.balance);
-    }
+      token = tt;
+      links = linked-appended s n.local.own p.cycle (links_of n) ms old.links may
+          (subst IsLinks d links);
+      balance = bounded_more _ _ r more
+          (bounded-same (number_sum n.links n.local.got) r n.local.ring refl refl old.balance);
+    })))

@@ -1,8 +1,8 @@
 -- What the tests of a message say, and the limits of its frame.
-use Rattle.std.proofs.Common.{◌≡◌, ℕ, ◌+◌, ◌<◌, ◌≤◌, true, false, ◌==◌, ◌&&◌, Option, Some, None, option_to_list, ap, sym, ◌∙◌, arith}
+use Rattle.std.proofs.Common.{◌≡◌, ℕ, ◌+◌, ◌<◌, ◌≤◌, true, false, ◌==◌, ◌&&◌, not, Option, Some, None, option_to_list, ap, sym, ◌∙◌, arith}
 use Rattle.std.specs.Prelude.{nat_lt, nat_le}
 use Rattle.std.specs.List.{AllByRecursion}
-use Rattle.std.proofs.lemmas.Bool.{and_parts, cond-true, lt-ltb, ltb-true, leb-true, ne_eqb}
+use Rattle.std.proofs.lemmas.Bool.{and_parts, cond-true, eqb-false, not-true, lt-ltb, ltb-true, leb-true, ne_eqb}
 use Rattle.ids.specs.Limits.{Shaped, reference_fits}
 use Rattle.ids.specs.declared.names.Ref.{Ref}
 use Rattle.ids.specs.declared.limits.TheConstants.{GREATEST_CYCLE, GREATEST_NODES, GREATEST_SLOTS, GREATEST_NUMBER}
@@ -84,8 +84,10 @@ takable p d addressed turn may =
     && (may_follow p from b && may_settle (joined p stamp).local stamp b)) may in
     let within = (and_parts (are_within p.shape (mentioned b))
     (may_follow p from b && may_settle (joined p stamp).local stamp b) reach.1).0 in
+    let sender = and_parts (nat_lt from p.shape.nodes) (not (from == p.own)) there in
     record {
-      there = ltb-true from p.shape.nodes (and_parts (nat_lt from p.shape.nodes) _ there).0;
+      there = ltb-true from p.shape.nodes sender.0;
+      other = eqb-false from p.own (not-true (from == p.own) sender.1);
       room = omega (arith, turn, most);
       cycle = leb-true stamp GREATEST_CYCLE fourth.0;
       within = within-mentioned p.shape b within fourth.1;

@@ -13,6 +13,7 @@ use Rattle.model.specs.References.{IsWithin}
 use Rattle.model.specs.Shading.{filled, is_calm, last_grey, without_last_grey}
 use Rattle.model.specs.View.{NodeView, view_act}
 use Rattle.model.proofs.References.{holds-places, holds-without_last_grey}
+use Rattle.model.proofs.Stocks.{stocked-scanned}
 use Rattle.link.specs.Links.{LinksView, IsLinks}
 use Rattle.barrier.specs.Asked.{IsRefused, all_appended}
 use Rattle.barrier.specs.Parts.{part_of, IsDone}
@@ -57,10 +58,11 @@ module _ (n : NodeView) where
   node-scanned old links =
       let kept = holds-without_last_grey (IsWithin n.local.shape) n.local.heap old.references in
       let slots = le_refl (length n.local.heap.slots) in
+      let stocked = stocked-scanned _ _ _ _ n.local.heap old.stocked in
       node-shaded
       (record n { local = record n.local { heap = without_last_grey n.local.heap } })
       (held n)
-      (node-heap n (without_last_grey n.local.heap) old kept slots)
+      (node-heap n (without_last_grey n.local.heap) old kept stocked slots)
       (holds-places (IsWithin n.local.shape) n.local.heap (last_grey n.local.heap) old.references)
       links
 

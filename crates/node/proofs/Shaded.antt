@@ -1,5 +1,5 @@
 -- A node after references were shaded.
-use Rattle.std.proofs.Common.{◌≡◌, ℕ, ◌==◌, ◌+◌, cond, List, [], ◌∷◌, ◌++◌, length, refl, sym, ◌∙◌, subst, ⊎_elim, arith}
+use Rattle.std.proofs.Common.{◌≡◌, ℕ, ◌==◌, ◌+◌, true, cond, List, [], ◌∷◌, ◌++◌, length, refl, sym, ◌∙◌, subst, ⊎_elim, arith}
 use Rattle.std.specs.List.{AllByRecursion}
 use Rattle.std.proofs.lemmas.Bool.{cases_Bool, cond_both}
 use Rattle.std.proofs.lemmas.List.{length-set, length-map}
@@ -11,8 +11,10 @@ use Rattle.model.specs.Heaps.{object_at, with_rewritten}
 use Rattle.model.specs.Shading.{is_open, is_unmarked, make_all_grey, make_grey, mark_for, marks_for, shade_all, unasked, with_mark}
 use Rattle.model.specs.References.{IsWithin}
 use Rattle.model.specs.View.{NodeView, append_to}
-use Rattle.model.proofs.ShadingParts.{shade_all-closed, shade_all-open, shaded_work, unasked-all}
+use Rattle.model.proofs.ShadingParts.{shade_all-closed, shade_all-open, shaded_work}
 use Rattle.model.proofs.References.{holds-make_all_grey}
+use Rattle.model.proofs.Stocks.{open-apart, stocked-greyed}
+use Rattle.model.proofs.Asking.{asked-more}
 use Rattle.safra.specs.Balances.{IsBounded}
 use Rattle.safra.proofs.Bounds.{bounded_marks}
 use Rattle.safra.specs.Rings.{counted_marks}
@@ -54,11 +56,11 @@ pub grey-slots : (own cycle : ℕ) (h : Heap) (rs : List Ref)
 grey-slots own cycle h rs = (grey-all own cycle h rs).0
 
 -- what is shaded of a node, by cases of whether it marks
-shaded-either : (P : Work → Type 0) (p : LocalState) (rs : List Ref) → P (shaded_work p [] rs)
-    → P (at_rest p) → P (shade_all (at_rest p) rs)
+shaded-either : (P : Work → Type 0) (p : LocalState) (rs : List Ref)
+    → (is_open p ≡ true → P (shaded_work p [] rs)) → P (at_rest p) → P (shade_all (at_rest p) rs)
 shaded-either P p rs opened closed =
     ⊎_elim {C = P (shade_all (at_rest p) rs)}
-    (λ is. subst P (sym (shade_all-open p [] rs is)) opened)
+    (λ is. subst P (sym (shade_all-open p [] rs is)) (opened is))
     (λ is. subst P (sym (shade_all-closed (at_rest p) rs is)) closed)
     (cases_Bool (is_open p))
 
@@ -66,29 +68,29 @@ pub shaded-registers : (p : LocalState) (rs : List Ref)
     → (shade_all (at_rest p) rs).local.heap.registers ≡ p.heap.registers
 shaded-registers p rs =
     shaded-either (λ w. w.local.heap.registers ≡ p.heap.registers) p rs
-    (grey-all p.own p.phases.cycle p.heap rs).1
+    (λ _. (grey-all p.own p.phases.cycle p.heap rs).1)
     refl
 
 pub shaded-shape : (p : LocalState) (rs : List Ref)
     → (shade_all (at_rest p) rs).local.shape ≡ p.shape
-shaded-shape p rs = shaded-either (λ w. w.local.shape ≡ p.shape) p rs refl refl
+shaded-shape p rs = shaded-either (λ w. w.local.shape ≡ p.shape) p rs (λ _. refl) refl
 
 -- ---- the node
 
-node-open : (n : NodeView) (rs : List Ref) → IsNode n → AllByRecursion (IsWithin n.local.shape) rs
+node-open : (n : NodeView) (rs : List Ref) → is_open n.local ≡ true → IsNode n
+    → AllByRecursion (IsWithin n.local.shape) rs
     → IsLinks (all_appended (links_of n) (shaded_work n.local [] rs).sends)
     → IsNode (after_step n (shaded_work n.local [] rs).local (shaded_work n.local [] rs).sends)
-node-open n rs old all links =
+node-open n rs opened old all links =
     let p : LocalState = n.local in
     let new : List Ref = unasked p.own p.asked rs in
     let ms : List (ℕ × Message) = marks_for p.phases.cycle new in
-    let may = marks-may p.shape p.phases.cycle new old.phases.phases.within
-    (unasked-all (IsWithin p.shape) p.own p.asked rs all) in
+    let may = marks-may p.shape p.own p.phases.cycle p.asked rs old.phases.phases.within all in
     let many : number_sum n.links p.got + length new
     ≡ number_sum (append_to n.links ms) p.got =
     omega (
       arith,
-      numbers-appended p.shape (links_of n) ms old.links may,
+      numbers-appended p.shape p.own p.phases.cycle (links_of n) ms old.links may,
       length-map new (mark_for p.phases.cycle),
     ) in
     record {
@@ -96,12 +98,17 @@ node-open n rs old all links =
       own = old.own;
       references = holds-make_all_grey (IsWithin p.shape) p.own p.phases.cycle p.heap rs
           old.references;
+      stocked = stocked-greyed p.shape p.own p.phases.cycle p.phases.ended p.heap rs
+          (open-apart p opened) old.stocked;
+      asked = asked-more p.shape p.own p.asked rs old.asked all;
       phases = record {
         phases = old.phases.phases;
         cursor = omega (arith, old.phases.cursor, grey-slots p.own p.phases.cycle p.heap rs);
         reports = old.phases.reports;
+        heard = old.phases.heard;
       };
-      links = linked-appended p.shape (links_of n) ms old.links may links;
+      token = old.token;
+      links = linked-appended p.shape p.own p.phases.cycle (links_of n) ms old.links may links;
       balance = subst (λ (most : ℕ). IsBounded most (counted_marks (length new) p.ring)) many
           (bounded_marks (number_sum n.links p.got) (length new) p.ring old.balance);
     }
@@ -115,5 +122,5 @@ node-shaded n rs old all =
     shaded-either
     (λ w. IsLinks (all_appended (links_of n) w.sends) → IsNode (after_step n w.local w.sends))
     n.local rs
-    (node-open n rs old all)
+    (λ opened. node-open n rs opened old all)
     (λ _. old)

@@ -1,100 +1,158 @@
--- Each change of a node keeps what is true of every node.
-use Rattle.std.proofs.Common.{◌≡◌, ℕ, ◌≤◌, List, [], ◌∷◌, length, get_or, Some, None, Ok, ap, sym, ◌∙◌, subst, arith, length-append}
+-- Each event on the heap alone keeps what is true of every node.
+use Rattle.std.proofs.Common.{◌≡◌, ℕ, ◌≤◌, List, [], ◌∷◌, drop, length, get_or, Some, None, Ok, ap, sym, ◌∙◌, subst, arith, length-append, le_refl}
+use Rattle.std.proofs.lemmas.Bool.{leb-true}
 use Rattle.std.proofs.lemmas.List.{length-set}
+use Rattle.ids.specs.declared.limits.TheConstants.{GREATEST_PLACES}
 use Rattle.ids.specs.declared.names.Ref.{Ref}
+use Rattle.model.specs.declared.event.Letter.{Letter}
+use Rattle.model.specs.Checks.{AllPass}
 use Rattle.model.specs.State.{Object, Slot, Occupied, Retired, Heap, register_at}
-use Rattle.model.specs.Heaps.{next_generation, slots_with, heap_alloc, alloc_tests, alloc_heap, with_object, new_object, new_reference, named, heap_store, heap_clear, heap_set_word, store_tests, clear_tests, word_tests}
-use Rattle.model.specs.References.{HoldsOnly}
-use Rattle.model.proofs.Checks.{guarded-ok}
-use Rattle.model.proofs.References.{holds-with_register, holds-with_object, holds-with_place, holds-with_word}
+use Rattle.model.specs.Heaps.{next_generation, slots_with, heap_alloc, alloc_tests, alloc_heap, with_object, new_object, new_reference, named, heap_copy, copy_tests, heap_drop, drop_tests, heap_accept, accept_tests, letter_taken, oldest_letter, heap_store, store_tests, with_place, heap_clear, clear_tests, heap_set_word, word_tests, with_word}
+use Rattle.model.specs.References.{IsWithin}
+use Rattle.model.specs.View.{NodeView}
+use Rattle.model.proofs.Checks.{guarded-ok, guarded-passes}
+use Rattle.model.proofs.References.{holds-letter_gone, holds-with_register, holds-with_object, holds-with_place, holds-with_word}
+use Rattle.model.proofs.Stocks.{stocked-letter_gone, stocked-object, stocked-place, stocked-register, stocked-word}
+use Rattle.node.specs.Invariant.{IsNode}
+use Rattle.node.proofs.Nodes.{node-heap}
 
-module _ (P : Ref → Type 0) (limit own cycle : ℕ) (h : Heap) (register places : ℕ) where
-  pub alloc_references : (g : Heap) (r : Ref)
-      → heap_alloc limit own cycle h register places ≡ Ok (g, r) → P r → HoldsOnly P h
-      → HoldsOnly P g
-  unfolding heap_alloc
-  alloc_references g r e p all =
-      let both : ◌≡◌ {A = Heap × Ref} (alloc_heap own cycle h register places, new_reference own h)
-      (g, r) =
-      guarded-ok (alloc_tests limit h register places) _ _ e in
-      let heap : alloc_heap own cycle h register places ≡ g = ap (λ (z : Heap × Ref). z.0) both in
-      let name : new_reference own h ≡ r = ap (λ (z : Heap × Ref). z.1) both in
-      subst (HoldsOnly P) heap (holds-with_register P (with_object h (new_object cycle places))
-      register (Some (new_reference own h)) (holds-with_object P h cycle places all)
-      (subst P (sym name) p))
+-- the node with this heap
+abbrev pub with_heap : NodeView → Heap → NodeView
+with_heap n h = record n { local = record n.local { heap = h } }
 
-module _ (limit own cycle : ℕ) (h : Heap) (register places : ℕ) where
-  pub alloc-names : (g : Heap) (r : Ref)
-      → heap_alloc limit own cycle h register places ≡ Ok (g, r) → own ≡ r.node
-  unfolding heap_alloc
-  alloc-names g r e =
-      let both : ◌≡◌ {A = Heap × Ref} (alloc_heap own cycle h register places, new_reference own h)
-      (g, r) =
-      guarded-ok (alloc_tests limit h register places) _ _ e in
-      ap (λ (z : Heap × Ref). z.1.node) both
-
-module _ (P : Ref → Type 0) (own : ℕ) (h : Heap) where
-  pub store_references : (object place register : ℕ) (g : Heap)
-      → heap_store own h object place register ≡ Ok g → HoldsOnly P h → HoldsOnly P g
-  unfolding heap_store
-  store_references object place register g e all =
-      subst (HoldsOnly P) (guarded-ok (store_tests own h object place register) _ _ e)
-      (holds-with_place P h (named h object) place (register_at h register) all
-      (all.registers register))
-
-pub clear_references : (P : Ref → Type 0) (own : ℕ) (h : Heap) (object place : ℕ) (g : Heap)
-    → heap_clear own h object place ≡ Ok g → HoldsOnly P h → HoldsOnly P g
-unfolding heap_clear
-clear_references P own h object place g e all =
-    subst (HoldsOnly P) (guarded-ok (clear_tests own h object place) _ _ e)
-    (holds-with_place P h (named h object) place None all tt)
-
-pub set_word_references : (P : Ref → Type 0) (own : ℕ) (h : Heap) (object word : ℕ) (g : Heap)
-    → heap_set_word own h object word ≡ Ok g → HoldsOnly P h → HoldsOnly P g
-unfolding heap_set_word
-set_word_references P own h object word g e all =
-    subst (HoldsOnly P) (guarded-ok (word_tests own h object) _ _ e)
-    (holds-with_word P h (named h object) word all)
-
--- ---- the slots: an object may come to have one that is new, and no slot is taken away
-
+-- an object may come to have a slot that is new, and no slot is taken away
 slots_with-more : (free : List ℕ) (slots : List Slot) (o : Object)
     → length slots ≤ length (slots_with free slots o)
 slots_with-more [] slots o = omega (arith, length-append slots (Occupied 1 o ∷ []))
 slots_with-more (k ∷ ks) slots o =
     omega (arith, length-set slots k (Occupied (next_generation (get_or slots k Retired)) o))
 
-module _ (limit own cycle : ℕ) (h : Heap) (register places : ℕ) where
-  pub alloc-slots : (g : Heap) (r : Ref)
-      → heap_alloc limit own cycle h register places ≡ Ok (g, r) → length h.slots ≤ length g.slots
+pub alloc-names : (limit own cycle : ℕ) (h : Heap) (register places : ℕ) (g : Heap) (r : Ref)
+    → heap_alloc limit own cycle h register places ≡ Ok (g, r) → own ≡ r.node
+unfolding heap_alloc
+alloc-names limit own cycle h register places g r e =
+    let both : ◌≡◌ {A = Heap × Ref} (alloc_heap own cycle h register places, new_reference own h)
+    (g, r) =
+    guarded-ok (alloc_tests limit h register places) _ _ e in
+    ap (λ (z : Heap × Ref). z.1.node) both
+
+module _ (n : NodeView) (old : IsNode n) where
+  pub node-allocated : (limit cycle register places : ℕ) (g : Heap) (r : Ref)
+      → cycle ≡ n.local.phases.cycle → IsWithin n.local.shape r
+      → heap_alloc limit n.local.own cycle n.local.heap register places ≡ Ok (g, r)
+      → IsNode (with_heap n g)
   unfolding heap_alloc
-  alloc-slots g r e =
-      let both : ◌≡◌ {A = Heap × Ref} (alloc_heap own cycle h register places, new_reference own h)
+  node-allocated limit cycle register places g r now within e =
+      let p = n.local in
+      let h : Heap = p.heap in
+      let at : ℕ = p.phases.cycle in
+      let tests = alloc_tests limit h register places in
+      let both : ◌≡◌ {A = Heap × Ref} (alloc_heap p.own cycle h register places, new_reference p.own h)
       (g, r) =
-      guarded-ok (alloc_tests limit h register places) _ _ e in
-      subst (λ (z : Heap × Ref). length h.slots ≤ length z.0.slots) both
-      (slots_with-more h.free h.slots (new_object cycle places))
+      guarded-ok tests _ _ e in
+      let name : new_reference p.own h ≡ r = ap (λ (z : Heap × Ref). z.1) both in
+      let heap : alloc_heap p.own at h register places ≡ g =
+      ap (λ (k : ℕ). alloc_heap p.own k h register places) (sym now)
+      ∙ ap (λ (z : Heap × Ref). z.0) both in
+      let passed : AllPass tests = guarded-passes tests _ _ e in
+      let o : Object = new_object at places in
+      subst (λ (z : Heap). IsNode (with_heap n z)) heap
+      (node-heap n (alloc_heap p.own at h register places) old
+      (holds-with_register (IsWithin p.shape) (with_object h o) register
+      (Some (new_reference p.own h))
+      (holds-with_object (IsWithin p.shape) h at places old.references)
+      (subst (IsWithin p.shape) (sym name) within))
+      (stocked-register p.shape p.own at p.phases.ended (with_object h o)
+      (stocked-object p.shape p.own at p.phases.ended h old.stocked places
+      (leb-true places GREATEST_PLACES passed.1.0))
+      register (Some (new_reference p.own h)))
+      (slots_with-more h.free h.slots o))
 
-pub store_slots : (own : ℕ) (h : Heap) (object place register : ℕ) (g : Heap)
-    → heap_store own h object place register ≡ Ok g → length g.slots ≡ length h.slots
-unfolding heap_store
-store_slots own h object place register g e =
-    ap (λ (z : Heap). length z.slots)
-    (sym (guarded-ok (store_tests own h object place register) _ _ e))
-    ∙ length-set h.slots (named h object).slot _
+  pub node-copied : (register source : ℕ) (g : Heap)
+      → heap_copy n.local.heap register source ≡ Ok g → IsNode (with_heap n g)
+  unfolding heap_copy
+  node-copied register source g e =
+      let p = n.local in
+      subst (λ (z : Heap). IsNode (with_heap n z))
+      (guarded-ok (copy_tests p.heap register source) _ _ e)
+      (node-heap n _ old
+      (holds-with_register (IsWithin p.shape) p.heap register (register_at p.heap source)
+      old.references (old.references.registers source))
+      (stocked-register p.shape p.own p.phases.cycle p.phases.ended p.heap old.stocked register
+      (register_at p.heap source))
+      (le_refl (length p.heap.slots)))
 
-pub clear_slots : (own : ℕ) (h : Heap) (object place : ℕ) (g : Heap)
-    → heap_clear own h object place ≡ Ok g → length g.slots ≡ length h.slots
-unfolding heap_clear
-clear_slots own h object place g e =
-    ap (λ (z : Heap). length z.slots)
-    (sym (guarded-ok (clear_tests own h object place) _ _ e))
-    ∙ length-set h.slots (named h object).slot _
+  pub node-dropped : (register : ℕ) (g : Heap) → heap_drop n.local.heap register ≡ Ok g
+      → IsNode (with_heap n g)
+  unfolding heap_drop
+  node-dropped register g e =
+      let p = n.local in
+      subst (λ (z : Heap). IsNode (with_heap n z)) (guarded-ok (drop_tests p.heap register) _ _ e)
+      (node-heap n _ old
+      (holds-with_register (IsWithin p.shape) p.heap register None old.references tt)
+      (stocked-register p.shape p.own p.phases.cycle p.phases.ended p.heap old.stocked register None)
+      (le_refl (length p.heap.slots)))
 
-pub set_word_slots : (own : ℕ) (h : Heap) (object word : ℕ) (g : Heap)
-    → heap_set_word own h object word ≡ Ok g → length g.slots ≡ length h.slots
-unfolding heap_set_word
-set_word_slots own h object word g e =
-    ap (λ (z : Heap). length z.slots)
-    (sym (guarded-ok (word_tests own h object) _ _ e))
-    ∙ length-set h.slots (named h object).slot _
+  pub node-accepted : (register : ℕ) (g : Heap) (l : Letter)
+      → heap_accept n.local.heap register ≡ Ok (g, l) → IsNode (with_heap n g)
+  unfolding heap_accept
+  node-accepted register g l e =
+      let p = n.local in
+      let h : Heap = record p.heap { letters = drop 1 p.heap.letters } in
+      let both : ◌≡◌ {A = Heap × Letter} (letter_taken p.heap register, oldest_letter p.heap) (g, l) =
+      guarded-ok (accept_tests p.heap register) _ _ e in
+      subst (λ (z : Heap × Letter). IsNode (with_heap n z.0)) both
+      (node-heap n (letter_taken p.heap register) old
+      (holds-with_register (IsWithin p.shape) h register (oldest_letter p.heap).reference
+      (holds-letter_gone (IsWithin p.shape) p.heap old.references) (old.references.letters 0))
+      (stocked-register p.shape p.own p.phases.cycle p.phases.ended h
+      (stocked-letter_gone p.shape p.own p.phases.cycle p.phases.ended p.heap old.stocked) register
+      (oldest_letter p.heap).reference)
+      (le_refl (length p.heap.slots)))
+
+  pub node-stored : (object place register : ℕ) (g : Heap)
+      → heap_store n.local.own n.local.heap object place register ≡ Ok g → IsNode (with_heap n g)
+  unfolding heap_store
+  node-stored object place register g e =
+      let p = n.local in
+      let r : Ref = named p.heap object in
+      let v = register_at p.heap register in
+      let slots : length (with_place p.heap r place v).slots ≡ length p.heap.slots =
+      length-set p.heap.slots r.slot _ in
+      subst (λ (z : Heap). IsNode (with_heap n z))
+      (guarded-ok (store_tests p.own p.heap object place register) _ _ e)
+      (node-heap n (with_place p.heap r place v) old
+      (holds-with_place (IsWithin p.shape) p.heap r place v old.references
+      (old.references.registers register))
+      (stocked-place p.shape p.own p.phases.cycle p.phases.ended p.heap old.stocked r place v)
+      (omega (arith, slots)))
+
+  pub node-cleared : (object place : ℕ) (g : Heap)
+      → heap_clear n.local.own n.local.heap object place ≡ Ok g → IsNode (with_heap n g)
+  unfolding heap_clear
+  node-cleared object place g e =
+      let p = n.local in
+      let r : Ref = named p.heap object in
+      let slots : length (with_place p.heap r place None).slots ≡ length p.heap.slots =
+      length-set p.heap.slots r.slot _ in
+      subst (λ (z : Heap). IsNode (with_heap n z))
+      (guarded-ok (clear_tests p.own p.heap object place) _ _ e)
+      (node-heap n (with_place p.heap r place None) old
+      (holds-with_place (IsWithin p.shape) p.heap r place None old.references tt)
+      (stocked-place p.shape p.own p.phases.cycle p.phases.ended p.heap old.stocked r place None)
+      (omega (arith, slots)))
+
+  pub node-word_set : (object word : ℕ) (g : Heap)
+      → heap_set_word n.local.own n.local.heap object word ≡ Ok g → IsNode (with_heap n g)
+  unfolding heap_set_word
+  node-word_set object word g e =
+      let p = n.local in
+      let r : Ref = named p.heap object in
+      let slots : length (with_word p.heap r word).slots ≡ length p.heap.slots =
+      length-set p.heap.slots r.slot _ in
+      subst (λ (z : Heap). IsNode (with_heap n z))
+      (guarded-ok (word_tests p.own p.heap object) _ _ e)
+      (node-heap n (with_word p.heap r word) old
+      (holds-with_word (IsWithin p.shape) p.heap r word old.references)
+      (stocked-word p.shape p.own p.phases.cycle p.phases.ended p.heap old.stocked r word)
+      (omega (arith, slots)))

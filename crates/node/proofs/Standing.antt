@@ -1,5 +1,5 @@
 -- A node that has taken a message in is as every node is.
-use Rattle.std.proofs.Common.{◌≡◌, ℕ, ◌+◌, ◌-◌, ◌^◌, ◌<◌, ◌≤◌, Bool, true, false, cond, ◌==◌, List, [], ◌∷◌, ◌++◌, length, get_or, set, Option, Some, None, refl, ap, ◌∙◌, arith, length-append}
+use Rattle.std.proofs.Common.{◌≡◌, ℕ, ◌+◌, ◌-◌, ◌^◌, ◌<◌, ◌≤◌, Bool, true, false, cond, ◌==◌, List, [], ◌∷◌, ◌++◌, length, get_or, set, Option, Some, None, refl, ap, sym, ◌∙◌, subst, arith, le_refl, length-append}
 use Rattle.std.specs.List.{AllByRecursion, sum_by}
 use Rattle.std.proofs.lemmas.Bool.{cond_both}
 use Rattle.std.proofs.lemmas.List.{length-set, length-map}
@@ -17,26 +17,26 @@ use Rattle.model.specs.Counting.{balance_of}
 use Rattle.model.specs.Shading.{is_unmarked, with_mark, make_grey, make_all_grey, filled, roots, mark_for, marks_for, entered}
 use Rattle.model.specs.Steps.{mentioned}
 use Rattle.model.specs.View.{Link, NodeView, append_to}
-use Rattle.model.specs.References.{IfAny, HoldsOnly, IsWithin, IsSendable}
-use Rattle.model.proofs.ShadingParts.{unasked-all}
-use Rattle.model.proofs.Appending.{length-append_to, sendable-appended, marks-sendable, marks-inside, sum-appended}
-use Rattle.model.proofs.References.{holds-make_all_grey, holds-with_letter, holds-with_place, holds-place_of, holds-roots, any-list, list-any, all-append}
+use Rattle.model.specs.References.{IfAny, HoldsOnly, IsWithin}
+use Rattle.model.specs.WellFormed.{IsOther, IsStocked, AreAsked, IsHeld, AreTimely}
+use Rattle.model.proofs.Lookups.{all-map}
+use Rattle.model.proofs.Asking.{asked-more, asked-none, timely-appended, timely-later, timely-taken}
+use Rattle.model.proofs.Stocks.{held-before, stocked-greyed, stocked-later}
+use Rattle.model.proofs.Appending.{length-append_to, sendable-appended, sum-appended}
+use Rattle.model.proofs.References.{holds-make_all_grey, holds-with_letter, holds-with_place, holds-place_of, holds-roots, list-any}
 use Rattle.link.specs.Links.{LinksView, IsLinks}
 use Rattle.control.specs.Phases.{IsPhases, in_cycle}
 use Rattle.safra.specs.Rings.{counted_marks}
 use Rattle.safra.specs.Balances.{IsBounded}
 use Rattle.safra.proofs.Bounds.{bounded_more, bounded_marks, bounded_up, bounded_down, bounded_entered}
 use Rattle.node.specs.Invariant.{ArePhased, IsNode, links_of, number_sum}
+use Rattle.node.proofs.Appended.{MaySend, both-may, marks-may, none-may}
 use Rattle.node.proofs.Balances.{number-few}
+use Rattle.node.proofs.Follows.{Suits, due-may, reply-may, met-stocked, ended-calm, ended-free, token-open, swept-first, body-cycle, body-stocked, body-held, body-heard}
 use Rattle.node.specs.declared.node.settling.Met.{Met}
 use Rattle.node.specs.Taking.{IsTakable, brought_by, met_by, met_references, sought, marks_due, count_due, reply_of, replies, due, looked_after, body_heap, body_phases, ring_after, followed, sought_roots, joined_parts, assembled}
 
 -- ---- references
-
-all-each : {X : Type 0} (P Q : X → Type 0) → ((x : X) → P x → Q x) → (xs : List X)
-    → AllByRecursion P xs → AllByRecursion Q xs
-all-each P Q each [] all = tt
-all-each P Q each (x ∷ xs) all = (each x all.0, all-each P Q each xs all.1)
 
 any-filled : (P : Ref → Type 0) (v : Option Ref) → IfAny P v → AllByRecursion P (filled (v ∷ []))
 any-filled P None h = tt
@@ -117,42 +117,6 @@ body-reports from stamp b p = refl
 
 -- ---- what is sent
 
-due-sendable : (shape : Shaped) (cycle : ℕ) (m : Met) (us : List Ref) → cycle ≤ GREATEST_CYCLE
-    → AllByRecursion (IsWithin shape) us
-    → AllByRecursion (λ (x : ℕ × Message). IsSendable shape x.1) (marks_due cycle m us)
-due-sendable shape cycle m us within all =
-    cond_both m.asks (marks_for cycle us) []
-    (AllByRecursion (λ (x : ℕ × Message). IsSendable shape x.1))
-    (λ _. marks-sendable shape cycle us within all)
-    (λ _. tt)
-
-due-inside : (width cycle : ℕ) (m : Met) (us : List Ref)
-    → AllByRecursion (λ (r : Ref). r.node < width) us
-    → AllByRecursion (λ (x : ℕ × Message). x.0 < width) (marks_due cycle m us)
-due-inside width cycle m us all =
-    cond_both m.asks (marks_for cycle us) []
-    (AllByRecursion (λ (x : ℕ × Message). x.0 < width))
-    (λ _. marks-inside width cycle us all)
-    (λ _. tt)
-
-reply-sendable : (shape : Shaped) (to cycle : ℕ) (v : Option Ref) (b : Body)
-    → cycle ≤ GREATEST_CYCLE → IfAny (IsWithin shape) v
-    → AllByRecursion (λ (x : ℕ × Message). IsSendable shape x.1) (replies to (reply_of cycle v b))
-reply-sendable shape to cycle v (body.Get target place label) within any =
-    (record { stamp = within; references = any-list (IsWithin shape) v any; place = tt }, tt)
-reply-sendable shape to cycle v body.Begin within any = tt
-reply-sendable shape to cycle v (body.Token token) within any = tt
-reply-sendable shape to cycle v (body.Mark target) within any = tt
-reply-sendable shape to cycle v (body.Give label reference) within any = tt
-reply-sendable shape to cycle v (body.Put target place reference) within any = tt
-reply-sendable shape to cycle v body.Ended within any = tt
-reply-sendable shape to cycle v body.Swept within any = tt
-
-reply-inside : (width to : ℕ) (reply : Option Message) → to < width
-    → AllByRecursion (λ (x : ℕ × Message). x.0 < width) (replies to reply)
-reply-inside width to None there = tt
-reply-inside width to (Some x) there = (there, tt)
-
 marks-count : (cycle : ℕ) (m : Met) (us : List Ref) → length (marks_due cycle m us) ≡ count_due m us
 marks-count cycle m us =
     cond-length m.asks
@@ -203,36 +167,36 @@ number-after links got from sends inside there =
 
 -- ---- a node that is in the message's cycle or past it, before it meets what the message brings
 
-pub record Reached (n : NodeView) (h : Heap) (p : Phases) (r : Ring) (ms : List (ℕ × Message))
-    : Type 0 where
+pub record Reached (n : NodeView) (h : Heap) (known : List Ref) (p : Phases) (r : Ring)
+    (ms : List (ℕ × Message)) : Type 0 where
+  pub later : n.local.phases.cycle ≤ p.cycle
   pub references : HoldsOnly (IsWithin n.local.shape) h
-  pub phases : ArePhased n.local.shape.nodes h.slots p
+  pub stocked : IsStocked n.local.shape n.local.own p.cycle p.ended h
+  pub asked : AreAsked n.local.shape n.local.own known
+  pub phases : ArePhased n.local.shape.nodes n.local.own h.slots p
+  pub token : IsHeld p.cycle p.ended r.token
   pub balance : IsBounded (number_sum n.links n.local.got + length ms) r
-  pub sendable : AllByRecursion (λ (x : ℕ × Message). IsSendable n.local.shape x.1) ms
-  pub inside : AllByRecursion (λ (x : ℕ × Message). x.0 < length n.links) ms
+  pub may : MaySend n.local.shape n.local.own p.cycle ms
 
 pub reached-here : (n : NodeView) → IsNode n
-    → Reached n n.local.heap n.local.phases n.local.ring []
+    → Reached n n.local.heap n.local.asked n.local.phases n.local.ring []
 reached-here n old = record {
+  later = le_refl n.local.phases.cycle;
   references = old.references;
+  stocked = old.stocked;
+  asked = old.asked;
   phases = old.phases;
+  token = old.token;
   balance = bounded_more (number_sum n.links n.local.got) _ n.local.ring (omega arith) old.balance;
-  sendable = tt;
-  inside = tt;
+  may = none-may n.local.shape n.local.own n.local.phases.cycle;
 }
 
 within-inside : (n : NodeView) (rs : List Ref) → IsNode n
     → AllByRecursion (IsWithin n.local.shape) rs
     → AllByRecursion (λ (r : Ref). r.node < length n.links) rs
 within-inside n rs old all =
-    all-each (IsWithin n.local.shape) (λ (r : Ref). r.node < length n.links)
+    all-map (IsWithin n.local.shape) (λ (r : Ref). r.node < length n.links)
     (λ r within. omega (arith, within.node, old.links.width)) rs all
-
-roots-within : (n : NodeView) → IsNode n
-    → AllByRecursion (IsWithin n.local.shape) (sought_roots n.local.own n.local.heap)
-roots-within n old =
-    unasked-all (IsWithin n.local.shape) n.local.own [] (filled (roots n.local.heap))
-    (holds-roots (IsWithin n.local.shape) n.local.heap old.references)
 
 -- what a node asks for when it joins has owners
 pub roots-inside : (n : NodeView) → IsNode n
@@ -242,50 +206,74 @@ roots-inside n old =
     (holds-roots (IsWithin n.local.shape) n.local.heap old.references)
 
 pub reached-joined : (n : NodeView) (cycle : ℕ) → IsNode n → cycle ≤ GREATEST_CYCLE
+    → n.local.phases.cycle < cycle → n.local.phases.cycle ≤ n.local.phases.swept
     → IsPhases (in_cycle cycle n.local.phases)
-    → Reached n (joined_parts n.local cycle).heap (joined_parts n.local cycle).phases
-    (joined_parts n.local cycle).ring
+    → Reached n (joined_parts n.local cycle).heap (joined_parts n.local cycle).asked
+    (joined_parts n.local cycle).phases (joined_parts n.local cycle).ring
     (marks_for cycle (sought_roots n.local.own n.local.heap))
-reached-joined n cycle old within phases =
-    let us : List Ref = sought_roots n.local.own n.local.heap in
-    let all = roots-within n old in
-    let rs : List Ref = filled (roots n.local.heap) in
+reached-joined n cycle old within next over phases =
+    let q : LocalState = n.local in
+    let us : List Ref = sought_roots q.own q.heap in
+    let rs : List Ref = filled (roots q.heap) in
+    let all = holds-roots (IsWithin q.shape) q.heap old.references in
     let marks : length (marks_for cycle us) ≡ length us = length-map us (mark_for cycle) in
+    let before : q.phases.ended < cycle = omega (arith, next, old.phases.phases.ended) in
+    let done : q.phases.ended ≡ q.phases.cycle =
+    omega (arith, over, old.phases.phases.swept, old.phases.phases.ended) in
+    let more : q.phases.cycle ≤ cycle = omega (arith, next) in
     record {
-      references =
-          holds-make_all_grey (IsWithin n.local.shape) n.local.own cycle n.local.heap rs
-          old.references;
-      phases = record { phases = phases; cursor = omega arith; reports = old.phases.reports };
+      later = more;
+      references = holds-make_all_grey (IsWithin q.shape) q.own cycle q.heap rs old.references;
+      stocked =
+          stocked-greyed q.shape q.own cycle q.phases.ended q.heap rs
+          (λ (e : q.phases.ended ≡ cycle). absurd (omega (arith, e, before)))
+          (stocked-later q.shape q.own q.phases.cycle q.phases.ended q.heap old.stocked cycle
+          q.phases.ended more (old.stocked.calm done));
+      asked = asked-more q.shape q.own [] rs (asked-none q.shape q.own) all;
+      phases = record {
+        phases = phases;
+        cursor = omega arith;
+        reports = old.phases.reports;
+        heard = old.phases.heard;
+      };
+      token = held-before cycle q.phases.ended q.ring.token before;
       balance =
-          bounded_more (number_sum n.links n.local.got + length us) _
-          (counted_marks (length us) (entered n.local.ring))
+          bounded_more (number_sum n.links q.got + length us) _
+          (counted_marks (length us) (entered q.ring))
           (omega (arith, marks))
-          (bounded_marks (number_sum n.links n.local.got) (length us) (entered n.local.ring)
-          (bounded_entered (number_sum n.links n.local.got) n.local.ring old.balance));
-      sendable = marks-sendable n.local.shape cycle us within all;
-      inside = marks-inside (length n.links) cycle us (within-inside n us old all);
+          (bounded_marks (number_sum n.links q.got) (length us) (entered q.ring)
+          (bounded_entered (number_sum n.links q.got) q.ring old.balance));
+      may = marks-may q.shape q.own cycle [] rs within all;
     }
 
 -- ---- the message is taken in
 
 -- what is known of a message, and of the node that it comes to
-pub record Comes (n : NodeView) (from : ℕ) (v : Option Ref) (b : Body) : Type 0 where
-  pub there : from < n.local.shape.nodes
+pub record Comes (n : NodeView) (from : ℕ) (b : Body) : Type 0 where
+  pub there : IsOther n.local.shape n.local.own from
   pub within : AllByRecursion (IsWithin n.local.shape) (mentioned b)
-  pub brought : IfAny (IsWithin n.local.shape) v
+  pub brought : IfAny (IsWithin n.local.shape) (brought_by n.local.heap b)
 
 pub comes : (n : NodeView) (from stamp : ℕ) (b : Body) → IsNode n → IsTakable n.local from stamp b
-    → Comes n from (brought_by n.local.heap b) b
+    → Comes n from b
 comes n from stamp b old t = record {
-  there = t.there;
+  there = (t.there, t.other);
   within = t.within;
   brought = brought-any (IsWithin n.local.shape) n.local.heap b old.references t.within;
 }
 
+-- the node with these parts
+abbrev pub reached_local : LocalState → Heap → List Ref → Phases → Ring → LocalState
+reached_local q h asked p r = record q { heap = h; asked = asked; phases = p; ring = r }
+
 module _ (n : NodeView) (h : Heap) (asked : List Ref) (p : Phases) (r : Ring)
-    (ms : List (ℕ × Message)) (from stamp : ℕ) (marking : Bool) (v : Option Ref) (b : Body)
-    (old : IsNode n) (c : Comes n from v b) (reached : Reached n h p r ms)
+    (ms : List (ℕ × Message)) (from stamp : ℕ) (marking : Bool) (b : Body) (old : IsNode n)
+    (c : Comes n from b) (reached : Reached n h asked p r ms)
+    (suits : Suits (reached_local n.local h asked p r) from stamp marking b)
   where
+    abbrev v : Option Ref
+    v = brought_by n.local.heap b
+
     abbrev met_here : Met
     met_here = met_by marking p.cycle stamp v b
 
@@ -296,7 +284,7 @@ module _ (n : NodeView) (h : Heap) (asked : List Ref) (p : Phases) (r : Ring)
     sends_here = ms ++ due p.cycle met_here sought_here from (reply_of p.cycle v b)
 
     abbrev reached_here : LocalState
-    reached_here = record n.local { heap = h; asked = asked; phases = p; ring = r }
+    reached_here = reached_local n.local h asked p r
 
     abbrev taken_here : NodeView
     taken_here =
@@ -306,33 +294,28 @@ module _ (n : NodeView) (h : Heap) (asked : List Ref) (p : Phases) (r : Ring)
           links = append_to n.links sends_here;
         }
 
-    sought-within : AllByRecursion (IsWithin n.local.shape) sought_here
-    sought-within =
-        unasked-all (IsWithin n.local.shape) n.local.own asked (filled (met_here.brought ∷ []))
-        (any-filled (IsWithin n.local.shape) met_here.brought
-        (met-any (IsWithin n.local.shape) marking p.cycle stamp v b c.brought))
+    met-within : AllByRecursion (IsWithin n.local.shape) (filled (met_here.brought ∷ []))
+    met-within =
+        any-filled (IsWithin n.local.shape) met_here.brought
+        (met-any (IsWithin n.local.shape) marking p.cycle stamp v b c.brought)
 
     from-there : from < length n.links
-    from-there = omega (arith, c.there, old.links.width)
+    from-there = omega (arith, c.there.0, old.links.width)
+
+    sends-may : MaySend n.local.shape n.local.own p.cycle sends_here
+    sends-may =
+        let s : Shaped = n.local.shape in
+        let own : ℕ = n.local.own in
+        let within : p.cycle ≤ GREATEST_CYCLE = reached.phases.phases.within in
+        both-may s own p.cycle ms _ reached.may
+        (both-may s own p.cycle (marks_due p.cycle met_here sought_here) _
+        (due-may s own p.cycle asked met_here within met-within)
+        (reply-may s own from p.cycle v b within c.there c.brought))
 
     sends-inside : AllByRecursion (λ (x : ℕ × Message). x.0 < length n.links) sends_here
     sends-inside =
-        all-append (λ (x : ℕ × Message). x.0 < length n.links) ms _ reached.inside
-        (all-append (λ (x : ℕ × Message). x.0 < length n.links)
-        (marks_due p.cycle met_here sought_here)
-        _
-        (due-inside (length n.links) p.cycle met_here sought_here
-        (within-inside n sought_here old sought-within))
-        (reply-inside (length n.links) from (reply_of p.cycle v b) from-there))
-
-    sends-sendable : AllByRecursion (λ (x : ℕ × Message). IsSendable n.local.shape x.1) sends_here
-    sends-sendable =
-        let within : p.cycle ≤ GREATEST_CYCLE = reached.phases.phases.within in
-        all-append (λ (x : ℕ × Message). IsSendable n.local.shape x.1) ms _ reached.sendable
-        (all-append (λ (x : ℕ × Message). IsSendable n.local.shape x.1)
-        (marks_due p.cycle met_here sought_here) _
-        (due-sendable n.local.shape p.cycle met_here sought_here within sought-within)
-        (reply-sendable n.local.shape from p.cycle v b within c.brought))
+        subst (λ (k : ℕ). AllByRecursion (λ (x : ℕ × Message). x.0 < k) sends_here)
+        (sym old.links.width) sends-may.inside
 
     sends-count : length sends_here
         ≡ length ms
@@ -367,6 +350,21 @@ module _ (n : NodeView) (h : Heap) (asked : List Ref) (p : Phases) (r : Ring)
         (omega (arith, few, number-here, sends-count))
         (bounded_marks (number_sum n.links n.local.got + length ms) k r reached.balance)
 
+    -- what was sent and taken in is of the node's cycle, or of one before
+    timely-here : AreTimely n.local.own taken_here.local.phases.cycle taken_here.links
+        taken_here.local.got
+    timely-here =
+        let own : ℕ = n.local.own in
+        let got : List ℕ = n.local.got in
+        let before = timely-later own n.local.phases.cycle n.links got old.links.timely p.cycle
+        reached.later in
+        let sent = timely-appended own p.cycle n.links got before sends_here sends-may.others
+        sends-may.stamps in
+        subst (λ (k : ℕ). AreTimely own k taken_here.links taken_here.local.got)
+        (sym (body-cycle n.local.shape own from stamp p b))
+        (timely-taken own p.cycle (append_to n.links sends_here) got sent from
+        (got_from n.local from + 1) c.there.1)
+
     pub taken-stands : IsPhases taken_here.local.phases → IsLinks (links_of taken_here)
         → IsNode taken_here
     taken-stands phases links =
@@ -389,16 +387,33 @@ module _ (n : NodeView) (h : Heap) (asked : List Ref) (p : Phases) (r : Ring)
               (holds-make_all_grey (IsWithin n.local.shape) n.local.own p.cycle h
               (filled (met_references met_here)) reached.references)
               c.within;
+          stocked =
+              body-stocked n.local.shape n.local.own from stamp p b marked c.there
+              (ended-calm reached_here from stamp marking n.local.heap b suits)
+              (met-stocked n.local.shape reached_here from stamp marking n.local.heap b suits
+              reached.stocked);
+          asked = asked-more n.local.shape n.local.own asked (filled (met_here.brought ∷ []))
+              reached.asked met-within;
           phases = record {
             phases = phases;
             cursor = omega (arith, slots, cursor, reached.phases.cursor);
             reports = body-reports from stamp b p ∙ reached.phases.reports;
+            heard = body-heard n.local.shape n.local.own from stamp p b c.there.1
+                (swept-first reached_here from stamp marking b suits) reached.phases.heard;
           };
+          token =
+              body-held n.local.shape n.local.own from stamp p p.cycle b (counted_marks k r)
+              (ended-free reached_here from stamp marking b suits)
+              (λ t e.
+              let apart = token-open reached_here from stamp marking b suits t e in
+              omega (arith, apart, reached.phases.phases.ended))
+              reached.token;
           links = record {
             width = length-append_to n.links sends_here ∙ old.links.width;
             links = links;
-            messages = sendable-appended n.local.shape n.links sends_here sends-sendable
+            messages = sendable-appended n.local.shape n.links sends_here sends-may.sendable
                 old.links.messages;
+            timely = timely-here;
           };
           balance =
               bounded_more _ _ taken_here.local.ring (omega (arith, number-here, sends-count))

@@ -14,10 +14,11 @@ use Rattle.model.specs.Counting.{stamped}
 use Rattle.model.specs.Effects.{Effect}
 use Rattle.model.specs.State.{Heap, Phases, LocalState, slot_at}
 use Rattle.model.specs.Collecting.{Sweeping, generation_in, is_garbage, looked_at, sweep_one, sweep_some, sweep_tests, sweeps_last, swept_slots, unswept, vacated}
-use Rattle.model.specs.References.{HoldsOnly, IsWithin}
+use Rattle.model.specs.References.{IsWithin}
 use Rattle.model.specs.Steps.{fits}
 use Rattle.model.specs.View.{NodeView, append_to, used, view_act}
 use Rattle.model.proofs.References.{holds-sweep_some}
+use Rattle.model.proofs.Stocks.{stocked-swept}
 use Rattle.control.specs.Phases.{IsPhases, advanced, all_swept}
 use Rattle.heap.specs.Heap.{swept}
 use Rattle.node.specs.Cycles.{reports}
@@ -184,30 +185,46 @@ module _ (n : NodeView) (count : ℕ) where
 
 -- ---- the node is as every node
 
+-- a sweep moves the cursor, and may end
+abbrev pub moved : ℕ → ℕ → Phases → Phases
+moved swept cursor p = record p { swept = swept; cursor = cursor }
+
+-- a node that sweeps knows its marking to have ended
+ended-here : (p : Phases) → IsPhases p → p.swept < p.ended → p.ended ≡ p.cycle
+ended-here p is unfinished = omega (arith, is.ended, is.cycle, unfinished)
+
 -- a node with swept slots, and phases that fit them
-pub node-swept : {n : NodeView} {h : Heap} {phases : Phases} (cycle k count : ℕ) → IsNode n
-    → h ≡ (swept cycle k count n.local.heap).heap → IsPhases phases
-    → phases.cursor ≤ length n.local.heap.slots → phases.reports ≡ n.local.phases.reports
-    → IsNode (with_swept n h phases)
-node-swept {n = n} {h = h} {phases = phases} cycle k count old is sound cursor reported =
-    let slots : length h.slots ≡ length n.local.heap.slots =
-    ap (λ (z : Heap). length z.slots) is
-    ∙ some-slots cycle k count (record { heap = n.local.heap; freed = 0 }) in
-    record {
+pub node-swept : {n : NodeView} {h : Heap} {phases : Phases} (cycle k count last cursor : ℕ)
+    → IsNode n → n.local.phases.swept < n.local.phases.ended
+    → h ≡ (swept cycle k count n.local.heap).heap → phases ≡ moved last cursor n.local.phases
+    → IsPhases phases → cursor ≤ length n.local.heap.slots → IsNode (with_swept n h phases)
+node-swept {n = n} {h = h} {phases = phases} cycle k count last cursor old unfinished is moves sound
+    within =
+    let p : Phases = n.local.phases in
+    let before : Sweeping = record { heap = n.local.heap; freed = 0 } in
+    let none = old.stocked.calm (ended-here p old.phases.phases unfinished) in
+    let slots = some-slots cycle k count before in
+    subst (λ (z : Phases). IsNode (with_swept n h z)) (sym moves)
+    (subst (λ (z : Heap). IsNode (with_swept n z (moved last cursor p))) (sym is)
+    (record {
       shape = old.shape;
       own = old.own;
-      references = subst (HoldsOnly (IsWithin n.local.shape)) (sym is)
-          (holds-sweep_some (IsWithin n.local.shape) cycle k count
-          (record { heap = n.local.heap; freed = 0 }) old.references);
+      references = holds-sweep_some (IsWithin n.local.shape) cycle k count before old.references;
+      stocked = stocked-swept n.local.shape n.local.own p.cycle p.ended cycle k count before none
+          old.stocked;
+      asked = old.asked;
       phases = record {
-        phases = sound;
-        cursor = omega (arith, cursor, slots);
-        reports = ap (λ (rs : List ℕ). length rs) reported ∙ old.phases.reports;
+        phases = subst IsPhases moves sound;
+        cursor = omega (arith, within, slots);
+        reports = old.phases.reports;
+        heard = old.phases.heard;
       };
+      token = old.token;
       links = record {
         width = old.links.width;
         links = old.links.links;
         messages = old.links.messages;
+        timely = old.links.timely;
       };
       balance = old.balance;
-    }
+    }))

@@ -38,7 +38,7 @@ module _ (p : LocalState) (from number stamp : ℕ) (b : Body) where
       ∙ ap (λ (w : Work). answers w answer.Received)
       (settled-is p from number stamp marking b opened may)
 
-  join-is : (p.phases.ended == stamp) ≡ false
+  pub join-is : (p.phases.ended == stamp) ≡ false
       → join p stamp
       ≡ record {
         local = joined_parts p stamp;

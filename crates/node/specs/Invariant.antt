@@ -6,6 +6,7 @@ use Rattle.link.specs.Links.{LinksView, IsLinks}
 use Rattle.model.specs.State.{Slot, Phases, Ring}
 use Rattle.model.specs.View.{Link, NodeView, used, no_link}
 use Rattle.model.specs.References.{HoldsOnly, IsWithin, IsSendable, no_message}
+use Rattle.model.specs.WellFormed.{IsStocked, AreAsked, IsHeld, AreReports, AreTimely}
 use Rattle.control.specs.Phases.{IsPhases}
 use Rattle.safra.specs.Balances.{IsBounded}
 
@@ -24,25 +25,31 @@ AllSendable shape links =
     (i k : ℕ)
     → IsSendable shape (slice_index_or (slice_index_or links i no_link).unacknowledged k no_message)
 
--- the links to all nodes of the shape
-pub record AreLinked (shape : Shaped) (l : LinksView) : Type 0 where
+-- the links of a node in this cycle to all nodes of the shape
+pub record AreLinked (shape : Shaped) (own cycle : ℕ) (l : LinksView) : Type 0 where
   pub width : length l.links ≡ shape.nodes
   pub links : IsLinks l
   pub messages : AllSendable shape l.links
+  pub timely : AreTimely own cycle l.links l.got
 
 abbrev pub links_of : NodeView → LinksView
 links_of n = record { links = n.links; got = n.local.got; acks = n.acks }
 
 -- the phases of a node with so many slots, in a space of so many nodes
-pub record ArePhased (nodes : ℕ) (slots : List Slot) (p : Phases) : Type 0 where
+pub record ArePhased (nodes own : ℕ) (slots : List Slot) (p : Phases) : Type 0 where
   pub phases : IsPhases p
   pub cursor : p.cursor ≤ length slots
   pub reports : length p.reports ≡ nodes
+  pub heard : AreReports own p.reports
 
 pub record IsNode (n : NodeView) : Type 0 where
   pub shape : IsShape n.local.shape
   pub own : n.local.own < n.local.shape.nodes
   pub references : HoldsOnly (IsWithin n.local.shape) n.local.heap
-  pub phases : ArePhased n.local.shape.nodes n.local.heap.slots n.local.phases
-  pub links : AreLinked n.local.shape (links_of n)
+  pub stocked : IsStocked n.local.shape n.local.own n.local.phases.cycle n.local.phases.ended
+      n.local.heap
+  pub asked : AreAsked n.local.shape n.local.own n.local.asked
+  pub phases : ArePhased n.local.shape.nodes n.local.own n.local.heap.slots n.local.phases
+  pub token : IsHeld n.local.phases.cycle n.local.phases.ended n.local.ring.token
+  pub links : AreLinked n.local.shape n.local.own n.local.phases.cycle (links_of n)
   pub balance : IsBalanced n.local.ring n.links n.local.got

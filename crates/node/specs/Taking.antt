@@ -1,6 +1,6 @@
 -- What a message does to a node that takes it in, by parts: what is looked after, what is sent, and
 -- what its body does besides.
-use Rattle.std.specs.Prelude.{◌≡◌, ℕ, ◌+◌, ◌<◌, ◌≤◌, Bool, true, false, cond, nat_lt, List, [], ◌∷◌, ◌++◌, length, Option, Some, None, map, slice_set}
+use Rattle.std.specs.Prelude.{◌≡◌, ◌≢◌, ℕ, ◌+◌, ◌<◌, ◌≤◌, Bool, true, false, cond, nat_lt, List, [], ◌∷◌, ◌++◌, length, Option, Some, None, map, slice_set}
 use Rattle.std.specs.List.{AllByRecursion}
 use Rattle.ids.specs.declared.limits.TheConstants.{GREATEST_CYCLE, GREATEST_NUMBER}
 use Rattle.ids.specs.declared.names.Ref.{Ref}
@@ -25,6 +25,7 @@ use Rattle.node.specs.declared.node.settling.Met.{Met}
 -- a message of the next number from there that the node may take in
 pub record IsTakable (p : LocalState) (from stamp : ℕ) (b : Body) : Type 0 where
   pub there : from < p.shape.nodes
+  pub other : from ≢ p.own
   pub room : got_from p from < GREATEST_NUMBER
   pub cycle : stamp ≤ GREATEST_CYCLE
   pub within : AllByRecursion (IsWithin p.shape) (mentioned b)

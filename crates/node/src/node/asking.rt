@@ -84,6 +84,7 @@ impl Node {
     /// was.
     pub(crate) fn send(&mut self, to: u8, body: Body) -> Result<u64, Refusal>
         requires there { to < self.old.local.shape.nodes }
+        requires other { to ≢ self.old.local.own }
         requires sendable { IsSendable self.old.local.shape (stamped self.old.local body) }
         ensures fits { IfOk result (λ n.
             fits (map used self.old.links) ((to, stamped self.old.local body) ∷ []) ≡ true) }

@@ -1,5 +1,5 @@
 //! A node's own steps of a collection cycle.
-ghost use Rattle.std.specs.Prelude.{◌≡◌, ◌≢◌, ◌<◌, ◌≤◌, [], ◌∷◌, true, false, not, length, map, IsTrue, IsSome, IfErr, OnOk, OnErr};
+ghost use Rattle.std.specs.Prelude.{◌≡◌, ◌≢◌, ◌<◌, ◌≤◌, [], ◌∷◌, true, false, not, length, map, None, IsTrue, IsSome, IfErr, OnOk, OnErr};
 ghost use Rattle.ids.specs.declared.limits.TheConstants.{GREATEST_CYCLE};
 ghost use Rattle.ids.specs.declared.refusal.Refusal.TheVariants.{LinkSpent, Memory};
 ghost use Rattle.msg.specs.declared.body.Body.TheVariants as body;
@@ -113,6 +113,8 @@ impl Node {
 
     /// Tells all others that marking has ended, or sends the token round again.
     fn judge(&mut self) -> Result<Answer, Refusal>
+        requires first { self.old.local.own ≡ 0 }
+        requires calm { self.old.local.heap.grey ≡ [] }
         requires token { IsSome self.old.local.ring.token }
         ensures { Performed false result self.old self.new
             (view_done self.old (judged self.old.local)) }
@@ -138,14 +140,16 @@ impl Node {
         }
     }
 
-    /// Sends the token to the node `to`; the node's part of the ring then is this, which differs in
-    /// colour and token alone. `LinkSpent` where no number is left, and after it `Memory`, where a
+    /// Sends the token to the node `to`; the node's part of the ring then is this, which has no token
+    /// and differs in colour alone besides. `LinkSpent` where no number is left, and after it `Memory`, where a
     /// growth was refused. The node is then as it was.
     fn send_token(&mut self, to: u8, token: Token, ring: Ring) -> Result<(), Refusal>
         requires there { to < self.old.local.shape.nodes }
+        requires other { to ≢ self.old.local.own }
         requires within { self.old.local.phases.cycle ≤ GREATEST_CYCLE }
         requires earlier { ring.earlier ≡ self.old.local.ring.earlier }
         requires recent { ring.recent ≡ self.old.local.ring.recent }
+        requires left { ring.token ≡ None }
         ensures fits { OnOk result (fits (map used self.old.links)
             ((to, stamped self.old.local (body.Token token)) ∷ []) ≡ true) }
         ensures done { OnOk result (self.new ≡ with_token_sent self.old to token ring) }

@@ -73,7 +73,7 @@ impl Node {
         Ok(Answer::Done)
     }
 
-    #[tactic(auto, using(crate::proofs::Sound::clear_references, crate::proofs::Sound::clear_slots), unfolding(model::specs::View::view_act, model::specs::Steps::cleared, model::specs::Heaps::heap_clear))]
+    #[tactic(auto, unfolding(model::specs::View::view_act, model::specs::Steps::cleared, model::specs::Heaps::heap_clear))]
     pub(crate) fn clear(&mut self, object: u16, place: u8) -> Result<Answer, Refusal>
         ensures performed { Performed false result self.old self.new
             (view_act self.old (event.Clear object place)) }
@@ -93,7 +93,7 @@ impl Node {
         Ok(Answer::Word(word))
     }
 
-    #[tactic(auto, using(crate::proofs::Sound::set_word_references, crate::proofs::Sound::set_word_slots), unfolding(model::specs::View::view_act, model::specs::Steps::word_set, model::specs::Heaps::heap_set_word))]
+    #[tactic(auto, unfolding(model::specs::View::view_act, model::specs::Steps::word_set, model::specs::Heaps::heap_set_word))]
     pub(crate) fn set_word(&mut self, object: u16, word: u64) -> Result<Answer, Refusal>
         ensures performed { Performed false result self.old self.new
             (view_act self.old (event.SetWord object word)) }

@@ -1,8 +1,7 @@
 use Rattle.std.proofs.Common.{◌<◌, arith, ◌∙◌, subst}
 use Rattle.model.specs.References.{IsWithin}
 use Rattle.node.specs.Inside.{view_of}
-use Rattle.node.proofs.Sound.{alloc_references, alloc-names, alloc-slots}
-use Rattle.node.proofs.Nodes.{node-heap}
+use Rattle.node.proofs.Sound.{alloc-names, node-allocated}
 use Rattle.node.proofs.node.Node.allocate.Goals as goal
 
 pub invariant_of-self-2 : goal.invariant_of-self-2
@@ -15,10 +14,7 @@ invariant_of-self-2 c =
       slot = omega (arith, within.0, c.self.invariant.limit);
       generation = within.1;
     } in
-    let held =
-    alloc_references (IsWithin c.self.inside.shape) _ _ _ _ _ _ _ _ done named old.references in
     record {
-      node = node-heap (view_of c.self.inside) c.alloc.new.self.heap old held
-          (alloc-slots _ _ _ _ _ _ _ _ done);
+      node = node-allocated (view_of c.self.inside) old _ _ _ _ _ _ c.cycle.ensures.value named done;
       limit = c.in_ok-reference.ensures.limit ∙ c.self.invariant.limit;
     }

@@ -1,4 +1,4 @@
-use Rattle.std.proofs.Common.{◌≡◌, ℕ, ◌-◌, ◌≤◌, false, Ok, Err, ap, refl, subst, sym}
+use Rattle.std.proofs.Common.{◌≡◌, ℕ, ◌-◌, ◌≤◌, [], false, Ok, Err, ap, arith, refl, subst, sym}
 use Rattle.std.proofs.lemmas.Result.{err_from_is_err_and}
 use Rattle.ids.specs.declared.limits.TheConstants.{GREATEST_CYCLE}
 use Rattle.msg.specs.declared.body.Body.TheVariants as body
@@ -44,8 +44,12 @@ invariant_of-self-in-Ended c =
       references = tt;
       place = tt;
     } in
+    let none = subst (λ (m : NodeView). m.local.heap.grey ≡ []) (sym c.self.view_is)
+    c.requires.calm in
+    let stamp : c.cycle-cycle.result ≤ n.local.phases.cycle =
+    omega (arith, c.cycle-cycle.ensures.value) in
     record {
-      node = node-ended old sendable c.on_ended.ensures.sound c.on_ended.ensures.done
+      node = node-ended old none sendable stamp c.on_ended.ensures.sound c.on_ended.ensures.done
           c.in-Ended.ensures.done left.sound left.done;
       limit = c.self.invariant.limit;
     }
@@ -102,3 +106,13 @@ returns-in_ok-send_token-in-Probe c =
           c.verdict.new.self ring left.fits left.done;
       unchanged = tt;
     }
+
+pub send_token-requires-clause-other : goal.send_token-requires-clause-other
+send_token-requires-clause-other c same =
+    absurd (omega (
+      arith,
+      same,
+      c.requires.first,
+      c.nodes-last.ensures.value,
+      c.nodes-last.ensures.within.least_nodes,
+    ))

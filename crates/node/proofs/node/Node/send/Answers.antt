@@ -1,4 +1,4 @@
-use Rattle.std.proofs.Common.{ℕ, ◌<◌, Option, ap, ◌∙◌, subst, sym}
+use Rattle.std.proofs.Common.{◌≢◌, ℕ, ◌<◌, Option, ap, ◌∙◌, subst, sym}
 use Rattle.model.specs.declared.balance.Balance.{Balance}
 use Rattle.model.specs.View.{NodeView}
 use Rattle.model.specs.References.{IsSendable}
@@ -19,12 +19,14 @@ invariant_of-self-2 c =
     let there =
     subst (λ (m : NodeView). c.args.to < m.local.shape.nodes) (sym c.self.view_is)
     c.requires.there in
+    let other =
+    subst (λ (m : NodeView). c.args.to ≢ m.local.own) (sym c.self.view_is) c.requires.other in
     let sendable =
     subst (λ (m : NodeView). IsSendable m.local.shape (stamped m.local c.args.body))
     (sym c.self.view_is) c.requires.sendable in
     let same = c.cycle-cycle.ensures.value in
     record {
-      node = node-sent n c.args.to c.args.body c.self.invariant.node there sendable
+      node = node-sent n c.args.to c.args.body c.self.invariant.node (there, other) sendable
           (record {
             sound = c.in_ok-number.ensures.sound;
             links = c.in_ok-number.ensures.done

@@ -1,26 +1,19 @@
-use Rattle.std.proofs.Common.{◌≡◌, Err, ap, arith, ◌∙◌, subst}
+use Rattle.std.proofs.Common.{◌≡◌, Err, ap, ◌∙◌, subst}
 use Rattle.std.proofs.lemmas.Result.{err_from_is_err_and}
 use Rattle.model.specs.Heaps.{heap_store}
 use Rattle.model.specs.View.{NodeView}
-use Rattle.model.specs.References.{IsWithin}
 use Rattle.heap.specs.Heap.{HeapView}
 use Rattle.node.specs.Inside.{view_of}
-use Rattle.node.proofs.Sound.{store_references, store_slots}
-use Rattle.node.proofs.Nodes.{node-heap}
+use Rattle.node.proofs.Sound.{node-stored}
 use Rattle.node.proofs.Refusing.{store_refused}
 use Rattle.node.proofs.node.Node.store.Goals as goal
 
 pub invariant_of-self-2 : goal.invariant_of-self-2
-invariant_of-self-2 c =
-    let done = c.in_ok-store.ensures.done in
-    let old = c.self.invariant.node in
-    let slots = store_slots _ _ _ _ _ _ done in
-    record {
-      node = node-heap (view_of c.self.inside) c.store.new.self.heap old
-          (store_references (IsWithin c.self.inside.shape) _ _ _ _ _ _ done old.references)
-          (omega (arith, slots));
-      limit = c.in_ok-store.ensures.limit ∙ c.self.invariant.limit;
-    }
+invariant_of-self-2 c = record {
+  node = node-stored (view_of c.self.inside) c.self.invariant.node _ _ _ _
+      c.in_ok-store.ensures.done;
+  limit = c.in_ok-store.ensures.limit ∙ c.self.invariant.limit;
+}
 
 pub returns-in_err-store-clause-performed : goal.returns-in_err-store-clause-performed
 returns-in_err-store-clause-performed c =

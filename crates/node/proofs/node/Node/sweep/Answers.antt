@@ -1,9 +1,8 @@
-use Rattle.std.proofs.Common.{◌≡◌, ℕ, ◌-◌, ◌<◌, ◌≤◌, true, false, length, map, Ok, Err, ap, arith, ◌∙◌, refl, subst, sym}
+use Rattle.std.proofs.Common.{◌≡◌, ℕ, ◌+◌, ◌-◌, ◌<◌, ◌≤◌, true, false, length, map, Ok, Err, ap, arith, ◌∙◌, refl, subst, sym}
 use Rattle.std.proofs.lemmas.Result.{err_from_is_err_and}
 use Rattle.ids.specs.declared.refusal.Refusal.TheVariants.{NothingToDo}
 use Rattle.model.specs.declared.event.Answer.TheVariants as answer
 use Rattle.model.specs.declared.event.Event.TheVariants as event
-use Rattle.model.specs.State.{Phases}
 use Rattle.model.specs.Collecting.{Sweeping, unswept}
 use Rattle.model.specs.Steps.{fits}
 use Rattle.model.specs.View.{NodeView, Performed, append_to, used, view_act}
@@ -31,19 +30,20 @@ invariant_of-self c =
     let n : NodeView = view_of c.self.inside in
     let done = c.sweep-freed.ensures.done in
     let phases = c.advance.ensures.done in
-    let within : c.advance.new.self.cursor ≤ length n.local.heap.slots =
+    let within : n.local.phases.cursor + c.args.count ≤ length n.local.heap.slots =
     omega (
       arith,
-      ap (λ (p : Phases). p.cursor) phases,
       c.if-count-left.true,
       c.slots.ensures,
       c.cursor-cursor.ensures,
     ) in
+    let unfinished : n.local.phases.swept < n.local.phases.ended =
+    omega (arith, c.if-swept-ended.false, c.swept.ensures, c.ended.ensures) in
     record {
       node = node-swept c.cycle-cycle.result c.cursor-cursor.result c.args.count
-          c.self.invariant.node
-          (ap (λ (v : HeapView). v.heap) done) c.advance.ensures.sound within
-          (ap (λ (p : Phases). p.reports) phases);
+          n.local.phases.swept (n.local.phases.cursor + c.args.count) c.self.invariant.node
+          unfinished
+          (ap (λ (v : HeapView). v.heap) done) phases c.advance.ensures.sound within;
       limit = ap (λ (v : HeapView). v.limit) done ∙ c.self.invariant.limit;
     }
 
@@ -98,13 +98,20 @@ invariant_of-self-2 c =
     let m : NodeView = view_of c.self-2.inside in
     let done = c.sweep-freed-2.ensures.done in
     let phases = c.end_sweep.ensures.done in
-    let within : c.end_sweep.new.self.cursor ≤ length m.local.heap.slots =
-    omega (arith, ap (λ (p : Phases). p.cursor) phases) in
+    let now = c.self-2.view_is
+    ∙ subst
+    (λ (v : NodeView).
+    c.report.new.self ≡ record v { links = append_to v.links (reports v.local) })
+    (sym c.self.view_is) c.in_ok-report.ensures.done in
+    let unfinished = subst (λ (v : NodeView). v.local.phases.swept < v.local.phases.ended) (sym now)
+    (let before : c.self.inside.phases.swept < c.self.inside.phases.ended =
+    omega (arith, c.if-swept-ended.false, c.swept.ensures, c.ended.ensures) in
+    before) in
     record {
       node = node-swept c.cycle-cycle.result c.cursor-cursor.result
-          (c.slots.result - c.cursor-cursor.result) c.self-2.invariant.node
-          (ap (λ (v : HeapView). v.heap) done) c.end_sweep.ensures.sound within
-          (ap (λ (p : Phases). p.reports) phases);
+          (c.slots.result - c.cursor-cursor.result) m.local.phases.cycle 0 c.self-2.invariant.node
+          unfinished
+          (ap (λ (v : HeapView). v.heap) done) phases c.end_sweep.ensures.sound (omega arith);
       limit = ap (λ (v : HeapView). v.limit) done ∙ c.self-2.invariant.limit;
     }
 
