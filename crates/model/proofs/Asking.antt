@@ -134,7 +134,8 @@ module _ (own cycle : ℕ) (links : List Link) (got : List ℕ) (old : AreTimely
           stamps old.stamps;
     }
 
-    pub timely-taken : (from number : ℕ) → from ≢ own → AreTimely own cycle links (set got from number)
+    pub timely-taken : (from number : ℕ) → from ≢ own
+        → AreTimely own cycle links (set got from number)
     timely-taken from number other = record {
       unused = old.unused;
       unheard = get_or-set_other got from own number 0 (λ e. other (sym e)) ∙ old.unheard;

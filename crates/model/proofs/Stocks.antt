@@ -114,7 +114,8 @@ module _ (shape : Shaped) (own cycle ended : ℕ) (h : Heap) (old : IsStocked sh
       calm = old.calm;
     }
 
-    pub stocked-letter_gone : IsStocked shape own cycle ended (record h { letters = drop 1 h.letters })
+    pub stocked-letter_gone
+        : IsStocked shape own cycle ended (record h { letters = drop 1 h.letters })
     stocked-letter_gone = record {
       registers = old.registers;
       letters = all-rest (λ (z : Letter). IsOther shape own z.from) h.letters old.letters;
@@ -152,7 +153,8 @@ module _ (shape : Shaped) (own cycle ended : ℕ) (h : Heap) (old : IsStocked sh
         → IsSlotOf cycle (Occupied g (new_object cycle places))
     new-slot g places born few = record {
       born = born;
-      places = (let wide = length-replicate {A = Option Ref} places None in omega (arith, wide, few));
+      places = (let wide = length-replicate {A = Option Ref} places None in
+          omega (arith, wide, few));
       mark = omega arith;
     }
 
@@ -309,7 +311,8 @@ module _ (shape : Shaped) (own cycle ended : ℕ) (h : Heap) (old : IsStocked sh
       registers = old.registers;
       letters = old.letters;
       slots = old.slots;
-      grey = all-take (λ (k : ℕ). HasMarked cycle (slot_at h k)) (length h.grey - 1) h.grey old.grey;
+      grey = all-take (λ (k : ℕ). HasMarked cycle (slot_at h k)) (length h.grey - 1) h.grey
+          old.grey;
       once = distinct-take eqb (length h.grey - 1) h.grey old.once;
       calm = λ done.
           ap (λ (ks : List ℕ). take (length ks - 1) ks) (old.calm done);

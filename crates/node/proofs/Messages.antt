@@ -14,7 +14,8 @@ module _ (n : NodeView) (old : IsNode n) (to : ℕ) (x : Message) where
 
   stands : (k : ℕ) → slice_get link.unacknowledged k ≡ Some x → IsSendable n.local.shape x
   stands k there =
-      subst (IsSendable n.local.shape) (get_or_from_slice_get link.unacknowledged k x no_message there)
+      subst (IsSendable n.local.shape)
+      (get_or_from_slice_get link.unacknowledged k x no_message there)
       (old.links.messages to k)
 
   pub numbered-sendable : (number : ℕ) → message_of link number ≡ Some x

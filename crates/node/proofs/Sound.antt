@@ -47,8 +47,8 @@ module _ (n : NodeView) (old : IsNode n) where
       let h : Heap = p.heap in
       let at : ℕ = p.phases.cycle in
       let tests = alloc_tests limit h register places in
-      let both : ◌≡◌ {A = Heap × Ref} (alloc_heap p.own cycle h register places, new_reference p.own h)
-      (g, r) =
+      let both : ◌≡◌ {A = Heap × Ref}
+      (alloc_heap p.own cycle h register places, new_reference p.own h) (g, r) =
       guarded-ok tests _ _ e in
       let name : new_reference p.own h ≡ r = ap (λ (z : Heap × Ref). z.1) both in
       let heap : alloc_heap p.own at h register places ≡ g =
@@ -90,7 +90,8 @@ module _ (n : NodeView) (old : IsNode n) where
       subst (λ (z : Heap). IsNode (with_heap n z)) (guarded-ok (drop_tests p.heap register) _ _ e)
       (node-heap n _ old
       (holds-with_register (IsWithin p.shape) p.heap register None old.references tt)
-      (stocked-register p.shape p.own p.phases.cycle p.phases.ended p.heap old.stocked register None)
+      (stocked-register p.shape p.own p.phases.cycle p.phases.ended p.heap old.stocked register
+      None)
       (le_refl (length p.heap.slots)))
 
   pub node-accepted : (register : ℕ) (g : Heap) (l : Letter)
@@ -99,7 +100,8 @@ module _ (n : NodeView) (old : IsNode n) where
   node-accepted register g l e =
       let p = n.local in
       let h : Heap = record p.heap { letters = drop 1 p.heap.letters } in
-      let both : ◌≡◌ {A = Heap × Letter} (letter_taken p.heap register, oldest_letter p.heap) (g, l) =
+      let both : ◌≡◌ {A = Heap × Letter}
+      (letter_taken p.heap register, oldest_letter p.heap) (g, l) =
       guarded-ok (accept_tests p.heap register) _ _ e in
       subst (λ (z : Heap × Letter). IsNode (with_heap n z.0)) both
       (node-heap n (letter_taken p.heap register) old

@@ -140,9 +140,9 @@ impl Node {
         }
     }
 
-    /// Sends the token to the node `to`; the node's part of the ring then is this, which has no token
-    /// and differs in colour alone besides. `LinkSpent` where no number is left, and after it `Memory`, where a
-    /// growth was refused. The node is then as it was.
+    /// Sends the token to the node `to`; the node's part of the ring then is this, which has no
+    /// token left, and differs in colour alone besides. `LinkSpent` where no number is left, and
+    /// after it `Memory`, where a growth was refused. The node is then as it was.
     fn send_token(&mut self, to: u8, token: Token, ring: Ring) -> Result<(), Refusal>
         requires there { to < self.old.local.shape.nodes }
         requires other { to ≢ self.old.local.own }

@@ -15,6 +15,7 @@ invariant_of-self-2 c =
       generation = within.1;
     } in
     record {
-      node = node-allocated (view_of c.self.inside) old _ _ _ _ _ _ c.cycle.ensures.value named done;
+      node = node-allocated (view_of c.self.inside) old _ _ _ _ _ _ c.cycle.ensures.value named
+          done;
       limit = c.in_ok-reference.ensures.limit ∙ c.self.invariant.limit;
     }

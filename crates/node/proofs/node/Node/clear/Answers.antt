@@ -5,6 +5,7 @@ use Rattle.node.proofs.node.Node.clear.Goals as goal
 
 pub invariant_of-self-2 : goal.invariant_of-self-2
 invariant_of-self-2 c = record {
-  node = node-cleared (view_of c.self.inside) c.self.invariant.node _ _ _ c.in_ok-clear.ensures.done;
+  node = node-cleared (view_of c.self.inside) c.self.invariant.node _ _ _
+      c.in_ok-clear.ensures.done;
   limit = c.in_ok-clear.ensures.limit ∙ c.self.invariant.limit;
 }

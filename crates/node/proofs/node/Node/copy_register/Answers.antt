@@ -5,6 +5,7 @@ use Rattle.node.proofs.node.Node.copy_register.Goals as goal
 
 pub invariant_of-self-2 : goal.invariant_of-self-2
 invariant_of-self-2 c = record {
-  node = node-copied (view_of c.self.inside) c.self.invariant.node _ _ _ c.in_ok-copy_register.ensures.done;
+  node = node-copied (view_of c.self.inside) c.self.invariant.node _ _ _
+      c.in_ok-copy_register.ensures.done;
   limit = c.in_ok-copy_register.ensures.limit ∙ c.self.invariant.limit;
 }

@@ -8,5 +8,5 @@ use Rattle.node.proofs.node.Node.frame_at.Goals as goal
 pub frame-requires-clause-sendable : goal.frame-requires-clause-sendable
 frame-requires-clause-sendable c =
     subst (λ (m : NodeView). IsSendable m.local.shape c.in_ok-message.message) c.self.view_is
-    (released-sendable (view_of c.self.inside) c.self.invariant.node c.args.to c.in_ok-message.message _
-    (sym c.in_ok-message.ensures.value))
+    (released-sendable (view_of c.self.inside) c.self.invariant.node c.args.to
+    c.in_ok-message.message _ (sym c.in_ok-message.ensures.value))
