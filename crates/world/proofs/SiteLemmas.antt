@@ -201,6 +201,16 @@ site-saved q p h wide s =
       saved = subst (IsBacked p.released) (sym s.saved) backed;
     }
 
+-- the saved node becomes the current one
+pub site-restarted : (q : SiteView) → IsSite q → IsSite (record q { current = q.saved })
+site-restarted q h = record {
+  shape = refl;
+  own = refl;
+  width = h.width ∙ ap (λ (s : Shaped). s.nodes) (sym h.shape);
+  current = h.saved;
+  saved = h.saved;
+}
+
 -- ---- new ones
 
 pub no-frames : (n : ℕ) → map released_frames (replicate n no_outbox) ≡ replicate n []
