@@ -260,7 +260,8 @@ number_takes w wide bytes x fits e =
     let front : to_be_bytes w (big_number k bytes) ≡ take k bytes =
     ap (to_be_bytes w) (sym same)
     ∙ wide.back (take k bytes) (omega (arith, length-take k bytes)) (IsBytes-take k bytes fits) in
-    subst (λ (y : ℕ × List ℕ). Takes bytes (to_be_bytes w y.0) y.1 × (y.0 < 256 ^ k)) {x = made} g.1 (
+    subst (λ (y : ℕ × List ℕ). Takes bytes (to_be_bytes w y.0) y.1 × (y.0 < 256 ^ k)) {x = made}
+    g.1 (
       record {
         parts = sym (take-append-drop k bytes)
             ∙ ap (λ (t : List ℕ). t ++ drop k bytes) (sym front);

@@ -1,5 +1,5 @@
--- The parts of a search: what one node's messages carry, what stands in the places of an object, and
--- how far the search has come.
+-- The parts of a search: what one node's messages carry, what stands in the places of an object,
+-- and how far the search has come.
 use Rattle.std.proofs.Common.{◌≡◌, ℕ, ◌+◌, ◌-◌, ◌<◌, ◌≤◌, Bool, true, false, cond, List, length, ◌==◌, get_or, slice_get, Option, Some, None, refl, ap, sym, ◌∙◌, subst, ⊎_elim, arith}
 use Rattle.std.specs.Prelude.{is_some, nat_le}
 use Rattle.std.proofs.lemmas.Bool.{cases_lt}

@@ -1,5 +1,6 @@
 -- What a search for references has found. A test's list of them is searched in turn: what the
--- registers, letters and messages of all nodes refer to, and then what stands in the places of each.
+-- registers, letters and messages of all nodes refer to, and then what stands in the places of
+-- each.
 use Rattle.std.specs.Prelude.{◌≡◌, ℕ, ◌+◌, ◌<◌, ◌≤◌, ◌++◌, Bool, false, cond, List, [], length, Option, Some, None, ◌⊎◌, slice_index_or}
 use Rattle.std.specs.Ordering.{nat_cmp, ordering_then}
 use Rattle.std.specs.declared.cmp.Ordering.{Ordering}

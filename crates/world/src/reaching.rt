@@ -22,9 +22,9 @@ use std::alloc::Global;
 /// The references that can be reached where of each node the saved state is taken for which `saved`
 /// is true, and of the others the current one: those in registers and letters, those that messages
 /// in flight carry, and with each all that stand in the places of its object. Each comes once, and
-/// they are sorted by node, slot and generation. `Memory` where a growth was refused. It is for tests: it looks at all
-/// nodes, and at every message that they keep, and takes time in proportion to these and to the
-/// objects that it finds.
+/// they are sorted by node, slot and generation. `Memory` where a growth was refused. It is for
+/// tests: it looks at all nodes, and at every message that they keep, and takes time in proportion
+/// to these and to the objects that it finds.
 pub fn reach(alloc: Global, sim: &Sim, saved: &[bool]) -> Result<Vec<Ref>, Refusal>
     requires width { length saved.now ≡ length sim.now }
     ensures reached { (shape : Shaped) (steps : List Step) → IsShape shape

@@ -18,8 +18,8 @@ loop-place-preserved c =
           ∙ sym c.get.ensures ∙ ap option_copied w.in-Some.is))
       | in_default w ↦
           absurd (never_past c.args.self.now c.loop-place.place
-          (subst (λ n. c.loop-place.place < n) (c.len-place-end.ensures.len ∙ ap length c.self.view_is)
-          c.loop-place-test.true)
+          (subst (λ n. c.loop-place.place < n)
+          (c.len-place-end.ensures.len ∙ ap length c.self.view_is) c.loop-place-test.true)
           (ap (λ v. slice_get v c.loop-place.place) (sym c.self.view_is)
           ∙ sym c.get.ensures ∙ ap option_copied w.in_default.is))
     ]
