@@ -54,7 +54,7 @@ module _ {T : Type 0} where
       free_within a.slots q (sound.named q (Has-from_any a.free q found)))
 
   -- so many slots are linked
-  length-chain : (es : List (Entry T)) (n from : ℕ) → length (chain es n from) ≡ n
+  pub length-chain : (es : List (Entry T)) (n from : ℕ) → length (chain es n from) ≡ n
   length-chain es zero from = refl
   length-chain es (suc n) from = ap suc (length-chain es n _)
 
@@ -74,7 +74,7 @@ module _ {T : Type 0} where
       omega (arith, linked.sound.small, linked.sound.within)
 
   -- a write that is off the chain keeps it
-  chain-set : (es : List (Entry T)) (k : ℕ) (e : Entry T) (n from : ℕ)
+  pub chain-set : (es : List (Entry T)) (k : ℕ) (e : Entry T) (n from : ℕ)
       → (Has (chain es n from) k → ⊥) → chain (set es k e) n from ≡ chain es n from
   chain-set es k e zero from off = refl
   chain-set es k e (suc n) from off =

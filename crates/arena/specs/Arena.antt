@@ -2,11 +2,12 @@
 use Rattle.std.specs.Prelude.{◌≡◌, ◌⊎◌, ℕ, ◌+◌, ◌^◌, ◌<◌, ◌≤◌, List, [], ◌∷◌, ◌++◌, length}
 use Rattle.std.specs.Prelude.{Bool, true, false, ◌==◌, ◌&&◌, nat_le, if◌then◌else◌, ⊤}
 use Rattle.std.specs.Prelude.{Option, Some, None, count_by, slice_index_or, slice_set}
+use Rattle.std.specs.Borrow.{Bor}
 use Rattle.arena.specs.declared.Slot.{Slot}
 use Rattle.arena.specs.declared.Slot.TheVariants.{Free, Occupied, Retired}
 use Rattle.arena.specs.declared.Key.{Key}
 use Rattle.arena.specs.declared.Fault.{Fault}
-use Rattle.arena.specs.declared.Fault.TheVariants.{Full, Memory}
+use Rattle.arena.specs.declared.Fault.TheVariants.{Full, Memory, Shape}
 use Rattle.arena.specs.declared.TheConstants.{GREATEST_GENERATION, FIRST_GENERATION}
 
 -- the slots that have been used, the free ones in order of use, and how many slots there may be
@@ -110,6 +111,19 @@ module _ {T : Type 0} where
   abbrev pub IsFaultOf : Arena T → Fault → Type 0
   IsFaultOf a Full = is_full a ≡ true
   IsFaultOf a Memory = (is_full a ≡ false) × (a.free ≡ [])
+  IsFaultOf a Shape = ⊥
+
+  -- what the parts of an arena are refused for; memory may be missing for any
+  abbrev pub Refuses : Arena T → Fault → Type 0
+  Refuses a Full = ⊥
+  Refuses a Memory = ⊤
+  Refuses a Shape = IsSound a → ⊥
+
+  -- the slot with the value that is borrowed
+  abbrev pub slot_read : Slot (Bor T) → Slot T
+  slot_read (Free g) = Free g
+  slot_read (Occupied g x) = Occupied g x.now
+  slot_read Retired = Retired
 
   -- the generation that the next value of a free slot has
   abbrev pub generation_of : Slot T → ℕ

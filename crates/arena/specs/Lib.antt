@@ -2,4 +2,5 @@ pub mod Arena
 pub mod Entry
 pub mod LendsItem
 pub mod LendsValue
+pub mod Made
 pub mod Row

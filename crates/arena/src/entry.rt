@@ -2,9 +2,11 @@
 ghost use Rattle.std.specs.Prelude.{◌≡◌, IsSome, Some, option_copied};
 ghost use Rattle.std.specs.Borrow.{Lends, sem};
 ghost use Rattle.arena.specs.Arena.{IsFree, value_of, generation_of, generation_in, slot_generation};
+ghost use Rattle.arena.specs.Arena.{slot_read};
 ghost use Rattle.arena.specs.Entry.{slot_of, held_by, next_of, occupied_by};
+ghost use Rattle.arena.specs.Made.{unlinked_of, is_unlinked, linked_to};
 
-use crate::Generation;
+use crate::{Generation, Slot};
 use std::alloc::AllocError;
 use std::mem;
 
@@ -15,6 +17,9 @@ pub(crate) enum Entry<T> {
     Occupied(Generation, T),
     Retired,
 }
+
+/// What stands in a free slot until it is linked; no slot has this number.
+pub(crate) const UNLINKED: u32 = 4_294_967_295;
 
 impl<T: Clone> Clone for Entry<T> {
     ghost use Rattle.arena.specs.Entry.{IsEntryClone};
@@ -67,6 +72,58 @@ impl<T> Entry<T> {
             Entry::Free(generation, _) => Some(*generation),
             Entry::Occupied(generation, _) => Some(*generation),
             Entry::Retired => None,
+        }
+    }
+
+    /// The slot, with the value where it stands.
+    pub(crate) fn slot(&self) -> Slot<&T>
+        ensures { slot_read result ≡ slot_of self.now }
+    {
+        match self {
+            Entry::Free(generation, _) => Slot::Free(*generation),
+            Entry::Occupied(generation, value) => Slot::Occupied(*generation, value),
+            Entry::Retired => Slot::Retired,
+        }
+    }
+
+    /// The free slot that is used after this one.
+    pub(crate) fn next(&self) -> u32
+        requires { IsFree (slot_of self.now) }
+        ensures { result ≡ next_of self.now }
+    {
+        match self {
+            Entry::Free(_, next) => *next,
+            _ => unreachable!(),
+        }
+    }
+
+    /// The entry of a slot, which isn't linked yet.
+    pub(crate) fn unlinked(slot: Slot<T>) -> Entry<T>
+        ensures { result ≡ unlinked_of slot }
+    {
+        match slot {
+            Slot::Free(generation) => Entry::Free(generation, UNLINKED),
+            Slot::Occupied(generation, value) => Entry::Occupied(generation, value),
+            Slot::Retired => Entry::Retired,
+        }
+    }
+
+    /// Whether the slot is free and isn't linked yet.
+    pub(crate) fn is_unlinked(&self) -> bool
+        ensures { result ≡ is_unlinked self.now }
+    {
+        match self {
+            Entry::Free(_, next) => *next == UNLINKED,
+            _ => false,
+        }
+    }
+
+    /// Names the free slot that is used after this one, if this one is free.
+    pub(crate) fn link(&mut self, slot: u32)
+        ensures { self.new ≡ linked_to self.old slot }
+    {
+        if let Entry::Free(_, next) = self {
+            *next = slot;
         }
     }
 

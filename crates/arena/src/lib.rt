@@ -10,13 +10,18 @@ ghost use Rattle.std.specs.Option.{option_copied_mut};
 ghost use Rattle.std.specs.Borrow.{sem};
 ghost use Rattle.arena.specs.Arena.{IsSound, IsFaultOf, IsKey, get, key_at, generation_at, next_key};
 ghost use Rattle.arena.specs.Arena.{inserted, removed, vacated, occupied_count, is_full};
+ghost use Rattle.arena.specs.Arena.{slot_at, slot_read, plain, Refuses};
 
 mod entry;
+mod free;
+mod made;
 mod store;
 #[cfg(test)]
 mod tests;
 
 use crate::entry::Entry;
+pub use crate::free::FreeSlots;
+use crate::made::Filled;
 use crate::store::Store;
 use std::alloc::{AllocError, Global};
 use std::marker::Model;
@@ -40,7 +45,7 @@ pub struct Key {
 }
 
 /// What a slot of an arena holds.
-#[derive(Drop)]
+#[derive(Debug, PartialEq, Eq, Drop)]
 pub enum Slot<T> {
     /// No value; the next one will have this generation.
     Free(Generation),
@@ -50,13 +55,15 @@ pub enum Slot<T> {
     Retired,
 }
 
-/// Why an arena took no value.
+/// Why an arena took no value, or why none was made.
 #[derive(Clone, Copy, Debug, PartialEq, Eq)]
 pub enum Fault {
     /// As many slots as the limit allows were used, and none of them is free.
     Full,
     /// There was no memory for one slot more.
     Memory,
+    /// No arena has these slots and this list of the free ones.
+    Shape,
 }
 
 /// Values of one type, each under a [`Key`] that the arena picks, in at most as many slots as its
@@ -102,11 +109,56 @@ impl<T> Arena<T> {
         }
     }
 
+    /// The arena with these slots, of which `free` names the free ones in order of next use. It
+    /// will use at most `limit` slots.
+    ///
+    /// It answers [`Fault::Shape`] where there are more slots than the limit, a generation is below
+    /// [`FIRST_GENERATION`], or the list isn't exactly the free slots, each once; and
+    /// [`Fault::Memory`] where there was no memory for the slots, whatever they are. What it
+    /// refuses is dropped. It takes time for each slot, and for each number of the list.
+    pub fn from_slots(
+        alloc: Global,
+        limit: u32,
+        slots: Vec<Slot<T>>,
+        free: &[u32],
+    ) -> Result<Self, Fault>
+    where
+        T: Drop,
+        ensures made { IfOk result (λ a. a ≡ plain slots.items free.now limit) }
+        ensures sound { OnOk result (IsSound (plain slots.items free.now limit)) }
+        ensures refused { IfErr result (Refuses (plain slots.items free.now limit)) }
+    {
+        if slots.len() > limit as usize {
+            return Err(Fault::Shape);
+        }
+        let Filled {
+            mut entries,
+            occupied,
+        } = Filled::new(alloc, limit, slots)?;
+        let first = made::link(&mut entries, free)?;
+        if !made::is_all_linked(&entries) {
+            return Err(Fault::Shape);
+        }
+        Ok(Arena {
+            entries,
+            first,
+            vacant: free.len() as u32,
+            len: occupied,
+        })
+    }
+
     /// How many slots have ever been used: the number of the next fresh slot.
     pub fn high(&self) -> u32
         ensures { result ≡ length self.now.slots }
     {
         self.entries.len() as u32
+    }
+
+    /// How many slots are free.
+    pub fn vacant(&self) -> u32
+        ensures { result ≡ length self.now.free }
+    {
+        self.vacant
     }
 
     /// How many values the arena holds.
@@ -176,6 +228,23 @@ impl<T> Arena<T> {
             return None;
         }
         self.entries.get(slot as usize).slot_generation()
+    }
+
+    /// What `slot` holds. One that was never used counts as retired.
+    pub fn slot(&self, slot: u32) -> Slot<&T>
+        ensures { slot_read result ≡ slot_at self.now slot }
+    {
+        if slot as usize >= self.entries.len() {
+            return Slot::Retired;
+        }
+        self.entries.get(slot as usize).slot()
+    }
+
+    /// The free slots, in order of next use.
+    pub fn free_slots(&self) -> FreeSlots<'_, T>
+        ensures { result ≡ self.now.free }
+    {
+        FreeSlots::new(&self.entries, self.first, self.vacant)
     }
 
     /// Stores `value`, and gives its key: the slot that was freed last, under its next generation,

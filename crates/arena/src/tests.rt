@@ -1,4 +1,5 @@
-use crate::{Arena, Fault, Key};
+use crate::{Arena, Fault, Key, Slot};
+use std::alloc::Global;
 use std::cell::Cell;
 use std::process::Abort;
 
@@ -112,4 +113,78 @@ fn each_value_is_dropped_once(rt: HostRuntime) {
     assert_eq!(rt; (drops.get(), arena.len()), (501, 750));
     drop(arena);
     assert_eq!(rt; drops.get(), 1_251);
+}
+
+// An arena of the limit 5 with one value, under the generation 3, and with two free slots, of which
+// the greater one is used first.
+fn given(alloc: Global) -> Result<Arena<char>, Fault> {
+    let slots = vec![in alloc;
+        Slot::Free(2),
+        Slot::Occupied(3, 'b'),
+        Slot::Retired,
+        Slot::Free(7),
+    ]
+    .map_err(|_| Fault::Memory)?;
+    Arena::from_slots(alloc, 5, slots, &[3, 0])
+}
+
+#[test]
+fn an_arena_is_made_of_its_slots(rt: HostRuntime) -> Result<(), Fault> {
+    let mut arena = given(rt.alloc())?;
+    assert_eq!(rt; (arena.high(), arena.len(), arena.vacant()), (4, 1, 2));
+    assert_eq!(rt; arena.get(key(1, 3)).copied(), Some('b'));
+    assert_eq!(rt; arena.key_at(2), None);
+    for (slot, generation) in [(3, 7), (0, 2), (4, 1)] {
+        assert_eq!(rt; arena.insert('d').ok(), Some(key(slot, generation)));
+    }
+    assert_eq!(rt; arena.insert('d').err(), Some(('d', Fault::Full)));
+    Ok(())
+}
+
+#[test]
+fn slots_are_read_as_they_were_given(rt: HostRuntime) -> Result<(), Fault> {
+    let arena = given(rt.alloc())?;
+    assert_eq!(rt; arena.slot(0), Slot::Free(2));
+    assert_eq!(rt; arena.slot(1), Slot::Occupied(3, &'b'));
+    assert_eq!(rt; arena.slot(2), Slot::Retired);
+    assert_eq!(rt; arena.slot(4), Slot::Retired);
+    let free: Vec<u32> = arena
+        .free_slots()
+        .collect(rt.alloc())
+        .map_err(|_| Fault::Memory)?;
+    assert_eq!(rt; free.as_slice(), [3, 0].as_slice());
+    Ok(())
+}
+
+// What is answered for two slots, of which the second is occupied, and this list.
+fn refusal(alloc: Global, limit: u32, generation: u32, free: &[u32]) -> Option<Fault> {
+    let slots = match vec![in alloc; Slot::Free(generation), Slot::Occupied(1, 'a')] {
+        Ok(slots) => slots,
+        Err(_) => return Some(Fault::Memory),
+    };
+    Arena::from_slots(alloc, limit, slots, free).err()
+}
+
+#[test]
+fn slots_that_make_no_arena_are_refused(rt: HostRuntime) {
+    assert_eq!(rt; refusal(rt.alloc(), 2, 1, &[0]), None);
+    assert_eq!(rt; refusal(rt.alloc(), 1, 1, &[0]), Some(Fault::Shape));
+    assert_eq!(rt; refusal(rt.alloc(), 2, 0, &[0]), Some(Fault::Shape));
+    let lists: [&[u32]; 5] = [&[], &[0, 0], &[1], &[0, 1], &[0, 2]];
+    for free in lists {
+        assert_eq!(rt; refusal(rt.alloc(), 2, 1, free), Some(Fault::Shape));
+    }
+}
+
+#[test]
+fn refused_slots_are_dropped(rt: HostRuntime) {
+    let drops = Cell::new(0);
+    let lists: [&[u32]; 4] = [&[0], &[1], &[2], &[1, 1]];
+    for free in lists {
+        let first = Slot::Occupied(1, Counted { drops: &drops });
+        if let Ok(slots) = vec![in rt.alloc(); first, Slot::Free(1)] {
+            drop(Arena::from_slots(rt.alloc(), 2, slots, free));
+        }
+    }
+    assert_eq!(rt; drops.get(), 4);
 }

@@ -1,0 +1,272 @@
+-- What the steps by which an arena is made keep and find.
+use Rattle.std.proofs.Common.{◌≡◌, ◌≢◌, ℕ, zero, suc, ◌-◌, ◌^◌, ◌<◌, ◌≤◌, List, [], ◌∷◌, ◌++◌, map}
+use Rattle.std.proofs.Common.{length, get_or, set, drop, count_by, true, false, lit<}
+use Rattle.std.proofs.Common.{refl, sym, ap, ◌∙◌, subst, inl, inr, arith, true≢false}
+use Rattle.std.proofs.lemmas.Bool.{cases_lt, ne_eqb}
+use Rattle.std.proofs.Math.ListN.{get_or-map}
+use Rattle.std.proofs.Math.Seq.{map-set_same, drop-nil, drop-cons, get_or-append_seam}
+use Rattle.std.proofs.lemmas.List.{get_or_past, get_or_read, get_or-set_same}
+use Rattle.arena.specs.Arena.{Has, Once, IsFree, IsBorn, IsSound, Refuses, plain, is_occupied}
+use Rattle.arena.specs.Entry.{slot_of, next_of, chain, arena_of, IsLinked}
+use Rattle.arena.specs.Made.{unlinked_of, is_unlinked, linked_to, entry_at, IsLinking}
+use Rattle.arena.specs.Row.{Row, row}
+use Rattle.arena.specs.declared.Fault.{Fault}
+use Rattle.arena.specs.declared.Fault.TheVariants.{Full, Memory, Shape}
+use Rattle.arena.specs.declared.Slot.{Slot}
+use Rattle.arena.specs.declared.Slot.TheVariants as slot
+use Rattle.arena.specs.declared.entry.Entry.{Entry}
+use Rattle.arena.specs.declared.entry.Entry.TheVariants.{Free, Occupied, Retired}
+use Rattle.arena.specs.declared.entry.TheConstants.{UNLINKED}
+use Rattle.arena.proofs.Sound.{at_set}
+use Rattle.arena.proofs.Chains.{chain-set, length-free}
+
+-- what is in the end of a list is in the list
+Has-drop : (xs : List ℕ) (k i : ℕ) → Has (drop k xs) i → Has xs i
+Has-drop [] k i has = absurd (subst (λ ys. Has ys i) (drop-nil k) has)
+Has-drop (x ∷ xs) zero i has = has
+Has-drop (x ∷ xs) (suc k) i has = inr (Has-drop xs k i has)
+
+-- the end of a list with no number twice is such a list
+Once-drop : (xs : List ℕ) (k : ℕ) → Once xs → Once (drop k xs)
+Once-drop [] k once = subst Once (sym (drop-nil k)) tt
+Once-drop (x ∷ xs) zero once = once
+Once-drop (x ∷ xs) (suc k) once = Once-drop xs k once.1
+
+-- the end of a list that begins one number earlier
+pub drop-back : (xs : List ℕ) (n : ℕ) → 0 < n → n ≤ length xs
+    → drop (n - 1) xs ≡ get_or xs (n - 1) 0 ∷ drop n xs
+drop-back xs n some within =
+    let inside : n - 1 < length xs = omega arith in
+    let next : suc (n - 1) ≡ n = omega arith in
+    drop-cons xs (n - 1) 0 inside ∙ ap (λ k. get_or xs (n - 1) 0 ∷ drop k xs) next
+
+module _ {T : Type 0} where
+  slot-unlinked : (s : Slot T) → slot_of (unlinked_of s) ≡ s
+  slot-unlinked (slot.Free g) = refl
+  slot-unlinked (slot.Occupied g x) = refl
+  slot-unlinked slot.Retired = refl
+
+  -- the entries of slots are seen as these slots
+  pub slots-unlinked : (ss : List (Slot T)) → map slot_of (map unlinked_of ss) ≡ ss
+  slots-unlinked [] = refl
+  slots-unlinked (s ∷ ss) = rw (slot-unlinked s) (ap (λ rest. s ∷ rest) (slots-unlinked ss))
+
+  pub seen_after : (ss : List (Slot T)) {r : Row (Entry T)} {limit : ℕ}
+      → r ≡ row (map unlinked_of ss) limit → map slot_of r.items ≡ ss
+  seen_after ss is = rw is (slots-unlinked ss)
+
+  free_unlinked : (s : Slot T) → IsFree (slot_of (unlinked_of s)) → is_unlinked (unlinked_of s) ≡ true
+  free_unlinked (slot.Free g) free = refl
+  free_unlinked (slot.Occupied g x) free = absurd free
+  free_unlinked slot.Retired free = absurd free
+
+  -- a slot more, with a generation of its own
+  pub born_push : (ss : List (Slot T)) (s : Slot T)
+      → ((i : ℕ) → IsBorn (get_or ss i slot.Retired)) → IsBorn s → (i : ℕ)
+      → IsBorn (get_or (ss ++ s ∷ []) i slot.Retired)
+  born_push [] s all born zero = born
+  born_push [] s all born (suc i) = tt
+  born_push (x ∷ ss) s all born zero = all 0
+  born_push (x ∷ ss) s all born (suc i) = born_push ss s (λ j. all (suc j)) born i
+
+  -- the next of the slots that are left is the one after those that came
+  pub comes_after : (came rest others all : List (Slot T)) (s : Slot T) → came ++ rest ≡ all
+      → rest ≡ s ∷ others → get_or all (length came) slot.Retired ≡ s
+  comes_after came rest others all s is left =
+      ap (λ xs. get_or xs (length came) slot.Retired) (sym is ∙ ap (λ xs. came ++ xs) left)
+      ∙ get_or-append_seam came s others slot.Retired
+
+  -- a slot without a generation of its own is a cause to refuse
+  pub refuses_birth : (ss : List (Slot T)) (s : Slot T) (k : ℕ) → get_or ss k slot.Retired ≡ s
+      → (f : Fault) → (f ≢ Memory → (f ≡ Shape) × (IsBorn s → ⊥)) → (free : List ℕ) (limit : ℕ)
+      → Refuses (plain ss free limit) f
+  refuses_birth ss s k at Full cause free limit = let same = (cause (λ same. cc)).0 in absurd cc
+  refuses_birth ss s k at Memory cause free limit = tt
+  refuses_birth ss s k at Shape cause free limit =
+      λ sound. (cause (λ same. cc)).1 (subst IsBorn at (sound.born k))
+
+  -- at first none is linked
+  pub starts : (ss : List (Slot T)) → IsLinking (map unlinked_of ss) [] 0
+  starts ss =
+      record {
+        chained = refl;
+        named = λ i has. absurd has;
+        once = tt;
+        marked = λ i has. absurd has;
+        unmarked = λ i free linked.
+            let at : entry_at (map unlinked_of ss) i ≡ unlinked_of (get_or ss i slot.Retired) =
+            get_or-map unlinked_of ss i slot.Retired in
+            let unlinked = free_unlinked (get_or ss i slot.Retired)
+            (subst (λ e. IsFree (slot_of e)) at free) in
+            absurd (true≢false (sym unlinked ∙ sym (ap is_unlinked at) ∙ linked));
+        below = lit< tt;
+      }
+
+  -- an entry that isn't linked is free, and there
+  unlinked_is_free : (e : Entry T) → is_unlinked e ≡ true → IsFree (slot_of e)
+  unlinked_is_free (Free g next) is = tt
+  unlinked_is_free (Occupied g x) is = absurd (true≢false (sym is))
+  unlinked_is_free Retired is = absurd (true≢false (sym is))
+
+  pub unlinked_within : (es : List (Entry T)) (k : ℕ) → is_unlinked (entry_at es k) ≡ true
+      → k < length es
+  unlinked_within es k is =
+      elim (cases_lt k (length es)) [
+        | inl within ↦ within
+        | inr past ↦
+            absurd (true≢false (sym is ∙ ap is_unlinked (get_or_past es k Retired past)))
+      ]
+
+  -- a free slot that names another one isn't unlinked
+  linked_apart : (e : Entry T) (next : ℕ) → next < UNLINKED
+      → is_unlinked (linked_to e next) ≡ false
+  linked_apart (Free g old) next below = ne_eqb next UNLINKED (λ same. omega arith)
+  linked_apart (Occupied g x) next below = refl
+  linked_apart Retired next below = refl
+
+  slot-linked : (e : Entry T) (next : ℕ) → slot_of (linked_to e next) ≡ slot_of e
+  slot-linked (Free g old) next = refl
+  slot-linked (Occupied g x) next = refl
+  slot-linked Retired next = refl
+
+  next-linked : (e : Entry T) (next : ℕ) → IsFree (slot_of e) → next_of (linked_to e next) ≡ next
+  next-linked (Free g old) next free = refl
+  next-linked (Occupied g x) next free = absurd free
+  next-linked Retired next free = absurd free
+
+  -- one slot more is linked before the others
+  pub record LinksOne (es : List (Entry T)) (rest : List ℕ) (first k : ℕ) : Type 0 where
+    pub linking : IsLinking (set es k (linked_to (entry_at es k) first)) (k ∷ rest) k
+    pub slots : map slot_of (set es k (linked_to (entry_at es k) first)) ≡ map slot_of es
+
+  pub links_one : {es : List (Entry T)} {rest : List ℕ} {first : ℕ} → IsLinking es rest first
+      → (k : ℕ) → is_unlinked (entry_at es k) ≡ true → length es < 2 ^ 32
+      → LinksOne es rest first k
+  links_one {es} {rest} {first} linking k unlinked short =
+      let e = linked_to (entry_at es k) first in
+      let within = unlinked_within es k unlinked in
+      let free = unlinked_is_free (entry_at es k) unlinked in
+      let off : Has rest k → ⊥ = λ has. true≢false (sym unlinked ∙ linking.marked k has) in
+      let written : get_or (set es k e) k Retired ≡ e = get_or-set_same es k e Retired within in
+      let next : next_of e ≡ first = next-linked (entry_at es k) first free in
+      let kept : chain (set es k e) (length rest) first ≡ rest =
+      chain-set es k e (length rest) first (subst (λ ks. Has ks k → ⊥) (sym linking.chained) off)
+      ∙ linking.chained in
+      record {
+        linking = record {
+          chained = rw (written, next, kept);
+          named = λ i has. elim (at_set es k i e Retired within) [
+            | inl here ↦ rw (here.1, slot-linked (entry_at es k) first) free
+            | inr there ↦
+                elim has [
+                  | inl same ↦ absurd (there.0 same)
+                  | inr later ↦ rw there.1 (linking.named i later)
+                ]
+          ];
+          once = (off, linking.once);
+          marked = λ i has. elim (at_set es k i e Retired within) [
+            | inl here ↦ rw here.1 (linked_apart (entry_at es k) first linking.below)
+            | inr there ↦
+                elim has [
+                  | inl same ↦ absurd (there.0 same)
+                  | inr later ↦ rw there.1 (linking.marked i later)
+                ]
+          ];
+          unmarked = λ i free linked. elim (at_set es k i e Retired within) [
+            | inl here ↦ inl here.0
+            | inr there ↦
+                inr (linking.unmarked i (rw there.1 at free) (rw there.1 at linked))
+          ];
+          below = omega arith;
+        };
+        slots = map-set_same slot_of es k e Retired (slot-linked (entry_at es k) first);
+      }
+
+  slot_seen : (es : List (Entry T)) (i : ℕ)
+      → get_or (map slot_of es) i slot.Retired ≡ slot_of (entry_at es i)
+  slot_seen es i = get_or-map slot_of es i Retired
+
+  -- a number of the list that can't be linked before those after it: the list is a wrong one
+  pub refuses : {es : List (Entry T)} {rest : List ℕ} {first : ℕ} → IsLinking es rest first
+      → (ks : List ℕ) (n k : ℕ) → drop n ks ≡ k ∷ rest → is_unlinked (entry_at es k) ≡ false
+      → (limit : ℕ) → IsSound (plain (map slot_of es) ks limit) → ⊥
+  refuses {es} {rest} linking ks n k ends linked limit sound =
+      let there : Has ks k = Has-drop ks n k (rw ends (inl refl)) in
+      let free = rw (slot_seen es k) at (sound.named k there) in
+      let once : Once (k ∷ rest) = rw ends at (Once-drop ks n sound.once) in
+      once.0 (linking.unmarked k free linked)
+
+  -- a free slot that the list doesn't name: the list is a wrong one
+  pub misses : {es : List (Entry T)} {ks : List ℕ} {first : ℕ} → IsLinking es ks first → (i : ℕ)
+      → is_unlinked (entry_at es i) ≡ true → (limit : ℕ)
+      → IsSound (plain (map slot_of es) ks limit) → ⊥
+  misses {es} linking i unlinked limit sound =
+      let free = unlinked_is_free (entry_at es i) unlinked in
+      let has = sound.listed i (rw (slot_seen es i) free) in
+      true≢false (sym unlinked ∙ linking.marked i has)
+
+  -- every free slot is linked, in the order of the list
+  pub record Made (ss : List (Slot T)) (es : List (Entry T)) (ks : List ℕ) (first limit : ℕ)
+      : Type 0 where
+    pub linked : IsLinked es first (length ks) (count_by is_occupied ss) limit
+    pub is : arena_of es first (length ks) limit ≡ plain ss ks limit
+    pub sound : IsSound (plain ss ks limit)
+    pub few : length ks < 2 ^ 32
+
+  makes_seen : {es : List (Entry T)} {ks : List ℕ} {first : ℕ} → IsLinking es ks first
+      → ((i : ℕ) → is_unlinked (entry_at es i) ≡ false)
+      → ((i : ℕ) → IsBorn (get_or (map slot_of es) i slot.Retired)) → (limit : ℕ) → limit < 2 ^ 32
+      → length (map slot_of es) ≤ limit → Made (map slot_of es) es ks first limit
+  makes_seen {es} {ks} {first} linking all born limit small within =
+      let sound : IsSound (plain (map slot_of es) ks limit) = record {
+        small = small;
+        within = within;
+        born = born;
+        named = λ i has. rw (slot_seen es i) (linking.named i has);
+        listed = λ i free. linking.unmarked i (rw (slot_seen es i) at free) (all i);
+        once = linking.once;
+      } in
+      let most = length-free (plain (map slot_of es) ks limit) sound in
+      let is : arena_of es first (length ks) limit ≡ plain (map slot_of es) ks limit =
+      ap (λ free. plain (map slot_of es) free limit) linking.chained in
+      record {
+        linked = record { sound = rw is sound; counted = refl };
+        is = is;
+        sound = sound;
+        few = omega arith;
+      }
+
+  pub makes : {ss : List (Slot T)} {es : List (Entry T)} {ks : List ℕ} {first : ℕ}
+      → map slot_of es ≡ ss → IsLinking es ks first
+      → ((i : ℕ) → is_unlinked (entry_at es i) ≡ false)
+      → ((i : ℕ) → IsBorn (get_or ss i slot.Retired)) → (limit : ℕ) → limit < 2 ^ 32
+      → length ss ≤ limit → Made ss es ks first limit
+  makes {es = es} {ks} {first} seen linking all born limit small within =
+      subst (λ ss. Made ss es ks first limit) seen
+      (makes_seen linking all (rw (← seen) at born) limit small (rw (← seen) at within))
+
+  -- a free slot has an entry
+  pub free_within_entries : (es : List (Entry T)) (k : ℕ) → IsFree (slot_of (entry_at es k))
+      → k < length es
+  free_within_entries [] k free = absurd free
+  free_within_entries (e ∷ es) zero free = omega arith
+  free_within_entries (e ∷ es) (suc k) free = let rest = free_within_entries es k free in omega arith
+
+  -- what stands first on a list of free slots, of which some are left
+  pub record Next (es : List (Entry T)) (left first : ℕ) (e : Entry T) : Type 0 where
+    pub free : IsFree (slot_of e)
+    pub chained : chain es left first ≡ first ∷ chain es (left - 1) (next_of e)
+
+  pub comes_next : (es : List (Entry T)) (left first : ℕ) (e : Entry T)
+      → ((i : ℕ) → Has (chain es left first) i → IsFree (slot_of (entry_at es i)))
+      → left ≢ 0 → e ≡ get_or es first e → Next es left first e
+  comes_next es zero first e free some read = absurd (some refl)
+  comes_next es (suc n) first e free some read =
+      let here = free first (inl refl) in
+      let within = free_within_entries es first here in
+      let is : e ≡ entry_at es first = get_or_read es first e within read Retired in
+      let less : suc n - 1 ≡ n = omega arith in
+      record {
+        free = rw is here;
+        chained = rw (less, is);
+      }

@@ -1,0 +1,15 @@
+use Rattle.std.proofs.Common.{◌≡◌, ◌≤◌, drop, length, map}
+use Rattle.arena.specs.Entry.{slot_of}
+use Rattle.arena.specs.Made.{IsLinking}
+use Rattle.arena.proofs.made.link.Given as goal
+
+abbrev pub invariant-loop-left : goal.invariant-loop-left
+invariant-loop-left g l = record {
+  left : l.left ≤ length l.free;
+  linking : IsLinking l.entries.items (drop l.left l.free) l.first;
+  slots : map slot_of l.entries.items ≡ map slot_of l.fn.entries.items;
+  capacity : l.entries.capacity ≡ l.fn.entries.capacity;
+}
+
+abbrev pub decreases-loop-left : goal.decreases-loop-left
+decreases-loop-left g l = l.left
