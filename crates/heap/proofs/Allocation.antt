@@ -17,7 +17,8 @@ use Rattle.model.specs.State as state
 use Rattle.model.specs.Heaps.{has_slot, next_generation, next_slot, generation_for, slots_with}
 use Rattle.model.specs.Heaps.{new_object, alloc_tests, heap_alloc}
 use Rattle.model.proofs.Checks.{guarded-pass}
-use Rattle.heap.specs.Stored.{slot_of, heap_of, view_of}
+use Rattle.heap.specs.Heap.{slot_of}
+use Rattle.heap.specs.Stored.{heap_of, view_of}
 use Rattle.heap.specs.declared.heap.Heap.TheInside.{Inside}
 
 -- the reference of the next object, at the node of this number

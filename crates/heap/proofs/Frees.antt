@@ -1,5 +1,5 @@
 -- What freeing an object in the arena makes of the heap that shows it, and sweeping slot by slot.
-use Rattle.std.proofs.Common.{◌≡◌, ℕ, zero, suc, ◌+◌, ◌-◌, ◌<◌, ◌==◌, if◌then◌else◌, Bool, true, false, cond, List, [], ◌∷◌, set, get_or, Option, Some, None, refl, sym, ap, ◌∙◌, arith}
+use Rattle.std.proofs.Common.{◌≡◌, ℕ, suc, ◌+◌, ◌-◌, ◌<◌, ◌==◌, if◌then◌else◌, Bool, true, false, cond, List, ◌∷◌, set, get_or, Some, None, refl, sym, ap, ◌∙◌, arith}
 use Rattle.std.proofs.lemmas.Bool.{eq-eqb, cond-true, cond-false}
 use Rattle.std.proofs.lemmas.List.{map-set}
 use Rattle.std.proofs.Math.ListN.{get_or-map}
@@ -13,7 +13,8 @@ use Rattle.model.specs.State.{Object, Heap, slot_at}
 use Rattle.model.specs.State as state
 use Rattle.model.specs.Collecting as collecting
 use Rattle.model.specs.Collecting.{Sweeping, generation_in, is_garbage, sweep_one, sweep_some}
-use Rattle.heap.specs.Stored.{slot_of, view_of}
+use Rattle.heap.specs.Heap.{slot_of}
+use Rattle.heap.specs.Stored.{view_of}
 use Rattle.heap.specs.declared.heap.Heap.TheInside.{Inside}
 
 -- the heap that shows these objects in place of its own

@@ -1,5 +1,6 @@
 mod Allocation
 mod Frees
+mod Given
 mod Greys
 mod Shades
 mod Writes

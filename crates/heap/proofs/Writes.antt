@@ -18,7 +18,8 @@ use Rattle.model.specs.State as state
 use Rattle.model.specs.Heaps.{object_of, object_at, rewritten, with_rewritten, with_place}
 use Rattle.model.proofs.IdleWrites.{with_rewritten-kept, with_place-kept}
 use Rattle.heap.specs.Heap.{HeapView}
-use Rattle.heap.specs.Stored.{slot_of, view_of}
+use Rattle.heap.specs.Heap.{slot_of}
+use Rattle.heap.specs.Stored.{view_of}
 use Rattle.heap.specs.declared.heap.Heap.TheInside.{Inside}
 
 -- where the arena keeps the object of this reference

@@ -2,7 +2,10 @@
 use Rattle.std.specs.Prelude.{◌≡◌, ℕ, ◌+◌, ◌≤◌, Bool, true, false, length, ⊤}
 pub use Rattle.arena.specs.Arena.{Has, Once}
 use Rattle.ids.specs.declared.names.Ref.{Ref}
-use Rattle.model.specs.State.{Slot, Free, Occupied, Retired, Heap, slot_at}
+use Rattle.arena.specs.declared.Slot as stored
+use Rattle.arena.specs.declared.Slot.TheVariants as variant
+use Rattle.ids.specs.Limits.{Shaped}
+use Rattle.model.specs.State.{Object, Slot, Free, Occupied, Retired, Heap, slot_at}
 use Rattle.model.specs.Collecting.{Sweeping, generation_in, sweep_some}
 
 -- the heap as plain data, how many slots there may be, and what is added before memory is wanted
@@ -53,6 +56,24 @@ pub record IsSlotted (h : Heap) (limit : ℕ) : Type 0 where
   pub named : (i : ℕ) → Has h.free i → IsFree (slot_at h i)
   pub listed : (i : ℕ) → IsFree (slot_at h i) → Has h.free i
   pub once : Once h.free
+
+abbrev pub IsBorn : Slot → Type 0
+IsBorn (Free g) = 1 ≤ g
+IsBorn (Occupied g o) = 1 ≤ g
+IsBorn Retired = ⊤
+
+-- what holds of the heap of a node of this shape
+pub record IsHeapFor (shape : Shaped) (h : Heap) : Type 0 where
+  pub registers : length h.registers ≡ shape.registers
+  pub slots : IsSlotted h shape.slots
+  -- a slot's first generation is 1
+  pub born : (i : ℕ) → IsBorn (slot_at h i)
+
+-- a slot of the arena of objects
+abbrev pub slot_of : stored.Slot Object → Slot
+slot_of (variant.Free g) = Free g
+slot_of (variant.Occupied g o) = Occupied g o
+slot_of variant.Retired = Retired
 
 -- a node's reference to what is in a slot, by the generation that the slot has
 abbrev pub reference_in : ℕ → Heap → ℕ → Ref

@@ -1,3 +1,4 @@
 pub mod Heap
+pub mod Parts
 pub mod Stored
 pub mod Tests

@@ -4,18 +4,11 @@ use Rattle.std.specs.VecDeque.{deque_len, deque_capacity}
 use Rattle.ids.specs.declared.limits.TheConstants.{GREATEST_SLOTS}
 use Rattle.ids.specs.declared.names.Ref.{Ref}
 use Rattle.arena.specs.Arena.{Arena}
-use Rattle.arena.specs.declared.Slot.{Slot}
-use Rattle.arena.specs.declared.Slot.TheVariants as stored
 use Rattle.model.specs.declared.event.Letter.{Letter}
 use Rattle.model.specs.State.{Object, Free, Occupied, Retired, Heap}
 use Rattle.model.specs.State as state
-use Rattle.heap.specs.Heap.{HeapView}
+use Rattle.heap.specs.Heap.{HeapView, slot_of}
 use Rattle.heap.specs.declared.heap.Heap.TheInside.{Inside}
-
-abbrev pub slot_of : Slot Object → state.Slot
-slot_of (stored.Free g) = Free g
-slot_of (stored.Occupied g o) = Occupied g o
-slot_of stored.Retired = Retired
 
 -- the heap of these parts
 abbrev pub heap_of : Arena Object → List (Option Ref) → List Letter → List ℕ → Heap

@@ -5,13 +5,15 @@ ghost use Rattle.model.specs.State.{new_heap};
 mod letters;
 mod marking;
 mod objects;
+mod parts;
 mod registers;
 mod sweeping;
 
-use crate::object::StoredObject;
+use crate::object::Object;
 use arena::Arena;
 use ids::{Ref, Refusal, Shape};
 use model::Letter;
+pub use parts::HeapParts;
 use std::alloc::Global;
 use std::collections::VecDeque;
 use std::marker::Model;
@@ -20,7 +22,7 @@ use std::marker::Model;
 /// letters that wait for the program, and the marked objects that are still to be scanned.
 #[derive(Drop)]
 pub struct Heap {
-    objects: Arena<StoredObject>,
+    objects: Arena<Object>,
     registers: Vec<Option<Ref>>,
     // Oldest first.
     letters: VecDeque<Letter>,

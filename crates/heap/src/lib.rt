@@ -4,7 +4,9 @@
 mod heap;
 mod object;
 
-pub use heap::Heap;
+pub use arena::{FreeSlots, Slot};
+pub use heap::{Heap, HeapParts};
+pub use object::Object;
 
 #[cfg(test)]
 mod tests;

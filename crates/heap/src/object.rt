@@ -1,24 +1,26 @@
 ghost use Rattle.std.specs.Prelude.{◌≡◌, ℕ, ◌≤◌, ◌==◌, not, [], ◌∷◌, nat_lt, length};
 ghost use Rattle.std.specs.Prelude.{slice_index_or, slice_set};
-ghost use Rattle.std.specs.Prelude.{IfOk, IfErr, None};
+ghost use Rattle.std.specs.Prelude.{IfOk, IfErr, None, IsSome, IfSome, ◌↔◌};
+ghost use Rattle.ids.specs.declared.limits.TheConstants.{GREATEST_PLACES};
 ghost use Rattle.ids.specs.declared.refusal.Refusal.TheVariants.{Memory, NoField};
 ghost use Rattle.model.specs.Checks.{guarded};
 ghost use Rattle.model.specs.Heaps.{new_object};
 ghost use Rattle.model.specs.Shading.{with_mark, filled};
 
-use ids::{Ref, Refusal};
+use ids::{GREATEST_PLACES, Ref, Refusal};
 use std::alloc::{AllocError, Global};
 use std::marker::Model;
 
-/// An object: the program's word, its places, and the cycle that marked it.
+/// An object: the program's word, its places, at most [`GREATEST_PLACES`] of them, and the cycle
+/// that marked it.
 #[derive(Drop)]
-pub(crate) struct StoredObject {
+pub struct Object {
     word: u64,
     places: Vec<Option<Ref>>,
     mark: u64,
 }
 
-impl Model for StoredObject {
+impl Model for Object {
     ghost use Rattle.model.specs.State.{Object};
 
     ghost Value = { Object };
@@ -30,22 +32,50 @@ impl Model for StoredObject {
     ghost invariant = { λ o. length o.places.items ≤ 8 };
 }
 
-impl StoredObject {
+impl Object {
+    /// The object of these parts: its word, the cycle that marked it, and what its places hold.
+    /// None where there are more than [`GREATEST_PLACES`]; they are then dropped.
+    pub fn from_parts(word: u64, mark: u64, places: Vec<Option<Ref>>) -> Option<Object>
+        ensures few { IsSome result ↔ (length places.items ≤ GREATEST_PLACES) }
+        ensures made { IfSome result
+            (λ o. o ≡ record { word = word; places = places.items; mark = mark }) }
+    {
+        if places.len() > usize::from(GREATEST_PLACES) {
+            return None;
+        }
+        Some(Object { word, places, mark })
+    }
+
     /// A new object with this many empty places, which this cycle marked.
-    pub(crate) fn new(alloc: Global, cycle: u64, places: u8) -> Result<StoredObject, Refusal>
+    pub(crate) fn new(alloc: Global, cycle: u64, places: u8) -> Result<Object, Refusal>
         requires { places ≤ 8 }
         ensures made { IfOk result (λ o. o ≡ new_object cycle places) }
         ensures refused { IfErr result (λ e. e ≡ Memory) }
     {
-        Ok(StoredObject {
+        Ok(Object {
             word: 0,
             places: vec![in alloc; None; places as usize]?,
             mark: cycle,
         })
     }
 
+    /// What the places hold, in order: as many as the object has.
+    pub fn contents(&self) -> &[Option<Ref>]
+        ensures value { result.now ≡ self.now.places }
+        ensures few { length self.now.places ≤ GREATEST_PLACES }
+    {
+        &self.places
+    }
+
+    /// The cycle that marked it.
+    pub fn marked_by(&self) -> u64
+        ensures { result ≡ self.now.mark }
+    {
+        self.mark
+    }
+
     /// The program's word.
-    pub(crate) fn word(&self) -> u64
+    pub fn word(&self) -> u64
         ensures { result ≡ self.now.word }
     {
         self.word
@@ -118,11 +148,11 @@ impl StoredObject {
     }
 }
 
-impl Clone for StoredObject {
+impl Clone for Object {
     ghost is_clone = { λ v w. w ≡ v };
 
-    fn clone(&self) -> Result<StoredObject, AllocError> {
-        Ok(StoredObject {
+    fn clone(&self) -> Result<Object, AllocError> {
+        Ok(Object {
             word: self.word,
             places: Vec::from_slice(*self.places.allocator(), &self.places)?,
             mark: self.mark,

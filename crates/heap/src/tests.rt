@@ -1,7 +1,8 @@
-use crate::Heap;
+use crate::{Heap, HeapParts, Object, Slot};
 use ids::{Ref, Refusal, Shape};
 use model::Letter;
 use std::alloc::Global;
+use std::collections::VecDeque;
 use std::process::Abort;
 
 const OWN: u8 = 1;
@@ -211,5 +212,89 @@ fn what_is_not_marked_is_swept(rt: HostRuntime) -> Result<(), Refusal> {
     let next = heap.alloc(OWN, CYCLE + 1, 0, 0)?;
     assert_eq!(rt; (next.slot, next.generation), (0, 2));
     assert_eq!(rt; heap.live(), 2);
+    Ok(())
+}
+
+// The parts of a heap with one object, of the generation 3, whose only place names itself, and with
+// a free slot. The object is grey.
+fn parts(alloc: Global, free: &[u32], registers: usize) -> Result<HeapParts, Refusal> {
+    let itself = Ref {
+        node: OWN,
+        slot: 0,
+        generation: 3,
+    };
+    let places = vec![in alloc; Some(itself)]?;
+    let Some(object) = Object::from_parts(7, CYCLE, places) else {
+        return Err(Refusal::TooManyFields);
+    };
+    let mut letters = VecDeque::new(alloc);
+    letters.push_back(letter(9, None))?;
+    Ok(HeapParts {
+        slots: vec![in alloc; Slot::Occupied(3, object), Slot::Free(2)]?,
+        free: Vec::from_slice(alloc, free)?,
+        registers: vec![in alloc; Some(itself); registers]?,
+        letters,
+        grey: vec![in alloc; 0]?,
+    })
+}
+
+fn made(alloc: Global, free: &[u32], registers: usize) -> Result<Heap, Refusal> {
+    let Some(shape) = Shape::new(2, 2, 2) else {
+        return Err(Refusal::BadFrame);
+    };
+    Heap::from_parts(alloc, shape, parts(alloc, free, registers)?)
+}
+
+// What a slot holds: its generation, and the word, the mark and the number of places of its object.
+fn shown(heap: &Heap, slot: u32) -> (u32, Option<(u64, u64, usize)>) {
+    match heap.slot(slot) {
+        Slot::Free(generation) => (generation, None),
+        Slot::Occupied(generation, object) => {
+            let places = object.contents().len();
+            (
+                generation,
+                Some((object.word(), object.marked_by(), places)),
+            )
+        }
+        Slot::Retired => (0, None),
+    }
+}
+
+#[test]
+fn a_heap_is_made_of_its_parts(rt: HostRuntime) -> Result<(), Refusal> {
+    let mut heap = made(rt.alloc(), &[1], 2)?;
+    assert_eq!(rt; shown(&heap, 0), (3, Some((7, CYCLE, 1))));
+    assert_eq!(rt; shown(&heap, 1), (2, None));
+    assert_eq!(rt; shown(&heap, 2), (0, None));
+    assert_eq!(rt; (heap.vacant(), heap.live(), heap.slots()), (1, 1, 2));
+    let free: Vec<u32> = heap.free_slots().collect(rt.alloc())?;
+    assert_eq!(rt; free.as_slice(), [1].as_slice());
+    assert_eq!(rt; heap.registers().len(), 2);
+    assert_eq!(rt;
+        (heap.letter(0), heap.letter(1)),
+        (Some(letter(9, None)), None)
+    );
+    assert_eq!(rt; heap.grey_slots(), [0].as_slice());
+    assert_eq!(rt; heap.last_grey(), Some(0));
+    let next = heap.alloc(OWN, CYCLE, 1, 0)?;
+    assert_eq!(rt; (next.slot, next.generation), (1, 2));
+    Ok(())
+}
+
+#[test]
+fn parts_that_make_no_heap_are_refused(rt: HostRuntime) {
+    let wrong: [(&[u32], usize); 5] = [(&[], 2), (&[0], 2), (&[1, 1], 2), (&[1], 1), (&[1], 3)];
+    for (free, registers) in wrong {
+        let refused = made(rt.alloc(), free, registers).err();
+        assert_eq!(rt; refused, Some(Refusal::BadImage));
+    }
+}
+
+#[test]
+fn an_object_has_at_most_eight_places(rt: HostRuntime) -> Result<(), Refusal> {
+    for (count, fits) in [(0, true), (8, true), (9, false)] {
+        let places = vec![in rt.alloc(); None; count]?;
+        assert_eq!(rt; Object::from_parts(0, 0, places).is_some(), fits);
+    }
     Ok(())
 }

@@ -1,4 +1,4 @@
-ghost use Rattle.std.specs.Prelude.{◌≡◌, ◌<◌, ◌≤◌, length, count_by, is_some, IsTrue, option_copied};
+ghost use Rattle.std.specs.Prelude.{◌≡◌, ℕ, ◌<◌, ◌≤◌, length, count_by, is_some, IsTrue, option_copied};
 ghost use Rattle.std.specs.Prelude.{false, Ok, Err, OnOk, OnErr, IfOk, IfErr};
 ghost use Rattle.ids.specs.Limits.{reference_fits};
 ghost use Rattle.ids.specs.declared.limits.TheConstants.{GREATEST_NODES};
@@ -7,12 +7,12 @@ ghost use Rattle.model.specs.Heaps.{object_at, place_of, with_place, with_word, 
 ghost use Rattle.model.specs.Heaps.{load_tests, place_loaded};
 ghost use Rattle.model.specs.Heaps.{heap_store, heap_clear, heap_word, heap_set_word};
 ghost use Rattle.model.specs.State.{slot_at};
-ghost use Rattle.heap.specs.Heap.{KeepsRoom, IsSlotted, is_occupied};
+ghost use Rattle.heap.specs.Heap.{KeepsRoom, IsSlotted, IsBorn, is_occupied};
 ghost use Rattle.heap.specs.Stored.{object_in};
 ghost use Rattle.heap.specs.Tests.{place_tests, object_tests};
 
 use super::Heap;
-use crate::object::StoredObject;
+use crate::object::Object;
 use arena::Key;
 use ids::{GREATEST_PLACES, Ref, Refusal};
 
@@ -49,7 +49,7 @@ impl Heap {
             return Err(Refusal::ArenaFull);
         }
         // From here on memory alone may be missing.
-        let object = StoredObject::new(*self.registers.allocator(), cycle, places)?;
+        let object = Object::new(*self.registers.allocator(), cycle, places)?;
         let Ok(key) = self.objects.insert(object) else {
             return Err(Refusal::Memory);
         };
@@ -177,6 +177,7 @@ impl Heap {
     pub fn live(&self) -> u32
         ensures value { result ≡ count_by is_occupied self.now.heap.slots }
         ensures slots { IsSlotted self.now.heap self.now.limit }
+        ensures born { (i : ℕ) → IsBorn (slot_at self.now.heap i) }
     {
         self.objects.len()
     }
@@ -206,14 +207,14 @@ impl Heap {
     }
 
     // The object of a reference to this heap's node, while it is there.
-    pub(super) fn object(&self, reference: Ref) -> Option<&StoredObject>
+    pub(super) fn object(&self, reference: Ref) -> Option<&Object>
         ensures { option_copied result ≡ object_at self.now.heap reference }
     {
         self.objects.get(key(reference))
     }
 
     // The object in a slot.
-    pub(super) fn stored(&self, slot: u32) -> Option<&StoredObject>
+    pub(super) fn stored(&self, slot: u32) -> Option<&Object>
         ensures { option_copied result ≡ object_in (slot_at self.now.heap slot) }
     {
         match self.objects.key_at(slot) {

@@ -1,7 +1,6 @@
 use Rattle.std.proofs.Common.{◌≡◌, true, false, sym, ◌∙◌, arith}
 use Rattle.model.specs.State.{slot_at}
 use Rattle.model.specs.Collecting.{is_garbage}
-use Rattle.heap.specs.Stored.{view_of}
 use Rattle.heap.proofs.Frees.{swept-stored, swept-none}
 use Rattle.heap.proofs.heap.Heap.free_unmarked.Goals as goal
 

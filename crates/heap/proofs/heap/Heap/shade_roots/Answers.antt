@@ -1,4 +1,4 @@
-use Rattle.std.proofs.Common.{◌≡◌, ◌+◌, ◌<◌, List, Option, None, length, drop, get_or, ap, ◌∙◌, arith}
+use Rattle.std.proofs.Common.{◌+◌, ◌<◌, List, Option, None, length, drop, get_or, ap, ◌∙◌, arith}
 use Rattle.ids.specs.declared.names.Ref.{Ref}
 use Rattle.model.specs.State.{Heap}
 use Rattle.model.specs.Shading.{make_all_grey, filled, roots}

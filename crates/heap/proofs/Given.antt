@@ -1,0 +1,85 @@
+-- The heap of given parts, and the arena of its objects.
+use Rattle.std.proofs.Common.{◌≡◌, ℕ, ◌≤◌, List, map, get_or, arith}
+use Rattle.std.proofs.lemmas.List.{length-map}
+use Rattle.std.proofs.Math.ListN.{get_or-map}
+use Rattle.ids.specs.Limits.{Shaped}
+use Rattle.ids.specs.declared.limits.TheConstants.{GREATEST_SLOTS}
+use Rattle.arena.specs.Arena.{Arena, plain, IsSound}
+use Rattle.arena.specs.Arena as arena
+use Rattle.arena.specs.declared.Slot as stored
+use Rattle.arena.specs.declared.Slot.TheVariants.{Free, Occupied, Retired}
+use Rattle.model.specs.State.{Object, Slot, Heap, slot_at}
+use Rattle.model.specs.State as state
+use Rattle.heap.specs.Heap.{IsFree, IsBorn, IsSlotted, IsHeapFor, slot_of}
+
+slot_seen : (ss : List (stored.Slot Object)) (i : ℕ)
+    → get_or (map slot_of ss) i state.Retired ≡ slot_of (get_or ss i Retired)
+slot_seen ss i = get_or-map slot_of ss i Retired
+
+free_seen : (s : stored.Slot Object) → arena.IsFree s → IsFree (slot_of s)
+free_seen (Free g) free = tt
+free_seen (Occupied g o) free = absurd free
+free_seen Retired free = absurd free
+
+free_stored : (s : stored.Slot Object) → IsFree (slot_of s) → arena.IsFree s
+free_stored (Free g) free = tt
+free_stored (Occupied g o) free = absurd free
+free_stored Retired free = absurd free
+
+born_seen : (s : stored.Slot Object) → arena.IsBorn s → IsBorn (slot_of s)
+born_seen (Free g) born = born
+born_seen (Occupied g o) born = born
+born_seen Retired born = tt
+
+born_stored : (s : stored.Slot Object) → IsBorn (slot_of s) → arena.IsBorn s
+born_stored (Free g) born = born
+born_stored (Occupied g o) born = born
+born_stored Retired born = tt
+
+-- a heap whose slots are these
+pub record Shows (h : Heap) (ss : List (stored.Slot Object)) (ks : List ℕ) : Type 0 where
+  pub slots : h.slots ≡ map slot_of ss
+  pub free : h.free ≡ ks
+
+slot_shown : {h : Heap} {ss : List (stored.Slot Object)} {ks : List ℕ} → Shows h ss ks → (i : ℕ)
+    → slot_at h i ≡ slot_of (get_or ss i Retired)
+slot_shown {h} {ss} shows i = rw (shows.slots) (slot_seen ss i)
+
+-- what is true of an arena is true of the heap that shows it
+pub slotted : {h : Heap} {ss : List (stored.Slot Object)} {ks : List ℕ} {limit : ℕ}
+    → Shows h ss ks → IsSound (plain ss ks limit) → IsSlotted h limit
+slotted {h} {ss} {ks} {limit} shows sound =
+    record {
+      within = rw (shows.slots, length-map) sound.within;
+      named = λ i has.
+          rw (slot_shown shows i)
+          (free_seen (get_or ss i Retired) (sound.named i (rw shows.free at has)));
+      listed = λ i free.
+          rw shows.free
+          (sound.listed i (free_stored (get_or ss i Retired) (rw (slot_shown shows i) at free)));
+      once = rw shows.free sound.once;
+    }
+
+pub born : {h : Heap} {ss : List (stored.Slot Object)} {ks : List ℕ} {limit : ℕ} → Shows h ss ks
+    → IsSound (plain ss ks limit) → (i : ℕ) → IsBorn (slot_at h i)
+born {ss = ss} shows sound i =
+    rw (slot_shown shows i) (born_seen (get_or ss i Retired) (sound.born i))
+
+-- and the other way round
+pub sound_from : {h : Heap} {ss : List (stored.Slot Object)} {ks : List ℕ} {shape : Shaped}
+    → Shows h ss ks → shape.slots ≤ GREATEST_SLOTS → IsHeapFor shape h
+    → IsSound (plain ss ks shape.slots)
+sound_from {h} {ss} {ks} {shape} shows small is =
+    record {
+      small = omega arith;
+      within = rw (shows.slots, length-map) at is.slots.within;
+      born = λ i.
+          born_stored (get_or ss i Retired) (rw (slot_shown shows i) at (is.born i));
+      named = λ i has.
+          free_stored (get_or ss i Retired)
+          (rw (slot_shown shows i) at (is.slots.named i (rw (shows.free) has)));
+      listed = λ i free.
+          rw shows.free at
+          (is.slots.listed i (rw (slot_shown shows i) (free_seen (get_or ss i Retired) free)));
+      once = rw shows.free at is.slots.once;
+    }
