@@ -1,4 +1,5 @@
 pub mod OneLink
 pub mod EveryLink
+mod Given
 pub mod Announcing
 mod Ends

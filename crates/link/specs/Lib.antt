@@ -2,3 +2,4 @@ pub mod Receivers
 pub mod Senders
 pub mod Links
 pub mod Ends
+pub mod Parts

@@ -4,10 +4,12 @@
 #![tactic(auto)]
 
 mod links;
+mod parts;
 mod receiver;
 mod sender;
 
 pub use links::Links;
+pub use parts::LinkParts;
 pub use receiver::{Offer, Receiver};
 pub use sender::Sender;
 

@@ -1,4 +1,4 @@
-ghost use Rattle.std.specs.Prelude.{◌≡◌, ◌≢◌, ◌+◌, ◌<◌, ◌≤◌, true, false, length, map, slice_index_or, IfSome, IfOk, IfErr, OnOk, OnErr};
+ghost use Rattle.std.specs.Prelude.{◌≡◌, ◌≢◌, ◌+◌, ◌<◌, ◌≤◌, true, false, length, map, slice_index_or, ◌↔◌, IsSome, IfSome, IfOk, IfErr, OnOk, OnErr};
 ghost use Rattle.ids.specs.declared.limits.TheConstants.{GREATEST_NUMBER};
 ghost use Rattle.ids.specs.declared.refusal.Refusal.TheVariants.{AckBeyond, LinkSpent, Memory};
 ghost use Rattle.model.specs.Steps.{fits};
@@ -7,7 +7,9 @@ ghost use Rattle.link.specs.Receivers.{offered};
 ghost use Rattle.msg.specs.declared.body.Message.{Message};
 ghost use Rattle.link.specs.Links.{LinksView, IsLinks, new_links, link_at, got_at, ack_at, fits_to, appended_to, for_other, fits_others, announced_below, announced, retracted_to, trimmed_to, taken_next_from, kept_links};
 ghost use Rattle.link.specs.Ends.{new_ends, kept_ends};
+ghost use Rattle.link.specs.Parts.{IsNumbered, ends_given};
 
+use crate::parts::LinkParts;
 use crate::receiver::{Offer, Receiver};
 use crate::sender::Sender;
 use ids::{GREATEST_NUMBER, Refusal};
@@ -18,12 +20,28 @@ use std::marker::Model;
 /// The ends that a node holds of the two links between it and one node: that of its messages to
 /// there, and that of the messages from there.
 #[derive(Drop)]
-struct Ends {
+pub(crate) struct Ends {
     sender: Sender,
     receiver: Receiver,
 }
 
 impl Ends {
+    /// The ends of these parts. None where one of the numbers is too great.
+    pub(crate) fn from_parts(parts: LinkParts) -> Option<Ends>
+        ensures numbered { IsSome result ↔ IsNumbered parts }
+        ensures made { IfSome result (λ e. e ≡ ends_given parts) }
+    {
+        let LinkParts {
+            base,
+            messages,
+            taken,
+        } = parts;
+        Some(Ends {
+            sender: Sender::from_parts(base, messages)?,
+            receiver: Receiver::from_parts(taken)?,
+        })
+    }
+
     fn new(alloc: Global) -> Ends
         ensures { result ≡ new_ends }
     {
@@ -57,7 +75,7 @@ impl Ends {
 /// later ones.
 #[derive(Drop)]
 pub struct Links {
-    by_node: Vec<Ends>,
+    pub(crate) by_node: Vec<Ends>,
 }
 
 impl Model for Links {

@@ -1,8 +1,9 @@
-ghost use Rattle.std.specs.Prelude.{◌≡◌, ◌+◌, ◌<◌, ◌≤◌};
+ghost use Rattle.std.specs.Prelude.{◌≡◌, ◌+◌, ◌<◌, ◌≤◌, ◌↔◌, IsSome, IfSome};
 ghost use Rattle.ids.specs.declared.limits.TheConstants.{GREATEST_NUMBER};
 ghost use Rattle.link.specs.Receivers.{IsReceived, new_received, offered, taken_next, all_saved};
+ghost use Rattle.link.specs.Parts.{received};
 
-use ids::Refusal;
+use ids::{GREATEST_NUMBER, Refusal};
 use std::marker::Model;
 
 /// What a message that is offered is to its receiver.
@@ -40,6 +41,21 @@ impl Receiver {
         ensures { result ≡ new_received }
     {
         Receiver { taken: 0, saved: 0 }
+    }
+
+    /// A receiver that has taken in the messages up to this number, all of which may be
+    /// acknowledged. None where the number is above [`GREATEST_NUMBER`].
+    pub fn from_parts(taken: u64) -> Option<Receiver>
+        ensures numbered { IsSome result ↔ (taken ≤ GREATEST_NUMBER) }
+        ensures made { IfSome result (λ r. r ≡ received taken) }
+    {
+        if taken > GREATEST_NUMBER {
+            return None;
+        }
+        Some(Receiver {
+            taken,
+            saved: taken,
+        })
     }
 
     /// What the message of this number is: the next one, or a repeat, which is one that was taken

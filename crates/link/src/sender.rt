@@ -1,8 +1,9 @@
-ghost use Rattle.std.specs.Prelude.{◌≡◌, ◌≢◌, ◌<◌, ◌≤◌, ◌+◌, IfSome, IfOk, IfErr, OnOk, OnErr};
+ghost use Rattle.std.specs.Prelude.{◌≡◌, ◌≢◌, ◌<◌, ◌≤◌, ◌+◌, ◌↔◌, length, IsSome, IfSome, IfOk, IfErr, OnOk, OnErr};
 ghost use Rattle.ids.specs.declared.limits.TheConstants.{GREATEST_NUMBER};
 ghost use Rattle.ids.specs.declared.refusal.Refusal.TheVariants.{AckBeyond, LinkSpent, Memory};
 ghost use Rattle.model.specs.View.{used, appended, retracted, trimmed, all_kept, message_of, released_at, no_link};
 ghost use Rattle.link.specs.Senders.{IsLink};
+ghost use Rattle.link.specs.Parts.{sent};
 
 use ids::{GREATEST_NUMBER, Refusal, WINDOW};
 use msg::Message;
@@ -43,6 +44,24 @@ impl Sender {
             unacknowledged: VecDeque::new(alloc),
             kept: 0,
         }
+    }
+
+    /// A sender whose messages up to the number `base` were acknowledged, with the messages after
+    /// it, the first one first. All of them count as released. None where the number of the last
+    /// one is above [`GREATEST_NUMBER`]; the messages are then dropped.
+    pub fn from_parts(base: u64, messages: VecDeque<Message>) -> Option<Sender>
+        ensures numbered { IsSome result ↔ (base + length messages.items ≤ GREATEST_NUMBER) }
+        ensures made { IfSome result (λ s. s ≡ sent base messages.items) }
+    {
+        let count = messages.len() as u64;
+        if base > GREATEST_NUMBER || count > GREATEST_NUMBER - base {
+            return None;
+        }
+        Some(Sender {
+            base,
+            unacknowledged: messages,
+            kept: base + count,
+        })
     }
 
     /// How many messages were ever appended: the number of the last one.

@@ -1,7 +1,8 @@
-use crate::{Links, Offer, Receiver, Sender};
-use ids::Refusal;
+use crate::{LinkParts, Links, Offer, Receiver, Sender};
+use ids::{GREATEST_NUMBER, Refusal};
 use msg::{Body, Message};
 use std::alloc::Global;
+use std::collections::VecDeque;
 
 // The message that the tests append under this number: its label is the number.
 fn letter(number: u32) -> Message {
@@ -246,4 +247,59 @@ fn a_message_is_announced_to_all_others(rt: HostRuntime) -> Result<(), Refusal> 
         (Some(letter(1)), Some(letter(1)))
     );
     Ok(())
+}
+
+// The parts of a node's links to another one: so many messages were acknowledged, this many stand
+// after them, and this number was taken in.
+fn parts(alloc: Global, base: u64, count: u32, taken: u64) -> Result<LinkParts, Refusal> {
+    let mut messages = VecDeque::new(alloc);
+    for number in 0..count {
+        messages.push_back(letter(number + 1))?;
+    }
+    Ok(LinkParts {
+        base,
+        messages,
+        taken,
+    })
+}
+
+// The links of node 0 in a space of two nodes.
+fn given(alloc: Global, base: u64, count: u32, taken: u64) -> Result<Links, Refusal> {
+    let own = parts(alloc, 0, 0, 0)?;
+    Links::from_parts(
+        alloc,
+        vec![in alloc; own, parts(alloc, base, count, taken)?]?,
+    )
+}
+
+#[test]
+fn links_are_made_of_their_parts(rt: HostRuntime) -> Result<(), Refusal> {
+    let links = given(rt.alloc(), 4, 2, 9)?;
+    assert_eq!(rt; links.width(), 2);
+    assert_eq!(rt;
+        [links.base(1), links.used(1), links.released(1)],
+        [4, 6, 6]
+    );
+    assert_eq!(rt; [links.taken(1), links.ack_number(1)], [9, 9]);
+    assert_eq!(rt; links.window(1, 0), Some(letter(1)));
+    let messages = [4, 5, 6, 7].map(|number| links.message(1, number));
+    assert_eq!(rt; messages, [None, Some(letter(1)), Some(letter(2)), None]);
+    assert_eq!(rt; [links.used(0), links.taken(0)], [0, 0]);
+    Ok(())
+}
+
+#[test]
+fn too_great_numbers_make_no_links(rt: HostRuntime) {
+    for (base, count, taken, fits) in [
+        (GREATEST_NUMBER, 0, GREATEST_NUMBER, true),
+        (GREATEST_NUMBER - 1, 1, 0, true),
+        (GREATEST_NUMBER, 1, 0, false),
+        (GREATEST_NUMBER + 1, 0, 0, false),
+        (u64::MAX, 2, 0, false),
+        (0, 0, GREATEST_NUMBER + 1, false),
+    ] {
+        let refused = given(rt.alloc(), base, count, taken).err();
+        let expected = if fits { None } else { Some(Refusal::BadImage) };
+        assert_eq!(rt; refused, expected);
+    }
 }
