@@ -3,7 +3,7 @@ use Rattle.std.proofs.Common.{◌≡◌, ◌≢◌, ℕ, ◌-◌, ◌<◌, ◌�
 use Rattle.std.proofs.lemmas.Bool.{and_from, ne_eqb, lt-ltb, cond-true, cond-false, cond_both}
 use Rattle.std.proofs.lemmas.List.FromFn.{length-map-range_with_len}
 use Rattle.ids.specs.Limits.{Shaped, IsShape}
-use Rattle.msg.specs.Grammar.{data_frame, ack_frame}
+use Rattle.msg.specs.Grammar.{Plain, data_frame, ack_frame}
 use Rattle.msg.specs.declared.body.Message.{Message}
 use Rattle.model.specs.declared.event.Event.{Event}
 use Rattle.model.specs.declared.event.Answer.{Answer}
@@ -18,7 +18,7 @@ use Rattle.laws.proofs.Lookups.{Grows, slice_get-grows}
 use Rattle.laws.proofs.StepFacts.{Delivery, act-ok, Receipt, repeated, next, receipt-cases}
 use Rattle.laws.proofs.Onward.{Onward, Behind, new-behind, run-behind, run-saved}
 use Rattle.laws.proofs.Stands.{own-stands, taken-takes}
-use Rattle.laws.proofs.KeepsSent.{sent-onward, new-keeps-sent, run-count}
+use Rattle.laws.proofs.KeepsSent.{SentMore, sent-onward, new-keeps-sent, run-count}
 use Rattle.laws.proofs.Cuts.{released-numbered, run-keeps-sent}
 use Rattle.laws.proofs.Base.{own-heard, taken-heard, between-nodes, all-base}
 
@@ -41,7 +41,7 @@ released-grows w v from to number x more there =
     ∙ numbered-grows sent (sent_to (node_at v.saved from) to) number x more found.1
 
 -- of every node's messages as many were taken in, or more
-abbrev HeardMore : NodeState → NodeState → Type 0
+abbrev pub HeardMore : NodeState → NodeState → Type 0
 HeardMore s t = (from : ℕ) → got_from s.local from ≤ got_from t.local from
 
 act-heard : (s : NodeState) (e : Event) (t : NodeState) (a : Answer) → is_own e ≡ true
@@ -57,7 +57,7 @@ receive-heard s m t a (next turn may found) =
     subst (HeardMore s) (sym found.state)
     (taken-heard (taken-takes s.local m.from m.number m.message.stamp m.message.body) (omega arith))
 
-heard-onward : Onward HeardMore
+pub heard-onward : Onward HeardMore
 heard-onward = record {
   order = record {
     same = λ s from. le_refl _;
@@ -78,21 +78,27 @@ node-count : (shape : Shaped) (steps : List Step)
 node-count shape steps =
     run-count (new_world shape) steps ∙ length-map-range_with_len (new_node shape) 0 shape.nodes
 
-pub net-grows : NetGrows
-net-grows shape within earlier later (data_frame from to number stamp b) there =
-    let w : World = run (new_world shape) earlier in
+-- the same from any space whose saved states are behind its current ones
+pub net-onward : (w : World) (later : List Step) (f : Plain)
+    → Behind SentMore w → Behind HeardMore w → IsInNet w f → IsInNet (run w later) f
+net-onward w later (data_frame from to number stamp b) sent heard there =
     released-grows w (run w later) from to number (record { stamp = stamp; body = b })
-    (run-saved sent-onward w later
-    (run-keeps-sent (new_world shape) earlier (new-keeps-sent shape)).sent from to)
+    (run-saved sent-onward w later sent from to)
     there
-net-grows shape within earlier later (ack_frame from to number) there =
-    let w : World = run (new_world shape) earlier in
+net-onward w later (ack_frame from to number) sent heard there =
     let count : length (run w later).current ≡ length w.current = run-count w later in (
       subst (λ (n : ℕ). from < n) (sym count) there.0,
       subst (λ (n : ℕ). to < n) (sym count) there.1,
       there.2,
-      le_trans there.3 (run-saved heard-onward w later (run-heard shape earlier) from to),
+      le_trans there.3 (run-saved heard-onward w later heard from to),
     )
+
+pub net-grows : NetGrows
+net-grows shape within earlier later f there =
+    net-onward (run (new_world shape) earlier) later f
+    (run-keeps-sent (new_world shape) earlier (new-keeps-sent shape)).sent
+    (run-heard shape earlier)
+    there
 
 -- in the cut of all saved states, nothing was taken in that was not sent
 acknowledged-sent : (shape : Shaped) → IsShape shape → (steps : List Step) (from to : ℕ)

@@ -1,0 +1,131 @@
+-- Raising a number on the board, and looking at it, keep the rule.
+use Rattle.std.proofs.Common.{◌≡◌, ◌≢◌, ℕ, zero, suc, ◌+◌, ◌*◌, ◌%◌, ◌^◌, ◌<◌, ◌≤◌, max, List, [], ◌∷◌, length, set, get_or, refl, sym, ap, ◌∙◌, subst, arith, le_refl, le_trans, length-set, get_or-set_other, get_or-set_same}
+use Rattle.std.proofs.Math.Nat.{max-le, le-max_left}
+use Rattle.std.specs.Prelude.{slice_index}
+use mathlib.Core.Option.{none, some}
+use lib.ListN.{get_elem?}
+use lib.Seq.{set-get_or}
+use Rattle.atomic_table.specs.Table.{State, Me, step, keeps, Allows}
+use Rattle.ids.specs.declared.limits.TheConstants.{GREATEST_CYCLE}
+use Rattle.model.specs.declared.step.Step.{Step}
+use Rattle.model.specs.World.{World, run}
+use Rattle.wire.specs.Views.{Role, dealer, node, watch, Pair, Known, marks, pair_at}
+use Rattle.wire.specs.Rule.{nodes_of, ended_of, AreEvents, NodeOk, WatchOk, SeatOk, Holds}
+use Rattle.wire.specs.Plays.{HasEnded, raised, looked}
+use Rattle.wire.proofs.Stays.{Note, noted, node-of, same-log}
+
+module _ {S : Type 0} (bytes : S → List ℕ) (opening : World) where
+  abbrev n : ℕ
+  n = nodes_of opening
+
+  abbrev Sat : Type 0
+  Sat = Me S Known
+
+  raise-at : (slots id k : ℕ) (me : Sat) → me.0.role ≡ node → me.0.me ≡ 0
+      → k ≤ me.0.pair.saved.local.phases.ended → k ≤ GREATEST_CYCLE
+      → Allows (Holds bytes opening) slots id me (n * n + 1) (λ r. max r k)
+      (raised (step slots (n * n + 1) k 0 none) me)
+  raise-at slots id k me role first ended within s h wide at small =
+      let v : Known = me.0 in
+      let r : ℕ = slice_index s.words (n * n + 1) in
+      let words : List ℕ = set s.words (n * n + 1) (max r k) in
+      let long : length s.words ≡ n * n + 2 = h.wide in
+      let ok = node-of bytes opening s h id v at role in
+      let same = get_or-set_same s.words (n * n + 1) (max r k) 0 (omega arith) in
+      let saved : k ≤ ended_of (run opening h.log) =
+      subst (λ (p : Pair). k ≤ p.saved.local.phases.ended)
+      (sym ok.pair_is ∙ ap (pair_at (run opening h.log)) first) ended in (
+        marks k v,
+        keeps,
+        tt,
+        noted bytes opening s h id v (marks k v) h.log words (record {
+          at = at;
+          alike = record { role = refl; me = refl };
+          filling = refl;
+          emptying = refl;
+          extends = same-log opening h.log v;
+          wide = length-set s.words (n * n + 1) (max r k);
+          boxes = λ m below. get_or-set_other s.words (n * n + 1) m (max r k) 0 (omega arith);
+          events = h.events;
+          count = get_or-set_other s.words (n * n + 1) (n * n) (max r k) 0 (omega arith) ∙ h.count;
+          board = subst (λ (z : ℕ). z ≤ ended_of (run opening h.log)) (sym same)
+          (max-le h.board saved);
+          fits = subst (λ (z : ℕ). z ≤ GREATEST_CYCLE) (sym same)
+          (max-le h.fits within);
+          higher = subst (λ (z : ℕ). r ≤ z) (sym same) (le-max_left r k);
+          mine = subst
+          (SeatOk opening h.log (slice_index words (n * n + 1)) (set s.views id (marks k v)) h.boxes id
+          (marks k v))
+          (sym role)
+          (record {
+            below = ok.below;
+            nodes_is = ok.nodes_is;
+            opening_is = ok.opening_is;
+            pair_is = ok.pair_is;
+            events_are = ok.events_are;
+            released = ok.released;
+            fills = ok.fills;
+            empties = ok.empties;
+          });
+          no_dealer = λ d. (let never : ◌≡◌ {A = Role} node dealer = sym role ∙ d in absurd cc);
+        }),
+        (refl, refl),
+      )
+
+  look-at : (slots id : ℕ) (me : Sat) → me.0.role ≡ watch
+      → Allows (Holds bytes opening) slots id me (n * n + 1) (λ r. r)
+      (looked (step slots (n * n + 1) 0 0 none) me)
+  look-at slots id me role s h wide at small =
+      let v : Known = me.0 in
+      let r : ℕ = slice_index s.words (n * n + 1) in
+      let ok : WatchOk opening r v =
+      subst (SeatOk opening h.log r s.views h.boxes id v) role (h.each_seat id v at) in (
+        marks r v,
+        keeps,
+        tt,
+        subst
+        (λ (ws : List ℕ).
+        Holds bytes opening (record { words = ws; homes = s.homes; views = set s.views id (marks r v) }))
+        (sym (set-get_or s.words (n * n + 1) 0))
+        (noted bytes opening s h id v (marks r v) h.log s.words (record {
+          at = at;
+          alike = record { role = refl; me = refl };
+          filling = refl;
+          emptying = refl;
+          extends = same-log opening h.log v;
+          wide = refl;
+          boxes = λ m below. refl;
+          events = h.events;
+          count = h.count;
+          board = h.board;
+          fits = h.fits;
+          higher = le_refl r;
+          mine = subst
+          (SeatOk opening h.log r (set s.views id (marks r v)) h.boxes id (marks r v)) (sym role)
+          (record { opening_is = ok.opening_is; loaded = le_refl r });
+          no_dealer = λ d. (let never : ◌≡◌ {A = Role} watch dealer = sym role ∙ d in absurd cc);
+        })),
+        (
+          refl,
+          refl,
+          ok.loaded,
+          h.fits,
+          subst (λ (o : World). HasEnded o r) (sym ok.opening_is) (h.log, h.events, h.board),
+        ),
+      )
+
+  pub raises_allowed : (slots id c k : ℕ) (me : Sat) → c ≡ n * n + 1 → me.0.role ≡ node
+      → me.0.me ≡ 0 → k ≤ me.0.pair.saved.local.phases.ended → k ≤ GREATEST_CYCLE
+      → Allows (Holds bytes opening) slots id me c (λ r. max r k) (raised (step slots c k 0 none) me)
+  raises_allowed slots id c k me is role first ended within =
+      subst
+      (λ (b : ℕ).
+      Allows (Holds bytes opening) slots id me b (λ r. max r k) (raised (step slots b k 0 none) me))
+      (sym is) (raise-at slots id k me role first ended within)
+
+  pub looks_allowed : (slots id c : ℕ) (me : Sat) → c ≡ n * n + 1 → me.0.role ≡ watch
+      → Allows (Holds bytes opening) slots id me c (λ r. r) (looked (step slots c 0 0 none) me)
+  looks_allowed slots id c me is role =
+      subst
+      (λ (b : ℕ). Allows (Holds bytes opening) slots id me b (λ r. r) (looked (step slots b 0 0 none) me))
+      (sym is) (look-at slots id me role)

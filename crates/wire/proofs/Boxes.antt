@@ -1,0 +1,57 @@
+-- A mailbox is set, and what a seat knows of it.
+use Rattle.std.proofs.Common.{◌≡◌, ◌≢◌, ℕ, zero, suc, List, [], ◌∷◌, set, Option, Some, None, refl, sym, ap, ◌∙◌, subst, arith}
+use mathlib.Core.Option.{some, some-ne-none}
+use native.Mathlib.Decide.{ℕ_discrete}
+use lib.ListN.{get_elem?}
+use Rattle.msg.specs.Grammar.{Plain}
+use Rattle.wire.specs.Rule.{Box, empty, full, filling_by, emptying_by, face}
+
+abbrev pick : {P : Type 0} → Dec P → Box → Box → Box
+pick (yes _) a b = a
+pick (no _) a b = b
+
+pub put : (ℕ → Box) → ℕ → Box → ℕ → Box
+put boxes m b k = pick (ℕ_discrete k m) b (boxes k)
+
+-- what holds of the new one, and of each other, holds after
+pub at_put : (boxes : ℕ → Box) (m : ℕ) (b : Box) (F : ℕ → Box → Type 0) (k : ℕ) → F m b
+    → (k ≢ m → F k (boxes k)) → F k (put boxes m b k)
+unfolding put
+at_put boxes m b F k here other = go (ℕ_discrete k m)
+  where
+    go : (d : Dec (k ≡ m)) → F k (pick d b (boxes k))
+    go (yes e) = subst (λ (j : ℕ). F j b) (sym e) here
+    go (no n) = other n
+
+pub put-other : (boxes : ℕ → Box) (m : ℕ) (b : Box) (k : ℕ) → k ≢ m → put boxes m b k ≡ boxes k
+put-other boxes m b k apart =
+    at_put boxes m b (λ j x. j ≢ m → x ≡ boxes j) k (λ ne. absurd (ne refl)) (λ _ _. refl) apart
+
+-- who holds it, if anyone: 0, or 1 more than the seat's index
+abbrev pub holder : Box → ℕ
+holder empty = 0
+holder (full f) = 0
+holder (filling_by j) = suc j
+holder (emptying_by j f) = suc j
+
+pub is-empty : (b : Box) → face b ≡ 0 → b ≡ empty
+is-empty empty e = refl
+is-empty (full f) e = absurd (omega arith)
+is-empty (filling_by j) e = absurd (omega arith)
+is-empty (emptying_by j f) e = absurd (omega arith)
+
+pub is-full : (b : Box) → face b ≡ 1 → (f : Plain) × (b ≡ full f)
+is-full empty e = absurd (omega arith)
+is-full (full f) e = (f, refl)
+is-full (filling_by j) e = absurd (omega arith)
+is-full (emptying_by j f) e = absurd (omega arith)
+
+pub none-from : {A : Type 0} (o : Option A) → ((a : A) → o ≡ Some a → ⊥) → o ≡ None
+none-from None never = refl
+none-from (Some a) never = absurd (never a refl)
+
+pub set-at : {A : Type 0} (l : List A) (i : ℕ) (a b : A) → get_elem? l i ≡ some b
+    → get_elem? (set l i a) i ≡ some a
+set-at [] i a b e = absurd (some-ne-none b (sym e))
+set-at (x ∷ xs) zero a b e = refl
+set-at (x ∷ xs) (suc i) a b e = set-at xs i a b e

@@ -1,0 +1,295 @@
+-- A new wire meets the rule, and goes on to while its seats are made.
+use Rattle.std.proofs.Common.{◌≡◌, ◌≢◌, ◌⊎◌, ℕ, zero, suc, ◌+◌, ◌*◌, ◌%◌, ◌^◌, ◌<◌, ◌≤◌, Bool, true, false, List, [], ◌∷◌, ◌++◌, length, set, get_or, Option, Some, None, refl, sym, ap, ◌∙◌, subst, inl, inr, ⊎_elim, arith, zero-le, length-set, slice_get}
+use Rattle.std.specs.Prelude.{slice_index}
+use mathlib.Core.Option as maybe
+use mathlib.Core.Option.{none, some, some-injective, some-ne-none}
+use lib.ListN.{get_elem?}
+use Rattle.atomic_table.specs.Table.{State, Splits}
+use Rattle.atomic_table.specs.Table as table
+use Rattle.atomic_table.proofs.Lists.{at_set, set_else, at_longer, some_there}
+use Rattle.ids.specs.declared.limits.TheConstants.{GREATEST_CYCLE}
+use Rattle.msg.specs.Grammar.{Plain}
+use Rattle.model.specs.World.{World, run, IsInNet}
+use Rattle.wire.specs.Lists.{has, found}
+use Rattle.wire.specs.Views.{Role, dealer, node, watch, Pair, Known, pair_at, dealing, dealer_after, next_node, next_watch}
+use Rattle.wire.specs.Rule.{nodes_of, ended_of, IsOpening, Box, empty, full, filling_by, emptying_by, Content, BoxOk, NodeOk, DealerOk, WatchOk, SeatOk, Holds}
+
+at-end : {A : Type 0} (l : List A) (a b : A) (j : ℕ) → get_elem? (l ++ a ∷ []) j ≡ some b
+    → (get_elem? l j ≡ some b) ⊎ ((j ≡ length l) × (a ≡ b))
+at-end [] a b zero e = inr (refl, some-injective a b e)
+at-end [] a b (suc j) e = absurd (some-ne-none b (sym e))
+at-end (x ∷ xs) a b zero e = inl e
+at-end (x ∷ xs) a b (suc j) e =
+    ⊎_elim (λ t. inl t) (λ t. inr (ap suc t.0, t.1)) (at-end xs a b j e)
+
+module _ {S : Type 0} (bytes : S → List ℕ) (opening : World) where
+  abbrev n : ℕ
+  n = nodes_of opening
+
+  abbrev Seats : List Known → Known → Known → ℕ → List Known
+  Seats views left right id = set views id left ++ right ∷ []
+
+  -- the dealer goes on as `left`, and the new seat is `right`
+  record Deal (s : State S Known) (h : Holds bytes opening s) (id : ℕ) (v left right : Known) : Type 0
+    where
+    pub at : get_elem? s.views id ≡ some v
+    pub was : v.role ≡ dealer
+    pub role : left.role ≡ dealer
+    pub no_dealer : right.role ≢ dealer
+    pub left_ok : DealerOk opening h.log (Seats s.views left right id) id left
+    pub right_ok : SeatOk opening h.log (slice_index s.words (n * n + 1)) (Seats s.views left right id)
+        h.boxes (length (set s.views id left)) right right.role
+    pub alone : right.role ≡ node → (k : ℕ) (u : Known) → get_elem? s.views k ≡ some u
+        → u.role ≡ node → u.me ≢ right.me
+
+  dealer-of : (s : State S Known) (h : Holds bytes opening s) (id : ℕ) (v : Known)
+      → get_elem? s.views id ≡ some v → v.role ≡ dealer → DealerOk opening h.log s.views id v
+  dealer-of s h id v at role =
+      subst (SeatOk opening h.log (slice_index s.words (n * n + 1)) s.views h.boxes id v) role
+      (h.each_seat id v at)
+
+  module _ (s : State S Known) (h : Holds bytes opening s) (id : ℕ) (v left right : Known)
+      (t : Deal s h id v left right) where
+    views : List Known
+    views = Seats s.views left right id
+
+    not-node : {r : Role} → r ≡ dealer → r ≢ node
+    not-node e f = let never : ◌≡◌ {A = Role} dealer node = sym e ∙ f in absurd cc
+
+    -- a node's seat is one from before, or the new one
+    old-node : (j : ℕ) (u : Known) → get_elem? (set s.views id left) j ≡ some u → u.role ≡ node
+        → get_elem? s.views j ≡ some u
+    old-node j u e r =
+        ⊎_elim
+        (λ (is : (j ≡ id) × (left ≡ u)).
+        absurd (not-node t.role (ap (λ (x : Known). x.role) is.1 ∙ r)))
+        (λ (is : (j ≢ id) × (get_elem? s.views j ≡ some u)). is.1)
+        (at_set s.views id j left u e)
+
+    kept-node : (j : ℕ) (u : Known) → get_elem? s.views j ≡ some u → u.role ≡ node
+        → get_elem? (Seats s.views left right id) j ≡ some u
+    kept-node j u e r =
+        at_longer (set s.views id left) (right ∷ []) j u
+        (set_else s.views id j left
+        (λ is.
+        not-node t.was
+        (ap (λ (x : Known). x.role)
+        (some-injective v u (sym t.at ∙ subst (λ (k : ℕ). get_elem? s.views k ≡ some u) is e)) ∙ r))
+        ∙ e)
+
+    content-kept : (m : ℕ) (b : Box) → Content bytes n (run opening h.log) s.homes s.views m b
+        → Content bytes n (run opening h.log) s.homes (Seats s.views left right id) m b
+    content-kept m empty c = c
+    content-kept m (full f) c = c
+    content-kept m (filling_by j) c = (c.0, kept-node j c.0 c.1 c.2, c.2, c.3, c.4)
+    content-kept m (emptying_by j f) c = (c.0, kept-node j c.0 c.1 c.2, c.2, c.3, c.4)
+
+    seat-kept : (j : ℕ) (u : Known) → j ≢ id → get_elem? s.views j ≡ some u → (r : Role)
+        → u.role ≡ r
+        → SeatOk opening h.log (slice_index s.words (n * n + 1)) s.views h.boxes j u r
+        → SeatOk opening h.log (slice_index s.words (n * n + 1)) (Seats s.views left right id) h.boxes
+        j u r
+    seat-kept j u apart e dealer is ok =
+        absurd (apart ((dealer-of s h id v t.at t.was).alone j u e is))
+    seat-kept j u apart e node is ok = ok
+    seat-kept j u apart e watch is ok = ok
+
+    new-apart : (k : ℕ) (x u : Known) → get_elem? (set s.views id left) k ≡ some x → right ≡ u
+        → x.role ≡ node → u.role ≡ node → x.me ≡ u.me → ⊥
+    new-apart k x u e is rx ru me =
+        t.alone (ap (λ (y : Known). y.role) is ∙ ru) k x (old-node k x e rx) rx
+        (me ∙ ap (λ (y : Known). y.me) (sym is))
+
+    one-kept : (j k : ℕ) (x u : Known) → get_elem? (Seats s.views left right id) j ≡ some x
+        → get_elem? (Seats s.views left right id) k ≡ some u
+        → x.role ≡ node → u.role ≡ node → x.me ≡ u.me → j ≡ k
+    one-kept j k x u ex eu rx ru me =
+        ⊎_elim
+        (λ a. ⊎_elim
+        (λ b. h.one j k x u (old-node j x a rx) (old-node k u b ru) rx ru me)
+        (λ (b : (k ≡ length (set s.views id left)) × (right ≡ u)).
+        absurd (new-apart j x u a b.1 rx ru me))
+        (at-end (set s.views id left) right u k eu))
+        (λ (a : (j ≡ length (set s.views id left)) × (right ≡ x)). ⊎_elim
+        (λ b. absurd (new-apart k u x b a.1 ru rx (sym me)))
+        (λ (b : (k ≡ length (set s.views id left)) × (right ≡ u)). a.0 ∙ sym b.0)
+        (at-end (set s.views id left) right u k eu))
+        (at-end (set s.views id left) right x j ex)
+
+    seats-kept : (j : ℕ) (u : Known) → get_elem? (Seats s.views left right id) j ≡ some u
+        → SeatOk opening h.log (slice_index s.words (n * n + 1)) (Seats s.views left right id) h.boxes
+        j u u.role
+    seats-kept j u e =
+        ⊎_elim
+        (λ a. ⊎_elim
+        (λ (is : (j ≡ id) × (left ≡ u)).
+        subst (λ (x : ℕ × Known). SeatOk opening h.log (slice_index s.words (n * n + 1))
+        (Seats s.views left right id) h.boxes x.0 x.1 x.1.role)
+        (λ k. (sym is.0 k, is.1 k))
+        (subst (SeatOk opening h.log (slice_index s.words (n * n + 1)) (Seats s.views left right id)
+        h.boxes id left) (sym t.role) t.left_ok))
+        (λ (is : (j ≢ id) × (get_elem? s.views j ≡ some u)).
+        seat-kept j u is.0 is.1 u.role refl (h.each_seat j u is.1))
+        (at_set s.views id j left u a))
+        (λ (is : (j ≡ length (set s.views id left)) × (right ≡ u)).
+        subst (λ (x : ℕ × Known). SeatOk opening h.log (slice_index s.words (n * n + 1))
+        (Seats s.views left right id) h.boxes x.0 x.1 x.1.role)
+        (λ k. (sym is.0 k, is.1 k)) t.right_ok)
+        (at-end (set s.views id left) right u j e)
+
+    dealt : Holds bytes opening
+        (record { words = s.words; homes = s.homes; views = Seats s.views left right id })
+    dealt = record {
+      log = h.log;
+      boxes = h.boxes;
+      opens = h.opens;
+      wide = h.wide;
+      slots = h.slots;
+      events = h.events;
+      count = h.count;
+      board = h.board;
+      fits = h.fits;
+      each_box = λ m below. (
+        let b = h.each_box m below in
+        record { shows = b.shows; content = content-kept m (h.boxes m) b.content }
+      );
+      each_seat = seats-kept;
+      one = one-kept;
+    }
+
+  -- who is among the seats after a deal
+  among : (s : State S Known) (id : ℕ) (left right : Known) (k : ℕ) (u : Known)
+      → get_elem? (Seats s.views left right id) k ≡ some u
+      → ((k ≡ id) × (left ≡ u)) ⊎ ((get_elem? s.views k ≡ some u) ⊎ (right ≡ u))
+  among s id left right k u e =
+      ⊎_elim
+      (λ a. ⊎_elim
+      (λ (is : (k ≡ id) × (left ≡ u)). inl is)
+      (λ (is : (k ≢ id) × (get_elem? s.views k ≡ some u)). inr (inl is.1))
+      (at_set s.views id k left u a))
+      (λ (is : (k ≡ length (set s.views id left)) × (right ≡ u)). inr (inr is.1))
+      (at-end (set s.views id left) right u k e)
+
+  clash : {A : Type 0} {r : Role} → r ≡ dealer → r ≡ node → A
+  clash d e = let never : ◌≡◌ {A = Role} dealer node = sym d ∙ e in absurd cc
+
+  pub next_splits : (id : ℕ) (v : Known) → v.role ≡ dealer → v.me < v.nodes
+      → Splits (Holds bytes opening) id v (dealer_after v) (next_node v)
+  next_splits id v role below s h at =
+      let ok = dealer-of s h id v at role in
+      let rest = ok.still v.me (omega arith) in
+      dealt s h id v (dealer_after v) (next_node v) (record {
+        at = at;
+        was = role;
+        role = role;
+        no_dealer = λ e. (let never : ◌≡◌ {A = Role} node dealer = e in absurd cc);
+        left_ok = record {
+          nodes_is = ok.nodes_is;
+          opening_is = ok.opening_is;
+          earlier = λ k u e r. ⊎_elim
+          (λ (is : (k ≡ id) × (dealer_after v ≡ u)).
+          clash (sym (ap (λ (x : Known). x.role) is.1) ∙ role) r)
+          (λ other. ⊎_elim
+          (λ (a : get_elem? s.views k ≡ some u).
+          (let before : u.me < v.me = ok.earlier k u a r in
+          let after : u.me < v.me + 1 = omega arith in after))
+          (λ (is : next_node v ≡ u).
+          subst (λ (x : Known). x.me < v.me + 1) is
+          (let after : v.me < v.me + 1 = omega arith in after))
+          other)
+          (among s id (dealer_after v) (next_node v) k u e);
+          alone = λ k u e r. ⊎_elim
+          (λ (is : (k ≡ id) × (dealer_after v ≡ u)). is.0)
+          (λ other. ⊎_elim
+          (λ (a : get_elem? s.views k ≡ some u). ok.alone k u a r)
+          (λ (is : next_node v ≡ u). clash r (sym (ap (λ (x : Known). x.role) is)))
+          other)
+          (among s id (dealer_after v) (next_node v) k u e);
+          still = λ i late. ok.still i (omega arith);
+        };
+        right_ok = record {
+          below = subst (λ (k : ℕ). v.me < k) ok.nodes_is below;
+          nodes_is = ok.nodes_is;
+          opening_is = ok.opening_is;
+          pair_is = rest.1 ∙ ap (λ (o : World). pair_at o v.me) (sym ok.opening_is);
+          events_are = sym rest.0;
+          released = λ k f e. (let never : ◌≡◌ {A = Option Plain} None (Some f) = e in absurd cc);
+          fills = λ m e. (let never : false ≡ true = e in absurd cc);
+          empties = λ m f e. (let never : ◌≡◌ {A = Option Plain} None (Some f) = e in absurd cc);
+        };
+        alone = λ r k u a ru same. (let before : u.me < v.me = ok.earlier k u a ru in omega arith);
+      })
+
+  pub watch_splits : (id : ℕ) (v : Known) → v.role ≡ dealer
+      → Splits (Holds bytes opening) id v v (next_watch v)
+  watch_splits id v role s h at =
+      let ok = dealer-of s h id v at role in
+      dealt s h id v v (next_watch v) (record {
+        at = at;
+        was = role;
+        role = role;
+        no_dealer = λ e. (let never : ◌≡◌ {A = Role} watch dealer = e in absurd cc);
+        left_ok = record {
+          nodes_is = ok.nodes_is;
+          opening_is = ok.opening_is;
+          earlier = λ k u e r. ⊎_elim
+          (λ (is : (k ≡ id) × (v ≡ u)). clash (sym (ap (λ (x : Known). x.role) is.1) ∙ role) r)
+          (λ other. ⊎_elim
+          (λ (a : get_elem? s.views k ≡ some u). ok.earlier k u a r)
+          (λ (is : next_watch v ≡ u).
+          (let never : ◌≡◌ {A = Role} watch node = ap (λ (x : Known). x.role) is ∙ r in absurd cc))
+          other)
+          (among s id v (next_watch v) k u e);
+          alone = λ k u e r. ⊎_elim
+          (λ (is : (k ≡ id) × (v ≡ u)). is.0)
+          (λ other. ⊎_elim
+          (λ (a : get_elem? s.views k ≡ some u). ok.alone k u a r)
+          (λ (is : next_watch v ≡ u).
+          (let never : ◌≡◌ {A = Role} watch dealer = ap (λ (x : Known). x.role) is ∙ r in absurd cc))
+          other)
+          (among s id v (next_watch v) k u e);
+          still = ok.still;
+        };
+        right_ok = record { opening_is = ok.opening_is; loaded = zero-le };
+        alone = λ r. (let never : ◌≡◌ {A = Role} watch node = r in absurd cc);
+      })
+
+  first-at : (v u : Known) (j : ℕ) → get_elem? (v ∷ []) j ≡ some u → (j ≡ 0) × (v ≡ u)
+  first-at v u zero e = (refl, some-injective v u e)
+  first-at v u (suc j) e = absurd (some-ne-none u (sym e))
+
+  pub starts : (words : List ℕ) (slots : List S) → IsOpening opening
+      → length words ≡ n * n + 2 → ((k : ℕ) → get_or words k 0 ≡ 0) → length slots ≡ n * n
+      → length (table.opening words slots (dealing opening)).homes ≡ n * n
+      → Holds bytes opening (table.opening words slots (dealing opening))
+  starts words slots opens wide zeros long homes =
+      let v : Known = dealing opening in
+      record {
+        log = [];
+        boxes = λ _. empty;
+        opens = opens;
+        wide = wide;
+        slots = homes;
+        events = tt;
+        count = zeros (n * n);
+        board = subst (λ (z : ℕ). z ≤ ended_of opening) (sym (zeros (n * n + 1))) zero-le;
+        fits = subst (λ (z : ℕ). z ≤ GREATEST_CYCLE) (sym (zeros (n * n + 1))) zero-le;
+        each_box = λ m below. record {
+          shows = zeros m;
+          content = some_there slots m (subst (λ (k : ℕ). m < k) (sym long) below);
+        };
+        each_seat = λ j u e. (
+          let is = first-at v u j e in
+          subst (λ (x : ℕ × Known). SeatOk opening [] (slice_index words (n * n + 1)) (v ∷ [])
+          (λ _. empty) x.0 x.1 x.1.role) (λ k. (sym is.0 k, is.1 k))
+          (record {
+            nodes_is = refl;
+            opening_is = refl;
+            earlier = λ k x at r. clash refl (ap (λ (y : Known). y.role) (first-at v x k at).1 ∙ r);
+            alone = λ k x at r. (first-at v x k at).0;
+            still = λ i late. (refl, refl);
+          })
+        );
+        one = λ j k x u ex eu rx ru me.
+        clash refl (ap (λ (y : Known). y.role) (first-at v x j ex).1 ∙ rx);
+      }

@@ -1,0 +1,226 @@
+-- Events of a space, one after another: what a list of them and one more is, and what an event of one
+-- node leaves of the others.
+use Rattle.std.proofs.Common.{◌≡◌, ◌≢◌, ℕ, ◌+◌, ◌<◌, ◌≤◌, ◌==◌, ◌&&◌, cond, eq-eqb, ne_eqb, lt-ltb, Bool, true, false, List, [], ◌∷◌, ◌++◌, length, set, Option, Some, None, Result, Ok, Err, refl, sym, ap, ◌∙◌, subst, get_or-set_same, get_or-set_other, slice_get}
+use Rattle.std.proofs.lemmas.Bool.{and_from, cond-true, cond-false}
+use Rattle.ids.specs.declared.refusal.Refusal.{Refusal}
+use Rattle.ids.specs.declared.refusal.Refusal.TheVariants.{NoNode}
+use Rattle.msg.specs.Grammar.{Plain, data_frame}
+use Rattle.msg.specs.declared.body.Message.{Message}
+use Rattle.model.specs.declared.event.Event.{Event}
+use Rattle.model.specs.declared.event.Answer.{Answer}
+use Rattle.model.specs.declared.step.Step.{Step}
+use Rattle.model.specs.declared.step.Step.TheVariants as step
+use Rattle.model.specs.declared.step.Outcome.{Outcome}
+use Rattle.model.specs.declared.step.Outcome.TheVariants as outcome
+use Rattle.model.specs.State.{NodeState, no_node, node_at}
+use Rattle.model.specs.Steps.{act, receive, is_own}
+use Rattle.model.specs.World.{World, KeepsSent, released, moved, delivery, is_node, take_step, world_after, outcome_of, happens, run, is_eventful, is_event, IsInNet}
+use Rattle.model.proofs.Runs.{run-push}
+use Rattle.laws.proofs.Onward.{Onward, Compares, Behind, run-behind, run-saved}
+use Rattle.laws.proofs.KeepsSent.{SentMore, sent-onward, run-count}
+use Rattle.laws.proofs.Cuts.{run-keeps-sent}
+use Rattle.laws.proofs.Net.{HeardMore, heard-onward, net-onward}
+use Rattle.wire.specs.Views.{Pair, Known, pair_at}
+use Rattle.wire.specs.Rule.{nodes_of, ended_of, IsOpening, node_of, events_of, AreEvents}
+use Rattle.wire.specs.Plays.{IsEventful, HasTaken, Happens}
+use Rattle.wire.proofs.Ages.{OlderNode, older-onward}
+
+-- ---- One more event
+
+pub cond_push : (b : Bool) (t s : Step) (xs ys : List Step) → xs ≡ ys ++ s ∷ []
+    → cond b (t ∷ xs) xs ≡ cond b (t ∷ ys) ys ++ s ∷ []
+cond_push true t s xs ys same = ap (λ (l : List Step). t ∷ l) same
+cond_push false t s xs ys same = same
+
+pub events-push_same : (i : ℕ) (log : List Step) (s : Step) → node_of s ≡ i
+    → events_of i (log ++ s ∷ []) ≡ events_of i log ++ s ∷ []
+events-push_same i [] s is = cond-true _ _ _ (eq-eqb (node_of s) i is)
+events-push_same i (t ∷ ts) s is =
+    cond_push (node_of t == i) t s _ _ (events-push_same i ts s is)
+
+pub events-push_other : (i : ℕ) (log : List Step) (s : Step) → node_of s ≢ i
+    → events_of i (log ++ s ∷ []) ≡ events_of i log
+events-push_other i [] s apart = cond-false _ _ _ (ne_eqb (node_of s) i apart)
+events-push_other i (t ∷ ts) s apart =
+    ap (λ (l : List Step). cond (node_of t == i) (t ∷ l) l) (events-push_other i ts s apart)
+
+pub are-push : (w : World) (log : List Step) (s : Step) → AreEvents w log
+    → is_event (run w log) s ≡ true → AreEvents w (log ++ s ∷ [])
+are-push w [] s are next = (next, tt)
+are-push w (t ∷ ts) s are next = (are.0, are-push (happens w t) ts s are.1 next)
+
+-- ---- What only grows
+
+behind : {R : NodeState → NodeState → Type 0} → Compares R → (w : World) → IsOpening w → Behind R w
+behind {R = R} order w opens i =
+    subst (λ (l : List NodeState). R (node_at w.saved i) (node_at l i)) opens.same (order.same _)
+
+pub keeps : (w : World) (log : List Step) → IsOpening w → KeepsSent (run w log)
+keeps w log opens =
+    run-keeps-sent w log
+    (record { width = ap length opens.same; sent = behind sent-onward.order w opens })
+
+module _ (w : World) (log : List Step) (opens : IsOpening w) where
+  pub width : length (run w log).saved ≡ length (run w log).current
+  width = (keeps w log opens).width
+
+  pub count : length (run w log).current ≡ nodes_of w
+  count = run-count w log
+
+  -- a frame in the net is there after one more step too
+  pub net-push : (s : Step) (f : Plain) → IsInNet (run w log) f → IsInNet (run w (log ++ s ∷ [])) f
+  net-push s f there =
+      subst (λ (v : World). IsInNet v f) (sym (run-push w log s))
+      (net-onward (run w log) (s ∷ []) f
+      (run-behind sent-onward w log (behind sent-onward.order w opens))
+      (run-behind heard-onward w log (behind heard-onward.order w opens)) there)
+
+  pub ended-push : (s : Step) → ended_of (run w log) ≤ ended_of (run w (log ++ s ∷ []))
+  ended-push s =
+      let first = run-saved older-onward w log (behind older-onward.order w opens) 0 opens.ended in
+      subst (λ (v : World). ended_of (run w log) ≤ ended_of v) (sym (run-push w log s))
+      (run-saved older-onward (run w log) (s ∷ [])
+      (run-behind older-onward w log (behind older-onward.order w opens)) 0 first.1).0
+
+-- ---- What an event of one node does
+
+-- the step is an event, after which the node i has the pair q, and the others the same as before
+pub record IsLocal (w : World) (s : Step) (i : ℕ) (q : Pair) : Type 0 where
+  pub node : node_of s ≡ i
+  pub event : is_event w s ≡ true
+  pub here : pair_at (happens w s) i ≡ q
+  pub others : (j : ℕ) → j ≢ i → pair_at (happens w s) j ≡ pair_at w j
+
+module _ (w : World) (i : ℕ) (q : Pair) (pair_is : pair_at w i ≡ q) where
+  current_is : node_at w.current i ≡ q.current
+  current_is = ap (λ (p : Pair). p.current) pair_is
+
+  saved_is : node_at w.saved i ≡ q.saved
+  saved_is = ap (λ (p : Pair). p.saved) pair_is
+
+eventful : (w : World) (s : Step) (v : World) (o : Outcome) → take_step w s ≡ Ok (v, o)
+    → is_eventful (Ok o) ≡ true → is_event w s ≡ true
+eventful w s v o h e =
+    ap (λ (r : Result (World × Outcome) Refusal). is_eventful (outcome_of r)) h ∙ e
+
+leads : (w : World) (s : Step) (v : World) (o : Outcome) → take_step w s ≡ Ok (v, o)
+    → happens w s ≡ v
+leads w s v o h = ap (world_after w) h
+
+-- the node's current state is now t
+pub moved-local : (w : World) (s : Step) (i : ℕ) (t : NodeState) (o : Outcome) (p q : Pair)
+    → node_of s ≡ i → i < length w.current → pair_at w i ≡ p
+    → take_step w s ≡ Ok (record w { current = set w.current i t }, o) → is_eventful (Ok o) ≡ true
+    → q ≡ record { current = t; saved = p.saved } → IsLocal w s i q
+moved-local w s i t o p q node below pair_is took e is =
+    let next : World = record w { current = set w.current i t } in
+    let now = leads w s next o took in
+    record {
+      node = node;
+      event = eventful w s next o took e;
+      here = ap (λ (v : World). pair_at v i) now
+      ∙ (λ k. record {
+        current = get_or-set_same w.current i t no_node below k;
+        saved = saved_is w i p pair_is k;
+      })
+      ∙ sym is;
+      others = λ j apart. ap (λ (v : World). pair_at v j) now
+      ∙ (λ k. record {
+        current = get_or-set_other w.current i j t no_node apart k;
+        saved = node_at w.saved j;
+      });
+    }
+
+-- the node's saved state is its current one
+saved-local : (w : World) (i : ℕ) (p q : Pair) → i < length w.current
+    → length w.saved ≡ length w.current → pair_at w i ≡ p
+    → q ≡ record { current = p.current; saved = p.current } → IsLocal w (step.Save i) i q
+unfolding take_step
+saved-local w i p q below wide pair_is is =
+    let next : World = record w { saved = set w.saved i (node_at w.current i) } in
+    let took : take_step w (step.Save i) ≡ Ok (next, outcome.Done) =
+    cond-true _ _ _ (lt-ltb i _ below) in
+    let now = leads w (step.Save i) next outcome.Done took in
+    record {
+      node = refl;
+      event = eventful w (step.Save i) next outcome.Done took refl;
+      here = ap (λ (v : World). pair_at v i) now
+      ∙ (λ k. record {
+        current = node_at w.current i;
+        saved = get_or-set_same w.saved i (node_at w.current i) no_node
+        (subst (λ (n : ℕ). i < n) (sym wide) below) k;
+      })
+      ∙ ap (λ (s : NodeState). record { current = s; saved = s }) (current_is w i p pair_is)
+      ∙ sym is;
+      others = λ j apart. ap (λ (v : World). pair_at v j) now
+      ∙ (λ k. record {
+        current = node_at w.current j;
+        saved = get_or-set_other w.saved i j (node_at w.current i) no_node apart k;
+      });
+    }
+
+restarted-local : (w : World) (i : ℕ) (p q : Pair) → i < length w.current → pair_at w i ≡ p
+    → q ≡ record { current = p.saved; saved = p.saved } → IsLocal w (step.Restart i) i q
+unfolding take_step
+restarted-local w i p q below pair_is is =
+    moved-local w (step.Restart i) i (node_at w.saved i) outcome.Done p q refl below pair_is
+    (cond-true _ _ _ (lt-ltb i _ below)) refl
+    (is
+    ∙ ap (λ (s : NodeState). record { current = s; saved = p.saved }) (sym (saved_is w i p pair_is)))
+
+acted-local : (w : World) (i : ℕ) (e : Event) (a : Answer) (p q : Pair) → i < length w.current
+    → pair_at w i ≡ p → is_own e ≡ true → q.saved ≡ p.saved
+    → act p.current e ≡ Ok (q.current, a) → IsEventful a → IsLocal w (step.Act i e) i q
+unfolding take_step
+acted-local w i e a p q below pair_is own same acted event =
+    moved-local w (step.Act i e) i q.current (outcome.Answer a) p q refl below pair_is
+    (cond-true _ _ _ (lt-ltb i _ below)
+    ∙ cond-true _ _ _ own
+    ∙ ap (moved w i)
+    (ap (λ (s : NodeState). act s e) (current_is w i p pair_is) ∙ acted))
+    event
+    (λ k. record { current = q.current; saved = same k })
+
+delivered-local : (w : World) (from to number : ℕ) (x : Message) (a : Answer) (p q : Pair)
+    → from < length w.current → to < length w.current → pair_at w to ≡ p
+    → released w from to number ≡ Some x → q.saved ≡ p.saved
+    → receive p.current from to number x.stamp x.body ≡ Ok (q.current, a) → IsEventful a
+    → IsLocal w (step.Deliver from to number) to q
+unfolding take_step
+delivered-local w from to number x a p q f t pair_is there same received event =
+    moved-local w (step.Deliver from to number) to q.current (outcome.Answer a) p q refl t pair_is
+    (cond-true _ _ _
+    (and_from _ _ (lt-ltb from (length w.current) f) (lt-ltb to (length w.current) t))
+    ∙ ap (delivery w from to number) there
+    ∙ ap (moved w to)
+    (ap (λ (s : NodeState). receive s from to number x.stamp x.body) (current_is w to p pair_is)
+    ∙ received))
+    event
+    (λ k. record { current = q.current; saved = same k })
+
+-- what the seat of a node may know of a world
+pub record Knows (w : World) (v : Known) : Type 0 where
+  pub below : v.me < length w.current
+  pub nodes : v.nodes ≡ length w.current
+  pub wide : length w.saved ≡ length w.current
+  pub pair_is : pair_at w v.me ≡ v.pair
+  pub released : (k : ℕ) (f : Plain) → slice_get v.taken k ≡ Some f → IsInNet w f
+
+pub happens-local : (w : World) (v : Known) (s : Step) (q : Pair) → Knows w v → Happens v s q
+    → IsLocal w s v.me q
+happens-local w v (step.Act i e) q h t =
+    subst (λ (n : ℕ). IsLocal w (step.Act n e) v.me q) (sym t.0)
+    (acted-local w v.me e t.3.0 v.pair q h.below h.pair_is t.1 t.2 t.3.1 t.3.2)
+happens-local w v (step.Save i) q h t =
+    subst (λ (n : ℕ). IsLocal w (step.Save n) v.me q) (sym t.0)
+    (saved-local w v.me v.pair q h.below h.wide h.pair_is t.1)
+happens-local w v (step.Restart i) q h t =
+    subst (λ (n : ℕ). IsLocal w (step.Restart n) v.me q) (sym t.0)
+    (restarted-local w v.me v.pair q h.below h.pair_is t.1)
+happens-local w v (step.Deliver from to number) q h t =
+    let x : Message = t.3.0 in
+    subst (λ (n : ℕ). IsLocal w (step.Deliver from n number) v.me q) (sym t.0)
+    (delivered-local w from v.me number x t.3.1 v.pair q
+    (subst (λ (n : ℕ). from < n) h.nodes t.1) h.below h.pair_is
+    (h.released t.3.2.0 (data_frame from v.me number x.stamp x.body) t.3.2.1) t.2 t.3.3 t.3.4)
+happens-local w v (step.Hand from to) q h never = absurd never

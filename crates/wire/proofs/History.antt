@@ -1,0 +1,139 @@
+-- A tick keeps the rule: one event enters the list.
+use Rattle.std.proofs.Common.{◌≡◌, ◌≢◌, ℕ, zero, suc, ◌+◌, ◌*◌, ◌%◌, ◌^◌, ◌<◌, ◌≤◌, Bool, true, List, [], ◌∷◌, ◌++◌, length, set, get_or, Some, refl, sym, ap, ◌∙◌, subst, arith, le_refl, le_trans, length-set, length-append, get_or-set_other, get_or-set_same}
+use Rattle.std.specs.Prelude.{slice_index}
+use mathlib.Core.Option.{none, some}
+use lib.ListN.{get_elem?}
+use Rattle.atomic_table.specs.Table.{State, Me, step, keeps, Allows}
+use Rattle.ids.specs.declared.limits.TheConstants.{GREATEST_CYCLE}
+use Rattle.model.specs.declared.step.Step.{Step}
+use Rattle.model.specs.World.{World, run, happens}
+use Rattle.model.proofs.Runs.{run-push}
+use Rattle.wire.specs.Views.{Role, dealer, node, Pair, Known, ticks, pair_at}
+use Rattle.wire.specs.Rule.{nodes_of, ended_of, events_of, AreEvents, NodeOk, SeatOk, Holds}
+use Rattle.wire.specs.Plays.{Happens, Enters, ticked}
+use Rattle.wire.proofs.Events.{count, width, net-push, ended-push, are-push, events-push_same, events-push_other, IsLocal, happens-local}
+use Rattle.wire.proofs.Stays.{Note, noted, node-of}
+
+counted : (l r : ℕ) → r ≡ l % 2 ^ 64 → (r + 1) % 2 ^ 64 ≡ (l + 1) % 2 ^ 64
+counted l r is = omega arith
+
+module _ {S : Type 0} (bytes : S → List ℕ) (opening : World) where
+  abbrev n : ℕ
+  n = nodes_of opening
+
+  abbrev Sat : Type 0
+  Sat = Me S Known
+
+  module _ (s : State S Known) (h : Holds bytes opening s) (id : ℕ) (v : Known)
+      (at : get_elem? s.views id ≡ some v) (role : v.role ≡ node) (e : Step) (q : Pair)
+      (event : Happens v e q) where
+    ok : NodeOk opening h.log h.boxes id v
+    ok = node-of bytes opening s h id v at role
+
+    long : length (run opening h.log).current ≡ n
+    long = count opening h.log h.opens
+
+    local : IsLocal (run opening h.log) e v.me q
+    local =
+        happens-local (run opening h.log) v e q
+        (record {
+          below = subst (λ (k : ℕ). v.me < k) (sym long) ok.below;
+          nodes = ok.nodes_is ∙ sym long;
+          wide = width opening h.log h.opens;
+          pair_is = ok.pair_is;
+          released = ok.released;
+        })
+        event
+
+    log : List Step
+    log = h.log ++ e ∷ []
+
+    now : run opening (h.log ++ e ∷ []) ≡ happens (run opening h.log) e
+    now = run-push opening h.log e
+
+    mine : NodeOk opening (h.log ++ e ∷ []) h.boxes id (ticks e q v)
+    mine = record {
+      below = ok.below;
+      nodes_is = ok.nodes_is;
+      opening_is = ok.opening_is;
+      pair_is = ap (λ (w : World). pair_at w v.me) now ∙ local.here;
+      events_are = ap (λ (l : List Step). l ++ e ∷ []) ok.events_are
+      ∙ sym (events-push_same v.me h.log e local.node);
+      released = λ k f there. net-push opening h.log h.opens e f (ok.released k f there);
+      fills = ok.fills;
+      empties = ok.empties;
+    }
+
+    enters : Enters e v (slice_index s.words (n * n)) (ticks e q v)
+    enters = record {
+      log = h.log;
+      events = subst (λ (o : World). AreEvents o (h.log ++ e ∷ [])) (sym ok.opening_is)
+      (are-push opening h.log e h.events local.event);
+      before = ap (λ (o : World). pair_at (run o h.log) v.me) ok.opening_is ∙ ok.pair_is;
+      after = ap (λ (o : World). pair_at (run o (h.log ++ e ∷ [])) v.me) ok.opening_is
+      ∙ mine.pair_is;
+      counted = h.count;
+      own = mine.events_are;
+    }
+
+    ticked-on : (x : ℕ) → x ≡ (slice_index s.words (n * n) + 1) % 2 ^ 64
+        → Holds bytes opening (record {
+          words = set s.words (n * n) x;
+          homes = s.homes;
+          views = set s.views id (ticks e q v);
+        })
+    ticked-on x is =
+        let wide : length s.words ≡ n * n + 2 = h.wide in
+        let words : List ℕ = set s.words (n * n) x in
+        let board = get_or-set_other s.words (n * n) (n * n + 1) x 0 (omega arith) in
+        noted bytes opening s h id v (ticks e q v) (h.log ++ e ∷ []) words (record {
+          at = at;
+          alike = record { role = refl; me = refl };
+          filling = refl;
+          emptying = refl;
+          extends = record {
+            net = net-push opening h.log h.opens e;
+            others = λ i apart. (
+              ap (λ (w : World). pair_at w i) now ∙ local.others i (apart role),
+              events-push_other i h.log e (λ same. apart role (sym same ∙ local.node)),
+            );
+          };
+          wide = length-set s.words (n * n) x;
+          boxes = λ m below. get_or-set_other s.words (n * n) m x 0 (omega arith);
+          events = are-push opening h.log e h.events local.event;
+          count = get_or-set_same s.words (n * n) x 0 (omega arith) ∙ is
+          ∙ counted (length h.log) (slice_index s.words (n * n)) h.count
+          ∙ ap (λ (k : ℕ). k % 2 ^ 64) (sym (length-append h.log (e ∷ [])));
+          board = subst (λ (z : ℕ). z ≤ ended_of (run opening (h.log ++ e ∷ []))) (sym board)
+          (le_trans h.board (ended-push opening h.log h.opens e));
+          fits = subst (λ (z : ℕ). z ≤ GREATEST_CYCLE) (sym board) h.fits;
+          higher = subst (λ (z : ℕ). get_or s.words (n * n + 1) 0 ≤ z) (sym board) (le_refl _);
+          mine = subst
+          (SeatOk opening (h.log ++ e ∷ []) (slice_index words (n * n + 1))
+          (set s.views id (ticks e q v)) h.boxes id (ticks e q v))
+          (sym role) mine;
+          no_dealer = λ d. (let never : ◌≡◌ {A = Role} node dealer = sym role ∙ d in absurd cc);
+        })
+
+  at-count : (slots id : ℕ) (me : Sat) (e : Step) (q : Pair) → me.0.role ≡ node
+      → Happens me.0 e q
+      → Allows (Holds bytes opening) slots id me (n * n) (λ r. (r + 1) % 2 ^ 64)
+      (ticked e q (step slots (n * n) 1 0 none) me)
+  at-count slots id me e q role event s h wide at small = (
+    ticks e q me.0,
+    keeps,
+    tt,
+    ticked-on s h id me.0 at role e q event ((slice_index s.words (n * n) + 1) % 2 ^ 64) refl,
+    (refl, refl, enters s h id me.0 at role e q event),
+  )
+
+  pub ticks_allowed : (slots id c : ℕ) (me : Sat) (e : Step) (q : Pair) → c ≡ n * n
+      → me.0.role ≡ node → Happens me.0 e q
+      → Allows (Holds bytes opening) slots id me c (λ r. (r + 1) % 2 ^ 64)
+      (ticked e q (step slots c 1 0 none) me)
+  ticks_allowed slots id c me e q is role event =
+      subst
+      (λ (k : ℕ).
+      Allows (Holds bytes opening) slots id me k (λ r. (r + 1) % 2 ^ 64)
+      (ticked e q (step slots k 1 0 none) me))
+      (sym is) (at-count slots id me e q role event)

@@ -1,0 +1,9 @@
+pub mod Ages
+pub mod Events
+pub mod Lists
+pub mod Boxes
+pub mod Stays
+pub mod Mailboxes
+pub mod History
+pub mod Board
+pub mod Dealing

@@ -1,0 +1,25 @@
+-- Small sets of mailboxes, by number: of those that a seat fills, and of those that it empties.
+use Rattle.std.specs.Prelude.{ℕ, Bool, true, false, cond, not, is_some, ◌==◌, ◌||◌, List, [], ◌∷◌, Option, Some, None}
+use Rattle.msg.specs.Grammar.{Plain}
+
+abbrev pub has : ℕ → List ℕ → Bool
+has m [] = false
+has m (x ∷ xs) = cond (x == m) true (has m xs)
+
+abbrev pub without : ℕ → List ℕ → List ℕ
+without m [] = []
+without m (x ∷ xs) = cond (x == m) (without m xs) (x ∷ without m xs)
+
+-- the frame that stands at a number
+abbrev pub found : ℕ → List (ℕ × Plain) → Option Plain
+found m [] = None
+found m (x ∷ xs) = cond (x.0 == m) (Some x.1) (found m xs)
+
+abbrev pub cleared : ℕ → List (ℕ × Plain) → List (ℕ × Plain)
+cleared m [] = []
+cleared m (x ∷ xs) = cond (x.0 == m) (cleared m xs) (x ∷ cleared m xs)
+
+-- no number stands there twice
+abbrev pub once : List ℕ → Bool
+once [] = true
+once (x ∷ xs) = cond (has x xs) false (once xs)

@@ -1,0 +1,121 @@
+-- What each kind of atomic step tells, and what it asks of its caller.
+use Rattle.std.specs.Prelude.{◌≡◌, ◌≢◌, ℕ, ◌/◌, ◌%◌, ◌^◌, ◌<◌, ◌≤◌, true, false, List, [], ◌∷◌, ◌++◌, length, slice_get, Option, Some, None, Ok}
+use Rattle.atomic_table.specs.Table.{Me, Step, rest}
+use Rattle.ids.specs.declared.limits.TheConstants.{GREATEST_CYCLE}
+use Rattle.msg.specs.Grammar.{Plain, data_frame, ack_frame}
+use Rattle.msg.specs.declared.body.Message.{Message}
+use Rattle.model.specs.declared.event.Answer.{Answer}
+use Rattle.model.specs.declared.step.Step as model
+use Rattle.model.specs.declared.step.Step.TheVariants as step
+use Rattle.model.specs.declared.step.Outcome.TheVariants as outcome
+use Rattle.model.specs.State.{NodeState, got_from, sent_to}
+use Rattle.model.specs.Steps.{act, receive, is_own}
+use Rattle.model.specs.World.{World, run, is_event, is_eventful, numbered, IsInNet}
+use Rattle.wire.specs.Views.{Pair, Known, pair_at, notes, claims, takes_in, posts, clears, ticks, marks}
+use Rattle.wire.specs.Lists.{has, found}
+use Rattle.wire.specs.Rule.{AreEvents, events_of, ended_of, sender, receiver, Spells}
+
+-- ---- What a caller owes
+
+-- a frame that the node i, saved so, releases
+abbrev pub Releases : ℕ → NodeState → Plain → Type 0
+Releases i saved (data_frame from to number stamp body) =
+    (from ≡ i) × (to ≢ i)
+    × (numbered (sent_to saved to) number ≡ Some (record { stamp = stamp; body = body }))
+Releases i saved (ack_frame from to number) =
+    (from ≡ i) × (to ≢ i) × (number ≤ got_from saved.local to)
+
+-- the bytes spell a frame that the seat's node releases, to the mailbox's receiver
+abbrev pub Owns : ℕ → Known → List ℕ → Type 0
+Owns m v bytes =
+    (f : Plain) × Spells f bytes × (receiver f ≡ m % v.nodes) × Releases v.me v.pair.saved f
+
+-- the answer is one of an event
+abbrev pub IsEventful : Answer → Type 0
+IsEventful a = is_eventful (Ok (outcome.Answer a)) ≡ true
+
+-- the node took the frame of this message from the wire
+abbrev pub HasTaken : Known → ℕ → ℕ → Message → Type 0
+HasTaken v from number x =
+    (k : ℕ) × (slice_get v.taken k ≡ Some (data_frame from v.me number x.stamp x.body))
+
+-- The step is an event of the seat's node, which makes its pair q. What is delivered was taken.
+abbrev pub Happens : Known → model.Step → Pair → Type 0
+Happens v (step.Act i e) q =
+    (i ≡ v.me) × (is_own e ≡ true) × (q.saved ≡ v.pair.saved)
+    × ((a : Answer) × (act v.pair.current e ≡ Ok (q.current, a)) × IsEventful a)
+Happens v (step.Save i) q =
+    (i ≡ v.me) × (q ≡ record { current = v.pair.current; saved = v.pair.current })
+Happens v (step.Restart i) q =
+    (i ≡ v.me) × (q ≡ record { current = v.pair.saved; saved = v.pair.saved })
+Happens v (step.Deliver from to number) q =
+    (to ≡ v.me) × (from < v.nodes) × (q.saved ≡ v.pair.saved)
+    × ((x : Message) × (a : Answer)
+    × HasTaken v from number x
+    × (receive v.pair.current from v.me number x.stamp x.body ≡ Ok (q.current, a)) × IsEventful a)
+Happens v (step.Hand from to) q = ⊥
+
+-- ---- The rule, read at a step
+
+-- The event is one of the space, and the next one of some list of events that leads to the seat's pair.
+pub record Enters (s : model.Step) (v : Known) (count : ℕ) (w : Known) : Type 0 where
+  pub log : List model.Step
+  pub events : AreEvents v.opening (log ++ s ∷ [])
+  pub before : pair_at (run v.opening log) v.me ≡ v.pair
+  pub after : pair_at (run v.opening (log ++ s ∷ [])) v.me ≡ w.pair
+  pub counted : count ≡ length log % 2 ^ 64
+  pub own : w.events ≡ events_of v.me (log ++ s ∷ [])
+
+-- the frame is in the net of a world that some list of events leads to
+abbrev pub IsReleased : World → Plain → Type 0
+IsReleased opening f =
+    (log : List model.Step) × AreEvents opening log × IsInNet (run opening log) f
+
+-- node 0 had ended this cycle, and was saved so
+abbrev pub HasEnded : World → ℕ → Type 0
+HasEnded opening number =
+    (log : List model.Step) × AreEvents opening log × (number ≤ ended_of (run opening log))
+
+-- ---- What a step tells
+
+-- the seat neither fills nor empties the mailbox
+abbrev pub IsFresh : ℕ → Known → Type 0
+IsFresh box v = (has box v.filling ≡ false) × (found box v.emptying ≡ None)
+
+module _ {S : Type 0} where
+  abbrev pub claimed : Step S → Me S Known → ℕ → Me S Known → Type 0
+  claimed st m r m' =
+      (r ≡ 0
+      → (x : S) × (m'.0 ≡ claims st.word m.0) × (m'.1 ≡ (st.word, x) ∷ m.1) × IsFresh st.word m.0)
+      × (r ≢ 0 → (m'.0 ≡ notes r m.0) × (m'.1 ≡ m.1))
+
+  -- what was taken, and the slot with it
+  abbrev pub Took : (S → List ℕ) → Step S → Me S Known → Me S Known → Plain → Type 0
+  Took bytes st m m' f =
+      (m'.0 ≡ takes_in st.word f m.0) × (sender f ≡ st.word / m.0.nodes) × (receiver f ≡ m.0.me)
+      × IsReleased m.0.opening f
+      × ((x : S) × (m'.1 ≡ (st.word, x) ∷ m.1) × Spells f (bytes x) × IsFresh st.word m.0)
+
+  abbrev pub took : (S → List ℕ) → Step S → Me S Known → ℕ → Me S Known → Type 0
+  took bytes st m r m' =
+      (r ≡ 1 → (f : Plain) × Took bytes st m m' f)
+      × (r ≢ 1 → (m'.0 ≡ notes r m.0) × (m'.1 ≡ m.1))
+
+  abbrev pub posted : Step S → Me S Known → ℕ → Me S Known → Type 0
+  posted st m r m' =
+      (m'.0 ≡ posts st.word m.0) × (m'.1 ≡ rest m.1) × (found st.word m.0.emptying ≡ None)
+
+  abbrev pub emptied : Step S → Me S Known → ℕ → Me S Known → Type 0
+  emptied st m r m' =
+      (m'.0 ≡ clears st.word m.0) × (m'.1 ≡ rest m.1) × (has st.word m.0.filling ≡ false)
+
+  abbrev pub ticked : model.Step → Pair → Step S → Me S Known → ℕ → Me S Known → Type 0
+  ticked e q st m r m' = (m'.0 ≡ ticks e q m.0) × (m'.1 ≡ m.1) × Enters e m.0 r m'.0
+
+  abbrev pub raised : Step S → Me S Known → ℕ → Me S Known → Type 0
+  raised st m r m' = (m'.0 ≡ marks st.first m.0) × (m'.1 ≡ m.1)
+
+  abbrev pub looked : Step S → Me S Known → ℕ → Me S Known → Type 0
+  looked st m r m' =
+      (m'.0 ≡ marks r m.0) × (m'.1 ≡ m.1) × (m.0.number ≤ r) × (r ≤ GREATEST_CYCLE)
+      × HasEnded m.0.opening r

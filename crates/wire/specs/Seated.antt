@@ -1,0 +1,34 @@
+-- What a node's seat keeps of the slots that are out with it.
+use Rattle.std.specs.Prelude.{◌≡◌, ℕ, ◌*◌, ◌<◌, ◌≤◌, Bool, true, cond, is_some, List, [], ◌∷◌, Some}
+use mathlib.Core.Option.{some}
+use lib.ListN.{get_elem?}
+use Rattle.atomic_table.specs.Table.{Me}
+use Rattle.ids.specs.declared.limits.TheConstants.{GREATEST_NODES}
+use Rattle.msg.specs.Grammar.{Plain}
+use Rattle.wire.specs.Lists.{has, found, once}
+use Rattle.wire.specs.Rule.{Spells}
+use Rattle.wire.specs.Views.{Known, is_node}
+
+-- the seat fills or empties this mailbox
+abbrev pub minds : ℕ → Known → Bool
+minds k v = cond (has k v.filling) true (is_some (found k v.emptying))
+
+-- the mailboxes of slots
+abbrev pub boxes_of : {S : Type 0} → List (ℕ × S) → List ℕ
+boxes_of [] = []
+boxes_of (x ∷ xs) = x.0 ∷ boxes_of xs
+
+pub record Sits {S : Type 0} (bytes : S → List ℕ) (me nodes : ℕ) (held : List ℕ) (m : Me S Known) : Type 0 where
+  pub role : is_node m.0.role ≡ true
+  pub me_is : me ≡ m.0.me
+  pub nodes_is : nodes ≡ m.0.nodes
+  pub within : me < nodes
+  pub few : nodes ≤ GREATEST_NODES
+  -- the slots that are out with it, in their order, are those of the mailboxes that it minds
+  pub order : boxes_of m.1 ≡ held
+  pub minded : (k : ℕ) → has k held ≡ minds k m.0
+  pub single : once held ≡ true
+  pub inside : (k : ℕ) → has k held ≡ true → k < nodes * nodes
+  -- and those that it empties have the frame's bytes
+  pub spells : (i b : ℕ) (x : S) (f : Plain) → get_elem? m.1 i ≡ some (b, x)
+      → found b m.0.emptying ≡ Some f → Spells f (bytes x)

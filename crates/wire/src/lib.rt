@@ -1,0 +1,7 @@
+//! Mailboxes between the threads of a space's nodes, the count of its events, and a board on which
+//! node 0 shows how far it is.
+#![tactic(auto)]
+
+mod plays;
+mod views;
+

@@ -1,0 +1,118 @@
+// The rule of the table that a wire is, and what each kind of step on it tells.
+use crate::views::{Opening, View};
+use atomic_table::{Play, Split, TableRule};
+use std::marker::Brand;
+
+// What holds between any two steps.
+pub struct WireRule;
+
+impl TableRule<Vec<u8>, View, Opening> for WireRule {
+    ghost use Rattle.wire.specs.Rule.{Holds};
+    ghost use Rattle.wire.specs.Views.{dealing};
+
+    ghost holds = { λ key. Holds (λ v. v.items) key.world };
+
+    ghost first = { λ key. dealing key.world };
+}
+
+pub struct Claims;
+
+impl Play<Vec<u8>, View> for Claims {
+    ghost use Rattle.wire.specs.Plays.{claimed};
+
+    ghost then = { claimed };
+}
+
+pub struct Takes;
+
+impl Play<Vec<u8>, View> for Takes {
+    ghost use Rattle.wire.specs.Plays.{took};
+
+    ghost then = { took (λ v. v.items) };
+}
+
+pub struct Posts;
+
+impl Play<Vec<u8>, View> for Posts {
+    ghost use Rattle.wire.specs.Plays.{posted};
+
+    ghost then = { posted };
+}
+
+pub struct Clears;
+
+impl Play<Vec<u8>, View> for Clears {
+    ghost use Rattle.wire.specs.Plays.{emptied};
+
+    ghost then = { emptied };
+}
+
+// An event of a node, and the node's pair after it.
+pub trait Happening {
+    ghost use Rattle.model.specs.declared.step.Step.{Step};
+    ghost use Rattle.wire.specs.Views.{Pair};
+
+    ghost event: { Step };
+
+    ghost pair: { Pair };
+}
+
+impl Happening for Brand {
+    ghost use Rattle.model.specs.declared.step.Step.TheVariants.{Save};
+    ghost use Rattle.wire.specs.Views.{no_pair};
+
+    ghost event = { Save 0 };
+
+    ghost pair = { no_pair };
+}
+
+pub struct Ticks<H: Happening> {
+    of: std::marker::PhantomData<H>,
+}
+
+impl<H: Happening> Play<Vec<u8>, View> for Ticks<H> {
+    ghost use Rattle.wire.specs.Plays.{ticked};
+
+    ghost then = { ticked H.event H.pair };
+}
+
+pub struct Raises;
+
+impl Play<Vec<u8>, View> for Raises {
+    ghost use Rattle.wire.specs.Plays.{raised};
+
+    ghost then = { raised };
+}
+
+pub struct Looks;
+
+impl Play<Vec<u8>, View> for Looks {
+    ghost use Rattle.wire.specs.Plays.{looked};
+
+    ghost then = { looked };
+}
+
+// The dealer makes the seat of the next node.
+pub struct NextNode;
+
+impl Split<View> for NextNode {
+    ghost use Rattle.wire.specs.Views.{dealer_after, next_node};
+
+    ghost left = { dealer_after };
+
+    ghost right = { next_node };
+}
+
+// The dealer makes a watch.
+pub struct NextWatch;
+
+impl Split<View> for NextWatch {
+    ghost use Rattle.wire.specs.Views.{next_watch};
+
+    ghost left = { λ v. v };
+
+    ghost right = { next_watch };
+}
+
+#[tactic(auto, using(crate::proofs::Events::cond_push, crate::proofs::Lists::has_cite, crate::proofs::Mailboxes::cited, crate::proofs::History::ticks_allowed, crate::proofs::Board::looks_allowed, crate::proofs::Dealing::starts))]
+fn cite() {}

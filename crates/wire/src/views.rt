@@ -1,0 +1,33 @@
+ghost use Rattle.std.specs.Prelude.{◌≡◌};
+ghost use Rattle.wire.specs.Views.{Known};
+ghost use Rattle.model.specs.World.{World};
+
+use std::marker::Model;
+
+// What a seat knows. No value of it is made.
+pub struct View {
+    ghost knows: { Known },
+}
+
+impl Model for View {
+    ghost use Rattle.wire.specs.Views.{Known};
+    ghost use base.Fml.{ftrue};
+
+    ghost Value = { Known };
+
+    ghost view = { λ s. s.knows };
+
+    ghost also_owns = { λ s. ftrue };
+}
+
+// Names the world that a wire opens with, in proofs alone.
+#[derive(Drop)]
+pub struct Opening {
+    pub ghost world: { World },
+}
+
+impl Model for Opening {
+    ghost use base.Fml.{ftrue};
+
+    ghost also_owns = { λ _. ftrue };
+}
