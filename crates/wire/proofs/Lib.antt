@@ -3,7 +3,9 @@ pub mod Events
 pub mod Lists
 pub mod Boxes
 pub mod Stays
-pub mod Mailboxes
-pub mod History
-pub mod Board
-pub mod Dealing
+pub mod MailSteps
+pub mod CountSteps
+pub mod BoardSteps
+pub mod DealSteps
+pub mod Sitting
+pub mod Numbers

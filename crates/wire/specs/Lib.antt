@@ -3,3 +3,4 @@ pub mod Views
 pub mod Rule
 pub mod Plays
 pub mod Seated
+pub mod Readers

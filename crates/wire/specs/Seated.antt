@@ -4,10 +4,9 @@ use mathlib.Core.Option.{some}
 use lib.ListN.{get_elem?}
 use Rattle.atomic_table.specs.Table.{Me}
 use Rattle.ids.specs.declared.limits.TheConstants.{GREATEST_NODES}
-use Rattle.msg.specs.Grammar.{Plain}
+use Rattle.msg.specs.Grammar.{Plain, spelling}
 use Rattle.wire.specs.Lists.{has, found, once}
-use Rattle.wire.specs.Rule.{Spells}
-use Rattle.wire.specs.Views.{Known, is_node}
+use Rattle.wire.specs.Views.{Role, Known, is_node, is_watch}
 
 -- the seat fills or empties this mailbox
 abbrev pub minds : ℕ → Known → Bool
@@ -31,4 +30,7 @@ pub record Sits {S : Type 0} (bytes : S → List ℕ) (me nodes : ℕ) (held : L
   pub inside : (k : ℕ) → has k held ≡ true → k < nodes * nodes
   -- and those that it empties have the frame's bytes
   pub spells : (i b : ℕ) (x : S) (f : Plain) → get_elem? m.1 i ≡ some (b, x)
-      → found b m.0.emptying ≡ Some f → Spells f (bytes x)
+      → found b m.0.emptying ≡ Some f → bytes x ≡ spelling f
+
+abbrev pub IsWatching : Role → Type 0
+IsWatching r = is_watch r ≡ true

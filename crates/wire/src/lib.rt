@@ -2,6 +2,11 @@
 //! node 0 shows how far it is.
 #![tactic(auto)]
 
+mod board;
+mod history;
+mod mailboxes;
 mod plays;
+mod seats;
 mod views;
 
+pub use seats::{Claim, NodeSeat, Raised, Taken, Watch, Wire};

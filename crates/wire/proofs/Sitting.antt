@@ -1,0 +1,345 @@
+-- What a seat keeps of the slots that are out with it, as slots come and go.
+use Rattle.std.proofs.Common.{◌≡◌, ◌≢◌, ◌⊎◌, ℕ, zero, suc, ◌+◌, ◌*◌, ◌/◌, ◌%◌, ◌<◌, ◌≤◌, ◌==◌, eqb, cond, eq-eqb, ne_eqb, eqb-true, Bool, true, false, true≢false, List, [], ◌∷◌, ◌++◌, length, drop, take, get_or, Option, Some, None, refl, sym, ap, ◌∙◌, subst, inl, inr, ⊎_elim, arith}
+use Rattle.std.specs.Prelude.{is_some}
+use Rattle.std.specs.List.{list_any, AllByRecursion, IsDistinct}
+use Rattle.std.proofs.lemmas.Bool.{cond-true, cond-false, cases_Bool, false_from_ne_true, or_cases}
+use Rattle.std.proofs.lemmas.Map.Steps.{length-le_from_distinct_below}
+use mathlib.Core.Option.{some, some-ne-none, some-injective}
+use mathlib.Core.Logic.{dite}
+use native.Mathlib.Decide.{ℕ_discrete}
+use lib.ListN.{get_elem?}
+use Rattle.atomic_table.specs.Table.{Me, rest, turned}
+use Rattle.atomic_table.proofs.Lists.{at_snoc}
+use Rattle.msg.specs.Grammar.{Plain, spelling}
+use Rattle.wire.specs.Lists.{has, found, without, cleared, once}
+use Rattle.wire.specs.Views.{Known, is_node, claims, takes_in, posts, clears, notes}
+use Rattle.wire.specs.Plays.{IsFresh}
+use Rattle.wire.specs.Seated.{minds, boxes_of, Sits}
+use Rattle.wire.proofs.Lists.{has-here, has-more, has-gone, has-stays, found-here, found-more, found-gone, found-stays}
+
+-- ---- Numbers that stand once
+
+has-from_any : (q : ℕ) (xs : List ℕ) → list_any (eqb q) xs ≡ true → has q xs ≡ true
+has-from_any q [] e = e
+has-from_any q (x ∷ xs) e =
+    ⊎_elim
+    (λ same. cond-true _ _ _ (eq-eqb x q (sym (eqb-true q x same))))
+    (λ later. dite (ℕ_discrete x q)
+    (λ is. cond-true _ _ _ (eq-eqb x q is))
+    (λ n. cond-false _ _ _ (ne_eqb x q n) ∙ has-from_any q xs later))
+    (or_cases (eqb q x) (list_any (eqb q) xs) e)
+
+no-more : (x : ℕ) (xs : List ℕ) → has x xs ≡ false → AllByRecursion (λ y. eqb x y ≡ false) xs
+no-more x [] e = tt
+no-more x (y ∷ ys) e =
+    dite (ℕ_discrete y x)
+    (λ is. absurd (true≢false (sym (cond-true _ _ _ (eq-eqb y x is)) ∙ e)))
+    (λ n. (ne_eqb x y (λ f. n (sym f)), no-more x ys (sym (cond-false _ _ _ (ne_eqb y x n)) ∙ e)))
+
+once-parts : (x : ℕ) (xs : List ℕ) → once (x ∷ xs) ≡ true → (has x xs ≡ false) × (once xs ≡ true)
+once-parts x xs e =
+    ⊎_elim
+    (λ there. absurd (true≢false (sym e ∙ cond-true _ _ _ there)))
+    (λ gone. (gone, sym (cond-false _ _ _ gone) ∙ e))
+    (cases_Bool (has x xs))
+
+once-more : (x : ℕ) (xs : List ℕ) → has x xs ≡ false → once xs ≡ true → once (x ∷ xs) ≡ true
+once-more x xs gone e = cond-false _ _ _ gone ∙ e
+
+distinct : (xs : List ℕ) → once xs ≡ true → IsDistinct eqb xs
+unfolding IsDistinct
+distinct [] e = tt
+distinct (x ∷ xs) e = let p = once-parts x xs e in (no-more x xs p.0, distinct xs p.1)
+
+-- so few that there is room for one more
+pub room-for : (at n : ℕ) (xs : List ℕ) → once xs ≡ true → has at xs ≡ false → at < n
+    → ((k : ℕ) → has k xs ≡ true → k < n) → length xs < n
+room-for at n xs single gone below inside =
+    let more : length (at ∷ xs) ≤ n =
+    length-le_from_distinct_below (at ∷ xs) n (distinct (at ∷ xs) (once-more at xs gone single))
+    (λ q e. dite (ℕ_discrete q at)
+    (λ is. subst (λ (k : ℕ). k < n) (sym is) below)
+    (λ apart. inside q (sym (has-more at q xs apart) ∙ has-from_any q (at ∷ xs) e))) in
+    omega arith
+
+-- the first one goes last
+has-last : (k x : ℕ) (xs : List ℕ) → has k (xs ++ x ∷ []) ≡ has k (x ∷ xs)
+has-last k x [] = refl
+has-last k x (y ∷ ys) =
+    ap (cond (y == k) true) (has-last k x ys) ∙ swapped (y == k) (x == k) (has k ys)
+  where
+    swapped : (a b c : Bool) → cond a true (cond b true c) ≡ cond b true (cond a true c)
+    swapped true true c = refl
+    swapped true false c = refl
+    swapped false true c = refl
+    swapped false false c = refl
+
+once-last : (x : ℕ) (xs : List ℕ) → once (x ∷ xs) ≡ true → once (xs ++ x ∷ []) ≡ true
+once-last x [] e = e
+once-last x (y ∷ ys) e =
+    let a = once-parts x (y ∷ ys) e in
+    let b = once-parts y ys a.1 in
+    let apart : y ≢ x = λ is. true≢false (sym (cond-true _ _ _ (eq-eqb y x is)) ∙ a.0) in
+    once-more y (ys ++ x ∷ [])
+    (has-last y x ys ∙ has-more x y ys apart ∙ b.0)
+    (once-last x ys (once-more x ys (sym (cond-false _ _ _ (ne_eqb y x apart)) ∙ a.0) b.1))
+
+-- how many stand before a number
+abbrev pub before : ℕ → List ℕ → ℕ
+before k [] = 0
+before k (x ∷ xs) = cond (x == k) 0 (suc (before k xs))
+
+before-last : (k x : ℕ) (xs : List ℕ) → has k xs ≡ true → before k (xs ++ x ∷ []) ≡ before k xs
+before-last k x [] e = absurd (true≢false (sym e))
+before-last k x (y ∷ ys) e =
+    dite (ℕ_discrete y k)
+    (λ is. cond-true _ _ _ (eq-eqb y k is) ∙ sym (cond-true _ _ _ (eq-eqb y k is)))
+    (λ n. ap (λ (z : ℕ). cond (y == k) 0 (suc z))
+    (before-last k x ys (sym (cond-false _ _ _ (ne_eqb y k n)) ∙ e)))
+
+-- a turn brings a number nearer that does not stand first
+pub nearer : (k x : ℕ) (xs : List ℕ) → has k (x ∷ xs) ≡ true → x ≢ k
+    → (has k (xs ++ x ∷ []) ≡ true) × (before k (xs ++ x ∷ []) < before k (x ∷ xs))
+nearer k x xs e apart =
+    let later : has k xs ≡ true = sym (cond-false _ _ _ (ne_eqb x k apart)) ∙ e in
+    let a = before-last k x xs later in
+    let b : before k (x ∷ xs) ≡ suc (before k xs) = cond-false _ _ _ (ne_eqb x k apart) in
+    (has-last k x xs ∙ e, omega (arith, a, b))
+
+pub nearer-held : (k d : ℕ) (xs : List ℕ) → has k xs ≡ true → get_or xs 0 d ≢ k
+    → (has k (drop 1 xs ++ take 1 xs) ≡ true) × (before k (drop 1 xs ++ take 1 xs) < before k xs)
+nearer-held k d [] e apart = absurd (true≢false (sym e))
+nearer-held k d (x ∷ xs) e apart = nearer k x xs e apart
+
+pub headed : (k d : ℕ) (xs : List ℕ) → has k xs ≡ true → xs ≡ get_or xs 0 d ∷ drop 1 xs
+headed k d [] e = absurd (true≢false (sym e))
+headed k d (x ∷ xs) e = refl
+
+-- ---- Slots
+
+in-boxes : {S : Type 0} (out : List (ℕ × S)) (i b : ℕ) (x : S) → get_elem? out i ≡ some (b, x)
+    → has b (boxes_of out) ≡ true
+in-boxes [] i b x e = absurd (some-ne-none (b, x) (sym e))
+in-boxes (y ∷ ys) zero b x e =
+    cond-true _ _ _ (eq-eqb y.0 b (ap (λ (z : ℕ × _). z.0) (some-injective y (b, x) e)))
+in-boxes (y ∷ ys) (suc i) b x e =
+    dite (ℕ_discrete y.0 b)
+    (λ is. cond-true _ _ _ (eq-eqb y.0 b is))
+    (λ n. cond-false _ _ _ (ne_eqb y.0 b n) ∙ in-boxes ys i b x e)
+
+boxes-last : {S : Type 0} (out : List (ℕ × S)) (b : ℕ) (x : S)
+    → boxes_of (out ++ (b, x) ∷ []) ≡ boxes_of out ++ b ∷ []
+boxes-last [] b x = refl
+boxes-last (y ∷ ys) b x = ap (λ (l : List ℕ). y.0 ∷ l) (boxes-last ys b x)
+
+pub fresh-minds : (k : ℕ) (v : Known) → IsFresh k v → minds k v ≡ false
+fresh-minds k v e =
+    cond-false _ _ _ e.0 ∙ ap is_some e.1
+
+module _ {S : Type 0} (bytes : S → List ℕ) (me nodes : ℕ) where
+  abbrev Seated : List ℕ → Known → List (ℕ × S) → Type 0
+  Seated held v out = Sits bytes me nodes held (v, out)
+
+  pub fresh-held : (held : List ℕ) (v : Known) (out : List (ℕ × S)) (k : ℕ) → Seated held v out
+      → IsFresh k v → has k held ≡ false
+  fresh-held held v out k s e = s.minded k ∙ fresh-minds k v e
+
+  pub sits-noted : (held : List ℕ) (v : Known) (out : List (ℕ × S)) (r : ℕ) → Seated held v out
+      → Seated held (notes r v) out
+  sits-noted held v out r s = record {
+    role = s.role;
+    me_is = s.me_is;
+    nodes_is = s.nodes_is;
+    within = s.within;
+    few = s.few;
+    order = s.order;
+    minded = s.minded;
+    single = s.single;
+    inside = s.inside;
+    spells = s.spells;
+  }
+
+  pub sits-claimed : (held : List ℕ) (v : Known) (out : List (ℕ × S)) (at : ℕ) (x : S)
+      → Seated held v out → IsFresh at v → at < nodes * nodes
+      → Seated (at ∷ held) (claims at v) ((at, x) ∷ out)
+  sits-claimed held v out at x s fresh below =
+      let gone = fresh-held held v out at s fresh in
+      record {
+        role = s.role;
+        me_is = s.me_is;
+        nodes_is = s.nodes_is;
+        within = s.within;
+        few = s.few;
+        order = ap (λ (l : List ℕ). at ∷ l) s.order;
+        minded = λ k. dite (ℕ_discrete k at)
+        (λ is. subst (λ (j : ℕ). has j (at ∷ held) ≡ minds j (claims at v)) (sym is)
+        (has-here at held ∙ sym (cond-true _ _ _ (has-here at v.filling))))
+        (λ apart. has-more at k held apart ∙ s.minded k
+        ∙ ap (λ (b : Bool). cond b true (is_some (found k v.emptying)))
+        (sym (has-more at k v.filling apart)));
+        single = once-more at held gone s.single;
+        inside = λ k e. dite (ℕ_discrete k at)
+        (λ is. subst (λ (j : ℕ). j < nodes * nodes) (sym is) below)
+        (λ apart. s.inside k (sym (has-more at k held apart) ∙ e));
+        spells = spells;
+      }
+    where
+      spells : (i b : ℕ) (y : S) (f : Plain) → get_elem? ((at, x) ∷ out) i ≡ some (b, y)
+          → found b v.emptying ≡ Some f → bytes y ≡ spelling f
+      spells zero b y f e there =
+          let is : at ≡ b =
+          ap (λ (z : ℕ × S). z.0) (some-injective (at, x) (b, y) e) in
+          let never : ◌≡◌ {A = Option Plain} None (Some f) =
+          sym fresh.1 ∙ ap (λ (j : ℕ). found j v.emptying) is ∙ there in absurd cc
+      spells (suc i) b y f e there = s.spells i b y f e there
+
+  pub sits-took : (held : List ℕ) (v : Known) (out : List (ℕ × S)) (at : ℕ) (x : S) (f : Plain)
+      → Seated held v out → IsFresh at v → at < nodes * nodes → bytes x ≡ spelling f
+      → Seated (at ∷ held) (takes_in at f v) ((at, x) ∷ out)
+  sits-took held v out at x f s fresh below spelled =
+      let gone = fresh-held held v out at s fresh in
+      record {
+        role = s.role;
+        me_is = s.me_is;
+        nodes_is = s.nodes_is;
+        within = s.within;
+        few = s.few;
+        order = ap (λ (l : List ℕ). at ∷ l) s.order;
+        minded = λ k. dite (ℕ_discrete k at)
+        (λ is. subst (λ (j : ℕ). has j (at ∷ held) ≡ minds j (takes_in at f v)) (sym is)
+        (has-here at held
+        ∙ sym (cond-false _ _ _ fresh.0 ∙ ap is_some (found-here at f v.emptying))))
+        (λ apart. has-more at k held apart ∙ s.minded k
+        ∙ ap (λ (o : Option Plain). cond (has k v.filling) true (is_some o))
+        (sym (found-more at k f v.emptying apart)));
+        single = once-more at held gone s.single;
+        inside = λ k e. dite (ℕ_discrete k at)
+        (λ is. subst (λ (j : ℕ). j < nodes * nodes) (sym is) below)
+        (λ apart. s.inside k (sym (has-more at k held apart) ∙ e));
+        spells = spells;
+      }
+    where
+      spells : (i b : ℕ) (y : S) (g : Plain) → get_elem? ((at, x) ∷ out) i ≡ some (b, y)
+          → found b ((at, f) ∷ v.emptying) ≡ Some g → bytes y ≡ spelling g
+      spells zero b y g e there =
+          let same = some-injective (at, x) (b, y) e in
+          let is : at ≡ b = ap (λ (z : ℕ × S). z.0) same in
+          let some : ◌≡◌ {A = Option Plain} (Some f) (Some g) =
+          sym (found-here at f v.emptying)
+          ∙ ap (λ (j : ℕ). found j ((at, f) ∷ v.emptying)) is ∙ there in
+          let frame : f ≡ g = cc in
+          ap bytes (sym (ap (λ (z : ℕ × S). z.1) same)) ∙ spelled ∙ ap spelling frame
+      spells (suc i) b y g e there =
+          dite (ℕ_discrete b at)
+          (λ is. absurd (true≢false
+          (sym (in-boxes out i b y e) ∙ ap (has b) s.order ∙ ap (λ (j : ℕ). has j held) is
+          ∙ fresh-held held v out at s fresh)))
+          (λ apart. s.spells i b y g e (sym (found-more at b f v.emptying apart) ∙ there))
+
+  -- the first slot has gone home
+  pub sits-given : (held : List ℕ) (v w : Known) (out : List (ℕ × S)) (at : ℕ) (x : S)
+      → Seated held v ((at, x) ∷ out)
+      → (w.role ≡ v.role) × (w.me ≡ v.me) × (w.nodes ≡ v.nodes) → minds at w ≡ false
+      → ((k : ℕ) → k ≢ at → minds k w ≡ minds k v)
+      → ((b : ℕ) (f : Plain) → found b w.emptying ≡ Some f → found b v.emptying ≡ Some f)
+      → Seated (boxes_of out) w out
+  sits-given held v w out at x s same gone others less =
+      let parts = once-parts at (boxes_of out) (ap once s.order ∙ s.single) in
+      record {
+        role = ap is_node same.0 ∙ s.role;
+        me_is = s.me_is ∙ sym same.1;
+        nodes_is = s.nodes_is ∙ sym same.2;
+        within = s.within;
+        few = s.few;
+        order = refl;
+        minded = λ k. dite (ℕ_discrete k at)
+        (λ is. subst (λ (j : ℕ). has j (boxes_of out) ≡ minds j w) (sym is) (parts.0 ∙ sym gone))
+        (λ apart. sym (has-more at k (boxes_of out) apart) ∙ ap (has k) s.order ∙ s.minded k
+        ∙ sym (others k apart));
+        single = parts.1;
+        inside = λ k e. s.inside k (ap (has k) (sym s.order) ∙ later k e);
+        spells = λ i b y f e there. s.spells (suc i) b y f e (less b f there);
+      }
+    where
+      later : (k : ℕ) → has k (boxes_of out) ≡ true → has k (at ∷ boxes_of out) ≡ true
+      later k e =
+          dite (ℕ_discrete k at)
+          (λ is. cond-true _ _ _ (eq-eqb at k (sym is)))
+          (λ apart. has-more at k (boxes_of out) apart ∙ e)
+
+  pub sits-posted : (held : List ℕ) (v : Known) (out : List (ℕ × S)) (at : ℕ) (x : S)
+      → Seated held v ((at, x) ∷ out) → found at v.emptying ≡ None
+      → Seated (boxes_of out) (posts at v) out
+  sits-posted held v out at x s none =
+      sits-given held v (posts at v) out at x s (refl, refl, refl)
+      (cond-false _ _ _ (has-gone at v.filling) ∙ ap is_some none)
+      (λ k apart. ap (λ (b : Bool). cond b true (is_some (found k v.emptying)))
+      (has-stays at k v.filling apart))
+      (λ b f e. e)
+
+  pub sits-cleared : (held : List ℕ) (v : Known) (out : List (ℕ × S)) (at : ℕ) (x : S)
+      → Seated held v ((at, x) ∷ out) → has at v.filling ≡ false
+      → Seated (boxes_of out) (clears at v) out
+  sits-cleared held v out at x s none =
+      sits-given held v (clears at v) out at x s (refl, refl, refl)
+      (cond-false _ _ _ none ∙ ap is_some (found-gone at v.emptying))
+      (λ k apart. ap (λ (o : Option Plain). cond (has k v.filling) true (is_some o))
+      (found-stays at k v.emptying apart))
+      (λ b f e. dite (ℕ_discrete b at)
+      (λ is. absurd (let never : ◌≡◌ {A = Option Plain} None (Some f) =
+      sym (found-gone at v.emptying)
+      ∙ ap (λ (j : ℕ). found j (cleared at v.emptying)) (sym is) ∙ e in cc))
+      (λ apart. sym (found-stays at b v.emptying apart) ∙ e))
+
+  -- the first slot goes last
+  pub sits-turned : (held : List ℕ) (v : Known) (out : List (ℕ × S)) → Seated held v out
+      → Seated (drop 1 held ++ take 1 held) v (turned out)
+  sits-turned held v [] s =
+      subst (λ (l : List ℕ). Seated (drop 1 l ++ take 1 l) v []) s.order
+      (record {
+        role = s.role;
+        me_is = s.me_is;
+        nodes_is = s.nodes_is;
+        within = s.within;
+        few = s.few;
+        order = refl;
+        minded = λ k. ap (has k) s.order ∙ s.minded k;
+        single = refl;
+        inside = λ k e. s.inside k (sym (ap (has k) s.order) ∙ e);
+        spells = s.spells;
+      })
+  sits-turned held v ((at, x) ∷ out) s =
+      subst (λ (l : List ℕ). Seated (drop 1 l ++ take 1 l) v (out ++ (at, x) ∷ [])) s.order
+      (record {
+        role = s.role;
+        me_is = s.me_is;
+        nodes_is = s.nodes_is;
+        within = s.within;
+        few = s.few;
+        order = boxes-last out at x;
+        minded = λ k. has-last k at (boxes_of out) ∙ ap (has k) s.order ∙ s.minded k;
+        single = once-last at (boxes_of out) (ap once s.order ∙ s.single);
+        inside = λ k e. s.inside k
+        (ap (has k) (sym s.order) ∙ sym (has-last k at (boxes_of out)) ∙ e);
+        spells = λ i b y f e there. ⊎_elim
+        (λ (was : get_elem? out i ≡ some (b, y)). s.spells (suc i) b y f was there)
+        (λ (is : (at, x) ≡ (b, y)). s.spells zero b y f (ap some is) there)
+        (at_snoc out (at, x) (b, y) i e);
+      })
+
+  -- its number stands first where the slot does
+  pub in-front : (held : List ℕ) (v : Known) (out : List (ℕ × S)) (at : ℕ) (tail : List ℕ)
+      → Seated held v out → held ≡ at ∷ tail → (x : S) × (out ≡ (at, x) ∷ rest out)
+  in-front held v [] at tail s is =
+      let never : ◌≡◌ {A = List ℕ} [] (at ∷ tail) = s.order ∙ is in absurd cc
+  in-front held v ((b, x) ∷ out) at tail s is =
+      let same : ◌≡◌ {A = List ℕ} (b ∷ boxes_of out) (at ∷ tail) = s.order ∙ is in
+      let first : b ≡ at = ap (λ (l : List ℕ). first_of l) same in
+      (x, ap (λ (k : ℕ). (k, x) ∷ out) first)
+    where
+      first_of : List ℕ → ℕ
+      first_of [] = 0
+      first_of (y ∷ ys) = y
+
+pub cited : (m : ℕ) → m ≡ m
+cited m = refl

@@ -1,0 +1,73 @@
+ghost use Rattle.std.specs.Prelude.{◌≡◌, ◌≤◌, max};
+ghost use Rattle.wire.specs.Views.{marks};
+ghost use Rattle.wire.specs.Plays.{HasEnded};
+ghost use Rattle.wire.specs.Readers.{
+  known,
+  seat_node,
+  IsSeatOf,
+  IsSame,
+  raised_cycle,
+  IsRaisedOf,
+  IsWatchOf,
+  IsSameWatch,
+  loaded,
+  heard,
+  watch_opening,
+  IsHeardOf,
+};
+
+use crate::plays::{Looks, Raises};
+use crate::seats::{NodeSeat, Raised, Watch, Wire};
+use ids::Cycle;
+use std::snapshot::Snapshot;
+
+impl Wire {
+    /// Raises the board to a cycle, where it shows an earlier one; one exchange for the greater. The
+    /// seat is node 0's, whose saved state counts the cycle as ended.
+    pub fn raise(&self, seat: &mut NodeSeat, cycle: Cycle) -> Raised
+        requires wire { IsSeatOf self.now seat.old }
+        requires first { seat_node seat.old ≡ 0 }
+        requires ended { cycle.number ≤ (known seat.old).pair.saved.local.phases.ended }
+        ensures same { IsSame seat.old seat.new }
+        ensures raised { known seat.new ≡ marks cycle.number (known seat.old) }
+        ensures cycle { (raised_cycle result ≡ cycle.number) × IsRaisedOf self.now result }
+    {
+        let board = self.nodes * self.nodes + 1;
+        self.table.shared.fetch_max::<Raises>(&mut seat.seat, board, cycle.number);
+        Raised {
+            cycle,
+            of: Snapshot::of(&seat.seat),
+        }
+    }
+
+    /// The last cycle that the watch knows node 0 to have ended: the one on the board, or a later one
+    /// that the watch was told; one load. It is never earlier than what the watch saw before.
+    pub fn look(&self, watch: &mut Watch) -> Cycle
+        requires wire { IsWatchOf self.now watch.old }
+        ensures same { IsSameWatch watch.old watch.new }
+        ensures number { result.number ≡ max (loaded watch.new) (heard watch.old) }
+        ensures heard { heard watch.new ≡ heard watch.old }
+        ensures later { loaded watch.old ≤ loaded watch.new }
+        ensures ended { HasEnded (watch_opening watch.old) (loaded watch.new) }
+    {
+        let board = self.nodes * self.nodes + 1;
+        let number = self.table.shared.load::<Looks>(&mut watch.seat, board);
+        if number < watch.heard.number {
+            watch.heard
+        } else {
+            Cycle { number }
+        }
+    }
+}
+
+impl Watch {
+    /// Tells the watch of a cycle that was raised on its wire.
+    pub fn hear(&mut self, raised: &Raised)
+        requires wire { IsHeardOf self.old raised.now }
+        ensures same { IsSameWatch self.old self.new }
+        ensures loaded { loaded self.new ≡ loaded self.old }
+        ensures heard { heard self.new ≡ max (heard self.old) (raised_cycle raised.now) }
+    {
+        self.heard = self.heard.max(raised.cycle);
+    }
+}

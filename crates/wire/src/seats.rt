@@ -1,0 +1,69 @@
+// What threads hold of a wire.
+ghost use Rattle.std.specs.Prelude.{◌≡◌, ◌+◌, ◌*◌, ◌≤◌, length, vec_capacity};
+ghost use Rattle.ids.specs.declared.limits.TheConstants.{GREATEST_NODES};
+ghost use Rattle.wire.specs.Rule.{nodes_of};
+ghost use Rattle.wire.specs.Seated.{Sits, IsWatching};
+
+use crate::plays::WireRule;
+use crate::views::{Opening, View};
+use atomic_table::{Seat, Table};
+use ids::Cycle;
+use std::alloc::Global;
+use std::snapshot::Snapshot;
+
+/// What the threads of a space's nodes share: a mailbox from each node to each other one, the count
+/// of the events of all nodes, and a board with the last cycle that node 0 showed as ended. Every
+/// call is on `&self`, and takes no memory and never waits.
+#[derive(Drop)]
+pub struct Wire {
+    // The mailboxes, then the count, then the board.
+    pub(crate) table: Table<Vec<u8>, View, Opening, WireRule, Global>,
+    pub(crate) nodes: usize,
+    pub(crate) alloc: Global,
+    ghost words: { table.shared.table_id.words ≡ nodes * nodes + 2 },
+    ghost slots: { table.shared.table_id.slots ≡ nodes * nodes },
+    ghost opening: { nodes_of table.shared.key.world ≡ nodes },
+    ghost few: { nodes ≤ GREATEST_NODES },
+}
+
+/// The right of one node to act on a wire: to send and receive its frames, and to enter its events.
+/// A node has one.
+#[derive(Drop)]
+pub struct NodeSeat {
+    pub(crate) seat: Seat<Vec<u8>, View>,
+    pub(crate) node: usize,
+    pub(crate) nodes: usize,
+    // The mailboxes that it fills or empties, in the order of the slots that are out with the seat. It
+    // has room for all.
+    pub(crate) held: Vec<usize>,
+    ghost sits: { Sits (λ v. v.items) node nodes held.items seat.me },
+    ghost room: { nodes * nodes ≤ vec_capacity held },
+}
+
+/// A right to look at a wire's board, and what was seen there and heard of it.
+#[derive(Drop)]
+pub struct Watch {
+    pub(crate) seat: Seat<Vec<u8>, View>,
+    pub(crate) heard: Cycle,
+    ghost watches: { IsWatching seat.me.0.role },
+}
+
+/// A mailbox that its holder's seat has claimed, to be filled by [`Wire::post`]. It can't be dropped.
+pub struct Claim {
+    pub(crate) to: u8,
+    pub(crate) of: Snapshot<Seat<Vec<u8>, View>>,
+}
+
+/// A mailbox whose frame its holder's seat has taken, to be emptied by [`Wire::clear`]. It can't be
+/// dropped.
+pub struct Taken {
+    pub(crate) from: u8,
+    pub(crate) of: Snapshot<Seat<Vec<u8>, View>>,
+}
+
+/// A cycle that was raised on a wire's board, which a [`Watch`] may hear of.
+#[derive(Drop)]
+pub struct Raised {
+    pub(crate) cycle: Cycle,
+    pub(crate) of: Snapshot<Seat<Vec<u8>, View>>,
+}
