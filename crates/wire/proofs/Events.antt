@@ -27,16 +27,16 @@ use Rattle.wire.proofs.Ages.{OlderNode, older-onward}
 
 -- ---- One more event
 
-pub cond_push : (b : Bool) (t s : Step) (xs ys : List Step) → xs ≡ ys ++ s ∷ []
+cond-push : (b : Bool) (t s : Step) (xs ys : List Step) → xs ≡ ys ++ s ∷ []
     → cond b (t ∷ xs) xs ≡ cond b (t ∷ ys) ys ++ s ∷ []
-cond_push true t s xs ys same = ap (λ (l : List Step). t ∷ l) same
-cond_push false t s xs ys same = same
+cond-push true t s xs ys same = ap (λ (l : List Step). t ∷ l) same
+cond-push false t s xs ys same = same
 
 pub events-push_same : (i : ℕ) (log : List Step) (s : Step) → node_of s ≡ i
     → events_of i (log ++ s ∷ []) ≡ events_of i log ++ s ∷ []
 events-push_same i [] s is = cond-true _ _ _ (eq-eqb (node_of s) i is)
 events-push_same i (t ∷ ts) s is =
-    cond_push (node_of t == i) t s _ _ (events-push_same i ts s is)
+    cond-push (node_of t == i) t s _ _ (events-push_same i ts s is)
 
 pub events-push_other : (i : ℕ) (log : List Step) (s : Step) → node_of s ≢ i
     → events_of i (log ++ s ∷ []) ≡ events_of i log

@@ -9,3 +9,5 @@ pub mod BoardSteps
 pub mod DealSteps
 pub mod Sitting
 pub mod Numbers
+pub mod Rows
+pub mod NewWires

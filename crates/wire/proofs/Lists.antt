@@ -55,6 +55,3 @@ found-stays m k (x ∷ xs) apart =
     ∙ sym (cond-false _ _ _ (ne_eqb x.0 k (λ f. apart (sym f ∙ e)))))
     (λ n. ap (found k) (cond-false _ _ _ (ne_eqb x.0 m n))
     ∙ ap (cond (x.0 == k) (Some x.1)) (found-stays m k xs apart))
-
-pub has_cite : (m : ℕ) (xs : List ℕ) → has m (m ∷ xs) ≡ true
-has_cite m xs = has-here m xs

@@ -381,6 +381,3 @@ module _ {S : Type 0} (bytes : S → List ℕ) (opening : World) where
         (sym front) d.0,
         (refl, refl, d.1),
       )
-
-pub cited : (m : ℕ) → m ≡ m
-cited m = refl

@@ -340,6 +340,3 @@ module _ {S : Type 0} (bytes : S → List ℕ) (me nodes : ℕ) where
       first_of : List ℕ → ℕ
       first_of [] = 0
       first_of (y ∷ ys) = y
-
-pub cited : (m : ℕ) → m ≡ m
-cited m = refl

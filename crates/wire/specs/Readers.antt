@@ -1,11 +1,13 @@
 -- What a clause says of a wire, its seats and its watches.
-use Rattle.std.specs.Prelude.{◌≡◌, ◌≢◌, ℕ, ◌+◌, ◌*◌, ◌<◌, ◌≤◌, List, length, slice_index_or, Some, slice_get, max}
-use Rattle.std.specs.Prelude.{IsTrue}
+use Rattle.std.specs.Prelude.{◌≡◌, ℕ, ◌+◌, ◌*◌, List, length, Some, slice_get, Vec}
+use Rattle.std.specs.Global.{Global}
+use Rattle.atomic_table.specs.declared.shared.Seat.{Seat}
 use Rattle.ids.specs.Limits.{Shaped}
 use Rattle.model.specs.State.{NodeState, node_at, sent_to}
 use Rattle.model.specs.View.{NodeView, Shows, link_to}
 use Rattle.model.specs.World.{World}
-use Rattle.wire.specs.Views.{Known, node_of_opening, watch_of}
+use Rattle.wire.specs.Views.{Known, dealer_of, node_of_opening, watch_of}
+use Rattle.wire.specs.declared.views.View.{View}
 use Rattle.wire.specs.declared.seats.Wire.{Wire}
 use Rattle.wire.specs.declared.seats.NodeSeat.{NodeSeat}
 use Rattle.wire.specs.declared.seats.Watch.{Watch}
@@ -89,3 +91,48 @@ watch_opening x = x.seat.me.0.opening
 -- they are of one wire
 abbrev pub IsHeardOf : Watch → Raised → Type 0
 IsHeardOf x r = r.of.value.table_id ≡ x.seat.table_id
+
+-- ---- Making a wire
+
+-- The node is one that stands where the state does, and all that it holds is saved: no message waits
+-- to be released, and it acknowledges all that it took in.
+pub record IsSavedAs (n : NodeView) (s : NodeState) : Type 0 where
+  pub shows : Shows n s
+  pub counted : (j : ℕ) → (link_to n j).kept ≡ length (sent_to s j)
+  pub acks : n.acks ≡ s.local.got
+
+-- the nodes of a shape, in order, as they stand in a world in which all is saved
+pub record AreOpened (shape : Shaped) (nodes : List NodeView) (w : World) : Type 0 where
+  pub saved : w.saved ≡ w.current
+  pub width : length w.current ≡ shape.nodes
+  pub count : length nodes ≡ shape.nodes
+  pub each : (k : ℕ) (n : NodeView) → slice_get nodes k ≡ Some n
+      → IsSavedAs n (node_at w.current k)
+
+-- a seat of the node k, which has done nothing yet
+pub record IsSeated (wire : Wire) (k : ℕ) (s : NodeSeat) : Type 0 where
+  pub of : IsSeatOf wire s
+  pub node : s.node ≡ k
+  pub known : s.seat.me.0 ≡ node_of_opening (opened_with wire) k
+
+-- a watch that has seen nothing and heard of nothing
+pub record IsFreshWatch (wire : Wire) (x : Watch) : Type 0 where
+  pub of : IsWatchOf wire x
+  pub known : x.seat.me.0 ≡ watch_of (opened_with wire)
+  pub heard : x.heard.number ≡ 0
+
+-- a wire of that world, with a seat for each node and so many watches
+pub record IsMade (w : World) (watches : ℕ) (wire : Wire) (seats : List NodeSeat)
+    (watching : List Watch) : Type 0 where
+  pub opening : opened_with wire ≡ w
+  pub nodes : wire.nodes ≡ length w.current
+  pub seat_count : length seats ≡ wire.nodes
+  pub each_seat : (k : ℕ) (s : NodeSeat) → slice_get seats k ≡ Some s → IsSeated wire k s
+  pub watch_count : length watching ≡ watches
+  pub each_watch : (k : ℕ) (x : Watch) → slice_get watching k ≡ Some x → IsFreshWatch wire x
+
+-- the dealer of the wire, with the first node that has no seat yet
+abbrev pub IsDealer : Wire → ℕ → Seat (Vec ℕ Global) View → Type 0
+IsDealer wire k dealer =
+    (dealer.table_id ≡ wire.table.shared.table_id)
+    × (dealer.me.0 ≡ dealer_of (opened_with wire) k)

@@ -3,6 +3,7 @@
 #![tactic(auto)]
 
 mod board;
+mod dealing;
 mod history;
 mod mailboxes;
 mod plays;
@@ -10,3 +11,6 @@ mod seats;
 mod views;
 
 pub use seats::{Claim, NodeSeat, Raised, Taken, Watch, Wire};
+
+#[cfg(test)]
+mod tests;

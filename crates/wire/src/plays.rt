@@ -113,6 +113,3 @@ impl Split<View> for NextWatch {
 
     ghost right = { next_watch };
 }
-
-#[tactic(auto, using(crate::proofs::Events::cond_push, crate::proofs::Lists::has_cite, crate::proofs::MailSteps::cited, crate::proofs::CountSteps::ticks_allowed, crate::proofs::BoardSteps::looks_allowed, crate::proofs::DealSteps::starts, crate::proofs::Sitting::cited))]
-fn cite() {}

@@ -31,3 +31,12 @@ impl Model for Opening {
 
     ghost also_owns = { λ _. ftrue };
 }
+
+impl Opening {
+    pub(crate) fn named() -> Opening
+        ghost it: { World }
+        ensures { result.world ≡ it }
+    {
+        Opening {}
+    }
+}
