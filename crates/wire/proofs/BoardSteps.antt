@@ -49,24 +49,24 @@ module _ {S : Type 0} (bytes : S → List ℕ) (opening : World) where
           events = h.events;
           count = get_or-set_other s.words (n * n + 1) (n * n) (max r k) 0 (omega arith) ∙ h.count;
           board = subst (λ (z : ℕ). z ≤ ended_of (run opening h.log)) (sym same)
-          (max-le h.board saved);
+              (max-le h.board saved);
           fits = subst (λ (z : ℕ). z ≤ GREATEST_CYCLE) (sym same)
-          (max-le h.fits within);
+              (max-le h.fits within);
           higher = subst (λ (z : ℕ). r ≤ z) (sym same) (le-max_left r k);
           mine = subst
-          (SeatOk opening h.log (slice_index words (n * n + 1)) (set s.views id (marks k v)) h.boxes id
-          (marks k v))
-          (sym role)
-          (record {
-            below = ok.below;
-            nodes_is = ok.nodes_is;
-            opening_is = ok.opening_is;
-            pair_is = ok.pair_is;
-            events_are = ok.events_are;
-            released = ok.released;
-            fills = ok.fills;
-            empties = ok.empties;
-          });
+              (SeatOk opening h.log (slice_index words (n * n + 1)) (set s.views id (marks k v)) h.boxes id
+              (marks k v))
+              (sym role)
+              (record {
+                below = ok.below;
+                nodes_is = ok.nodes_is;
+                opening_is = ok.opening_is;
+                pair_is = ok.pair_is;
+                events_are = ok.events_are;
+                released = ok.released;
+                fills = ok.fills;
+                empties = ok.empties;
+              });
           no_dealer = λ d. (let never : ◌≡◌ {A = Role} node dealer = sym role ∙ d in absurd cc);
         }),
         (refl, refl),
@@ -84,27 +84,27 @@ module _ {S : Type 0} (bytes : S → List ℕ) (opening : World) where
         keeps,
         tt,
         subst
-        (λ (ws : List ℕ).
-        Holds bytes opening (record { words = ws; homes = s.homes; views = set s.views id (marks r v) }))
-        (sym (set-get_or s.words (n * n + 1) 0))
-        (noted bytes opening s h id v (marks r v) h.log s.words (record {
-          at = at;
-          alike = record { role = refl; me = refl };
-          filling = refl;
-          emptying = refl;
-          extends = same-log opening h.log v;
-          wide = refl;
-          boxes = λ m below. refl;
-          events = h.events;
-          count = h.count;
-          board = h.board;
-          fits = h.fits;
-          higher = le_refl r;
-          mine = subst
-          (SeatOk opening h.log r (set s.views id (marks r v)) h.boxes id (marks r v)) (sym role)
-          (record { opening_is = ok.opening_is; loaded = le_refl r });
-          no_dealer = λ d. (let never : ◌≡◌ {A = Role} watch dealer = sym role ∙ d in absurd cc);
-        })),
+            (λ (ws : List ℕ).
+            Holds bytes opening (record { words = ws; homes = s.homes; views = set s.views id (marks r v) }))
+            (sym (set-get_or s.words (n * n + 1) 0))
+            (noted bytes opening s h id v (marks r v) h.log s.words (record {
+              at = at;
+              alike = record { role = refl; me = refl };
+              filling = refl;
+              emptying = refl;
+              extends = same-log opening h.log v;
+              wide = refl;
+              boxes = λ m below. refl;
+              events = h.events;
+              count = h.count;
+              board = h.board;
+              fits = h.fits;
+              higher = le_refl r;
+              mine = subst
+                  (SeatOk opening h.log r (set s.views id (marks r v)) h.boxes id (marks r v)) (sym role)
+                  (record { opening_is = ok.opening_is; loaded = le_refl r });
+              no_dealer = λ d. (let never : ◌≡◌ {A = Role} watch dealer = sym role ∙ d in absurd cc);
+            })),
         (
           refl,
           refl,

@@ -58,7 +58,7 @@ module _ {S : Type 0} (bytes : S → List ℕ) (opening : World) where
       opening_is = ok.opening_is;
       pair_is = ap (λ (w : World). pair_at w v.me) now ∙ local.here;
       events_are = ap (λ (l : List Step). l ++ e ∷ []) ok.events_are
-      ∙ sym (events-push_same v.me h.log e local.node);
+          ∙ sym (events-push_same v.me h.log e local.node);
       released = λ k f there. net-push opening h.log h.opens e f (ok.released k f there);
       fills = ok.fills;
       empties = ok.empties;
@@ -68,10 +68,10 @@ module _ {S : Type 0} (bytes : S → List ℕ) (opening : World) where
     enters = record {
       log = h.log;
       events = subst (λ (o : World). AreEvents o (h.log ++ e ∷ [])) (sym ok.opening_is)
-      (are-push opening h.log e h.events local.event);
+          (are-push opening h.log e h.events local.event);
       before = ap (λ (o : World). pair_at (run o h.log) v.me) ok.opening_is ∙ ok.pair_is;
       after = ap (λ (o : World). pair_at (run o (h.log ++ e ∷ [])) v.me) ok.opening_is
-      ∙ mine.pair_is;
+          ∙ mine.pair_is;
       counted = h.count;
       own = mine.events_are;
     }
@@ -102,16 +102,16 @@ module _ {S : Type 0} (bytes : S → List ℕ) (opening : World) where
           boxes = λ m below. get_or-set_other s.words (n * n) m x 0 (omega arith);
           events = are-push opening h.log e h.events local.event;
           count = get_or-set_same s.words (n * n) x 0 (omega arith) ∙ is
-          ∙ counted (length h.log) (slice_index s.words (n * n)) h.count
-          ∙ ap (λ (k : ℕ). k % 2 ^ 64) (sym (length-append h.log (e ∷ [])));
+              ∙ counted (length h.log) (slice_index s.words (n * n)) h.count
+              ∙ ap (λ (k : ℕ). k % 2 ^ 64) (sym (length-append h.log (e ∷ [])));
           board = subst (λ (z : ℕ). z ≤ ended_of (run opening (h.log ++ e ∷ []))) (sym board)
-          (le_trans h.board (ended-push opening h.log h.opens e));
+              (le_trans h.board (ended-push opening h.log h.opens e));
           fits = subst (λ (z : ℕ). z ≤ GREATEST_CYCLE) (sym board) h.fits;
           higher = subst (λ (z : ℕ). get_or s.words (n * n + 1) 0 ≤ z) (sym board) (le_refl _);
           mine = subst
-          (SeatOk opening (h.log ++ e ∷ []) (slice_index words (n * n + 1))
-          (set s.views id (ticks e q v)) h.boxes id (ticks e q v))
-          (sym role) mine;
+              (SeatOk opening (h.log ++ e ∷ []) (slice_index words (n * n + 1))
+              (set s.views id (ticks e q v)) h.boxes id (ticks e q v))
+              (sym role) mine;
           no_dealer = λ d. (let never : ◌≡◌ {A = Role} node dealer = sym role ∙ d in absurd cc);
         })
 

@@ -32,15 +32,15 @@ module _ {S : Type 0} (bytes : S → List ℕ) (opening : World) where
   -- the dealer goes on as `left`, and the new seat is `right`
   record Deal (s : State S Known) (h : Holds bytes opening s) (id : ℕ) (v left right : Known) : Type 0
     where
-    pub at : get_elem? s.views id ≡ some v
-    pub was : v.role ≡ dealer
-    pub role : left.role ≡ dealer
-    pub no_dealer : right.role ≢ dealer
-    pub left_ok : DealerOk opening h.log (Seats s.views left right id) id left
-    pub right_ok : SeatOk opening h.log (slice_index s.words (n * n + 1)) (Seats s.views left right id)
-        h.boxes (length (set s.views id left)) right right.role
-    pub alone : right.role ≡ node → (k : ℕ) (u : Known) → get_elem? s.views k ≡ some u
-        → u.role ≡ node → u.me ≢ right.me
+      pub at : get_elem? s.views id ≡ some v
+      pub was : v.role ≡ dealer
+      pub role : left.role ≡ dealer
+      pub no_dealer : right.role ≢ dealer
+      pub left_ok : DealerOk opening h.log (Seats s.views left right id) id left
+      pub right_ok : SeatOk opening h.log (slice_index s.words (n * n + 1)) (Seats s.views left right id)
+          h.boxes (length (set s.views id left)) right right.role
+      pub alone : right.role ≡ node → (k : ℕ) (u : Known) → get_elem? s.views k ≡ some u
+          → u.role ≡ node → u.me ≢ right.me
 
   dealer-of : (s : State S Known) (h : Holds bytes opening s) (id : ℕ) (v : Known)
       → get_elem? s.views id ≡ some v → v.role ≡ dealer → DealerOk opening h.log s.views id v
@@ -150,9 +150,9 @@ module _ {S : Type 0} (bytes : S → List ℕ) (opening : World) where
       board = h.board;
       fits = h.fits;
       each_box = λ m below. (
-        let b = h.each_box m below in
-        record { shows = b.shows; content = content-kept m (h.boxes m) b.content }
-      );
+          let b = h.each_box m below in
+          record { shows = b.shows; content = content-kept m (h.boxes m) b.content }
+          );
       each_seat = seats-kept;
       one = one-kept;
     }
@@ -187,24 +187,24 @@ module _ {S : Type 0} (bytes : S → List ℕ) (opening : World) where
           nodes_is = ok.nodes_is;
           opening_is = ok.opening_is;
           earlier = λ k u e r. ⊎_elim
-          (λ (is : (k ≡ id) × (dealer_after v ≡ u)).
-          clash (sym (ap (λ (x : Known). x.role) is.1) ∙ role) r)
-          (λ other. ⊎_elim
-          (λ (a : get_elem? s.views k ≡ some u).
-          (let before : u.me < v.me = ok.earlier k u a r in
-          let after : u.me < v.me + 1 = omega arith in after))
-          (λ (is : next_node v ≡ u).
-          subst (λ (x : Known). x.me < v.me + 1) is
-          (let after : v.me < v.me + 1 = omega arith in after))
-          other)
-          (among s id (dealer_after v) (next_node v) k u e);
+              (λ (is : (k ≡ id) × (dealer_after v ≡ u)).
+              clash (sym (ap (λ (x : Known). x.role) is.1) ∙ role) r)
+              (λ other. ⊎_elim
+              (λ (a : get_elem? s.views k ≡ some u).
+              (let before : u.me < v.me = ok.earlier k u a r in
+              let after : u.me < v.me + 1 = omega arith in after))
+              (λ (is : next_node v ≡ u).
+              subst (λ (x : Known). x.me < v.me + 1) is
+              (let after : v.me < v.me + 1 = omega arith in after))
+              other)
+              (among s id (dealer_after v) (next_node v) k u e);
           alone = λ k u e r. ⊎_elim
-          (λ (is : (k ≡ id) × (dealer_after v ≡ u)). is.0)
-          (λ other. ⊎_elim
-          (λ (a : get_elem? s.views k ≡ some u). ok.alone k u a r)
-          (λ (is : next_node v ≡ u). clash r (sym (ap (λ (x : Known). x.role) is)))
-          other)
-          (among s id (dealer_after v) (next_node v) k u e);
+              (λ (is : (k ≡ id) × (dealer_after v ≡ u)). is.0)
+              (λ other. ⊎_elim
+              (λ (a : get_elem? s.views k ≡ some u). ok.alone k u a r)
+              (λ (is : next_node v ≡ u). clash r (sym (ap (λ (x : Known). x.role) is)))
+              other)
+              (among s id (dealer_after v) (next_node v) k u e);
           still = λ i late. ok.still i (omega arith);
         };
         right_ok = record {
@@ -233,21 +233,21 @@ module _ {S : Type 0} (bytes : S → List ℕ) (opening : World) where
           nodes_is = ok.nodes_is;
           opening_is = ok.opening_is;
           earlier = λ k u e r. ⊎_elim
-          (λ (is : (k ≡ id) × (v ≡ u)). clash (sym (ap (λ (x : Known). x.role) is.1) ∙ role) r)
-          (λ other. ⊎_elim
-          (λ (a : get_elem? s.views k ≡ some u). ok.earlier k u a r)
-          (λ (is : next_watch v ≡ u).
-          (let never : ◌≡◌ {A = Role} watch node = ap (λ (x : Known). x.role) is ∙ r in absurd cc))
-          other)
-          (among s id v (next_watch v) k u e);
+              (λ (is : (k ≡ id) × (v ≡ u)). clash (sym (ap (λ (x : Known). x.role) is.1) ∙ role) r)
+              (λ other. ⊎_elim
+              (λ (a : get_elem? s.views k ≡ some u). ok.earlier k u a r)
+              (λ (is : next_watch v ≡ u).
+              (let never : ◌≡◌ {A = Role} watch node = ap (λ (x : Known). x.role) is ∙ r in absurd cc))
+              other)
+              (among s id v (next_watch v) k u e);
           alone = λ k u e r. ⊎_elim
-          (λ (is : (k ≡ id) × (v ≡ u)). is.0)
-          (λ other. ⊎_elim
-          (λ (a : get_elem? s.views k ≡ some u). ok.alone k u a r)
-          (λ (is : next_watch v ≡ u).
-          (let never : ◌≡◌ {A = Role} watch dealer = ap (λ (x : Known). x.role) is ∙ r in absurd cc))
-          other)
-          (among s id v (next_watch v) k u e);
+              (λ (is : (k ≡ id) × (v ≡ u)). is.0)
+              (λ other. ⊎_elim
+              (λ (a : get_elem? s.views k ≡ some u). ok.alone k u a r)
+              (λ (is : next_watch v ≡ u).
+              (let never : ◌≡◌ {A = Role} watch dealer = ap (λ (x : Known). x.role) is ∙ r in absurd cc))
+              other)
+              (among s id v (next_watch v) k u e);
           still = ok.still;
         };
         right_ok = record { opening_is = ok.opening_is; loaded = zero-le };
@@ -279,17 +279,17 @@ module _ {S : Type 0} (bytes : S → List ℕ) (opening : World) where
           content = some_there slots m (subst (λ (k : ℕ). m < k) (sym long) below);
         };
         each_seat = λ j u e. (
-          let is = first-at v u j e in
-          subst (λ (x : ℕ × Known). SeatOk opening [] (slice_index words (n * n + 1)) (v ∷ [])
-          (λ _. empty) x.0 x.1 x.1.role) (λ k. (sym is.0 k, is.1 k))
-          (record {
-            nodes_is = refl;
-            opening_is = refl;
-            earlier = λ k x at r. clash refl (ap (λ (y : Known). y.role) (first-at v x k at).1 ∙ r);
-            alone = λ k x at r. (first-at v x k at).0;
-            still = λ i late. (refl, refl);
-          })
-        );
+            let is = first-at v u j e in
+            subst (λ (x : ℕ × Known). SeatOk opening [] (slice_index words (n * n + 1)) (v ∷ [])
+            (λ _. empty) x.0 x.1 x.1.role) (λ k. (sym is.0 k, is.1 k))
+            (record {
+              nodes_is = refl;
+              opening_is = refl;
+              earlier = λ k x at r. clash refl (ap (λ (y : Known). y.role) (first-at v x k at).1 ∙ r);
+              alone = λ k x at r. (first-at v x k at).0;
+              still = λ i late. (refl, refl);
+            })
+            );
         one = λ j k x u ex eu rx ru me.
-        clash refl (ap (λ (y : Known). y.role) (first-at v x j ex).1 ∙ rx);
+            clash refl (ap (λ (y : Known). y.role) (first-at v x j ex).1 ∙ rx);
       }

@@ -119,16 +119,16 @@ moved-local w s i t o p q node below pair_is took e is =
       node = node;
       event = eventful w s next o took e;
       here = ap (λ (v : World). pair_at v i) now
-      ∙ (λ k. record {
-        current = get_or-set_same w.current i t no_node below k;
-        saved = saved_is w i p pair_is k;
-      })
-      ∙ sym is;
+          ∙ (λ k. record {
+            current = get_or-set_same w.current i t no_node below k;
+            saved = saved_is w i p pair_is k;
+          })
+          ∙ sym is;
       others = λ j apart. ap (λ (v : World). pair_at v j) now
-      ∙ (λ k. record {
-        current = get_or-set_other w.current i j t no_node apart k;
-        saved = node_at w.saved j;
-      });
+          ∙ (λ k. record {
+            current = get_or-set_other w.current i j t no_node apart k;
+            saved = node_at w.saved j;
+          });
     }
 
 -- the node's saved state is its current one
@@ -145,18 +145,18 @@ saved-local w i p q below wide pair_is is =
       node = refl;
       event = eventful w (step.Save i) next outcome.Done took refl;
       here = ap (λ (v : World). pair_at v i) now
-      ∙ (λ k. record {
-        current = node_at w.current i;
-        saved = get_or-set_same w.saved i (node_at w.current i) no_node
-        (subst (λ (n : ℕ). i < n) (sym wide) below) k;
-      })
-      ∙ ap (λ (s : NodeState). record { current = s; saved = s }) (current_is w i p pair_is)
-      ∙ sym is;
+          ∙ (λ k. record {
+            current = node_at w.current i;
+            saved = get_or-set_same w.saved i (node_at w.current i) no_node
+                (subst (λ (n : ℕ). i < n) (sym wide) below) k;
+          })
+          ∙ ap (λ (s : NodeState). record { current = s; saved = s }) (current_is w i p pair_is)
+          ∙ sym is;
       others = λ j apart. ap (λ (v : World). pair_at v j) now
-      ∙ (λ k. record {
-        current = node_at w.current j;
-        saved = get_or-set_other w.saved i j (node_at w.current i) no_node apart k;
-      });
+          ∙ (λ k. record {
+            current = node_at w.current j;
+            saved = get_or-set_other w.saved i j (node_at w.current i) no_node apart k;
+          });
     }
 
 restarted-local : (w : World) (i : ℕ) (p q : Pair) → i < length w.current → pair_at w i ≡ p

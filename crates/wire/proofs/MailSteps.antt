@@ -35,7 +35,7 @@ in-net w i saved (ack_frame from to number) is below there rel = (
   there,
   (λ e. rel.1 (sym e ∙ rel.0)),
   subst (λ (t : NodeState). number ≤ got_from t.local to)
-  (sym (ap (node_at w.saved) rel.0 ∙ is)) rel.2,
+      (sym (ap (node_at w.saved) rel.0 ∙ is)) rel.2,
 )
 
 sender-is : (i : ℕ) (saved : NodeState) (f : Plain) → Releases i saved f → sender f ≡ i
@@ -95,19 +95,19 @@ module _ {S : Type 0} (bytes : S → List ℕ) (opening : World) where
           fits = h.fits;
           higher = (let z : ℕ = slice_index s.words (n * n + 1) in let le : z ≤ z = omega arith in le);
           mine = subst
-          (SeatOk opening h.log (slice_index s.words (n * n + 1)) (set s.views id (notes r v)) h.boxes
-          id (notes r v))
-          (sym role)
-          (record {
-            below = ok.below;
-            nodes_is = ok.nodes_is;
-            opening_is = ok.opening_is;
-            pair_is = ok.pair_is;
-            events_are = ok.events_are;
-            released = ok.released;
-            fills = ok.fills;
-            empties = ok.empties;
-          });
+              (SeatOk opening h.log (slice_index s.words (n * n + 1)) (set s.views id (notes r v)) h.boxes
+              id (notes r v))
+              (sym role)
+              (record {
+                below = ok.below;
+                nodes_is = ok.nodes_is;
+                opening_is = ok.opening_is;
+                pair_is = ok.pair_is;
+                events_are = ok.events_are;
+                released = ok.released;
+                fills = ok.fills;
+                empties = ok.empties;
+              });
           no_dealer = λ d. (let never : ◌≡◌ {A = Role} node dealer = sym role ∙ d in absurd cc);
         }))
 
@@ -136,7 +136,11 @@ module _ {S : Type 0} (bytes : S → List ℕ) (opening : World) where
             home = λ k apart. set_else s.homes m k none apart;
             shows = refl;
             content = (
-              claims m v, set-at s.views id (claims m v) v at, role, me_is, has-here m v.filling
+              claims m v,
+              set-at s.views id (claims m v) v at,
+              role,
+              me_is,
+              has-here m v.filling,
             );
             free = λ j _. loose j;
             like = λ k apart. record { fills = has-more m k v.filling apart; empties = refl };
@@ -164,42 +168,44 @@ module _ {S : Type 0} (bytes : S → List ℕ) (opening : World) where
           lies.0.0,
           lies.0.1,
           moved bytes opening s h id v (takes_in m f v) m 2 (emptying_by id f) (set s.homes m none)
-          (record {
-            below = below;
-            at = at;
-            role = role;
-            alike = record { role = refl; me = refl };
-            nodes = refl;
-            opens = refl;
-            pair = refl;
-            events = refl;
-            slots = length-set s.homes m none;
-            home = λ k apart. set_else s.homes m k none apart;
-            shows = refl;
-            content = (
-              takes_in m f v, set-at s.views id (takes_in m f v) v at, role, me_is,
-              found-here m f v.emptying
-            );
-            free = λ j _. loose j;
-            like = λ k apart. record { fills = refl; empties = found-more m k f v.emptying apart };
-            taken = λ k g e. ⊎_elim
-            (λ before. ok.released k g before)
-            (λ last. subst (IsInNet (run opening h.log)) (sym last) lies.1)
-            (slice_get-push v.taken f k g e);
-            fills = λ e. absurd (loose id (ap holder (ok.fills m e).1));
-            empties = λ g e. (
-              let some : ◌≡◌ {A = Option Plain} (Some f) (Some g) =
-              sym (found-here m f v.emptying) ∙ e in
-              let same : f ≡ g = cc in ap (emptying_by id) same
-            );
-          }),
+              (record {
+                below = below;
+                at = at;
+                role = role;
+                alike = record { role = refl; me = refl };
+                nodes = refl;
+                opens = refl;
+                pair = refl;
+                events = refl;
+                slots = length-set s.homes m none;
+                home = λ k apart. set_else s.homes m k none apart;
+                shows = refl;
+                content = (
+                  takes_in m f v,
+                  set-at s.views id (takes_in m f v) v at,
+                  role,
+                  me_is,
+                  found-here m f v.emptying,
+                );
+                free = λ j _. loose j;
+                like = λ k apart. record { fills = refl; empties = found-more m k f v.emptying apart };
+                taken = λ k g e. ⊎_elim
+                    (λ before. ok.released k g before)
+                    (λ last. subst (IsInNet (run opening h.log)) (sym last) lies.1)
+                    (slice_get-push v.taken f k g e);
+                fills = λ e. absurd (loose id (ap holder (ok.fills m e).1));
+                empties = λ g e. (
+                    let some : ◌≡◌ {A = Option Plain} (Some f) (Some g) =
+                    sym (found-here m f v.emptying) ∙ e in
+                    let same : f ≡ g = cc in ap (emptying_by id) same
+                    );
+              }),
           fresh m (loose id),
           lies.0.2,
           lies.1,
           lies.2,
           lies.3,
         )
-
 
     post-done : (m : ℕ) → has m v.filling ≡ true → (x : S) (c : List (ℕ × S)) → Owns m v (bytes x)
         → Holds bytes opening (stepped s m 1 id ((m, x) ∷ c) (posts m v) gives)
@@ -272,16 +278,17 @@ module _ {S : Type 0} (bytes : S → List ℕ) (opening : World) where
             home = λ k apart. set_else s.homes m k (some x) apart;
             shows = refl;
             content = (
-              x, set_here s.homes m (some x) (subst (λ (k : ℕ). m < k) (sym h.slots) mine.0)
+              x,
+              set_here s.homes m (some x) (subst (λ (k : ℕ). m < k) (sym h.slots) mine.0),
             );
             free = λ j apart. only-one id j (holder (h.boxes m)) (ap holder mine.1) apart;
             like = λ k apart. record { fills = refl; empties = found-stays m k v.emptying apart };
             taken = ok.released;
             fills = λ e. absurd (clash (sym (ok.fills m e).1 ∙ mine.1));
             empties = λ g e. (
-              let never : ◌≡◌ {A = Option Plain} (Some g) None =
-              sym e ∙ found-gone m v.emptying in absurd cc
-            );
+                let never : ◌≡◌ {A = Option Plain} (Some g) None =
+                sym e ∙ found-gone m v.emptying in absurd cc
+                );
           }),
           false_from_ne_true (has m v.filling) (λ e. clash (sym (ok.fills m e).1 ∙ mine.1)),
         )
@@ -331,15 +338,18 @@ module _ {S : Type 0} (bytes : S → List ℕ) (opening : World) where
         c.2,
         c.3,
         (
-          (λ _. (c.0, (
-            refl,
-            c.7 ∙ ap (λ (k : ℕ). m / k) (sym mine.nodes_is),
-            c.8 ∙ sym me_is,
-            subst
-            (λ (w : World). (log : List Step) × AreEvents w log × IsInNet (run w log) c.0)
-            (sym mine.opening_is) (h.log, h.events, c.6),
-            (c.1, refl, c.5, c.4),
-          ))),
+          (λ _. (
+            c.0,
+            (
+              refl,
+              c.7 ∙ ap (λ (k : ℕ). m / k) (sym mine.nodes_is),
+              c.8 ∙ sym me_is,
+              subst
+                  (λ (w : World). (log : List Step) × AreEvents w log × IsInNet (run w log) c.0)
+                  (sym mine.opening_is) (h.log, h.events, c.6),
+              (c.1, refl, c.5, c.4),
+            ),
+          )),
           (λ miss. absurd (miss hit)),
         ),
       ))
@@ -362,8 +372,8 @@ module _ {S : Type 0} (bytes : S → List ℕ) (opening : World) where
         gives,
         tt,
         subst
-        (λ (c : List (ℕ × S)). Holds bytes opening (stepped s m 1 id c (posts m me.0) gives))
-        (sym front) d.0,
+            (λ (c : List (ℕ × S)). Holds bytes opening (stepped s m 1 id c (posts m me.0) gives))
+            (sym front) d.0,
         (refl, refl, d.1),
       )
 
@@ -377,7 +387,7 @@ module _ {S : Type 0} (bytes : S → List ℕ) (opening : World) where
         gives,
         tt,
         subst
-        (λ (c : List (ℕ × S)). Holds bytes opening (stepped s m 0 id c (clears m me.0) gives))
-        (sym front) d.0,
+            (λ (c : List (ℕ × S)). Holds bytes opening (stepped s m 0 id c (clears m me.0) gives))
+            (sym front) d.0,
         (refl, refl, d.1),
       )

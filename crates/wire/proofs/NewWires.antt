@@ -1,5 +1,5 @@
 -- Two new nodes, and the world in which they stand.
-use Rattle.std.proofs.Common.{◌≡◌, ℕ, zero, suc, List, [], ◌∷◌, length, get_or, replicate, Some, refl, sym, ap, ◌∙◌, subst, arith, slice_get}
+use Rattle.std.proofs.Common.{◌≡◌, ◌<◌, ℕ, zero, suc, List, [], ◌∷◌, length, drop, get_or, replicate, Some, refl, sym, ap, ◌∙◌, subst, arith, slice_get}
 use Rattle.std.proofs.lemmas.List.{length-replicate}
 use Rattle.ids.specs.Limits.{Shaped}
 use Rattle.msg.specs.declared.body.Message.{Message}
@@ -17,15 +17,15 @@ new-saved shape own = record {
   shows = record {
     local = refl;
     width = length-replicate shape.nodes no_link
-    ∙ sym (length-replicate {A = List Message} shape.nodes []);
+        ∙ sym (length-replicate {A = List Message} shape.nodes []);
     links = λ j.
-    subst (λ (l : Link). ShowsSent l (get_or (replicate shape.nodes []) j []))
-    (sym (get_or-replicate_any shape.nodes j no_link))
-    (subst (ShowsSent no_link) (sym (get_or-replicate_any {A = List Message} shape.nodes j []))
-    (record { within = omega arith; unacknowledged = refl }));
+        subst (λ (l : Link). ShowsSent l (get_or (replicate shape.nodes []) j []))
+        (sym (get_or-replicate_any shape.nodes j no_link))
+        (subst (ShowsSent no_link) (sym (get_or-replicate_any {A = List Message} shape.nodes j []))
+        (record { within = omega arith; unacknowledged = refl }));
   };
   counted = λ j. ap (λ (l : Link). l.kept) (get_or-replicate_any shape.nodes j no_link)
-  ∙ sym (ap length (get_or-replicate_any {A = List Message} shape.nodes j []));
+      ∙ sym (ap length (get_or-replicate_any {A = List Message} shape.nodes j []));
   acks = refl;
 }
 
@@ -49,3 +49,17 @@ new-opened a b first second = record {
         subst (λ (v : NodeView). IsSavedAs v (new_node two_nodes 1)) (sym second ∙ is)
         (new-saved two_nodes 1)
     each (suc (suc k)) n e = absurd cc
+
+-- ---- The first elements of a row
+
+pub there : {A : Type 0} (xs : List A) (k : ℕ) (x : A) → k < length xs → x ≡ get_or xs k x
+    → slice_get xs k ≡ Some x
+there [] k x below is = absurd (omega arith)
+there (y ∷ ys) zero x below is = ap Some (sym is)
+there (y ∷ ys) (suc k) x below is = there ys k x (omega arith) is
+
+pub second : {A : Type 0} (xs : List A) (x : A) → 1 < length xs → x ≡ get_or (drop 1 xs) 0 x
+    → slice_get xs 1 ≡ Some x
+second [] x below is = absurd (omega arith)
+second (y ∷ []) x below is = absurd (omega arith)
+second (y ∷ z ∷ zs) x below is = ap Some (sym is)

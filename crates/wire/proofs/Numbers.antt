@@ -11,9 +11,9 @@ pub record IsBox (i j n m : ℕ) : Type 0 where
 pub is-box : (i j n : ℕ) → i < n → j < n → IsBox i j n (i * n + j)
 is-box i j n first second = record {
   below = (
-    let row : suc i * n ≤ n * n = mul-le-mul_right n first in
-    omega (arith, suc-mul i n, row, second)
-  );
+      let row : suc i * n ≤ n * n = mul-le-mul_right n first in
+      omega (arith, suc-mul i n, row, second)
+      );
   sender = sym (div-mul-add i n j second);
   receiver = sym (mod-mul-add i n j second);
 }

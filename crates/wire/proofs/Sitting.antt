@@ -172,15 +172,15 @@ module _ {S : Type 0} (bytes : S → List ℕ) (me nodes : ℕ) where
         few = s.few;
         order = ap (λ (l : List ℕ). at ∷ l) s.order;
         minded = λ k. dite (ℕ_discrete k at)
-        (λ is. subst (λ (j : ℕ). has j (at ∷ held) ≡ minds j (claims at v)) (sym is)
-        (has-here at held ∙ sym (cond-true _ _ _ (has-here at v.filling))))
-        (λ apart. has-more at k held apart ∙ s.minded k
-        ∙ ap (λ (b : Bool). cond b true (is_some (found k v.emptying)))
-        (sym (has-more at k v.filling apart)));
+            (λ is. subst (λ (j : ℕ). has j (at ∷ held) ≡ minds j (claims at v)) (sym is)
+            (has-here at held ∙ sym (cond-true _ _ _ (has-here at v.filling))))
+            (λ apart. has-more at k held apart ∙ s.minded k
+            ∙ ap (λ (b : Bool). cond b true (is_some (found k v.emptying)))
+            (sym (has-more at k v.filling apart)));
         single = once-more at held gone s.single;
         inside = λ k e. dite (ℕ_discrete k at)
-        (λ is. subst (λ (j : ℕ). j < nodes * nodes) (sym is) below)
-        (λ apart. s.inside k (sym (has-more at k held apart) ∙ e));
+            (λ is. subst (λ (j : ℕ). j < nodes * nodes) (sym is) below)
+            (λ apart. s.inside k (sym (has-more at k held apart) ∙ e));
         spells = spells;
       }
     where
@@ -206,16 +206,16 @@ module _ {S : Type 0} (bytes : S → List ℕ) (me nodes : ℕ) where
         few = s.few;
         order = ap (λ (l : List ℕ). at ∷ l) s.order;
         minded = λ k. dite (ℕ_discrete k at)
-        (λ is. subst (λ (j : ℕ). has j (at ∷ held) ≡ minds j (takes_in at f v)) (sym is)
-        (has-here at held
-        ∙ sym (cond-false _ _ _ fresh.0 ∙ ap is_some (found-here at f v.emptying))))
-        (λ apart. has-more at k held apart ∙ s.minded k
-        ∙ ap (λ (o : Option Plain). cond (has k v.filling) true (is_some o))
-        (sym (found-more at k f v.emptying apart)));
+            (λ is. subst (λ (j : ℕ). has j (at ∷ held) ≡ minds j (takes_in at f v)) (sym is)
+            (has-here at held
+            ∙ sym (cond-false _ _ _ fresh.0 ∙ ap is_some (found-here at f v.emptying))))
+            (λ apart. has-more at k held apart ∙ s.minded k
+            ∙ ap (λ (o : Option Plain). cond (has k v.filling) true (is_some o))
+            (sym (found-more at k f v.emptying apart)));
         single = once-more at held gone s.single;
         inside = λ k e. dite (ℕ_discrete k at)
-        (λ is. subst (λ (j : ℕ). j < nodes * nodes) (sym is) below)
-        (λ apart. s.inside k (sym (has-more at k held apart) ∙ e));
+            (λ is. subst (λ (j : ℕ). j < nodes * nodes) (sym is) below)
+            (λ apart. s.inside k (sym (has-more at k held apart) ∙ e));
         spells = spells;
       }
     where
@@ -253,9 +253,9 @@ module _ {S : Type 0} (bytes : S → List ℕ) (me nodes : ℕ) where
         few = s.few;
         order = refl;
         minded = λ k. dite (ℕ_discrete k at)
-        (λ is. subst (λ (j : ℕ). has j (boxes_of out) ≡ minds j w) (sym is) (parts.0 ∙ sym gone))
-        (λ apart. sym (has-more at k (boxes_of out) apart) ∙ ap (has k) s.order ∙ s.minded k
-        ∙ sym (others k apart));
+            (λ is. subst (λ (j : ℕ). has j (boxes_of out) ≡ minds j w) (sym is) (parts.0 ∙ sym gone))
+            (λ apart. sym (has-more at k (boxes_of out) apart) ∙ ap (has k) s.order ∙ s.minded k
+            ∙ sym (others k apart));
         single = parts.1;
         inside = λ k e. s.inside k (ap (has k) (sym s.order) ∙ later k e);
         spells = λ i b y f e there. s.spells (suc i) b y f e (less b f there);
@@ -320,11 +320,11 @@ module _ {S : Type 0} (bytes : S → List ℕ) (me nodes : ℕ) where
         minded = λ k. has-last k at (boxes_of out) ∙ ap (has k) s.order ∙ s.minded k;
         single = once-last at (boxes_of out) (ap once s.order ∙ s.single);
         inside = λ k e. s.inside k
-        (ap (has k) (sym s.order) ∙ sym (has-last k at (boxes_of out)) ∙ e);
+            (ap (has k) (sym s.order) ∙ sym (has-last k at (boxes_of out)) ∙ e);
         spells = λ i b y f e there. ⊎_elim
-        (λ (was : get_elem? out i ≡ some (b, y)). s.spells (suc i) b y f was there)
-        (λ (is : (at, x) ≡ (b, y)). s.spells zero b y f (ap some is) there)
-        (at_snoc out (at, x) (b, y) i e);
+            (λ (was : get_elem? out i ≡ some (b, y)). s.spells (suc i) b y f was there)
+            (λ (is : (at, x) ≡ (b, y)). s.spells zero b y f (ap some is) there)
+            (at_snoc out (at, x) (b, y) i e);
       })
 
   -- its number stands first where the slot does

@@ -41,10 +41,12 @@ module _ (views : List Known) (id : ℕ) (v w : Known) (at : get_elem? views id 
   was : (j : ℕ) (u : Known) → get_elem? (set views id w) j ≡ some u → Was j u
   was j u e =
       ⊎_elim
-      (λ (t : (j ≡ id) × (w ≡ u)).
-      (v, subst (λ (k : ℕ). get_elem? views k ≡ some v) (sym t.0) at,
-      sym alike.role ∙ ap (λ (x : Known). x.role) t.1,
-      sym alike.me ∙ ap (λ (x : Known). x.me) t.1))
+      (λ (t : (j ≡ id) × (w ≡ u)). (
+        v,
+        subst (λ (k : ℕ). get_elem? views k ≡ some v) (sym t.0) at,
+        sym alike.role ∙ ap (λ (x : Known). x.role) t.1,
+        sym alike.me ∙ ap (λ (x : Known). x.me) t.1,
+      ))
       (λ (t : (j ≢ id) × (get_elem? views j ≡ some u)). (u, t.1, refl, refl))
       (at_set views id j w u e)
 
@@ -67,7 +69,7 @@ module _ (views : List Known) (id : ℕ) (v w : Known) (at : get_elem? views id 
     nodes_is = h.nodes_is;
     opening_is = h.opening_is;
     earlier = λ k x e r. let a = was k x e in
-    subst (λ (i : ℕ). i < u.me) a.3 (h.earlier k a.0 a.1 (a.2 ∙ r));
+        subst (λ (i : ℕ). i < u.me) a.3 (h.earlier k a.0 a.1 (a.2 ∙ r));
     alone = λ k x e r. let a = was k x e in h.alone k a.0 a.1 (a.2 ∙ r);
     still = λ i late. let a = h.still i late in let b = same i late in (b.1 ∙ a.0, b.0 ∙ a.1);
   }
@@ -85,21 +87,25 @@ module _ (views : List Known) (id : ℕ) (v w : Known) (at : get_elem? views id 
       dite (ℕ_discrete j id)
       (λ e.
       let is : v ≡ c.0 =
-      some-injective v c.0 (sym at ∙ subst (λ (k : ℕ). get_elem? views k ≡ some c.0) e c.1) in
-      (w, subst (λ (k : ℕ). get_elem? (set views id w) k ≡ some w) (sym e) (set-at views id w v at),
-      alike.role ∙ ap (λ (x : Known). x.role) is ∙ c.2,
-      alike.me ∙ ap (λ (x : Known). x.me) is ∙ c.3,
-      like.fills ∙ ap (λ (x : Known). has m x.filling) is ∙ c.4))
+      some-injective v c.0 (sym at ∙ subst (λ (k : ℕ). get_elem? views k ≡ some c.0) e c.1) in (
+        w,
+        subst (λ (k : ℕ). get_elem? (set views id w) k ≡ some w) (sym e) (set-at views id w v at),
+        alike.role ∙ ap (λ (x : Known). x.role) is ∙ c.2,
+        alike.me ∙ ap (λ (x : Known). x.me) is ∙ c.3,
+        like.fills ∙ ap (λ (x : Known). has m x.filling) is ∙ c.4,
+      ))
       (λ apart. (c.0, set_else views id j w apart ∙ c.1, c.2, c.3, c.4))
   content-stays bytes n old new homes homes' m net home like (emptying_by j f) c =
       dite (ℕ_discrete j id)
       (λ e.
       let is : v ≡ c.0 =
-      some-injective v c.0 (sym at ∙ subst (λ (k : ℕ). get_elem? views k ≡ some c.0) e c.1) in
-      (w, subst (λ (k : ℕ). get_elem? (set views id w) k ≡ some w) (sym e) (set-at views id w v at),
-      alike.role ∙ ap (λ (x : Known). x.role) is ∙ c.2,
-      alike.me ∙ ap (λ (x : Known). x.me) is ∙ c.3,
-      like.empties ∙ ap (λ (x : Known). found m x.emptying) is ∙ c.4))
+      some-injective v c.0 (sym at ∙ subst (λ (k : ℕ). get_elem? views k ≡ some c.0) e c.1) in (
+        w,
+        subst (λ (k : ℕ). get_elem? (set views id w) k ≡ some w) (sym e) (set-at views id w v at),
+        alike.role ∙ ap (λ (x : Known). x.role) is ∙ c.2,
+        alike.me ∙ ap (λ (x : Known). x.me) is ∙ c.3,
+        like.empties ∙ ap (λ (x : Known). found m x.emptying) is ∙ c.4,
+      ))
       (λ apart. (c.0, set_else views id j w apart ∙ c.1, c.2, c.3, c.4))
 
 node-stays : (opening : World) (log log' : List Step) (boxes boxes' : ℕ → Box) (j : ℕ) (u : Known)
@@ -188,15 +194,15 @@ module _ {S : Type 0} (bytes : S → List ℕ) (opening : World) where
       fits = t.fits;
       each_box = t.each;
       each_seat = λ j u e.
-      ⊎_elim
-      (λ (is : (j ≡ id) × (w ≡ u)).
-      subst
-      (λ (x : ℕ × Known).
-      SeatOk opening t.log (slice_index words (n * n + 1)) (set s.views id w) t.boxes x.0 x.1 x.1.role)
-      (λ k. (sym is.0 k, is.1 k)) t.mine)
-      (λ (is : (j ≢ id) × (get_elem? s.views j ≡ some u)).
-      theirs-stay j u is.0 is.1 u.role refl (h.each_seat j u is.1))
-      (at_set s.views id j w u e);
+          ⊎_elim
+          (λ (is : (j ≡ id) × (w ≡ u)).
+          subst
+          (λ (x : ℕ × Known).
+          SeatOk opening t.log (slice_index words (n * n + 1)) (set s.views id w) t.boxes x.0 x.1 x.1.role)
+          (λ k. (sym is.0 k, is.1 k)) t.mine)
+          (λ (is : (j ≢ id) × (get_elem? s.views j ≡ some u)).
+          theirs-stay j u is.0 is.1 u.role refl (h.each_seat j u is.1))
+          (at_set s.views id j w u e);
       one = one-stays s.views id v w t.at t.alike h.one;
     }
 
@@ -212,7 +218,7 @@ module _ {S : Type 0} (bytes : S → List ℕ) (opening : World) where
       record {
         shows = word ∙ ok.shows;
         content = content-stays s.views id v w at alike bytes n (run opening h.log) (run opening log)
-        s.homes homes m ext.net home like (h.boxes m) ok.content;
+            s.homes homes m ext.net home like (h.boxes m) ok.content;
       }
 
   -- ---- A step that moves a mailbox
@@ -256,16 +262,16 @@ module _ {S : Type 0} (bytes : S → List ℕ) (opening : World) where
       opening_is = t.opens ∙ was-node.opening_is;
       pair_is = ap (pair_at (run opening h.log)) t.alike.me ∙ was-node.pair_is ∙ sym t.pair;
       events_are = t.events ∙ was-node.events_are
-      ∙ ap (λ (i : ℕ). events_of i h.log) (sym t.alike.me);
+          ∙ ap (λ (i : ℕ). events_of i h.log) (sym t.alike.me);
       released = t.taken;
       fills = λ k. at_put h.boxes m b
-      (λ i y. has i w.filling ≡ true → (i < n * n) × (y ≡ filling_by id)) k
-      (λ e. (t.below, t.fills e))
-      (λ apart e. was-node.fills k (sym (t.like k apart).fills ∙ e));
+          (λ i y. has i w.filling ≡ true → (i < n * n) × (y ≡ filling_by id)) k
+          (λ e. (t.below, t.fills e))
+          (λ apart e. was-node.fills k (sym (t.like k apart).fills ∙ e));
       empties = λ k f. at_put h.boxes m b
-      (λ i y. found i w.emptying ≡ Some f → (i < n * n) × (y ≡ emptying_by id f)) k
-      (λ e. (t.below, t.empties f e))
-      (λ apart e. was-node.empties k f (sym (t.like k apart).empties ∙ e));
+          (λ i y. found i w.emptying ≡ Some f → (i < n * n) × (y ≡ emptying_by id f)) k
+          (λ e. (t.below, t.empties f e))
+          (λ apart e. was-node.empties k f (sym (t.like k apart).empties ∙ e));
     }
 
     pub moved : Holds bytes opening
@@ -291,22 +297,22 @@ module _ {S : Type 0} (bytes : S → List ℕ) (opening : World) where
           fits = subst (λ (z : ℕ). z ≤ GREATEST_CYCLE) (sym board) h.fits;
           higher = subst (λ (z : ℕ). get_or s.words (n * n + 1) 0 ≤ z) (sym board) (le_refl _);
           each = λ k k_below. at_put h.boxes m b
-          (λ i y. i < n * n
-          → BoxOk bytes n (run opening h.log) (set s.words m x) homes (set s.views id w) i y) k
-          (λ _. record {
-            shows = get_or-set_same s.words m x 0 (omega arith) ∙ t.shows;
-            content = t.content;
-          })
-          (λ apart _. box-stays s h id v w h.log (set s.words m x) homes k k_below t.at t.alike
-          (same-log opening h.log v) (other k apart) (t.home k apart) (t.like k apart))
-          k_below;
+              (λ i y. i < n * n
+              → BoxOk bytes n (run opening h.log) (set s.words m x) homes (set s.views id w) i y) k
+              (λ _. record {
+                shows = get_or-set_same s.words m x 0 (omega arith) ∙ t.shows;
+                content = t.content;
+              })
+              (λ apart _. box-stays s h id v w h.log (set s.words m x) homes k k_below t.at t.alike
+              (same-log opening h.log v) (other k apart) (t.home k apart) (t.like k apart))
+              k_below;
           theirs = λ j apart k held.
-          put-other h.boxes m b k
-          (λ e. t.free j apart (subst (λ (i : ℕ). holder (h.boxes i) ≡ suc j) e held));
+              put-other h.boxes m b k
+              (λ e. t.free j apart (subst (λ (i : ℕ). holder (h.boxes i) ≡ suc j) e held));
           mine = subst
-          (SeatOk opening h.log (slice_index (set s.words m x) (n * n + 1)) (set s.views id w)
-          (put h.boxes m b) id w)
-          (sym (t.alike.role ∙ t.role)) moved-node;
+              (SeatOk opening h.log (slice_index (set s.words m x) (n * n + 1)) (set s.views id w)
+              (put h.boxes m b) id w)
+              (sym (t.alike.role ∙ t.role)) moved-node;
           no_dealer = λ d. (let never : ◌≡◌ {A = Role} node dealer = sym t.role ∙ d in absurd cc);
         })
 
@@ -347,8 +353,8 @@ module _ {S : Type 0} (bytes : S → List ℕ) (opening : World) where
         fits = t.fits;
         higher = t.higher;
         each = λ m below. box-stays s h id v w log words s.homes m below t.at t.alike t.extends
-        (t.boxes m below) refl
-        (record { fills = ap (has m) t.filling; empties = ap (found m) t.emptying });
+            (t.boxes m below) refl
+            (record { fills = ap (has m) t.filling; empties = ap (found m) t.emptying });
         theirs = λ j apart m held. refl;
         mine = t.mine;
         no_dealer = t.no_dealer;

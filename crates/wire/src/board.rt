@@ -33,7 +33,9 @@ impl Wire {
         ensures cycle { (raised_cycle result ≡ cycle.number) × IsRaisedOf self.now result }
     {
         let board = self.nodes * self.nodes + 1;
-        self.table.shared.fetch_max::<Raises>(&mut seat.seat, board, cycle.number);
+        self.table
+            .shared
+            .fetch_max::<Raises>(&mut seat.seat, board, cycle.number);
         Raised {
             cycle,
             of: Snapshot::of(&seat.seat),

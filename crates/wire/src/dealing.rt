@@ -77,12 +77,7 @@ impl Wire {
         Ok(seats)
     }
 
-    fn next_seat(
-        &self,
-        dealer: &mut Seat<Vec<u8>, View>,
-        node: usize,
-        held: Vec<usize>,
-    ) -> NodeSeat
+    fn next_seat(&self, dealer: &mut Seat<Vec<u8>, View>, node: usize, held: Vec<usize>) -> NodeSeat
         requires dealer { IsDealer self.now node dealer.old }
         requires node { node < width self.now }
         requires held { (held.items ≡ []) × (width self.now * width self.now ≤ vec_capacity held) }
@@ -98,11 +93,7 @@ impl Wire {
         }
     }
 
-    fn watches(
-        &self,
-        dealer: &mut Seat<Vec<u8>, View>,
-        count: u8,
-    ) -> Result<Vec<Watch>, Refusal>
+    fn watches(&self, dealer: &mut Seat<Vec<u8>, View>, count: u8) -> Result<Vec<Watch>, Refusal>
         requires { IsDealer self.now (width self.now) dealer.old }
         ensures count { IfOk result (λ v. length v.items ≡ count) }
         ensures each { IfOk result (λ v. (k : ℕ) (x : Watch) → slice_get v.items k ≡ Some x

@@ -32,6 +32,8 @@ impl Wire {
         ensures entered { (count : ℕ) × Enters H.event (known seat.old) count (known seat.new) }
     {
         let count = self.nodes * self.nodes;
-        self.table.shared.fetch_add::<Ticks<H>>(&mut seat.seat, count, 1);
+        self.table
+            .shared
+            .fetch_add::<Ticks<H>>(&mut seat.seat, count, 1);
     }
 }

@@ -42,8 +42,11 @@ use std::snapshot::Snapshot;
 
 // The word of a mailbox. Only one that is empty is claimed, and only a full one is taken.
 const EMPTY: u64 = 0;
+
 const FULL: u64 = 1;
+
 const EMPTYING: u64 = 2;
+
 const FILLING: u64 = 3;
 
 impl Wire {

@@ -24,7 +24,8 @@ use std::thread::Threads;
 const NOTHING: [u8; 11] = [0x41, 0, 1, 0, 0, 0, 0, 0, 0, 0, 0];
 
 // A wire between two new nodes, their seats, and a watch.
-struct Made {
+#[derive(Drop)]
+struct Joined {
     wire: Wire,
     first: NodeSeat,
     second: NodeSeat,
@@ -76,7 +77,7 @@ fn raise(wire: &Wire, seat: &mut NodeSeat) -> Raised
     wire.raise(seat, Cycle { number: 0 })
 }
 
-fn made(rt: &impl Abort, alloc: Global) -> Result<Made, Refusal> {
+fn two_nodes(rt: &impl Abort, alloc: Global) -> Result<Joined, Refusal> {
     let shape = Shape::new(2, 1, 1).expect(rt, "the shape is within the limits");
     let nodes = [
         Node::new(alloc, shape, NodeId { number: 0 })?,
@@ -86,7 +87,7 @@ fn made(rt: &impl Abort, alloc: Global) -> Result<Made, Refusal> {
     let first = seats.remove(0);
     let second = seats.remove(0);
     let watch = watches.remove(0);
-    Ok(Made {
+    Ok(Joined {
         wire,
         first,
         second,
@@ -96,18 +97,79 @@ fn made(rt: &impl Abort, alloc: Global) -> Result<Made, Refusal> {
 
 #[test]
 fn frames_move_on_one_thread(rt: HostRuntime) -> Result<(), Refusal> {
-    let mut made = made(&rt, rt.alloc())?;
-    assert!(rt; receive(&made.wire, &mut made.second).is_none());
-    assert!(rt; send(&made.wire, rt.alloc(), &mut made.first) == Ok(true));
-    assert!(rt; send(&made.wire, rt.alloc(), &mut made.first) == Ok(false));
-    match receive(&made.wire, &mut made.second) {
+    let Joined {
+        wire,
+        mut first,
+        mut second,
+        mut watch,
+    } = two_nodes(&rt, rt.alloc())?;
+    assert!(rt; receive(&wire, &mut second).is_none());
+    assert!(rt; send(&wire, rt.alloc(), &mut first) == Ok(true));
+    assert!(rt; send(&wire, rt.alloc(), &mut first) == Ok(false));
+    match receive(&wire, &mut second) {
         Some(bytes) => assert!(rt; bytes.as_slice() == &NOTHING[..]),
         None => assert!(rt; false),
     }
-    assert!(rt; receive(&made.wire, &mut made.second).is_none());
-    save(&made.wire, &mut made.first);
-    let raised = raise(&made.wire, &mut made.first);
-    made.watch.hear(&raised);
-    assert_eq!(rt; made.wire.look(&mut made.watch).number, 0);
+    assert!(rt; receive(&wire, &mut second).is_none());
+    save(&wire, &mut first);
+    let raised = raise(&wire, &mut first);
+    watch.hear(&raised);
+    assert_eq!(rt; wire.look(&mut watch).number, 0);
+    Ok(())
+}
+
+// How many frames node 0 sent, in so many tries.
+fn send_often(wire: &Wire, alloc: Global, seat: &mut NodeSeat, tries: u32) -> u64
+    requires { IsSeatOf wire.now seat.old × (width wire.now ≡ 2) × (seat_node seat.old ≡ 0) }
+{
+    let mut sent = 0u64;
+    for _ in 0..tries {
+        if send(wire, alloc, seat) == Ok(true) {
+            sent = sent.saturating_add(1);
+        }
+    }
+    sent
+}
+
+// How many frames node 1 took, in so many tries.
+fn receive_often(wire: &Wire, seat: &mut NodeSeat, tries: u32) -> u64
+    requires { IsSeatOf wire.now seat.old × (width wire.now ≡ 2) × (seat_node seat.old ≡ 1) }
+{
+    let mut taken = 0u64;
+    for _ in 0..tries {
+        if receive(wire, seat).is_some() {
+            taken = taken.saturating_add(1);
+        }
+    }
+    taken
+}
+
+// Both at once, in a thread each.
+fn exchange<R: Threads + Sync>(rt: &R, alloc: Global, joined: Joined) -> (u64, u64) {
+    let Joined {
+        wire,
+        mut first,
+        mut second,
+        watch: _,
+    } = joined;
+    let shared = &wire;
+    let one = &mut first;
+    let other = &mut second;
+    thread::join(
+        rt,
+        move ||
+            requires { IsSeatOf shared.now one.now × (width shared.now ≡ 2) × (seat_node one.now ≡ 0) }
+        { send_often(shared, alloc, one, 2000) },
+        move ||
+            requires { IsSeatOf shared.now other.now × (width shared.now ≡ 2) × (seat_node other.now ≡ 1) }
+        { receive_often(shared, other, 2000) },
+    )
+}
+
+#[test]
+fn two_threads_move_frames(rt: HostRuntime) -> Result<(), Refusal> {
+    let joined = two_nodes(&rt, rt.alloc())?;
+    let (sent, taken) = exchange(&rt, rt.alloc(), joined);
+    assert!(rt; sent >= 1 && taken <= sent && sent <= taken.saturating_add(1));
     Ok(())
 }

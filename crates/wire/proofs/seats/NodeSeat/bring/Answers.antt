@@ -6,9 +6,9 @@ use Rattle.wire.proofs.seats.NodeSeat.bring.Goals as goal
 pub invariant_of-self : goal.invariant_of-self
 invariant_of-self c = record {
   sits = subst₂ (Sits (λ v. v.items) c.loop-self.self.node c.loop-self.self.nodes)
-  (sym c.rotate_left.ensures.items) (sym c.turn.ensures.2)
-  (sits-turned _ _ _ c.loop-self.self.held.items c.loop-self.self.seat.me.0
-  c.loop-self.self.seat.me.1 c.loop-self.self.sits);
+      (sym c.rotate_left.ensures.items) (sym c.turn.ensures.2)
+      (sits-turned _ _ _ c.loop-self.self.held.items c.loop-self.self.seat.me.0
+      c.loop-self.self.seat.me.1 c.loop-self.self.sits);
   room = search rules;
 }
 

@@ -14,7 +14,7 @@ compare_exchange-found-requires c =
       c.requires.wire.0,
       in-words _ _ w.nodes _ box.below w.opening w.words,
       claims_allowed _ w.table.shared.key.world _ s.seat.id _ s.seat.me box.below
-      (a-node _ s.sits.role) (sym s.sits.me_is ∙ box.sender),
+          (a-node _ s.sits.role) (sym s.sits.me_is ∙ box.sender),
     )
 
 pub hold-requires : goal.hold-requires

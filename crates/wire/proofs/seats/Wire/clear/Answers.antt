@@ -25,12 +25,12 @@ store-requires c =
       now.0 ∙ c.bring.ensures.same.0 ∙ c.requires.wire.0,
       in-words _ _ w.nodes _ box.below w.opening w.words,
       clears_allowed _ w.table.shared.key.world _ c.exchange-bytes.new.seat.id _
-      c.exchange-bytes.new.seat.me c.new.result c.requires.taken.2.0
-      (ap (λ (v : Known). v.role) view_is ∙ a-node _ s.sits.role)
-      (ap (λ (v : Known). found at v.emptying) view_is
-      ∙ ap (λ (k : ℕ). found (k * s.nodes + s.node) s.seat.me.0.emptying) same
-      ∙ c.requires.taken.2.1)
-      (front ∙ (λ i. (at, c.new.result) ∷ sym (ap rest front) i)),
+          c.exchange-bytes.new.seat.me c.new.result c.requires.taken.2.0
+          (ap (λ (v : Known). v.role) view_is ∙ a-node _ s.sits.role)
+          (ap (λ (v : Known). found at v.emptying) view_is
+          ∙ ap (λ (k : ℕ). found (k * s.nodes + s.node) s.seat.me.0.emptying) same
+          ∙ c.requires.taken.2.1)
+          (front ∙ (λ i. (at, c.new.result) ∷ sym (ap rest front) i)),
     )
 
 pub invariant_of-seat : goal.invariant_of-seat
@@ -45,13 +45,13 @@ invariant_of-seat c =
     b.sits in
     record {
       sits = subst₂ (Sits (λ v. v.items) b.node b.nodes)
-      (ap (drop 1) sits.order ∙ sym c.remove.ensures.items)
-      (λ i. (
-        (sym (told.0 ∙ ap (λ m. clears at m.0) now.3)) i,
-        (sym (told.1 ∙ ap (λ m. rest m.1) now.3)) i,
-      ))
-      (sits-cleared _ _ _ b.held.items b.seat.me.0 (rest b.seat.me.1) at front.0 sits
-      (sym (ap (λ m. has at m.0.filling) now.3) ∙ told.2));
+          (ap (drop 1) sits.order ∙ sym c.remove.ensures.items)
+          (λ i. (
+            (sym (told.0 ∙ ap (λ m. clears at m.0) now.3)) i,
+            (sym (told.1 ∙ ap (λ m. rest m.1) now.3)) i,
+          ))
+          (sits-cleared _ _ _ b.held.items b.seat.me.0 (rest b.seat.me.1) at front.0 sits
+          (sym (ap (λ m. has at m.0.filling) now.3) ∙ told.2));
       room = search rules;
     }
 

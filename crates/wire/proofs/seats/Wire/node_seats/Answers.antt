@@ -10,6 +10,6 @@ loop-node-preserved c =
       search rules,
       c.next_seat.ensures.dealer,
       (λ k s e. each-push (IsSeated c.args.self.now) c.loop-node.seats.items c.next_seat.result
-      c.loop-node.node i.0 i.3 c.next_seat.ensures.seat k s
-      (ap (λ l. slice_get l k) (sym c.push_reserved.ensures.items) ∙ e)),
+          c.loop-node.node i.0 i.3 c.next_seat.ensures.seat k s
+          (ap (λ l. slice_get l k) (sym c.push_reserved.ensures.items) ∙ e)),
     )

@@ -25,13 +25,13 @@ store-requires c =
       now.0 ∙ c.bring.ensures.same.0 ∙ c.requires.wire.0,
       in-words _ _ w.nodes _ box.below w.opening w.words,
       posts_allowed _ w.table.shared.key.world _ c.exchange-emptied.new.seat.id _
-      c.exchange-emptied.new.seat.me c.args.bytes
-      (ap (λ (v : Known). v.role) view_is ∙ a-node _ s.sits.role)
-      (ap (λ (v : Known). has at v.filling) view_is
-      ∙ ap (λ (k : ℕ). has (s.node * s.nodes + k) s.seat.me.0.filling) same ∙ c.requires.claim.2)
-      (front ∙ (λ i. (at, c.args.bytes) ∷ sym (ap rest front) i))
-      (subst₂ (λ (k : ℕ) (v : Known). Owns (s.node * s.nodes + k) v c.args.bytes.items) (sym same)
-      (sym view_is) c.requires.released),
+          c.exchange-emptied.new.seat.me c.args.bytes
+          (ap (λ (v : Known). v.role) view_is ∙ a-node _ s.sits.role)
+          (ap (λ (v : Known). has at v.filling) view_is
+          ∙ ap (λ (k : ℕ). has (s.node * s.nodes + k) s.seat.me.0.filling) same ∙ c.requires.claim.2)
+          (front ∙ (λ i. (at, c.args.bytes) ∷ sym (ap rest front) i))
+          (subst₂ (λ (k : ℕ) (v : Known). Owns (s.node * s.nodes + k) v c.args.bytes.items) (sym same)
+          (sym view_is) c.requires.released),
     )
 
 pub invariant_of-seat : goal.invariant_of-seat
@@ -46,12 +46,12 @@ invariant_of-seat c =
     b.sits in
     record {
       sits = subst₂ (Sits (λ v. v.items) b.node b.nodes)
-      (ap (drop 1) sits.order ∙ sym c.remove.ensures.items)
-      (λ i. (
-        (sym (told.0 ∙ ap (λ m. posts at m.0) now.3)) i,
-        (sym (told.1 ∙ ap (λ m. rest m.1) now.3)) i,
-      ))
-      (sits-posted _ _ _ b.held.items b.seat.me.0 (rest b.seat.me.1) at front.0 sits
-      (sym (ap (λ m. found at m.0.emptying) now.3) ∙ told.2));
+          (ap (drop 1) sits.order ∙ sym c.remove.ensures.items)
+          (λ i. (
+            (sym (told.0 ∙ ap (λ m. posts at m.0) now.3)) i,
+            (sym (told.1 ∙ ap (λ m. rest m.1) now.3)) i,
+          ))
+          (sits-posted _ _ _ b.held.items b.seat.me.0 (rest b.seat.me.1) at front.0 sits
+          (sym (ap (λ m. found at m.0.emptying) now.3) ∙ told.2));
       room = search rules;
     }

@@ -16,7 +16,7 @@ compare_exchange-found-requires c =
       c.requires.wire.0,
       in-words _ _ w.nodes _ box.below w.opening w.words,
       takes_allowed _ w.table.shared.key.world _ s.seat.id _ s.seat.me box.below
-      (a-node _ s.sits.role) (sym s.sits.me_is ∙ box.receiver),
+          (a-node _ s.sits.role) (sym s.sits.me_is ∙ box.receiver),
     )
 
 pub hold-requires : goal.hold-requires
@@ -41,9 +41,9 @@ invariant_of-seat-2 c =
     let told = c.compare_exchange-found.ensures.2.0 c.if-found-ne-FULL.false in
     record {
       sits = subst₂ (Sits (λ v. v.items) s.node s.nodes) (sym c.hold.ensures.items)
-      (λ i. (sym told.1.0 i, sym told.1.4.1 i))
-      (sits-took _ _ _ s.held.items s.seat.me.0 s.seat.me.1 at told.1.4.0 told.0 s.sits told.1.4.3
-      box.below told.1.4.2.1);
+          (λ i. (sym told.1.0 i, sym told.1.4.1 i))
+          (sits-took _ _ _ s.held.items s.seat.me.0 s.seat.me.1 at told.1.4.0 told.0 s.sits told.1.4.3
+          box.below told.1.4.2.1);
       room = search rules;
     }
 
