@@ -57,7 +57,8 @@ Happens v (step.Hand from to) q = ⊥
 
 -- ---- The rule, read at a step
 
--- The event is one of the space, and the next one of some list of events that leads to the seat's pair.
+-- The event is one of the space, and the next one of some list of events that leads to the seat's
+-- pair.
 pub record Enters (s : model.Step) (v : Known) (count : ℕ) (w : Known) : Type 0 where
   pub log : List model.Step
   pub events : AreEvents v.opening (log ++ s ∷ [])

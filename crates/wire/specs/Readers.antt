@@ -94,8 +94,8 @@ IsHeardOf x r = r.of.value.table_id ≡ x.seat.table_id
 
 -- ---- Making a wire
 
--- The node is one that stands where the state does, and all that it holds is saved: no message waits
--- to be released, and it acknowledges all that it took in.
+-- The node is one that stands where the state does, and all that it holds is saved: no message
+-- waits to be released, and it acknowledges all that it took in.
 pub record IsSavedAs (n : NodeView) (s : NodeState) : Type 0 where
   pub shows : Shows n s
   pub counted : (j : ℕ) → (link_to n j).kept ≡ length (sent_to s j)

@@ -1,6 +1,6 @@
 -- What holds of a wire between any two atomic steps ("The rule" in docs/WIRE.md).
--- The word m, for m below n * n, is that of the mailbox from node m / n to node m % n, and the slot m
--- holds its bytes. Then come the count word and the board.
+-- The word m, for m below n * n, is that of the mailbox from node m / n to node m % n, and the slot
+-- m holds its bytes. Then come the count word and the board.
 use Rattle.std.specs.Prelude.{◌≡◌, ◌≢◌, ℕ, ◌+◌, ◌*◌, ◌/◌, ◌%◌, ◌^◌, ◌<◌, ◌≤◌, Bool, true, cond, ◌==◌, List, [], ◌∷◌, length, slice_index, slice_get, Option, Some}
 use mathlib.Core.Option as maybe
 use mathlib.Core.Option.{some}
@@ -70,13 +70,14 @@ face (full f) = 1
 face (emptying_by j f) = 2
 face (filling_by j) = 3
 
-module _ {S : Type 0} (bytes : S → List ℕ) (n : ℕ) (w : World) (homes : List (maybe.Option S)) (views : List Known) (m : ℕ) where
+module _ {S : Type 0} (bytes : S → List ℕ) (n : ℕ) (w : World)
+    (homes : List (maybe.Option S)) (views : List Known) (m : ℕ) where
   -- the frame's bytes lie in the slot
   abbrev pub Holding : Plain → Type 0
   Holding f = (x : S) × (get_elem? homes m ≡ some (some x)) × Spells f (bytes x)
 
-  -- The slot is at home while the mailbox is empty or full; otherwise the seat that fills or empties
-  -- it has it, and says so.
+  -- The slot is at home while the mailbox is empty or full; otherwise the seat that fills or
+  -- empties it has it, and says so.
   abbrev pub Content : Box → Type 0
   Content empty = (x : S) × (get_elem? homes m ≡ some (some x))
   Content (full f) = Holding f × IsInNet w f × (sender f ≡ m / n) × (receiver f ≡ m % n)
@@ -87,12 +88,15 @@ module _ {S : Type 0} (bytes : S → List ℕ) (n : ℕ) (w : World) (homes : Li
       (v : Known) × (get_elem? views j ≡ some v) × (v.role ≡ node) × (v.me ≡ m % n)
       × (found m v.emptying ≡ Some f)
 
-pub record BoxOk {S : Type 0} (bytes : S → List ℕ) (n : ℕ) (w : World) (words : List ℕ) (homes : List (maybe.Option S)) (views : List Known) (m : ℕ) (b : Box) : Type 0 where
+pub record BoxOk {S : Type 0} (bytes : S → List ℕ) (n : ℕ) (w : World)
+    (words : List ℕ) (homes : List (maybe.Option S)) (views : List Known) (m : ℕ) (b : Box) : Type 0
+    where
   pub shows : slice_index words m ≡ face b
   pub content : Content bytes n w homes views m b
 
 -- a node's seat, with the index j
-pub record NodeOk (opening : World) (log : List Step) (boxes : ℕ → Box) (j : ℕ) (v : Known) : Type 0 where
+pub record NodeOk (opening : World) (log : List Step) (boxes : ℕ → Box) (j : ℕ)
+    (v : Known) : Type 0 where
   pub below : v.me < nodes_of opening
   pub nodes_is : v.nodes ≡ nodes_of opening
   pub opening_is : v.opening ≡ opening
@@ -105,7 +109,8 @@ pub record NodeOk (opening : World) (log : List Step) (boxes : ℕ → Box) (j :
       → (m < nodes_of opening * nodes_of opening) × (boxes m ≡ emptying_by j f)
 
 -- There is one dealer. The nodes that have no seat yet are as they were.
-pub record DealerOk (opening : World) (log : List Step) (views : List Known) (j : ℕ) (v : Known) : Type 0 where
+pub record DealerOk (opening : World) (log : List Step) (views : List Known) (j : ℕ)
+    (v : Known) : Type 0 where
   pub nodes_is : v.nodes ≡ nodes_of opening
   pub opening_is : v.opening ≡ opening
   pub earlier : (k : ℕ) (u : Known) → get_elem? views k ≡ some u → u.role ≡ node → u.me < v.me
@@ -122,9 +127,10 @@ SeatOk opening log board views boxes j v dealer = DealerOk opening log views j v
 SeatOk opening log board views boxes j v node = NodeOk opening log boxes j v
 SeatOk opening log board views boxes j v watch = WatchOk opening board v
 
--- Some list of events leads from the opening world to the pairs in the seats' views, each of which has
--- its node's events of the list, in order; the count word is its length.
-pub record Holds {S : Type 0} (bytes : S → List ℕ) (opening : World) (s : State S Known) : Type 0 where
+-- Some list of events leads from the opening world to the pairs in the seats' views, each of which
+-- has its node's events of the list, in order; the count word is its length.
+pub record Holds {S : Type 0} (bytes : S → List ℕ) (opening : World)
+    (s : State S Known) : Type 0 where
   pub log : List Step
   pub boxes : ℕ → Box
   pub opens : IsOpening opening
@@ -138,8 +144,8 @@ pub record Holds {S : Type 0} (bytes : S → List ℕ) (opening : World) (s : St
   pub each_box : (m : ℕ) → m < nodes_of opening * nodes_of opening
       → BoxOk bytes (nodes_of opening) (run opening log) s.words s.homes s.views m (boxes m)
   pub each_seat : (j : ℕ) (v : Known) → get_elem? s.views j ≡ some v
-      → SeatOk opening log (slice_index s.words (nodes_of opening * nodes_of opening + 1)) s.views boxes
-      j v v.role
+      → SeatOk opening log (slice_index s.words (nodes_of opening * nodes_of opening + 1)) s.views
+      boxes j v v.role
   -- a node has one seat
   pub one : (j k : ℕ) (v u : Known) → get_elem? s.views j ≡ some v → get_elem? s.views k ≡ some u
       → v.role ≡ node → u.role ≡ node → v.me ≡ u.me → j ≡ k

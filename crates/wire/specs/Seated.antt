@@ -17,7 +17,8 @@ abbrev pub boxes_of : {S : Type 0} → List (ℕ × S) → List ℕ
 boxes_of [] = []
 boxes_of (x ∷ xs) = x.0 ∷ boxes_of xs
 
-pub record Sits {S : Type 0} (bytes : S → List ℕ) (me nodes : ℕ) (held : List ℕ) (m : Me S Known) : Type 0 where
+pub record Sits {S : Type 0} (bytes : S → List ℕ) (me nodes : ℕ) (held : List ℕ)
+    (m : Me S Known) : Type 0 where
   pub role : is_node m.0.role ≡ true
   pub me_is : me ≡ m.0.me
   pub nodes_is : nodes ≡ m.0.nodes

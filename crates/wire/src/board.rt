@@ -22,8 +22,8 @@ use ids::Cycle;
 use std::snapshot::Snapshot;
 
 impl Wire {
-    /// Raises the board to a cycle, where it shows an earlier one; one exchange for the greater. The
-    /// seat is node 0's, whose saved state counts the cycle as ended.
+    /// Raises the board to a cycle, where it shows an earlier one; one exchange for the greater.
+    /// The seat is node 0's, whose saved state counts the cycle as ended.
     pub fn raise(&self, seat: &mut NodeSeat, cycle: Cycle) -> Raised
         requires wire { IsSeatOf self.now seat.old }
         requires first { seat_node seat.old ≡ 0 }
@@ -42,8 +42,8 @@ impl Wire {
         }
     }
 
-    /// The last cycle that the watch knows node 0 to have ended: the one on the board, or a later one
-    /// that the watch was told; one load. It is never earlier than what the watch saw before.
+    /// The last cycle that the watch knows node 0 to have ended: the one on the board, or a later
+    /// one that the watch was told; one load. It is never earlier than what the watch saw before.
     pub fn look(&self, watch: &mut Watch) -> Cycle
         requires wire { IsWatchOf self.now watch.old }
         ensures same { IsSameWatch watch.old watch.new }

@@ -38,8 +38,8 @@ use std::alloc::{AllocError, Global};
 
 impl Wire {
     /// A wire between the nodes of a shape, the seat of each, in order, and this many watches: all
-    /// mailboxes are empty, no event has come, and the board shows no cycle. All that the nodes hold is
-    /// saved. `Memory` where a growth was refused; nothing is left then.
+    /// mailboxes are empty, no event has come, and the board shows no cycle. All that the nodes
+    /// hold is saved. `Memory` where a growth was refused; nothing is left then.
     pub fn new(
         alloc: Global,
         shape: Shape,

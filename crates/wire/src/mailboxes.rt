@@ -75,8 +75,8 @@ impl Wire {
         })
     }
 
-    /// Fills the mailbox that was claimed with the bytes of a frame, and spends the claim; one store.
-    /// The frame is one to the mailbox's receiver that the node's saved state releases.
+    /// Fills the mailbox that was claimed with the bytes of a frame, and spends the claim; one
+    /// store. The frame is one to the mailbox's receiver that the node's saved state releases.
     pub fn post(&self, seat: &mut NodeSeat, claim: Claim, bytes: Vec<u8>)
         requires wire { IsSeatOf self.now seat.old }
         requires claim { IsClaimOf seat.old claim × (claim_to claim < width self.now)
@@ -163,7 +163,8 @@ impl NodeSeat {
         requires { has at self.old.held.items ≡ true }
         ensures same { IsSame self.old self.new }
         ensures known { known self.new ≡ known self.old }
-        ensures front { (x : Vec ℕ Global) × (self.new.seat.me.1 ≡ (at, x) ∷ rest self.new.seat.me.1) }
+        ensures front { (x : Vec ℕ Global)
+            × (self.new.seat.me.1 ≡ (at, x) ∷ rest self.new.seat.me.1) }
     {
         while self.held[0] != at {
             self.seat.turn();

@@ -33,8 +33,8 @@ pub struct NodeSeat {
     pub(crate) seat: Seat<Vec<u8>, View>,
     pub(crate) node: usize,
     pub(crate) nodes: usize,
-    // The mailboxes that it fills or empties, in the order of the slots that are out with the seat. It
-    // has room for all.
+    // The mailboxes that it fills or empties, in the order of the slots that are out with the seat.
+    // It has room for all.
     pub(crate) held: Vec<usize>,
     ghost sits: { Sits (λ v. v.items) node nodes held.items seat.me },
     ghost room: { nodes * nodes ≤ vec_capacity held },
@@ -48,7 +48,8 @@ pub struct Watch {
     ghost watches: { IsWatching seat.me.0.role },
 }
 
-/// A mailbox that its holder's seat has claimed, to be filled by [`Wire::post`]. It can't be dropped.
+/// A mailbox that its holder's seat has claimed, to be filled by [`Wire::post`]. It can't be
+/// dropped.
 pub struct Claim {
     pub(crate) to: u8,
     pub(crate) of: Snapshot<Seat<Vec<u8>, View>>,

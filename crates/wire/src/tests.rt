@@ -158,10 +158,12 @@ fn exchange<R: Threads + Sync>(rt: &R, alloc: Global, joined: Joined) -> (u64, u
     thread::join(
         rt,
         move ||
-            requires { IsSeatOf shared.now one.now × (width shared.now ≡ 2) × (seat_node one.now ≡ 0) }
+            requires { IsSeatOf shared.now one.now × (width shared.now ≡ 2)
+                × (seat_node one.now ≡ 0) }
         { send_often(shared, alloc, one, 2000) },
         move ||
-            requires { IsSeatOf shared.now other.now × (width shared.now ≡ 2) × (seat_node other.now ≡ 1) }
+            requires { IsSeatOf shared.now other.now × (width shared.now ≡ 2)
+                × (seat_node other.now ≡ 1) }
         { receive_often(shared, other, 2000) },
     )
 }
