@@ -1,5 +1,5 @@
 -- The cycle that a node knows to have ended is never an earlier one than before.
-use Rattle.std.proofs.Common.{◌≡◌, ℕ, ◌+◌, ◌<◌, ◌≤◌, ◌==◌, ltb, ltb-true, List, [], ◌∷◌, length, map, true, Ok, refl, sym, ap, ◌∙◌, subst, ⊎_elim, option_to_list, le_refl, le_trans, arith}
+use Rattle.std.proofs.Common.{◌≡◌, ℕ, ◌+◌, ◌<◌, ◌≤◌, ◌==◌, ltb, ltb-true, List, [], ◌∷◌, length, map, true, Ok, sym, subst, ⊎_elim, option_to_list, le_refl, le_trans, arith}
 use Rattle.std.proofs.lemmas.Bool.{cases_Bool, cond_both}
 use Rattle.ids.specs.declared.names.Ref.{Ref}
 use Rattle.msg.specs.declared.body.Body.{Body}
@@ -16,7 +16,7 @@ use Rattle.model.specs.Shading.{is_open, shade_all, vouch_all, filled, roots, en
 use Rattle.model.specs.Collecting.{without_token, is_concluded, probe, begun, places_in, scan, scanned, conclude, judged, handed_on, passed, swept_slots}
 use Rattle.model.specs.Steps.{is_own, act, made, carried, taken_in, settled, take_carried, allocated, copied, dropped, loaded, stored, cleared, word_read, word_set, given, accepted, put_asked, get_asked, count_in, take_body}
 use Rattle.model.proofs.ShadingParts.{shade_all-closed, shade_all-open, vouch_all-closed, vouch_all-open}
-use Rattle.laws.proofs.StepFacts.{Delivery, given_to, act-ok, Receipt, repeated, next, receipt-cases}
+use Rattle.laws.proofs.StepFacts.{Delivery, act-ok, Receipt, repeated, next, receipt-cases}
 use Rattle.laws.proofs.Onward.{Onward}
 
 -- a later state of a node that knows no end of a cycle after its own
@@ -79,7 +79,8 @@ body-older : (from stamp : ℕ) (b : Body) (p : LocalState)
 unfolding take_body append
 body-older from stamp (body.Mark target) p = shade-older (at_rest p) (target ∷ [])
 body-older from stamp (body.Get target place label) p =
-    let w : Work = shade_all (at_rest p) (option_to_list (place_of (object_at p.heap target) place)) in
+    let w : Work =
+    shade_all (at_rest p) (option_to_list (place_of (object_at p.heap target) place)) in
     then-older p w.local (take_body from stamp (body.Get target place label) p).local
     (shade-older (at_rest p) (option_to_list (place_of (object_at p.heap target) place)))
     (λ h. (le_refl _, h))

@@ -1,18 +1,16 @@
 -- Raising a number on the board, and looking at it, keep the rule.
-use Rattle.std.proofs.Common.{◌≡◌, ◌≢◌, ℕ, zero, suc, ◌+◌, ◌*◌, ◌%◌, ◌^◌, ◌<◌, ◌≤◌, max, List, [], ◌∷◌, length, set, get_or, refl, sym, ap, ◌∙◌, subst, arith, le_refl, le_trans, length-set, get_or-set_other, get_or-set_same}
+use Rattle.std.proofs.Common.{◌≡◌, ℕ, ◌+◌, ◌*◌, ◌≤◌, max, List, length, set, refl, sym, ap, ◌∙◌, subst, arith, le_refl, length-set, get_or-set_other, get_or-set_same}
 use Rattle.std.proofs.Math.Nat.{max-le, le-max_left}
 use Rattle.std.specs.Prelude.{slice_index}
-use mathlib.Core.Option.{none, some}
-use lib.ListN.{get_elem?}
+use mathlib.Core.Option.{none}
 use lib.Seq.{set-get_or}
-use Rattle.atomic_table.specs.Table.{State, Me, step, keeps, Allows}
+use Rattle.atomic_table.specs.Table.{Me, step, keeps, Allows}
 use Rattle.ids.specs.declared.limits.TheConstants.{GREATEST_CYCLE}
-use Rattle.model.specs.declared.step.Step.{Step}
 use Rattle.model.specs.World.{World, run}
 use Rattle.wire.specs.Views.{Role, dealer, node, watch, Pair, Known, marks, pair_at}
-use Rattle.wire.specs.Rule.{nodes_of, ended_of, AreEvents, NodeOk, WatchOk, SeatOk, Holds}
+use Rattle.wire.specs.Rule.{nodes_of, ended_of, WatchOk, SeatOk, Holds}
 use Rattle.wire.specs.Plays.{HasEnded, raised, looked}
-use Rattle.wire.proofs.Stays.{Note, noted, node-of, same-log}
+use Rattle.wire.proofs.Stays.{noted, node-of, same-log}
 
 module _ {S : Type 0} (bytes : S → List ℕ) (opening : World) where
   abbrev n : ℕ
@@ -54,8 +52,8 @@ module _ {S : Type 0} (bytes : S → List ℕ) (opening : World) where
               (max-le h.fits within);
           higher = subst (λ (z : ℕ). r ≤ z) (sym same) (le-max_left r k);
           mine = subst
-              (SeatOk opening h.log (slice_index words (n * n + 1)) (set s.views id (marks k v)) h.boxes id
-              (marks k v))
+              (SeatOk opening h.log (slice_index words (n * n + 1)) (set s.views id (marks k v))
+              h.boxes id (marks k v))
               (sym role)
               (record {
                 below = ok.below;
@@ -85,7 +83,8 @@ module _ {S : Type 0} (bytes : S → List ℕ) (opening : World) where
         tt,
         subst
             (λ (ws : List ℕ).
-            Holds bytes opening (record { words = ws; homes = s.homes; views = set s.views id (marks r v) }))
+            Holds bytes opening
+            (record { words = ws; homes = s.homes; views = set s.views id (marks r v) }))
             (sym (set-get_or s.words (n * n + 1) 0))
             (noted bytes opening s h id v (marks r v) h.log s.words (record {
               at = at;
@@ -101,9 +100,11 @@ module _ {S : Type 0} (bytes : S → List ℕ) (opening : World) where
               fits = h.fits;
               higher = le_refl r;
               mine = subst
-                  (SeatOk opening h.log r (set s.views id (marks r v)) h.boxes id (marks r v)) (sym role)
+                  (SeatOk opening h.log r (set s.views id (marks r v)) h.boxes id (marks r v))
+                  (sym role)
                   (record { opening_is = ok.opening_is; loaded = le_refl r });
-              no_dealer = λ d. (let never : ◌≡◌ {A = Role} watch dealer = sym role ∙ d in absurd cc);
+              no_dealer = λ d.
+                  (let never : ◌≡◌ {A = Role} watch dealer = sym role ∙ d in absurd cc);
             })),
         (
           refl,
@@ -116,7 +117,8 @@ module _ {S : Type 0} (bytes : S → List ℕ) (opening : World) where
 
   pub raises_allowed : (slots id c k : ℕ) (me : Sat) → c ≡ n * n + 1 → me.0.role ≡ node
       → me.0.me ≡ 0 → k ≤ me.0.pair.saved.local.phases.ended → k ≤ GREATEST_CYCLE
-      → Allows (Holds bytes opening) slots id me c (λ r. max r k) (raised (step slots c k 0 none) me)
+      → Allows (Holds bytes opening) slots id me c (λ r. max r k)
+      (raised (step slots c k 0 none) me)
   raises_allowed slots id c k me is role first ended within =
       subst
       (λ (b : ℕ).
@@ -127,5 +129,6 @@ module _ {S : Type 0} (bytes : S → List ℕ) (opening : World) where
       → Allows (Holds bytes opening) slots id me c (λ r. r) (looked (step slots c 0 0 none) me)
   looks_allowed slots id c me is role =
       subst
-      (λ (b : ℕ). Allows (Holds bytes opening) slots id me b (λ r. r) (looked (step slots b 0 0 none) me))
+      (λ (b : ℕ).
+      Allows (Holds bytes opening) slots id me b (λ r. r) (looked (step slots b 0 0 none) me))
       (sym is) (look-at slots id me role)

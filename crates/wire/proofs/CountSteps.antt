@@ -1,5 +1,5 @@
 -- A tick keeps the rule: one event enters the list.
-use Rattle.std.proofs.Common.{◌≡◌, ◌≢◌, ℕ, zero, suc, ◌+◌, ◌*◌, ◌%◌, ◌^◌, ◌<◌, ◌≤◌, Bool, true, List, [], ◌∷◌, ◌++◌, length, set, get_or, Some, refl, sym, ap, ◌∙◌, subst, arith, le_refl, le_trans, length-set, length-append, get_or-set_other, get_or-set_same}
+use Rattle.std.proofs.Common.{◌≡◌, ℕ, ◌+◌, ◌*◌, ◌%◌, ◌^◌, ◌<◌, ◌≤◌, List, [], ◌∷◌, ◌++◌, length, set, get_or, refl, sym, ap, ◌∙◌, subst, arith, le_refl, le_trans, length-set, length-append, get_or-set_other, get_or-set_same}
 use Rattle.std.specs.Prelude.{slice_index}
 use mathlib.Core.Option.{none, some}
 use lib.ListN.{get_elem?}
@@ -9,10 +9,10 @@ use Rattle.model.specs.declared.step.Step.{Step}
 use Rattle.model.specs.World.{World, run, happens}
 use Rattle.model.proofs.Runs.{run-push}
 use Rattle.wire.specs.Views.{Role, dealer, node, Pair, Known, ticks, pair_at}
-use Rattle.wire.specs.Rule.{nodes_of, ended_of, events_of, AreEvents, NodeOk, SeatOk, Holds}
+use Rattle.wire.specs.Rule.{nodes_of, ended_of, AreEvents, NodeOk, SeatOk, Holds}
 use Rattle.wire.specs.Plays.{Happens, Enters, ticked}
 use Rattle.wire.proofs.Events.{count, width, net-push, ended-push, are-push, events-push_same, events-push_other, IsLocal, happens-local}
-use Rattle.wire.proofs.Stays.{Note, noted, node-of}
+use Rattle.wire.proofs.Stays.{noted, node-of}
 
 counted : (l r : ℕ) → r ≡ l % 2 ^ 64 → (r + 1) % 2 ^ 64 ≡ (l + 1) % 2 ^ 64
 counted l r is = omega arith

@@ -1,18 +1,16 @@
 -- A new wire meets the rule, and goes on to while its seats are made.
-use Rattle.std.proofs.Common.{◌≡◌, ◌≢◌, ◌⊎◌, ℕ, zero, suc, ◌+◌, ◌*◌, ◌%◌, ◌^◌, ◌<◌, ◌≤◌, Bool, true, false, List, [], ◌∷◌, ◌++◌, length, set, get_or, Option, Some, None, refl, sym, ap, ◌∙◌, subst, inl, inr, ⊎_elim, arith, zero-le, length-set, slice_get}
+use Rattle.std.proofs.Common.{◌≡◌, ◌≢◌, ◌⊎◌, ℕ, zero, suc, ◌+◌, ◌*◌, ◌<◌, ◌≤◌, true, false, List, [], ◌∷◌, ◌++◌, length, set, get_or, Option, Some, None, refl, sym, ap, ◌∙◌, subst, inl, inr, ⊎_elim, arith, zero-le}
 use Rattle.std.specs.Prelude.{slice_index}
-use mathlib.Core.Option as maybe
-use mathlib.Core.Option.{none, some, some-injective, some-ne-none}
+use mathlib.Core.Option.{some, some-injective, some-ne-none}
 use lib.ListN.{get_elem?}
 use Rattle.atomic_table.specs.Table.{State, Splits}
 use Rattle.atomic_table.specs.Table as table
 use Rattle.atomic_table.proofs.Lists.{at_set, set_else, at_longer, some_there}
 use Rattle.ids.specs.declared.limits.TheConstants.{GREATEST_CYCLE}
 use Rattle.msg.specs.Grammar.{Plain}
-use Rattle.model.specs.World.{World, run, IsInNet}
-use Rattle.wire.specs.Lists.{has, found}
-use Rattle.wire.specs.Views.{Role, dealer, node, watch, Pair, Known, pair_at, dealing, dealer_after, next_node, next_watch}
-use Rattle.wire.specs.Rule.{nodes_of, ended_of, IsOpening, Box, empty, full, filling_by, emptying_by, Content, BoxOk, NodeOk, DealerOk, WatchOk, SeatOk, Holds}
+use Rattle.model.specs.World.{World, run}
+use Rattle.wire.specs.Views.{Role, dealer, node, watch, Known, pair_at, dealing, dealer_after, next_node, next_watch}
+use Rattle.wire.specs.Rule.{nodes_of, ended_of, IsOpening, Box, empty, full, filling_by, emptying_by, Content, DealerOk, SeatOk, Holds}
 
 at-end : {A : Type 0} (l : List A) (a b : A) (j : ℕ) → get_elem? (l ++ a ∷ []) j ≡ some b
     → (get_elem? l j ≡ some b) ⊎ ((j ≡ length l) × (a ≡ b))
@@ -30,15 +28,16 @@ module _ {S : Type 0} (bytes : S → List ℕ) (opening : World) where
   Seats views left right id = set views id left ++ right ∷ []
 
   -- the dealer goes on as `left`, and the new seat is `right`
-  record Deal (s : State S Known) (h : Holds bytes opening s) (id : ℕ) (v left right : Known) : Type 0
+  record Deal (s : State S Known) (h : Holds bytes opening s) (id : ℕ)
+      (v left right : Known) : Type 0
     where
       pub at : get_elem? s.views id ≡ some v
       pub was : v.role ≡ dealer
       pub role : left.role ≡ dealer
       pub no_dealer : right.role ≢ dealer
       pub left_ok : DealerOk opening h.log (Seats s.views left right id) id left
-      pub right_ok : SeatOk opening h.log (slice_index s.words (n * n + 1)) (Seats s.views left right id)
-          h.boxes (length (set s.views id left)) right right.role
+      pub right_ok : SeatOk opening h.log (slice_index s.words (n * n + 1))
+          (Seats s.views left right id) h.boxes (length (set s.views id left)) right right.role
       pub alone : right.role ≡ node → (k : ℕ) (u : Known) → get_elem? s.views k ≡ some u
           → u.role ≡ node → u.me ≢ right.me
 
@@ -87,8 +86,8 @@ module _ {S : Type 0} (bytes : S → List ℕ) (opening : World) where
     seat-kept : (j : ℕ) (u : Known) → j ≢ id → get_elem? s.views j ≡ some u → (r : Role)
         → u.role ≡ r
         → SeatOk opening h.log (slice_index s.words (n * n + 1)) s.views h.boxes j u r
-        → SeatOk opening h.log (slice_index s.words (n * n + 1)) (Seats s.views left right id) h.boxes
-        j u r
+        → SeatOk opening h.log (slice_index s.words (n * n + 1)) (Seats s.views left right id)
+        h.boxes j u r
     seat-kept j u apart e dealer is ok =
         absurd (apart ((dealer-of s h id v t.at t.was).alone j u e is))
     seat-kept j u apart e node is ok = ok
@@ -117,8 +116,8 @@ module _ {S : Type 0} (bytes : S → List ℕ) (opening : World) where
         (at-end (set s.views id left) right x j ex)
 
     seats-kept : (j : ℕ) (u : Known) → get_elem? (Seats s.views left right id) j ≡ some u
-        → SeatOk opening h.log (slice_index s.words (n * n + 1)) (Seats s.views left right id) h.boxes
-        j u u.role
+        → SeatOk opening h.log (slice_index s.words (n * n + 1)) (Seats s.views left right id)
+        h.boxes j u u.role
     seats-kept j u e =
         ⊎_elim
         (λ a. ⊎_elim
@@ -237,7 +236,8 @@ module _ {S : Type 0} (bytes : S → List ℕ) (opening : World) where
               (λ other. ⊎_elim
               (λ (a : get_elem? s.views k ≡ some u). ok.earlier k u a r)
               (λ (is : next_watch v ≡ u).
-              (let never : ◌≡◌ {A = Role} watch node = ap (λ (x : Known). x.role) is ∙ r in absurd cc))
+              (let never : ◌≡◌ {A = Role} watch node = ap (λ (x : Known). x.role) is ∙ r in
+              absurd cc))
               other)
               (among s id v (next_watch v) k u e);
           alone = λ k u e r. ⊎_elim
@@ -245,7 +245,8 @@ module _ {S : Type 0} (bytes : S → List ℕ) (opening : World) where
               (λ other. ⊎_elim
               (λ (a : get_elem? s.views k ≡ some u). ok.alone k u a r)
               (λ (is : next_watch v ≡ u).
-              (let never : ◌≡◌ {A = Role} watch dealer = ap (λ (x : Known). x.role) is ∙ r in absurd cc))
+              (let never : ◌≡◌ {A = Role} watch dealer = ap (λ (x : Known). x.role) is ∙ r in
+              absurd cc))
               other)
               (among s id v (next_watch v) k u e);
           still = ok.still;
@@ -285,7 +286,8 @@ module _ {S : Type 0} (bytes : S → List ℕ) (opening : World) where
             (record {
               nodes_is = refl;
               opening_is = refl;
-              earlier = λ k x at r. clash refl (ap (λ (y : Known). y.role) (first-at v x k at).1 ∙ r);
+              earlier = λ k x at r.
+                  clash refl (ap (λ (y : Known). y.role) (first-at v x k at).1 ∙ r);
               alone = λ k x at r. (first-at v x k at).0;
               still = λ i late. (refl, refl);
             })

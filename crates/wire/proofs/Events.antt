@@ -1,9 +1,8 @@
--- Events of a space, one after another: what a list of them and one more is, and what an event of one
--- node leaves of the others.
-use Rattle.std.proofs.Common.{◌≡◌, ◌≢◌, ℕ, ◌+◌, ◌<◌, ◌≤◌, ◌==◌, ◌&&◌, cond, eq-eqb, ne_eqb, lt-ltb, Bool, true, false, List, [], ◌∷◌, ◌++◌, length, set, Option, Some, None, Result, Ok, Err, refl, sym, ap, ◌∙◌, subst, get_or-set_same, get_or-set_other, slice_get}
+-- Events of a space, one after another: what a list of them and one more is, and what an event of
+-- one node leaves of the others.
+use Rattle.std.proofs.Common.{◌≡◌, ◌≢◌, ℕ, ◌<◌, ◌≤◌, ◌==◌, cond, eq-eqb, ne_eqb, lt-ltb, Bool, true, false, List, [], ◌∷◌, ◌++◌, length, set, Some, Result, Ok, refl, sym, ap, ◌∙◌, subst, get_or-set_same, get_or-set_other, slice_get}
 use Rattle.std.proofs.lemmas.Bool.{and_from, cond-true, cond-false}
 use Rattle.ids.specs.declared.refusal.Refusal.{Refusal}
-use Rattle.ids.specs.declared.refusal.Refusal.TheVariants.{NoNode}
 use Rattle.msg.specs.Grammar.{Plain, data_frame}
 use Rattle.msg.specs.declared.body.Message.{Message}
 use Rattle.model.specs.declared.event.Event.{Event}
@@ -14,16 +13,16 @@ use Rattle.model.specs.declared.step.Outcome.{Outcome}
 use Rattle.model.specs.declared.step.Outcome.TheVariants as outcome
 use Rattle.model.specs.State.{NodeState, no_node, node_at}
 use Rattle.model.specs.Steps.{act, receive, is_own}
-use Rattle.model.specs.World.{World, KeepsSent, released, moved, delivery, is_node, take_step, world_after, outcome_of, happens, run, is_eventful, is_event, IsInNet}
+use Rattle.model.specs.World.{World, KeepsSent, released, moved, delivery, take_step, world_after, outcome_of, happens, run, is_eventful, is_event, IsInNet}
 use Rattle.model.proofs.Runs.{run-push}
-use Rattle.laws.proofs.Onward.{Onward, Compares, Behind, run-behind, run-saved}
-use Rattle.laws.proofs.KeepsSent.{SentMore, sent-onward, run-count}
+use Rattle.laws.proofs.Onward.{Compares, Behind, run-behind, run-saved}
+use Rattle.laws.proofs.KeepsSent.{sent-onward, run-count}
 use Rattle.laws.proofs.Cuts.{run-keeps-sent}
-use Rattle.laws.proofs.Net.{HeardMore, heard-onward, net-onward}
+use Rattle.laws.proofs.Net.{heard-onward, net-onward}
 use Rattle.wire.specs.Views.{Pair, Known, pair_at}
 use Rattle.wire.specs.Rule.{nodes_of, ended_of, IsOpening, node_of, events_of, AreEvents}
-use Rattle.wire.specs.Plays.{IsEventful, HasTaken, Happens}
-use Rattle.wire.proofs.Ages.{OlderNode, older-onward}
+use Rattle.wire.specs.Plays.{IsEventful, Happens}
+use Rattle.wire.proofs.Ages.{older-onward}
 
 -- ---- One more event
 
@@ -166,7 +165,8 @@ restarted-local w i p q below pair_is is =
     moved-local w (step.Restart i) i (node_at w.saved i) outcome.Done p q refl below pair_is
     (cond-true _ _ _ (lt-ltb i _ below)) refl
     (is
-    ∙ ap (λ (s : NodeState). record { current = s; saved = p.saved }) (sym (saved_is w i p pair_is)))
+    ∙ ap (λ (s : NodeState). record { current = s; saved = p.saved })
+    (sym (saved_is w i p pair_is)))
 
 acted-local : (w : World) (i : ℕ) (e : Event) (a : Answer) (p q : Pair) → i < length w.current
     → pair_at w i ≡ p → is_own e ≡ true → q.saved ≡ p.saved

@@ -1,8 +1,7 @@
 -- The four steps on a mailbox keep the rule.
-use Rattle.std.proofs.Common.{◌≡◌, ◌≢◌, ℕ, zero, suc, ◌+◌, ◌*◌, ◌/◌, ◌%◌, ◌^◌, ◌<◌, ◌≤◌, ◌==◌, cond, Bool, true, false, true≢false, List, [], ◌∷◌, ◌++◌, length, set, get_or, Option, Some, None, refl, sym, ap, ◌∙◌, subst, ⊎_elim, arith, le_trans, length-set, eqb, ne_eqb, slice_get, mod-lt}
+use Rattle.std.proofs.Common.{◌≡◌, ◌≢◌, ℕ, suc, ◌+◌, ◌*◌, ◌/◌, ◌%◌, ◌<◌, ◌≤◌, true, false, true≢false, List, [], ◌∷◌, length, set, get_or, Option, Some, None, refl, sym, ap, ◌∙◌, subst, ⊎_elim, arith, length-set, eqb, ne_eqb, mod-lt}
 use Rattle.std.proofs.lemmas.Bool.{cond-false, false_from_ne_true}
 use Rattle.std.specs.Prelude.{slice_index}
-use mathlib.Core.Option as maybe
 use mathlib.Core.Option.{none, some, some-injective}
 use lib.ListN.{get_elem?}
 use lib.Seq.{set-get_or}
@@ -14,14 +13,14 @@ use Rattle.model.specs.declared.step.Step.{Step}
 use Rattle.model.specs.State.{NodeState, node_at, got_from, sent_to}
 use Rattle.model.specs.World.{World, run, numbered, IsInNet}
 use Rattle.laws.proofs.Lookups.{slice_get-push}
-use Rattle.wire.specs.Lists.{has, found, without, cleared}
-use Rattle.wire.specs.Views.{Role, dealer, node, Pair, Known, notes, claims, takes_in, posts, clears, pair_at}
-use Rattle.wire.specs.Rule.{nodes_of, AreEvents, Box, empty, full, filling_by, emptying_by, face, Content, BoxOk, NodeOk, SeatOk, Holds, Spells, sender, receiver}
+use Rattle.wire.specs.Lists.{has, found}
+use Rattle.wire.specs.Views.{Role, dealer, node, Pair, Known, notes, claims, takes_in, posts, clears}
+use Rattle.wire.specs.Rule.{nodes_of, AreEvents, empty, full, filling_by, emptying_by, face, Content, NodeOk, SeatOk, Holds, Spells, sender, receiver}
 use Rattle.wire.specs.Plays.{Releases, Owns, IsFresh, claimed, took, posted, emptied}
 use Rattle.wire.proofs.Lists.{has-here, has-more, has-gone, has-stays, found-here, found-more, found-gone, found-stays}
 use Rattle.wire.proofs.Boxes.{holder, is-empty, is-full, none-from, set-at}
-use Rattle.wire.proofs.Events.{count, width}
-use Rattle.wire.proofs.Stays.{IsAlike, IsLike, Homes, Note, noted, same-log, Move, moved, node-of}
+use Rattle.wire.proofs.Events.{count}
+use Rattle.wire.proofs.Stays.{noted, same-log, moved, node-of}
 
 -- what a saved state releases is in the net
 in-net : (w : World) (i : ℕ) (saved : NodeState) (f : Plain) → node_at w.saved i ≡ saved
@@ -79,7 +78,8 @@ module _ {S : Type 0} (bytes : S → List ℕ) (opening : World) where
     missed m r is =
         subst
         (λ (ws : List ℕ).
-        Holds bytes opening (record { words = ws; homes = s.homes; views = set s.views id (notes r v) }))
+        Holds bytes opening
+        (record { words = ws; homes = s.homes; views = set s.views id (notes r v) }))
         (sym (set-get_or s.words m 0) ∙ ap (set s.words m) (sym is))
         (noted bytes opening s h id v (notes r v) h.log s.words (record {
           at = at;
@@ -93,10 +93,11 @@ module _ {S : Type 0} (bytes : S → List ℕ) (opening : World) where
           count = h.count;
           board = h.board;
           fits = h.fits;
-          higher = (let z : ℕ = slice_index s.words (n * n + 1) in let le : z ≤ z = omega arith in le);
+          higher = (let z : ℕ = slice_index s.words (n * n + 1) in
+              let le : z ≤ z = omega arith in le);
           mine = subst
-              (SeatOk opening h.log (slice_index s.words (n * n + 1)) (set s.views id (notes r v)) h.boxes
-              id (notes r v))
+              (SeatOk opening h.log (slice_index s.words (n * n + 1)) (set s.views id (notes r v))
+              h.boxes id (notes r v))
               (sym role)
               (record {
                 below = ok.below;
@@ -123,31 +124,32 @@ module _ {S : Type 0} (bytes : S → List ℕ) (opening : World) where
         λ j e. (let never : 0 ≡ suc j = sym (ap holder is) ∙ e in omega arith) in (
           lies.0,
           lies.1,
-          moved bytes opening s h id v (claims m v) m 3 (filling_by id) (set s.homes m none) (record {
-            below = below;
-            at = at;
-            role = role;
-            alike = record { role = refl; me = refl };
-            nodes = refl;
-            opens = refl;
-            pair = refl;
-            events = refl;
-            slots = length-set s.homes m none;
-            home = λ k apart. set_else s.homes m k none apart;
-            shows = refl;
-            content = (
-              claims m v,
-              set-at s.views id (claims m v) v at,
-              role,
-              me_is,
-              has-here m v.filling,
-            );
-            free = λ j _. loose j;
-            like = λ k apart. record { fills = has-more m k v.filling apart; empties = refl };
-            taken = ok.released;
-            fills = λ _. refl;
-            empties = λ f e. absurd (loose id (ap holder (ok.empties m f e).1));
-          }),
+          moved bytes opening s h id v (claims m v) m 3 (filling_by id)
+              (set s.homes m none) (record {
+                below = below;
+                at = at;
+                role = role;
+                alike = record { role = refl; me = refl };
+                nodes = refl;
+                opens = refl;
+                pair = refl;
+                events = refl;
+                slots = length-set s.homes m none;
+                home = λ k apart. set_else s.homes m k none apart;
+                shows = refl;
+                content = (
+                  claims m v,
+                  set-at s.views id (claims m v) v at,
+                  role,
+                  me_is,
+                  has-here m v.filling,
+                );
+                free = λ j _. loose j;
+                like = λ k apart. record { fills = has-more m k v.filling apart; empties = refl };
+                taken = ok.released;
+                fills = λ _. refl;
+                empties = λ f e. absurd (loose id (ap holder (ok.empties m f e).1));
+              }),
           fresh m (loose id),
         )
 
@@ -188,7 +190,8 @@ module _ {S : Type 0} (bytes : S → List ℕ) (opening : World) where
                   found-here m f v.emptying,
                 );
                 free = λ j _. loose j;
-                like = λ k apart. record { fills = refl; empties = found-more m k f v.emptying apart };
+                like = λ k apart.
+                    record { fills = refl; empties = found-more m k f v.emptying apart };
                 taken = λ k g e. ⊎_elim
                     (λ before. ok.released k g before)
                     (λ last. subst (IsInNet (run opening h.log)) (sym last) lies.1)

@@ -3,8 +3,8 @@ use Rattle.std.proofs.Common.{◌≡◌, ◌<◌, ℕ, zero, suc, List, [], ◌�
 use Rattle.std.proofs.lemmas.List.{length-replicate}
 use Rattle.ids.specs.Limits.{Shaped}
 use Rattle.msg.specs.declared.body.Message.{Message}
-use Rattle.model.specs.State.{NodeState, new_node, node_at}
-use Rattle.model.specs.View.{NodeView, Link, Shows, ShowsSent, no_link, new_view}
+use Rattle.model.specs.State.{new_node, node_at}
+use Rattle.model.specs.View.{NodeView, Link, ShowsSent, no_link, new_view}
 use Rattle.model.specs.World.{new_world}
 use Rattle.model.proofs.Lookups.{get_or-replicate_any}
 use Rattle.wire.specs.Readers.{IsSavedAs, AreOpened}

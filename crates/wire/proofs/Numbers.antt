@@ -1,5 +1,5 @@
 -- The number of a mailbox, among those between so many nodes.
-use Rattle.std.proofs.Common.{◌≡◌, ℕ, ◌+◌, ◌*◌, ◌/◌, ◌%◌, ◌<◌, ◌≤◌, true, true≢false, refl, sym, ◌∙◌, subst, arith, le_trans, suc, suc-mul, mul-le-mul_right}
+use Rattle.std.proofs.Common.{◌≡◌, ℕ, ◌+◌, ◌*◌, ◌/◌, ◌%◌, ◌<◌, ◌≤◌, true, true≢false, refl, sym, subst, arith, suc, suc-mul, mul-le-mul_right}
 use Rattle.std.proofs.lemmas.Nat.{div-mul-add, mod-mul-add}
 use Rattle.wire.specs.Views.{Role, dealer, node, watch, is_node, is_watch}
 

@@ -1,17 +1,17 @@
 -- What a seat keeps of the slots that are out with it, as slots come and go.
-use Rattle.std.proofs.Common.{◌≡◌, ◌≢◌, ◌⊎◌, ℕ, zero, suc, ◌+◌, ◌*◌, ◌/◌, ◌%◌, ◌<◌, ◌≤◌, ◌==◌, eqb, cond, eq-eqb, ne_eqb, eqb-true, Bool, true, false, true≢false, List, [], ◌∷◌, ◌++◌, length, drop, take, get_or, Option, Some, None, refl, sym, ap, ◌∙◌, subst, inl, inr, ⊎_elim, arith}
+use Rattle.std.proofs.Common.{◌≡◌, ◌≢◌, ℕ, zero, suc, ◌*◌, ◌<◌, ◌≤◌, ◌==◌, eqb, cond, eq-eqb, ne_eqb, eqb-true, Bool, true, false, true≢false, List, [], ◌∷◌, ◌++◌, length, drop, take, get_or, Option, Some, None, refl, sym, ap, ◌∙◌, subst, ⊎_elim, arith}
 use Rattle.std.specs.Prelude.{is_some}
 use Rattle.std.specs.List.{list_any, AllByRecursion, IsDistinct}
-use Rattle.std.proofs.lemmas.Bool.{cond-true, cond-false, cases_Bool, false_from_ne_true, or_cases}
+use Rattle.std.proofs.lemmas.Bool.{cond-true, cond-false, cases_Bool, or_cases}
 use Rattle.std.proofs.lemmas.Map.Steps.{length-le_from_distinct_below}
 use mathlib.Core.Option.{some, some-ne-none, some-injective}
 use mathlib.Core.Logic.{dite}
 use native.Mathlib.Decide.{ℕ_discrete}
 use lib.ListN.{get_elem?}
-use Rattle.atomic_table.specs.Table.{Me, rest, turned}
+use Rattle.atomic_table.specs.Table.{rest, turned}
 use Rattle.atomic_table.proofs.Lists.{at_snoc}
 use Rattle.msg.specs.Grammar.{Plain, spelling}
-use Rattle.wire.specs.Lists.{has, found, without, cleared, once}
+use Rattle.wire.specs.Lists.{has, found, cleared, once}
 use Rattle.wire.specs.Views.{Known, is_node, claims, takes_in, posts, clears, notes}
 use Rattle.wire.specs.Plays.{IsFresh}
 use Rattle.wire.specs.Seated.{minds, boxes_of, Sits}
@@ -253,7 +253,8 @@ module _ {S : Type 0} (bytes : S → List ℕ) (me nodes : ℕ) where
         few = s.few;
         order = refl;
         minded = λ k. dite (ℕ_discrete k at)
-            (λ is. subst (λ (j : ℕ). has j (boxes_of out) ≡ minds j w) (sym is) (parts.0 ∙ sym gone))
+            (λ is. subst (λ (j : ℕ). has j (boxes_of out) ≡ minds j w) (sym is)
+            (parts.0 ∙ sym gone))
             (λ apart. sym (has-more at k (boxes_of out) apart) ∙ ap (has k) s.order ∙ s.minded k
             ∙ sym (others k apart));
         single = parts.1;

@@ -1,5 +1,5 @@
 -- What stays of the rule when one seat takes a step.
-use Rattle.std.proofs.Common.{◌≡◌, ◌≢◌, ℕ, zero, suc, ◌+◌, ◌*◌, ◌/◌, ◌%◌, ◌^◌, ◌<◌, ◌≤◌, Bool, true, false, List, [], ◌∷◌, ◌++◌, length, set, get_or, Option, Some, None, refl, sym, ap, ◌∙◌, subst, ⊎_elim, arith, le_refl, le_trans, length-set, get_or-set_other, get_or-set_same, slice_get}
+use Rattle.std.proofs.Common.{◌≡◌, ◌≢◌, ℕ, suc, ◌+◌, ◌*◌, ◌%◌, ◌^◌, ◌<◌, ◌≤◌, true, List, length, set, get_or, Some, refl, sym, ap, ◌∙◌, subst, ⊎_elim, arith, le_refl, le_trans, length-set, get_or-set_other, get_or-set_same, slice_get}
 use Rattle.std.specs.Prelude.{slice_index}
 use mathlib.Core.Option as maybe
 use mathlib.Core.Option.{some, some-injective}
@@ -11,10 +11,10 @@ use Rattle.atomic_table.proofs.Lists.{at_set, set_else}
 use Rattle.ids.specs.declared.limits.TheConstants.{GREATEST_CYCLE}
 use Rattle.msg.specs.Grammar.{Plain}
 use Rattle.model.specs.declared.step.Step.{Step}
-use Rattle.model.specs.World.{World, run, is_event, IsInNet}
+use Rattle.model.specs.World.{World, run, IsInNet}
 use Rattle.wire.specs.Lists.{has, found}
-use Rattle.wire.specs.Views.{Role, dealer, node, watch, Pair, Known, pair_at}
-use Rattle.wire.specs.Rule.{nodes_of, ended_of, IsOpening, events_of, AreEvents, Box, empty, full, filling_by, emptying_by, face, Content, BoxOk, NodeOk, DealerOk, WatchOk, SeatOk, Holds}
+use Rattle.wire.specs.Views.{Role, dealer, node, watch, Known, pair_at}
+use Rattle.wire.specs.Rule.{nodes_of, ended_of, events_of, AreEvents, Box, empty, full, filling_by, emptying_by, face, Content, BoxOk, NodeOk, DealerOk, SeatOk, Holds}
 use Rattle.wire.proofs.Boxes.{put, at_put, put-other, holder, set-at}
 
 -- what the others read of a seat
@@ -159,7 +159,8 @@ module _ {S : Type 0} (bytes : S → List ℕ) (opening : World) where
     pub each : (m : ℕ) → m < n * n
         → BoxOk bytes n (run opening log) words homes (set s.views id w) m (boxes m)
     pub theirs : (j : ℕ) → j ≢ id → (m : ℕ) → holder (h.boxes m) ≡ suc j → boxes m ≡ h.boxes m
-    pub mine : SeatOk opening log (slice_index words (n * n + 1)) (set s.views id w) boxes id w w.role
+    pub mine : SeatOk opening log (slice_index words (n * n + 1)) (set s.views id w) boxes id
+        w w.role
     pub no_dealer : v.role ≢ dealer
 
   module _ (s : State S Known) (h : Holds bytes opening s) (id : ℕ) (v w : Known)
@@ -181,7 +182,8 @@ module _ {S : Type 0} (bytes : S → List ℕ) (opening : World) where
     theirs-stay j u apart at watch is ok =
         record { opening_is = ok.opening_is; loaded = le_trans ok.loaded t.higher }
 
-    pub turned : Holds bytes opening (record { words = words; homes = homes; views = set s.views id w })
+    pub turned :
+        Holds bytes opening (record { words = words; homes = homes; views = set s.views id w })
     turned = record {
       log = t.log;
       boxes = t.boxes;
@@ -198,7 +200,8 @@ module _ {S : Type 0} (bytes : S → List ℕ) (opening : World) where
           (λ (is : (j ≡ id) × (w ≡ u)).
           subst
           (λ (x : ℕ × Known).
-          SeatOk opening t.log (slice_index words (n * n + 1)) (set s.views id w) t.boxes x.0 x.1 x.1.role)
+          SeatOk opening t.log (slice_index words (n * n + 1)) (set s.views id w) t.boxes
+          x.0 x.1 x.1.role)
           (λ k. (sym is.0 k, is.1 k)) t.mine)
           (λ (is : (j ≢ id) × (get_elem? s.views j ≡ some u)).
           theirs-stay j u is.0 is.1 u.role refl (h.each_seat j u is.1))
@@ -217,8 +220,9 @@ module _ {S : Type 0} (bytes : S → List ℕ) (opening : World) where
       let ok = h.each_box m below in
       record {
         shows = word ∙ ok.shows;
-        content = content-stays s.views id v w at alike bytes n (run opening h.log) (run opening log)
-            s.homes homes m ext.net home like (h.boxes m) ok.content;
+        content = content-stays s.views id v w at alike bytes n
+            (run opening h.log) (run opening log) s.homes homes m
+            ext.net home like (h.boxes m) ok.content;
       }
 
   -- ---- A step that moves a mailbox
@@ -332,7 +336,8 @@ module _ {S : Type 0} (bytes : S → List ℕ) (opening : World) where
     pub board : slice_index words (n * n + 1) ≤ ended_of (run opening log)
     pub fits : slice_index words (n * n + 1) ≤ GREATEST_CYCLE
     pub higher : slice_index s.words (n * n + 1) ≤ slice_index words (n * n + 1)
-    pub mine : SeatOk opening log (slice_index words (n * n + 1)) (set s.views id w) h.boxes id w w.role
+    pub mine : SeatOk opening log (slice_index words (n * n + 1)) (set s.views id w) h.boxes id
+        w w.role
     pub no_dealer : v.role ≢ dealer
 
   pub noted : (s : State S Known) (h : Holds bytes opening s) (id : ℕ) (v w : Known)

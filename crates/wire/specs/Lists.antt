@@ -1,5 +1,5 @@
 -- Small sets of mailboxes, by number: of those that a seat fills, and of those that it empties.
-use Rattle.std.specs.Prelude.{ℕ, Bool, true, false, cond, not, is_some, ◌==◌, ◌||◌, List, [], ◌∷◌, Option, Some, None}
+use Rattle.std.specs.Prelude.{ℕ, Bool, true, false, cond, ◌==◌, List, [], ◌∷◌, Option, Some, None}
 use Rattle.msg.specs.Grammar.{Plain}
 
 abbrev pub has : ℕ → List ℕ → Bool

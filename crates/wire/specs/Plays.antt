@@ -1,5 +1,5 @@
 -- What each kind of atomic step tells, and what it asks of its caller.
-use Rattle.std.specs.Prelude.{◌≡◌, ◌≢◌, ℕ, ◌/◌, ◌%◌, ◌^◌, ◌<◌, ◌≤◌, true, false, List, [], ◌∷◌, ◌++◌, length, slice_get, Option, Some, None, Ok}
+use Rattle.std.specs.Prelude.{◌≡◌, ◌≢◌, ℕ, ◌/◌, ◌%◌, ◌^◌, ◌<◌, ◌≤◌, true, false, List, [], ◌∷◌, ◌++◌, length, slice_get, Some, None, Ok}
 use Rattle.atomic_table.specs.Table.{Me, Step, rest}
 use Rattle.ids.specs.declared.limits.TheConstants.{GREATEST_CYCLE}
 use Rattle.msg.specs.Grammar.{Plain, data_frame, ack_frame}
@@ -10,7 +10,7 @@ use Rattle.model.specs.declared.step.Step.TheVariants as step
 use Rattle.model.specs.declared.step.Outcome.TheVariants as outcome
 use Rattle.model.specs.State.{NodeState, got_from, sent_to}
 use Rattle.model.specs.Steps.{act, receive, is_own}
-use Rattle.model.specs.World.{World, run, is_event, is_eventful, numbered, IsInNet}
+use Rattle.model.specs.World.{World, run, is_eventful, numbered, IsInNet}
 use Rattle.wire.specs.Views.{Pair, Known, pair_at, notes, claims, takes_in, posts, clears, ticks, marks}
 use Rattle.wire.specs.Lists.{has, found}
 use Rattle.wire.specs.Rule.{AreEvents, events_of, ended_of, sender, receiver, Spells}

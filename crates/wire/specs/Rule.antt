@@ -1,7 +1,7 @@
 -- What holds of a wire between any two atomic steps ("The rule" in docs/WIRE.md).
 -- The word m, for m below n * n, is that of the mailbox from node m / n to node m % n, and the slot
 -- m holds its bytes. Then come the count word and the board.
-use Rattle.std.specs.Prelude.{◌≡◌, ◌≢◌, ℕ, ◌+◌, ◌*◌, ◌/◌, ◌%◌, ◌^◌, ◌<◌, ◌≤◌, Bool, true, cond, ◌==◌, List, [], ◌∷◌, length, slice_index, slice_get, Option, Some}
+use Rattle.std.specs.Prelude.{◌≡◌, ℕ, ◌+◌, ◌*◌, ◌/◌, ◌%◌, ◌^◌, ◌<◌, ◌≤◌, true, cond, ◌==◌, List, [], ◌∷◌, length, slice_index, slice_get, Some}
 use mathlib.Core.Option as maybe
 use mathlib.Core.Option.{some}
 use lib.ListN.{get_elem?}
@@ -90,9 +90,9 @@ module _ {S : Type 0} (bytes : S → List ℕ) (n : ℕ) (w : World)
 
 pub record BoxOk {S : Type 0} (bytes : S → List ℕ) (n : ℕ) (w : World)
     (words : List ℕ) (homes : List (maybe.Option S)) (views : List Known) (m : ℕ) (b : Box) : Type 0
-    where
-  pub shows : slice_index words m ≡ face b
-  pub content : Content bytes n w homes views m b
+  where
+    pub shows : slice_index words m ≡ face b
+    pub content : Content bytes n w homes views m b
 
 -- a node's seat, with the index j
 pub record NodeOk (opening : World) (log : List Step) (boxes : ℕ → Box) (j : ℕ)

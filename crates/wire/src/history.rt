@@ -10,8 +10,8 @@ use std::marker::Brand;
 
 impl Wire {
     /// Enters one event of the seat's node into the history of the space; one addition to the
-    /// count, modulo 2^64. Which event it is, and the node's states after it, is known to proofs alone. A
-    /// delivery is of a message that the seat took from the wire.
+    /// count, modulo 2^64. Which event it is, and the node's states after it, is known to proofs
+    /// alone. A delivery is of a message that the seat took from the wire.
     pub fn tick(&self, seat: &mut NodeSeat)
         ghost happened: { Step × Pair }
         requires wire { IsSeatOf self.now seat.old }

@@ -1,4 +1,4 @@
-use Rattle.std.proofs.Common.{ℕ, ◌≡◌, ◌+◌, ◌*◌, ◌%◌, List, sym, ap, ◌∙◌, subst, zero-le}
+use Rattle.std.proofs.Common.{ℕ, ◌≡◌, ◌+◌, ◌*◌, ◌%◌, sym, ◌∙◌, subst, zero-le}
 use Rattle.msg.specs.Grammar.{Plain, ack_frame}
 use Rattle.wire.specs.Rule.{Spells}
 use Rattle.wire.proofs.tests.send.Goals as goal
@@ -13,7 +13,7 @@ post-requires-clause-released c =
     let known : s.seat.me.0.nodes ≡ 2 = sym s.sits.nodes_is ∙ nodes in (
       ack_frame 0 1 0,
       subst (λ (f : Plain). Spells f c.in_ok-bytes.bytes.items) c.in-Some.ensures.value
-      c.in_ok-bytes.ensures.spelled,
+          c.in_ok-bytes.ensures.spelled,
       (λ i. (sym node i * sym nodes i + sym to i) % sym known i),
       (sym me, (λ e. (let never : ◌≡◌ {A = ℕ} 1 0 = e ∙ me in absurd cc)), zero-le),
     )

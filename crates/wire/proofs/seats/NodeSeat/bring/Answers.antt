@@ -1,4 +1,4 @@
-use Rattle.std.proofs.Common.{rules, ◌≡◌, ◌<◌, ℕ, List, [], ◌∷◌, drop, refl, sym, ap, ◌∙◌, subst, subst₂}
+use Rattle.std.proofs.Common.{rules, ◌<◌, ℕ, List, ◌∷◌, drop, sym, ap, ◌∙◌, subst, subst₂}
 use Rattle.wire.specs.Seated.{Sits}
 use Rattle.wire.proofs.Sitting.{before, nearer-held, headed, sits-turned, in-front}
 use Rattle.wire.proofs.seats.NodeSeat.bring.Goals as goal
@@ -24,7 +24,7 @@ loop-self-smaller c =
 pub returns-clause-front : goal.returns-clause-front
 returns-clause-front c =
     let held = c.loop-self.self.held.items in
-    in-front _ _ _ held c.loop-self.self.seat.me.0 c.loop-self.self.seat.me.1 c.args.at (drop 1 held)
-    c.loop-self.self.sits
+    in-front _ _ _ held c.loop-self.self.seat.me.0 c.loop-self.self.seat.me.1 c.args.at
+    (drop 1 held) c.loop-self.self.sits
     (headed c.args.at c.index.result.now held c.loop-self.invariant.0
     ∙ ap (λ (k : ℕ). k ∷ drop 1 held) (sym c.index.ensures ∙ c.loop-self-test.false))

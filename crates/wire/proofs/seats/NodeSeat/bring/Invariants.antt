@@ -1,6 +1,5 @@
 use Rattle.std.proofs.Common.{◌≡◌, true}
 use Rattle.wire.specs.Lists.{has}
-use Rattle.wire.specs.Readers.{IsSame, known}
 use Rattle.wire.proofs.Sitting.{before}
 use Rattle.wire.proofs.seats.NodeSeat.bring.Given as goal
 

@@ -1,10 +1,10 @@
-use Rattle.std.proofs.Common.{rules, ◌≡◌, ℕ, ◌+◌, ◌*◌, ◌<◌, true, List, [], ◌∷◌, drop, Some, refl, sym, ap, ◌∙◌, subst, subst₂}
+use Rattle.std.proofs.Common.{rules, ◌≡◌, ℕ, ◌+◌, ◌*◌, ◌<◌, ◌∷◌, drop, refl, sym, ap, ◌∙◌, subst, subst₂}
 use lib.ListN.{get_elem?}
 use Rattle.atomic_table.specs.Table.{rest}
 use Rattle.wire.specs.Lists.{has, found}
 use Rattle.wire.specs.Views.{Known, clears}
 use Rattle.wire.specs.Seated.{Sits}
-use Rattle.wire.proofs.Numbers.{IsBox, box-of, in-words, a-node}
+use Rattle.wire.proofs.Numbers.{box-of, in-words, a-node}
 use Rattle.wire.proofs.Sitting.{sits-cleared}
 use Rattle.wire.proofs.MailSteps.{clears_allowed}
 use Rattle.wire.proofs.seats.Wire.clear.Goals as goal

@@ -1,4 +1,4 @@
-use Rattle.std.proofs.Common.{ℕ, ◌*◌, ◌+◌, ◌<◌, sym, ap, ◌∙◌, subst, arith}
+use Rattle.std.proofs.Common.{ℕ, ◌*◌, ◌+◌, ◌<◌, sym, ap, subst, arith}
 use Rattle.wire.specs.Views.{Known}
 use Rattle.wire.proofs.DealSteps.{next_splits}
 use Rattle.wire.proofs.seats.Wire.next_seat.Goals as goal

@@ -1,4 +1,4 @@
-use Rattle.std.proofs.Common.{ℕ, ◌*◌, ◌+◌, ◌<◌, sym, ap, ◌∙◌, subst, arith}
+use Rattle.std.proofs.Common.{ℕ, ◌*◌, ◌+◌, ◌<◌, sym, ap, subst, arith}
 use Rattle.wire.specs.Views.{Known}
 use Rattle.wire.proofs.DealSteps.{watch_splits}
 use Rattle.wire.proofs.seats.Wire.next_watch.Goals as goal

@@ -1,4 +1,4 @@
-use Rattle.std.proofs.Common.{rules, ℕ, ◌≡◌, sym, ap, ◌∙◌, slice_get}
+use Rattle.std.proofs.Common.{rules, sym, ap, ◌∙◌, slice_get}
 use Rattle.wire.specs.Readers.{IsSeated}
 use Rattle.wire.proofs.Rows.{each-push}
 use Rattle.wire.proofs.seats.Wire.node_seats.Goals as goal

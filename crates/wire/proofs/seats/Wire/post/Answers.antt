@@ -1,10 +1,10 @@
-use Rattle.std.proofs.Common.{rules, ◌≡◌, ℕ, ◌+◌, ◌*◌, ◌<◌, true, List, [], ◌∷◌, drop, refl, sym, ap, ◌∙◌, subst, subst₂}
+use Rattle.std.proofs.Common.{rules, ◌≡◌, ℕ, ◌+◌, ◌*◌, ◌<◌, ◌∷◌, drop, refl, sym, ap, ◌∙◌, subst, subst₂}
 use Rattle.atomic_table.specs.Table.{rest}
 use Rattle.wire.specs.Lists.{has, found}
 use Rattle.wire.specs.Views.{Known, posts}
 use Rattle.wire.specs.Plays.{Owns}
 use Rattle.wire.specs.Seated.{Sits}
-use Rattle.wire.proofs.Numbers.{IsBox, box-of, in-words, a-node}
+use Rattle.wire.proofs.Numbers.{box-of, in-words, a-node}
 use Rattle.wire.proofs.Sitting.{sits-posted}
 use Rattle.wire.proofs.MailSteps.{posts_allowed}
 use Rattle.wire.proofs.seats.Wire.post.Goals as goal
@@ -28,10 +28,11 @@ store-requires c =
           c.exchange-emptied.new.seat.me c.args.bytes
           (ap (λ (v : Known). v.role) view_is ∙ a-node _ s.sits.role)
           (ap (λ (v : Known). has at v.filling) view_is
-          ∙ ap (λ (k : ℕ). has (s.node * s.nodes + k) s.seat.me.0.filling) same ∙ c.requires.claim.2)
+          ∙ ap (λ (k : ℕ). has (s.node * s.nodes + k) s.seat.me.0.filling) same
+          ∙ c.requires.claim.2)
           (front ∙ (λ i. (at, c.args.bytes) ∷ sym (ap rest front) i))
-          (subst₂ (λ (k : ℕ) (v : Known). Owns (s.node * s.nodes + k) v c.args.bytes.items) (sym same)
-          (sym view_is) c.requires.released),
+          (subst₂ (λ (k : ℕ) (v : Known). Owns (s.node * s.nodes + k) v c.args.bytes.items)
+          (sym same) (sym view_is) c.requires.released),
     )
 
 pub invariant_of-seat : goal.invariant_of-seat

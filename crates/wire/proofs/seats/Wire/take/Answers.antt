@@ -1,7 +1,7 @@
-use Rattle.std.proofs.Common.{rules, ◌≡◌, ℕ, ◌+◌, ◌*◌, ◌/◌, ◌<◌, ◌≤◌, refl, sym, ap, ◌∙◌, subst, subst₂, arith, length, vec_len}
+use Rattle.std.proofs.Common.{rules, ◌≡◌, ℕ, ◌+◌, ◌*◌, ◌/◌, ◌<◌, refl, sym, ap, ◌∙◌, subst₂, arith, length, vec_len}
 use Rattle.wire.specs.Views.{takes_in}
 use Rattle.wire.specs.Seated.{Sits}
-use Rattle.wire.proofs.Numbers.{IsBox, box-of, in-words, a-node}
+use Rattle.wire.proofs.Numbers.{box-of, in-words, a-node}
 use Rattle.wire.proofs.Sitting.{room-for, fresh-minds, sits-took}
 use Rattle.wire.proofs.MailSteps.{takes_allowed}
 use Rattle.wire.proofs.seats.Wire.take.Goals as goal
@@ -42,8 +42,8 @@ invariant_of-seat-2 c =
     record {
       sits = subst₂ (Sits (λ v. v.items) s.node s.nodes) (sym c.hold.ensures.items)
           (λ i. (sym told.1.0 i, sym told.1.4.1 i))
-          (sits-took _ _ _ s.held.items s.seat.me.0 s.seat.me.1 at told.1.4.0 told.0 s.sits told.1.4.3
-          box.below told.1.4.2.1);
+          (sits-took _ _ _ s.held.items s.seat.me.0 s.seat.me.1 at told.1.4.0 told.0 s.sits
+          told.1.4.3 box.below told.1.4.2.1);
       room = search rules;
     }
 
