@@ -6,3 +6,5 @@ pub mod Whole
 pub mod Consuming
 pub mod Sizes
 pub mod Appending
+pub mod Spelled
+pub mod Rows

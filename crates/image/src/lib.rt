@@ -27,7 +27,7 @@ mod reading;
 mod tags;
 mod writing;
 
-pub use law::grammar;
+pub use law::{grammar, nodes_spelled};
 pub use parts::{Head, LinkParts, NodeParts, ObjectParts, PhasesParts, RingParts, SlotParts};
 
 #[cfg(test)]
