@@ -18,3 +18,5 @@ mod Standing
 mod Errands
 mod Outcomes
 mod Receipts
+mod Restored
+mod Lists
