@@ -18,5 +18,6 @@ mod Standing
 mod Errands
 mod Outcomes
 mod Receipts
-mod Restored
 mod Lists
+mod Listed
+pub mod Restorable

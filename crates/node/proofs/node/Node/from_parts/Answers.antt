@@ -8,7 +8,7 @@ use Rattle.node.specs.Inside.{view_of}
 use Rattle.node.specs.Invariant.{IsNode, IsBalanced}
 use Rattle.node.specs.Parts.{IsAtHome, AreGreyIn, AreAsked, AreAtEnds, IsRestorable}
 use Rattle.node.specs.Parts.{local_given, node_given}
-use Rattle.node.proofs.Restored.{node-restored}
+use Rattle.node.proofs.Restorable.{standing}
 use Rattle.node.proofs.node.Node.from_parts.Goals as goal
 
 pub returns-clause-right : goal.returns-clause-right
@@ -83,7 +83,7 @@ invariant_of-result c =
     record {
       node =
           subst IsNode same
-          (node-restored (node_given p) c.if-not-is_at_home.ensures.shape c.cycle-cycle.ensures.sound
+          (standing (node_given p) c.if-not-is_at_home.ensures.shape c.cycle-cycle.ensures.sound
           right);
       limit = made.limit;
     }
