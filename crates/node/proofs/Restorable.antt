@@ -381,7 +381,7 @@ module _ (n : NodeView) where
       let within : phases.cycle ≤ GREATEST_CYCLE = sound.within in
       let timed_all = links-timed shape phases.cycle n.links within is.ends.messages in
       let letter : (l : Letter) → is_letter shape local.own l ≡ true
-          → IsOther shape local.own l.from × IfAny (IsWithin shape) l.reference =
+      → IsOther shape local.own l.from × IfAny (IsWithin shape) l.reference =
       λ l one.
       let parts = and_parts (is_neighbour shape local.own l.from) (is_any_named shape l.reference)
       one in

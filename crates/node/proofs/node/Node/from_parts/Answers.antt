@@ -1,9 +1,8 @@
-use Rattle.std.proofs.Common.{◌≡◌, refl, sym, ◌∙◌, subst, map}
+use Rattle.std.proofs.Common.{◌≡◌, refl, subst, map}
 use Rattle.link.specs.Links.{IsLinks, LinksView}
 use Rattle.link.specs.Parts.{links_given}
 use Rattle.heap.specs.Heap.{IsHeapFor, slot_of}
 use Rattle.heap.specs.Parts.{heap_given}
-use Rattle.model.specs.View.{NodeView}
 use Rattle.node.specs.Inside.{view_of}
 use Rattle.node.specs.Invariant.{IsNode, IsBalanced}
 use Rattle.node.specs.Parts.{IsAtHome, AreGreyIn, AreAsked, AreAtEnds, IsRestorable}
