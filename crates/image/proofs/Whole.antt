@@ -29,7 +29,6 @@ abbrev IsFront : Front → Type 0
 IsFront f = IsHead f.0 × (ArePhases f.1.0 × IsRing f.1.1)
 
 front_read : Reads Front first_bytes IsFront front_at
-unfolding front_at
 front_read = and_read head_read (and_read phases_read ring_read)
 
 -- ---- the lists
@@ -41,7 +40,6 @@ abbrev IsTold : Head → Told → Type 0
 IsTold h t = AreSo (reports_told h) (λ n. n < 2 ^ 64) t.0 × AreSo h.registers IsOptional t.1
 
 told_read : (h : Head) → Reads Told pair_bytes (IsTold h) (told_at h)
-unfolding told_at
 told_read h =
     and_read (many_read number64_read (reports_told h))
     (many_read limited_optional_read h.registers)
@@ -56,7 +54,6 @@ AreSlots x =
     × (AreCounted (λ k. k < 2 ^ 32) x.1.0 × AreCounted (λ k. k < 2 ^ 32) x.1.1)
 
 slots_read : Reads Slots slot_lists_bytes AreSlots slots_at
-unfolding slots_at
 slots_read =
     and_read (counted_read slot_read)
     (and_read (counted_read number32_read) (counted_read number32_read))
@@ -71,7 +68,6 @@ AreOthers h x =
     × (AreCounted IsLetter x.1.0 × AreSo (links_told h) IsStoredLink x.1.1)
 
 others_read : (h : Head) → Reads Others last_bytes (AreOthers h) (others_at h)
-unfolding others_at
 others_read h =
     and_read (counted_read limited_reference_read)
     (and_read (counted_read letter_read) (many_read link_read (links_told h)))
@@ -83,7 +79,6 @@ abbrev AreLists : Front → Lists → Type 0
 AreLists f l = IsTold f.0 l.0 × (AreSlots l.1.0 × AreOthers f.0 l.1.1)
 
 lists_read : (f : Front) → Reads Lists list_bytes (AreLists f) (lists_at f)
-unfolding lists_at
 lists_read f = and_read (told_read f.0) (and_read slots_read (others_read f.0))
 
 -- ---- the whole

@@ -1,5 +1,5 @@
--- What is true of a saved node, beyond that it has a spelling: bytes that spell a node of which this
--- isn't true are no image of a node.
+-- What is true of a saved node, beyond that it has a spelling: bytes that spell a node of which
+-- this isn't true are no image of a node.
 use Rattle.std.specs.Prelude.{◌≡◌, ◌≢◌, ◌↔◌, ℕ, ℤ, eqb, nat_abs, ◌+◌, ◌<◌, ◌≤◌, List, [], length, Option, IfSome, slice_index_or}
 use Rattle.std.specs.List.{AllByRecursion, Contains, IsDistinct, sum_by}
 use Rattle.ids.specs.Limits.{Shaped, IsShape}

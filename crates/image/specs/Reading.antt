@@ -154,13 +154,13 @@ link_at bytes =
 abbrev pub Front : Type 0
 Front = Head × (PhasesParts × RingParts)
 
-unfoldable pub front_at : Reader Front
+abbrev pub front_at : Reader Front
 front_at bytes = both_at head_at (λ _. both_at phases_at (λ _. ring_at)) bytes
 
 abbrev pub Told : Type 0
 Told = List ℕ × List (Option Ref)
 
-unfoldable pub told_at : Head → Reader Told
+abbrev pub told_at : Head → Reader Told
 told_at h bytes =
     both_at (many_at (number_at 8) (reports_told h)) (λ _. many_at limited_optional_at h.registers)
     bytes
@@ -168,7 +168,7 @@ told_at h bytes =
 abbrev pub Slots : Type 0
 Slots = List SlotParts × (List ℕ × List ℕ)
 
-unfoldable pub slots_at : Reader Slots
+abbrev pub slots_at : Reader Slots
 slots_at bytes =
     both_at (counted_at slot_at) (λ _.
     both_at (counted_at (number_at 4)) (λ _. counted_at (number_at 4))) bytes
@@ -176,7 +176,7 @@ slots_at bytes =
 abbrev pub Others : Type 0
 Others = List Ref × (List Letter × List StoredLink)
 
-unfoldable pub others_at : Head → Reader Others
+abbrev pub others_at : Head → Reader Others
 others_at h bytes =
     both_at (counted_at limited_reference_at) (λ _.
     both_at (counted_at letter_at) (λ _. many_at link_at (links_told h))) bytes
@@ -185,7 +185,7 @@ others_at h bytes =
 abbrev pub Lists : Type 0
 Lists = Told × (Slots × Others)
 
-unfoldable pub lists_at : Front → Reader Lists
+abbrev pub lists_at : Front → Reader Lists
 lists_at f bytes =
     both_at (told_at f.0) (λ _. both_at slots_at (λ _. others_at f.0)) bytes
 

@@ -5,7 +5,8 @@ ghost use Rattle.ids.specs.declared.refusal.Refusal.TheVariants.{Memory};
 ghost use Rattle.msg.specs.Reading.{number_at};
 ghost use Rattle.msg.specs.Grammar.{reference_bytes, optional_bytes, body_bytes};
 ghost use Rattle.image.specs.declared.parts.SlotParts.TheVariants.{Occupied};
-ghost use Rattle.image.specs.Grammar.{letter_bytes, message_bytes, places_bytes, object_bytes, slot_bytes, link_bytes};
+ghost use Rattle.image.specs.Grammar.{letter_bytes, message_bytes, places_bytes, object_bytes};
+ghost use Rattle.image.specs.Grammar.{slot_bytes, link_bytes};
 ghost use Rattle.image.specs.Reading.{limited_reference_at, limited_optional_at};
 ghost use Rattle.image.specs.Reading.{letter_at, message_at, slot_at, link_at};
 

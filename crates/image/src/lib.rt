@@ -1,22 +1,13 @@
 //! A saved node as bytes, its image.
 //!
-//! Numbers are big-endian, signed ones in two's complement. References, optional references, tokens
-//! and what messages say are spelled as in frames. The parts come in this order:
+//! An image says the parts of a node one after another, as docs/FORMATS.md lists them. Numbers are
+//! big-endian, signed ones in two's complement. References, optional references, tokens and what
+//! messages say are spelled as in frames. No spelling begins another ([`grammar`]), and a node has
+//! one spelling ([`nodes_spelled`]).
 //!
-//! | Part | Spelling |
-//! |---|---|
-//! | start | `4D 52`, and the version, 1 |
-//! | sizes | nodes in one byte, own number in one, registers in two, slots in four |
-//! | phases | cycle, ended and swept in eight bytes each, cursor in four |
-//! | ring | colour, the two balances in eight bytes each; 0, or 1 and the token that is held |
-//! | reports | at node 0 alone: for each node from 1 on, eight bytes |
-//! | registers | an optional reference for each |
-//! | slots | how many in four bytes, and each: 0 and the next generation in four; or 1, the generation in four, mark and word in eight each, how many places in one and an optional reference for each; or 2 |
-//! | free slots | how many in four bytes, and each slot in four, the next to be used first |
-//! | grey slots | the same, the last to be scanned first |
-//! | asked for | how many in four bytes, and the references in order |
-//! | letters | how many in four bytes, and each, oldest first: sender in one, label in four, an optional reference |
-//! | links | for each other node in ascending order: the highest number acknowledged in eight bytes, how many messages after it in four, and each with its stamp in eight and what it says; the highest number received in eight |
+//! [`NodeParts`] are what an image says: [`NodeParts::to_bytes`] writes it and
+//! [`NodeParts::from_bytes`] reads it. Whether such parts make up a node is another question, of
+//! which `IsSaved` in specs/Conditions.antt is the answer.
 #![tactic(auto)]
 
 mod elements;

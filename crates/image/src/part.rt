@@ -1,5 +1,5 @@
-//! What stands in the lists of an image: each part is measured, written and read by itself, and here
-//! lists of them are.
+//! What stands in the lists of an image: each part is measured, written and read by itself, and
+//! lists of them are here.
 ghost use Rattle.std.specs.Prelude.{
   ◌≡◌,
   ◌++◌,
@@ -88,8 +88,8 @@ pub(crate) fn put_counted<T: Part>(out: &mut Vec<u8>, parts: &[T]) -> Result<(),
 }
 
 /// So many parts from the front of the bytes, and the bytes after them. `BadImage` where they are
-/// not there, and that without taking memory where the bytes are fewer than the parts; `Memory` where
-/// a growth was refused.
+/// not there, and that without taking memory where the bytes are fewer than the parts; `Memory`
+/// where a growth was refused.
 pub(crate) fn many<T: Part>(
     alloc: Global,
     count: usize,

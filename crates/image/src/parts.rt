@@ -68,8 +68,8 @@ pub enum SlotParts {
 }
 
 /// What the node holds of the links between it and another one: the highest number of its own
-/// messages that was acknowledged, the messages after it, and the number of the other's message that
-/// was taken in last.
+/// messages that was acknowledged, the messages after it, and the number of the other's message
+/// that was taken in last.
 #[derive(Debug, Drop)]
 pub struct LinkParts {
     pub base: u64,

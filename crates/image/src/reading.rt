@@ -322,7 +322,7 @@ fn reports_told(head: Head) -> usize
     }
 }
 
-#[tactic(auto, unfolding(crate::specs::Reading::image_at, crate::specs::Reading::front_at, crate::specs::Reading::lists_at, crate::specs::Reading::told_at, crate::specs::Reading::slots_at, crate::specs::Reading::others_at))]
+#[tactic(auto, unfolding(crate::specs::Reading::image_at))]
 fn image_at(alloc: Global, bytes: &[u8]) -> Result<(NodeParts, &[u8]), Refusal>
     ensures { Gives (λ x. (stored_of x.0, x.1.now)) result (image_at bytes.now) }
 {

@@ -109,7 +109,8 @@ fn put_ring(out: &mut Vec<u8>, ring: RingParts) -> Result<(), Refusal>
 }
 
 fn put_front(out: &mut Vec<u8>, parts: &NodeParts) -> Result<(), Refusal>
-    ensures done { OnOk result (out.new.items ≡ out.old.items ++ front_bytes (stored_of parts.now)) }
+    ensures done { OnOk result
+        (out.new.items ≡ out.old.items ++ front_bytes (stored_of parts.now)) }
     ensures refused { IfErr result (λ e. e ≡ Memory) }
 {
     put_head(out, parts.head)?;
@@ -127,7 +128,8 @@ fn put_told(out: &mut Vec<u8>, parts: &NodeParts) -> Result<(), Refusal>
 
 fn put_slots(out: &mut Vec<u8>, parts: &NodeParts) -> Result<(), Refusal>
     requires { AreShort (stored_of parts.now) }
-    ensures done { OnOk result (out.new.items ≡ out.old.items ++ slots_bytes (stored_of parts.now)) }
+    ensures done { OnOk result
+        (out.new.items ≡ out.old.items ++ slots_bytes (stored_of parts.now)) }
     ensures refused { IfErr result (λ e. e ≡ Memory) }
 {
     put_counted(out, &parts.slots)?;
@@ -137,7 +139,8 @@ fn put_slots(out: &mut Vec<u8>, parts: &NodeParts) -> Result<(), Refusal>
 
 fn put_others(out: &mut Vec<u8>, parts: &NodeParts) -> Result<(), Refusal>
     requires { AreShort (stored_of parts.now) }
-    ensures done { OnOk result (out.new.items ≡ out.old.items ++ others_bytes (stored_of parts.now)) }
+    ensures done { OnOk result
+        (out.new.items ≡ out.old.items ++ others_bytes (stored_of parts.now)) }
     ensures refused { IfErr result (λ e. e ≡ Memory) }
 {
     put_counted(out, &parts.asked)?;
@@ -185,7 +188,8 @@ fn room_after_told(room: usize, parts: &NodeParts) -> Option<usize>
 
 #[tactic(auto, using(crate::proofs::Sizes::slots_length))]
 fn room_after_slots(room: usize, parts: &NodeParts) -> Option<usize>
-    ensures left { IfSome result (λ left. left + length (slots_bytes (stored_of parts.now)) ≡ room) }
+    ensures left { IfSome result
+        (λ left. left + length (slots_bytes (stored_of parts.now)) ≡ room) }
     ensures short { IfSome result (λ _. AreSlotsShort room (stored_of parts.now)) }
     ensures over { IfNone result (room < length (slots_bytes (stored_of parts.now))) }
 {
@@ -198,7 +202,8 @@ fn room_after_slots(room: usize, parts: &NodeParts) -> Option<usize>
 
 #[tactic(auto, using(crate::proofs::Sizes::others_length))]
 fn room_after_others(room: usize, parts: &NodeParts) -> Option<usize>
-    ensures left { IfSome result (λ left. left + length (others_bytes (stored_of parts.now)) ≡ room) }
+    ensures left { IfSome result
+        (λ left. left + length (others_bytes (stored_of parts.now)) ≡ room) }
     ensures short { IfSome result (λ _. AreOthersShort room (stored_of parts.now)) }
     ensures over { IfNone result (room < length (others_bytes (stored_of parts.now))) }
 {
@@ -234,8 +239,8 @@ impl NodeParts {
     ///
     /// # Errors
     ///
-    /// [`Refusal::ImageTooLarge`] where there are more than [`GREATEST_IMAGE`]. Where there are not,
-    /// [`Refusal::Memory`] where memory is refused.
+    /// [`Refusal::ImageTooLarge`] where there are more than [`GREATEST_IMAGE`]. Where there are
+    /// not, [`Refusal::Memory`] where memory is refused.
     pub fn to_bytes(&self, alloc: Global) -> Result<Vec<u8>, Refusal>
         ensures spelled { IfOk result (λ v. v.items ≡ spelling (stored_of self.now)) }
         ensures within { OnOk result (length (spelling (stored_of self.now)) ≤ GREATEST_IMAGE) }
