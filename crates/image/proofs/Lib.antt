@@ -1,0 +1,11 @@
+pub mod Loops
+pub mod Combining
+pub mod Front
+pub mod Lists
+pub mod Whole
+pub mod Consuming
+pub mod Sizes
+pub mod Appending
+pub mod Spelled
+pub mod Rows
+pub mod Made
