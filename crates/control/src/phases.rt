@@ -158,14 +158,6 @@ impl Phases {
         self.cursor
     }
 
-    /// The last cycle that each node reported as swept, in order of their numbers; 0 where one
-    /// reported none.
-    pub fn reports(&self) -> &[u64]
-        ensures { result.now ≡ self.now.reports }
-    {
-        &self.reports
-    }
-
     /// The last cycle that this node reported as swept; 0 where it reported none.
     pub fn report(&self, node: u8) -> u64
         requires { node < length self.now.reports }

@@ -2,7 +2,6 @@ mod asking;
 mod collecting;
 mod links;
 mod objects;
-mod parts;
 mod taking;
 
 use crate::{Answer, Event, Letter, Node, Summary};
