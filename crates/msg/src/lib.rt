@@ -22,13 +22,13 @@
 
 mod body;
 mod frame;
-pub mod reading;
+mod reading;
 mod tags;
 mod text;
-pub mod writing;
+mod writing;
 
 pub use body::{Body, Colour, Message, Token};
-pub use frame::{Ack, Data, Frame, body_fits, grammar, optional_fits};
+pub use frame::{Ack, Data, Frame, grammar};
 pub use reading::decode;
 pub use writing::encode;
 

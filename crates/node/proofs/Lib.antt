@@ -18,6 +18,3 @@ mod Standing
 mod Errands
 mod Outcomes
 mod Receipts
-mod Lists
-mod Listed
-pub mod Restorable

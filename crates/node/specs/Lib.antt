@@ -5,4 +5,3 @@ pub mod Summaries
 pub mod Sending
 pub mod Cycles
 pub mod Taking
-pub mod Parts

@@ -11,4 +11,3 @@ pub mod Sitting
 pub mod Numbers
 pub mod Rows
 pub mod NewWires
-pub mod Nothing

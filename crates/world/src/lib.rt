@@ -6,7 +6,6 @@ mod frames;
 mod headline;
 mod outbox;
 mod reaching;
-mod saved;
 mod sim;
 mod site;
 

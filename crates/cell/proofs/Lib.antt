@@ -1,7 +1,0 @@
-pub mod Quiet
-pub mod Standing
-pub mod Found
-pub mod Releasing
-pub mod Opening
-pub mod Refusing
-pub mod NewCells

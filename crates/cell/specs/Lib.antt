@@ -1,5 +1,0 @@
-pub mod Desks
-pub mod Disks
-pub mod Events
-pub mod Sending
-pub mod Pumping
