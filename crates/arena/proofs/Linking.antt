@@ -55,7 +55,8 @@ module _ {T : Type 0} where
       → r ≡ row (map unlinked_of ss) limit → map slot_of r.items ≡ ss
   seen_after ss is = rw is (slots-unlinked ss)
 
-  free_unlinked : (s : Slot T) → IsFree (slot_of (unlinked_of s)) → is_unlinked (unlinked_of s) ≡ true
+  free_unlinked : (s : Slot T) → IsFree (slot_of (unlinked_of s))
+      → is_unlinked (unlinked_of s) ≡ true
   free_unlinked (slot.Free g) free = refl
   free_unlinked (slot.Occupied g x) free = absurd free
   free_unlinked slot.Retired free = absurd free
@@ -250,7 +251,9 @@ module _ {T : Type 0} where
       → k < length es
   free_within_entries [] k free = absurd free
   free_within_entries (e ∷ es) zero free = omega arith
-  free_within_entries (e ∷ es) (suc k) free = let rest = free_within_entries es k free in omega arith
+  free_within_entries (e ∷ es) (suc k) free =
+      let rest = free_within_entries es k free in
+      omega arith
 
   -- what stands first on a list of free slots, of which some are left
   pub record Next (es : List (Entry T)) (left first : ℕ) (e : Entry T) : Type 0 where

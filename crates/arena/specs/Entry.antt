@@ -31,12 +31,6 @@ module _ {T : Type 0} where
   occupied_by (Occupied g y) x = Occupied g x
   occupied_by Retired x = Retired
 
-  -- the copy is the same, but for a clone in place of the value
-  abbrev pub IsEntryClone : (T → T → Type 0) → Entry T → Entry T → Type 0
-  IsEntryClone is_clone (Free g next) copy = copy ≡ Free g next
-  IsEntryClone is_clone (Occupied g x) copy = (y : T) × (copy ≡ Occupied g y) × is_clone x y
-  IsEntryClone is_clone Retired copy = copy ≡ Retired
-
   -- so many slots, from this one on, each the one that the one before names
   abbrev pub chain : List (Entry T) → ℕ → ℕ → List ℕ
   chain es zero k = []

@@ -7,7 +7,6 @@ ghost use Rattle.arena.specs.Entry.{slot_of, held_by, next_of, occupied_by};
 ghost use Rattle.arena.specs.Made.{unlinked_of, is_unlinked, linked_to};
 
 use crate::{Generation, Slot};
-use std::alloc::AllocError;
 use std::mem;
 
 /// A slot: as [`crate::Slot`], but a free one also names the free slot that is used after it.
@@ -20,20 +19,6 @@ pub(crate) enum Entry<T> {
 
 /// What stands in a free slot until it is linked; no slot has this number.
 pub(crate) const UNLINKED: u32 = 4_294_967_295;
-
-impl<T: Clone> Clone for Entry<T> {
-    ghost use Rattle.arena.specs.Entry.{IsEntryClone};
-
-    ghost is_clone = { IsEntryClone T.is_clone };
-
-    fn clone(&self) -> Result<Self, AllocError> {
-        match self {
-            Entry::Free(generation, next) => Ok(Entry::Free(*generation, *next)),
-            Entry::Occupied(generation, value) => Ok(Entry::Occupied(*generation, value.clone()?)),
-            Entry::Retired => Ok(Entry::Retired),
-        }
-    }
-}
 
 impl<T> Entry<T> {
     ghost use Rattle.arena.specs.contracts.entry.Entry.{the_row};

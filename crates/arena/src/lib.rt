@@ -23,7 +23,7 @@ use crate::entry::Entry;
 pub use crate::free::FreeSlots;
 use crate::made::Filled;
 use crate::store::Store;
-use std::alloc::{AllocError, Global};
+use std::alloc::Global;
 use std::marker::Model;
 use std::mem;
 
@@ -338,23 +338,5 @@ impl<T> Arena<T> {
     {
         let entry = self.entries.get_mut(key.slot as usize);
         entry.value_mut()
-    }
-}
-
-impl<T: Clone> Arena<T> {
-    /// An arena with clones of the values under the same keys, which gives out the same keys from
-    /// then on. It is for types whose clones are the same value.
-    ///
-    /// It answers [`AllocError`] where there is no memory for the slots, or for a clone.
-    pub fn copy(&self, alloc: Global) -> Result<Self, AllocError>
-        requires { (x y : T) → T.is_clone x y → y ≡ x }
-        ensures { IfOk result (λ a. a ≡ self.now) }
-    {
-        Ok(Arena {
-            entries: self.entries.copy(alloc)?,
-            first: self.first,
-            vacant: self.vacant,
-            len: self.len,
-        })
     }
 }

@@ -1,11 +1,11 @@
 //! A row of items that grows at its end. Nothing else of the crate knows how the items lie in
 //! memory.
 ghost use Rattle.std.specs.Prelude.{◌≡◌, ◌<◌, ◌++◌, ◌∷◌, [], length, slice_index_or};
-ghost use Rattle.std.specs.Prelude.{OnOk, OnErr, IfOk, IfErr};
+ghost use Rattle.std.specs.Prelude.{OnOk, OnErr, IfErr};
 ghost use Rattle.std.specs.Borrow.{sem};
 ghost use Rattle.arena.specs.Row.{row};
 
-use std::alloc::{AllocError, Global};
+use std::alloc::Global;
 use std::marker::Model;
 
 /// At most as many items as its capacity says, numbered from 0 in the order in which they came.
@@ -77,18 +77,5 @@ impl<E> Store<E> {
         ensures unchanged { OnErr result (self.new ≡ self.old) }
     {
         self.items.push(item).map_err(|failed| failed.value)
-    }
-}
-
-impl<E: Clone> Store<E> {
-    /// A store with clones of the items, where a clone is the same value.
-    pub(crate) fn copy(&self, alloc: Global) -> Result<Self, AllocError>
-        requires { (x y : E) → E.is_clone x y → y ≡ x }
-        ensures { IfOk result (λ s. s ≡ self.now) }
-    {
-        Ok(Store {
-            items: Vec::from_clones(alloc, &self.items)?,
-            capacity: self.capacity,
-        })
     }
 }

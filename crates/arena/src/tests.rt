@@ -77,19 +77,6 @@ fn the_slot_freed_last_is_used_first(rt: HostRuntime) -> Result<(), Fault> {
 }
 
 #[test]
-fn a_copy_gives_out_the_same_keys(rt: HostRuntime) -> Result<(), Fault> {
-    let mut arena = Arena::with_limit(rt.alloc(), 3);
-    lettered(&rt, &mut arena)?;
-    assert_eq!(rt; arena.remove(key(1, 1)), Some('b'));
-    let mut copy = arena.copy(rt.alloc()).map_err(|_| Fault::Memory)?;
-    assert_eq!(rt; arena.remove(key(0, 1)), Some('a'));
-    assert_eq!(rt; (copy.high(), copy.len()), (3, 2));
-    assert_eq!(rt; copy.get(key(0, 1)).copied(), Some('a'));
-    assert_eq!(rt; copy.insert('d').ok(), Some(key(1, 2)));
-    Ok(())
-}
-
-#[test]
 fn each_value_is_dropped_once(rt: HostRuntime) {
     let drops = Cell::new(0);
     let mut arena = Arena::with_limit(rt.alloc(), 1_000);

@@ -114,20 +114,6 @@ impl Phases {
         }
     }
 
-    /// Phases that are equal to these. `Memory` where a growth was refused.
-    pub fn copy(&self, alloc: Global) -> Result<Phases, Refusal>
-        ensures same { IfOk result (λ p. p ≡ self.now) }
-        ensures refused { IfErr result (λ e. e ≡ Memory) }
-    {
-        Ok(Phases {
-            cycle: self.cycle,
-            ended: self.ended,
-            swept: self.swept,
-            cursor: self.cursor,
-            reports: Vec::from_slice(alloc, &self.reports)?,
-        })
-    }
-
     /// The cycle that the node joined last; 0 where it joined none. The contract says besides what
     /// is true of all phases.
     pub fn cycle(&self) -> u64
@@ -156,6 +142,14 @@ impl Phases {
         ensures { result ≡ self.now.cursor }
     {
         self.cursor
+    }
+
+    /// The last cycle that each node reported as swept, in order of their numbers; 0 where one
+    /// reported none.
+    pub fn reports(&self) -> &[u64]
+        ensures { result.now ≡ self.now.reports }
+    {
+        &self.reports
     }
 
     /// The last cycle that this node reported as swept; 0 where it reported none.

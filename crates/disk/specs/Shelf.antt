@@ -44,6 +44,10 @@ image_at (Some false) d = recorded d.a
 abbrev pub opened : Areas → Option (List ℕ)
 opened d = image_at (side d.select) d
 
+-- the disk opens to an image, and that is read as this value
+abbrev pub IsReadAs : {V : Type 0} → (List ℕ → V → Type 0) → Option (List ℕ) → V → Type 0
+IsReadAs reads found value = (image : List ℕ) × (found ≡ Some image) × reads image value
+
 -- the disk opens to the old image or to the new one
 abbrev pub OldOrNew : Option (List ℕ) → List ℕ → Areas → Type 0
 OldOrNew old new c = (opened c ≡ old) ⊎ (opened c ≡ Some new)

@@ -1,8 +1,9 @@
 // Values that a shelf keeps.
-ghost use Rattle.std.specs.Prelude.{◌≡◌, ◌⊎◌, ◌<◌, ◌≤◌, List, ℕ, length, IfErr, IfOk, OnOk};
+ghost use Rattle.std.specs.Prelude.{◌≡◌, ◌≢◌, ◌<◌, ◌≤◌, List, ℕ, length, IfErr, IfOk, OnOk};
 ghost use Rattle.ids.specs.declared.limits.TheConstants.{GREATEST_IMAGE};
 
 use ids::Refusal;
+use node::Node;
 use std::alloc::Global;
 
 /// A value that is saved as bytes, its image.
@@ -10,21 +11,48 @@ pub trait Persist: Sized {
     /// The bytes that stand for it.
     ghost image: { Self → List ℕ };
 
-    /// Which bytes stand for some value.
-    ghost is_image: { List ℕ → Type 0 };
+    /// These bytes are read as this value.
+    ghost reads: { List ℕ → Self → Type 0 };
 
-    /// The value's image, which [`from_bytes`](Persist::from_bytes) reads. Refused ImageTooLarge
-    /// where it is longer than an image may be.
+    /// The value as it is read again once it was saved.
+    ghost saved: { Self → Self };
+
+    /// The value's image, which [`from_bytes`](Persist::from_bytes) reads as the value as it is
+    /// once it was saved. Refused ImageTooLarge where it is longer than an image may be, else
+    /// Memory.
     fn to_bytes(&self, alloc: Global) -> Result<Vec<u8>, Refusal>
         ensures bytes { IfOk result (λ v. v.items ≡ image self.now) }
         ensures within { OnOk result (length (image self.now) ≤ GREATEST_IMAGE) }
-        ensures readable { OnOk result (is_image (image self.now)) }
-        ensures refused { IfErr result (λ e. (e ≡ Refusal.Memory)
-            ⊎ ((e ≡ Refusal.ImageTooLarge) × (GREATEST_IMAGE < length (image self.now)))) };
+        ensures readable { OnOk result (reads (image self.now) (saved self.now)) }
+        ensures refused { IfErr result (λ e. e ≢ Refusal.Memory
+            → (e ≡ Refusal.ImageTooLarge) × (GREATEST_IMAGE < length (image self.now))) }
+        ensures last { IfErr result (λ e. e ≡ Refusal.Memory
+            → length (image self.now) ≤ GREATEST_IMAGE) };
 
-    /// The value of which these bytes are the image. Refused BadImage where they are that of none.
+    /// The value as which these bytes are read. Refused BadImage where there is none, and Memory.
     fn from_bytes(alloc: Global, bytes: &[u8]) -> Result<Self, Refusal>
-        ensures value { IfOk result (λ v. image v ≡ bytes.now) }
-        ensures refused { IfErr result (λ e. (e ≡ Refusal.Memory)
-            ⊎ ((e ≡ Refusal.BadImage) × (is_image bytes.now → ⊥))) };
+        ensures value { IfOk result (λ v. reads bytes.now v) }
+        ensures refused { IfErr result (λ e. e ≢ Refusal.Memory
+            → (e ≡ Refusal.BadImage) × ((v : Self) → reads bytes.now v → ⊥)) };
+}
+
+/// A node is saved as its image, in which all that it sent and took in counts as saved.
+impl Persist for Node {
+    ghost use Rattle.model.specs.View.{kept_view};
+    ghost use Rattle.image.specs.Images.{image_of};
+    ghost use Rattle.image.specs.Nodes.{IsImageOf};
+
+    ghost image = { image_of };
+
+    ghost reads = { IsImageOf };
+
+    ghost saved = { kept_view };
+
+    fn to_bytes(&self, alloc: Global) -> Result<Vec<u8>, Refusal> {
+        image::to_bytes(alloc, self)
+    }
+
+    fn from_bytes(alloc: Global, bytes: &[u8]) -> Result<Node, Refusal> {
+        image::from_bytes(alloc, bytes)
+    }
 }

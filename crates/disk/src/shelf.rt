@@ -6,7 +6,7 @@ ghost use Rattle.std.specs.Prelude.{Some};
 ghost use Rattle.ids.specs.declared.limits.TheConstants.{GREATEST_IMAGE};
 ghost use Rattle.disk.specs.Areas.{Areas};
 ghost use Rattle.disk.specs.Crashes.{Grew, HasCause, LeavesOnly, Only, Unmoved};
-ghost use Rattle.disk.specs.Shelf.{IsSettled, NoneOrNew, OldOrNew, opened, side};
+ghost use Rattle.disk.specs.Shelf.{IsReadAs, IsSettled, NoneOrNew, OldOrNew, opened, side};
 
 use crate::save::{chosen, half, lay, load, record, swap};
 use crate::{Disk, DiskFault, MemoryDisk, Persist};
@@ -57,10 +57,10 @@ pub fn is_blank<D: Disk>(disk: &mut D) -> Result<bool, DiskFault>
 /// and the side where its image is.
 fn recall<D: Disk, N: Persist + Drop>(alloc: Global, disk: &mut D) -> Result<(bool, N), Refusal>
     ensures side { IfOk result (λ r. side (D.seen disk.old).select ≡ Some r.0) }
-    ensures value { IfOk result (λ r. opened (D.seen disk.old) ≡ Some (N.image r.1)) }
+    ensures value { IfOk result (λ r. IsReadAs N.reads (opened (D.seen disk.old)) r.1) }
     ensures durable { OnOk result (Only (D.seen disk.new) (D.may_leave disk.new)) }
-    ensures bad { IsErrOf result Refusal.BadImage →
-        (image : List ℕ) → opened (D.seen disk.old) ≡ Some image → N.is_image image → ⊥ }
+    ensures bad { IfErr result (λ e. e ≡ Refusal.BadImage →
+        (value : N) → IsReadAs N.reads (opened (D.seen disk.old)) value → ⊥) }
     ensures quiet { Unmoved D.seen D.may_leave D.moment D.left_since disk.old disk.new }
     ensures cause { HasCause (D.faults disk.old) (D.faults disk.new) (IsErrOf result Refusal.Disk) }
     ensures others { IfErr result (λ e. (e ≡ Refusal.Memory)
@@ -90,7 +90,7 @@ impl<D: Disk> Shelf<D> {
 
         ensures created { IfOk result (λ s. opened (D.seen s.disk) ≡ Some (N.image value.now)) }
         ensures ready { IfOk result (λ s. s.ready ≡ true) }
-        ensures readable { OnOk result (N.is_image (N.image value.now)) }
+        ensures readable { OnOk result (N.reads (N.image value.now) (N.saved value.now)) }
         ensures any_moment { MatchResult result
             (λ s. LeavesOnly D.moment D.left_since disk s.disk (NoneOrNew (N.image value.now)))
             (λ e. LeavesOnly D.moment D.left_since disk e.0 (NoneOrNew (N.image value.now))) }
@@ -130,11 +130,11 @@ impl<D: Disk> Shelf<D> {
     pub fn open<N: Persist + Drop>(alloc: Global, mut disk: D) -> Result<(Shelf<D>, N), Refusal>
     where
         D: Drop,
-        ensures opened { IfOk result (λ r. opened (D.seen disk) ≡ Some (N.image r.1)) }
+        ensures opened { IfOk result (λ r. IsReadAs N.reads (opened (D.seen disk)) r.1) }
         ensures same { IfOk result (λ r. D.seen r.0.disk ≡ D.seen disk) }
         ensures ready { IfOk result (λ r. r.0.ready ≡ true) }
-        ensures bad { IsErrOf result Refusal.BadImage →
-            (image : List ℕ) → opened (D.seen disk) ≡ Some image → N.is_image image → ⊥ }
+        ensures bad { IfErr result (λ e. e ≡ Refusal.BadImage →
+            (value : N) → IsReadAs N.reads (opened (D.seen disk)) value → ⊥) }
         ensures quiet { IfOk result (λ r.
             Unmoved D.seen D.may_leave D.moment D.left_since disk r.0.disk) }
         ensures others { IfErr result (λ e. (e ≡ Refusal.Memory)
@@ -155,11 +155,11 @@ impl<D: Disk> Shelf<D> {
     ///
     /// Refused as [`open`](Shelf::open); the shelf is then closed.
     pub fn reopen<N: Persist + Drop>(&mut self) -> Result<N, Refusal>
-        ensures opened { IfOk result (λ v. opened (D.seen self.old.disk) ≡ Some (N.image v)) }
+        ensures opened { IfOk result (λ v. IsReadAs N.reads (opened (D.seen self.old.disk)) v) }
         ensures ready { OnOk result (self.new.ready ≡ true) }
         ensures shut { IsErr result → self.new.ready ≡ false }
-        ensures bad { IsErrOf result Refusal.BadImage →
-            (image : List ℕ) → opened (D.seen self.old.disk) ≡ Some image → N.is_image image → ⊥ }
+        ensures bad { IfErr result (λ e. e ≡ Refusal.BadImage →
+            (value : N) → IsReadAs N.reads (opened (D.seen self.old.disk)) value → ⊥) }
         ensures quiet { Unmoved D.seen D.may_leave D.moment D.left_since
             self.old.disk self.new.disk }
         ensures disk { IsErrOf result Refusal.Disk →
@@ -182,7 +182,9 @@ impl<D: Disk> Shelf<D> {
     pub fn save<N: Persist>(&mut self, value: &N) -> Result<(), Refusal>
         ensures saved { OnOk result (opened (D.seen self.new.disk) ≡ Some (N.image value.now)) }
         ensures ready { OnOk result (self.new.ready ≡ true) }
-        ensures readable { OnOk result (N.is_image (N.image value.now)) }
+        ensures readable { MatchResult result
+            (λ _. N.reads (N.image value.now) (N.saved value.now))
+            (λ e. e ≡ Refusal.Disk → N.reads (N.image value.now) (N.saved value.now)) }
         ensures any_moment { IsTrue self.old.ready →
             LeavesOnly D.moment D.left_since self.old.disk self.new.disk
             (OldOrNew (opened (D.seen self.old.disk)) (N.image value.now)) }

@@ -30,7 +30,9 @@ impl Note {
 impl Persist for Note {
     ghost image = { λ n. 84 ∷ n.text.items };
 
-    ghost is_image = { λ bytes. (text : List ℕ) × (bytes ≡ 84 ∷ text) };
+    ghost reads = { λ bytes n. bytes ≡ 84 ∷ n.text.items };
+
+    ghost saved = { λ n. n };
 
     fn to_bytes(&self, alloc: Global) -> Result<Vec<u8>, Refusal> {
         if self.text.len() as u64 >= GREATEST_IMAGE {

@@ -59,19 +59,4 @@ impl Heap {
             grey: Vec::new(alloc),
         })
     }
-
-    /// A heap with the same content and the same limit. How much room it has is its own.
-    ///
-    /// It answers [`Refusal::Memory`] where there is no memory for it.
-    pub fn copy(&self, alloc: Global) -> Result<Heap, Refusal>
-        ensures same { IfOk result (λ h. Holds h self.now.heap self.now.limit) }
-        ensures refused { IfErr result (λ e. e ≡ Memory) }
-    {
-        Ok(Heap {
-            objects: self.objects.copy(alloc)?,
-            registers: Vec::from_slice(alloc, &self.registers)?,
-            letters: self.letters.clone()?,
-            grey: Vec::from_slice(alloc, &self.grey)?,
-        })
-    }
 }

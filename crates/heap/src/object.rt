@@ -8,7 +8,7 @@ ghost use Rattle.model.specs.Heaps.{new_object};
 ghost use Rattle.model.specs.Shading.{with_mark, filled};
 
 use ids::{GREATEST_PLACES, Ref, Refusal};
-use std::alloc::{AllocError, Global};
+use std::alloc::Global;
 use std::marker::Model;
 
 /// An object: the program's word, its places, at most [`GREATEST_PLACES`] of them, and the cycle
@@ -145,17 +145,5 @@ impl Object {
             }
             None => Err(Refusal::NoField),
         }
-    }
-}
-
-impl Clone for Object {
-    ghost is_clone = { λ v w. w ≡ v };
-
-    fn clone(&self) -> Result<Object, AllocError> {
-        Ok(Object {
-            word: self.word,
-            places: Vec::from_slice(*self.places.allocator(), &self.places)?,
-            mark: self.mark,
-        })
     }
 }

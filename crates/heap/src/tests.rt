@@ -114,22 +114,6 @@ fn the_oldest_letter_is_taken_first(rt: HostRuntime) -> Result<(), Refusal> {
     Ok(())
 }
 
-#[test]
-fn a_copy_goes_its_own_way(rt: HostRuntime) -> Result<(), Refusal> {
-    let mut heap = small(&rt, rt.alloc())?;
-    heap.alloc(OWN, CYCLE, 0, 3)?;
-    heap.make_room(0, 1)?;
-    heap.add_letter(letter(7, None));
-    let mut copy = heap.copy(rt.alloc())?;
-    heap.drop_register(0)?;
-    assert_eq!(rt; copy.register(0), Ok(Some(first(0))));
-    assert_eq!(rt; copy.take_letter(1), Ok(letter(7, None)));
-    assert_eq!(rt; heap.letters(), 1);
-    assert_eq!(rt; copy.alloc(OWN, CYCLE, 1, 0), Ok(first(1)));
-    assert_eq!(rt; (copy.live(), heap.live()), (2, 1));
-    Ok(())
-}
-
 // A heap with an object in each of its two slots, the second of which register 1 names. The first
 // has no place, the second has two, and its last one names the first.
 fn linked(rt: &impl Abort, alloc: Global) -> Result<Heap, Refusal> {

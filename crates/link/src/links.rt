@@ -57,16 +57,6 @@ impl Ends {
         self.sender.kept();
         self.receiver.kept();
     }
-
-    fn copy(&self, alloc: Global) -> Result<Ends, Refusal>
-        ensures same { IfOk result (λ e. e ≡ self.now) }
-        ensures refused { IfErr result (λ e. e ≡ Memory) }
-    {
-        Ok(Ends {
-            sender: self.sender.copy(alloc)?,
-            receiver: self.receiver,
-        })
-    }
 }
 
 /// What a node holds of the links between it and each node of its space, itself among them: for
@@ -329,18 +319,5 @@ impl Links {
         for ends in self.by_node.iter_mut() {
             ends.kept();
         }
-    }
-
-    /// Links that are equal to these. [`Refusal::Memory`] where a growth was refused. It takes time
-    /// for each message that is kept.
-    pub fn copy(&self, alloc: Global) -> Result<Links, Refusal>
-        ensures same { IfOk result (λ l. l ≡ self.now) }
-        ensures refused { IfErr result (λ e. e ≡ Memory) }
-    {
-        let mut by_node = Vec::with_capacity(alloc, self.by_node.len())?;
-        for ends in self.by_node.iter() {
-            by_node.push(ends.copy(alloc)?)?;
-        }
-        Ok(Links { by_node })
     }
 }

@@ -24,8 +24,8 @@ pub struct LinkParts {
 
 impl Links {
     /// The links of a saved node: for each node of its space, itself among them, what it holds of
-    /// those between it and that node, in order of the nodes' numbers. All of it counts as held by a
-    /// saved node: the messages as released, and what was taken in as acknowledged. It takes time
+    /// those between it and that node, in order of the nodes' numbers. All of it counts as held by
+    /// a saved node: the messages as released, and what was taken in as acknowledged. It takes time
     /// for each node, and none for the messages.
     ///
     /// It answers [`Refusal::BadImage`] where there are more nodes than their numbers allow, or a

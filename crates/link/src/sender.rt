@@ -170,16 +170,4 @@ impl Sender {
             None
         }
     }
-
-    /// A sender that is equal to this one. [`Refusal::Memory`] where a growth was refused.
-    pub fn copy(&self, alloc: Global) -> Result<Sender, Refusal>
-        ensures same { IfOk result (λ s. s ≡ self.now) }
-        ensures refused { IfErr result (λ e. e ≡ Memory) }
-    {
-        Ok(Sender {
-            base: self.base,
-            unacknowledged: self.unacknowledged.iter().copied().collect(alloc)?,
-            kept: self.kept,
-        })
-    }
 }

@@ -134,25 +134,6 @@ fn an_unsaved_message_is_taken_back(rt: HostRuntime) -> Result<(), Refusal> {
     Ok(())
 }
 
-#[test]
-fn a_copy_goes_its_own_way(rt: HostRuntime) -> Result<(), Refusal> {
-    let mut original = released(rt.alloc(), 2)?;
-    original.trim(1)?;
-    original.append(letter(3))?;
-    let mut copy = original.copy(rt.alloc())?;
-    assert_eq!(rt; shown(&copy), shown(&original));
-    let messages = [None, None, Some(letter(2)), Some(letter(3))];
-    let window = [Some(letter(2)), None, None, None];
-    assert_eq!(rt; shown(&copy), ([1, 2, 3], messages, window));
-
-    assert_eq!(rt; copy.append(letter(4)), Ok(4));
-    copy.kept();
-    assert_eq!(rt; copy.trim(4), Ok(()));
-    assert_eq!(rt; shown(&copy), ([4, 4, 4], [None; 4], [None; 4]));
-    assert_eq!(rt; shown(&original), ([1, 2, 3], messages, window));
-    Ok(())
-}
-
 // What a receiver is offered as messages 0 to 3.
 fn offers(receiver: &Receiver) -> [Result<Offer, Refusal>; 4] {
     [0, 1, 2, 3].map(|number| receiver.offer(number))
@@ -228,10 +209,8 @@ fn from_each_node_messages_are_taken_in(rt: HostRuntime) -> Result<(), Refusal> 
     assert_eq!(rt; (links.taken(0), links.taken(1)), (0, 1));
     assert_eq!(rt; (links.ack_number(0), links.ack_number(1)), (0, 0));
     links.kept();
-    let copy = links.copy(rt.alloc())?;
     links.take_next(1);
     assert_eq!(rt; (links.taken(1), links.ack_number(1)), (2, 1));
-    assert_eq!(rt; (copy.taken(1), copy.ack_number(1)), (1, 1));
     Ok(())
 }
 

@@ -2,14 +2,14 @@
 use Rattle.std.proofs.Common.{◌≡◌, ◌≢◌, true, Ok, refl, inl}
 use Rattle.ids.specs.Limits.{Shaped}
 use Rattle.ids.specs.declared.refusal.Refusal.{Refusal}
-use Rattle.ids.specs.declared.refusal.Refusal.TheVariants.{Memory}
-use Rattle.model.specs.Checks.{IsFirstRefusal}
-use Rattle.model.specs.World.{FollowsStep, World, new_world, is_shading_step, is_step_memory_free, take_step}
+use Rattle.ids.specs.declared.refusal.Refusal.TheVariants.{Memory, ImageTooLarge}
+use Rattle.model.specs.World.{FollowsStep, IsStepRefusal, World, new_world, is_step_memory_free}
 use Rattle.model.specs.declared.step.Step.{Step}
 use Rattle.model.specs.declared.step.Outcome.{Outcome}
 use Rattle.model.specs.declared.step.Outcome.TheVariants as outcome
 use Rattle.markring.specs.declared.script.Reply.TheVariants as reply
 use Rattle.markring.specs.declared.script.State.TheVariants as state
+use Rattle.world.specs.Shows.{IsSmall}
 use Rattle.markring.specs.Script.{Held, awaited, denied, there, ShowsHeld, TakesSpace, TakesStep}
 
 module _ {S : Type 0} (shows : S → World → Type 0) where
@@ -34,10 +34,11 @@ module _ {S : Type 0} (shows : S → World → Type 0) where
   -- one that was refused
   pub refusal_shows : (h : Held) (step : Step) (x y : S) (e : Refusal)
       → ShowsHeld shows (state.Open x) h
-      → ((w : World) → shows x w → IsFirstRefusal (is_shading_step step) e (take_step w step)
-      × (is_step_memory_free w step ≡ true → e ≢ Memory) × shows y w)
+      → ((w : World) → shows x w → IsStepRefusal w step e
+      × (is_step_memory_free w step ≡ true → e ≢ Memory)
+      × (IsSmall w step → e ≢ ImageTooLarge) × shows y w)
       → (k : Held) × TakesStep h step (reply.Refused e) k × ShowsHeld shows (state.Open y) k
   refusal_shows awaited step x y e shown refused = absurd shown
   refusal_shows denied step x y e shown refused = absurd shown
   refusal_shows (there w) step x y e shown refused =
-      let r = refused w shown in (there w, (r.0, r.1, refl), r.2)
+      let r = refused w shown in (there w, (r.0, r.1, r.2, refl), r.3)

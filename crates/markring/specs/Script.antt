@@ -3,9 +3,8 @@ use Rattle.std.specs.Prelude.{◌≡◌, ◌≢◌, ℕ, ◌+◌, true, max, Lis
 use Rattle.std.specs.Io.KnownBytes.{Appends}
 use Rattle.std.specs.Str.Lines.{lines}
 use Rattle.ids.specs.Limits.{Shaped, IsShape}
-use Rattle.ids.specs.declared.refusal.Refusal.TheVariants.{Memory, NoNode}
-use Rattle.model.specs.Checks.{IsFirstRefusal}
-use Rattle.model.specs.World.{World, new_world, is_shading_step, is_step_memory_free, take_step}
+use Rattle.ids.specs.declared.refusal.Refusal.TheVariants.{Memory, NoNode, ImageTooLarge}
+use Rattle.model.specs.World.{World, IsStepRefusal, new_world, is_step_memory_free, take_step}
 use Rattle.model.specs.declared.step.Outcome.TheVariants as outcome
 use Rattle.model.specs.declared.step.Step.{Step}
 use Rattle.markring.specs.declared.line.Line.{Line}
@@ -15,7 +14,7 @@ use Rattle.markring.specs.declared.script.Reply.TheVariants as reply
 use Rattle.markring.specs.declared.script.State.{State}
 use Rattle.markring.specs.declared.script.State.TheVariants as state
 use Rattle.markring.specs.Grammar.{line_of, words_of}
-use Rattle.world.specs.Shows.{summary_at}
+use Rattle.world.specs.Shows.{IsSmall, summary_at}
 use Rattle.markring.specs.Text.{outcome_text, refused_text, summary_text}
 use Rattle.node.specs.declared.summary.Summary.{Summary}
 
@@ -39,14 +38,15 @@ Moves shows becomes old new =
     (h : Held) → ShowsHeld shows old h
     → (later : Held) × becomes h later × ShowsHeld shows new later
 
--- what is printed for a step of a space that is there, and the space afterwards; a step that takes
--- no memory is not refused for want of it
+-- What is printed for a step of a space that is there, and the space afterwards. A step that takes
+-- no memory is not refused for want of it, and no save of a small image because it is too large.
 abbrev pub IsStepReply : World → Step → Reply → Held → Type 0
 IsStepReply w step (reply.Outcome o) later =
     (v : World) × (take_step w step ≡ Ok (v, o)) × (later ≡ there v)
 IsStepReply w step (reply.Refused e) later =
-    IsFirstRefusal (is_shading_step step) e (take_step w step)
+    IsStepRefusal w step e
     × (is_step_memory_free w step ≡ true → e ≢ Memory)
+    × (IsSmall w step → e ≢ ImageTooLarge)
     × (later ≡ there w)
 IsStepReply w step reply.Nothing later = ⊥
 IsStepReply w step (reply.Summary s) later = ⊥

@@ -1,9 +1,9 @@
 //! Runs a script over a space of nodes.
 ghost use Rattle.std.specs.Prelude.{◌≡◌, ◌≤◌, ◌⊎◌, IfOk, IfErr, OnOk, IsTrue, ◌≢◌};
 ghost use Rattle.std.specs.Io.KnownBytes.{Appends};
-ghost use Rattle.ids.specs.declared.refusal.Refusal.TheVariants.{Memory};
+ghost use Rattle.ids.specs.declared.refusal.Refusal.TheVariants.{Memory, ImageTooLarge};
 ghost use Rattle.model.specs.World.{World, FollowsStep, new_world, is_own_step, is_step_memory_free};
-ghost use Rattle.world.specs.Shows.{ShowsWorld, summary_at};
+ghost use Rattle.world.specs.Shows.{ShowsWorld, IsSmall, summary_at};
 ghost use Rattle.markring.specs.Grammar.{line_of, words_of};
 ghost use Rattle.markring.specs.Script.{Moves, PrintsNoScript, PrintsReplies, RunsScript, TakesLine, TakesSpace, TakesState, TakesStep, reply_text, status_after};
 
@@ -37,13 +37,15 @@ trait Space: Drop + Sized {
         ensures refused { IfErr result (λ e. e ≡ Memory) };
 
     /// Takes a step, or refuses it and changes nothing. A step that takes no memory is not refused
-    /// for want of it.
+    /// for want of it, and no save of a small image because it is too large.
     fn step(&mut self, step: Step) -> Result<Outcome, Refusal>
         requires own { IsTrue (is_own_step step) }
         ensures follows { (w : World) → shows self.old w
             → FollowsStep shows w step result self.new }
         ensures memory_free { (w : World) → shows self.old w → IsTrue (is_step_memory_free w step)
-            → IfErr result (λ e. e ≢ Memory) };
+            → IfErr result (λ e. e ≢ Memory) }
+        ensures small { (w : World) → shows self.old w → IsSmall w step
+            → IfErr result (λ e. e ≢ ImageTooLarge) };
 
     /// The node of this number in numbers, if there is one.
     fn state(&self, number: u8) -> Option<Summary>

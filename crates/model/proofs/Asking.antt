@@ -29,7 +29,7 @@ eqb-flip a b =
     (λ other. other ∙ sym (ne_eqb b a (λ e. eqb-false a b other (sym e))))
     (cases_Bool (eqb a b))
 
-same-flip : (r s : Ref) → is_same r s ≡ is_same s r
+pub same-flip : (r s : Ref) → is_same r s ≡ is_same s r
 same-flip r s =
     rw (eqb-flip r.node s.node, eqb-flip r.slot s.slot, eqb-flip r.generation s.generation) refl
 

@@ -1,9 +1,9 @@
 -- A space of nodes: for each its current state and the one last saved ("A space" in docs/RULES.md).
-use Rattle.std.specs.Prelude.{◌++◌, ◌≡◌, ◌≢◌, ℕ, ◌-◌, ◌<◌, ◌≤◌, Bool, true, false, cond, nat_lt, nat_le, ◌==◌, ◌&&◌, ◌||◌, not, is_some, List, [], ◌∷◌, length, map, Option, Some, None, Result, Ok, Err, slice_get, slice_set}
+use Rattle.std.specs.Prelude.{◌++◌, ◌≡◌, ◌≢◌, ℕ, ◌-◌, ◌<◌, ◌≤◌, Bool, true, false, cond, nat_lt, nat_le, ◌==◌, ◌&&◌, ◌||◌, not, is_some, List, [], ◌∷◌, length, map, Option, Some, None, Result, Ok, Err, IsOk, slice_get, slice_set}
 use Rattle.std.specs.List.{range_with_len}
 use Rattle.ids.specs.Limits.{Shaped}
 use Rattle.ids.specs.declared.refusal.Refusal.{Refusal}
-use Rattle.ids.specs.declared.refusal.Refusal.TheVariants.{NoNode, AckBeyond, WrongNode}
+use Rattle.ids.specs.declared.refusal.Refusal.TheVariants.{NoNode, AckBeyond, WrongNode, ImageTooLarge}
 use Rattle.msg.specs.Grammar.{Plain, data_frame, ack_frame}
 use Rattle.msg.specs.declared.body.Message.{Message}
 use Rattle.model.specs.declared.event.Answer.{Answer}
@@ -143,15 +143,20 @@ is_step_memory_free w (step.Deliver from to number) =
     || not (is_next (node_at w.current to).local from number))
 is_step_memory_free w (step.Hand from to) = true
 
+-- Why a step was refused: for the first reason that applies. A space can't tell that the image of a
+-- node is too large, since an image lacks the messages that were acknowledged, and no state says
+-- which these are. For that only a save is refused, and only in place of an answer.
+abbrev pub IsStepRefusal : World → Step → Refusal → Type 0
+IsStepRefusal w (step.Save i) ImageTooLarge = IsOk (take_step w (step.Save i))
+IsStepRefusal w s e = IsFirstRefusal (is_shading_step s) e (take_step w s)
+
 -- What a step answered, and the space of the code after it, against the step of the definitions;
 -- `shows` says which space of the definitions one of the code shows. An answer is the definition's,
--- and the space of the definition is then shown; a refusal is the first that applies, and the same
--- space is shown as before.
+-- and the space of the definition is then shown; after a refusal the same space is shown as before.
 abbrev pub FollowsStep : {S : Type 0} → (S → World → Type 0) → World → Step
     → Result Outcome Refusal → S → Type 0
 FollowsStep shows w s (Ok o) new = (v : World) × (take_step w s ≡ Ok (v, o)) × shows new v
-FollowsStep shows w s (Err e) new =
-    IsFirstRefusal (is_shading_step s) e (take_step w s) × shows new w
+FollowsStep shows w s (Err e) new = IsStepRefusal w s e × shows new w
 
 -- Whether what became of a step is an event of the space. Reading a word is none, nor is a message
 -- that was taken in before, one that isn't there, an acknowledgement handed over, and what was

@@ -38,7 +38,7 @@ reference_read = record { takes = reference_takes; again = reference_again }
 
 -- ---- references that may be left out
 
-abbrev IsOptionOfWidth : Option Ref → Type 0
+abbrev pub IsOptionOfWidth : Option Ref → Type 0
 IsOptionOfWidth o = IfSome o IsReferenceOfWidth
 
 optional_takes : (bytes : List ℕ) (x : Option Ref × List ℕ) → IsBytes bytes
@@ -64,10 +64,10 @@ optional_read = record { takes = optional_takes; again = optional_again }
 
 -- ---- tokens
 
-abbrev colour_bytes : Colour → List ℕ
+abbrev pub colour_bytes : Colour → List ℕ
 colour_bytes colour = colour_byte colour ∷ []
 
-abbrev IsAnyColour : Colour → Type 0
+abbrev pub IsAnyColour : Colour → Type 0
 IsAnyColour colour = Unit
 
 colour_takes : (bytes : List ℕ) (x : Colour × List ℕ) → IsBytes bytes → colour_at bytes ≡ Some x
@@ -85,10 +85,10 @@ unfolding colour_at
 colour_again White rest fits = refl
 colour_again Black rest fits = refl
 
-colour_read : Reads Colour colour_bytes IsAnyColour colour_at
+pub colour_read : Reads Colour colour_bytes IsAnyColour colour_at
 colour_read = record { takes = colour_takes; again = colour_again }
 
-abbrev IsTokenOfWidth : Token → Type 0
+abbrev pub IsTokenOfWidth : Token → Type 0
 IsTokenOfWidth token = FitsSigned w64 token.q
 
 token_takes : (bytes : List ℕ) (x : Token × List ℕ) → IsBytes bytes → token_at bytes ≡ Some x
@@ -106,7 +106,7 @@ token_again token rest fits =
     two_again colour_read signed_read (λ colour q. record { colour = colour; q = q }) token.colour
     token.q rest tt fits
 
-token_read : Reads Token token_bytes IsTokenOfWidth token_at
+pub token_read : Reads Token token_bytes IsTokenOfWidth token_at
 token_read = record { takes = token_takes; again = token_again }
 
 -- ---- bodies, each behind its tag

@@ -2,13 +2,13 @@
 use Rattle.std.proofs.Common.{◌≡◌, ℕ, suc, ◌+◌, ◌^◌, ◌<◌, ◌≤◌, Bool, true, false, cond, ltb, List, [], ◌∷◌, ◌++◌, length, get_or, take, drop, Option, Some, None, refl, sym, ap, subst, ◌∙◌, append_assoc, arith, ◌⊎◌, inl, inr, eqb}
 use Rattle.std.specs.Prelude.{ℤ}
 use Rattle.std.specs.Option.{option_and_then}
-use Rattle.std.specs.Int.{Width, w32, w64, byte_len, to_be_bytes, cast_signed, cast_unsigned}
+use Rattle.std.specs.Int.{Width, w16, w32, w64, byte_len, to_be_bytes, cast_signed, cast_unsigned}
 use Rattle.std.specs.Int.RustNames.{FitsSigned}
 use Rattle.std.proofs.Math.Facts.{sfits_to_z, Fits-of_z, Fits-lt-pow}
 use Rattle.std.proofs.lemmas.Bool.{cases_lt, ltb-false, le-ltb, eqb-true}
 use Rattle.std.proofs.lemmas.Int.{of_z-to_z, to_z-of_z}
 use Rattle.std.proofs.lemmas.List.{append-nil, drop_at, take-append-drop, length-append, length-take, get_or-drop, get_or-take, get_or_past}
-use Rattle.std.proofs.lemmas.Nat.{be_bytes_4, be_bytes_8}
+use Rattle.std.proofs.lemmas.Nat.{be_bytes_2, be_bytes_4, be_bytes_8}
 use Rattle.std.proofs.lemmas.Option.{option_and_then_some, same_Some, cond_some}
 use Rattle.byteorder.specs.Endian.{big_number}
 use Rattle.byteorder.specs.Numbers.{big_from-lt, big_from-take, big_number-reads_back}
@@ -236,6 +236,12 @@ record IsWide (w : Width) : Type 0 where
       → to_be_bytes w (big_number (byte_len w) bytes) ≡ bytes
   len : (n : ℕ) → length (to_be_bytes w n) ≡ byte_len w
 
+wide16 : IsWide w16
+wide16 = record {
+  back = λ bytes len fits. be_bytes_2 bytes _ len fits (omega arith);
+  len = λ n. refl;
+}
+
 wide32 : IsWide w32
 wide32 = record {
   back = λ bytes len fits. be_bytes_4 bytes _ len fits (omega arith);
@@ -279,6 +285,9 @@ number_again w wide n rest lt =
     le-ltb _ _ (omega (arith, length-append (to_be_bytes w n) rest)) in
     let number : big_number k (to_be_bytes w n ++ rest) ≡ n = big_number-reads_back k n rest lt in
     rw (long, drop_at (to_be_bytes w n) rest k len, number) refl
+
+pub number16_read : Reads ℕ (to_be_bytes w16) (λ n. n < 2 ^ 16) (number_at 2)
+number16_read = record { takes = number_takes w16 wide16; again = number_again w16 wide16 }
 
 pub number32_read : Reads ℕ (to_be_bytes w32) (λ n. n < 2 ^ 32) (number_at 4)
 number32_read = record { takes = number_takes w32 wide32; again = number_again w32 wide32 }

@@ -45,7 +45,8 @@ fn nodes_fit(from: u8, to: u8) -> bool
     from < GREATEST_NODES && to < GREATEST_NODES && from != to
 }
 
-fn optional_fits(reference: Option<Ref>) -> bool
+/// Whether the reference, where there is one, is within the limits, as [`Ref::fits`] says.
+pub fn optional_fits(reference: Option<Ref>) -> bool
     ensures { result ≡ optional_fits reference }
 {
     reference.is_none_or(Ref::fits)
@@ -57,7 +58,9 @@ fn place_fits(target: Ref, place: u8) -> bool
     target.fits() && place < GREATEST_PLACES
 }
 
-fn body_fits(body: Body) -> bool
+/// Whether all that the body says is within the limits: its references, as [`Ref::fits`] says, and
+/// its place, which is below [`GREATEST_PLACES`].
+pub fn body_fits(body: Body) -> bool
     ensures { result ≡ body_fits body }
 {
     match body {

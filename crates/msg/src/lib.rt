@@ -22,13 +22,13 @@
 
 mod body;
 mod frame;
-mod reading;
+pub mod reading;
 mod tags;
 mod text;
-mod writing;
+pub mod writing;
 
 pub use body::{Body, Colour, Message, Token};
-pub use frame::{Ack, Data, Frame, grammar};
+pub use frame::{Ack, Data, Frame, body_fits, grammar, optional_fits};
 pub use reading::decode;
 pub use writing::encode;
 

@@ -16,7 +16,9 @@ use crate::tags::{
 use byteorder::{BigEndian, ByteOrder};
 use ids::{Ref, Refusal};
 
-fn u8_at(bytes: &[u8]) -> Option<(u8, &[u8])>
+/// The byte at the front, and the bytes after it. None where there is no such thing at the front,
+/// and so for every call here.
+pub fn u8_at(bytes: &[u8]) -> Option<(u8, &[u8])>
     ensures { byte_at bytes.now ≡ option_map (λ x. (x.0, x.1.now)) result }
 {
     match bytes {
@@ -25,7 +27,8 @@ fn u8_at(bytes: &[u8]) -> Option<(u8, &[u8])>
     }
 }
 
-fn u32_at(bytes: &[u8]) -> Option<(u32, &[u8])>
+/// A number in four bytes.
+pub fn u32_at(bytes: &[u8]) -> Option<(u32, &[u8])>
     ensures { number_at 4 bytes.now ≡ option_map (λ x. (x.0, x.1.now)) result }
 {
     if bytes.len() < 4 {
@@ -34,7 +37,8 @@ fn u32_at(bytes: &[u8]) -> Option<(u32, &[u8])>
     Some((BigEndian::read_u32(bytes), &bytes[4..]))
 }
 
-fn u64_at(bytes: &[u8]) -> Option<(u64, &[u8])>
+/// A number in eight bytes.
+pub fn u64_at(bytes: &[u8]) -> Option<(u64, &[u8])>
     ensures { number_at 8 bytes.now ≡ option_map (λ x. (x.0, x.1.now)) result }
 {
     if bytes.len() < 8 {
@@ -43,8 +47,9 @@ fn u64_at(bytes: &[u8]) -> Option<(u64, &[u8])>
     Some((BigEndian::read_u64(bytes), &bytes[8..]))
 }
 
+/// A number in eight bytes, in two's complement.
 #[tactic(auto, unfolding(crate::specs::Reading::signed_at))]
-fn i64_at(bytes: &[u8]) -> Option<(i64, &[u8])>
+pub fn i64_at(bytes: &[u8]) -> Option<(i64, &[u8])>
     ensures { signed_at bytes.now ≡ option_map (λ x. (x.0, x.1.now)) result }
 {
     if bytes.len() < 8 {
@@ -53,8 +58,9 @@ fn i64_at(bytes: &[u8]) -> Option<(i64, &[u8])>
     Some((BigEndian::read_i64(bytes), &bytes[8..]))
 }
 
+/// A reference, whose numbers may be any.
 #[tactic(auto, unfolding(crate::specs::Reading::reference_at))]
-fn reference_at(bytes: &[u8]) -> Option<(Ref, &[u8])>
+pub fn reference_at(bytes: &[u8]) -> Option<(Ref, &[u8])>
     ensures { reference_at bytes.now ≡ option_map (λ x. (x.0, x.1.now)) result }
 {
     let (node, rest) = u8_at(bytes)?;
@@ -68,8 +74,9 @@ fn reference_at(bytes: &[u8]) -> Option<(Ref, &[u8])>
     Some((reference, rest))
 }
 
+/// A reference whose numbers may be any, or that there is none.
 #[tactic(auto, unfolding(crate::specs::Reading::optional_at))]
-fn optional_at(bytes: &[u8]) -> Option<(Option<Ref>, &[u8])>
+pub fn optional_at(bytes: &[u8]) -> Option<(Option<Ref>, &[u8])>
     ensures { optional_at bytes.now ≡ option_map (λ x. (x.0, x.1.now)) result }
 {
     let (flag, rest) = u8_at(bytes)?;
@@ -83,8 +90,9 @@ fn optional_at(bytes: &[u8]) -> Option<(Option<Ref>, &[u8])>
     }
 }
 
+/// A colour.
 #[tactic(auto, unfolding(crate::specs::Reading::colour_at))]
-fn colour_at(bytes: &[u8]) -> Option<(Colour, &[u8])>
+pub fn colour_at(bytes: &[u8]) -> Option<(Colour, &[u8])>
     ensures { colour_at bytes.now ≡ option_map (λ x. (x.0, x.1.now)) result }
 {
     let (flag, rest) = u8_at(bytes)?;
@@ -95,8 +103,9 @@ fn colour_at(bytes: &[u8]) -> Option<(Colour, &[u8])>
     }
 }
 
+/// A token.
 #[tactic(auto, unfolding(crate::specs::Reading::token_at))]
-fn token_at(bytes: &[u8]) -> Option<(Token, &[u8])>
+pub fn token_at(bytes: &[u8]) -> Option<(Token, &[u8])>
     ensures { token_at bytes.now ≡ option_map (λ x. (x.0, x.1.now)) result }
 {
     let (colour, rest) = colour_at(bytes)?;
@@ -143,8 +152,9 @@ fn get_at(bytes: &[u8]) -> Option<(Body, &[u8])>
     Some((body, rest))
 }
 
+/// What a message says, behind its tag; its references and places may be any.
 #[tactic(auto, unfolding(crate::specs::Reading::body_at))]
-fn body_at(bytes: &[u8]) -> Option<(Body, &[u8])>
+pub fn body_at(bytes: &[u8]) -> Option<(Body, &[u8])>
     ensures { body_at bytes.now ≡ option_map (λ x. (x.0, x.1.now)) result }
 {
     let (tag, rest) = u8_at(bytes)?;

@@ -3,7 +3,7 @@ ghost use Rattle.std.specs.Int.{w32, w64, to_be_bytes};
 ghost use Rattle.ids.specs.declared.refusal.Refusal.TheVariants.{Memory};
 ghost use Rattle.std.specs.Int.RustNames.{FitsSigned};
 ghost use Rattle.msg.specs.Grammar.{Fits, IsOfWidth, IsReferenceOfWidth, spelling};
-ghost use Rattle.msg.specs.Grammar.{reference_bytes, optional_bytes, signed_bytes, token_bytes};
+ghost use Rattle.msg.specs.Grammar.{reference_bytes, optional_bytes, signed_bytes, token_bytes, colour_byte};
 ghost use Rattle.msg.specs.Grammar.{place_bytes, body_bytes, head_bytes};
 ghost use Rattle.msg.specs.Frames.{plain, plain_data, plain_ack};
 
@@ -16,14 +16,16 @@ use byteorder::{BigEndian, WriteBytesExt};
 use ids::{Ref, Refusal};
 use std::alloc::Global;
 
-fn put_u8(out: &mut Vec<u8>, byte: u8) -> Result<(), Refusal>
+/// Appends a byte. `Memory` where a growth was refused, and so for every call here.
+pub fn put_u8(out: &mut Vec<u8>, byte: u8) -> Result<(), Refusal>
     ensures done { OnOk result (out.new.items ≡ out.old.items ++ byte ∷ []) }
     ensures refused { IfErr result (λ e. e ≡ Memory) }
 {
     Ok(out.push(byte)?)
 }
 
-fn put_u32(out: &mut Vec<u8>, number: u32) -> Result<(), Refusal>
+/// Appends a number in four bytes.
+pub fn put_u32(out: &mut Vec<u8>, number: u32) -> Result<(), Refusal>
     ensures done { OnOk result (out.new.items ≡ out.old.items ++ to_be_bytes w32 number) }
     ensures refused { IfErr result (λ e. e ≡ Memory) }
 {
@@ -31,7 +33,8 @@ fn put_u32(out: &mut Vec<u8>, number: u32) -> Result<(), Refusal>
         .map_err(|_| Refusal::Memory)
 }
 
-fn put_u64(out: &mut Vec<u8>, number: u64) -> Result<(), Refusal>
+/// Appends a number in eight bytes.
+pub fn put_u64(out: &mut Vec<u8>, number: u64) -> Result<(), Refusal>
     ensures done { OnOk result (out.new.items ≡ out.old.items ++ to_be_bytes w64 number) }
     ensures refused { IfErr result (λ e. e ≡ Memory) }
 {
@@ -39,7 +42,8 @@ fn put_u64(out: &mut Vec<u8>, number: u64) -> Result<(), Refusal>
         .map_err(|_| Refusal::Memory)
 }
 
-fn put_i64(out: &mut Vec<u8>, number: i64) -> Result<(), Refusal>
+/// Appends a number in eight bytes, in two's complement.
+pub fn put_i64(out: &mut Vec<u8>, number: i64) -> Result<(), Refusal>
     ensures done { OnOk result (out.new.items ≡ out.old.items ++ signed_bytes number) }
     ensures refused { IfErr result (λ e. e ≡ Memory) }
 {
@@ -47,7 +51,8 @@ fn put_i64(out: &mut Vec<u8>, number: i64) -> Result<(), Refusal>
         .map_err(|_| Refusal::Memory)
 }
 
-fn put_reference(out: &mut Vec<u8>, reference: Ref) -> Result<(), Refusal>
+/// Appends a reference.
+pub fn put_reference(out: &mut Vec<u8>, reference: Ref) -> Result<(), Refusal>
     ensures width { OnOk result (IsReferenceOfWidth reference) }
     ensures done { OnOk result (out.new.items ≡ out.old.items ++ reference_bytes reference) }
     ensures refused { IfErr result (λ e. e ≡ Memory) }
@@ -57,7 +62,8 @@ fn put_reference(out: &mut Vec<u8>, reference: Ref) -> Result<(), Refusal>
     put_u32(out, reference.generation)
 }
 
-fn put_optional(out: &mut Vec<u8>, reference: Option<Ref>) -> Result<(), Refusal>
+/// Appends a reference, or that there is none.
+pub fn put_optional(out: &mut Vec<u8>, reference: Option<Ref>) -> Result<(), Refusal>
     ensures width { OnOk result (IfSome reference IsReferenceOfWidth) }
     ensures done { OnOk result (out.new.items ≡ out.old.items ++ optional_bytes reference) }
     ensures refused { IfErr result (λ e. e ≡ Memory) }
@@ -71,16 +77,25 @@ fn put_optional(out: &mut Vec<u8>, reference: Option<Ref>) -> Result<(), Refusal
     }
 }
 
-fn put_token(out: &mut Vec<u8>, token: Token) -> Result<(), Refusal>
+/// Appends a colour.
+pub fn put_colour(out: &mut Vec<u8>, colour: Colour) -> Result<(), Refusal>
+    ensures done { OnOk result (out.new.items ≡ out.old.items ++ colour_byte colour ∷ []) }
+    ensures refused { IfErr result (λ e. e ≡ Memory) }
+{
+    let byte = match colour {
+        Colour::White => WHITE,
+        Colour::Black => BLACK,
+    };
+    put_u8(out, byte)
+}
+
+/// Appends a token.
+pub fn put_token(out: &mut Vec<u8>, token: Token) -> Result<(), Refusal>
     ensures width { OnOk result (FitsSigned w64 token.q) }
     ensures done { OnOk result (out.new.items ≡ out.old.items ++ token_bytes token) }
     ensures refused { IfErr result (λ e. e ≡ Memory) }
 {
-    let colour = match token.colour {
-        Colour::White => WHITE,
-        Colour::Black => BLACK,
-    };
-    put_u8(out, colour)?;
+    put_colour(out, token.colour)?;
     put_i64(out, token.q)
 }
 
@@ -93,7 +108,8 @@ fn put_place(out: &mut Vec<u8>, target: Ref, place: u8) -> Result<(), Refusal>
     put_u8(out, place)
 }
 
-fn put_body(out: &mut Vec<u8>, body: Body) -> Result<(), Refusal>
+/// Appends what a message says, behind its tag.
+pub fn put_body(out: &mut Vec<u8>, body: Body) -> Result<(), Refusal>
     ensures width { OnOk result (IsOfWidth body) }
     ensures done { OnOk result (out.new.items ≡ out.old.items ++ body_bytes body) }
     ensures refused { IfErr result (λ e. e ≡ Memory) }

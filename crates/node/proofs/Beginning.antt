@@ -144,6 +144,18 @@ module _ (n : NodeView) where
 
 -- ---- its messages
 
+-- what the code leaves of each part
+pub record Begun (n : NodeView) (cycle : ℕ) (h : Heap) (asked : List Ref) (p : Phases) (r : Ring)
+    (l : LinksView) : Type 0 where
+  pub heap : h ≡ make_all_grey n.local.own cycle n.local.heap (root_list n.local)
+  pub keys : asked ≡ new_asked n.local
+  pub phases : p ≡ in_cycle cycle n.local.phases
+  pub ring : r ≡ whitened (counted_marks (length (new_asked n.local)) (entered n.local.ring))
+  pub links : l
+      ≡ all_appended (links_of n)
+      (marks_for cycle (new_asked n.local)
+      ++ begins n.local.own n.local.shape.nodes cycle new_token)
+
 module _ (n : NodeView) (cycle : ℕ) (next : cycle ≡ n.local.phases.cycle + 1)
     (ended : n.local.phases.ended ≤ n.local.phases.cycle)
     (tests : AllPass (begin_tests n.local)) where
@@ -179,13 +191,8 @@ module _ (n : NodeView) (cycle : ℕ) (next : cycle ≡ n.local.phases.cycle + 1
       → IsFirstRefusal true e (view_act n event.Begin)
   begin-untold e fit h = begin-spent e (λ other. ((h other).0, rw fit (h other).1))
 
-  module _ (h : Heap) (asked : List Ref) (phases : Phases) (ring : Ring) (l : LinksView)
-      (heap-is : h ≡ make_all_grey n.local.own cycle n.local.heap (root_list n.local))
-      (asked-is : asked ≡ new_asked n.local)
-      (phases-is : phases ≡ in_cycle cycle n.local.phases)
-      (ring-is : ring ≡ whitened (counted_marks (length (new_asked n.local))
-      (entered n.local.ring)))
-      (links-is : l ≡ all_appended (links_of n) (marks ++ rest)) where
+  module _ {h : Heap} {asked : List Ref} {phases : Phases} {ring : Ring} {l : LinksView}
+      (is : Begun n cycle h asked phases ring l) where
     pub begin-answered : fits (map used n.links) marks ≡ true
         → fits (map used (append_to n.links marks)) rest ≡ true
         → view_act n event.Begin ≡ okay (with_parts n h asked phases ring l) (answer.Begun cycle)
@@ -204,15 +211,15 @@ module _ (n : NodeView) (cycle : ℕ) (next : cycle ≡ n.local.phases.cycle + 1
         ∙ ap (λ (a : Answer). okay (with_parts n new (new_asked p) later now sent) a)
         (begun-answer p cycle next ended)
         ∙ ap (λ (z : Heap).
-        okay (with_parts n z (new_asked p) later now sent) (answer.Begun cycle)) (sym heap-is)
+        okay (with_parts n z (new_asked p) later now sent) (answer.Begun cycle)) (sym is.heap)
         ∙ ap (λ (z : List Ref). okay (with_parts n h z later now sent) (answer.Begun cycle))
-        (sym asked-is)
+        (sym is.keys)
         ∙ ap (λ (z : Phases). okay (with_parts n h asked z now sent) (answer.Begun cycle))
-        (sym phases-is)
+        (sym is.phases)
         ∙ ap (λ (z : Ring). okay (with_parts n h asked phases z sent) (answer.Begun cycle))
-        (sym ring-is)
+        (sym is.ring)
         ∙ ap (λ (z : LinksView). okay (with_parts n h asked phases ring z) (answer.Begun cycle))
-        (sym links-is)
+        (sym is.links)
 
     all-may : IsNode n → cycle ≤ GREATEST_CYCLE → n.local.own ≡ 0
         → MaySend n.local.shape n.local.own cycle (marks ++ rest)
@@ -255,7 +262,7 @@ module _ (n : NodeView) (cycle : ℕ) (next : cycle ≡ n.local.phases.cycle + 1
         let now : Ring = whitened (counted_marks (length (new_asked p)) (entered p.ring)) in
         let later : Phases = in_cycle cycle p.phases in
         let sent : LinksView = all_appended (links_of n) ms in
-        let phased : IsPhases later = subst IsPhases phases-is sound in
+        let phased : IsPhases later = subst IsPhases is.phases sound in
         let over = done-before old in
         let apart : p.phases.ended ≢ cycle =
         (λ (e : p.phases.ended ≡ cycle). absurd (omega (arith, e, over, next))) in
@@ -275,12 +282,12 @@ module _ (n : NodeView) (cycle : ℕ) (next : cycle ≡ n.local.phases.cycle + 1
           length-append marks rest,
           length-map (new_asked p) (mark_for cycle),
         ) in
-        subst (λ (z : Heap). IsNode (with_parts n z asked phases ring l)) (sym heap-is)
-        (subst (λ (z : List Ref). IsNode (with_parts n new z phases ring l)) (sym asked-is)
-        (subst (λ (z : Phases). IsNode (with_parts n new (new_asked p) z ring l)) (sym phases-is)
-        (subst (λ (z : Ring). IsNode (with_parts n new (new_asked p) later z l)) (sym ring-is)
+        subst (λ (z : Heap). IsNode (with_parts n z asked phases ring l)) (sym is.heap)
+        (subst (λ (z : List Ref). IsNode (with_parts n new z phases ring l)) (sym is.keys)
+        (subst (λ (z : Phases). IsNode (with_parts n new (new_asked p) z ring l)) (sym is.phases)
+        (subst (λ (z : Ring). IsNode (with_parts n new (new_asked p) later z l)) (sym is.ring)
         (subst (λ (z : LinksView). IsNode (with_parts n new (new_asked p) later now z))
-        (sym links-is)
+        (sym is.links)
         (record {
           shape = old.shape;
           own = old.own;
@@ -297,7 +304,7 @@ module _ (n : NodeView) (cycle : ℕ) (next : cycle ≡ n.local.phases.cycle + 1
           };
           token = held-before cycle p.phases.ended p.ring.token (omega (arith, over, next));
           links = linked-appended s p.own cycle (links_of n) ms before may
-              (subst IsLinks links-is links);
+              (subst IsLinks is.links links);
           balance =
               bounded_more _ _ now many
               (bounded-same _ now (counted_marks (length (new_asked p)) (entered p.ring)) refl refl

@@ -18,3 +18,6 @@ mod Standing
 mod Errands
 mod Outcomes
 mod Receipts
+mod Lists
+mod Listed
+pub mod Restorable

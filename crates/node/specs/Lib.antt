@@ -5,3 +5,4 @@ pub mod Summaries
 pub mod Sending
 pub mod Cycles
 pub mod Taking
+pub mod Parts

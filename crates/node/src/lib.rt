@@ -6,7 +6,7 @@ mod node;
 mod summary;
 
 pub use model::{Answer, Event, Letter};
-pub use node::Node;
+pub use node::{Node, NodeParts};
 pub use summary::Summary;
 
 #[cfg(test)]

@@ -19,6 +19,7 @@ mod collecting;
 mod frames;
 mod joining;
 mod objects;
+mod parts;
 mod reading;
 mod settling;
 mod taking;
@@ -30,6 +31,7 @@ use ids::{NodeId, Ref, Refusal, Shape};
 use indexmap::IndexSet;
 use link::Links;
 use model::{Answer, Event};
+pub use parts::NodeParts;
 use safra::Ring;
 use std::alloc::Global;
 use std::marker::Model;
@@ -64,6 +66,7 @@ impl Node {
     ghost use Rattle.node.specs.Summaries.{summary_of};
     ghost use Rattle.heap.specs.Heap.{IsSlotted};
     ghost use Rattle.node.specs.Invariant.{IsNode};
+    ghost use Rattle.node.specs.Parts.{IsRestorable};
 
     /// A new node of the shape: nothing allocated, nothing sent, nothing received. `NoNode` where
     /// the shape has no such node, `Memory` where a growth was refused.
@@ -161,11 +164,13 @@ impl Node {
         self.links.kept();
     }
 
-    /// The node in numbers. Its contract says besides what is true of every node, and of its slots.
+    /// The node in numbers. Its contract says besides what is true of every node, and of its slots,
+    /// and that a node can be made from the parts of this one ([`Node::from_parts`]).
     pub fn state(&self) -> Summary
         ensures value { result ≡ summary_of self.now.local }
         ensures sound { IsNode self.now }
         ensures slots { IsSlotted self.now.local.heap self.now.local.shape.slots }
+        ensures restorable { IsRestorable (kept_view self.now) }
     {
         Summary {
             shape: self.shape,
@@ -181,23 +186,6 @@ impl Node {
             has_token: self.ring.token().is_some(),
             letters: self.heap.letters(),
         }
-    }
-
-    /// A node that is equal to this one. `Memory` where a growth was refused.
-    pub fn copy(&self, alloc: Global) -> Result<Node, Refusal>
-        ensures same { IfOk result (λ n. n ≡ self.now) }
-        ensures sound { IfOk result IsNode }
-        ensures refused { IfErr result (λ e. e ≡ Memory) }
-    {
-        Ok(Node {
-            shape: self.shape,
-            own: self.own,
-            heap: self.heap.copy(alloc)?,
-            asked: self.asked.clone()?,
-            phases: self.phases.copy(alloc)?,
-            ring: self.ring,
-            links: self.links.copy(alloc)?,
-        })
     }
 
     fn is_other(&self, node: u8) -> bool

@@ -2,6 +2,7 @@ mod asking;
 mod collecting;
 mod links;
 mod objects;
+mod parts;
 mod taking;
 
 use crate::{Answer, Event, Letter, Node, Summary};
@@ -173,21 +174,6 @@ fn check_ack(rt: &impl Abort, node: &Node, from: u8, frame: Option<Frame>) {
     assert_eq!(rt; node.ack_for(from), frame, "{from}");
 }
 
-// Both nodes show the same of themselves and of what they sent to node 1.
-fn check_same(rt: &impl Abort, one: &Node, other: &Node) {
-    assert_eq!(rt; one.state(), other.state());
-    assert_eq!(rt; one.appended(1), other.appended(1));
-    for place in 0..4 {
-        assert_eq!(rt; one.frame_at(1, place), other.frame_at(1, place));
-    }
-    for number in 0..4 {
-        assert_eq!(rt;
-            one.numbered_frame(1, number),
-            other.numbered_frame(1, number)
-        );
-    }
-}
-
 // What the node shows now is what its next image holds.
 fn save(node: &mut Node) {
     node.kept();
@@ -259,46 +245,5 @@ fn a_new_node_is_empty(rt: HostRuntime) -> Result<(), Refusal> {
     }
     let beyond = node(&rt, rt.alloc(), shape, 2);
     assert!(rt; matches!(beyond, Err(Refusal::NoNode)));
-    Ok(())
-}
-
-#[test]
-fn a_copy_goes_its_own_way(rt: HostRuntime) -> Result<(), Refusal> {
-    let shape = space(&rt, 4, 16);
-    let mut original = node(&rt, rt.alloc(), shape, 0)?;
-    let rows = [
-        (alloc(1, 1), Answer::New(first(0))),
-        (give(1, 7, 0), Answer::Sent(1)),
-    ];
-    answer_all(&rt, &mut original, &rows);
-    save(&mut original);
-    let mut copy = original.copy(rt.alloc())?;
-    check_same(&rt, &copy, &original);
-    let sent = Frame::Data(message(&rt, 1, 0, give_body(7, None)));
-    check_given(&rt, &copy, 1, &[(0, Some(sent))]);
-
-    answer_all(&rt, &mut copy, &[(give(1, 8, 0), Answer::Sent(2))]);
-    save(&mut copy);
-    check_appended(&rt, &copy, 1, 2);
-    check_appended(&rt, &original, 1, 1);
-    check_numbered(&rt, &original, 1, &[(2, None)]);
-    let rows = [
-        (alloc(0, 0), Answer::New(first(1))),
-        (set_word(1, 5), Answer::Done),
-    ];
-    answer_all(&rt, &mut copy, &rows);
-    answer_all(&rt, &mut original, &[(word(1), Answer::Word(0))]);
-    let before = Summary {
-        live: 1,
-        recent: 1,
-        ..new_summary(shape, 0)
-    };
-    check_state(&rt, &original, before);
-    let after = Summary {
-        live: 2,
-        recent: 2,
-        ..new_summary(shape, 0)
-    };
-    check_state(&rt, &copy, after);
     Ok(())
 }

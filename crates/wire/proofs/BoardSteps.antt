@@ -10,7 +10,7 @@ use Rattle.model.specs.World.{World, run}
 use Rattle.wire.specs.Views.{Role, dealer, node, watch, Pair, Known, marks, pair_at}
 use Rattle.wire.specs.Rule.{nodes_of, ended_of, WatchOk, SeatOk, Holds}
 use Rattle.wire.specs.Plays.{HasEnded, raised, looked}
-use Rattle.wire.proofs.Stays.{noted, node-of, same-log}
+use Rattle.wire.proofs.Stays.{Standing, noted, node-of, same-log}
 
 module _ {S : Type 0} (bytes : S → List ℕ) (opening : World) where
   abbrev n : ℕ
@@ -24,11 +24,13 @@ module _ {S : Type 0} (bytes : S → List ℕ) (opening : World) where
       → Allows (Holds bytes opening) slots id me (n * n + 1) (λ r. max r k)
       (raised (step slots (n * n + 1) k 0 none) me)
   raise-at slots id k me role first ended within s h wide at small =
+      let here : Standing bytes opening =
+      record { state = s; holds = h; id = id; view = me.0; at = at } in
       let v : Known = me.0 in
       let r : ℕ = slice_index s.words (n * n + 1) in
       let words : List ℕ = set s.words (n * n + 1) (max r k) in
       let long : length s.words ≡ n * n + 2 = h.wide in
-      let ok = node-of bytes opening s h id v at role in
+      let ok = node-of bytes opening here role in
       let same = get_or-set_same s.words (n * n + 1) (max r k) 0 (omega arith) in
       let saved : k ≤ ended_of (run opening h.log) =
       subst (λ (p : Pair). k ≤ p.saved.local.phases.ended)
@@ -36,8 +38,7 @@ module _ {S : Type 0} (bytes : S → List ℕ) (opening : World) where
         marks k v,
         keeps,
         tt,
-        noted bytes opening s h id v (marks k v) h.log words (record {
-          at = at;
+        noted bytes opening here (marks k v) h.log words (record {
           alike = record { role = refl; me = refl };
           filling = refl;
           emptying = refl;
@@ -74,6 +75,8 @@ module _ {S : Type 0} (bytes : S → List ℕ) (opening : World) where
       → Allows (Holds bytes opening) slots id me (n * n + 1) (λ r. r)
       (looked (step slots (n * n + 1) 0 0 none) me)
   look-at slots id me role s h wide at small =
+      let here : Standing bytes opening =
+      record { state = s; holds = h; id = id; view = me.0; at = at } in
       let v : Known = me.0 in
       let r : ℕ = slice_index s.words (n * n + 1) in
       let ok : WatchOk opening r v =
@@ -86,8 +89,7 @@ module _ {S : Type 0} (bytes : S → List ℕ) (opening : World) where
             Holds bytes opening
             (record { words = ws; homes = s.homes; views = set s.views id (marks r v) }))
             (sym (set-get_or s.words (n * n + 1) 0))
-            (noted bytes opening s h id v (marks r v) h.log s.words (record {
-              at = at;
+            (noted bytes opening here (marks r v) h.log s.words (record {
               alike = record { role = refl; me = refl };
               filling = refl;
               emptying = refl;
@@ -115,19 +117,19 @@ module _ {S : Type 0} (bytes : S → List ℕ) (opening : World) where
         ),
       )
 
-  pub raises_allowed : (slots id c k : ℕ) (me : Sat) → c ≡ n * n + 1 → me.0.role ≡ node
+  pub raises_allowed : {slots c : ℕ} (id k : ℕ) (me : Sat) → c ≡ n * n + 1 → me.0.role ≡ node
       → me.0.me ≡ 0 → k ≤ me.0.pair.saved.local.phases.ended → k ≤ GREATEST_CYCLE
       → Allows (Holds bytes opening) slots id me c (λ r. max r k)
       (raised (step slots c k 0 none) me)
-  raises_allowed slots id c k me is role first ended within =
+  raises_allowed {slots} id k me is role first ended within =
       subst
       (λ (b : ℕ).
       Allows (Holds bytes opening) slots id me b (λ r. max r k) (raised (step slots b k 0 none) me))
       (sym is) (raise-at slots id k me role first ended within)
 
-  pub looks_allowed : (slots id c : ℕ) (me : Sat) → c ≡ n * n + 1 → me.0.role ≡ watch
+  pub looks_allowed : {slots c : ℕ} (id : ℕ) (me : Sat) → c ≡ n * n + 1 → me.0.role ≡ watch
       → Allows (Holds bytes opening) slots id me c (λ r. r) (looked (step slots c 0 0 none) me)
-  looks_allowed slots id c me is role =
+  looks_allowed {slots} id me is role =
       subst
       (λ (b : ℕ).
       Allows (Holds bytes opening) slots id me b (λ r. r) (looked (step slots b 0 0 none) me))

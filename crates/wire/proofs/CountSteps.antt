@@ -1,8 +1,7 @@
 -- A tick keeps the rule: one event enters the list.
 use Rattle.std.proofs.Common.{◌≡◌, ℕ, ◌+◌, ◌*◌, ◌%◌, ◌^◌, ◌<◌, ◌≤◌, List, [], ◌∷◌, ◌++◌, length, set, get_or, refl, sym, ap, ◌∙◌, subst, arith, le_refl, le_trans, length-set, length-append, get_or-set_other, get_or-set_same}
 use Rattle.std.specs.Prelude.{slice_index}
-use mathlib.Core.Option.{none, some}
-use lib.ListN.{get_elem?}
+use mathlib.Core.Option.{none}
 use Rattle.atomic_table.specs.Table.{State, Me, step, keeps, Allows}
 use Rattle.ids.specs.declared.limits.TheConstants.{GREATEST_CYCLE}
 use Rattle.model.specs.declared.step.Step.{Step}
@@ -12,7 +11,7 @@ use Rattle.wire.specs.Views.{Role, dealer, node, Pair, Known, ticks, pair_at}
 use Rattle.wire.specs.Rule.{nodes_of, ended_of, AreEvents, NodeOk, SeatOk, Holds}
 use Rattle.wire.specs.Plays.{Happens, Enters, ticked}
 use Rattle.wire.proofs.Events.{count, width, net-push, ended-push, are-push, events-push_same, events-push_other, IsLocal, happens-local}
-use Rattle.wire.proofs.Stays.{noted, node-of}
+use Rattle.wire.proofs.Stays.{Standing, noted, node-of}
 
 counted : (l r : ℕ) → r ≡ l % 2 ^ 64 → (r + 1) % 2 ^ 64 ≡ (l + 1) % 2 ^ 64
 counted l r is = omega arith
@@ -24,11 +23,22 @@ module _ {S : Type 0} (bytes : S → List ℕ) (opening : World) where
   abbrev Sat : Type 0
   Sat = Me S Known
 
-  module _ (s : State S Known) (h : Holds bytes opening s) (id : ℕ) (v : Known)
-      (at : get_elem? s.views id ≡ some v) (role : v.role ≡ node) (e : Step) (q : Pair)
-      (event : Happens v e q) where
+  module _ (p : Standing bytes opening) (role : p.view.role ≡ node) (e : Step) (q : Pair)
+      (event : Happens p.view e q) where
+    abbrev s : State S Known
+    s = p.state
+
+    abbrev h : Holds bytes opening p.state
+    h = p.holds
+
+    abbrev id : ℕ
+    id = p.id
+
+    abbrev v : Known
+    v = p.view
+
     ok : NodeOk opening h.log h.boxes id v
-    ok = node-of bytes opening s h id v at role
+    ok = node-of bytes opening p role
 
     long : length (run opening h.log).current ≡ n
     long = count opening h.log h.opens
@@ -86,8 +96,7 @@ module _ {S : Type 0} (bytes : S → List ℕ) (opening : World) where
         let wide : length s.words ≡ n * n + 2 = h.wide in
         let words : List ℕ = set s.words (n * n) x in
         let board = get_or-set_other s.words (n * n) (n * n + 1) x 0 (omega arith) in
-        noted bytes opening s h id v (ticks e q v) (h.log ++ e ∷ []) words (record {
-          at = at;
+        noted bytes opening p (ticks e q v) (h.log ++ e ∷ []) words (record {
           alike = record { role = refl; me = refl };
           filling = refl;
           emptying = refl;
@@ -119,19 +128,21 @@ module _ {S : Type 0} (bytes : S → List ℕ) (opening : World) where
       → Happens me.0 e q
       → Allows (Holds bytes opening) slots id me (n * n) (λ r. (r + 1) % 2 ^ 64)
       (ticked e q (step slots (n * n) 1 0 none) me)
-  at-count slots id me e q role event s h wide at small = (
-    ticks e q me.0,
-    keeps,
-    tt,
-    ticked-on s h id me.0 at role e q event ((slice_index s.words (n * n) + 1) % 2 ^ 64) refl,
-    (refl, refl, enters s h id me.0 at role e q event),
-  )
+  at-count slots id me e q role event s h wide at small =
+      let here : Standing bytes opening =
+      record { state = s; holds = h; id = id; view = me.0; at = at } in (
+        ticks e q me.0,
+        keeps,
+        tt,
+        ticked-on here role e q event ((slice_index s.words (n * n) + 1) % 2 ^ 64) refl,
+        (refl, refl, enters here role e q event),
+      )
 
-  pub ticks_allowed : (slots id c : ℕ) (me : Sat) (e : Step) (q : Pair) → c ≡ n * n
+  pub ticks_allowed : {slots c : ℕ} (id : ℕ) (me : Sat) (e : Step) (q : Pair) → c ≡ n * n
       → me.0.role ≡ node → Happens me.0 e q
       → Allows (Holds bytes opening) slots id me c (λ r. (r + 1) % 2 ^ 64)
       (ticked e q (step slots c 1 0 none) me)
-  ticks_allowed slots id c me e q is role event =
+  ticks_allowed {slots} id me e q is role event =
       subst
       (λ (k : ℕ).
       Allows (Holds bytes opening) slots id me k (λ r. (r + 1) % 2 ^ 64)

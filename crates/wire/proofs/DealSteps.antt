@@ -99,10 +99,10 @@ module _ {S : Type 0} (bytes : S → List ℕ) (opening : World) where
         t.alone (ap (λ (y : Known). y.role) is ∙ ru) k x (old-node k x e rx) rx
         (me ∙ ap (λ (y : Known). y.me) (sym is))
 
-    one-kept : (j k : ℕ) (x u : Known) → get_elem? (Seats s.views left right id) j ≡ some x
+    one-kept : {x u : Known} (j k : ℕ) → get_elem? (Seats s.views left right id) j ≡ some x
         → get_elem? (Seats s.views left right id) k ≡ some u
         → x.role ≡ node → u.role ≡ node → x.me ≡ u.me → j ≡ k
-    one-kept j k x u ex eu rx ru me =
+    one-kept {x} {u} j k ex eu rx ru me =
         ⊎_elim
         (λ a. ⊎_elim
         (λ b. h.one j k x u (old-node j x a rx) (old-node k u b ru) rx ru me)
@@ -153,7 +153,7 @@ module _ {S : Type 0} (bytes : S → List ℕ) (opening : World) where
           record { shows = b.shows; content = content-kept m (h.boxes m) b.content }
           );
       each_seat = seats-kept;
-      one = one-kept;
+      one = λ j k x u. one-kept j k;
     }
 
   -- who is among the seats after a deal

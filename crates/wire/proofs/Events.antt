@@ -106,97 +106,102 @@ leads : (w : World) (s : Step) (v : World) (o : Outcome) → take_step w s ≡ O
     → happens w s ≡ v
 leads w s v o h = ap (world_after w) h
 
--- the node's current state is now t
-pub moved-local : (w : World) (s : Step) (i : ℕ) (t : NodeState) (o : Outcome) (p q : Pair)
-    → node_of s ≡ i → i < length w.current → pair_at w i ≡ p
-    → take_step w s ≡ Ok (record w { current = set w.current i t }, o) → is_eventful (Ok o) ≡ true
-    → q ≡ record { current = t; saved = p.saved } → IsLocal w s i q
-moved-local w s i t o p q node below pair_is took e is =
-    let next : World = record w { current = set w.current i t } in
-    let now = leads w s next o took in
-    record {
-      node = node;
-      event = eventful w s next o took e;
-      here = ap (λ (v : World). pair_at v i) now
-          ∙ (λ k. record {
-            current = get_or-set_same w.current i t no_node below k;
-            saved = saved_is w i p pair_is k;
-          })
-          ∙ sym is;
-      others = λ j apart. ap (λ (v : World). pair_at v j) now
-          ∙ (λ k. record {
-            current = get_or-set_other w.current i j t no_node apart k;
-            saved = node_at w.saved j;
-          });
-    }
+-- a node of a world, and its pair
+record Stands (w : World) (i : ℕ) (p : Pair) : Type 0 where
+  pub below : i < length w.current
+  pub pair_is : pair_at w i ≡ p
 
--- the node's saved state is its current one
-saved-local : (w : World) (i : ℕ) (p q : Pair) → i < length w.current
-    → length w.saved ≡ length w.current → pair_at w i ≡ p
-    → q ≡ record { current = p.current; saved = p.current } → IsLocal w (step.Save i) i q
-unfolding take_step
-saved-local w i p q below wide pair_is is =
-    let next : World = record w { saved = set w.saved i (node_at w.current i) } in
-    let took : take_step w (step.Save i) ≡ Ok (next, outcome.Done) =
-    cond-true _ _ _ (lt-ltb i _ below) in
-    let now = leads w (step.Save i) next outcome.Done took in
-    record {
-      node = refl;
-      event = eventful w (step.Save i) next outcome.Done took refl;
-      here = ap (λ (v : World). pair_at v i) now
-          ∙ (λ k. record {
-            current = node_at w.current i;
-            saved = get_or-set_same w.saved i (node_at w.current i) no_node
-                (subst (λ (n : ℕ). i < n) (sym wide) below) k;
-          })
-          ∙ ap (λ (s : NodeState). record { current = s; saved = s }) (current_is w i p pair_is)
-          ∙ sym is;
-      others = λ j apart. ap (λ (v : World). pair_at v j) now
-          ∙ (λ k. record {
-            current = node_at w.current j;
-            saved = get_or-set_other w.saved i j (node_at w.current i) no_node apart k;
-          });
-    }
+module _ (w : World) (i : ℕ) (p : Pair) (stands : Stands w i p) (q : Pair) where
+  -- the node's current state is now t
+  moved-local : (s : Step) (t : NodeState) (o : Outcome) → node_of s ≡ i
+      → take_step w s ≡ Ok (record w { current = set w.current i t }, o)
+      → is_eventful (Ok o) ≡ true → q ≡ record { current = t; saved = p.saved } → IsLocal w s i q
+  moved-local s t o node took e is =
+      let next : World = record w { current = set w.current i t } in
+      let now = leads w s next o took in
+      record {
+        node = node;
+        event = eventful w s next o took e;
+        here = ap (λ (v : World). pair_at v i) now
+            ∙ (λ k. record {
+              current = get_or-set_same w.current i t no_node stands.below k;
+              saved = saved_is w i p stands.pair_is k;
+            })
+            ∙ sym is;
+        others = λ j apart. ap (λ (v : World). pair_at v j) now
+            ∙ (λ k. record {
+              current = get_or-set_other w.current i j t no_node apart k;
+              saved = node_at w.saved j;
+            });
+      }
 
-restarted-local : (w : World) (i : ℕ) (p q : Pair) → i < length w.current → pair_at w i ≡ p
-    → q ≡ record { current = p.saved; saved = p.saved } → IsLocal w (step.Restart i) i q
-unfolding take_step
-restarted-local w i p q below pair_is is =
-    moved-local w (step.Restart i) i (node_at w.saved i) outcome.Done p q refl below pair_is
-    (cond-true _ _ _ (lt-ltb i _ below)) refl
-    (is
-    ∙ ap (λ (s : NodeState). record { current = s; saved = p.saved })
-    (sym (saved_is w i p pair_is)))
+  -- the node's saved state is its current one
+  saved-local : length w.saved ≡ length w.current
+      → q ≡ record { current = p.current; saved = p.current } → IsLocal w (step.Save i) i q
+  unfolding take_step
+  saved-local wide is =
+      let next : World = record w { saved = set w.saved i (node_at w.current i) } in
+      let took : take_step w (step.Save i) ≡ Ok (next, outcome.Done) =
+      cond-true _ _ _ (lt-ltb i _ stands.below) in
+      let now = leads w (step.Save i) next outcome.Done took in
+      record {
+        node = refl;
+        event = eventful w (step.Save i) next outcome.Done took refl;
+        here = ap (λ (v : World). pair_at v i) now
+            ∙ (λ k. record {
+              current = node_at w.current i;
+              saved = get_or-set_same w.saved i (node_at w.current i) no_node
+                  (subst (λ (n : ℕ). i < n) (sym wide) stands.below) k;
+            })
+            ∙ ap (λ (s : NodeState). record { current = s; saved = s })
+            (current_is w i p stands.pair_is)
+            ∙ sym is;
+        others = λ j apart. ap (λ (v : World). pair_at v j) now
+            ∙ (λ k. record {
+              current = node_at w.current j;
+              saved = get_or-set_other w.saved i j (node_at w.current i) no_node apart k;
+            });
+      }
 
-acted-local : (w : World) (i : ℕ) (e : Event) (a : Answer) (p q : Pair) → i < length w.current
-    → pair_at w i ≡ p → is_own e ≡ true → q.saved ≡ p.saved
-    → act p.current e ≡ Ok (q.current, a) → IsEventful a → IsLocal w (step.Act i e) i q
-unfolding take_step
-acted-local w i e a p q below pair_is own same acted event =
-    moved-local w (step.Act i e) i q.current (outcome.Answer a) p q refl below pair_is
-    (cond-true _ _ _ (lt-ltb i _ below)
-    ∙ cond-true _ _ _ own
-    ∙ ap (moved w i)
-    (ap (λ (s : NodeState). act s e) (current_is w i p pair_is) ∙ acted))
-    event
-    (λ k. record { current = q.current; saved = same k })
+  restarted-local : q ≡ record { current = p.saved; saved = p.saved }
+      → IsLocal w (step.Restart i) i q
+  unfolding take_step
+  restarted-local is =
+      moved-local (step.Restart i) (node_at w.saved i) outcome.Done refl
+      (cond-true _ _ _ (lt-ltb i _ stands.below)) refl
+      (is
+      ∙ ap (λ (s : NodeState). record { current = s; saved = p.saved })
+      (sym (saved_is w i p stands.pair_is)))
 
-delivered-local : (w : World) (from to number : ℕ) (x : Message) (a : Answer) (p q : Pair)
-    → from < length w.current → to < length w.current → pair_at w to ≡ p
-    → released w from to number ≡ Some x → q.saved ≡ p.saved
-    → receive p.current from to number x.stamp x.body ≡ Ok (q.current, a) → IsEventful a
-    → IsLocal w (step.Deliver from to number) to q
-unfolding take_step
-delivered-local w from to number x a p q f t pair_is there same received event =
-    moved-local w (step.Deliver from to number) to q.current (outcome.Answer a) p q refl t pair_is
-    (cond-true _ _ _
-    (and_from _ _ (lt-ltb from (length w.current) f) (lt-ltb to (length w.current) t))
-    ∙ ap (delivery w from to number) there
-    ∙ ap (moved w to)
-    (ap (λ (s : NodeState). receive s from to number x.stamp x.body) (current_is w to p pair_is)
-    ∙ received))
-    event
-    (λ k. record { current = q.current; saved = same k })
+  acted-local : (e : Event) (a : Answer) → is_own e ≡ true → q.saved ≡ p.saved
+      → act p.current e ≡ Ok (q.current, a) → IsEventful a → IsLocal w (step.Act i e) i q
+  unfolding take_step
+  acted-local e a own same acted event =
+      moved-local (step.Act i e) q.current (outcome.Answer a) refl
+      (cond-true _ _ _ (lt-ltb i _ stands.below)
+      ∙ cond-true _ _ _ own
+      ∙ ap (moved w i)
+      (ap (λ (s : NodeState). act s e) (current_is w i p stands.pair_is) ∙ acted))
+      event
+      (λ k. record { current = q.current; saved = same k })
+
+  delivered-local : (from number : ℕ) (x : Message) (a : Answer) → from < length w.current
+      → released w from i number ≡ Some x → q.saved ≡ p.saved
+      → (receive p.current from i number x.stamp x.body ≡ Ok (q.current, a)) × IsEventful a
+      → IsLocal w (step.Deliver from i number) i q
+  unfolding take_step
+  delivered-local from number x a there taken same received =
+      moved-local (step.Deliver from i number) q.current (outcome.Answer a) refl
+      (cond-true _ _ _
+      (and_from _ _ (lt-ltb from (length w.current) there)
+      (lt-ltb i (length w.current) stands.below))
+      ∙ ap (delivery w from i number) taken
+      ∙ ap (moved w i)
+      (ap (λ (s : NodeState). receive s from i number x.stamp x.body)
+      (current_is w i p stands.pair_is)
+      ∙ received.0))
+      received.1
+      (λ k. record { current = q.current; saved = same k })
 
 -- what the seat of a node may know of a world
 pub record Knows (w : World) (v : Known) : Type 0 where
@@ -206,21 +211,25 @@ pub record Knows (w : World) (v : Known) : Type 0 where
   pub pair_is : pair_at w v.me ≡ v.pair
   pub released : (k : ℕ) (f : Plain) → slice_get v.taken k ≡ Some f → IsInNet w f
 
+stands-of : (w : World) (v : Known) → Knows w v → Stands w v.me v.pair
+stands-of w v h = record { below = h.below; pair_is = h.pair_is }
+
 pub happens-local : (w : World) (v : Known) (s : Step) (q : Pair) → Knows w v → Happens v s q
     → IsLocal w s v.me q
 happens-local w v (step.Act i e) q h t =
     subst (λ (n : ℕ). IsLocal w (step.Act n e) v.me q) (sym t.0)
-    (acted-local w v.me e t.3.0 v.pair q h.below h.pair_is t.1 t.2 t.3.1 t.3.2)
+    (acted-local w v.me v.pair (stands-of w v h) q e t.3.0 t.1 t.2 t.3.1 t.3.2)
 happens-local w v (step.Save i) q h t =
     subst (λ (n : ℕ). IsLocal w (step.Save n) v.me q) (sym t.0)
-    (saved-local w v.me v.pair q h.below h.wide h.pair_is t.1)
+    (saved-local w v.me v.pair (stands-of w v h) q h.wide t.1)
 happens-local w v (step.Restart i) q h t =
     subst (λ (n : ℕ). IsLocal w (step.Restart n) v.me q) (sym t.0)
-    (restarted-local w v.me v.pair q h.below h.pair_is t.1)
+    (restarted-local w v.me v.pair (stands-of w v h) q t.1)
 happens-local w v (step.Deliver from to number) q h t =
     let x : Message = t.3.0 in
     subst (λ (n : ℕ). IsLocal w (step.Deliver from n number) v.me q) (sym t.0)
-    (delivered-local w from v.me number x t.3.1 v.pair q
-    (subst (λ (n : ℕ). from < n) h.nodes t.1) h.below h.pair_is
-    (h.released t.3.2.0 (data_frame from v.me number x.stamp x.body) t.3.2.1) t.2 t.3.3 t.3.4)
+    (delivered-local w v.me v.pair (stands-of w v h) q from number x t.3.1
+    (subst (λ (n : ℕ). from < n) h.nodes t.1)
+    (h.released t.3.2.0 (data_frame from v.me number x.stamp x.body) t.3.2.1) t.2
+    (t.3.3, t.3.4))
 happens-local w v (step.Hand from to) q h never = absurd never

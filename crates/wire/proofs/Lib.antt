@@ -11,3 +11,4 @@ pub mod Sitting
 pub mod Numbers
 pub mod Rows
 pub mod NewWires
+pub mod Nothing

@@ -1,5 +1,5 @@
 -- The four steps on a mailbox keep the rule.
-use Rattle.std.proofs.Common.{◌≡◌, ◌≢◌, ℕ, suc, ◌+◌, ◌*◌, ◌/◌, ◌%◌, ◌<◌, ◌≤◌, true, false, true≢false, List, [], ◌∷◌, length, set, get_or, Option, Some, None, refl, sym, ap, ◌∙◌, subst, ⊎_elim, arith, length-set, eqb, ne_eqb, mod-lt}
+use Rattle.std.proofs.Common.{◌≡◌, ◌≢◌, ℕ, suc, ◌+◌, ◌*◌, ◌/◌, ◌%◌, ◌<◌, ◌≤◌, true, false, true≢false, List, [], ◌∷◌, length, set, get_or, Option, Some, None, refl, sym, ap, ◌∙◌, subst, ⊎_elim, arith, eqb, ne_eqb, mod-lt}
 use Rattle.std.proofs.lemmas.Bool.{cond-false, false_from_ne_true}
 use Rattle.std.specs.Prelude.{slice_index}
 use mathlib.Core.Option.{none, some, some-injective}
@@ -7,7 +7,7 @@ use lib.ListN.{get_elem?}
 use lib.Seq.{set-get_or}
 use prog.Atomic.{either}
 use Rattle.atomic_table.specs.Table.{State, Me, step, Act, keeps, takes, gives, carried_after, stepped, Valid, Allows, rest}
-use Rattle.atomic_table.proofs.Lists.{set_here, set_else, exchanged}
+use Rattle.atomic_table.proofs.Lists.{set_here, exchanged}
 use Rattle.msg.specs.Grammar.{Plain, data_frame, ack_frame}
 use Rattle.model.specs.declared.step.Step.{Step}
 use Rattle.model.specs.State.{NodeState, node_at, got_from, sent_to}
@@ -20,7 +20,7 @@ use Rattle.wire.specs.Plays.{Releases, Owns, IsFresh, claimed, took, posted, emp
 use Rattle.wire.proofs.Lists.{has-here, has-more, has-gone, has-stays, found-here, found-more, found-gone, found-stays}
 use Rattle.wire.proofs.Boxes.{holder, is-empty, is-full, none-from, set-at}
 use Rattle.wire.proofs.Events.{count}
-use Rattle.wire.proofs.Stays.{noted, same-log, moved, node-of}
+use Rattle.wire.proofs.Stays.{Standing, still-seat, noted, same-log, moved, node-of}
 
 -- what a saved state releases is in the net
 in-net : (w : World) (i : ℕ) (saved : NodeState) (f : Plain) → node_at w.saved i ≡ saved
@@ -60,10 +60,21 @@ module _ {S : Type 0} (bytes : S → List ℕ) (opening : World) where
       (w : Known) × (a : Act S) × Valid s.homes me.1 a
       × Holds bytes opening (stepped s m x id me.1 w a) × told (w, carried_after me.1 a)
 
-  module _ (s : St) (h : Holds bytes opening s) (id : ℕ) (v : Known)
-      (at : get_elem? s.views id ≡ some v) (role : v.role ≡ node) where
+  module _ (p : Standing bytes opening) (role : p.view.role ≡ node) where
+    abbrev s : State S Known
+    s = p.state
+
+    abbrev h : Holds bytes opening p.state
+    h = p.holds
+
+    abbrev id : ℕ
+    id = p.id
+
+    abbrev v : Known
+    v = p.view
+
     ok : NodeOk opening h.log h.boxes id v
-    ok = node-of bytes opening s h id v at role
+    ok = node-of bytes opening p role
 
     -- a mailbox that the seat neither fills nor empties
     fresh : (m : ℕ) → holder (h.boxes m) ≢ suc id → IsFresh m v
@@ -81,8 +92,7 @@ module _ {S : Type 0} (bytes : S → List ℕ) (opening : World) where
         Holds bytes opening
         (record { words = ws; homes = s.homes; views = set s.views id (notes r v) }))
         (sym (set-get_or s.words m 0) ∙ ap (set s.words m) (sym is))
-        (noted bytes opening s h id v (notes r v) h.log s.words (record {
-          at = at;
+        (noted bytes opening p (notes r v) h.log s.words (record {
           alike = record { role = refl; me = refl };
           filling = refl;
           emptying = refl;
@@ -124,32 +134,25 @@ module _ {S : Type 0} (bytes : S → List ℕ) (opening : World) where
         λ j e. (let never : 0 ≡ suc j = sym (ap holder is) ∙ e in omega arith) in (
           lies.0,
           lies.1,
-          moved bytes opening s h id v (claims m v) m 3 (filling_by id)
-              (set s.homes m none) (record {
-                below = below;
-                at = at;
-                role = role;
-                alike = record { role = refl; me = refl };
-                nodes = refl;
-                opens = refl;
-                pair = refl;
-                events = refl;
-                slots = length-set s.homes m none;
-                home = λ k apart. set_else s.homes m k none apart;
-                shows = refl;
-                content = (
-                  claims m v,
-                  set-at s.views id (claims m v) v at,
-                  role,
-                  me_is,
-                  has-here m v.filling,
-                );
-                free = λ j _. loose j;
-                like = λ k apart. record { fills = has-more m k v.filling apart; empties = refl };
-                taken = ok.released;
-                fills = λ _. refl;
-                empties = λ f e. absurd (loose id (ap holder (ok.empties m f e).1));
-              }),
+          moved bytes opening p (claims m v) m 3 (filling_by id) (record {
+            home = none;
+            below = below;
+            role = role;
+            seat = still-seat;
+            shows = refl;
+            content = (
+              claims m v,
+              set-at s.views id (claims m v) v p.at,
+              role,
+              me_is,
+              has-here m v.filling,
+            );
+            free = λ j _. loose j;
+            like = λ k apart. record { fills = has-more m k v.filling apart; empties = refl };
+            taken = ok.released;
+            fills = λ _. refl;
+            empties = λ f e. absurd (loose id (ap holder (ok.empties m f e).1));
+          }),
           fresh m (loose id),
         )
 
@@ -169,40 +172,33 @@ module _ {S : Type 0} (bytes : S → List ℕ) (opening : World) where
           f,
           lies.0.0,
           lies.0.1,
-          moved bytes opening s h id v (takes_in m f v) m 2 (emptying_by id f) (set s.homes m none)
-              (record {
-                below = below;
-                at = at;
-                role = role;
-                alike = record { role = refl; me = refl };
-                nodes = refl;
-                opens = refl;
-                pair = refl;
-                events = refl;
-                slots = length-set s.homes m none;
-                home = λ k apart. set_else s.homes m k none apart;
-                shows = refl;
-                content = (
-                  takes_in m f v,
-                  set-at s.views id (takes_in m f v) v at,
-                  role,
-                  me_is,
-                  found-here m f v.emptying,
+          moved bytes opening p (takes_in m f v) m 2 (emptying_by id f) (record {
+            home = none;
+            below = below;
+            role = role;
+            seat = still-seat;
+            shows = refl;
+            content = (
+              takes_in m f v,
+              set-at s.views id (takes_in m f v) v p.at,
+              role,
+              me_is,
+              found-here m f v.emptying,
+            );
+            free = λ j _. loose j;
+            like = λ k apart.
+                record { fills = refl; empties = found-more m k f v.emptying apart };
+            taken = λ k g e. ⊎_elim
+                (λ before. ok.released k g before)
+                (λ last. subst (IsInNet (run opening h.log)) (sym last) lies.1)
+                (slice_get-push v.taken f k g e);
+            fills = λ e. absurd (loose id (ap holder (ok.fills m e).1));
+            empties = λ g e. (
+                let some : ◌≡◌ {A = Option Plain} (Some f) (Some g) =
+                sym (found-here m f v.emptying) ∙ e in
+                let same : f ≡ g = cc in ap (emptying_by id) same
                 );
-                free = λ j _. loose j;
-                like = λ k apart.
-                    record { fills = refl; empties = found-more m k f v.emptying apart };
-                taken = λ k g e. ⊎_elim
-                    (λ before. ok.released k g before)
-                    (λ last. subst (IsInNet (run opening h.log)) (sym last) lies.1)
-                    (slice_get-push v.taken f k g e);
-                fills = λ e. absurd (loose id (ap holder (ok.fills m e).1));
-                empties = λ g e. (
-                    let some : ◌≡◌ {A = Option Plain} (Some f) (Some g) =
-                    sym (found-here m f v.emptying) ∙ e in
-                    let same : f ≡ g = cc in ap (emptying_by id) same
-                    );
-              }),
+          }),
           fresh m (loose id),
           lies.0.2,
           lies.1,
@@ -210,14 +206,15 @@ module _ {S : Type 0} (bytes : S → List ℕ) (opening : World) where
           lies.3,
         )
 
-    post-done : (m : ℕ) → has m v.filling ≡ true → (x : S) (c : List (ℕ × S)) → Owns m v (bytes x)
-        → Holds bytes opening (stepped s m 1 id ((m, x) ∷ c) (posts m v) gives)
+    post-done : (m : ℕ) → has m v.filling ≡ true → (x : S) (c : List (ℕ × S))
+        → (owns : Owns m v (bytes x))
+        → Holds bytes opening (stepped s m 1 id ((m, x) ∷ c) (posts m owns.0 v) gives)
         × (found m v.emptying ≡ None)
     post-done m filling x c owns =
         let mine = ok.fills m filling in
         let b = h.each_box m mine.0 in
         let was = subst (Content bytes n (run opening h.log) s.homes s.views m) mine.1 b.content in
-        let is : v ≡ was.0 = some-injective v was.0 (sym at ∙ was.1) in
+        let is : v ≡ was.0 = some-injective v was.0 (sym p.at ∙ was.1) in
         let me_is : v.me ≡ m / n = ap (λ (u : Known). u.me) is ∙ was.3 in
         let f : Plain = owns.0 in
         let pos : 0 < n = (let below = ok.below in omega (arith, below)) in
@@ -229,17 +226,11 @@ module _ {S : Type 0} (bytes : S → List ℕ) (opening : World) where
         (subst (λ (k : ℕ). receiver f < k) (sym long)
         (subst (λ (k : ℕ). k < n) (sym to_is) (mod-lt m pos)))
         owns.3 in (
-          moved bytes opening s h id v (posts m v) m 1 (full f) (set s.homes m (some x)) (record {
+          moved bytes opening p (posts m f v) m 1 (full f) (record {
+            home = some x;
             below = mine.0;
-            at = at;
             role = role;
-            alike = record { role = refl; me = refl };
-            nodes = refl;
-            opens = refl;
-            pair = refl;
-            events = refl;
-            slots = length-set s.homes m (some x);
-            home = λ k apart. set_else s.homes m k (some x) apart;
+            seat = still-seat;
             shows = refl;
             content = (
               (
@@ -268,17 +259,11 @@ module _ {S : Type 0} (bytes : S → List ℕ) (opening : World) where
         × (has m v.filling ≡ false)
     clear-done m f emptying x c =
         let mine = ok.empties m f emptying in (
-          moved bytes opening s h id v (clears m v) m 0 empty (set s.homes m (some x)) (record {
+          moved bytes opening p (clears m v) m 0 empty (record {
+            home = some x;
             below = mine.0;
-            at = at;
             role = role;
-            alike = record { role = refl; me = refl };
-            nodes = refl;
-            opens = refl;
-            pair = refl;
-            events = refl;
-            slots = length-set s.homes m (some x);
-            home = λ k apart. set_else s.homes m k (some x) apart;
+            seat = still-seat;
             shows = refl;
             content = (
               x,
@@ -301,16 +286,18 @@ module _ {S : Type 0} (bytes : S → List ℕ) (opening : World) where
 
   -- ---- The steps
 
-  pub claims_allowed : (slots id m : ℕ) (me : Sat) → m < n * n → me.0.role ≡ node
+  pub claims_allowed : {slots m : ℕ} (id : ℕ) (me : Sat) → m < n * n → me.0.role ≡ node
       → me.0.me ≡ m / n
       → Allows (Holds bytes opening) slots id me m (λ r. either (eqb r 0) 3 r)
       (claimed (step slots m 0 3 none) me)
-  claims_allowed slots id m me below role me_is s h wide at small =
+  claims_allowed {slots} {m} id me below role me_is s h wide at small =
+      let here : Standing bytes opening =
+      record { state = s; holds = h; id = id; view = me.0; at = at } in
       let r : ℕ = get_or s.words m 0 in
       let told = claimed (step slots m 0 3 none) me r in
       exchanged r 0 3 (Goes s m id me told)
       (λ hit.
-      let c = claim-hit s h id me.0 at role m below me_is hit me.1 in (
+      let c = claim-hit here role m below me_is hit me.1 in (
         claims m me.0,
         takes m c.0,
         c.1,
@@ -321,21 +308,23 @@ module _ {S : Type 0} (bytes : S → List ℕ) (opening : World) where
         notes r me.0,
         keeps,
         tt,
-        missed s h id me.0 at role m r refl,
+        missed here role m r refl,
         ((λ hit. absurd (miss hit)), (λ _. (refl, refl))),
       ))
 
-  pub takes_allowed : (slots id m : ℕ) (me : Sat) → m < n * n → me.0.role ≡ node
+  pub takes_allowed : {slots m : ℕ} (id : ℕ) (me : Sat) → m < n * n → me.0.role ≡ node
       → me.0.me ≡ m % n
       → Allows (Holds bytes opening) slots id me m (λ r. either (eqb r 1) 2 r)
       (took bytes (step slots m 1 2 none) me)
-  takes_allowed slots id m me below role me_is s h wide at small =
+  takes_allowed {slots} {m} id me below role me_is s h wide at small =
+      let here : Standing bytes opening =
+      record { state = s; holds = h; id = id; view = me.0; at = at } in
       let r : ℕ = get_or s.words m 0 in
       let told = took bytes (step slots m 1 2 none) me r in
-      let mine = node-of bytes opening s h id me.0 at role in
+      let mine = node-of bytes opening here role in
       exchanged r 1 2 (Goes s m id me told)
       (λ hit.
-      let c = take-hit s h id me.0 at role m below me_is hit me.1 in (
+      let c = take-hit here role m below me_is hit me.1 in (
         takes_in m c.0 me.0,
         takes m c.1,
         c.2,
@@ -360,32 +349,37 @@ module _ {S : Type 0} (bytes : S → List ℕ) (opening : World) where
         notes r me.0,
         keeps,
         tt,
-        missed s h id me.0 at role m r refl,
+        missed here role m r refl,
         ((λ hit. absurd (miss hit)), (λ _. (refl, refl))),
       ))
 
   -- the bytes lie in the slot that comes first
-  pub posts_allowed : (slots id m : ℕ) (me : Sat) (x : S) → me.0.role ≡ node
+  pub posts_allowed : {slots m : ℕ} (id : ℕ) (me : Sat) (x : S) → me.0.role ≡ node
       → has m me.0.filling ≡ true → me.1 ≡ (m, x) ∷ rest me.1 → Owns m me.0 (bytes x)
       → Allows (Holds bytes opening) slots id me m (λ _. 1)
-      (λ _. posted (step slots m 1 0 none) me 1)
-  posts_allowed slots id m me x role filling front owns s h wide at small =
-      let d = post-done s h id me.0 at role m filling x (rest me.1) owns in (
-        posts m me.0,
+      (λ _. posted bytes (step slots m 1 0 none) me 1)
+  posts_allowed {m = m} id me x role filling front owns s h wide at small =
+      let here : Standing bytes opening =
+      record { state = s; holds = h; id = id; view = me.0; at = at } in
+      let d = post-done here role m filling x (rest me.1) owns in (
+        posts m owns.0 me.0,
         gives,
         tt,
         subst
-            (λ (c : List (ℕ × S)). Holds bytes opening (stepped s m 1 id c (posts m me.0) gives))
+            (λ (c : List (ℕ × S)).
+            Holds bytes opening (stepped s m 1 id c (posts m owns.0 me.0) gives))
             (sym front) d.0,
-        (refl, refl, d.1),
+        (owns.0, (refl, refl, d.1, (x, front, owns.1))),
       )
 
-  pub clears_allowed : (slots id m : ℕ) (me : Sat) (x : S) (f : Plain) → me.0.role ≡ node
+  pub clears_allowed : {slots m : ℕ} (id : ℕ) (me : Sat) (x : S) (f : Plain) → me.0.role ≡ node
       → found m me.0.emptying ≡ Some f → me.1 ≡ (m, x) ∷ rest me.1
       → Allows (Holds bytes opening) slots id me m (λ _. 0)
       (λ _. emptied (step slots m 0 0 none) me 0)
-  clears_allowed slots id m me x f role emptying front s h wide at small =
-      let d = clear-done s h id me.0 at role m f emptying x (rest me.1) in (
+  clears_allowed {m = m} id me x f role emptying front s h wide at small =
+      let here : Standing bytes opening =
+      record { state = s; holds = h; id = id; view = me.0; at = at } in
+      let d = clear-done here role m f emptying x (rest me.1) in (
         clears m me.0,
         gives,
         tt,

@@ -18,13 +18,13 @@ is-box i j n first second = record {
   receiver = sym (mod-mul-add i n j second);
 }
 
-pub in-words : (m n k words : ℕ) → m < n * n → n ≡ k → words ≡ k * k + 2 → m < words
-in-words m n k words below same long =
+pub in-words : {m n k words : ℕ} → m < n * n → n ≡ k → words ≡ k * k + 2 → m < words
+in-words {m} {k = k} below same long =
     subst (λ (z : ℕ). m < z) (sym long)
     (let less : m < k * k = subst (λ (z : ℕ). m < z * z) same below in omega arith)
 
-pub box-of : (i j n k m : ℕ) → i < n → j < n → n ≡ k → m ≡ i * n + j → IsBox i j k m
-box-of i j n k m first second same is =
+pub box-of : {k m : ℕ} (i j n : ℕ) → i < n → j < n → n ≡ k → m ≡ i * n + j → IsBox i j k m
+box-of {k} i j n first second same is =
     subst (λ (z : ℕ). IsBox i j k z) (sym is)
     (subst (λ (z : ℕ). IsBox i j z (i * n + j)) same (is-box i j n first second))
 

@@ -10,9 +10,12 @@ module _ {A : Type 0} where
   at-end (z ∷ zs) y x (suc k) e =
       ⊎_elim (λ t. inl t) (λ t. inr (ap suc t.0, t.1)) (at-end zs y x k e)
 
-  pub each-push : (P : ℕ → A → Type 0) (xs : List A) (y : A) (n : ℕ) → length xs ≡ n
-      → ((k : ℕ) (x : A) → slice_get xs k ≡ Some x → P k x) → P n y
-      → (k : ℕ) (x : A) → slice_get (xs ++ y ∷ []) k ≡ Some x → P k x
+  -- so of each element, with its number
+  abbrev pub Each : (ℕ → A → Type 0) → List A → Type 0
+  Each P xs = (k : ℕ) (x : A) → slice_get xs k ≡ Some x → P k x
+
+  pub each-push : (P : ℕ → A → Type 0) (xs : List A) (y : A) (n : ℕ) → length xs ≡ n → Each P xs
+      → P n y → Each P (xs ++ y ∷ [])
   each-push P xs y n long each last k x e =
       ⊎_elim
       (λ there. each k x there)

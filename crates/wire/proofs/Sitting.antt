@@ -12,7 +12,7 @@ use Rattle.atomic_table.specs.Table.{rest, turned}
 use Rattle.atomic_table.proofs.Lists.{at_snoc}
 use Rattle.msg.specs.Grammar.{Plain, spelling}
 use Rattle.wire.specs.Lists.{has, found, cleared, once}
-use Rattle.wire.specs.Views.{Known, is_node, claims, takes_in, posts, clears, notes}
+use Rattle.wire.specs.Views.{Known, is_node, takes_in, posts, clears}
 use Rattle.wire.specs.Plays.{IsFresh}
 use Rattle.wire.specs.Seated.{minds, boxes_of, Sits}
 use Rattle.wire.proofs.Lists.{has-here, has-more, has-gone, has-stays, found-here, found-more, found-gone, found-stays}
@@ -133,71 +133,17 @@ boxes-last [] b x = refl
 boxes-last (y ∷ ys) b x = ap (λ (l : List ℕ). y.0 ∷ l) (boxes-last ys b x)
 
 pub fresh-minds : (k : ℕ) (v : Known) → IsFresh k v → minds k v ≡ false
-fresh-minds k v e =
-    cond-false _ _ _ e.0 ∙ ap is_some e.1
+fresh-minds k v e = cond-false _ _ _ e.0 ∙ ap is_some e.1
 
-module _ {S : Type 0} (bytes : S → List ℕ) (me nodes : ℕ) where
-  abbrev Seated : List ℕ → Known → List (ℕ × S) → Type 0
-  Seated held v out = Sits bytes me nodes held (v, out)
+abbrev Seated : {S : Type 0} → (S → List ℕ) → ℕ → ℕ → List ℕ → Known → List (ℕ × S) → Type 0
+Seated bytes me nodes held v out = Sits bytes me nodes held (v, out)
 
-  pub fresh-held : (held : List ℕ) (v : Known) (out : List (ℕ × S)) (k : ℕ) → Seated held v out
-      → IsFresh k v → has k held ≡ false
-  fresh-held held v out k s e = s.minded k ∙ fresh-minds k v e
-
-  pub sits-noted : (held : List ℕ) (v : Known) (out : List (ℕ × S)) (r : ℕ) → Seated held v out
-      → Seated held (notes r v) out
-  sits-noted held v out r s = record {
-    role = s.role;
-    me_is = s.me_is;
-    nodes_is = s.nodes_is;
-    within = s.within;
-    few = s.few;
-    order = s.order;
-    minded = s.minded;
-    single = s.single;
-    inside = s.inside;
-    spells = s.spells;
-  }
-
-  pub sits-claimed : (held : List ℕ) (v : Known) (out : List (ℕ × S)) (at : ℕ) (x : S)
-      → Seated held v out → IsFresh at v → at < nodes * nodes
-      → Seated (at ∷ held) (claims at v) ((at, x) ∷ out)
-  sits-claimed held v out at x s fresh below =
-      let gone = fresh-held held v out at s fresh in
-      record {
-        role = s.role;
-        me_is = s.me_is;
-        nodes_is = s.nodes_is;
-        within = s.within;
-        few = s.few;
-        order = ap (λ (l : List ℕ). at ∷ l) s.order;
-        minded = λ k. dite (ℕ_discrete k at)
-            (λ is. subst (λ (j : ℕ). has j (at ∷ held) ≡ minds j (claims at v)) (sym is)
-            (has-here at held ∙ sym (cond-true _ _ _ (has-here at v.filling))))
-            (λ apart. has-more at k held apart ∙ s.minded k
-            ∙ ap (λ (b : Bool). cond b true (is_some (found k v.emptying)))
-            (sym (has-more at k v.filling apart)));
-        single = once-more at held gone s.single;
-        inside = λ k e. dite (ℕ_discrete k at)
-            (λ is. subst (λ (j : ℕ). j < nodes * nodes) (sym is) below)
-            (λ apart. s.inside k (sym (has-more at k held apart) ∙ e));
-        spells = spells;
-      }
-    where
-      spells : (i b : ℕ) (y : S) (f : Plain) → get_elem? ((at, x) ∷ out) i ≡ some (b, y)
-          → found b v.emptying ≡ Some f → bytes y ≡ spelling f
-      spells zero b y f e there =
-          let is : at ≡ b =
-          ap (λ (z : ℕ × S). z.0) (some-injective (at, x) (b, y) e) in
-          let never : ◌≡◌ {A = Option Plain} None (Some f) =
-          sym fresh.1 ∙ ap (λ (j : ℕ). found j v.emptying) is ∙ there in absurd cc
-      spells (suc i) b y f e there = s.spells i b y f e there
-
-  pub sits-took : (held : List ℕ) (v : Known) (out : List (ℕ × S)) (at : ℕ) (x : S) (f : Plain)
-      → Seated held v out → IsFresh at v → at < nodes * nodes → bytes x ≡ spelling f
-      → Seated (at ∷ held) (takes_in at f v) ((at, x) ∷ out)
-  sits-took held v out at x f s fresh below spelled =
-      let gone = fresh-held held v out at s fresh in
+module _ {S : Type 0} {bytes : S → List ℕ} {me nodes : ℕ} where
+  pub sits-took : {held : List ℕ} {v : Known} {out : List (ℕ × S)} (at : ℕ) (x : S) (f : Plain)
+      → Seated bytes me nodes held v out → IsFresh at v → at < nodes * nodes → bytes x ≡ spelling f
+      → Seated bytes me nodes (at ∷ held) (takes_in at f v) ((at, x) ∷ out)
+  sits-took {held} {v} {out} at x f s fresh below spelled =
+      let gone : has at held ≡ false = s.minded at ∙ fresh-minds at v fresh in
       record {
         role = s.role;
         me_is = s.me_is;
@@ -233,17 +179,17 @@ module _ {S : Type 0} (bytes : S → List ℕ) (me nodes : ℕ) where
           dite (ℕ_discrete b at)
           (λ is. absurd (true≢false
           (sym (in-boxes out i b y e) ∙ ap (has b) s.order ∙ ap (λ (j : ℕ). has j held) is
-          ∙ fresh-held held v out at s fresh)))
+          ∙ s.minded at ∙ fresh-minds at v fresh)))
           (λ apart. s.spells i b y g e (sym (found-more at b f v.emptying apart) ∙ there))
 
   -- the first slot has gone home
-  pub sits-given : (held : List ℕ) (v w : Known) (out : List (ℕ × S)) (at : ℕ) (x : S)
-      → Seated held v ((at, x) ∷ out)
+  sits-given : {held : List ℕ} {v : Known} {out : List (ℕ × S)} (w : Known) (at : ℕ) (x : S)
+      → Seated bytes me nodes held v ((at, x) ∷ out)
       → (w.role ≡ v.role) × (w.me ≡ v.me) × (w.nodes ≡ v.nodes) → minds at w ≡ false
       → ((k : ℕ) → k ≢ at → minds k w ≡ minds k v)
       → ((b : ℕ) (f : Plain) → found b w.emptying ≡ Some f → found b v.emptying ≡ Some f)
-      → Seated (boxes_of out) w out
-  sits-given held v w out at x s same gone others less =
+      → Seated bytes me nodes (boxes_of out) w out
+  sits-given {held} {v} {out} w at x s same gone others less =
       let parts = once-parts at (boxes_of out) (ap once s.order ∙ s.single) in
       record {
         role = ap is_node same.0 ∙ s.role;
@@ -268,21 +214,21 @@ module _ {S : Type 0} (bytes : S → List ℕ) (me nodes : ℕ) where
           (λ is. cond-true _ _ _ (eq-eqb at k (sym is)))
           (λ apart. has-more at k (boxes_of out) apart ∙ e)
 
-  pub sits-posted : (held : List ℕ) (v : Known) (out : List (ℕ × S)) (at : ℕ) (x : S)
-      → Seated held v ((at, x) ∷ out) → found at v.emptying ≡ None
-      → Seated (boxes_of out) (posts at v) out
-  sits-posted held v out at x s none =
-      sits-given held v (posts at v) out at x s (refl, refl, refl)
+  pub sits-posted : {held : List ℕ} {v : Known} {out : List (ℕ × S)} (at : ℕ) (f : Plain) (x : S)
+      → Seated bytes me nodes held v ((at, x) ∷ out) → found at v.emptying ≡ None
+      → Seated bytes me nodes (boxes_of out) (posts at f v) out
+  sits-posted {v = v} at f x s none =
+      sits-given (posts at f v) at x s (refl, refl, refl)
       (cond-false _ _ _ (has-gone at v.filling) ∙ ap is_some none)
       (λ k apart. ap (λ (b : Bool). cond b true (is_some (found k v.emptying)))
       (has-stays at k v.filling apart))
       (λ b f e. e)
 
-  pub sits-cleared : (held : List ℕ) (v : Known) (out : List (ℕ × S)) (at : ℕ) (x : S)
-      → Seated held v ((at, x) ∷ out) → has at v.filling ≡ false
-      → Seated (boxes_of out) (clears at v) out
-  sits-cleared held v out at x s none =
-      sits-given held v (clears at v) out at x s (refl, refl, refl)
+  pub sits-cleared : {held : List ℕ} {v : Known} {out : List (ℕ × S)} (at : ℕ) (x : S)
+      → Seated bytes me nodes held v ((at, x) ∷ out) → has at v.filling ≡ false
+      → Seated bytes me nodes (boxes_of out) (clears at v) out
+  sits-cleared {v = v} at x s none =
+      sits-given (clears at v) at x s (refl, refl, refl)
       (cond-false _ _ _ none ∙ ap is_some (found-gone at v.emptying))
       (λ k apart. ap (λ (o : Option Plain). cond (has k v.filling) true (is_some o))
       (found-stays at k v.emptying apart))
@@ -293,10 +239,11 @@ module _ {S : Type 0} (bytes : S → List ℕ) (me nodes : ℕ) where
       (λ apart. sym (found-stays at b v.emptying apart) ∙ e))
 
   -- the first slot goes last
-  pub sits-turned : (held : List ℕ) (v : Known) (out : List (ℕ × S)) → Seated held v out
-      → Seated (drop 1 held ++ take 1 held) v (turned out)
-  sits-turned held v [] s =
-      subst (λ (l : List ℕ). Seated (drop 1 l ++ take 1 l) v []) s.order
+  pub sits-turned : {held : List ℕ} {v : Known} {out : List (ℕ × S)}
+      → Seated bytes me nodes held v out
+      → Seated bytes me nodes (drop 1 held ++ take 1 held) v (turned out)
+  sits-turned {v = v} {out = []} s =
+      subst (λ (l : List ℕ). Seated bytes me nodes (drop 1 l ++ take 1 l) v []) s.order
       (record {
         role = s.role;
         me_is = s.me_is;
@@ -309,8 +256,10 @@ module _ {S : Type 0} (bytes : S → List ℕ) (me nodes : ℕ) where
         inside = λ k e. s.inside k (sym (ap (has k) s.order) ∙ e);
         spells = s.spells;
       })
-  sits-turned held v ((at, x) ∷ out) s =
-      subst (λ (l : List ℕ). Seated (drop 1 l ++ take 1 l) v (out ++ (at, x) ∷ [])) s.order
+  sits-turned {v = v} {out = (at, x) ∷ out} s =
+      subst
+      (λ (l : List ℕ).
+      Seated bytes me nodes (drop 1 l ++ take 1 l) v (out ++ (at, x) ∷ [])) s.order
       (record {
         role = s.role;
         me_is = s.me_is;
@@ -329,11 +278,11 @@ module _ {S : Type 0} (bytes : S → List ℕ) (me nodes : ℕ) where
       })
 
   -- its number stands first where the slot does
-  pub in-front : (held : List ℕ) (v : Known) (out : List (ℕ × S)) (at : ℕ) (tail : List ℕ)
-      → Seated held v out → held ≡ at ∷ tail → (x : S) × (out ≡ (at, x) ∷ rest out)
-  in-front held v [] at tail s is =
+  pub in-front : {held : List ℕ} {v : Known} {out : List (ℕ × S)} (at : ℕ) (tail : List ℕ)
+      → Seated bytes me nodes held v out → held ≡ at ∷ tail → (x : S) × (out ≡ (at, x) ∷ rest out)
+  in-front {out = []} at tail s is =
       let never : ◌≡◌ {A = List ℕ} [] (at ∷ tail) = s.order ∙ is in absurd cc
-  in-front held v ((b, x) ∷ out) at tail s is =
+  in-front {out = (b, x) ∷ out} at tail s is =
       let same : ◌≡◌ {A = List ℕ} (b ∷ boxes_of out) (at ∷ tail) = s.order ∙ is in
       let first : b ≡ at = ap (λ (l : List ℕ). first_of l) same in
       (x, ap (λ (k : ℕ). (k, x) ∷ out) first)

@@ -22,6 +22,32 @@ pub record IsAlike (v w : Known) : Type 0 where
   pub role : w.role ≡ v.role
   pub me : w.me ≡ v.me
 
+-- what a step on a mailbox leaves of its seat
+pub record IsSeat (v w : Known) : Type 0 where
+  pub alike : IsAlike v w
+  pub nodes : w.nodes ≡ v.nodes
+  pub opens : w.opening ≡ v.opening
+  pub pair : w.pair ≡ v.pair
+  pub events : w.events ≡ v.events
+
+pub still-seat : {v : Known} {read tries : ℕ} {filling : List ℕ} {emptying : List (ℕ × Plain)}
+    {taken sent : List Plain}
+    → IsSeat v (record v {
+      read = read;
+      tries = tries;
+      filling = filling;
+      emptying = emptying;
+      taken = taken;
+      sent = sent;
+    })
+still-seat = record {
+  alike = record { role = refl; me = refl };
+  nodes = refl;
+  opens = refl;
+  pair = refl;
+  events = refl;
+}
+
 -- what a mailbox reads of one
 pub record IsLike (m : ℕ) (v w : Known) : Type 0 where
   pub fills : has m w.filling ≡ has m v.filling
@@ -30,102 +56,7 @@ pub record IsLike (m : ℕ) (v w : Known) : Type 0 where
 abbrev pub Homes : Type 0 → Type 0
 Homes S = List (maybe.Option S)
 
--- ---- One view is another
-
-module _ (views : List Known) (id : ℕ) (v w : Known) (at : get_elem? views id ≡ some v)
-    (alike : IsAlike v w) where
-  -- a seat had its role before, and its node
-  abbrev Was : ℕ → Known → Type 0
-  Was j u = (x : Known) × (get_elem? views j ≡ some x) × (x.role ≡ u.role) × (x.me ≡ u.me)
-
-  was : (j : ℕ) (u : Known) → get_elem? (set views id w) j ≡ some u → Was j u
-  was j u e =
-      ⊎_elim
-      (λ (t : (j ≡ id) × (w ≡ u)). (
-        v,
-        subst (λ (k : ℕ). get_elem? views k ≡ some v) (sym t.0) at,
-        sym alike.role ∙ ap (λ (x : Known). x.role) t.1,
-        sym alike.me ∙ ap (λ (x : Known). x.me) t.1,
-      ))
-      (λ (t : (j ≢ id) × (get_elem? views j ≡ some u)). (u, t.1, refl, refl))
-      (at_set views id j w u e)
-
-  abbrev IsOne : List Known → Type 0
-  IsOne vs =
-      (j k : ℕ) (x u : Known) → get_elem? vs j ≡ some x → get_elem? vs k ≡ some u
-      → x.role ≡ node → u.role ≡ node → x.me ≡ u.me → j ≡ k
-
-  one-stays : IsOne views → IsOne (set views id w)
-  one-stays one j k x u ex eu rx ru me =
-      let a = was j x ex in let b = was k u eu in
-      one j k a.0 b.0 a.1 b.1 (a.2 ∙ rx) (b.2 ∙ ru) (a.3 ∙ me ∙ sym b.3)
-
-  dealer-stays : (opening : World) (log log' : List Step) (j : ℕ) (u : Known)
-      → ((i : ℕ) → u.me ≤ i
-      → (pair_at (run opening log') i ≡ pair_at (run opening log) i)
-      × (events_of i log' ≡ events_of i log))
-      → DealerOk opening log views j u → DealerOk opening log' (set views id w) j u
-  dealer-stays opening log log' j u same h = record {
-    nodes_is = h.nodes_is;
-    opening_is = h.opening_is;
-    earlier = λ k x e r. let a = was k x e in
-        subst (λ (i : ℕ). i < u.me) a.3 (h.earlier k a.0 a.1 (a.2 ∙ r));
-    alone = λ k x e r. let a = was k x e in h.alone k a.0 a.1 (a.2 ∙ r);
-    still = λ i late. let a = h.still i late in let b = same i late in (b.1 ∙ a.0, b.0 ∙ a.1);
-  }
-
-  -- what lies in a mailbox that the step leaves
-  content-stays : {S : Type 0} (bytes : S → List ℕ) (n : ℕ) (old new : World)
-      (homes homes' : Homes S) (m : ℕ)
-      → ((f : Plain) → IsInNet old f → IsInNet new f)
-      → get_elem? homes' m ≡ get_elem? homes m → IsLike m v w → (b : Box)
-      → Content bytes n old homes views m b → Content bytes n new homes' (set views id w) m b
-  content-stays bytes n old new homes homes' m net home like empty c = (c.0, home ∙ c.1)
-  content-stays bytes n old new homes homes' m net home like (full f) c =
-      ((c.0.0, home ∙ c.0.1, c.0.2), net f c.1, c.2, c.3)
-  content-stays bytes n old new homes homes' m net home like (filling_by j) c =
-      dite (ℕ_discrete j id)
-      (λ e.
-      let is : v ≡ c.0 =
-      some-injective v c.0 (sym at ∙ subst (λ (k : ℕ). get_elem? views k ≡ some c.0) e c.1) in (
-        w,
-        subst (λ (k : ℕ). get_elem? (set views id w) k ≡ some w) (sym e) (set-at views id w v at),
-        alike.role ∙ ap (λ (x : Known). x.role) is ∙ c.2,
-        alike.me ∙ ap (λ (x : Known). x.me) is ∙ c.3,
-        like.fills ∙ ap (λ (x : Known). has m x.filling) is ∙ c.4,
-      ))
-      (λ apart. (c.0, set_else views id j w apart ∙ c.1, c.2, c.3, c.4))
-  content-stays bytes n old new homes homes' m net home like (emptying_by j f) c =
-      dite (ℕ_discrete j id)
-      (λ e.
-      let is : v ≡ c.0 =
-      some-injective v c.0 (sym at ∙ subst (λ (k : ℕ). get_elem? views k ≡ some c.0) e c.1) in (
-        w,
-        subst (λ (k : ℕ). get_elem? (set views id w) k ≡ some w) (sym e) (set-at views id w v at),
-        alike.role ∙ ap (λ (x : Known). x.role) is ∙ c.2,
-        alike.me ∙ ap (λ (x : Known). x.me) is ∙ c.3,
-        like.empties ∙ ap (λ (x : Known). found m x.emptying) is ∙ c.4,
-      ))
-      (λ apart. (c.0, set_else views id j w apart ∙ c.1, c.2, c.3, c.4))
-
-node-stays : (opening : World) (log log' : List Step) (boxes boxes' : ℕ → Box) (j : ℕ) (u : Known)
-    → (pair_at (run opening log') u.me ≡ pair_at (run opening log) u.me)
-    × (events_of u.me log' ≡ events_of u.me log)
-    → ((f : Plain) → IsInNet (run opening log) f → IsInNet (run opening log') f)
-    → ((m : ℕ) → holder (boxes m) ≡ suc j → boxes' m ≡ boxes m)
-    → NodeOk opening log boxes j u → NodeOk opening log' boxes' j u
-node-stays opening log log' boxes boxes' j u same net theirs h = record {
-  below = h.below;
-  nodes_is = h.nodes_is;
-  opening_is = h.opening_is;
-  pair_is = same.0 ∙ h.pair_is;
-  events_are = h.events_are ∙ sym same.1;
-  released = λ k f e. net f (h.released k f e);
-  fills = λ m e. let a = h.fills m e in (a.0, theirs m (ap holder a.1) ∙ a.1);
-  empties = λ m f e. let a = h.empties m f e in (a.0, theirs m (ap holder a.1) ∙ a.1);
-}
-
--- ---- A step
+-- ---- A seat, and its step
 
 -- What a list of events and a longer one have alike: all that is released, and the other nodes.
 pub record Extends (opening : World) (log log' : List Step) (v : Known) : Type 0 where
@@ -137,59 +68,123 @@ pub record Extends (opening : World) (log log' : List Step) (v : Known) : Type 0
 pub same-log : (opening : World) (log : List Step) (v : Known) → Extends opening log log v
 same-log opening log v = record { net = λ f h. h; others = λ i apart. (refl, refl) }
 
+-- a seat in a state that keeps the rule
+pub record Standing {S : Type 0} (bytes : S → List ℕ) (opening : World) : Type 0 where
+  pub state : State S Known
+  pub holds : Holds bytes opening state
+  pub id : ℕ
+  pub view : Known
+  pub at : get_elem? state.views id ≡ some view
+
 module _ {S : Type 0} (bytes : S → List ℕ) (opening : World) where
   abbrev n : ℕ
   n = nodes_of opening
 
-  -- the step of the seat id makes its view w
-  pub record Turn (s : State S Known) (h : Holds bytes opening s) (id : ℕ) (v w : Known)
-      (words : List ℕ) (homes : Homes S) : Type 0 where
-    pub at : get_elem? s.views id ≡ some v
-    pub alike : IsAlike v w
+  -- the views when the seat's is w
+  abbrev after : Standing bytes opening → Known → List Known
+  after p w = set p.state.views p.id w
+
+  module _ (p : Standing bytes opening) (w : Known) (alike : IsAlike p.view w) where
+    -- a seat had its role before, and its node
+    abbrev Was : ℕ → Known → Type 0
+    Was j u = (x : Known) × (get_elem? p.state.views j ≡ some x) × (x.role ≡ u.role) × (x.me ≡ u.me)
+
+    was : (j : ℕ) (u : Known) → get_elem? (after p w) j ≡ some u → Was j u
+    was j u e =
+        ⊎_elim
+        (λ (t : (j ≡ p.id) × (w ≡ u)). (
+          p.view,
+          subst (λ (k : ℕ). get_elem? p.state.views k ≡ some p.view) (sym t.0) p.at,
+          sym alike.role ∙ ap (λ (x : Known). x.role) t.1,
+          sym alike.me ∙ ap (λ (x : Known). x.me) t.1,
+        ))
+        (λ (t : (j ≢ p.id) × (get_elem? p.state.views j ≡ some u)). (u, t.1, refl, refl))
+        (at_set p.state.views p.id j w u e)
+
+    abbrev IsOne : List Known → Type 0
+    IsOne vs =
+        (j k : ℕ) (x u : Known) → get_elem? vs j ≡ some x → get_elem? vs k ≡ some u
+        → x.role ≡ node → u.role ≡ node → x.me ≡ u.me → j ≡ k
+
+    one-stays : IsOne p.state.views → IsOne (after p w)
+    one-stays one j k x u ex eu rx ru me =
+        let a = was j x ex in let b = was k u eu in
+        one j k a.0 b.0 a.1 b.1 (a.2 ∙ rx) (b.2 ∙ ru) (a.3 ∙ me ∙ sym b.3)
+
+    dealer-stays : (log : List Step) (j : ℕ) (u : Known)
+        → ((i : ℕ) → u.me ≤ i
+        → (pair_at (run opening log) i ≡ pair_at (run opening p.holds.log) i)
+        × (events_of i log ≡ events_of i p.holds.log))
+        → DealerOk opening p.holds.log p.state.views j u
+        → DealerOk opening log (after p w) j u
+    dealer-stays log j u same h = record {
+      nodes_is = h.nodes_is;
+      opening_is = h.opening_is;
+      earlier = λ k x e r. let a = was k x e in
+          subst (λ (i : ℕ). i < u.me) a.3 (h.earlier k a.0 a.1 (a.2 ∙ r));
+      alone = λ k x e r. let a = was k x e in h.alone k a.0 a.1 (a.2 ∙ r);
+      still = λ i late. let a = h.still i late in let b = same i late in (b.1 ∙ a.0, b.0 ∙ a.1);
+    }
+
+  -- the step of the seat makes its view w
+  pub record Turn (p : Standing bytes opening) (w : Known) (words : List ℕ)
+      (homes : Homes S) : Type 0 where
+    pub alike : IsAlike p.view w
     pub log : List Step
     pub boxes : ℕ → Box
-    pub extends : Extends opening h.log log v
-    pub wide : length words ≡ length s.words
-    pub slots : length homes ≡ length s.homes
+    pub extends : Extends opening p.holds.log log p.view
+    pub wide : length words ≡ length p.state.words
+    pub slots : length homes ≡ length p.state.homes
     pub events : AreEvents opening log
     pub count : slice_index words (n * n) ≡ length log % 2 ^ 64
     pub board : slice_index words (n * n + 1) ≤ ended_of (run opening log)
     pub fits : slice_index words (n * n + 1) ≤ GREATEST_CYCLE
-    pub higher : slice_index s.words (n * n + 1) ≤ slice_index words (n * n + 1)
+    pub higher : slice_index p.state.words (n * n + 1) ≤ slice_index words (n * n + 1)
     pub each : (m : ℕ) → m < n * n
-        → BoxOk bytes n (run opening log) words homes (set s.views id w) m (boxes m)
-    pub theirs : (j : ℕ) → j ≢ id → (m : ℕ) → holder (h.boxes m) ≡ suc j → boxes m ≡ h.boxes m
-    pub mine : SeatOk opening log (slice_index words (n * n + 1)) (set s.views id w) boxes id
+        → BoxOk bytes n (run opening log) words homes (after p w) m (boxes m)
+    pub theirs : (j : ℕ) → j ≢ p.id → (m : ℕ) → holder (p.holds.boxes m) ≡ suc j
+        → boxes m ≡ p.holds.boxes m
+    pub mine : SeatOk opening log (slice_index words (n * n + 1)) (after p w) boxes p.id
         w w.role
-    pub no_dealer : v.role ≢ dealer
+    pub no_dealer : p.view.role ≢ dealer
 
-  module _ (s : State S Known) (h : Holds bytes opening s) (id : ℕ) (v w : Known)
-      (words : List ℕ) (homes : Homes S) (t : Turn s h id v w words homes) where
-    theirs-stay : (j : ℕ) (u : Known) → j ≢ id → get_elem? s.views j ≡ some u → (r : Role)
+  module _ (p : Standing bytes opening) (w : Known) (words : List ℕ)
+      (homes : Homes S) (t : Turn p w words homes) where
+    theirs-stay : (j : ℕ) (u : Known) → j ≢ p.id → get_elem? p.state.views j ≡ some u → (r : Role)
         → u.role ≡ r
-        → SeatOk opening h.log (slice_index s.words (n * n + 1)) s.views h.boxes j u r
-        → SeatOk opening t.log (slice_index words (n * n + 1)) (set s.views id w) t.boxes j u r
+        → SeatOk opening p.holds.log (slice_index p.state.words (n * n + 1)) p.state.views
+        p.holds.boxes j u r
+        → SeatOk opening t.log (slice_index words (n * n + 1)) (after p w) t.boxes j u r
     theirs-stay j u apart at dealer is ok =
-        dealer-stays s.views id v w t.at t.alike opening h.log t.log j u
+        dealer-stays p w t.alike t.log j u
         (λ i late. t.extends.others i
-        (λ r e. let before : v.me < u.me = ok.earlier id v t.at r in omega arith))
+        (λ r e. let before : p.view.me < u.me = ok.earlier p.id p.view p.at r in omega arith))
         ok
     theirs-stay j u apart at node is ok =
-        node-stays opening h.log t.log h.boxes t.boxes j u
-        (t.extends.others u.me (λ r e. apart (h.one j id u v at t.at is r e)))
-        t.extends.net
-        (t.theirs j apart) ok
+        let same = t.extends.others u.me
+        (λ r e. apart (p.holds.one j p.id u p.view at p.at is r e)) in
+        let theirs = t.theirs j apart in
+        record {
+          below = ok.below;
+          nodes_is = ok.nodes_is;
+          opening_is = ok.opening_is;
+          pair_is = same.0 ∙ ok.pair_is;
+          events_are = ok.events_are ∙ sym same.1;
+          released = λ k f e. t.extends.net f (ok.released k f e);
+          fills = λ m e. let a = ok.fills m e in (a.0, theirs m (ap holder a.1) ∙ a.1);
+          empties = λ m f e. let a = ok.empties m f e in (a.0, theirs m (ap holder a.1) ∙ a.1);
+        }
     theirs-stay j u apart at watch is ok =
         record { opening_is = ok.opening_is; loaded = le_trans ok.loaded t.higher }
 
     pub turned :
-        Holds bytes opening (record { words = words; homes = homes; views = set s.views id w })
+        Holds bytes opening (record { words = words; homes = homes; views = after p w })
     turned = record {
       log = t.log;
       boxes = t.boxes;
-      opens = h.opens;
-      wide = t.wide ∙ h.wide;
-      slots = t.slots ∙ h.slots;
+      opens = p.holds.opens;
+      wide = t.wide ∙ p.holds.wide;
+      slots = t.slots ∙ p.holds.slots;
       events = t.events;
       count = t.count;
       board = t.board;
@@ -197,158 +192,210 @@ module _ {S : Type 0} (bytes : S → List ℕ) (opening : World) where
       each_box = t.each;
       each_seat = λ j u e.
           ⊎_elim
-          (λ (is : (j ≡ id) × (w ≡ u)).
+          (λ (is : (j ≡ p.id) × (w ≡ u)).
           subst
           (λ (x : ℕ × Known).
-          SeatOk opening t.log (slice_index words (n * n + 1)) (set s.views id w) t.boxes
+          SeatOk opening t.log (slice_index words (n * n + 1)) (after p w) t.boxes
           x.0 x.1 x.1.role)
           (λ k. (sym is.0 k, is.1 k)) t.mine)
-          (λ (is : (j ≢ id) × (get_elem? s.views j ≡ some u)).
-          theirs-stay j u is.0 is.1 u.role refl (h.each_seat j u is.1))
-          (at_set s.views id j w u e);
-      one = one-stays s.views id v w t.at t.alike h.one;
+          (λ (is : (j ≢ p.id) × (get_elem? p.state.views j ≡ some u)).
+          theirs-stay j u is.0 is.1 u.role refl (p.holds.each_seat j u is.1))
+          (at_set p.state.views p.id j w u e);
+      one = one-stays p w t.alike p.holds.one;
     }
 
-  -- a mailbox that the step leaves
-  pub box-stays : (s : State S Known) (h : Holds bytes opening s) (id : ℕ) (v w : Known)
-      (log : List Step) (words : List ℕ) (homes : Homes S) (m : ℕ) → m < n * n
-      → get_elem? s.views id ≡ some v → IsAlike v w → Extends opening h.log log v
-      → slice_index words m ≡ slice_index s.words m → get_elem? homes m ≡ get_elem? s.homes m
-      → IsLike m v w
-      → BoxOk bytes n (run opening log) words homes (set s.views id w) m (h.boxes m)
-  box-stays s h id v w log words homes m below at alike ext word home like =
-      let ok = h.each_box m below in
-      record {
-        shows = word ∙ ok.shows;
-        content = content-stays s.views id v w at alike bytes n
-            (run opening h.log) (run opening log) s.homes homes m
-            ext.net home like (h.boxes m) ok.content;
-      }
+  -- ---- A mailbox that the step leaves
+
+  pub record Leaves (p : Standing bytes opening) (w : Known) (log : List Step) (words : List ℕ)
+      (homes : Homes S) (m : ℕ) : Type 0 where
+    pub below : m < n * n
+    pub alike : IsAlike p.view w
+    pub extends : Extends opening p.holds.log log p.view
+    pub word : slice_index words m ≡ slice_index p.state.words m
+    pub home : get_elem? homes m ≡ get_elem? p.state.homes m
+    pub like : IsLike m p.view w
+
+  module _ (p : Standing bytes opening) (w : Known) (log : List Step) (words : List ℕ)
+      (homes : Homes S) (m : ℕ) (l : Leaves p w log words homes m) where
+    content-stays : (b : Box)
+        → Content bytes n (run opening p.holds.log) p.state.homes p.state.views m b
+        → Content bytes n (run opening log) homes (after p w) m b
+    content-stays empty c = (c.0, l.home ∙ c.1)
+    content-stays (full f) c =
+        ((c.0.0, l.home ∙ c.0.1, c.0.2), l.extends.net f c.1, c.2, c.3)
+    content-stays (filling_by j) c =
+        dite (ℕ_discrete j p.id)
+        (λ e.
+        let is : p.view ≡ c.0 =
+        some-injective p.view c.0
+        (sym p.at ∙ subst (λ (k : ℕ). get_elem? p.state.views k ≡ some c.0) e c.1) in (
+          w,
+          subst (λ (k : ℕ). get_elem? (after p w) k ≡ some w) (sym e)
+              (set-at p.state.views p.id w p.view p.at),
+          l.alike.role ∙ ap (λ (x : Known). x.role) is ∙ c.2,
+          l.alike.me ∙ ap (λ (x : Known). x.me) is ∙ c.3,
+          l.like.fills ∙ ap (λ (x : Known). has m x.filling) is ∙ c.4,
+        ))
+        (λ apart. (c.0, set_else p.state.views p.id j w apart ∙ c.1, c.2, c.3, c.4))
+    content-stays (emptying_by j f) c =
+        dite (ℕ_discrete j p.id)
+        (λ e.
+        let is : p.view ≡ c.0 =
+        some-injective p.view c.0
+        (sym p.at ∙ subst (λ (k : ℕ). get_elem? p.state.views k ≡ some c.0) e c.1) in (
+          w,
+          subst (λ (k : ℕ). get_elem? (after p w) k ≡ some w) (sym e)
+              (set-at p.state.views p.id w p.view p.at),
+          l.alike.role ∙ ap (λ (x : Known). x.role) is ∙ c.2,
+          l.alike.me ∙ ap (λ (x : Known). x.me) is ∙ c.3,
+          l.like.empties ∙ ap (λ (x : Known). found m x.emptying) is ∙ c.4,
+        ))
+        (λ apart. (c.0, set_else p.state.views p.id j w apart ∙ c.1, c.2, c.3, c.4))
+
+    box-stays : BoxOk bytes n (run opening log) words homes (after p w) m
+        (p.holds.boxes m)
+    box-stays =
+        let ok = p.holds.each_box m l.below in
+        record {
+          shows = l.word ∙ ok.shows;
+          content = content-stays (p.holds.boxes m) ok.content;
+        }
 
   -- ---- A step that moves a mailbox
 
-  pub record Move (s : State S Known) (h : Holds bytes opening s) (id : ℕ) (v w : Known) (m x : ℕ)
-      (b : Box) (homes : Homes S) : Type 0 where
+  pub record Move (p : Standing bytes opening) (w : Known) (m x : ℕ) (b : Box) : Type 0 where
+    -- what stands in the mailbox's slot
+    pub home : maybe.Option S
     pub below : m < n * n
-    pub at : get_elem? s.views id ≡ some v
-    pub role : v.role ≡ node
-    pub alike : IsAlike v w
-    pub nodes : w.nodes ≡ v.nodes
-    pub opens : w.opening ≡ v.opening
-    pub pair : w.pair ≡ v.pair
-    pub events : w.events ≡ v.events
-    pub slots : length homes ≡ length s.homes
-    pub home : (k : ℕ) → k ≢ m → get_elem? homes k ≡ get_elem? s.homes k
+    pub role : p.view.role ≡ node
+    pub seat : IsSeat p.view w
     pub shows : x ≡ face b
-    pub content : Content bytes n (run opening h.log) homes (set s.views id w) m b
-    pub free : (j : ℕ) → j ≢ id → holder (h.boxes m) ≢ suc j
-    pub like : (k : ℕ) → k ≢ m → IsLike k v w
-    pub taken : (k : ℕ) (f : Plain) → slice_get w.taken k ≡ Some f → IsInNet (run opening h.log) f
-    pub fills : has m w.filling ≡ true → b ≡ filling_by id
-    pub empties : (f : Plain) → found m w.emptying ≡ Some f → b ≡ emptying_by id f
+    pub content : Content bytes n (run opening p.holds.log) (set p.state.homes m home)
+        (after p w) m b
+    pub free : (j : ℕ) → j ≢ p.id → holder (p.holds.boxes m) ≢ suc j
+    pub like : (k : ℕ) → k ≢ m → IsLike k p.view w
+    pub taken : (k : ℕ) (f : Plain) → slice_get w.taken k ≡ Some f
+        → IsInNet (run opening p.holds.log) f
+    pub fills : has m w.filling ≡ true → b ≡ filling_by p.id
+    pub empties : (f : Plain) → found m w.emptying ≡ Some f → b ≡ emptying_by p.id f
 
-  pub node-of : (s : State S Known) (h : Holds bytes opening s) (id : ℕ) (v : Known)
-      → get_elem? s.views id ≡ some v → v.role ≡ node → NodeOk opening h.log h.boxes id v
-  node-of s h id v at role =
+  pub node-of : (p : Standing bytes opening) → p.view.role ≡ node
+      → NodeOk opening p.holds.log p.holds.boxes p.id p.view
+  node-of p role =
       subst
-      (SeatOk opening h.log (slice_index s.words (n * n + 1)) s.views h.boxes id v)
-      role (h.each_seat id v at)
+      (SeatOk opening p.holds.log (slice_index p.state.words (n * n + 1)) p.state.views
+      p.holds.boxes p.id p.view)
+      role (p.holds.each_seat p.id p.view p.at)
 
-  module _ (s : State S Known) (h : Holds bytes opening s) (id : ℕ) (v w : Known) (m x : ℕ)
-      (b : Box) (homes : Homes S) (t : Move s h id v w m x b homes) where
-    was-node : NodeOk opening h.log h.boxes id v
-    was-node = node-of s h id v t.at t.role
+  module _ (p : Standing bytes opening) (w : Known) (m x : ℕ) (b : Box)
+      (t : Move p w m x b) where
+    was-node : NodeOk opening p.holds.log p.holds.boxes p.id p.view
+    was-node = node-of p t.role
 
-    moved-node : NodeOk opening h.log (put h.boxes m b) id w
+    moved-node : NodeOk opening p.holds.log (put p.holds.boxes m b) p.id w
     moved-node = record {
-      below = subst (λ (i : ℕ). i < n) (sym t.alike.me) was-node.below;
-      nodes_is = t.nodes ∙ was-node.nodes_is;
-      opening_is = t.opens ∙ was-node.opening_is;
-      pair_is = ap (pair_at (run opening h.log)) t.alike.me ∙ was-node.pair_is ∙ sym t.pair;
-      events_are = t.events ∙ was-node.events_are
-          ∙ ap (λ (i : ℕ). events_of i h.log) (sym t.alike.me);
+      below = subst (λ (i : ℕ). i < n) (sym t.seat.alike.me) was-node.below;
+      nodes_is = t.seat.nodes ∙ was-node.nodes_is;
+      opening_is = t.seat.opens ∙ was-node.opening_is;
+      pair_is = ap (pair_at (run opening p.holds.log)) t.seat.alike.me ∙ was-node.pair_is
+          ∙ sym t.seat.pair;
+      events_are = t.seat.events ∙ was-node.events_are
+          ∙ ap (λ (i : ℕ). events_of i p.holds.log) (sym t.seat.alike.me);
       released = t.taken;
-      fills = λ k. at_put h.boxes m b
-          (λ i y. has i w.filling ≡ true → (i < n * n) × (y ≡ filling_by id)) k
+      fills = λ k. at_put p.holds.boxes m b
+          (λ i y. has i w.filling ≡ true → (i < n * n) × (y ≡ filling_by p.id)) k
           (λ e. (t.below, t.fills e))
           (λ apart e. was-node.fills k (sym (t.like k apart).fills ∙ e));
-      empties = λ k f. at_put h.boxes m b
-          (λ i y. found i w.emptying ≡ Some f → (i < n * n) × (y ≡ emptying_by id f)) k
+      empties = λ k f. at_put p.holds.boxes m b
+          (λ i y. found i w.emptying ≡ Some f → (i < n * n) × (y ≡ emptying_by p.id f)) k
           (λ e. (t.below, t.empties f e))
           (λ apart e. was-node.empties k f (sym (t.like k apart).empties ∙ e));
     }
 
     pub moved : Holds bytes opening
-        (record { words = set s.words m x; homes = homes; views = set s.views id w })
+        (record {
+          words = set p.state.words m x;
+          homes = set p.state.homes m t.home;
+          views = after p w;
+        })
     moved =
-        let wide : length s.words ≡ n * n + 2 = h.wide in
+        let wide : length p.state.words ≡ n * n + 2 = p.holds.wide in
+        let homes = set p.state.homes m t.home in
         let below : m < n * n = t.below in
-        let other : (k : ℕ) → k ≢ m → get_or (set s.words m x) k 0 ≡ get_or s.words k 0 =
-        λ k apart. get_or-set_other s.words m k x 0 apart in
+        let other : (k : ℕ) → k ≢ m
+        → get_or (set p.state.words m x) k 0 ≡ get_or p.state.words k 0 =
+        λ k apart. get_or-set_other p.state.words m k x 0 apart in
         let count = other (n * n) (omega arith) in
         let board = other (n * n + 1) (omega arith) in
-        turned s h id v w (set s.words m x) homes (record {
-          at = t.at;
-          alike = t.alike;
-          log = h.log;
-          boxes = put h.boxes m b;
-          extends = same-log opening h.log v;
-          wide = length-set s.words m x;
-          slots = t.slots;
-          events = h.events;
-          count = count ∙ h.count;
-          board = subst (λ (z : ℕ). z ≤ ended_of (run opening h.log)) (sym board) h.board;
-          fits = subst (λ (z : ℕ). z ≤ GREATEST_CYCLE) (sym board) h.fits;
-          higher = subst (λ (z : ℕ). get_or s.words (n * n + 1) 0 ≤ z) (sym board) (le_refl _);
-          each = λ k k_below. at_put h.boxes m b
+        turned p w (set p.state.words m x) homes (record {
+          alike = t.seat.alike;
+          log = p.holds.log;
+          boxes = put p.holds.boxes m b;
+          extends = same-log opening p.holds.log p.view;
+          wide = length-set p.state.words m x;
+          slots = length-set p.state.homes m t.home;
+          events = p.holds.events;
+          count = count ∙ p.holds.count;
+          board = subst (λ (z : ℕ). z ≤ ended_of (run opening p.holds.log)) (sym board)
+              p.holds.board;
+          fits = subst (λ (z : ℕ). z ≤ GREATEST_CYCLE) (sym board) p.holds.fits;
+          higher = subst (λ (z : ℕ). get_or p.state.words (n * n + 1) 0 ≤ z) (sym board)
+              (le_refl _);
+          each = λ k k_below. at_put p.holds.boxes m b
               (λ i y. i < n * n
-              → BoxOk bytes n (run opening h.log) (set s.words m x) homes (set s.views id w) i y) k
+              → BoxOk bytes n (run opening p.holds.log) (set p.state.words m x) homes
+              (after p w) i y) k
               (λ _. record {
-                shows = get_or-set_same s.words m x 0 (omega arith) ∙ t.shows;
+                shows = get_or-set_same p.state.words m x 0 (omega arith) ∙ t.shows;
                 content = t.content;
               })
-              (λ apart _. box-stays s h id v w h.log (set s.words m x) homes k k_below t.at t.alike
-              (same-log opening h.log v) (other k apart) (t.home k apart) (t.like k apart))
+              (λ apart _. box-stays p w p.holds.log (set p.state.words m x) homes k (record {
+                below = k_below;
+                alike = t.seat.alike;
+                extends = same-log opening p.holds.log p.view;
+                word = other k apart;
+                home = set_else p.state.homes m k t.home apart;
+                like = t.like k apart;
+              }))
               k_below;
           theirs = λ j apart k held.
-              put-other h.boxes m b k
-              (λ e. t.free j apart (subst (λ (i : ℕ). holder (h.boxes i) ≡ suc j) e held));
+              put-other p.holds.boxes m b k
+              (λ e. t.free j apart (subst (λ (i : ℕ). holder (p.holds.boxes i) ≡ suc j) e held));
           mine = subst
-              (SeatOk opening h.log (slice_index (set s.words m x) (n * n + 1)) (set s.views id w)
-              (put h.boxes m b) id w)
-              (sym (t.alike.role ∙ t.role)) moved-node;
+              (SeatOk opening p.holds.log (slice_index (set p.state.words m x) (n * n + 1))
+              (after p w)
+              (put p.holds.boxes m b) p.id w)
+              (sym (t.seat.alike.role ∙ t.role)) moved-node;
           no_dealer = λ d. (let never : ◌≡◌ {A = Role} node dealer = sym t.role ∙ d in absurd cc);
         })
 
   -- ---- A step that moves none
 
-  pub record Note (s : State S Known) (h : Holds bytes opening s) (id : ℕ) (v w : Known)
-      (log : List Step) (words : List ℕ) : Type 0 where
-    pub at : get_elem? s.views id ≡ some v
-    pub alike : IsAlike v w
-    pub filling : w.filling ≡ v.filling
-    pub emptying : w.emptying ≡ v.emptying
-    pub extends : Extends opening h.log log v
-    pub wide : length words ≡ length s.words
-    pub boxes : (m : ℕ) → m < n * n → slice_index words m ≡ slice_index s.words m
+  pub record Note (p : Standing bytes opening) (w : Known) (log : List Step)
+      (words : List ℕ) : Type 0 where
+    pub alike : IsAlike p.view w
+    pub filling : w.filling ≡ p.view.filling
+    pub emptying : w.emptying ≡ p.view.emptying
+    pub extends : Extends opening p.holds.log log p.view
+    pub wide : length words ≡ length p.state.words
+    pub boxes : (m : ℕ) → m < n * n → slice_index words m ≡ slice_index p.state.words m
     pub events : AreEvents opening log
     pub count : slice_index words (n * n) ≡ length log % 2 ^ 64
     pub board : slice_index words (n * n + 1) ≤ ended_of (run opening log)
     pub fits : slice_index words (n * n + 1) ≤ GREATEST_CYCLE
-    pub higher : slice_index s.words (n * n + 1) ≤ slice_index words (n * n + 1)
-    pub mine : SeatOk opening log (slice_index words (n * n + 1)) (set s.views id w) h.boxes id
+    pub higher : slice_index p.state.words (n * n + 1) ≤ slice_index words (n * n + 1)
+    pub mine : SeatOk opening log (slice_index words (n * n + 1)) (after p w) p.holds.boxes p.id
         w w.role
-    pub no_dealer : v.role ≢ dealer
+    pub no_dealer : p.view.role ≢ dealer
 
-  pub noted : (s : State S Known) (h : Holds bytes opening s) (id : ℕ) (v w : Known)
-      (log : List Step) (words : List ℕ) → Note s h id v w log words
-      → Holds bytes opening (record { words = words; homes = s.homes; views = set s.views id w })
-  noted s h id v w log words t =
-      turned s h id v w words s.homes (record {
-        at = t.at;
+  pub noted : (p : Standing bytes opening) (w : Known) (log : List Step)
+      (words : List ℕ) → Note p w log words
+      → Holds bytes opening (record { words = words; homes = p.state.homes; views = after p w })
+  noted p w log words t =
+      turned p w words p.state.homes (record {
         alike = t.alike;
         log = log;
-        boxes = h.boxes;
+        boxes = p.holds.boxes;
         extends = t.extends;
         wide = t.wide;
         slots = refl;
@@ -357,9 +404,14 @@ module _ {S : Type 0} (bytes : S → List ℕ) (opening : World) where
         board = t.board;
         fits = t.fits;
         higher = t.higher;
-        each = λ m below. box-stays s h id v w log words s.homes m below t.at t.alike t.extends
-            (t.boxes m below) refl
-            (record { fills = ap (has m) t.filling; empties = ap (found m) t.emptying });
+        each = λ m below. box-stays p w log words p.state.homes m (record {
+          below = below;
+          alike = t.alike;
+          extends = t.extends;
+          word = t.boxes m below;
+          home = refl;
+          like = record { fills = ap (has m) t.filling; empties = ap (found m) t.emptying };
+        });
         theirs = λ j apart m held. refl;
         mine = t.mine;
         no_dealer = t.no_dealer;

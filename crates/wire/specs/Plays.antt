@@ -102,9 +102,14 @@ module _ {S : Type 0} where
       (r ≡ 1 → (f : Plain) × Took bytes st m m' f)
       × (r ≢ 1 → (m'.0 ≡ notes r m.0) × (m'.1 ≡ m.1))
 
-  abbrev pub posted : Step S → Me S Known → ℕ → Me S Known → Type 0
-  posted st m r m' =
-      (m'.0 ≡ posts st.word m.0) × (m'.1 ≡ rest m.1) × (found st.word m.0.emptying ≡ None)
+  -- what was posted: the frame that the slot in front has
+  abbrev pub Posted : (S → List ℕ) → Step S → Me S Known → Me S Known → Plain → Type 0
+  Posted bytes st m m' f =
+      (m'.0 ≡ posts st.word f m.0) × (m'.1 ≡ rest m.1) × (found st.word m.0.emptying ≡ None)
+      × ((x : S) × (m.1 ≡ (st.word, x) ∷ rest m.1) × Spells f (bytes x))
+
+  abbrev pub posted : (S → List ℕ) → Step S → Me S Known → ℕ → Me S Known → Type 0
+  posted bytes st m r m' = (f : Plain) × Posted bytes st m m' f
 
   abbrev pub emptied : Step S → Me S Known → ℕ → Me S Known → Type 0
   emptied st m r m' =

@@ -33,6 +33,8 @@ pub record Known : Type 0 where
   pub emptying : List (ℕ × Plain)
   -- the frames that it ever took
   pub taken : List Plain
+  -- the frames that it ever posted, in order
+  pub sent : List Plain
   -- the word that its last claim or take read, and how often it claimed or took
   pub read : ℕ
   pub tries : ℕ
@@ -65,6 +67,7 @@ fresh role me nodes opening pair = record {
   filling = [];
   emptying = [];
   taken = [];
+  sent = [];
   read = 0;
   tries = 0;
   number = 0;
@@ -101,8 +104,8 @@ takes_in box f v = record v {
   taken = v.taken ++ f ∷ [];
 }
 
-abbrev pub posts : ℕ → Known → Known
-posts box v = record v { filling = without box v.filling }
+abbrev pub posts : ℕ → Plain → Known → Known
+posts box f v = record v { filling = without box v.filling; sent = v.sent ++ f ∷ [] }
 
 abbrev pub clears : ℕ → Known → Known
 clears box v = record v { emptying = cleared box v.emptying }

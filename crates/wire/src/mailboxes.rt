@@ -20,7 +20,7 @@ ghost use Rattle.atomic_table.specs.Table.{rest};
 ghost use Rattle.msg.specs.Grammar.{Plain, Fits, spelling};
 ghost use Rattle.wire.specs.Lists.{has, found};
 ghost use Rattle.wire.specs.Views.{notes, claims, takes_in, posts, clears};
-ghost use Rattle.wire.specs.Rule.{sender, receiver};
+ghost use Rattle.wire.specs.Rule.{sender, receiver, Spells};
 ghost use Rattle.wire.specs.Plays.{Owns, IsReleased};
 ghost use Rattle.wire.specs.Readers.{
   width,
@@ -83,8 +83,8 @@ impl Wire {
             × (has (outbox seat.old (claim_to claim)) (known seat.old).filling ≡ true) }
         requires released { Owns (outbox seat.old (claim_to claim)) (known seat.old) bytes.items }
         ensures same { IsSame seat.old seat.new }
-        ensures posted { known seat.new
-            ≡ posts (outbox seat.old (claim_to claim)) (known seat.old) }
+        ensures posted { (f : Plain) × Spells f bytes.items
+            × (known seat.new ≡ posts (outbox seat.old (claim_to claim)) f (known seat.old)) }
     {
         let Claim { to, of: _ } = claim;
         let at = seat.node * seat.nodes + usize::from(to);

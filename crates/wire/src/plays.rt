@@ -36,7 +36,7 @@ pub struct Posts;
 impl Play<Vec<u8>, View> for Posts {
     ghost use Rattle.wire.specs.Plays.{posted};
 
-    ghost then = { posted };
+    ghost then = { posted (λ v. v.items) };
 }
 
 pub struct Clears;

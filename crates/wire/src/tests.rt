@@ -1,4 +1,7 @@
-ghost use Rattle.std.specs.Prelude.{◌≡◌, ℕ, Some, slice_get, IfOk};
+ghost use Rattle.std.specs.Prelude.{◌≡◌, ℕ, Some, slice_get, IfOk, IsTrue};
+ghost use Rattle.msg.specs.Grammar.{ack_frame};
+ghost use Rattle.wire.specs.Rule.{Spells};
+ghost use Rattle.wire.specs.Views.{notes};
 ghost use Rattle.wire.specs.Readers.{
   width,
   known,
@@ -36,15 +39,22 @@ struct Joined {
     ghost looks: { IsWatchOf wire watch },
 }
 
+// The bytes of node 0's acknowledgement of nothing.
+fn nothing(alloc: Global) -> Result<Vec<u8>, Refusal>
+    ensures { IfOk result (λ b. Spells (ack_frame 0 1 0) b.items) }
+{
+    let Some(ack) = Ack::new(0, 1, 0) else {
+        return Err(Refusal::BadFrame);
+    };
+    encode(alloc, &Frame::Ack(ack))
+}
+
 // Node 0 sends the frame, where the mailbox is empty.
 fn send(wire: &Wire, alloc: Global, seat: &mut NodeSeat) -> Result<bool, Refusal>
     requires { IsSeatOf wire.now seat.old × (width wire.now ≡ 2) × (seat_node seat.old ≡ 0) }
     ensures { IsSame seat.old seat.new }
 {
-    let Some(ack) = Ack::new(0, 1, 0) else {
-        return Ok(false);
-    };
-    let bytes = encode(alloc, &Frame::Ack(ack))?;
+    let bytes = nothing(alloc)?;
     let Some(claim) = wire.claim(seat, 1) else {
         return Ok(false);
     };
@@ -114,6 +124,71 @@ fn frames_move_on_one_thread(rt: HostRuntime) -> Result<(), Refusal> {
     save(&wire, &mut first);
     let raised = raise(&wire, &mut first);
     watch.hear(&raised);
+    assert_eq!(rt; wire.look(&mut watch).number, 0);
+    Ok(())
+}
+
+// Whether node 0 finds its mailbox to node 1 other than empty.
+fn finds_it_taken(wire: &Wire, alloc: Global, seat: &mut NodeSeat) -> bool
+    requires { IsSeatOf wire.now seat.old × (width wire.now ≡ 2) × (seat_node seat.old ≡ 0) }
+    ensures same { IsSame seat.old seat.new }
+    ensures taken { IsTrue result
+        → (known seat.new ≡ notes (known seat.new).read (known seat.old)) }
+{
+    let Ok(bytes) = nothing(alloc) else {
+        return false;
+    };
+    let Some(claim) = wire.claim(seat, 1) else {
+        return true;
+    };
+    wire.post(seat, claim, bytes);
+    false
+}
+
+// Whether node 1 finds its mailbox from node 0 other than full.
+fn finds_nothing(wire: &Wire, seat: &mut NodeSeat) -> bool
+    requires { IsSeatOf wire.now seat.old × (width wire.now ≡ 2) × (seat_node seat.old ≡ 1) }
+    ensures same { IsSame seat.old seat.new }
+    ensures nothing { IsTrue result
+        → (known seat.new ≡ notes (known seat.new).read (known seat.old)) }
+{
+    let Some(taken) = wire.take(seat, 0) else {
+        return true;
+    };
+    wire.clear(seat, taken);
+    false
+}
+
+#[test]
+fn a_mailbox_has_one_holder(rt: HostRuntime) -> Result<(), Refusal> {
+    let Joined {
+        wire,
+        mut first,
+        mut second,
+        mut watch,
+    } = two_nodes(&rt, rt.alloc())?;
+    assert!(rt; finds_nothing(&wire, &mut second));
+    let bytes = nothing(rt.alloc())?;
+    let Some(claim) = wire.claim(&mut first, 1) else {
+        return Err(Refusal::NoNode);
+    };
+    let is_held = finds_it_taken(&wire, rt.alloc(), &mut first);
+    if !is_held {
+        rt.abort();
+    }
+    assert!(rt; finds_nothing(&wire, &mut second));
+    wire.post(&mut first, claim, bytes);
+    assert!(rt; finds_it_taken(&wire, rt.alloc(), &mut first));
+    let Some(taken) = wire.take(&mut second, 0) else {
+        return Err(Refusal::NoNode);
+    };
+    let is_empty = finds_nothing(&wire, &mut second);
+    if !is_empty {
+        rt.abort();
+    }
+    assert!(rt; finds_it_taken(&wire, rt.alloc(), &mut first));
+    let given = wire.clear(&mut second, taken);
+    assert!(rt; given.as_slice() == &NOTHING[..]);
     assert_eq!(rt; wire.look(&mut watch).number, 0);
     Ok(())
 }

@@ -29,7 +29,7 @@ unfolding take_step
 hand-to-itself n from to less below same =
     nothing n (step.Hand from to) outcome.NoFrame
     (λ w h. cond-true _ _ _ (are-nodes h from to less below)
-    ∙ cond-true _ _ _ (eq-eqb from to same)) refl
+    ∙ cond-true _ _ _ (eq-eqb from to same)) (λ saves. saves) refl
 
 -- what comes from another node to this one
 pub addressed-to : {n : List SiteView} {from to : ℕ} → IsSim n → from < length n → to < length n
@@ -99,4 +99,5 @@ pub hands : {n m : List SiteView} {from to : ℕ} {a : Ack} {r : Result Answer R
     → to < length n → from ≢ to → IsAckOf n from to a → Given r n m from (event.Ack a)
     → Stepped (outcome_by (λ _. outcome.Handed a.number) r) n m (step.Hand from to)
 hands {from = from} below apart ack h =
-    given h (λ all x. rw ack.sender refl) (λ w shown. hand-gives shown h.within below apart ack)
+    given h (λ all x. rw ack.sender refl) (λ saves. saves)
+    (λ w shown. hand-gives shown h.within below apart ack)

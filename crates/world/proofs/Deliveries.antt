@@ -3,6 +3,7 @@ use Rattle.std.proofs.Common.{◌≡◌, ◌≢◌, ℕ, zero, suc, ◌+◌, ◌
 use Rattle.std.specs.Prelude.{is_some}
 use Rattle.std.proofs.lemmas.Bool.{ne_eqb, cond-true, cond-false}
 use Rattle.ids.specs.declared.refusal.Refusal.{Refusal}
+use Rattle.ids.specs.declared.refusal.Refusal.TheVariants.{BadFrame, ImageTooLarge}
 use Rattle.msg.specs.Grammar.{Plain, data_frame, spelling, Fits}
 use Rattle.msg.specs.Frames.{plain_data}
 use Rattle.msg.specs.declared.body.Body.{Body}
@@ -48,7 +49,7 @@ unfolding take_step
 deliver-nothing n from to number less below none =
     nothing n (step.Deliver from to number) outcome.NoFrame
     (λ w h. cond-true _ _ _ (are-nodes h from to less below)
-    ∙ ap (delivery w from to number) (none w h)) refl
+    ∙ ap (delivery w from to number) (none w h)) (λ saves. saves) refl
 
 pub deliver-to-itself : (n : List SiteView) (from to number : ℕ) → from < length n → to < length n
     → from ≡ to → Stepped (Ok outcome.NoFrame) n n (step.Deliver from to number)
@@ -108,11 +109,12 @@ module _ {n : List SiteView} {from to number : ℕ} {bytes : List ℕ} (apart : 
       (rw there at (both-released n w from to number h apart))
 
   -- it is never read as anything but a message
-  pub deliver-never : (e : Refusal)
+  pub deliver-never : (e : Refusal) → e ≡ BadFrame
       → ((x : Plain) → Fits x → bytes ≡ spelling x → (stamp : ℕ) (b : Body) → x
       ≡ data_frame from to number stamp b → ⊥) → Stepped (Err e) n n (step.Deliver from to number)
-  deliver-never e wrong =
+  deliver-never e bad wrong =
       never n (step.Deliver from to number) e
+      (λ size. let other : BadFrame ≡ ImageTooLarge = sym bad ∙ size in absurd cc) (λ saves. saves)
       (λ w h. let x = found w h in wrong _ x.fits x.spelled x.message.stamp x.message.body refl)
 
   pub delivered : {m : List SiteView} {d : Data} {r : Result Answer Refusal} → from < length n
@@ -122,6 +124,7 @@ module _ {n : List SiteView} {from to number : ℕ} {bytes : List ℕ} (apart : 
   unfolding take_step
   delivered {d = d} less h reads =
       given h (lets-nothing-go to (event.Data d) (step.Deliver from to number) refl (λ all x. refl))
+      (λ saves. saves)
       (λ w shown.
       let x = found w shown in
       let are = are-nodes shown from to less h.within in

@@ -80,15 +80,15 @@ pub live-places : (h : Heap) (r : Ref) → is_some (object_at h r) ≡ true
     → filled (places_in (slot_at h r.slot)) ≡ places_of (object_at h r)
 live-places h r live = live-slot (slot_at h r.slot) r.generation live
 
-pub none-stands : (sites : List SiteView) (saved : List Bool) (owner r : Ref)
-    → length sites ≤ owner.node → Standing (chosen sites saved owner.node) owner r → ⊥
-none-stands sites saved owner r past there =
+pub none-stands : (sites : List SiteView) (read : List (Option NodeView)) (owner r : Ref)
+    → length read ≡ length sites → length sites ≤ owner.node
+    → Standing (chosen sites read owner.node) owner r → ⊥
+none-stands sites read owner r width past there =
     let same : site_at sites owner.node ≡ no_site = get_or_past sites owner.node no_site past in
-    by (get_or saved owner.node false) (rw same at there)
-  where
-    by : (b : Bool) → Standing (cond b no_site.saved no_site.current) owner r → ⊥
-    by true h = absurd h
-    by false h = absurd h
+    let none : get_or read owner.node None ≡ None =
+    get_or_past read owner.node None (omega (arith, width, past)) in
+    let stands : Standing no_site.current owner r = rw (none, same) at there in
+    absurd stands
 
 -- ---- how far the search is
 

@@ -2,6 +2,9 @@ pub mod Cuts
 pub mod OutboxLemmas
 pub mod SiteLemmas
 pub mod Refusals
+pub mod NeverTooLarge
+pub mod NewImages
+pub mod WholeImages
 pub mod Shows
 pub mod Steps
 pub mod Deliveries
@@ -10,4 +13,5 @@ pub mod New
 pub mod Runs
 pub mod Finding
 pub mod Following
+pub mod Reading
 pub mod Reached

@@ -17,7 +17,7 @@ use Rattle.model.specs.declared.step.Step.{Step}
 use Rattle.model.specs.State.{Slot, Free, Occupied, Retired, Heap, Object, LocalState, NodeState, register_at, got_from, sent_to, node_at, no_node, new_node}
 use Rattle.model.specs.Heaps.{object_of}
 use Rattle.model.specs.Shading.{roots, filled, reference_of, is_same}
-use Rattle.model.specs.View.{Link, link_to}
+use Rattle.model.specs.View.{Link, NodeView, link_to}
 use Rattle.model.specs.World.{World, new_world, run, acknowledged}
 use Rattle.model.specs.Cuts.{Cut, cut, taken, Among, Reachable, in_register, in_letter, in_message, in_place}
 use Rattle.laws.proofs.Invariant.{Base}
@@ -26,7 +26,7 @@ use Rattle.laws.proofs.Net.{run-heard}
 use Rattle.laws.proofs.KeepsSent.{run-count}
 use Rattle.world.specs.Sites.{SiteView}
 use Rattle.world.specs.Shows.{ShowsNode, ShowsWorld, site_at}
-use Rattle.world.specs.Reach.{Adds, Follows, IsFound, given, standing, IsCarried, IsRoot, places_of, chosen}
+use Rattle.world.specs.Reach.{Adds, AreRead, Follows, node_or, IsFound, given, standing, IsCarried, IsRoot, places_of, chosen}
 use Rattle.world.proofs.Finding.{no_ref, among-filled, filled-among, among-place, place-among}
 use Rattle.world.proofs.Following.{some-within}
 use Rattle.world.proofs.Shows.{message-shown}
@@ -112,7 +112,8 @@ receiver-there sent j place x there =
 
 -- ---- the space
 
-module _ (n : List SiteView) (saved : List Bool) (shape : Shaped) (steps : List Step)
+module _ (n : List SiteView) (saved : List Bool) (read : List (Option NodeView))
+    (are : AreRead n saved read) (shape : Shaped) (steps : List Step)
     (within : IsShape shape) (shown : ShowsWorld n (run (new_world shape) steps)) where
   abbrev w : World
   w = run (new_world shape) steps
@@ -132,17 +133,17 @@ module _ (n : List SiteView) (saved : List Bool) (shape : Shaped) (steps : List 
       ∙ length-map-range_with_len (new_node shape) 0 shape.nodes
 
   -- the nodes of the choice show its states
-  node-shown : (i : ℕ) → ShowsNode (node_at w.saved i) (acknowledged w i) (chosen n saved i) (c i)
-  node-shown i = by (choice i)
+  node-shown : (i : ℕ) → ShowsNode (node_at w.saved i) (acknowledged w i) (chosen n read i) (c i)
+  node-shown i = rw (are i) (by (choice i))
     where
       by : (b : Bool)
           → ShowsNode (node_at w.saved i) (acknowledged w i)
-          (cond b (site_at n i).saved (site_at n i).current)
+          (node_or (cond b (Some (site_at n i).saved) None) (site_at n i).current)
           (cond b (node_at w.saved i) (node_at w.current i))
       by true = (shown.each i).saved
       by false = (shown.each i).current
 
-  local-is : (i : ℕ) → (chosen n saved i).local ≡ (c i).local
+  local-is : (i : ℕ) → (chosen n read i).local ≡ (c i).local
   local-is i = (node-shown i).shows.local
 
   -- no node has let go of a message that its receiver hasn't taken in
@@ -160,24 +161,24 @@ module _ (n : List SiteView) (saved : List Bool) (shape : Shaped) (steps : List 
       omega (arith, less, shown.width, count)
 
   carried-reached : (i j : ℕ) (r : Ref) → i < shape.nodes → j < shape.nodes
-      → IsCarried (chosen n saved i) (chosen n saved j) r → Reachable c r
+      → IsCarried (chosen n read i) (chosen n read j) r → Reachable c r
   carried-reached i j r less below h =
       let place : ℕ = h.0 in
       let x : Message = h.1.0 in
-      let own : (chosen n saved i).local.own ≡ i =
+      let own : (chosen n read i).local.own ≡ i =
       ap (λ (p : LocalState). p.own) (local-is i) ∙ base.own i less in
-      let to : (chosen n saved j).local.own ≡ j =
+      let to : (chosen n read j).local.own ≡ j =
       ap (λ (p : LocalState). p.own) (local-is j) ∙ base.own j below in
       let heard : taken c i j ≤ place = rw (own, local-is j) at h.1.1 in
-      let l : Link = link_to (chosen n saved i) j in
+      let l : Link = link_to (chosen n read i) j in
       let low : l.base ≤ place =
       le_trans ((node-shown i).keeps j) (le_trans (acked-taken i j) heard) in
       let there = sym (message-shown l (sent_to (c i) j) place ((node-shown i).shows.links j) low)
       ∙ rw to at h.1.2 in
       in_message i j place x (record { later = heard; there = there }) h.1.3
 
-  found-reached : (start : List Ref) → Adds [] start (IsRoot n saved) → (r : Ref)
-      → IsFound (chosen n saved) start r → Reachable c r
+  found-reached : (start : List Ref) → Adds [] start (IsRoot n read) → (r : Ref)
+      → IsFound (chosen n read) start r → Reachable c r
   found-reached start h r (given there) =
       ⊎_elim {C = Reachable c r}
       (λ never. absurd never)
@@ -195,8 +196,8 @@ module _ (n : List SiteView) (saved : List Bool) (shape : Shaped) (steps : List 
       let k = filled-among f.0.places r f.2 in
       in_place owner f.0 k.0 (found-reached start h owner before) f.1 k.1
 
-  reached-found : (start all : List Ref) → Adds [] start (IsRoot n saved)
-      → Follows (chosen n saved) start all → (r : Ref) → Reachable c r → Among r all
+  reached-found : (start all : List Ref) → Adds [] start (IsRoot n read)
+      → Follows (chosen n read) start all → (r : Ref) → Reachable c r → Among r all
   reached-found start all h f r (in_register i k there) =
       let less = inside i (λ s. register_at s.local.heap k ≡ Some r) there (λ e. absurd cc) in
       let short = some-within (c i).local.heap.registers k r there in
@@ -210,7 +211,7 @@ module _ (n : List SiteView) (saved : List Bool) (shape : Shaped) (steps : List 
         i,
         less,
         inl
-            (length (chosen n saved i).local.heap.registers + k, rw (← local-is i) at held),
+            (length (chosen n read i).local.heap.registers + k, rw (← local-is i) at held),
       ))
   reached-found start all h f r (in_message i j place x flight among) =
       let less = inside i (λ s. slice_get (sent_to s j) place ≡ Some x) flight.there
@@ -223,15 +224,15 @@ module _ (n : List SiteView) (saved : List Bool) (shape : Shaped) (steps : List 
         shown.width,
         count,
       ) in
-      let own : (chosen n saved i).local.own ≡ i =
+      let own : (chosen n read i).local.own ≡ i =
       ap (λ (p : LocalState). p.own) (local-is i) ∙ base.own i first in
-      let to : (chosen n saved j).local.own ≡ j =
+      let to : (chosen n read j).local.own ≡ j =
       ap (λ (p : LocalState). p.own) (local-is j)
       ∙ base.own j (omega (arith, below, shown.width, count)) in
       let low = le_trans ((node-shown i).keeps j) (le_trans (acked-taken i j) flight.later) in
-      let kept = message-shown (link_to (chosen n saved i) j) (sent_to (c i) j) place
+      let kept = message-shown (link_to (chosen n read i) j) (sent_to (c i) j) place
       ((node-shown i).shows.links j) low ∙ flight.there in
-      let link : IsCarried (chosen n saved i) (chosen n saved j) r =
+      let link : IsCarried (chosen n read i) (chosen n read j) r =
       (place, (x, rw (own, local-is j) flight.later, rw to kept, among)) in
       f.kept r (h.has r (i, less, inr (j, below, link)))
   reached-found start all h f r (in_place owner o k before there is) =
@@ -250,11 +251,13 @@ reordered xs ys r moved there =
 
 -- the steps of a search, and what came of them
 pub record IsSearched (n : List SiteView) (saved : List Bool) (sorted : List Ref) : Type 0 where
+  pub read : List (Option NodeView)
+  pub are : AreRead n saved read
   pub start : List Ref
   pub found : List Ref
   pub all : List Ref
-  pub roots : Adds [] start (IsRoot n saved)
-  pub follows : Follows (chosen n saved) start found
+  pub roots : Adds [] start (IsRoot n read)
+  pub follows : Follows (chosen n read) start found
   pub same : all ≡ found
   pub moved : IsPermutation all sorted
 
@@ -268,12 +271,13 @@ pub reached : {n : List SiteView} {saved : List Bool} {sorted : List Ref}
 reached {n = n} {saved = saved} {sorted = sorted} s shape steps within shown r =
     let back = IsPermutation-sym s.all sorted s.moved in (
       λ there.
-          found-reached n saved shape steps within shown s.start s.roots r
+          found-reached n saved s.read s.are shape steps within shown s.start s.roots r
           (s.follows.only r (subst (Among r) s.same (reordered sorted s.all r back there))),
       λ there.
           reordered s.all sorted r s.moved
           (subst (Among r) (sym s.same)
-          (reached-found n saved shape steps within shown s.start s.found s.roots s.follows r
+          (reached-found n saved s.read s.are shape steps within shown s.start
+          s.found s.roots s.follows r
           there)),
     )
 

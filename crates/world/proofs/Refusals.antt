@@ -1,9 +1,12 @@
 -- Refusals that are the first to apply.
-use Rattle.std.proofs.Common.{◌≡◌, ◌≢◌, Bool, true, false, Result, Ok, Err, refl}
+use Rattle.std.proofs.Common.{◌≡◌, ◌≢◌, Bool, true, false, Result, Ok, Err, ◌⊎◌, inl, inr, ⊎_elim, refl}
 use Rattle.std.specs.Prelude.{IsOk}
 use Rattle.ids.specs.declared.refusal.Refusal.{Refusal}
-use Rattle.ids.specs.declared.refusal.Refusal.TheVariants.{Memory}
+use Rattle.ids.specs.declared.refusal.Refusal.TheVariants.{Memory, ImageTooLarge}
 use Rattle.model.specs.Checks.{IsReplaced, IsFirstRefusal}
+use Rattle.model.specs.declared.step.Step.{Step}
+use Rattle.model.specs.declared.step.Step.TheVariants as step
+use Rattle.model.specs.World.{World, IsStepRefusal, is_shading_step, take_step}
 
 -- what the definitions refuse
 pub first-refused : {Y : Type 0} (shading : Bool) (r : Result Y Refusal) (e : Refusal) → e ≢ Memory
@@ -37,3 +40,42 @@ first-by shading x y e refuses answers h =
 pub refused-as : {Y : Type 0} (shading : Bool) (r : Result Y Refusal) (e : Refusal)
     → IsFirstRefusal shading e r → e ≢ Memory → r ≡ Err e
 refused-as shading r e h other = h.0 other
+
+-- for want of memory, or for something else
+pub memory-or : (e : Refusal) → (e ≡ Memory) ⊎ (e ≢ Memory)
+memory-or Memory = inl refl
+memory-or e = inr (λ is. absurd cc)
+
+pub memory-alone : (e : Refusal) → (e ≢ Memory → ⊥) → e ≡ Memory
+memory-alone e never =
+    ⊎_elim {C = e ≡ Memory} (λ is. is) (λ other. absurd (never other)) (memory-or e)
+
+-- ---- of a step
+
+-- a refusal that a space can tell
+module _ (w : World) (e : Refusal) (told : e ≢ ImageTooLarge) where
+  pub step-refused : (s : Step) → IsFirstRefusal (is_shading_step s) e (take_step w s)
+      → IsStepRefusal w s e
+  step-refused (step.Save i) h = by e told h
+    where
+      by : (f : Refusal) → f ≢ ImageTooLarge
+          → IsFirstRefusal false f (take_step w (step.Save i)) → IsStepRefusal w (step.Save i) f
+      by ImageTooLarge other first = absurd (other refl)
+      by f other first = first
+  step-refused (step.Act i x) h = h
+  step-refused (step.Restart i) h = h
+  step-refused (step.Deliver from to number) h = h
+  step-refused (step.Hand from to) h = h
+
+  pub step-first : (s : Step) → IsStepRefusal w s e
+      → IsFirstRefusal (is_shading_step s) e (take_step w s)
+  step-first (step.Save i) h = by e told h
+    where
+      by : (f : Refusal) → f ≢ ImageTooLarge → IsStepRefusal w (step.Save i) f
+          → IsFirstRefusal false f (take_step w (step.Save i))
+      by ImageTooLarge other first = absurd (other refl)
+      by f other first = first
+  step-first (step.Act i x) h = h
+  step-first (step.Restart i) h = h
+  step-first (step.Deliver from to number) h = h
+  step-first (step.Hand from to) h = h

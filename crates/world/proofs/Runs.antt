@@ -6,7 +6,7 @@ use Rattle.model.specs.declared.step.Outcome.{Outcome}
 use Rattle.model.specs.World.{World, FollowsStep, new_world, take_step, is_shading_step, world_after, happens, run}
 use Rattle.world.specs.Sites.{SiteView}
 use Rattle.world.specs.Shows.{ShowsWorld, ExtendsRun}
-use Rattle.world.proofs.Refusals.{refused-as}
+use Rattle.world.proofs.Refusals.{refused-as, step-first}
 
 run-push : (w : World) (steps : List Step) (s : Step)
     → run w (steps ++ s ∷ []) ≡ happens (run w steps) s
@@ -16,15 +16,16 @@ run-push w (t ∷ ts) s = run-push (happens w t) ts s
 pub extends_run : (r : Result Outcome Refusal) (n m : List SiteView) (s : Step)
     → ((w : World) → ShowsWorld n w → FollowsStep ShowsWorld w s r m)
     → ExtendsRun r n m s
-extends_run (Ok o) n m s follows shape steps h taken =
+extends_run (Ok o) n m s follows shape steps h taken short =
     let w : World = run (new_world shape) steps in
     let after = follows w h in
     subst (ShowsWorld m) (sym (run-push (new_world shape) steps s ∙ ap (world_after w) after.1))
     after.2
-extends_run (Err e) n m s follows shape steps h taken =
+extends_run (Err e) n m s follows shape steps h taken short =
     let w : World = run (new_world shape) steps in
     let after = follows w h in
-    let stepped = refused-as (is_shading_step s) (take_step w s) e after.0
+    let first = step-first w e (λ size. short (ap (λ z. Err z) size)) s after.0 in
+    let stepped = refused-as (is_shading_step s) (take_step w s) e first
     (λ memory. taken (ap (λ z. Err z) memory)) in
     subst (ShowsWorld m) (sym (run-push (new_world shape) steps s ∙ ap (world_after w) stepped))
     after.1

@@ -144,6 +144,7 @@ module _ (n saved v : NodeView) (rows : List (List (List ℕ))) (e : Event)
         record {
           shape = h.shape ∙ sym left.shape;
           own = h.own ∙ sym left.own;
+          acks = h.acks ∙ sym left.acks;
           width = h.width ∙ ap (λ (s : Shaped). s.nodes) (sym left.shape);
           current = record {
             base = λ j. acted-base j h.current left performed;
@@ -196,20 +197,27 @@ site-saved q p h wide s =
     record {
       shape = ap (λ (n : NodeView). n.local.shape) (s.saved ∙ sym s.current);
       own = ap (λ (n : NodeView). n.local.own) (s.saved ∙ sym s.current);
+      acks = ap (λ (n : NodeView). n.acks) (s.saved ∙ sym s.current);
       width = wide ∙ h.width ∙ ap (λ (n : NodeView). n.local.shape.nodes) (sym s.current);
       current = subst (IsBacked p.released) (sym s.current) backed;
       saved = subst (IsBacked p.released) (sym s.saved) backed;
     }
 
 -- the saved node becomes the current one
-pub site-restarted : (q : SiteView) → IsSite q → IsSite (record q { current = q.saved })
-site-restarted q h = record {
-  shape = refl;
-  own = refl;
-  width = h.width ∙ ap (λ (s : Shaped). s.nodes) (sym h.shape);
-  current = h.saved;
-  saved = h.saved;
-}
+pub site_restarted : (n v saved : NodeView) (rows : List (List (List ℕ)))
+    → IsSite (record { current = n; saved = saved; released = rows }) → v ≡ saved
+    → IsSite (record { current = v; saved = saved; released = rows })
+site_restarted n v saved rows h same =
+    subst (λ (m : NodeView). IsSite (record { current = m; saved = saved; released = rows }))
+    (sym same)
+    (record {
+      shape = refl;
+      own = refl;
+      acks = refl;
+      width = h.width ∙ ap (λ (s : Shaped). s.nodes) (sym h.shape);
+      current = h.saved;
+      saved = h.saved;
+    })
 
 -- ---- new ones
 
@@ -232,6 +240,7 @@ pub site-new : (shape : Shaped) (own : ℕ) → IsSite (new_site shape own)
 site-new shape own = record {
   shape = refl;
   own = refl;
+  acks = refl;
   width = length-replicate {A = List (List ℕ)} shape.nodes [];
   current = new-backed _ shape own;
   saved = new-backed _ shape own;

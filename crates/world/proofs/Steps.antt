@@ -1,6 +1,6 @@
 -- Each step of the code's space is the step of the definitions.
-use Rattle.std.proofs.Common.{◌≡◌, ◌≢◌, ℕ, ◌<◌, ◌≤◌, true, false, ◌&&◌, List, length, set, slice_get, ⊎_elim, Some, None, Result, Ok, Err, ◌⊎◌, inl, inr, refl, ap, sym, ◌∙◌, arith}
-use Rattle.std.specs.Prelude.{IsOk}
+use Rattle.std.proofs.Common.{◌≡◌, ◌≢◌, ℕ, ◌<◌, ◌≤◌, subst, true, false, ◌&&◌, List, length, set, slice_get, ⊎_elim, Some, None, Result, Ok, Err, ◌⊎◌, inl, inr, refl, ap, sym, ◌∙◌, arith}
+use Rattle.std.specs.Prelude.{IsOk, IfErr, ◌↔◌}
 use Rattle.std.specs.Option.{option_map}
 use Rattle.std.proofs.Math.ListN.{get_or-map}
 use Rattle.std.proofs.lemmas.Option.{same_Some, none-some, slice_get-get_or, slice_get_past}
@@ -8,7 +8,9 @@ use Rattle.std.proofs.lemmas.Bool.{cases_lt, lt-ltb, le-ltb, and_from, and_left,
 use Rattle.std.proofs.lemmas.List.{set-get_or, map-set}
 use Rattle.std.proofs.lemmas.Simd.{map-map}
 use Rattle.ids.specs.declared.refusal.Refusal.{Refusal}
-use Rattle.ids.specs.declared.refusal.Refusal.TheVariants.{Memory, NoNode}
+use Rattle.ids.specs.declared.refusal.Refusal.TheVariants.{Memory, NoNode, ImageTooLarge}
+use Rattle.ids.specs.declared.limits.TheConstants.{GREATEST_IMAGE}
+use Rattle.image.specs.Images.{image_of}
 use Rattle.model.specs.Checks.{IsFirstRefusal}
 use Rattle.model.specs.declared.event.Event.{Event}
 use Rattle.model.specs.declared.event.Event.TheVariants as event
@@ -20,13 +22,15 @@ use Rattle.model.specs.declared.step.Outcome.TheVariants as outcome
 use Rattle.model.specs.State.{NodeState, node_at}
 use Rattle.model.specs.Steps.{act, ack_of, is_own, is_memory_free, is_shading}
 use Rattle.model.specs.View.{NodeView, IsTold, view_act, all_kept, kept_view, base_of}
-use Rattle.model.specs.World.{World, FollowsStep, take_step, is_node, moved, acknowledged, is_step_memory_free, is_shading_step}
+use Rattle.model.specs.World.{World, FollowsStep, IsStepRefusal, take_step, is_node, moved, acknowledged, is_step_memory_free, is_shading_step}
 use Rattle.model.proofs.Shown.{act-shown}
 use Rattle.node.specs.Invariant.{IsNode}
 use Rattle.node.specs.Summaries.{summary_of}
 use Rattle.world.specs.Sites.{SiteView, Saves, bases, bases_acked}
-use Rattle.world.specs.Shows.{SiteBases, ShowsWorld, Stepped, Given, IsSim, no_site, site_at, site_bases, bases_of, bases_at, bases_after, summary_at}
-use Rattle.world.proofs.Refusals.{first-refused, first-memory, first-by}
+use Rattle.world.specs.Shows.{SiteBases, ShowsWorld, SavesTooLarge, IsSmall, Stepped, Given, IsSim, no_site, site_at, site_bases, bases_of, bases_at, bases_after, summary_at}
+use Rattle.world.proofs.Refusals.{first-refused, first-memory, first-by, memory-or, step-refused}
+use Rattle.world.proofs.NeverTooLarge.{event-other}
+use Rattle.world.proofs.WholeImages.{image-shorter}
 use Rattle.world.proofs.SiteLemmas.{IsAckWithin}
 use Rattle.world.proofs.Shows.{Changes, unchanged-sites, shows-moved, shows-saved, node-moved, saved_after}
 
@@ -77,41 +81,67 @@ module _ {n : List SiteView} {w : World} (h : ShowsWorld n w) where
 
 -- it is refused, and changes nothing
 refusing : {n m : List SiteView} (s : Step) (e : Refusal) → m ≡ n
-    → ((w : World) → ShowsWorld n w → IsFirstRefusal (is_shading_step s) e (take_step w s))
+    → ((w : World) → ShowsWorld n w → IsStepRefusal w s e)
+    → (e ≡ ImageTooLarge ↔ SavesTooLarge n s)
     → ((w : World) → ShowsWorld n w → is_step_memory_free w s ≡ true → e ≢ Memory)
     → Stepped (Err e) n m s
-refusing s e same first free = record {
-  follows = λ w h. (first w h, rw same h);
+refusing s e same refused large free = record {
+  follows = λ w h. (refused w h, rw same h);
+  too_large = (
+    λ is. large.0 (let size : e ≡ ImageTooLarge = cc in size),
+    λ saves. ap (λ z. Err z) (large.1 saves),
+  );
   unchanged = same;
   lets_go = tt;
   memory_free = free;
 }
 
+-- it is refused, and not for the size of an image
+refusing-other : {n m : List SiteView} (s : Step) (e : Refusal) → m ≡ n
+    → ((w : World) → ShowsWorld n w → IsFirstRefusal (is_shading_step s) e (take_step w s))
+    → e ≢ ImageTooLarge → (SavesTooLarge n s → ⊥)
+    → ((w : World) → ShowsWorld n w → is_step_memory_free w s ≡ true → e ≢ Memory)
+    → Stepped (Err e) n m s
+refusing-other s e same first other short free =
+    refusing s e same (λ w h. step-refused w e other s (first w h))
+    (λ is. absurd (other is), λ saves. absurd (short saves)) free
+
 -- it is answered
 answering : {n m : List SiteView} (s : Step) (o : Outcome)
     → ((w : World) → ShowsWorld n w → FollowsStep ShowsWorld w s (Ok o) m)
+    → (SavesTooLarge n s → ⊥)
     → bases_of m ≡ bases_after (bases_of n) s o → Stepped (Ok o) n m s
-answering s o follows lets_go = record {
+answering s o follows short lets_go = record {
   follows = follows;
+  too_large = (λ is. absurd cc, λ saves. absurd (short saves));
   unchanged = tt;
   lets_go = lets_go;
   memory_free = λ w h free. tt;
 }
 
+-- no node is saved where none is named
+none-saved : (n : List SiteView) (s : Step) → NamesNoNode n s → SavesTooLarge n s → ⊥
+none-saved n (step.Save i) past saves = omega (arith, past, saves.0)
+none-saved n (step.Act i e) past saves = saves
+none-saved n (step.Restart i) past saves = saves
+none-saved n (step.Deliver from to number) past saves = saves
+none-saved n (step.Hand from to) past saves = saves
+
 pub no-node : (n : List SiteView) (s : Step) → NamesNoNode n s → Stepped (Err NoNode) n n s
 no-node n s past =
-    refusing s NoNode refl
+    refusing-other s NoNode refl
     (λ w h. first-refused _ _ NoNode (λ e. absurd cc) (takes-no-node h s past))
-    (λ w h free e. absurd cc)
+    (λ e. absurd cc) (none-saved n s past) (λ w h free e. absurd cc)
 
 -- a refusal that never comes, since no space could be shown
-pub never : (n : List SiteView) (s : Step) (e : Refusal) → ((w : World) → ShowsWorld n w → ⊥)
-    → Stepped (Err e) n n s
-never n s e none = refusing s e refl (λ w h. absurd (none w h)) (λ w h. absurd (none w h))
+pub never : (n : List SiteView) (s : Step) (e : Refusal) → e ≢ ImageTooLarge
+    → (SavesTooLarge n s → ⊥) → ((w : World) → ShowsWorld n w → ⊥) → Stepped (Err e) n n s
+never n s e other short none =
+    refusing-other s e refl (λ w h. absurd (none w h)) other short (λ w h. absurd (none w h))
 
 -- an answer that changes nothing
 pub nothing : (n : List SiteView) (s : Step) (o : Outcome)
-    → ((w : World) → ShowsWorld n w → take_step w s ≡ Ok (w, o))
+    → ((w : World) → ShowsWorld n w → take_step w s ≡ Ok (w, o)) → (SavesTooLarge n s → ⊥)
     → bases_of n ≡ bases_after (bases_of n) s o → Stepped (Ok o) n n s
 nothing n s o is = answering s o (λ w h. (w, is w h, h))
 
@@ -151,15 +181,16 @@ bases-changed {n = n} {i = i} {p = p} f c is =
     (is ∙ ap f (ap site_bases c.old ∙ sym (get_or-map site_bases n i no_site)))
 
 pub given : {n m : List SiteView} {i : ℕ} {e : Event} {s : Step} {o : Answer → Outcome}
-    {r : Result Answer Refusal} → Given r n m i e → LetsGo i e s o
+    {r : Result Answer Refusal} → Given r n m i e → LetsGo i e s o → (SavesTooLarge n s → ⊥)
     → ((w : World) → ShowsWorld n w → Gives n w i e s o) → Stepped (outcome_by o r) n m s
-given {n = n} {m = m} {i = i} {s = s} {r = Err f} h lets_go gives =
+given {n = n} {m = m} {i = i} {e = e} {s = s} {r = Err f} h lets_go short gives =
     let c : Changes n m i (site_at n i) h.site =
     record { within = h.within; old = refl; new = h.others } in
-    refusing s f (unchanged-sites c h.acted.unchanged)
+    refusing-other s f (unchanged-sites c h.acted.unchanged)
     (λ w shown. (gives w shown).refuses f h.acted.performs)
+    (event-other _ (site_at n i).current e f h.acted.performs) short
     (λ w shown free. h.acted.memory_free ((gives w shown).free free))
-given {n = n} {m = m} {i = i} {e = e} {s = s} {o = o} {r = Ok x} h lets_go gives =
+given {n = n} {m = m} {i = i} {e = e} {s = s} {o = o} {r = Ok x} h lets_go short gives =
     let q : SiteView = site_at n i in
     let acted = h.acted in
     let c : Changes n m i q h.site = record { within = h.within; old = refl; new = h.others } in
@@ -177,6 +208,7 @@ given {n = n} {m = m} {i = i} {e = e} {s = s} {o = o} {r = Ok x} h lets_go gives
     (gives w shown).within in
     let space = shows-moved c s (o x) shown stepped acted.others node in
     (record w { current = set w.current i after.0 }, stepped, space))
+    short
     (bases-changed (λ b. record b { current = bases_acked b.current (ack_of e) }) c row
     ∙ sym (lets_go (bases_of n) x))
 
@@ -216,7 +248,7 @@ pub acted : {n m : List SiteView} {i : ℕ} {e : Event} {r : Result Answer Refus
     → is_own e ≡ true → Stepped (outcome_by outcome.Answer r) n m (step.Act i e)
 unfolding take_step
 acted {i = i} {e = e} h own =
-    given h (lets-nothing-go i e (step.Act i e) (own-none e own) (λ all x. refl))
+    given h (lets-nothing-go i e (step.Act i e) (own-none e own) (λ all x. refl)) (λ saves. saves)
     (λ w shown.
     let there = is-node shown i h.within in
     moves shown (own-none e own) refl (cond-true _ _ _ there ∙ cond-true _ _ _ own)
@@ -229,24 +261,57 @@ module _ {n m : List SiteView} {i : ℕ} {q p : SiteView} (c : Changes n m i q p
   starved : (s : Step) (e : Refusal) → p ≡ q → e ≡ Memory
       → is_shading_step s ≡ false
       → ((w : World) → ShowsWorld n w → IsOk (take_step w s) × (is_step_memory_free w s ≡ false))
-      → Stepped (Err e) n m s
-  starved s e same memory plain wants =
-      refusing s e (unchanged-sites c same)
+      → (SavesTooLarge n s → ⊥) → Stepped (Err e) n m s
+  starved s e same memory plain wants short =
+      refusing-other s e (unchanged-sites c same)
       (λ w h. rw plain (first-memory _ e memory (wants w h).0))
+      (λ size. let never : Memory ≡ ImageTooLarge = sym memory ∙ size in absurd cc) short
       (λ w h free. absurd (both_ways _ (wants w h).1 free))
 
-  pub save-starved : (e : Refusal) → p ≡ q → e ≡ Memory → Stepped (Err e) n m (step.Save i)
-  save-starved e same memory =
+  -- the image of the site's node is too large
+  abbrev IsOver : Type 0
+  IsOver = GREATEST_IMAGE < length (image_of q.current)
+
+  over-saves : IsOver → SavesTooLarge n (step.Save i)
+  over-saves over =
+      (c.within, subst (λ (z : SiteView). GREATEST_IMAGE < length (image_of z.current)) c.old over)
+
+  saves-over : SavesTooLarge n (step.Save i) → IsOver
+  saves-over saves =
+      subst (λ (z : SiteView). GREATEST_IMAGE < length (image_of z.current)) (sym c.old) saves.1
+
+  -- a save is refused memory, or the image is too large
+  pub save-refused : (e : Refusal) → p ≡ q → (e ≢ Memory → e ≡ ImageTooLarge)
+      → (◌≡◌ {A = Result (Unit {0}) Refusal} (Err e) (Err ImageTooLarge) ↔ IsOver)
+      → Stepped (Err e) n m (step.Save i)
+  save-refused e same else large =
+      ⊎_elim {C = Stepped (Err e) n m (step.Save i)}
+      (λ (memory : e ≡ Memory).
       starved (step.Save i) e same memory refl
       (λ w h. (rw (save-step h i c.within) refl, rw (is-node h i c.within) refl))
+      (λ saves.
+      let size : ◌≡◌ {A = Result (Unit {0}) Refusal} (Err e) (Err ImageTooLarge) =
+      large.1 (saves-over saves) in
+      let never : ◌≡◌ {A = Result (Unit {0}) Refusal} (Err Memory) (Err ImageTooLarge) =
+      rw memory at size in
+      absurd cc))
+      (λ (other : e ≢ Memory).
+      let size : e ≡ ImageTooLarge = else other in
+      refusing (step.Save i) e (unchanged-sites c same)
+      (λ w h. rw (size, save-step h i c.within) refl)
+      (λ is. over-saves (large.0 (ap (λ z. Err z) is)), λ saves. size)
+      (λ w h free. other))
+      (memory-or e)
 
   pub restart-starved : (e : Refusal) → p ≡ q → e ≡ Memory → Stepped (Err e) n m (step.Restart i)
   restart-starved e same memory =
       starved (step.Restart i) e same memory refl
       (λ w h. (rw (restart-step h i c.within) refl, rw (is-node h i c.within) refl))
+      (λ saves. saves)
 
-  pub saved : IsSim n → Saves q p → IsNode q.current → Stepped (Ok outcome.Done) n m (step.Save i)
-  saved sim saves node =
+  pub saved : IsSim n → Saves q p → IsNode q.current → (IsOver → ⊥)
+      → Stepped (Ok outcome.Done) n m (step.Save i)
+  saved sim saves node short =
       let own = ap (λ (z : SiteView). z.current.local.own) c.old ∙ (sim.current i c.within).own in
       let same : bases (kept_view q.current) ≡ bases q.current =
       map-map base_of all_kept q.current.links in
@@ -257,6 +322,7 @@ module _ {n m : List SiteView} {i : ℕ} {q p : SiteView} (c : Changes n m i q p
       let stepped = save-step h i c.within in
       let shown = shows-saved c (step.Save i) outcome.Done h stepped own saves node in
       (saved_after w i, stepped, shown))
+      (λ large. short (saves-over large))
       (bases-changed (λ b. record b { saved = b.current }) c row)
 
   pub restarted : p ≡ record q { current = q.saved } → Stepped (Ok outcome.Done) n m
@@ -272,7 +338,29 @@ module _ {n m : List SiteView} {i : ℕ} {q p : SiteView} (c : Changes n m i q p
       others
       (rw (current, c.old) (h.each i).saved) in
       (record w { current = set w.current i (node_at w.saved i) }, stepped, shown))
+      (λ large. large)
       (bases-changed (λ b. record b { current = b.saved }) c (ap site_bases is))
+
+-- ---- images
+
+-- no small image is too large
+not-small : {n : List SiteView} {w : World} → ShowsWorld n w → (s : Step) → SavesTooLarge n s
+    → IsSmall w s → ⊥
+not-small {n = n} {w = w} h (step.Save i) saves small =
+    let shown = (h.each i).current.shows in
+    let less = image-shorter (site_at n i).current (node_at w.current i) shown in
+    omega (arith, saves.1, less, small)
+not-small h (step.Act i e) saves small = saves
+not-small h (step.Restart i) saves small = saves
+not-small h (step.Deliver from to number) saves small = saves
+not-small h (step.Hand from to) saves small = saves
+
+pub small-fits : {n : List SiteView} (s : Step) (r : Result Outcome Refusal)
+    → (r ≡ Err ImageTooLarge ↔ SavesTooLarge n s) → (w : World) → ShowsWorld n w → IsSmall w s
+    → IfErr r (λ e. e ≢ ImageTooLarge)
+small-fits s (Ok o) large w h small = tt
+small-fits s (Err e) large w h small =
+    λ is. not-small h s (large.0 (ap (λ z. Err z) is)) small
 
 -- ---- a node in numbers
 

@@ -1,6 +1,7 @@
 pub mod InsideFrames
 pub mod Outboxes
 pub mod InsideOutbox
+pub mod InsideSaved
 pub mod Sites
 pub mod InsideSite
 pub mod Shows

@@ -21,10 +21,20 @@ in_order a b =
     ordering_then (nat_cmp a.node b.node)
     (ordering_then (nat_cmp a.slot b.slot) (nat_cmp a.generation b.generation))
 
--- of each node the saved one, where the choice is true, and else the current one
-abbrev pub chosen : List SiteView → List Bool → ℕ → NodeView
-chosen sites saved i =
-    cond (slice_index_or saved i false) (site_at sites i).saved (site_at sites i).current
+-- of each node the saved one, where the choice is true, and else none
+abbrev pub AreRead : List SiteView → List Bool → List (Option NodeView) → Type 0
+AreRead sites saved read =
+    (i : ℕ)
+    → slice_index_or read i None
+    ≡ cond (slice_index_or saved i false) (Some (site_at sites i).saved) None
+
+abbrev pub node_or : Option NodeView → NodeView → NodeView
+node_or (Some n) current = n
+node_or None current = current
+
+-- of each node the one that was read, or else the current one
+abbrev pub chosen : List SiteView → List (Option NodeView) → ℕ → NodeView
+chosen sites read i = node_or (slice_index_or read i None) (site_at sites i).current
 
 -- what a register or a letter of the node refers to
 abbrev pub IsHeld : NodeView → Ref → Type 0
@@ -46,14 +56,14 @@ abbrev pub IsCarried : (from to : NodeView) → Ref → Type 0
 IsCarried from to r = (place : ℕ) × IsCarriedAt from to place r
 
 -- so of the messages of one node to all nodes
-abbrev pub IsLinked : List SiteView → List Bool → ℕ → Ref → Type 0
-IsLinked sites saved i r =
-    (j : ℕ) × (j < length sites) × IsCarried (chosen sites saved i) (chosen sites saved j) r
+abbrev pub IsLinked : List SiteView → List (Option NodeView) → ℕ → Ref → Type 0
+IsLinked sites read i r =
+    (j : ℕ) × (j < length sites) × IsCarried (chosen sites read i) (chosen sites read j) r
 
-abbrev pub IsRoot : List SiteView → List Bool → Ref → Type 0
-IsRoot sites saved r =
+abbrev pub IsRoot : List SiteView → List (Option NodeView) → Ref → Type 0
+IsRoot sites read r =
     (i : ℕ) × (i < length sites)
-    × (IsHeld (chosen sites saved i) r ⊎ IsLinked sites saved i r)
+    × (IsHeld (chosen sites read i) r ⊎ IsLinked sites read i r)
 
 abbrev pub places_of : Option Object → List Ref
 places_of None = []

@@ -1,9 +1,10 @@
 -- How the code's space shows a space of the definitions.
-use Rattle.std.specs.Prelude.{◌≡◌, ◌≢◌, ℕ, ◌++◌, ◌<◌, ◌≤◌, List, [], ◌∷◌, length, map, cond, IsTrue, IfOk, IfErr, OnErr, slice_get, slice_set, slice_index_or, Option, Some, None, Result, Err}
+use Rattle.std.specs.Prelude.{◌≡◌, ◌≢◌, ℕ, ◌++◌, ◌<◌, ◌≤◌, List, [], ◌∷◌, length, map, cond, IsTrue, IfOk, IfErr, OnErr, ◌↔◌, slice_get, slice_set, slice_index_or, Option, Some, None, Result, Err}
 use Rattle.ids.specs.Limits.{Shaped}
 use Rattle.ids.specs.declared.refusal.Refusal.{Refusal}
-use Rattle.ids.specs.declared.refusal.Refusal.TheVariants.{Memory}
-use Rattle.ids.specs.declared.limits.TheConstants.{GREATEST_NODES}
+use Rattle.ids.specs.declared.refusal.Refusal.TheVariants.{Memory, ImageTooLarge}
+use Rattle.ids.specs.declared.limits.TheConstants.{GREATEST_NODES, GREATEST_IMAGE}
+use Rattle.msg.specs.declared.body.Message.{Message}
 use Rattle.msg.specs.declared.frame.Ack.{Ack}
 use Rattle.model.specs.declared.event.Event.{Event}
 use Rattle.model.specs.declared.event.Answer.{Answer}
@@ -13,8 +14,9 @@ use Rattle.model.specs.declared.step.Outcome.{Outcome}
 use Rattle.model.specs.declared.step.Outcome.TheVariants as outcome
 use Rattle.model.specs.State.{NodeState, node_at, sent_to}
 use Rattle.model.specs.Steps.{is_addressed}
-use Rattle.model.specs.View.{NodeView, Shows, link_to}
+use Rattle.model.specs.View.{Link, NodeView, Shows, link_to}
 use Rattle.model.specs.World.{World, KeepsSent, FollowsStep, acknowledged, new_world, run, is_node, is_step_memory_free}
+use Rattle.image.specs.Images.{image_of}
 use Rattle.node.specs.Summaries.{summary_of}
 use Rattle.node.specs.declared.summary.Summary.{Summary}
 use Rattle.world.specs.Outboxes.{IsFrameOf, numbered_bytes}
@@ -103,22 +105,48 @@ bases_after all (step.Hand from to) (outcome.Handed number) =
     (record (bases_at all from) { current = bases_to (bases_at all from).current to number })
 bases_after all s o = all
 
+-- the step saves a node that is there, and the node's image is longer than an image may be
+abbrev pub SavesTooLarge : List SiteView → Step → Type 0
+SavesTooLarge sites (step.Save i) =
+    (i < length sites) × (GREATEST_IMAGE < length (image_of (site_at sites i).current))
+SavesTooLarge sites s = ⊥
+
+-- the node with all that it ever sent, as if nothing had been acknowledged
+abbrev pub whole_link : List Message → Link
+whole_link sent = record { base = 0; unacknowledged = sent; kept = 0 }
+
+abbrev pub whole_view : NodeState → NodeView
+whole_view s = record {
+  local = s.local;
+  links = map whole_link s.sent;
+  acks = s.local.got;
+}
+
+-- The step saves no node, or one whose image is no longer than an image may be, even with all
+-- messages that the node ever sent.
+abbrev pub IsSmall : World → Step → Type 0
+IsSmall w (step.Save i) = length (image_of (whole_view (node_at w.current i))) ≤ GREATEST_IMAGE
+IsSmall w s = Unit {0}
+
 -- What a step answered, and the space after it. An answer is that of the definitions, whose space
--- is then shown; a refusal is the first that applies, and changes nothing.
+-- is then shown; a refusal is the first that applies, or of an image that is too large, and changes
+-- nothing.
 pub record Stepped (result : Result Outcome Refusal) (old new : List SiteView)
     (s : Step) : Type 0 where
   pub follows : (w : World) → ShowsWorld old w → FollowsStep ShowsWorld w s result new
+  pub too_large : result ≡ Err ImageTooLarge ↔ SavesTooLarge old s
   pub unchanged : OnErr result (new ≡ old)
   pub lets_go : IfOk result (λ o. bases_of new ≡ bases_after (bases_of old) s o)
   pub memory_free : (w : World) → ShowsWorld old w → IsTrue (is_step_memory_free w s)
       → IfErr result (λ e. e ≢ Memory)
 
--- Where the space shows what a run leads to, it shows after a step that isn't refused memory what
--- the run and that step lead to.
+-- Where the space shows what a run leads to, it shows after a step what the run and that step lead
+-- to, but where memory was refused, or an image was too large.
 abbrev pub ExtendsRun : Result Outcome Refusal → List SiteView → List SiteView → Step → Type 0
 ExtendsRun result old new s =
     (shape : Shaped) (steps : List Step) → ShowsWorld old (run (new_world shape) steps)
-    → result ≢ Err Memory → ShowsWorld new (run (new_world shape) (steps ++ s ∷ []))
+    → result ≢ Err Memory → result ≢ Err ImageTooLarge
+    → ShowsWorld new (run (new_world shape) (steps ++ s ∷ []))
 
 -- the current node of a number, in numbers
 abbrev pub summary_at : World → ℕ → Option Summary

@@ -40,6 +40,8 @@ pub record IsBacked (released : List (List (List ℕ))) (n : NodeView) : Type 0 
 pub record IsSite (q : SiteView) : Type 0 where
   pub shape : q.saved.local.shape ≡ q.current.local.shape
   pub own : q.saved.local.own ≡ q.current.local.own
+  -- what the saved node has taken in, which the current one knows
+  pub acks : q.saved.acks ≡ q.current.acks
   pub width : length q.released ≡ q.current.local.shape.nodes
   pub current : IsBacked q.released q.current
   pub saved : IsBacked q.released q.saved

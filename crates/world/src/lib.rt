@@ -6,6 +6,7 @@ mod frames;
 mod headline;
 mod outbox;
 mod reaching;
+mod saved;
 mod sim;
 mod site;
 

@@ -110,11 +110,11 @@ pub fn new_outboxes(alloc: Global, count: u8) -> Result<Vec<Outbox>, Refusal>
 /// Makes and releases the frames of all messages that the node has appended since the released
 /// ones, to each other node. `Memory` where a growth was refused; then none is released.
 pub fn release_all(alloc: Global, row: &mut [Outbox], node: &Node) -> Result<(), Refusal>
-    requires node { IsNode node.now }
     requires row { length row.old ≡ node.now.local.shape.nodes }
     requires kept { HasFrames node.now (map released_frames row.old) }
     ensures done { OnOk result
         (Releases node.now (map released_frames row.old) (map released_frames row.new)) }
+    ensures node { OnOk result (IsNode node.now) }
     ensures unchanged { OnErr result (map released_frames row.new ≡ map released_frames row.old) }
     ensures refused { IfErr result (λ e. e ≡ Memory) }
 {
@@ -130,6 +130,7 @@ fn stage_all(alloc: Global, row: &mut [Outbox], node: &Node) -> Result<(), Refus
     ensures released { map released_frames row.new ≡ map released_frames row.old }
     ensures staged { OnOk result
         (AreStagedTo (length row.old) node.now (map released_frames row.old) row.new) }
+    ensures node { OnOk result (IsNode node.now) }
     ensures refused { IfErr result (λ e. e ≡ Memory) }
 {
     let summary = node.state();

@@ -9,7 +9,7 @@ ghost use Rattle.model.specs.Shading.{filled, is_same};
 ghost use Rattle.model.specs.Steps.{carried};
 ghost use Rattle.model.specs.World.{new_world, run};
 ghost use Rattle.model.specs.declared.step.Step.{Step};
-ghost use Rattle.world.specs.Reach.{carried_by, chosen, in_order, Adds, IsHeld, IsCarried, IsLinked, IsRoot, Standing, Follows};
+ghost use Rattle.world.specs.Reach.{carried_by, chosen, in_order, Adds, AreRead, IsHeld, IsCarried, IsLinked, IsRoot, Standing, Follows};
 ghost use Rattle.world.specs.Shows.{ShowsWorld};
 
 use crate::sim::Sim;
@@ -23,8 +23,8 @@ use std::alloc::Global;
 /// is true, and of the others the current one: those in registers and letters, those that messages
 /// in flight carry, and with each all that stand in the places of its object. Each comes once, and
 /// they are sorted by node, slot and generation. `Memory` where a growth was refused. It is for
-/// tests: it looks at all nodes, and at every message that they keep, and takes time in proportion
-/// to these and to the objects that it finds.
+/// tests: it makes the saved nodes from their images, looks at all nodes, and at every message that
+/// they keep, and takes time in proportion to these and to the objects that it finds.
 pub fn reach(alloc: Global, sim: &Sim, saved: &[bool]) -> Result<Vec<Ref>, Refusal>
     requires width { length saved.now ≡ length sim.now }
     ensures reached { (shape : Shaped) (steps : List Step) → IsShape shape
@@ -35,24 +35,59 @@ pub fn reach(alloc: Global, sim: &Sim, saved: &[bool]) -> Result<Vec<Ref>, Refus
     ensures once { IfOk result (λ rs. IsDistinct is_same rs.items) }
     ensures refused { IfErr result (λ e. e ≡ Memory) }
 {
+    let read = read_saved(alloc, sim, saved)?;
     let mut found = IndexSet::new(alloc);
-    add_roots(&mut found, sim, saved)?;
-    follow(&mut found, sim, saved)?;
+    add_roots(&mut found, sim, &read)?;
+    follow(&mut found, sim, &read)?;
     let mut all = Vec::from_slice(alloc, found.as_slice())?;
     all.sort()?;
     Ok(all)
 }
 
-/// Adds what all registers and letters hold, and what messages in flight carry.
-fn add_roots(found: &mut IndexSet<Ref>, sim: &Sim, saved: &[bool]) -> Result<(), Refusal>
+/// Of each node the saved one, where `saved` is true.
+pub(crate) fn read_saved(
+    alloc: Global,
+    sim: &Sim,
+    saved: &[bool],
+) -> Result<Vec<Option<Node>>, Refusal>
     requires width { length saved.now ≡ length sim.now }
-    ensures done { OnOk result (Adds found.old.keys found.new.keys (IsRoot sim.now saved.now)) }
+    ensures read { IfOk result (λ v. AreRead sim.now saved.now v.items) }
+    ensures width { IfOk result (λ v. length v.items ≡ length sim.now) }
+    ensures refused { IfErr result (λ e. e ≡ Memory) }
+{
+    let mut read = Vec::new(alloc);
+    for number in 0..sim.count() {
+        let node = if saved[usize::from(number)] {
+            Some(sim.site(number).saved(alloc)?)
+        } else {
+            None
+        };
+        read.push(node)?;
+    }
+    Ok(read)
+}
+
+/// The node of this number that was read, or else the current one.
+pub(crate) fn chosen<'a>(sim: &'a Sim, read: &'a [Option<Node>], number: u8) -> &'a Node
+    requires width { length read.now ≡ length sim.now }
+    requires there { number < length sim.now }
+    ensures { result.now ≡ chosen sim.now read.now number }
+{
+    match &read[usize::from(number)] {
+        Some(node) => node,
+        None => sim.site(number).node(),
+    }
+}
+
+/// Adds what all registers and letters hold, and what messages in flight carry.
+fn add_roots(found: &mut IndexSet<Ref>, sim: &Sim, read: &[Option<Node>]) -> Result<(), Refusal>
+    requires width { length read.now ≡ length sim.now }
+    ensures done { OnOk result (Adds found.old.keys found.new.keys (IsRoot sim.now read.now)) }
     ensures refused { IfErr result (λ e. e ≡ Memory) }
 {
     for number in 0..sim.count() {
-        let node = sim.chosen(number, saved[usize::from(number)]);
-        add_held(found, node)?;
-        add_links(found, sim, saved, number)?;
+        add_held(found, chosen(sim, read, number))?;
+        add_links(found, sim, read, number)?;
     }
     Ok(())
 }
@@ -69,17 +104,21 @@ fn add_held(found: &mut IndexSet<Ref>, node: &Node) -> Result<(), Refusal>
 }
 
 /// Adds what the messages of this node carry that are in flight.
-fn add_links(found: &mut IndexSet<Ref>, sim: &Sim, saved: &[bool], from: u8) -> Result<(), Refusal>
-    requires width { length saved.now ≡ length sim.now }
+fn add_links(
+    found: &mut IndexSet<Ref>,
+    sim: &Sim,
+    read: &[Option<Node>],
+    from: u8,
+) -> Result<(), Refusal>
+    requires width { length read.now ≡ length sim.now }
     requires there { from < length sim.now }
     ensures done { OnOk result
-        (Adds found.old.keys found.new.keys (IsLinked sim.now saved.now from)) }
+        (Adds found.old.keys found.new.keys (IsLinked sim.now read.now from)) }
     ensures refused { IfErr result (λ e. e ≡ Memory) }
 {
-    let sender = sim.chosen(from, saved[usize::from(from)]);
+    let sender = chosen(sim, read, from);
     for to in 0..sim.count() {
-        let receiver = sim.chosen(to, saved[usize::from(to)]);
-        add_carried(found, sender, receiver)?;
+        add_carried(found, sender, chosen(sim, read, to))?;
     }
     Ok(())
 }
@@ -126,10 +165,10 @@ fn carried(body: Body) -> [Option<Ref>; 2]
 }
 
 /// Adds all that stands in the places of what was found, and of what is added so.
-fn follow(found: &mut IndexSet<Ref>, sim: &Sim, saved: &[bool]) -> Result<(), Refusal>
-    requires width { length saved.now ≡ length sim.now }
+fn follow(found: &mut IndexSet<Ref>, sim: &Sim, read: &[Option<Node>]) -> Result<(), Refusal>
+    requires width { length read.now ≡ length sim.now }
     ensures done { OnOk result
-        (Follows (chosen sim.now saved.now) found.old.keys found.new.keys) }
+        (Follows (chosen sim.now read.now) found.old.keys found.new.keys) }
     ensures refused { IfErr result (λ e. e ≡ Memory) }
 {
     for next in 0..usize::MAX {
@@ -137,8 +176,7 @@ fn follow(found: &mut IndexSet<Ref>, sim: &Sim, saved: &[bool]) -> Result<(), Re
             return Ok(());
         };
         if reference.node < sim.count() {
-            let saved = saved[usize::from(reference.node)];
-            add_standing(found, sim.chosen(reference.node, saved), reference)?;
+            add_standing(found, chosen(sim, read, reference.node), reference)?;
         }
     }
     // No memory holds as many references.

@@ -1,11 +1,11 @@
-ghost use Rattle.std.specs.Prelude.{◌≡◌, ◌<◌, length, cond, slice_get, IsTrue, IfOk, IfErr, OnErr, ◌≢◌};
+ghost use Rattle.std.specs.Prelude.{◌≡◌, ◌<◌, length, slice_get, Err, IsTrue, IfOk, IfErr, OnErr, ◌≢◌, ◌↔◌};
 ghost use Rattle.std.specs.Option.{option_copied, option_map};
-ghost use Rattle.ids.specs.declared.refusal.Refusal.TheVariants.{Memory};
+ghost use Rattle.ids.specs.declared.refusal.Refusal.TheVariants.{Memory, ImageTooLarge};
 ghost use Rattle.model.specs.Steps.{is_own};
 ghost use Rattle.node.specs.Summaries.{summary_of};
 ghost use Rattle.model.specs.World.{World, FollowsStep, new_world, is_own_step, is_step_memory_free};
 ghost use Rattle.model.specs.declared.step.Step.TheVariants as step;
-ghost use Rattle.world.specs.Shows.{ShowsWorld, Stepped, ExtendsRun, Given, IsAckOf, bases_of, bases_after, frame_at, site_at, summary_at};
+ghost use Rattle.world.specs.Shows.{ShowsWorld, SavesTooLarge, IsSmall, Stepped, ExtendsRun, Given, IsAckOf, bases_of, bases_after, frame_at, site_at, summary_at};
 
 use crate::site::Site;
 use ids::{NodeId, Refusal, Shape};
@@ -15,8 +15,8 @@ use node::{Node, Summary};
 use std::alloc::Global;
 use std::marker::Model;
 
-/// A space of nodes in one thread. It keeps for each node the current one and the one last saved,
-/// and for each ordered pair of nodes the bytes of all frames that were ever released.
+/// A space of nodes in one thread. It keeps for each node the current one and the image of the one
+/// last saved, and for each ordered pair of nodes the bytes of all frames that were ever released.
 #[derive(Drop)]
 pub struct Sim {
     alloc: Global,
@@ -50,11 +50,14 @@ impl Sim {
     }
 
     /// Takes one step. `NoNode` where the step names a node that the space doesn't have, before
-    /// anything else; else what the node refuses, and `Memory` where a growth was refused. A
-    /// refused step changes nothing. Never refused memory are the events that a node never refuses
-    /// it, the delivery of nothing or of a message that isn't the next one, and an acknowledgement.
-    /// An acknowledgement alone lets go of messages: those up to its number. Steps one after
-    /// another are a run of the definitions, without those that are refused memory.
+    /// anything else; else what the node refuses; `ImageTooLarge` where a node is to be saved whose
+    /// image would be too large; and `Memory` where a growth was refused. A refused step changes
+    /// nothing. Never refused memory are the events that a node never refuses it, the delivery of
+    /// nothing or of a message that isn't the next one, an acknowledgement, and a save whose image
+    /// is too large. No image is too large that would not be with all that its node ever sent. An
+    /// acknowledgement alone lets go of messages: those up to its number. Steps one after another
+    /// are a run of the definitions, without those that are refused memory or whose image is too
+    /// large.
     pub fn step(&mut self, step: Step) -> Result<Outcome, Refusal>
         requires own { IsTrue (is_own_step step) }
         ensures follows { (w : World) → ShowsWorld self.old w
@@ -62,6 +65,9 @@ impl Sim {
         ensures runs { ExtendsRun result self.old self.new step }
         ensures lets_go { IfOk result (λ o.
             bases_of self.new ≡ bases_after (bases_of self.old) step o) }
+        ensures too_large { result ≡ Err ImageTooLarge ↔ SavesTooLarge self.old step }
+        ensures small { (w : World) → ShowsWorld self.old w → IsSmall w step
+            → IfErr result (λ e. e ≢ ImageTooLarge) }
         ensures unchanged { OnErr result (self.new ≡ self.old) }
         ensures memory_free { (w : World) → ShowsWorld self.old w
             → IsTrue (is_step_memory_free w step) → IfErr result (λ e. e ≢ Memory) }
@@ -99,14 +105,12 @@ impl Sim {
         Some(self.node(number)?.state())
     }
 
-    /// The saved node of this number, where `saved` is true, and else the current one.
-    pub(crate) fn chosen(&self, number: u8, saved: bool) -> &Node
+    /// The site of the node of this number.
+    pub(crate) fn site(&self, number: u8) -> &Site
         requires { number < length self.now }
-        ensures { result.now ≡ cond saved (site_at self.now number).saved
-            (site_at self.now number).current }
+        ensures { result.now ≡ site_at self.now number }
     {
-        let site = &self.sites[usize::from(number)];
-        if saved { site.saved() } else { site.node() }
+        &self.sites[usize::from(number)]
     }
 
     /// How many nodes there are.

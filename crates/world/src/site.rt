@@ -1,25 +1,29 @@
-ghost use Rattle.std.specs.Prelude.{◌≡◌, ◌≢◌, ◌<◌, length, IsTrue, IfOk, IfErr, OnOk, OnErr, slice_index_or};
+ghost use Rattle.std.specs.Prelude.{◌≡◌, ◌≢◌, ◌<◌, length, Err, IsTrue, IfOk, IfErr, OnOk, OnErr, slice_index_or, ◌↔◌};
 ghost use Rattle.std.specs.Option.{option_map};
-ghost use Rattle.ids.specs.declared.refusal.Refusal.TheVariants.{Memory};
+ghost use Rattle.ids.specs.declared.refusal.Refusal.TheVariants.{Memory, ImageTooLarge};
+ghost use Rattle.ids.specs.declared.limits.TheConstants.{GREATEST_IMAGE};
+ghost use Rattle.image.specs.Images.{image_of};
 ghost use Rattle.model.specs.View.{is_other};
 ghost use Rattle.node.specs.Invariant.{IsNode};
 ghost use Rattle.world.specs.Outboxes.{numbered_bytes};
 ghost use Rattle.world.specs.Sites.{Acted, Saves, new_site, frames_to};
 
 use crate::outbox::{Outbox, new_outboxes, release_all};
+use crate::saved::SavedNode;
 use ids::{NodeId, Refusal, Shape};
+use image::to_bytes;
 use model::{Answer, Event};
 use msg::{Ack, Frame};
 use node::Node;
 use std::alloc::Global;
 use std::marker::Model;
 
-/// One node of a space: as it stands, as it was saved last, and for each node the frames of all
-/// messages to there that were ever released.
+/// One node of a space: as it stands, the image of it as it was saved last, and for each node the
+/// frames of all messages to there that were ever released.
 #[derive(Drop)]
 pub struct Site {
     current: Node,
-    saved: Node,
+    saved: SavedNode,
     outboxes: Vec<Outbox>,
 }
 
@@ -42,10 +46,13 @@ impl Site {
         ensures made { IfOk result (λ s. s ≡ new_site shape own.number) }
         ensures refused { IfErr result (λ e. e ≡ Memory) }
     {
+        let outboxes = new_outboxes(alloc, shape.nodes())?;
+        let current = Node::new(alloc, shape, own)?;
+        let saved = SavedNode::new(to_bytes(alloc, &current)?, &current);
         Ok(Site {
-            current: Node::new(alloc, shape, own)?,
-            saved: Node::new(alloc, shape, own)?,
-            outboxes: new_outboxes(alloc, shape.nodes())?,
+            current,
+            saved,
+            outboxes,
         })
     }
 
@@ -56,11 +63,12 @@ impl Site {
         &self.current
     }
 
-    /// The saved node.
-    pub fn saved(&self) -> &Node
-        ensures { result.now ≡ self.now.saved }
+    /// The saved node, made from its image. `Memory` where a growth was refused.
+    pub fn saved(&self, alloc: Global) -> Result<Node, Refusal>
+        ensures same { IfOk result (λ n. n ≡ self.now.saved) }
+        ensures refused { IfErr result (λ e. e ≡ Memory) }
     {
-        &self.saved
+        self.saved.read(alloc)
     }
 
     /// Gives the current node an event. It refuses what the node refuses; then nothing changes.
@@ -71,30 +79,33 @@ impl Site {
         self.current.act(event)
     }
 
-    /// Saves the current node, and releases the frames of all its messages. `Memory` where a growth
-    /// was refused; then nothing changes.
+    /// Saves the current node as its image, and releases the frames of all its messages.
+    /// `ImageTooLarge` where the image is too large, and else `Memory` where a growth was refused;
+    /// then nothing changes.
     pub fn save(&mut self, alloc: Global) -> Result<(), Refusal>
         ensures done { OnOk result (Saves self.old self.new) }
         ensures node { OnOk result (IsNode self.old.current) }
         ensures unchanged { OnErr result (self.new ≡ self.old) }
-        ensures refused { IfErr result (λ e. e ≡ Memory) }
+        ensures refused { IfErr result (λ e. e ≢ Memory → e ≡ ImageTooLarge) }
+        ensures too_large { result ≡ Err ImageTooLarge
+            ↔ GREATEST_IMAGE < length (image_of self.old.current) }
     {
-        let mut copy = self.current.copy(alloc)?;
-        release_all(alloc, &mut self.outboxes, &copy)?;
+        let image = to_bytes(alloc, &self.current)?;
+        release_all(alloc, &mut self.outboxes, &self.current)?;
         self.current.kept();
-        copy.kept();
-        self.saved = copy;
+        self.saved = SavedNode::new(image, &self.current);
         Ok(())
     }
 
-    /// Makes the saved node the current one. `Memory` where a growth was refused; then nothing
-    /// changes.
+    /// Makes the saved node the current one, from its image. `Memory` where a growth was refused;
+    /// then nothing changes.
+    #[tactic(auto, using(crate::proofs::SiteLemmas::site_restarted))]
     pub fn restart(&mut self, alloc: Global) -> Result<(), Refusal>
         ensures done { OnOk result (self.new ≡ record self.old { current = self.old.saved }) }
         ensures unchanged { OnErr result (self.new ≡ self.old) }
         ensures refused { IfErr result (λ e. e ≡ Memory) }
     {
-        self.current = self.saved.copy(alloc)?;
+        self.current = self.saved.read(alloc)?;
         Ok(())
     }
 
@@ -105,14 +116,14 @@ impl Site {
         self.outboxes.get(usize::from(to))?.frame(number)
     }
 
-    /// What the saved node acknowledges to another node of its space.
+    /// What the saved node acknowledges to another node of its space. The current one knows it.
     pub fn acknowledgement(&self, from: u8) -> Ack
-        requires { IsTrue (is_other self.now.saved.local from) }
-        ensures from { result.from ≡ self.now.saved.local.own }
+        requires { IsTrue (is_other self.now.current.local from) }
+        ensures from { result.from ≡ self.now.current.local.own }
         ensures to { result.to ≡ from }
         ensures number { result.number ≡ slice_index_or self.now.saved.acks from 0 }
     {
-        match self.saved.ack_for(from) {
+        match self.current.ack_for(from) {
             Some(Frame::Ack(ack)) => ack,
             _ => unreachable!(),
         }

@@ -128,6 +128,48 @@ fn a_restarted_node_is_the_saved_one(rt: HostRuntime) -> Result<(), Refusal> {
     Ok(())
 }
 
+// Node 0 of two while it marks: its object, which is live, was shaded, so many are still grey, and
+// the letter that it sent counts as one from before.
+fn marking(shape: Shape, grey: usize) -> Summary {
+    Summary {
+        cycle: 1,
+        earlier: 1,
+        grey,
+        live: 1,
+        ..new_summary(shape, 0)
+    }
+}
+
+#[test]
+fn a_restart_in_the_middle_of_a_cycle_goes_on_from_its_save(
+    rt: HostRuntime,
+) -> Result<(), Refusal> {
+    let shape = Shape::new(2, 4, 16).expect(&rt, "the shape is within the limits");
+    let mut sim = Sim::new(rt.alloc(), shape)?;
+    alloc(&mut sim)?;
+    give(&mut sim)?;
+    sim.step(Step::Act(0, Event::Begin))?;
+    sim.step(Step::Save(0))?;
+    for _turn in 0..3 {
+        assert_eq!(rt; sim.state(0), Some(marking(shape, 1)));
+        let scanned = sim.step(Step::Act(0, Event::Scan));
+        assert_eq!(rt; scanned, answer(Answer::Scanned(FIRST)));
+        assert_eq!(rt; sim.state(0), Some(marking(shape, 0)));
+        assert_eq!(rt; sim.step(Step::Restart(0)), Ok(Outcome::Done));
+    }
+    assert_eq!(rt; sim.state(0), Some(marking(shape, 1)));
+
+    // The letter, the token and Begin.
+    for number in 1..4 {
+        assert_eq!(rt; deliver(&mut sim, number), answer(Answer::Received));
+    }
+    assert_eq!(rt; deliver(&mut sim, 4), Ok(Outcome::NoFrame));
+    assert_eq!(rt; sim.step(Step::Restart(0)), Ok(Outcome::Done));
+    assert_eq!(rt; deliver(&mut sim, 3), answer(Answer::Repeat));
+    assert_eq!(rt; sim.state(0), Some(marking(shape, 1)));
+    Ok(())
+}
+
 #[test]
 fn messages_are_delivered_in_order(rt: HostRuntime) -> Result<(), Refusal> {
     let mut sim = space(&rt, rt.alloc())?;

@@ -6,10 +6,15 @@ ghost use Rattle.model.specs.Heaps.{object_at};
 ghost use Rattle.model.specs.Shading.{filled, roots};
 ghost use Rattle.model.specs.Collecting.{places_in};
 ghost use Rattle.model.specs.View.{link_to, message_of};
+ghost use Rattle.node.specs.Invariant.{links_of};
 
 use super::Node;
+use control::Phases;
+use heap::Heap;
 use ids::Ref;
+use link::Links;
 use msg::Message;
+use safra::Ring;
 
 impl Node {
     /// How many roots there are, which are what the program holds: its registers, and the letters
@@ -66,5 +71,41 @@ impl Node {
         } else {
             None
         }
+    }
+
+    /// The node's heap, which may use as many slots as the shape says.
+    pub fn heap(&self) -> &Heap
+        ensures value { result.now.heap ≡ self.now.local.heap }
+        ensures limit { result.now.limit ≡ self.now.local.shape.slots }
+    {
+        &self.heap
+    }
+
+    /// The references of other nodes that were asked for in the node's cycle, in order.
+    pub fn asked(&self) -> &[Ref]
+        ensures { result.now ≡ self.now.local.asked }
+    {
+        self.asked.as_slice()
+    }
+
+    /// Where the node is in the collection cycles.
+    pub fn phases(&self) -> &Phases
+        ensures { result.now ≡ self.now.local.phases }
+    {
+        &self.phases
+    }
+
+    /// The node's part of the ring.
+    pub fn ring(&self) -> Ring
+        ensures { result ≡ self.now.local.ring }
+    {
+        self.ring
+    }
+
+    /// What the node holds of the links between it and each node of the space.
+    pub fn links(&self) -> &Links
+        ensures { result.now ≡ links_of self.now }
+    {
+        &self.links
     }
 }

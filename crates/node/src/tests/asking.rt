@@ -2,13 +2,14 @@ use super::{
     accept, alloc, answer_all, check_appended, check_numbered, deliver_all, first, get, get_body,
     give_body, letter, load, node, object, put, refuse, store, two_nodes,
 };
-use crate::{Answer, Event};
+use crate::{Answer, Event, Node};
 use ids::{Refusal, Shape};
 use msg::{Data, Frame};
+use std::process::Abort;
 
-#[test]
-fn a_place_is_written_and_read_by_messages(rt: HostRuntime) -> Result<(), Refusal> {
-    let (mut asking, mut owner) = two_nodes(&rt, rt.alloc())?;
+// The asking node writes a place of the other's object, reads it and the one after the last, and
+// writes nothing into it.
+fn send_four(rt: &impl Abort, asking: &mut Node) {
     let rows = [
         (alloc(1, 0), Answer::New(first(0))),
         (put(0, 1, 1), Answer::Sent(1)),
@@ -16,25 +17,37 @@ fn a_place_is_written_and_read_by_messages(rt: HostRuntime) -> Result<(), Refusa
         (get(0, 2, 10), Answer::Sent(3)),
         (put(0, 1, 3), Answer::Sent(4)),
     ];
-    answer_all(&rt, &mut asking, &rows);
+    answer_all(rt, asking, &rows);
+}
 
-    deliver_all(&rt, &asking, &mut owner, &[1, 2, 3]);
+fn follow_four(rt: &impl Abort, asking: &Node, owner: &mut Node) {
+    deliver_all(rt, asking, owner, &[1, 2, 3]);
     let rows = [
         (load(1, 0, 1), Answer::Value(Some(first(0)))),
         (load(1, 0, 0), Answer::Value(None)),
     ];
-    answer_all(&rt, &mut owner, &rows);
-    deliver_all(&rt, &asking, &mut owner, &[4]);
-    answer_all(&rt, &mut owner, &[(load(1, 0, 1), Answer::Value(None))]);
-    check_appended(&rt, &owner, 0, 3);
+    answer_all(rt, owner, &rows);
+    deliver_all(rt, asking, owner, &[4]);
+    answer_all(rt, owner, &[(load(1, 0, 1), Answer::Value(None))]);
+    check_appended(rt, owner, 0, 3);
+}
 
-    deliver_all(&rt, &owner, &mut asking, &[2, 3]);
+fn accept_both(rt: &impl Abort, asking: &mut Node) {
     let rows = [
         (accept(2), letter(1, 9, Some(first(0)))),
         (accept(2), letter(1, 10, None)),
     ];
-    answer_all(&rt, &mut asking, &rows);
-    refuse(&rt, &mut asking, accept(3), Refusal::NoLetter);
+    answer_all(rt, asking, &rows);
+    refuse(rt, asking, accept(3), Refusal::NoLetter);
+}
+
+#[test]
+fn a_place_is_written_and_read_by_messages(rt: HostRuntime) -> Result<(), Refusal> {
+    let (mut asking, mut owner) = two_nodes(&rt, rt.alloc())?;
+    send_four(&rt, &mut asking);
+    follow_four(&rt, &asking, &mut owner);
+    deliver_all(&rt, &owner, &mut asking, &[2, 3]);
+    accept_both(&rt, &mut asking);
     Ok(())
 }
 

@@ -17,70 +17,83 @@ const BLACK: Token = Token {
     q: 0,
 };
 
-#[test]
-fn a_cycle_frees_what_nothing_refers_to(rt: HostRuntime) -> Result<(), Refusal> {
-    let shape = space(&rt, 4, 16);
-    let mut director = node(&rt, rt.alloc(), shape, 0)?;
-    let mut other = node(&rt, rt.alloc(), shape, 1)?;
-    // Object 1 stands in a place of object 0 alone, and object 2 nowhere.
+// Object 1 stands in a place of object 0 alone, and object 2 nowhere.
+fn allocate_three(rt: &impl Abort, director: &mut Node) {
     let rows = [
         (alloc(0, 1), Answer::New(first(0))),
         (alloc(1, 0), Answer::New(first(1))),
         (store(0, 0, 1), Answer::Done),
         (alloc(1, 0), Answer::New(first(2))),
         (Event::Drop { register: 1 }, Answer::Done),
-        (Event::Begin, Answer::Begun(1)),
     ];
-    answer_all(&rt, &mut director, &rows);
-    refuse(&rt, &mut director, Event::Begin, Refusal::CycleRunning);
-    refuse(&rt, &mut director, Event::Pass, Refusal::NothingToDo);
-    refuse(
-        &rt,
-        &mut director,
-        Event::Sweep { count: 1 },
-        Refusal::NothingToDo,
-    );
-    // The place is read before its object is scanned: what it holds turns grey too.
+    answer_all(rt, director, &rows);
+}
+
+// While the node marks, nothing else of a cycle is done.
+fn refuse_while_marking(rt: &impl Abort, director: &mut Node) {
+    refuse(rt, director, Event::Begin, Refusal::CycleRunning);
+    refuse(rt, director, Event::Pass, Refusal::NothingToDo);
+    let sweep = Event::Sweep { count: 1 };
+    refuse(rt, director, sweep, Refusal::NothingToDo);
+}
+
+// The place is read before its object is scanned: what it holds turns grey too.
+fn scan_two(rt: &impl Abort, director: &mut Node) {
     let rows = [
         (load(2, 0, 0), Answer::Value(Some(first(1)))),
         (Event::Scan, Answer::Scanned(first(1))),
         (Event::Scan, Answer::Scanned(first(0))),
     ];
-    answer_all(&rt, &mut director, &rows);
-    refuse(&rt, &mut director, Event::Scan, Refusal::NothingToDo);
+    answer_all(rt, director, &rows);
+    refuse(rt, director, Event::Scan, Refusal::NothingToDo);
+}
 
-    // The token and Begin came; the other node is black, so the token goes round twice.
-    refuse(&rt, &mut other, Event::Begin, Refusal::NotDirector);
-    deliver_all(&rt, &director, &mut other, &[1, 2]);
-    answer(&rt, &mut other, Event::Pass, Ok(Answer::Passed(BLACK)));
-    deliver_all(&rt, &other, &mut director, &[1]);
-    answer(&rt, &mut director, Event::Pass, Ok(Answer::ProbeAgain));
-    deliver_all(&rt, &director, &mut other, &[3]);
-    answer(&rt, &mut other, Event::Pass, Ok(Answer::Passed(WHITE)));
-    deliver_all(&rt, &other, &mut director, &[2]);
-    answer(&rt, &mut director, Event::Pass, Ok(Answer::Ended(1)));
-    deliver_all(&rt, &director, &mut other, &[4]);
+// The token and Begin came; the other node is black, so the token goes round twice.
+fn end_marking(rt: &impl Abort, director: &mut Node, other: &mut Node) {
+    deliver_all(rt, director, other, &[1, 2]);
+    answer(rt, other, Event::Pass, Ok(Answer::Passed(BLACK)));
+    deliver_all(rt, other, director, &[1]);
+    answer(rt, director, Event::Pass, Ok(Answer::ProbeAgain));
+    deliver_all(rt, director, other, &[3]);
+    answer(rt, other, Event::Pass, Ok(Answer::Passed(WHITE)));
+    deliver_all(rt, other, director, &[2]);
+    answer(rt, director, Event::Pass, Ok(Answer::Ended(1)));
+    deliver_all(rt, director, other, &[4]);
+}
 
-    let part = Answer::Freed {
-        count: 0,
-        done: false,
-    };
-    let rest = Answer::Freed {
-        count: 1,
-        done: true,
-    };
+fn freed(count: u32, done: bool) -> Answer {
+    Answer::Freed { count, done }
+}
+
+// Node 0 frees an object in two steps, and the other node has none.
+fn sweep_both(rt: &impl Abort, director: &mut Node, other: &mut Node) {
     let rows = [
-        (Event::Sweep { count: 2 }, part),
-        (Event::Sweep { count: 9 }, rest),
+        (Event::Sweep { count: 2 }, freed(0, false)),
+        (Event::Sweep { count: 9 }, freed(1, true)),
     ];
-    answer_all(&rt, &mut director, &rows);
-    refuse(&rt, &mut director, Event::Begin, Refusal::CycleRunning);
-    let none = Answer::Freed {
-        count: 0,
-        done: true,
-    };
-    answer_all(&rt, &mut other, &[(Event::Sweep { count: 0 }, none)]);
-    deliver_all(&rt, &other, &mut director, &[3]);
+    answer_all(rt, director, &rows);
+    refuse(rt, director, Event::Begin, Refusal::CycleRunning);
+    answer_all(rt, other, &[(Event::Sweep { count: 0 }, freed(0, true))]);
+    deliver_all(rt, other, director, &[3]);
+}
+
+// Both nodes go through a cycle that frees an object of node 0.
+fn go_round(rt: &impl Abort, director: &mut Node, other: &mut Node) {
+    answer(rt, director, Event::Begin, Ok(Answer::Begun(1)));
+    refuse_while_marking(rt, director);
+    scan_two(rt, director);
+    refuse(rt, other, Event::Begin, Refusal::NotDirector);
+    end_marking(rt, director, other);
+    sweep_both(rt, director, other);
+}
+
+#[test]
+fn a_cycle_frees_what_nothing_refers_to(rt: HostRuntime) -> Result<(), Refusal> {
+    let shape = space(&rt, 4, 16);
+    let mut director = node(&rt, rt.alloc(), shape, 0)?;
+    let mut other = node(&rt, rt.alloc(), shape, 1)?;
+    allocate_three(&rt, &mut director);
+    go_round(&rt, &mut director, &mut other);
     let swept = Summary {
         cycle: 1,
         ended: 1,
@@ -93,19 +106,24 @@ fn a_cycle_frees_what_nothing_refers_to(rt: HostRuntime) -> Result<(), Refusal> 
     Ok(())
 }
 
+// The one node gets a reference to a new object of the other, in its register of this number; the
+// other has it in the register before.
+fn fetch(rt: &impl Abort, owner: &mut Node, asking: &mut Node, number: u8) {
+    let (slot, register) = (number.wrapping_sub(1), u16::from(number));
+    let own = object(1, u32::from(slot), 1);
+    let rows = [
+        (alloc(u16::from(slot), 0), Answer::New(own)),
+        (give(0, 5, u16::from(slot)), Answer::Sent(u64::from(number))),
+    ];
+    answer_all(rt, owner, &rows);
+    deliver_all(rt, owner, asking, &[u64::from(number)]);
+    answer_all(rt, asking, &[(accept(register), letter(1, 5, Some(own)))]);
+}
+
 // The one node gets references to eight objects of the other in its registers 1 to 8.
 fn fetch_eight(rt: &impl Abort, owner: &mut Node, asking: &mut Node) {
-    for slot in 0..8_u8 {
-        let own = object(1, u32::from(slot), 1);
-        let (register, number) = (u16::from(slot), u64::from(slot) + 1);
-        let rows = [
-            (alloc(register, 0), Answer::New(own)),
-            (give(0, 5, register), Answer::Sent(number)),
-        ];
-        answer_all(rt, owner, &rows);
-        deliver_all(rt, owner, asking, &[number]);
-        let taken = [(accept(register + 1), letter(1, 5, Some(own)))];
-        answer_all(rt, asking, &taken);
+    for number in 1..9 {
+        fetch(rt, owner, asking, number);
     }
 }
 

@@ -215,12 +215,17 @@ fn the_token_is_held_while_the_node_marks(rt: HostRuntime) -> Result<(), Refusal
     Ok(())
 }
 
+// The node has joined the cycle, and then hears that marking has ended.
+fn hear_the_end(rt: &impl Abort, receiver: &mut Node) {
+    let rows = [comes(rt, 1, 1, Body::Begin), comes(rt, 2, 1, Body::Ended)];
+    take_all(rt, receiver, &rows);
+}
+
 #[test]
 fn marking_ends_at_a_node_with_nothing_grey(rt: HostRuntime) -> Result<(), Refusal> {
     let shape = space(&rt, 4, 16);
     let mut receiver = node(&rt, rt.alloc(), shape, 1)?;
-    let rows = [comes(&rt, 1, 1, Body::Begin), comes(&rt, 2, 1, Body::Ended)];
-    take_all(&rt, &mut receiver, &rows);
+    hear_the_end(&rt, &mut receiver);
     let ended = Summary {
         cycle: 1,
         ended: 1,
@@ -230,38 +235,52 @@ fn marking_ends_at_a_node_with_nothing_grey(rt: HostRuntime) -> Result<(), Refus
     check_state(&rt, &receiver, ended);
     let rows = [comes(&rt, 3, 1, Body::Ended), comes(&rt, 3, 1, TOKEN)];
     refuse_all(&rt, &mut receiver, &rows);
+    Ok(())
+}
 
-    let mut busy = with_object(&rt, rt.alloc(), shape)?;
+#[test]
+fn marking_goes_on_at_a_node_with_a_grey_object(rt: HostRuntime) -> Result<(), Refusal> {
+    let mut busy = with_object(&rt, rt.alloc(), space(&rt, 4, 16))?;
     refuse_all(&rt, &mut busy, &[comes(&rt, 1, 1, Body::Ended)]);
     take_all(&rt, &mut busy, &[comes(&rt, 1, 1, Body::Begin)]);
     refuse_all(&rt, &mut busy, &[comes(&rt, 2, 1, Body::Ended)]);
     Ok(())
 }
 
+// The first message from node 1 to node 0, of this stamp.
+fn comes_back(rt: &impl Abort, stamp: u64, body: Body) -> Event {
+    let back = Data::new(1, 0, 1, stamp, body);
+    Event::Data(back.expect(rt, "the parts are within the limits"))
+}
+
 #[test]
-fn node_0_alone_hears_who_has_swept(rt: HostRuntime) -> Result<(), Refusal> {
-    let shape = space(&rt, 4, 16);
-    let mut director = node(&rt, rt.alloc(), shape, 0)?;
-    for (stamp, expected) in [(1, Err(Refusal::WrongNode)), (0, Ok(Answer::Received))] {
-        let report = Data::new(1, 0, 1, stamp, Body::Swept);
-        let report = report.expect(&rt, "the parts are within the limits");
-        answer(&rt, &mut director, Event::Data(report), expected);
-    }
-    let mut other = node(&rt, rt.alloc(), shape, 1)?;
+fn node_0_hears_who_has_swept(rt: HostRuntime) -> Result<(), Refusal> {
+    let mut director = node(&rt, rt.alloc(), space(&rt, 4, 16), 0)?;
+    refuse_all(&rt, &mut director, &[comes_back(&rt, 1, Body::Swept)]);
+    take_all(&rt, &mut director, &[comes_back(&rt, 0, Body::Swept)]);
+    Ok(())
+}
+
+#[test]
+fn another_node_hears_not_who_has_swept(rt: HostRuntime) -> Result<(), Refusal> {
+    let mut other = node(&rt, rt.alloc(), space(&rt, 4, 16), 1)?;
     refuse_all(&rt, &mut other, &[comes(&rt, 1, 0, Body::Swept)]);
     Ok(())
 }
 
 #[test]
 fn a_node_joins_the_next_cycle_alone(rt: HostRuntime) -> Result<(), Refusal> {
-    let shape = space(&rt, 4, 16);
-    let mut receiver = node(&rt, rt.alloc(), shape, 1)?;
+    let mut receiver = node(&rt, rt.alloc(), space(&rt, 4, 16), 1)?;
     refuse_all(&rt, &mut receiver, &[comes(&rt, 1, 2, Body::Begin)]);
     take_all(&rt, &mut receiver, &[comes(&rt, 1, 1, Body::Begin)]);
     refuse_all(&rt, &mut receiver, &[comes(&rt, 2, 2, Body::Begin)]);
-    let mut director = node(&rt, rt.alloc(), shape, 0)?;
-    let ahead = Data::new(1, 0, 1, 1, give_body(7, None));
-    let ahead = ahead.expect(&rt, "the parts are within the limits");
-    refuse_all(&rt, &mut director, &[Event::Data(ahead)]);
+    Ok(())
+}
+
+#[test]
+fn node_0_joins_no_cycle(rt: HostRuntime) -> Result<(), Refusal> {
+    let mut director = node(&rt, rt.alloc(), space(&rt, 4, 16), 0)?;
+    let ahead = comes_back(&rt, 1, give_body(7, None));
+    refuse_all(&rt, &mut director, &[ahead]);
     Ok(())
 }

@@ -3,6 +3,7 @@ ghost use Rattle.std.specs.Prelude.{◌≡◌};
 ghost use Rattle.model.specs.World.{is_own_step};
 
 use super::{FIRST, accept, alloc, deliver, give, space};
+use crate::reaching::{chosen, read_saved};
 use crate::{Answer, Event, Outcome, Sim, Step, reach};
 use ids::{Ref, Refusal, Shape};
 use std::alloc::Global;
@@ -207,11 +208,10 @@ fn next_turn(dice: &mut Dice, sim: &Sim) -> [Option<Step>; MOST] {
 // there.
 fn check_live(rt: &impl Abort, alloc: Global, sim: &Sim, saved: [bool; 3]) -> Result<(), Refusal> {
     if sim.count() == NODES {
+        let read = read_saved(alloc, sim, &saved)?;
         for reference in reach(alloc, sim, &saved)?.iter() {
-            let is_there = match saved.get(usize::from(reference.node)) {
-                Some(&saved) => sim.chosen(reference.node, saved).is_live(*reference),
-                None => false,
-            };
+            let is_there = reference.node < NODES
+                && chosen(sim, &read, reference.node).is_live(*reference);
             assert!(rt; is_there, "{reference:?} {saved:?}");
         }
     }

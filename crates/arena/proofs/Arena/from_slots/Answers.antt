@@ -45,7 +45,8 @@ invariant_of-result g c =
     let entries = c.in_ok-entries.ensures.entries in
     let filled = seen_after c.args.slots.items entries in
     let seen = c.in_ok-first.ensures.slots ∙ filled in
-    let limit = c.in_ok-first.ensures.capacity ∙ ap (λ (r : Row (Entry g.row.T.Denot)). r.capacity) entries in
+    let kept = c.in_ok-first.ensures.capacity in
+    let limit = kept ∙ ap (λ (r : Row (Entry g.row.T.Denot)). r.capacity) entries in
     rw (limit, c.in_ok-entries.ensures.occupied)
     (makes seen c.in_ok-first.ensures.linked (c.if-not-is_all_linked.ensures.all refl)
     (c.in_ok-entries.ensures.born)
@@ -58,7 +59,8 @@ returns-clause-made g c =
     let entries = c.in_ok-entries.ensures.entries in
     let filled = seen_after c.args.slots.items entries in
     let seen = c.in_ok-first.ensures.slots ∙ filled in
-    let limit = c.in_ok-first.ensures.capacity ∙ ap (λ (r : Row (Entry g.row.T.Denot)). r.capacity) entries in
+    let kept = c.in_ok-first.ensures.capacity in
+    let limit = kept ∙ ap (λ (r : Row (Entry g.row.T.Denot)). r.capacity) entries in
     rw limit
     (makes seen c.in_ok-first.ensures.linked (c.if-not-is_all_linked.ensures.all refl)
     (c.in_ok-entries.ensures.born)

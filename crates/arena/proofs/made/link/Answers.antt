@@ -6,23 +6,30 @@ use Rattle.arena.proofs.made.link.Goals as goal
 
 pub loop-left-preserved : goal.loop-left-preserved
 loop-left-preserved g c =
-    let k = get_or c.args.free.now (c.loop-left.left - 1) 0 in
-    let ends = drop-back c.args.free.now c.loop-left.left c.loop-left-test.true c.loop-left.invariant.left in
+    let before = c.loop-left in
+    let k = get_or c.args.free.now (before.left - 1) 0 in
+    let some = c.loop-left-test.true in
+    let ends = drop-back c.args.free.now before.left some before.invariant.left in
     let unlinked = sym c.link_one.ensures.answer ∙ c.if-not-link_one.false in
-    let same = c.loop-left.invariant.slots in
-    let short : length c.loop-left.entries.items < 2 ^ 32 =
-    omega (arith, c.requires.short, ap length same, length-map c.loop-left.entries.items slot_of, length-map c.args.entries.now.items slot_of) in
-    let links = links_one c.loop-left.invariant.linking k unlinked short in
+    let same = before.invariant.slots in
+    let now = length-map before.entries.items slot_of in
+    let first = length-map c.args.entries.now.items slot_of in
+    let short : length before.entries.items < 2 ^ 32 =
+    omega (arith, c.requires.short, ap length same, now, first) in
+    let links = links_one before.invariant.linking k unlinked short in
     record {
       left = omega arith;
       linking = rw (ends, c.if-not-link_one.ensures.done refl) links.linking;
       slots = rw (c.if-not-link_one.ensures.done refl) (links.slots ∙ same);
-      capacity = rw (c.if-not-link_one.ensures.done refl) c.loop-left.invariant.capacity;
+      capacity = rw (c.if-not-link_one.ensures.done refl) before.invariant.capacity;
     }
 
 pub returns-then-not-link_one-clause-refused : goal.returns-then-not-link_one-clause-refused
 returns-then-not-link_one-clause-refused g c =
-    let k = get_or c.args.free.now (c.loop-left.left - 1) 0 in
-    let ends = drop-back c.args.free.now c.loop-left.left c.loop-left-test.true c.loop-left.invariant.left in
+    let before = c.loop-left in
+    let k = get_or c.args.free.now (before.left - 1) 0 in
+    let some = c.loop-left-test.true in
+    let ends = drop-back c.args.free.now before.left some before.invariant.left in
     let linked = sym c.link_one.ensures.answer ∙ c.if-not-link_one.true in
-    rw (← c.loop-left.invariant.slots) (refuses c.loop-left.invariant.linking c.args.free.now (c.loop-left.left - 1) k ends linked)
+    let wrong = refuses before.invariant.linking c.args.free.now (before.left - 1) k ends linked in
+    rw (← before.invariant.slots) wrong

@@ -16,6 +16,12 @@ returns-in-Err g c =
     let shows = g.S.Space.shows in
     let follows = c.in-Err.ensures.follows in
     let free = c.in-Err.ensures.memory_free in
+    let small = c.in-Err.ensures.small in
     λ h shown. refusal_shows shows h c.args.step c.in-Open.space _ _
     (subst (λ s. ShowsHeld shows s h) c.in-Open.is shown)
-    (λ w s. (search (rules, (follows w s).0), search (rules, free w s), (follows w s).1))
+    (λ w s. (
+      search (rules, (follows w s).0),
+      search (rules, free w s),
+      search (rules, small w s),
+      (follows w s).1,
+    ))

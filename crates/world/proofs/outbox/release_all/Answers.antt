@@ -9,5 +9,6 @@ returns-clause-done c =
     let wide = length-map c.args.row.now released_frames in
     rw c.release_staged.ensures
     (row_releases c.args.node.now (map released_frames c.args.row.now) c.stage_all.new.row
-    (c.requires.node.links.width ∙ sym c.requires.row ∙ sym wide) (c.stage_all.auto.row ∙ sym wide)
+    (c.in_ok-stage_all.ensures.node.links.width ∙ sym c.requires.row ∙ sym wide)
+    (c.stage_all.auto.row ∙ sym wide)
     (rw wide c.in_ok-stage_all.ensures.staged))

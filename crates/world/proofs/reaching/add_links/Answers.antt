@@ -7,14 +7,12 @@ pub loop-to-preserved : goal.loop-to-preserved
 loop-to-preserved c =
     below-more
     (λ j r.
-    IsCarried (chosen c.args.sim.now c.args.saved.now c.args.from)
-    (chosen c.args.sim.now c.args.saved.now j) r)
+    IsCarried (chosen c.args.sim.now c.args.read.now c.args.from)
+    (chosen c.args.sim.now c.args.read.now j) r)
     c.loop-to.to c.loop-to.invariant
     (rw (
       c.chosen-sender.ensures,
-      c.chosen-receiver.ensures,
-      c.from.ensures,
-      c.from-in-loop-to.ensures,
+      c.chosen.ensures,
     )
     at c.in_ok-add_carried.ensures.done)
 
@@ -27,7 +25,7 @@ returns-clause-done c =
     Adds c.args.found.now.keys c.loop-to.found.keys
     (Below
     (λ j r.
-    IsCarried (chosen c.args.sim.now c.args.saved.now c.args.from)
-    (chosen c.args.sim.now c.args.saved.now j) r)
+    IsCarried (chosen c.args.sim.now c.args.read.now c.args.from)
+    (chosen c.args.sim.now c.args.read.now j) r)
     n))
     all c.loop-to.invariant

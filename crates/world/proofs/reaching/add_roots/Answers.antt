@@ -7,10 +7,10 @@ pub loop-number-preserved : goal.loop-number-preserved
 loop-number-preserved c =
     below-more
     (λ i r.
-    IsHeld (chosen c.args.sim.now c.args.saved.now i) r
-    ⊎ IsLinked c.args.sim.now c.args.saved.now i r)
+    IsHeld (chosen c.args.sim.now c.args.read.now i) r
+    ⊎ IsLinked c.args.sim.now c.args.read.now i r)
     c.loop-number.number c.loop-number.invariant
-    (adds-then (rw (c.chosen-node.ensures, c.from.ensures) at c.in_ok-add_held.ensures.done)
+    (adds-then (rw c.chosen.ensures at c.in_ok-add_held.ensures.done)
     c.in_ok-add_links.ensures.done)
 
 pub returns-clause-done : goal.returns-clause-done
@@ -27,7 +27,7 @@ returns-clause-done c =
     Adds c.args.found.now.keys c.loop-number.found.keys
     (Below
     (λ i r.
-    IsHeld (chosen c.args.sim.now c.args.saved.now i) r
-    ⊎ IsLinked c.args.sim.now c.args.saved.now i r)
+    IsHeld (chosen c.args.sim.now c.args.read.now i) r
+    ⊎ IsLinked c.args.sim.now c.args.read.now i r)
     n))
     all c.loop-number.invariant

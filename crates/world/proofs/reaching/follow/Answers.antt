@@ -20,14 +20,14 @@ loop-next-preserved c =
       | then-reference-count+in_ok-add_standing w ↦
           rw w.found-is
           (following-more c.in-Some.reference read c.loop-next.invariant
-          (rw (w.chosen.ensures, w.from.ensures, c.in-Some.reference-is)
+          (rw (w.chosen.ensures, c.in-Some.reference-is)
           at w.in_ok-add_standing.ensures.done))
       | else-reference-count w ↦
           rw w.found-is
           (following-more c.in-Some.reference read c.loop-next.invariant
           (adds-none _ _
           (λ r there.
-          none-stands c.args.sim.now c.args.saved.now c.in-Some.reference r
+          none-stands c.args.sim.now c.args.read.now c.in-Some.reference r c.requires.width
           (omega (
             arith,
             w.if-reference-count.false,

@@ -12,37 +12,45 @@ pub returns-in_default-clause-refused : goal.returns-in_default-clause-refused
 returns-in_default-clause-refused c = λ other. (
   refl,
   λ links.
-      let left = c.in-Some.ensures.steps.0 in
-      let came : c.loop-part.yielded ++ c.in-Some.part ∷ c.next.new.self.rest.items ≡ c.args.parts.items =
-      ap (λ xs. c.loop-part.yielded ++ xs) (sym left) ∙ c.loop-part.invariant.came in
-      let numbered = numbered_in c.loop-part.yielded c.in-Some.part _ c.args.parts.items came links in
+      let done = c.loop-part.yielded in
+      let part = c.in-Some.part in
+      let all = c.args.parts.items in
+      let came : done ++ part ∷ c.next.new.self.rest.items ≡ all =
+      ap (λ xs. done ++ xs) (sym c.in-Some.ensures.steps.0) ∙ c.loop-part.invariant.came in
+      let numbered = numbered_in done part _ all came links in
       absurd (true≢false (sym (c.in_default.ensures.numbered.1 numbered))),
 )
 
 pub loop-part-preserved : goal.loop-part-preserved
 loop-part-preserved c =
+    let done = c.loop-part.yielded in
+    let part = c.in-Some.part in
     let left = c.in-Some.ensures.steps.0 in
+    let fits = c.in-Some-from_parts.ensures.numbered.0 refl in
+    let numbered = All-cons IsNumbered part [] fits (All-nil IsNumbered) in
     record {
-      came = append_assoc c.loop-part.yielded _ _
-          ∙ ap (λ xs. c.loop-part.yielded ++ xs) (sym left)
+      came = append_assoc done _ _
+          ∙ ap (λ xs. done ++ xs) (sym left)
           ∙ c.loop-part.invariant.came;
       made = grind (arith, common_steps);
       numbered =
-          All-append IsNumbered c.loop-part.yielded (c.in-Some.part ∷ []) c.loop-part.invariant.numbered
-          (All-cons IsNumbered c.in-Some.part [] (c.in-Some-from_parts.ensures.numbered.0 refl) (All-nil IsNumbered));
+          All-append IsNumbered done (part ∷ []) c.loop-part.invariant.numbered numbered;
     }
 
 pub invariant_of-result : goal.invariant_of-result
 invariant_of-result c =
     let all : c.loop-part.yielded ≡ c.args.parts.items = grind (arith, common_steps) in
     let few : length c.args.parts.items < 2 ^ 8 = omega arith in
-    let made = ap view_of (c.loop-part.invariant.made ∙ ap (map ends_given) all) ∙ shown-given c.args.parts.items in
-    subst IsLinks (sym made) (links-given c.args.parts.items few (rw all at c.loop-part.invariant.numbered))
+    let ends = c.loop-part.invariant.made ∙ ap (map ends_given) all in
+    let made = ap view_of ends ∙ shown-given c.args.parts.items in
+    let numbered = rw all at c.loop-part.invariant.numbered in
+    subst IsLinks (sym made) (links-given c.args.parts.items few numbered)
 
 pub returns-clause-made : goal.returns-clause-made
 returns-clause-made c =
     let all : c.loop-part.yielded ≡ c.args.parts.items = grind (arith, common_steps) in
-    ap view_of (c.loop-part.invariant.made ∙ ap (map ends_given) all) ∙ shown-given c.args.parts.items
+    let ends = c.loop-part.invariant.made ∙ ap (map ends_given) all in
+    ap view_of ends ∙ shown-given c.args.parts.items
 
 pub returns-clause-sound : goal.returns-clause-sound
 returns-clause-sound c =

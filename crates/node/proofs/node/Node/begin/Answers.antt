@@ -19,10 +19,61 @@ use Rattle.barrier.specs.Asked.{IsAsked, IsRefused}
 use Rattle.node.specs.Invariant.{IsNode, links_of}
 use Rattle.node.specs.Inside.{view_of}
 use Rattle.node.proofs.Balances.{balance-small}
-use Rattle.node.proofs.Beginning.{begin-answered, begin-early, begin-other, begin-unmarked, begin-untold, node-begun, root-nodes, then-fits, then-links}
+use Rattle.node.proofs.Beginning.{Begun, begin-answered, begin-early, begin-other, begin-unmarked, begin-untold, node-begun, root-nodes, then-fits, then-links}
 use Rattle.node.proofs.Events.{parts-same, with_parts}
 use Rattle.safra.proofs.Bounds.{bounded_entered}
 use Rattle.node.proofs.node.Node.begin.Goals as goal
+use Rattle.node.proofs.node.Node.begin.Goals.{After-make_room, After-len, After-self-1}
+
+-- ---- what several goals need
+
+passed : (c : After-make_room) → AllPass (begin_tests (view_of c.self.inside).local)
+passed c =
+    let n : NodeView = view_of c.self.inside in (
+      eq-eqb n.local.own 0 c.if-self-ne0.false,
+      guarded-passes (cycle_tests n.local.phases) tt tt
+          (sym c.in_ok-may_begin.ensures.tests),
+    )
+
+-- what programs hold was asked for
+asked-for : (c : After-len)
+    → IsAsked [] (unasked (view_of c.self.inside).local.own []
+    (filled (roots (view_of c.self.inside).local.heap))) (c.cycle-cycle.result + 1)
+    (links_of (view_of c.self.inside)) c.in_ok-asked.asked.keys c.ask_for_roots.new.links
+asked-for c =
+    let n : NodeView = view_of c.self.inside in
+    let cycle = c.cycle-cycle.result + 1 in
+    subst
+    (λ (h : Heap). IsAsked [] (unasked n.local.own [] (filled (roots h))) cycle (links_of n)
+    c.in_ok-asked.asked.keys c.ask_for_roots.new.links)
+    c.make_room.ensures.same.heap c.in_ok-asked.ensures.done
+
+begun : (c : After-self-1)
+    → Begun (view_of c.self.inside) (c.cycle-cycle.result + 1) c.shade_roots.new.self.heap
+    c.in_ok-asked.asked.keys c.begin.new.self c.probe-token.new.self c.send_begins.new.links
+begun c =
+    let n : NodeView = view_of c.self.inside in
+    let cycle = c.cycle-cycle.result + 1 in
+    let next = ap (λ (k : ℕ). k + 1) c.cycle-cycle.ensures.value in
+    let asks = asked-for (goal.at.returns c).After-len in
+    let width = c.in_ok-asked.ensures.width ∙ c.self.invariant.node.links.width in
+    let count = c.len.ensures.len ∙ ap (λ (rs : List Ref). length rs) asks.keys in
+    record {
+      heap = c.shade_roots.ensures.heap
+          ∙ ap (λ (h : Heap). make_all_grey n.local.own cycle h (filled (roots h)))
+          c.make_room.ensures.same.heap;
+      keys = asks.keys;
+      phases = c.begin.ensures.done ∙ ap (λ (k : ℕ). in_cycle k n.local.phases) (sym next);
+      ring = c.probe-token.ensures.done
+          ∙ ap whitened (c.sent_marks.ensures
+          ∙ ap (λ (k : ℕ). counted_marks k c.join.new.self) count
+          ∙ ap (counted_marks _) c.join.ensures);
+      links = then-links n cycle c.in_ok-asked.asked.keys c.ask_for_roots.new.links
+          c.probe-token.result asks c.probe-token.ensures.token width c.send_begins.new.links
+          c.in_default.ensures.done;
+    }
+
+-- ---- the goals
 
 pub returns-then-self-ne0 : goal.returns-then-self-ne0
 returns-then-self-ne0 c =
@@ -56,12 +107,7 @@ returns-in_err-make_room c =
     let cycle = c.cycle-cycle.result + 1 in
     let next = ap (λ (k : ℕ). k + 1) c.cycle-cycle.ensures.value in
     let ended = c.self.invariant.node.phases.phases.ended in
-    let first : (n.local.own == 0) ≡ true = eq-eqb n.local.own 0 c.if-self-ne0.false in
-    let tests : AllPass (begin_tests n.local) = (
-      first,
-      guarded-passes (cycle_tests n.local.phases) tt tt
-          (sym c.in_ok-may_begin.ensures.tests),
-    ) in
+    let tests = passed (goal.at.returns-in_err-make_room c).After-make_room in
     let same = c.make_room.ensures.same in
     rw (p.1, p.2)
     (subst
@@ -96,12 +142,7 @@ returns-in_err-asked c =
     let cycle = c.cycle-cycle.result + 1 in
     let next = ap (λ (k : ℕ). k + 1) c.cycle-cycle.ensures.value in
     let ended = c.self.invariant.node.phases.phases.ended in
-    let first : (n.local.own == 0) ≡ true = eq-eqb n.local.own 0 c.if-self-ne0.false in
-    let tests : AllPass (begin_tests n.local) = (
-      first,
-      guarded-passes (cycle_tests n.local.phases) tt tt
-          (sym c.in_ok-may_begin.ensures.tests),
-    ) in
+    let tests = passed (goal.at.returns-in_err-asked c).After-make_room in
     let same = c.make_room.ensures.same in
     let left = c.in_err-asked.ensures in
     let refused = subst
@@ -135,12 +176,7 @@ invariant_of-self-in-Err c =
     let n : NodeView = view_of c.self.inside in
     let cycle = c.cycle-cycle.result + 1 in
     let same = c.make_room.ensures.same in
-    let asks : IsAsked [] (unasked n.local.own [] (filled (roots n.local.heap))) cycle (links_of n)
-    c.in_ok-asked.asked.keys c.ask_for_roots.new.links =
-    subst
-    (λ (h : Heap). IsAsked [] (unasked n.local.own [] (filled (roots h))) cycle (links_of n)
-    c.in_ok-asked.asked.keys c.ask_for_roots.new.links)
-    same.heap c.in_ok-asked.ensures.done in
+    let asks = asked-for (goal.at.invariant_of-self-in-Err c).After-len in
     let asked = subst
     (λ (v : LinksView). IsAsked [] (unasked n.local.own [] (filled (roots n.local.heap))) cycle
     (links_of n) c.in_ok-asked.asked.keys v)
@@ -159,19 +195,9 @@ returns-in-Err c =
     let cycle = c.cycle-cycle.result + 1 in
     let next = ap (λ (k : ℕ). k + 1) c.cycle-cycle.ensures.value in
     let ended = c.self.invariant.node.phases.phases.ended in
-    let first : (n.local.own == 0) ≡ true = eq-eqb n.local.own 0 c.if-self-ne0.false in
-    let tests : AllPass (begin_tests n.local) = (
-      first,
-      guarded-passes (cycle_tests n.local.phases) tt tt
-          (sym c.in_ok-may_begin.ensures.tests),
-    ) in
+    let tests = passed (goal.at.returns-in-Err c).After-make_room in
     let same = c.make_room.ensures.same in
-    let asks : IsAsked [] (unasked n.local.own [] (filled (roots n.local.heap))) cycle (links_of n)
-    c.in_ok-asked.asked.keys c.ask_for_roots.new.links =
-    subst
-    (λ (h : Heap). IsAsked [] (unasked n.local.own [] (filled (roots h))) cycle (links_of n)
-    c.in_ok-asked.asked.keys c.ask_for_roots.new.links)
-    same.heap c.in_ok-asked.ensures.done in
+    let asks = asked-for (goal.at.returns-in-Err c).After-len in
     let width = c.in_ok-asked.ensures.width ∙ c.self.invariant.node.links.width in
     let asked = subst
     (λ (v : LinksView). IsAsked [] (unasked n.local.own [] (filled (roots n.local.heap))) cycle
@@ -200,34 +226,11 @@ invariant_of-self-2 c =
     let cycle = c.cycle-cycle.result + 1 in
     let next = ap (λ (k : ℕ). k + 1) c.cycle-cycle.ensures.value in
     let ended = c.self.invariant.node.phases.phases.ended in
-    let first : (n.local.own == 0) ≡ true = eq-eqb n.local.own 0 c.if-self-ne0.false in
-    let tests : AllPass (begin_tests n.local) = (
-      first,
-      guarded-passes (cycle_tests n.local.phases) tt tt
-          (sym c.in_ok-may_begin.ensures.tests),
-    ) in
+    let tests = passed (goal.at.invariant_of-self-2 c).After-make_room in
     let same = c.make_room.ensures.same in
-    let asks : IsAsked [] (unasked n.local.own [] (filled (roots n.local.heap))) cycle (links_of n)
-    c.in_ok-asked.asked.keys c.ask_for_roots.new.links =
-    subst
-    (λ (h : Heap). IsAsked [] (unasked n.local.own [] (filled (roots h))) cycle (links_of n)
-    c.in_ok-asked.asked.keys c.ask_for_roots.new.links)
-    same.heap c.in_ok-asked.ensures.done in
-    let width = c.in_ok-asked.ensures.width ∙ c.self.invariant.node.links.width in
-    let heap = c.shade_roots.ensures.heap
-    ∙ ap (λ (h : Heap). make_all_grey n.local.own cycle h (filled (roots h))) same.heap in
-    let phases = c.begin.ensures.done ∙ ap (λ (k : ℕ). in_cycle k n.local.phases) (sym next) in
-    let count = c.len.ensures.len ∙ ap (λ (rs : List Ref). length rs) asks.keys in
-    let ring = c.probe-token.ensures.done
-    ∙ ap whitened (c.sent_marks.ensures
-    ∙ ap (λ (k : ℕ). counted_marks k c.join.new.self) count
-    ∙ ap (counted_marks _) c.join.ensures) in
-    let links = then-links n cycle c.in_ok-asked.asked.keys c.ask_for_roots.new.links
-    c.probe-token.result asks c.probe-token.ensures.token width c.send_begins.new.links
-    c.in_default.ensures.done in
     record {
-      node = node-begun n cycle next ended tests _ _ _ _ _ heap asks.keys phases ring links
-          c.self.invariant.node c.begin.ensures.sound c.in_default.ensures.sound;
+      node = node-begun n cycle next ended tests (begun c) c.self.invariant.node
+          c.begin.ensures.sound c.in_default.ensures.sound;
       limit = c.shade_roots.ensures.limit ∙ same.limit ∙ c.self.invariant.limit;
     }
 
@@ -237,31 +240,9 @@ returns c =
     let cycle = c.cycle-cycle.result + 1 in
     let next = ap (λ (k : ℕ). k + 1) c.cycle-cycle.ensures.value in
     let ended = c.self.invariant.node.phases.phases.ended in
-    let first : (n.local.own == 0) ≡ true = eq-eqb n.local.own 0 c.if-self-ne0.false in
-    let tests : AllPass (begin_tests n.local) = (
-      first,
-      guarded-passes (cycle_tests n.local.phases) tt tt
-          (sym c.in_ok-may_begin.ensures.tests),
-    ) in
-    let same = c.make_room.ensures.same in
-    let asks : IsAsked [] (unasked n.local.own [] (filled (roots n.local.heap))) cycle (links_of n)
-    c.in_ok-asked.asked.keys c.ask_for_roots.new.links =
-    subst
-    (λ (h : Heap). IsAsked [] (unasked n.local.own [] (filled (roots h))) cycle (links_of n)
-    c.in_ok-asked.asked.keys c.ask_for_roots.new.links)
-    same.heap c.in_ok-asked.ensures.done in
+    let tests = passed (goal.at.returns c).After-make_room in
+    let asks = asked-for (goal.at.returns c).After-len in
     let width = c.in_ok-asked.ensures.width ∙ c.self.invariant.node.links.width in
-    let heap = c.shade_roots.ensures.heap
-    ∙ ap (λ (h : Heap). make_all_grey n.local.own cycle h (filled (roots h))) same.heap in
-    let phases = c.begin.ensures.done ∙ ap (λ (k : ℕ). in_cycle k n.local.phases) (sym next) in
-    let count = c.len.ensures.len ∙ ap (λ (rs : List Ref). length rs) asks.keys in
-    let ring = c.probe-token.ensures.done
-    ∙ ap whitened (c.sent_marks.ensures
-    ∙ ap (λ (k : ℕ). counted_marks k c.join.new.self) count
-    ∙ ap (counted_marks _) c.join.ensures) in
-    let links = then-links n cycle c.in_ok-asked.asked.keys c.ask_for_roots.new.links
-    c.probe-token.result asks c.probe-token.ensures.token width c.send_begins.new.links
-    c.in_default.ensures.done in
     let fit = then-fits n cycle c.in_ok-asked.asked.keys c.ask_for_roots.new.links
     c.probe-token.result asks c.probe-token.ensures.token width in
     subst
@@ -272,7 +253,7 @@ returns c =
     (view_act m event.Begin))
     c.self.view_is
     (record {
-      performs = begin-answered n cycle next ended tests _ _ _ _ _ heap asks.keys phases ring links
+      performs = begin-answered n cycle next ended tests (begun c)
           asks.fits (fit ∙ c.in_default.ensures.fits);
       unchanged = tt;
     })

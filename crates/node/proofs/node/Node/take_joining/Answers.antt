@@ -4,10 +4,11 @@ use Rattle.std.proofs.lemmas.Result.{err_from_is_err_and}
 use Rattle.ids.specs.declared.names.Ref.{Ref}
 use Rattle.model.specs.declared.event.Answer.TheVariants.{Received}
 use Rattle.model.specs.State.{Heap}
-use Rattle.model.specs.Shading.{filled, roots, marks_for}
+use Rattle.model.specs.Shading.{filled, make_all_grey, roots, marks_for}
 use Rattle.model.specs.Steps.{fits}
 use Rattle.model.specs.View.{NodeView, Performed, used, view_taken}
 use Rattle.control.specs.Phases.{IsPhases, in_cycle}
+use Rattle.safra.specs.Rings.{counted_marks}
 use Rattle.safra.proofs.Bounds.{bounded_entered}
 use Rattle.node.specs.Invariant.{links_of}
 use Rattle.node.specs.Inside.{view_of}
@@ -61,10 +62,15 @@ phases : (c : After-follow)
     → IsPhases (in_cycle c.args.stamp (view_of c.self.inside).local.phases)
 phases c = subst IsPhases c.join.ensures.done c.join.ensures.sound
 
--- what is left once the message is taken in
+-- what is left once the message is taken in; that all Marks are counted, and that the program's
+-- roots are marked by the new cycle, each goal says for itself
 left : (c : After-follow)
     → ReadJoining (view_of c.self.inside) c.args.stamp c.args.body c.brought_by-brought.result
     c.met_by-met.result c.reply_of-reply.result
+    → c.sent_marks.new.self ≡ counted_marks c.in_ok-asked.field-0.marks c.join-2.new.self
+    → c.shade_roots.new.self.heap
+    ≡ make_all_grey (view_of c.self.inside).local.own c.args.stamp c.make_room.new.self.heap
+    (filled (roots c.make_room.new.self.heap))
     → Left (joined_parts (view_of c.self.inside).local c.args.stamp)
     (links_of (view_of c.self.inside))
     (marks_for c.args.stamp (roots_of (view_of c.self.inside))) c.args.from c.args.stamp
@@ -73,7 +79,7 @@ left : (c : After-follow)
     (joined_reply (view_of c.self.inside) c.args.stamp c.args.body)
     c.follow_on_heap.new.heap.heap c.in_ok-asked.field-0.asked.keys c.follow.new.phases
     c.follow.new.ring c.take_next.new.self
-left c is =
+left c is counted rooted =
     left-joining (view_of c.self.inside) c.args.from c.args.stamp c.args.body
     c.brought_by-brought.result c.met_by-met.result c.reply_of-reply.result is
     (record {
@@ -82,10 +88,10 @@ left c is =
         sent = c.in_ok-asked.ensures.done;
         count = c.in_ok-asked.ensures.count;
         joins = c.join-2.ensures;
-        counted = c.sent_marks.ensures;
+        counted = counted;
         taken = c.take_next.ensures.done;
       };
-      entered_heap = c.shade_roots.ensures.heap;
+      entered_heap = rooted;
       shaded = c.shade.ensures.heap;
       follows = c.follow_on_heap.ensures.done;
       in_cycle_is = c.join.ensures.done;
@@ -152,7 +158,8 @@ invariant_of-self-2 c =
           (phases at.After-follow) c.follow_on_heap.new.heap.heap
           c.in_ok-asked.field-0.asked.keys c.follow.new.phases c.follow.new.ring
           c.take_next.new.self
-          (left at.After-follow (read at.After-make_room))
+          (left at.After-follow (read at.After-make_room) c.sent_marks.ensures
+          c.shade_roots.ensures.heap)
           c.follow.ensures.sound c.take_next.ensures.sound;
       limit =
           c.follow_on_heap.ensures.limit
@@ -181,4 +188,5 @@ returns c =
     (joined-performed n c.args.from c.args.stamp c.args.body c.self.invariant.node
     (takable at.After-make_room) (later at.After-make_room) (phases at.After-follow)
     c.follow_on_heap.new.heap.heap c.in_ok-asked.field-0.asked.keys c.follow.new.phases
-    c.follow.new.ring c.take_next.new.self (left at.After-follow is) fit)
+    c.follow.new.ring c.take_next.new.self
+    (left at.After-follow is c.sent_marks.ensures c.shade_roots.ensures.heap) fit)

@@ -1,11 +1,11 @@
-use Rattle.std.proofs.Common.{◌≡◌, ◌≤◌, [], true, false, map, sym, ◌∙◌, refl, subst, Ok, Err}
+use Rattle.std.proofs.Common.{◌≡◌, ◌≤◌, ◌==◌, not, [], true, false, map, sym, ◌∙◌, refl, subst, Ok, Err}
 use Rattle.std.proofs.lemmas.Result.{err_from_is_err_and}
 use Rattle.model.specs.declared.event.Answer.TheVariants.{Received}
 use Rattle.model.specs.Steps.{fits}
 use Rattle.model.specs.View.{NodeView, Performed, used, view_taken}
 use Rattle.node.specs.Invariant.{links_of}
 use Rattle.node.specs.Inside.{view_of}
-use Rattle.node.specs.Taking.{IsTakable, assembled}
+use Rattle.node.specs.Taking.{IsTakable, assembled, met_by}
 use Rattle.node.proofs.Balances.{balance-small}
 use Rattle.node.proofs.Standing.{assembled-same}
 use Rattle.node.proofs.Outcomes.{Read, Left, settled_met, settled_reply, due-read, left-read, counted-small, settled-refused, settled-stands, settled-performed}
@@ -28,14 +28,18 @@ reached c =
     subst (λ (m : NodeView). c.args.stamp ≤ m.local.phases.cycle) (sym c.self.view_is)
     c.requires.reached
 
+-- what the code has read; that it saw whether the node is marking, each goal says for itself
 read : (c : After-make_room)
+    → c.met_by-met.result
+    ≡ met_by (not (c.ended.result == c.cycle-cycle.result)) c.cycle-cycle.result c.args.stamp
+    c.brought_by-brought.result c.args.body
     → Read (view_of c.self.inside) c.args.stamp c.args.body c.cycle-cycle.result c.ended.result
     c.brought_by-brought.result c.met_by-met.result c.reply_of-reply.result
-read c = record {
+read c met = record {
   cycle_is = c.cycle-cycle.ensures.value;
   ended_is = c.ended.ensures;
   brought_is = c.brought_by-brought.ensures;
-  met_is = c.met_by-met.ensures;
+  met_is = met;
   reply_is = c.reply_of-reply.ensures;
 }
 
@@ -92,7 +96,9 @@ returns-in_err-marks c =
     let spent = c.in_err-marks.ensures.refused other in (
       spent.0,
       subst (λ ms. fits (map used n.links) ms ≡ false)
-          (due-read n c.args.from c.args.stamp c.args.body _ _ _ _ _ (read at)) spent.1,
+          (due-read n c.args.from c.args.stamp c.args.body _ _ _ _ _
+          (read at c.met_by-met.ensures))
+          spent.1,
     ))
     same))
 
@@ -100,7 +106,7 @@ pub follow-requires-clause-small : goal.follow-requires-clause-small
 follow-requires-clause-small c =
     let at = (goal.at.follow-requires-clause-small c).After-make_room in
     counted-small (view_of c.self.inside) c.args.from c.args.stamp c.args.body
-    c.self.invariant.node (takable at) (reached at) (read at)
+    c.self.invariant.node (takable at) (reached at) (read at c.met_by-met.ensures)
     (record {
       sent = c.in_ok-marks.ensures.done;
       count = c.in_ok-marks.ensures.count;
@@ -118,7 +124,7 @@ invariant_of-self-2 c =
           c.self.invariant.node (takable at.After-make_room) (reached at.After-make_room)
           c.follow_on_heap.new.heap.heap c.send_for.new.asked.keys c.follow.new.phases
           c.follow.new.ring c.take_next.new.self
-          (left at.After-follow (read at.After-make_room))
+          (left at.After-follow (read at.After-make_room c.met_by-met.ensures))
           c.follow.ensures.sound c.take_next.ensures.sound;
       limit =
           c.follow_on_heap.ensures.limit
@@ -131,7 +137,7 @@ pub returns : goal.returns
 returns c =
     let at = goal.at.returns c in
     let n : NodeView = view_of c.self.inside in
-    let is = read at.After-make_room in
+    let is = read at.After-make_room c.met_by-met.ensures in
     let new : NodeView =
     assembled n c.follow_on_heap.new.heap.heap c.send_for.new.asked.keys c.follow.new.phases
     c.follow.new.ring c.take_next.new.self in

@@ -7,8 +7,7 @@ pub invariant_of-self : goal.invariant_of-self
 invariant_of-self c = record {
   sits = subst₂ (Sits (λ v. v.items) c.loop-self.self.node c.loop-self.self.nodes)
       (sym c.rotate_left.ensures.items) (sym c.turn.ensures.2)
-      (sits-turned _ _ _ c.loop-self.self.held.items c.loop-self.self.seat.me.0
-      c.loop-self.self.seat.me.1 c.loop-self.self.sits);
+      (sits-turned c.loop-self.self.sits);
   room = search rules;
 }
 
@@ -24,7 +23,6 @@ loop-self-smaller c =
 pub returns-clause-front : goal.returns-clause-front
 returns-clause-front c =
     let held = c.loop-self.self.held.items in
-    in-front _ _ _ held c.loop-self.self.seat.me.0 c.loop-self.self.seat.me.1 c.args.at
-    (drop 1 held) c.loop-self.self.sits
+    in-front c.args.at (drop 1 held) c.loop-self.self.sits
     (headed c.args.at c.index.result.now held c.loop-self.invariant.0
     ∙ ap (λ (k : ℕ). k ∷ drop 1 held) (sym c.index.ensures ∙ c.loop-self-test.false))

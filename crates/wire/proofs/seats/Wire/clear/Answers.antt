@@ -16,15 +16,15 @@ store-requires c =
     let at = c.from.result * s.nodes + s.node in
     let from_is : c.from.result < s.nodes = search rules in
     let same : c.from.result ≡ c.args.taken.from = search rules in
-    let box = box-of c.from.result s.node s.nodes _ at from_is s.sits.within
+    let box = box-of {m = at} c.from.result s.node s.nodes from_is s.sits.within
     (c.requires.wire.1 ∙ sym w.opening) refl in
     let now = c.exchange-bytes.ensures in
     let view_is : c.exchange-bytes.new.seat.me.0 ≡ s.seat.me.0 =
     ap (λ m. m.0) now.3 ∙ c.bring.ensures.known in
     let front = ap (λ m. m.1) now.3 in (
       now.0 ∙ c.bring.ensures.same.0 ∙ c.requires.wire.0,
-      in-words _ _ w.nodes _ box.below w.opening w.words,
-      clears_allowed _ w.table.shared.key.world _ c.exchange-bytes.new.seat.id _
+      in-words box.below w.opening w.words,
+      clears_allowed _ w.table.shared.key.world c.exchange-bytes.new.seat.id
           c.exchange-bytes.new.seat.me c.new.result c.requires.taken.2.0
           (ap (λ (v : Known). v.role) view_is ∙ a-node _ s.sits.role)
           (ap (λ (v : Known). found at v.emptying) view_is
@@ -50,7 +50,7 @@ invariant_of-seat c =
             (sym (told.0 ∙ ap (λ m. clears at m.0) now.3)) i,
             (sym (told.1 ∙ ap (λ m. rest m.1) now.3)) i,
           ))
-          (sits-cleared _ _ _ b.held.items b.seat.me.0 (rest b.seat.me.1) at front.0 sits
+          (sits-cleared at front.0 sits
           (sym (ap (λ m. has at m.0.filling) now.3) ∙ told.2));
       room = search rules;
     }

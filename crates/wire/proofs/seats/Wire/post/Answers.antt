@@ -16,15 +16,15 @@ store-requires c =
     let at = s.node * s.nodes + c.from.result in
     let to_is : c.from.result < s.nodes = search rules in
     let same : c.from.result ≡ c.args.claim.to = search rules in
-    let box = box-of s.node c.from.result s.nodes _ at s.sits.within to_is
+    let box = box-of {m = at} s.node c.from.result s.nodes s.sits.within to_is
     (c.requires.wire.1 ∙ sym w.opening) refl in
     let now = c.exchange-emptied.ensures in
     let view_is : c.exchange-emptied.new.seat.me.0 ≡ s.seat.me.0 =
     ap (λ m. m.0) now.3 ∙ c.bring.ensures.known in
     let front = ap (λ m. m.1) now.3 in (
       now.0 ∙ c.bring.ensures.same.0 ∙ c.requires.wire.0,
-      in-words _ _ w.nodes _ box.below w.opening w.words,
-      posts_allowed _ w.table.shared.key.world _ c.exchange-emptied.new.seat.id _
+      in-words box.below w.opening w.words,
+      posts_allowed _ w.table.shared.key.world c.exchange-emptied.new.seat.id
           c.exchange-emptied.new.seat.me c.args.bytes
           (ap (λ (v : Known). v.role) view_is ∙ a-node _ s.sits.role)
           (ap (λ (v : Known). has at v.filling) view_is
@@ -49,10 +49,10 @@ invariant_of-seat c =
       sits = subst₂ (Sits (λ v. v.items) b.node b.nodes)
           (ap (drop 1) sits.order ∙ sym c.remove.ensures.items)
           (λ i. (
-            (sym (told.0 ∙ ap (λ m. posts at m.0) now.3)) i,
-            (sym (told.1 ∙ ap (λ m. rest m.1) now.3)) i,
+            (sym (told.1.0 ∙ ap (λ m. posts at told.0 m.0) now.3)) i,
+            (sym (told.1.1 ∙ ap (λ m. rest m.1) now.3)) i,
           ))
-          (sits-posted _ _ _ b.held.items b.seat.me.0 (rest b.seat.me.1) at front.0 sits
-          (sym (ap (λ m. found at m.0.emptying) now.3) ∙ told.2));
+          (sits-posted at told.0 front.0 sits
+          (sym (ap (λ m. found at m.0.emptying) now.3) ∙ told.1.2));
       room = search rules;
     }

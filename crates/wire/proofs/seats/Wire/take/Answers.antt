@@ -11,11 +11,11 @@ compare_exchange-found-requires c =
     let w = c.args.self.now in
     let s = c.args.seat.now in
     let from_is : c.from.result < s.nodes = search rules in
-    let box = box-of c.from.result s.node s.nodes _ _ from_is s.sits.within
+    let box = box-of c.from.result s.node s.nodes from_is s.sits.within
     (c.requires.wire.1 ∙ sym w.opening) refl in (
       c.requires.wire.0,
-      in-words _ _ w.nodes _ box.below w.opening w.words,
-      takes_allowed _ w.table.shared.key.world _ s.seat.id _ s.seat.me box.below
+      in-words box.below w.opening w.words,
+      takes_allowed _ w.table.shared.key.world s.seat.id s.seat.me box.below
           (a-node _ s.sits.role) (sym s.sits.me_is ∙ box.receiver),
     )
 
@@ -24,7 +24,8 @@ hold-requires c =
     let s = c.args.seat.now in
     let at = c.from.result * s.nodes + s.node in
     let from_is : c.from.result < s.nodes = search rules in
-    let box = box-of c.from.result s.node s.nodes s.nodes at from_is s.sits.within refl refl in
+    let from = c.from.result in
+    let box = box-of {k = s.nodes} {m = at} from s.node s.nodes from_is s.sits.within refl refl in
     let told = c.compare_exchange-found.ensures.2.0 c.if-found-ne-FULL.false in
     let few = room-for at (s.nodes * s.nodes) s.held.items s.sits.single
     (s.sits.minded at ∙ fresh-minds at s.seat.me.0 told.1.4.3) box.below s.sits.inside in
@@ -37,13 +38,13 @@ invariant_of-seat-2 c =
     let s = c.args.seat.now in
     let at = c.from.result * s.nodes + s.node in
     let from_is : c.from.result < s.nodes = search rules in
-    let box = box-of c.from.result s.node s.nodes s.nodes at from_is s.sits.within refl refl in
+    let from = c.from.result in
+    let box = box-of {k = s.nodes} {m = at} from s.node s.nodes from_is s.sits.within refl refl in
     let told = c.compare_exchange-found.ensures.2.0 c.if-found-ne-FULL.false in
     record {
       sits = subst₂ (Sits (λ v. v.items) s.node s.nodes) (sym c.hold.ensures.items)
           (λ i. (sym told.1.0 i, sym told.1.4.1 i))
-          (sits-took _ _ _ s.held.items s.seat.me.0 s.seat.me.1 at told.1.4.0 told.0 s.sits
-          told.1.4.3 box.below told.1.4.2.1);
+          (sits-took at told.1.4.0 told.0 s.sits told.1.4.3 box.below told.1.4.2.1);
       room = search rules;
     }
 
@@ -53,7 +54,8 @@ returns-clause-taken c =
     let at = c.from.result * s.nodes + s.node in
     let from_is : c.from.result < s.nodes = search rules in
     let same : c.from.result ≡ c.args.from = search rules in
-    let box = box-of c.from.result s.node s.nodes s.nodes at from_is s.sits.within refl refl in
+    let from = c.from.result in
+    let box = box-of {k = s.nodes} {m = at} from s.node s.nodes from_is s.sits.within refl refl in
     let told = c.compare_exchange-found.ensures.2.0 c.if-found-ne-FULL.false in
     let new = c.compare_exchange-found.ensures in (
       refl,

@@ -9,8 +9,8 @@ pub returns : goal.returns
 returns c =
     let there = site-read c.self.view_is c.from.ensures c.requires.to c.index.ensures in
     let sim = subst IsSim c.self.view_is c.self.invariant in
-    let sender = c.acknowledgement.ensures.from ∙ ap (λ (q : SiteView). q.saved.local.own) there
-    ∙ (sim.saved c.args.to c.requires.to).own in
+    let sender = c.acknowledgement.ensures.from ∙ ap (λ (q : SiteView). q.current.local.own) there
+    ∙ (sim.current c.args.to c.requires.to).own in
     record {
       sender = sender;
       receiver = c.acknowledgement.ensures.to;

@@ -1,4 +1,4 @@
-use Rattle.std.proofs.Common.{◌≡◌, inl, inr, sym, arith}
+use Rattle.std.proofs.Common.{◌≡◌, inl, inr, refl, sym, arith}
 use Rattle.std.proofs.lemmas.Result.{err_from_is_err_and}
 use Rattle.msg.specs.Frames.{plain_ack}
 use Rattle.world.proofs.Deliveries.{deliver-to-itself, deliver-missing, deliver-never, delivered}
@@ -28,12 +28,12 @@ pub returns-in_err-message : goal.returns-in_err-message
 returns-in_err-message c =
     let p = err_from_is_err_and c.from_residual.result c.from_residual.ensures.1 in
     rw (p.1, p.2)
-    (deliver-never c.if-from-to.false (sym c.in-Some.ensures) _
+    (deliver-never c.if-from-to.false (sym c.in-Some.ensures) _ c.in_err-message.ensures.refused
     (λ x fits spelled stamp b is. c.in_err-message.ensures.only x fits spelled))
 
 pub returns-in_default-2 : goal.returns-in_default-2
 returns-in_default-2 c =
-    deliver-never c.if-from-to.false (sym c.in-Some.ensures) _
+    deliver-never c.if-from-to.false (sym c.in-Some.ensures) _ refl
     (λ x fits spelled stamp b is.
     let wrong : plain_ack c.in_default-2.field-0 ≡ x = rw c.in_default-2.is at
     (c.in_ok-message.ensures.only x fits spelled) in absurd cc)

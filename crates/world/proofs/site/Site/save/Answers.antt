@@ -6,6 +6,11 @@ use Rattle.world.specs.Sites.{SiteView, IsSite}
 use Rattle.world.proofs.SiteLemmas.{site-saved}
 use Rattle.world.proofs.site.Site.save.Goals as goal
 
+-- once all counts as saved, the image says the node
+pub new-requires : goal.new-requires
+new-requires c =
+    rw (c.in_ok-image.ensures.written, c.kept.ensures) c.in_ok-image.ensures.image
+
 -- frames that were made and not released show nowhere
 pub invariant_of-self : goal.invariant_of-self
 invariant_of-self c =
@@ -47,9 +52,8 @@ invariant_of-self-2 c =
     (simp length-map (c.release_all.auto.row ∙ ap length c.deref_mut.ensures.value))
     (record {
       current = c.kept.ensures;
-      saved = rw c.in_ok-copy.ensures.same at c.kept-2.ensures;
-      frames = rw (c.in_ok-copy.ensures.same, c.deref_mut.ensures.value) at
-          c.in_ok-release_all.ensures.done;
+      saved = c.new.ensures ∙ c.kept.ensures;
+      frames = rw c.deref_mut.ensures.value at c.in_ok-release_all.ensures.done;
     }))
 
 pub returns-clause-done : goal.returns-clause-done
@@ -59,7 +63,6 @@ returns-clause-done c =
     rw (← c.self.view_is, wrote)
     (record {
       current = c.kept.ensures;
-      saved = rw c.in_ok-copy.ensures.same at c.kept-2.ensures;
-      frames = rw (c.in_ok-copy.ensures.same, c.deref_mut.ensures.value) at
-          c.in_ok-release_all.ensures.done;
+      saved = c.new.ensures ∙ c.kept.ensures;
+      frames = rw c.deref_mut.ensures.value at c.in_ok-release_all.ensures.done;
     })

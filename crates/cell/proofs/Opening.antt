@@ -1,0 +1,79 @@
+-- Which node a cell's disk opens to.
+use Rattle.std.proofs.Common.{◌≡◌, true, false, ◌≤◌, List, ℕ, Option, Some, sym, ap, ◌∙◌, subst, inl, inr, ⊎_elim}
+use Rattle.std.proofs.Math.Logic.{∥∥₁_elim, ∥∥₁_map}
+use Rattle.std.proofs.Props.{props}
+use Rattle.std.proofs.lemmas.Slice.Eq.{bytes_eq-Decides}
+use Rattle.model.specs.View.{NodeView, kept_view}
+use Rattle.image.specs.Images.{image_of}
+use Rattle.image.specs.Nodes.{IsImageOf}
+use Rattle.image.proofs.Images.{image_of_one, image_is}
+use Rattle.disk.specs.Areas.{Areas}
+use Rattle.disk.specs.Crashes.{LeavesOnly}
+use Rattle.disk.specs.Shelf.{opened, OldOrNew}
+use Rattle.cell.specs.Disks.{OpensTo, OpensToEither, is_same_image}
+
+-- a disk opens to one node at most
+pub same-found : (m n : NodeView) (c : Areas) → OpensTo m c → OpensTo n c → m ≡ n
+same-found m n c first second =
+    let both : ◌≡◌ {A = Option (List ℕ)} (Some second.0) (Some first.0) =
+    sym second.1 ∙ first.1 in
+    let bytes : second.0 ≡ first.0 = cc in
+    image_of_one first.0 m n first.2 (subst (λ (b : List ℕ). IsImageOf b n) bytes second.2)
+
+-- the image of a node that was found is read as it
+pub image-found : (n : NodeView) (c : Areas) → OpensTo n c → IsImageOf (image_of n) n
+image-found n c found =
+    subst (λ (b : List ℕ). IsImageOf b n) (sym (image_is found.0 n found.2)) found.2
+
+same-image : (m n : NodeView) → m ≡ n → is_same_image m n ≡ true
+same-image m n same = (bytes_eq-Decides (image_of m) (image_of n)).1 (ap image_of same)
+
+-- where another image was found than that of the node saved last, it is the present node's
+pub which-found : (saved n found : NodeView) (c : Areas) → OpensTo found c
+    → ∥ OpensToEither saved n c ∥₁ → is_same_image found saved ≡ false → found ≡ kept_view n
+which-found saved n found c there left other =
+    ∥∥₁_elim left (hlevel props)
+    (⊎_elim
+    (λ was.
+    let same : is_same_image found saved ≡ true =
+    same-image found saved (same-found found saved c there was) in
+    let never : true ≡ false = sym same ∙ other in
+    absurd cc)
+    (λ now. same-found found (kept_view n) c there now))
+
+pub saved-found : (saved found : NodeView) (c : Areas) → OpensTo found c → ∥ OpensTo saved c ∥₁
+    → is_same_image found saved ≡ true
+saved-found saved found c there was =
+    ∥∥₁_elim was (hlevel props)
+    (λ old. same-image found saved (same-found found saved c there old))
+
+-- some node is found
+pub never-bad : (saved n : NodeView) (c : Areas) → ∥ OpensToEither saved n c ∥₁
+    → ((m : NodeView) → OpensTo m c → ⊥) → ⊥
+never-bad saved n c left none =
+    ∥∥₁_elim left (hlevel props) (⊎_elim (λ was. none saved was) (λ now. none (kept_view n) now))
+
+-- a crash leaves what is read, and that opens to the node saved last
+pub settled-left : (saved n : NodeView) (seen c : Areas) → c ≡ seen → ∥ OpensTo saved seen ∥₁
+    → ∥ OpensToEither saved n c ∥₁
+settled-left saved n seen c same was =
+    ∥∥₁_map was (λ there. inl (subst (OpensTo saved) (sym same) there))
+
+-- it opens to the node saved last, under another name
+pub open-stays : (was saved : NodeView) (seen : Areas) → saved ≡ was → ∥ OpensTo was seen ∥₁
+    → ∥ OpensTo saved seen ∥₁
+open-stays was saved seen same opens =
+    subst (λ (m : NodeView). ∥ OpensTo m seen ∥₁) (sym same) opens
+
+-- what a crash leaves after a save that failed on the disk
+pub failed-left : {D : Type 0} (seen : D → Areas) (may_leave : D → Areas → Type 0)
+    (moment : D → ℕ) (left_since : D → ℕ → Areas → Type 0) (old new : D) (saved n : NodeView)
+    → ((t : ℕ) (c : Areas) → t ≤ moment new → may_leave new c → left_since new t c)
+    → LeavesOnly moment left_since old new (OldOrNew (opened (seen old)) (image_of n))
+    → ∥ OpensTo saved (seen old) ∥₁ → IsImageOf (image_of n) (kept_view n)
+    → (c : Areas) → may_leave new c → ∥ OpensToEither saved n c ∥₁
+failed-left seen may_leave moment left_since old new saved n counts only was image c may =
+    ⊎_elim
+    (λ same. ∥∥₁_map was (λ there. inl (there.0, same ∙ there.1, there.2)))
+    (λ is. ∣ inr (image_of n, is, image) ∣₁)
+    (only.each c (counts (moment old) c only.later may))

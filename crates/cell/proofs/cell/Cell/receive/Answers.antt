@@ -1,0 +1,111 @@
+use Rattle.std.proofs.Common.{◌≡◌, true, [], ◌∷◌, ◌++◌, length, slice_get, Some, Result, sym, ap, ◌∙◌, subst}
+use Rattle.cell.proofs.Opening.{open-stays, settled-left}
+use Rattle.circular_buffer.specs.Buffer.{keep_last}
+use Rattle.ids.specs.declared.limits.TheConstants.{TRACE_EVENTS}
+use Rattle.ids.specs.declared.refusal.Refusal.{Refusal}
+use Rattle.laws.proofs.Lookups.{slice_get-last}
+use Rattle.msg.specs.Frames.{plain}
+use Rattle.model.specs.declared.event.Answer.{Answer}
+use Rattle.model.specs.View.{NodeView}
+use Rattle.trace.specs.Lines.{call_of}
+use Rattle.wire.specs.Views.{Known}
+use Rattle.wire.specs.Readers.{inbox, known}
+use Rattle.cell.specs.Events.{emptied, outcome_of, Handled}
+use Rattle.cell.proofs.cell.Cell.receive.Goals as goal
+
+pub invariant_of-self : goal.invariant_of-self
+invariant_of-self g c =
+    let cell = c.args.self.now in
+    let seen = g.D.Disk.seen cell.shelf.disk in
+    let desk = c.take.new.self in
+    let ready : cell.shelf.ready ≡ true = c.requires.ready in
+    let opens = open-stays cell.desk.saved.value desk.saved.value seen
+    (c.take.ensures.saved) (cell.while_open ready) in
+    record {
+      while_open = λ _. opens;
+      left = λ x may.
+          settled-left desk.saved.value desk.node seen x ((cell.shelf.settled ready).0 x may) opens;
+    }
+
+pub invariant_of-self-2 : goal.invariant_of-self-2
+invariant_of-self-2 g c =
+    let cell = c.args.self.now in
+    let seen = g.D.Disk.seen cell.shelf.disk in
+    let desk = c.handle-answered.new.self in
+    let ready : cell.shelf.ready ≡ true = c.requires.ready in
+    let opens = open-stays cell.desk.saved.value desk.saved.value seen
+    (c.handle-answered.ensures.saved ∙ c.take.ensures.saved) (cell.while_open ready) in
+    record {
+      while_open = λ _. opens;
+      left = λ x may.
+          settled-left desk.saved.value desk.node seen x ((cell.shelf.settled ready).0 x may) opens;
+    }
+
+pub handle-answered-requires-clause-taken : goal.handle-answered-requires-clause-taken
+handle-answered-requires-clause-taken g c =
+    let taken = (known c.args.self.now.desk.seat).taken in
+    let f = plain c.in-Some.frame in (
+      length taken,
+      subst (λ (v : Known). slice_get v.taken (length taken) ≡ Some f)
+          (sym c.in-Some.ensures.taken.3) (slice_get-last taken f),
+    )
+
+pub returns-in-Ok-clause-pumped : goal.returns-in-Ok-clause-pumped
+returns-in-Ok-clause-pumped g c =
+    let cell = c.args.self.now in
+    let f = c.in-Some.frame in
+    let taken = c.in-Some.ensures.taken in
+    let desk = c.handle-answered.new.self in
+    let given : Handled f c.handle-answered.result cell.desk.node desk.node
+    (emptied (inbox cell.desk.seat c.args.from) (plain f) (known cell.desk.seat))
+    (known desk.seat) =
+    subst (λ (v : Known).
+    Handled f c.handle-answered.result cell.desk.node desk.node v (known desk.seat)) taken.3
+    (subst (λ (n : NodeView).
+    Handled f c.handle-answered.result n desk.node (known c.take.new.self.seat) (known desk.seat))
+    c.take.ensures.node c.handle-answered.ensures.handled) in
+    record {
+      frame = f;
+      sender = taken.0;
+      receiver = taken.1;
+      released = taken.2;
+      handled = subst (λ (r : Result Answer Refusal).
+          Handled f r cell.desk.node desk.node
+          (emptied (inbox cell.desk.seat c.args.from) (plain f) (known cell.desk.seat))
+          (known desk.seat)) c.in-Ok.is given;
+      traced = c.push.ensures
+          ∙ (λ i. keep_last TRACE_EVENTS (cell.trace ++ record {
+            call = (c.of.ensures ∙ ap call_of c.event_of.ensures) i;
+            outcome = (c.outcome.ensures ∙ ap outcome_of c.in-Ok.is) i;
+          } ∷ []));
+    }
+
+pub returns-in-Err-clause-pumped : goal.returns-in-Err-clause-pumped
+returns-in-Err-clause-pumped g c =
+    let cell = c.args.self.now in
+    let f = c.in-Some.frame in
+    let taken = c.in-Some.ensures.taken in
+    let desk = c.handle-answered.new.self in
+    let given : Handled f c.handle-answered.result cell.desk.node desk.node
+    (emptied (inbox cell.desk.seat c.args.from) (plain f) (known cell.desk.seat))
+    (known desk.seat) =
+    subst (λ (v : Known).
+    Handled f c.handle-answered.result cell.desk.node desk.node v (known desk.seat)) taken.3
+    (subst (λ (n : NodeView).
+    Handled f c.handle-answered.result n desk.node (known c.take.new.self.seat) (known desk.seat))
+    c.take.ensures.node c.handle-answered.ensures.handled) in
+    record {
+      frame = f;
+      sender = taken.0;
+      receiver = taken.1;
+      released = taken.2;
+      handled = subst (λ (r : Result Answer Refusal).
+          Handled f r cell.desk.node desk.node
+          (emptied (inbox cell.desk.seat c.args.from) (plain f) (known cell.desk.seat))
+          (known desk.seat)) c.in-Err.is given;
+      traced = c.push.ensures
+          ∙ (λ i. keep_last TRACE_EVENTS (cell.trace ++ record {
+            call = (c.of.ensures ∙ ap call_of c.event_of.ensures) i;
+            outcome = (c.outcome.ensures ∙ ap outcome_of c.in-Err.is) i;
+          } ∷ []));
+    }

@@ -1,0 +1,16 @@
+use Rattle.std.proofs.Common.{sym, ◌∙◌, subst}
+use Rattle.disk.specs.Record.{areas_of, leaves}
+use Rattle.disk.specs.declared.state.State.{State}
+use Rattle.cell.specs.Disks.{OpensTo}
+use Rattle.cell.proofs.cell.saving.Cell+MemoryDisk.fail_from.Goals as goal
+
+pub invariant_of-self : goal.invariant_of-self
+invariant_of-self c =
+    let cell = c.args.self.now in
+    let state = c.fail_from.ensures.state in
+    record {
+      while_open = λ ready.
+          subst (λ (s : State). ∥ OpensTo cell.desk.saved.value (areas_of s.held) ∥₁) (sym state)
+          (cell.while_open (sym c.fail_from.ensures.ready ∙ ready));
+      left = λ x may. cell.left x (subst (λ (s : State). leaves s x) state may);
+    }

@@ -1,0 +1,41 @@
+use Rattle.std.proofs.Common.{◌≡◌, sym, ap, ◌∙◌, subst}
+use Rattle.model.specs.State.{LocalState, NodeState}
+use Rattle.model.specs.View.{NodeView}
+use Rattle.node.specs.declared.summary.Summary.{Summary}
+use Rattle.wire.specs.Readers.{known}
+use Rattle.wire.specs.Views.{Pair}
+use Rattle.cell.specs.Desks.{IsSavedNode, StandsAt}
+use Rattle.cell.specs.Events.{both_states}
+use Rattle.cell.proofs.Found.{found-read}
+use Rattle.cell.proofs.desk.Desk.new.Goals as goal
+
+pub invariant_of-result : goal.invariant_of-result
+invariant_of-result c =
+    let n = c.args.node in
+    let pair = (known c.args.seat).pair in
+    let own : n.local.own ≡ c.state-state.result.own =
+    sym (ap (λ (s : Summary). s.own) c.state-state.ensures.value) in
+    let nodes : n.local.shape.nodes ≡ c.nodes.result =
+    sym (c.nodes.ensures.value ∙ ap (λ (s : Summary). s.shape.nodes) c.state-state.ensures.value) in
+    let pair_is : pair ≡ both_states pair.current =
+    ap (λ (s : NodeState). let p : Pair = record { current = pair.current; saved = s } in p)
+    c.requires.seat.saved in
+    let found = found-read c.state-state.result.own c.nodes.result pair.current n own nodes
+    c.requires.seat.shows c.requires.image in
+    record {
+      at = record {
+        own = sym c.requires.seat.own ∙ own;
+        nodes = sym c.requires.seat.nodes ∙ nodes;
+      };
+      stands = subst (λ (p : Pair). StandsAt c.state-state.result.own c.nodes.result p n)
+          (sym pair_is) found.stands;
+      was = subst
+          (λ (m : NodeView). IsSavedNode c.state-state.result.own c.nodes.result pair.saved m)
+          (sym c.of.ensures)
+          (subst (λ (p : Pair). IsSavedNode c.state-state.result.own c.nodes.result p.saved n)
+          (sym pair_is) found.saved);
+      ended_is = c.ended_by.ensures
+          ∙ ap (λ (l : LocalState). l.phases.ended) found.saved.shows.local
+          ∙ sym (ap (λ (p : Pair). p.saved.local.phases.ended) pair_is);
+      unsaved = λ _. sym c.requires.seat.saved;
+    }

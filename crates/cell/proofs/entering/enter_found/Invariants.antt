@@ -1,0 +1,4 @@
+use Rattle.cell.proofs.entering.enter_found.Given as goal
+
+abbrev pub ghost-tick : goal.ghost-tick
+ghost-tick g a = g.happened

@@ -1,0 +1,47 @@
+-- What is kept of a node and its seat between two calls.
+use Rattle.std.specs.Prelude.{◌≡◌, ℕ, Bool, false, length, take}
+use Rattle.model.specs.State.{NodeState, sent_to}
+use Rattle.model.specs.View.{NodeView, Shows, link_to}
+use Rattle.image.specs.Images.{image_of}
+use Rattle.image.specs.Nodes.{IsImageOf}
+use Rattle.wire.specs.Views.{Pair}
+use Rattle.wire.specs.Readers.{known, seat_node}
+use Rattle.wire.specs.declared.seats.NodeSeat.{NodeSeat}
+
+-- the seat of this node, in a space of so many
+pub record IsSeatAt (me width : ℕ) (s : NodeSeat) : Type 0 where
+  pub own : seat_node s ≡ me
+  pub nodes : s.nodes ≡ width
+
+-- what the saved state has sent, the current one has sent too, and perhaps more after it
+abbrev pub IsBehind : NodeState → NodeState → Type 0
+IsBehind saved current =
+    (j : ℕ) → take (length (sent_to saved j)) (sent_to current j) ≡ sent_to saved j
+
+-- The node shows the current state of the pair, and counts as saved what the saved one has: its
+-- messages are released up to there, and what that has taken in is acknowledged.
+pub record StandsAt (me width : ℕ) (p : Pair) (n : NodeView) : Type 0 where
+  pub own : n.local.own ≡ me
+  pub nodes : n.local.shape.nodes ≡ width
+  pub shows : Shows n p.current
+  pub counted : (j : ℕ) → (link_to n j).kept ≡ length (sent_to p.saved j)
+  pub acks : n.acks ≡ p.saved.local.got
+  pub behind : IsBehind p.saved p.current
+
+-- the node shows the state, and is read from the bytes of its image
+pub record IsSavedNode (me width : ℕ) (s : NodeState) (n : NodeView) : Type 0 where
+  pub own : n.local.own ≡ me
+  pub nodes : n.local.shape.nodes ≡ width
+  pub shows : Shows n s
+  pub image : ∥ IsImageOf (image_of n) n ∥₁
+
+-- where this is false, the current state is the saved one
+abbrev pub IsUnsaved : Bool → Pair → Type 0
+IsUnsaved unsaved p = unsaved ≡ false → p.current ≡ p.saved
+
+-- the node stands where its own seat says, with all saved
+pub record IsAtSeat (n : NodeView) (s : NodeSeat) : Type 0 where
+  pub own : n.local.own ≡ seat_node s
+  pub nodes : n.local.shape.nodes ≡ s.nodes
+  pub shows : Shows n (known s).pair.current
+  pub saved : (known s).pair.saved ≡ (known s).pair.current

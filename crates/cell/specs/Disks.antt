@@ -1,0 +1,20 @@
+-- Which node a disk opens to.
+use Rattle.std.specs.Prelude.{◌⊎◌, Bool}
+use Rattle.std.specs.Str.{bytes_eq}
+use Rattle.model.specs.View.{NodeView, kept_view}
+use Rattle.image.specs.Images.{image_of}
+use Rattle.image.specs.Nodes.{IsImageOf}
+use Rattle.disk.specs.Areas.{Areas}
+use Rattle.disk.specs.Shelf.{IsReadAs, opened}
+
+abbrev pub OpensTo : NodeView → Areas → Type 0
+OpensTo n c = IsReadAs IsImageOf (opened c) n
+
+-- the disk opens to the node that was saved last, or to the one that stands now, as it is once it
+-- is saved
+abbrev pub OpensToEither : NodeView → NodeView → Areas → Type 0
+OpensToEither saved n c = OpensTo saved c ⊎ OpensTo (kept_view n) c
+
+-- the nodes have the same image
+abbrev pub is_same_image : NodeView → NodeView → Bool
+is_same_image m n = bytes_eq (image_of m) (image_of n)

@@ -1,0 +1,122 @@
+-- What a call makes of a node, and of what its seat knows.
+use Rattle.std.specs.Prelude.{◌≡◌, ℕ, Bool, true, false, cond, Result, Ok, Err, OnErr}
+use Rattle.ids.specs.declared.refusal.Refusal.{Refusal}
+use Rattle.msg.specs.Grammar.{Plain}
+use Rattle.msg.specs.declared.frame.Ack.{Ack}
+use Rattle.msg.specs.declared.frame.Frame.{Frame}
+use Rattle.msg.specs.declared.frame.Frame.TheVariants as frame
+use Rattle.model.specs.declared.event.Event.{Event}
+use Rattle.model.specs.declared.event.Event.TheVariants as event
+use Rattle.model.specs.declared.event.Answer.{Answer}
+use Rattle.model.specs.declared.event.Answer.TheVariants as answer
+use Rattle.model.specs.declared.step.Step.{Step}
+use Rattle.model.specs.declared.step.Step.TheVariants as step
+use Rattle.model.specs.declared.step.Outcome.TheVariants as outcome
+use Rattle.model.specs.State.{NodeState}
+use Rattle.model.specs.Steps.{act, is_shading}
+use Rattle.model.specs.View.{NodeView, Follows, Performs, view_act}
+use Rattle.model.specs.World.{is_eventful}
+use Rattle.wire.specs.Views.{Known, Pair, ticks, clears, takes_in}
+use Rattle.wire.specs.Plays.{Happens, IsEventful}
+use Rattle.trace.specs.declared.call.Outcome as trace
+use Rattle.trace.specs.declared.call.Outcome.TheVariants as traced
+
+-- whether what a node answered is an event of the space, where it wasn't given an acknowledgement
+abbrev pub is_counted : Answer → Bool
+is_counted a = is_eventful (Ok (outcome.Answer a))
+
+-- the state after an event, or the same one where it was refused
+abbrev pub state_of : NodeState → Result (NodeState × Answer) Refusal → NodeState
+state_of s (Ok x) = x.0
+state_of s (Err e) = s
+
+-- the node's states after an event
+abbrev pub pair_by : Event → Pair → Pair
+pair_by e p = record { current = state_of p.current (act p.current e); saved = p.saved }
+
+-- The seat's list of events grows by this one where the event was answered, and counts; else
+-- nothing comes.
+abbrev pub known_after : Event → Step → Result Answer Refusal → Known → Known
+known_after e s (Ok a) v = cond (is_counted a) (ticks s (pair_by e v.pair) v) v
+known_after e s (Err r) v = v
+
+-- The node was given an event, which is this step of the space: what it answered, and how it stands
+-- afterwards, is what the definitions say of the state that it showed; and what it was refused is
+-- the first refusal that applies. What is refused, reads a word or repeats a message is no event.
+pub record Acted (e : Event) (s : Step) (result : Result Answer Refusal) (old new : NodeView)
+    (v w : Known) : Type 0 where
+  pub performs : Performs (is_shading e) result new (view_act old e)
+  pub states : Follows e result new (act v.pair.current e)
+  pub unchanged : OnErr result (new ≡ old)
+  pub known : w ≡ known_after e s result v
+
+-- the same of an acknowledgement, which is no event
+pub record Acknowledged (a : Ack) (result : Result Answer Refusal) (old new : NodeView)
+    (v w : Known) : Type 0 where
+  pub performs : Performs false result new (view_act old (event.Ack a))
+  pub states : Follows (event.Ack a) result new (act v.pair.current (event.Ack a))
+  pub unchanged : OnErr result (new ≡ old)
+  pub known : w ≡ v
+
+-- What is asked of who gives a node an event that is this step: where it counts, it happens to the
+-- seat's node; where it doesn't, nothing changes.
+pub record MayAct (v : Known) (e : Event) (s : Step) : Type 0 where
+  pub happens : (t : NodeState) (a : Answer) → act v.pair.current e ≡ Ok (t, a) → IsEventful a
+      → Happens v s (record { current = t; saved = v.pair.saved })
+  pub quiet : (t : NodeState) (a : Answer) → act v.pair.current e ≡ Ok (t, a)
+      → is_counted a ≡ false → t ≡ v.pair.current
+
+-- ---- frames that were taken
+
+-- the event that a frame is
+abbrev pub event_of : Frame → Event
+event_of (frame.Data d) = event.Data d
+event_of (frame.Ack a) = event.Ack a
+
+-- what the seat knows once it has taken the frame from a mailbox, and emptied that
+abbrev pub emptied : ℕ → Plain → Known → Known
+emptied box f v = clears box (takes_in box f v)
+
+-- What became of a frame: a message is given to the node as this delivery, and an acknowledgement
+-- as what it is.
+abbrev pub Handled : Frame → Result Answer Refusal → NodeView → NodeView → Known → Known → Type 0
+Handled (frame.Data d) result old new v w =
+    Acted (event.Data d) (step.Deliver d.from v.me d.number) result old new v w
+Handled (frame.Ack a) result old new v w = Acknowledged a result old new v w
+
+-- ---- saves and reopenings
+
+abbrev pub both_states : NodeState → Pair
+both_states s = record { current = s; saved = s }
+
+abbrev pub saved_by : Known → Known
+saved_by v = ticks (step.Save v.me) (both_states v.pair.current) v
+
+-- A reopening is a restart where the node that was found has the image of the one saved last; else
+-- the save after which the disk failed.
+abbrev pub found_step : Bool → ℕ → Step
+found_step same i = cond same (step.Restart i) (step.Save i)
+
+abbrev pub found_pair : Bool → Pair → Pair
+found_pair same p = both_states (cond same p.saved p.current)
+
+abbrev pub reopened_by : Bool → Known → Known
+reopened_by same v = ticks (found_step same v.me) (found_pair same v.pair) v
+
+abbrev pub restarted_by : Known → Known
+restarted_by v = reopened_by true v
+
+-- ---- traces
+
+-- what the trace says of an answer
+abbrev pub outcome_of_answer : Answer → trace.Outcome
+outcome_of_answer answer.Repeat = traced.Repeat
+outcome_of_answer a = traced.Done
+
+abbrev pub outcome_of : Result Answer Refusal → trace.Outcome
+outcome_of (Ok a) = outcome_of_answer a
+outcome_of (Err e) = traced.Refused e
+
+abbrev pub done_outcome : Result (Unit {0}) Refusal → trace.Outcome
+done_outcome (Ok u) = traced.Done
+done_outcome (Err e) = traced.Refused e

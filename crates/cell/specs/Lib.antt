@@ -1,0 +1,5 @@
+pub mod Desks
+pub mod Disks
+pub mod Events
+pub mod Sending
+pub mod Pumping

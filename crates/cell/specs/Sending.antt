@@ -1,0 +1,34 @@
+-- The frame that a node sends next to another one.
+use Rattle.std.specs.Prelude.{◌≡◌, ◌≢◌, ℕ, ◌+◌, Bool, true, false, List, Option, Some, None, slice_index_or, slice_set}
+use Rattle.wire.specs.Views.{Known, claims, notes, posts}
+use Rattle.msg.specs.Grammar.{Plain, ack_frame}
+use Rattle.model.specs.View.{NodeView}
+use Rattle.node.specs.Frames.{released_frame}
+
+-- the released one, if there is one, else the acknowledgement of what was taken in
+abbrev pub frame_or_ack : NodeView → ℕ → Option Plain → Plain
+frame_or_ack n to None = ack_frame n.local.own to (slice_index_or n.acks to 0)
+frame_or_ack n to (Some f) = f
+
+abbrev pub frame_due : NodeView → ℕ → ℕ → Plain
+frame_due n to place = frame_or_ack n to (released_frame n to place)
+
+-- the place after a released frame is the next one; after an acknowledgement, the first
+abbrev pub place_after : ℕ → Option Plain → ℕ
+place_after place None = 0
+place_after place (Some f) = place + 1
+
+abbrev pub next_place : NodeView → ℕ → ℕ → ℕ
+next_place n to place = place_after place (released_frame n to place)
+
+-- This frame went into this mailbox; or the mailbox wasn't empty when the seat looked, and nothing
+-- was sent.
+abbrev pub IsSent : ℕ → Plain → Bool → Known → Known → Type 0
+IsSent box f true v w = w ≡ posts box f (claims box v)
+IsSent box f false v w = (w.read ≢ 0) × (w ≡ notes w.read v)
+
+-- the places in the windows to all nodes, after something was sent to one of them or not
+abbrev pub places_after : Bool → NodeView → ℕ → List ℕ → List ℕ
+places_after true n to places =
+    slice_set places to (next_place n to (slice_index_or places to 0))
+places_after false n to places = places

@@ -1,0 +1,36 @@
+// A node with its disk, its seat and a trace.
+ghost use Rattle.std.specs.Prelude.{◌≡◌, IsTrue};
+ghost use Rattle.disk.specs.Areas.{Areas};
+ghost use Rattle.cell.specs.Disks.{OpensTo, OpensToEither};
+
+mod acting;
+mod pumping;
+mod saving;
+
+use crate::desk::Desk;
+use disk::{Disk, Shelf};
+use std::alloc::Global;
+use trace::Trace;
+
+/// A node at its seat on a wire, the shelf that it is saved on, and a trace of its last calls.
+///
+/// While the cell is open, the node shows the state in which the seat's events leave it, its disk
+/// opens to a node that shows the one saved last, also after a crash, and what counts as saved in
+/// the node is what that one holds. A save that is refused Disk closes the cell, and so does a
+/// reopening that is refused; its disk then opens to a node that shows the one state or the other,
+/// also after a crash. A closed cell refuses every event, save and frame with Closed, until a
+/// reopening is Ok.
+///
+/// Every event enters the history of the space once: one of the node's own, a message that is taken
+/// in, a save, a reopening. What is refused enters nothing, nor does reading a word, a message that
+/// was taken in before, an acknowledgement, and moving a frame.
+#[derive(Drop)]
+pub struct Cell<D: Disk> {
+    pub(crate) alloc: Global,
+    pub(crate) desk: Desk,
+    pub(crate) shelf: Shelf<D>,
+    pub(crate) trace: Trace,
+    ghost while_open: { IsTrue shelf.ready → ∥ OpensTo desk.saved.value (D.seen shelf.disk) ∥₁ },
+    ghost left: { (c : Areas) → D.may_leave shelf.disk c
+        → ∥ OpensToEither desk.saved.value desk.node c ∥₁ },
+}

@@ -1,0 +1,181 @@
+//! Making a cell, and events of its node.
+ghost use Rattle.std.specs.Prelude.{
+  ◌≡◌,
+  ◌≢◌,
+  ◌↔◌,
+  ◌++◌,
+  [],
+  ◌∷◌,
+  true,
+  false,
+  IfErr,
+  IfOk,
+  IsErrOf,
+  IsTrue,
+  OnErr,
+  replicate,
+  map,
+  string_bytes,
+};
+ghost use Rattle.circular_buffer.specs.Buffer.{keep_last};
+ghost use Rattle.ids.specs.declared.limits.TheConstants.{TRACE_EVENTS};
+ghost use Rattle.ids.specs.declared.refusal.Refusal.TheVariants.{Memory};
+ghost use Rattle.trace.specs.Lines.{call_of, line_text};
+ghost use Rattle.model.specs.Steps.{is_own};
+ghost use Rattle.model.specs.declared.step.Step.TheVariants as step;
+ghost use Rattle.wire.specs.Views.{marks};
+ghost use Rattle.wire.specs.Readers.{
+  known,
+  raised_cycle,
+  seat_node,
+  IsRaisedOf,
+  IsSame,
+  IsSeatOf,
+};
+ghost use Rattle.cell.specs.Desks.{IsAtSeat, IsUnsaved};
+ghost use Rattle.cell.specs.Disks.{OpensTo};
+ghost use Rattle.cell.specs.Events.{outcome_of, Acted};
+
+use super::Cell;
+use crate::desk::Desk;
+use crate::tracing::outcome;
+use disk::{Disk, Shelf};
+use ids::Refusal;
+use model::{Answer, Event};
+use node::Node;
+use std::alloc::Global;
+use trace::{Call, Trace};
+use wire::{NodeSeat, Raised, Wire};
+
+impl<D: Disk> Cell<D> {
+    /// A cell of a node that was created on the shelf, or opened from it, with the node's own seat,
+    /// which saw no event since. `Memory` where a growth was refused; what was handed in is then
+    /// given up.
+    pub fn new(
+        alloc: Global,
+        node: Node,
+        shelf: Shelf<D>,
+        seat: NodeSeat,
+    ) -> Result<Cell<D>, Refusal>
+    where
+        D: Drop,
+        requires seat { IsAtSeat node seat }
+        requires ready { shelf.ready ≡ true }
+        requires disk { OpensTo node (D.seen shelf.disk) }
+        ensures node { IfOk result (λ c. c.desk.node ≡ node) }
+        ensures seat { IfOk result (λ c. c.desk.seat ≡ seat) }
+        ensures places { IfOk result (λ c. c.desk.places ≡ replicate 16 0) }
+        ensures unsaved { IfOk result (λ c. c.desk.is_unsaved ≡ false) }
+        ensures shelf { IfOk result (λ c. c.shelf ≡ shelf) }
+        ensures trace { IfOk result (λ c. c.trace ≡ []) }
+        ensures refused { IfErr result (λ e. e ≡ Memory) }
+    {
+        let trace = Trace::new(alloc)?;
+        Ok(Cell {
+            alloc,
+            desk: Desk::new(node, seat),
+            shelf,
+            trace,
+        })
+    }
+
+    /// Gives the node an event of its own. It answers what the node answers, and the event enters
+    /// the history; `Word` enters nothing. Refused as by the node, which then changes nothing, and
+    /// Closed exactly while the cell is closed. A line is added to the trace either way.
+    pub fn act(&mut self, wire: &Wire, event: Event) -> Result<Answer, Refusal>
+        requires wire { IsSeatOf wire.now self.old.desk.seat }
+        requires own { is_own event ≡ true }
+        ensures acted { IsTrue self.old.shelf.ready
+            → Acted event (step.Act (known self.old.desk.seat).me event) result
+            self.old.desk.node self.new.desk.node
+            (known self.old.desk.seat) (known self.new.desk.seat) }
+        ensures closed { IsErrOf result Refusal.Closed ↔ (self.old.shelf.ready ≡ false) }
+        ensures shut { self.old.shelf.ready ≡ false → self.new.desk ≡ self.old.desk }
+        ensures same { IsSame self.old.desk.seat self.new.desk.seat }
+        ensures saved { self.new.desk.saved.value ≡ self.old.desk.saved.value }
+        ensures places { self.new.desk.places ≡ self.old.desk.places }
+        ensures shelf { self.new.shelf ≡ self.old.shelf }
+        ensures traced { self.new.trace ≡ keep_last TRACE_EVENTS (self.old.trace
+            ++ record { call = call_of event; outcome = outcome_of result } ∷ []) }
+    {
+        let answered = self.act_open(wire, event);
+        self.trace.push(Call::of(&event), outcome(&answered));
+        answered
+    }
+
+    fn act_open(&mut self, wire: &Wire, event: Event) -> Result<Answer, Refusal>
+        requires wire { IsSeatOf wire.now self.old.desk.seat }
+        requires own { is_own event ≡ true }
+        ensures acted { IsTrue self.old.shelf.ready
+            → Acted event (step.Act (known self.old.desk.seat).me event) result
+            self.old.desk.node self.new.desk.node
+            (known self.old.desk.seat) (known self.new.desk.seat) }
+        ensures closed { IsErrOf result Refusal.Closed ↔ (self.old.shelf.ready ≡ false) }
+        ensures shut { self.old.shelf.ready ≡ false → self.new.desk ≡ self.old.desk }
+        ensures same { IsSame self.old.desk.seat self.new.desk.seat }
+        ensures saved { self.new.desk.saved.value ≡ self.old.desk.saved.value }
+        ensures places { self.new.desk.places ≡ self.old.desk.places }
+        ensures shelf { self.new.shelf ≡ self.old.shelf }
+        ensures trace { self.new.trace ≡ self.old.trace }
+    {
+        if !self.shelf.ready {
+            return Err(Refusal::Closed);
+        }
+        self.desk.act(wire, event)
+    }
+
+    /// Shows on the wire's board the last cycle that the saved node counts as ended. Refused Closed
+    /// exactly while the cell is closed, and NotDirector exactly where it is open and the node is
+    /// another one than node 0.
+    pub fn raise(&mut self, wire: &Wire) -> Result<Raised, Refusal>
+        requires wire { IsSeatOf wire.now self.old.desk.seat }
+        ensures raised { IfOk result (λ r. (raised_cycle r
+            ≡ (known self.old.desk.seat).pair.saved.local.phases.ended)
+            × IsRaisedOf wire.now r
+            × (known self.new.desk.seat
+            ≡ marks (known self.old.desk.seat).pair.saved.local.phases.ended
+            (known self.old.desk.seat))) }
+        ensures closed { IsErrOf result Refusal.Closed ↔ (self.old.shelf.ready ≡ false) }
+        ensures director { IfErr result (λ e. e ≢ Refusal.Closed
+            → (e ≡ Refusal.NotDirector) × (seat_node self.old.desk.seat ≢ 0)) }
+        ensures refused { OnErr result (self.new.desk ≡ self.old.desk) }
+        ensures same { IsSame self.old.desk.seat self.new.desk.seat }
+        ensures node { self.new.desk.node ≡ self.old.desk.node }
+        ensures saved { self.new.desk.saved.value ≡ self.old.desk.saved.value }
+        ensures places { self.new.desk.places ≡ self.old.desk.places }
+        ensures shelf { self.new.shelf ≡ self.old.shelf }
+        ensures trace { self.new.trace ≡ self.old.trace }
+    {
+        if !self.shelf.ready {
+            return Err(Refusal::Closed);
+        }
+        if self.desk.own != 0 {
+            return Err(Refusal::NotDirector);
+        }
+        Ok(self.desk.raise(wire))
+    }
+
+    /// Whether an event came since the last save or reopening. Where it says none did, the node's
+    /// current state is the saved one.
+    pub fn unsaved(&self) -> bool
+        ensures value { result ≡ self.now.desk.is_unsaved }
+        ensures saved { IsUnsaved result (known self.now.desk.seat).pair }
+    {
+        self.desk.is_unsaved
+    }
+
+    /// The node as it stands.
+    pub fn node(&self) -> &Node
+        ensures { result.now ≡ self.now.desk.node }
+    {
+        &self.desk.node
+    }
+
+    /// The texts of the cell's last calls, the oldest first. `Memory` where a growth was refused.
+    pub fn trace_lines(&self) -> Result<Vec<String>, Refusal>
+        ensures texts { IfOk result (λ v. map string_bytes v.items ≡ map line_text self.now.trace) }
+        ensures refused { IfErr result (λ e. e ≡ Memory) }
+    {
+        self.trace.lines(self.alloc)
+    }
+}

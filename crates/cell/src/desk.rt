@@ -1,0 +1,30 @@
+// A node at its seat, without its disk.
+ghost use Rattle.std.specs.Prelude.{◌≡◌};
+ghost use Rattle.wire.specs.Readers.{known};
+ghost use Rattle.cell.specs.Desks.{IsSeatAt, IsSavedNode, IsUnsaved, StandsAt};
+
+use ids::Cycle;
+use node::Node;
+use std::snapshot::Snapshot;
+use wire::NodeSeat;
+
+// A node as it stands and as it was saved last, and its seat.
+#[derive(Drop)]
+pub(crate) struct Desk {
+    pub(crate) own: u8,
+    pub(crate) nodes: u8,
+    pub(crate) node: Node,
+    pub(crate) saved: Snapshot<Node>,
+    // The last cycle that the saved state knows to have ended.
+    pub(crate) ended: Cycle,
+    pub(crate) seat: NodeSeat,
+    // For each node the place in the window to it whose frame is sent next.
+    pub(crate) places: [u8; 16],
+    // Whether an event came since the last save or reopening.
+    pub(crate) is_unsaved: bool,
+    ghost at: { IsSeatAt own nodes seat },
+    ghost stands: { StandsAt own nodes (known seat).pair node },
+    ghost was: { IsSavedNode own nodes (known seat).pair.saved saved.value },
+    ghost ended_is: { ended.number ≡ (known seat).pair.saved.local.phases.ended },
+    ghost unsaved: { IsUnsaved is_unsaved (known seat).pair },
+}

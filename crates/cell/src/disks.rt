@@ -1,0 +1,90 @@
+// What a disk does for the node at a desk.
+ghost use Rattle.std.specs.Prelude.{◌≡◌, false, replicate};
+ghost use Rattle.model.specs.View.{kept_view};
+ghost use Rattle.image.specs.Images.{image_of};
+ghost use Rattle.image.specs.Nodes.{IsImageOf};
+ghost use Rattle.wire.specs.Readers.{known, IsSeatOf, IsSame};
+ghost use Rattle.cell.specs.Desks.{IsAtSeat};
+ghost use Rattle.cell.specs.Disks.{is_same_image};
+ghost use Rattle.cell.specs.Events.{reopened_by, saved_by};
+
+use crate::desk::Desk;
+use crate::entering::{enter_found, enter_save};
+use ids::Cycle;
+use node::Node;
+use std::snapshot::Snapshot;
+use wire::{NodeSeat, Wire};
+
+// The last cycle that a node knows to have ended.
+fn ended_by(node: &Node) -> Cycle
+    ensures { result.number ≡ node.now.local.phases.ended }
+{
+    Cycle {
+        number: node.state().ended,
+    }
+}
+
+impl Desk {
+    // A node that is read from the bytes of its image, at its seat.
+    pub(crate) fn new(node: Node, seat: NodeSeat) -> Desk
+        requires seat { IsAtSeat node seat }
+        requires image { IsImageOf (image_of node) node }
+        ensures node { result.node ≡ node }
+        ensures seat { result.seat ≡ seat }
+        ensures saved { result.saved.value ≡ node }
+        ensures places { result.places ≡ replicate 16 0 }
+        ensures unsaved { result.is_unsaved ≡ false }
+    {
+        let state = node.state();
+        Desk {
+            own: state.own,
+            nodes: state.shape.nodes(),
+            saved: Snapshot::of(&node),
+            ended: ended_by(&node),
+            node,
+            seat,
+            places: [0; 16],
+            is_unsaved: false,
+        }
+    }
+
+    // Its node was saved, and its image is read.
+    pub(crate) fn save(&mut self, wire: &Wire)
+        requires wire { IsSeatOf wire.now self.old.seat }
+        requires image { IsImageOf (image_of self.old.node) (kept_view self.old.node) }
+        ensures same { IsSame self.old.seat self.new.seat }
+        ensures known { known self.new.seat ≡ saved_by (known self.old.seat) }
+        ensures node { self.new.node ≡ kept_view self.old.node }
+        ensures saved { self.new.saved.value ≡ kept_view self.old.node }
+        ensures places { self.new.places ≡ self.old.places }
+        ensures unsaved { self.new.is_unsaved ≡ false }
+    {
+        self.node.kept();
+        self.saved = Snapshot::of(&self.node);
+        self.ended = ended_by(&self.node);
+        enter_save(wire, &mut self.seat);
+        self.is_unsaved = false;
+    }
+
+    // This node was found on its disk: the one that was saved last, or its own as it stands.
+    pub(crate) fn reopen(&mut self, wire: &Wire, found: Node)
+        requires wire { IsSeatOf wire.now self.old.seat }
+        requires image { IsImageOf (image_of found) found }
+        requires which { is_same_image found self.old.saved.value ≡ false
+            → found ≡ kept_view self.old.node }
+        ensures same { IsSame self.old.seat self.new.seat }
+        ensures known { known self.new.seat
+            ≡ reopened_by (is_same_image found self.old.saved.value) (known self.old.seat) }
+        ensures node { self.new.node ≡ found }
+        ensures saved { self.new.saved.value ≡ found }
+        ensures places { self.new.places ≡ replicate 16 0 }
+        ensures unsaved { self.new.is_unsaved ≡ false }
+    {
+        enter_found(wire, &mut self.seat, &found, &self.saved);
+        self.saved = Snapshot::of(&found);
+        self.ended = ended_by(&found);
+        self.node = found;
+        self.places = [0; 16];
+        self.is_unsaved = false;
+    }
+}

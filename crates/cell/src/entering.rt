@@ -1,0 +1,44 @@
+// How an event enters the history of the space.
+ghost use Rattle.std.specs.Prelude.{◌≡◌};
+ghost use Rattle.model.specs.declared.step.Step.{Step as StepOf};
+ghost use Rattle.wire.specs.Views.{Pair, ticks};
+ghost use Rattle.wire.specs.Plays.{Happens};
+ghost use Rattle.wire.specs.Readers.{known, IsSeatOf, IsSame};
+ghost use Rattle.cell.specs.Events.{saved_by};
+
+use model::{Event, Step};
+use node::Node;
+use std::snapshot::Snapshot;
+use wire::{NodeSeat, Wire};
+
+// Enters a step of the seat's node that the event is. Proofs alone read the two.
+pub(crate) fn enter(wire: &Wire, seat: &mut NodeSeat, _step: Step, _event: &Event)
+    ghost happened: { StepOf × Pair }
+    requires wire { IsSeatOf wire.now seat.old }
+    requires event { Happens (known seat.old) happened.0 happened.1 }
+    ensures same { IsSame seat.old seat.new }
+    ensures ticked { known seat.new ≡ ticks happened.0 happened.1 (known seat.old) }
+{
+    wire.tick(seat);
+}
+
+// Enters a save of the seat's node.
+pub(crate) fn enter_save(wire: &Wire, seat: &mut NodeSeat)
+    requires wire { IsSeatOf wire.now seat.old }
+    ensures same { IsSame seat.old seat.new }
+    ensures ticked { known seat.new ≡ saved_by (known seat.old) }
+{
+    wire.tick(seat);
+}
+
+// Enters the restart, or the save, of the seat's node by which this node was found on its disk.
+// Proofs alone read the two nodes.
+pub(crate) fn enter_found(wire: &Wire, seat: &mut NodeSeat, _found: &Node, _saved: &Snapshot<Node>)
+    ghost happened: { StepOf × Pair }
+    requires wire { IsSeatOf wire.now seat.old }
+    requires event { Happens (known seat.old) happened.0 happened.1 }
+    ensures same { IsSame seat.old seat.new }
+    ensures ticked { known seat.new ≡ ticks happened.0 happened.1 (known seat.old) }
+{
+    wire.tick(seat);
+}

@@ -1,0 +1,18 @@
+//! A node at its seat on a wire, with the disk that it is saved on: each call is one event of the
+//! space, or none.
+#![tactic(auto)]
+
+mod cell;
+mod desk;
+mod disks;
+mod entering;
+mod events;
+mod pumped;
+mod sending;
+mod tracing;
+
+pub use cell::Cell;
+pub use pumped::{Inbound, Outbound};
+
+#[cfg(test)]
+mod tests;

@@ -1,0 +1,19 @@
+use model::Answer;
+
+/// What came in from another node.
+#[derive(Clone, Copy, Debug, PartialEq, Eq)]
+pub enum Inbound {
+    /// The mailbox wasn't full.
+    Empty,
+    /// The node was given the frame that was there, and answered this.
+    Event(Answer),
+}
+
+/// What went out to another node.
+#[derive(Clone, Copy, Debug, PartialEq, Eq)]
+pub enum Outbound {
+    /// A frame was put into the mailbox.
+    Sent,
+    /// The mailbox wasn't empty.
+    Full,
+}

@@ -1,0 +1,182 @@
+// Frames between the node at a desk and others.
+ghost use Rattle.std.specs.Prelude.{
+  ◌≡◌,
+  ◌≢◌,
+  ◌<◌,
+  IsTrue,
+  IfErr,
+  IfOk,
+  MatchOption,
+  slice_get,
+  slice_index_or,
+  ℕ,
+  Some,
+};
+ghost use Rattle.ids.specs.declared.refusal.Refusal.TheVariants.{Memory};
+ghost use Rattle.msg.specs.Frames.{plain};
+ghost use Rattle.model.specs.View.{is_other};
+ghost use Rattle.wire.specs.Rule.{receiver, sender, Spells};
+ghost use Rattle.wire.specs.Plays.{IsReleased, Releases};
+ghost use Rattle.wire.specs.Views.{marks, notes};
+ghost use Rattle.wire.specs.Readers.{
+  known,
+  inbox,
+  outbox,
+  raised_cycle,
+  IsRaisedOf,
+  seat_node,
+  width,
+  IsSeatOf,
+  IsSame,
+};
+ghost use Rattle.cell.specs.Events.{emptied, Handled};
+ghost use Rattle.cell.specs.Sending.{frame_due, next_place, places_after, IsSent};
+
+use crate::desk::Desk;
+use ids::Refusal;
+use model::{Answer, Event, Step};
+use msg::{Frame, decode, encode};
+use node::Node;
+use std::alloc::Global;
+use wire::{NodeSeat, Raised, Wire};
+
+// The frame that a node sends next to another one, where this is the place in the window; and the
+// place after it.
+fn due(node: &Node, to: u8, place: u8) -> (Frame, u8)
+    requires { IsTrue (is_other node.now.local to) }
+    ensures frame { plain result.0 ≡ frame_due node.now to place }
+    ensures next { result.1 ≡ next_place node.now to place }
+{
+    if let Some(frame) = node.frame_at(to, place) {
+        return (frame, place + 1);
+    }
+    match node.ack_for(to) {
+        Some(frame) => (frame, 0),
+        None => unreachable!(),
+    }
+}
+
+// Sends the frame that is next, by its bytes, where the mailbox is empty. Proofs alone read the
+// node and the place.
+fn send(wire: &Wire, seat: &mut NodeSeat, _node: &Node, to: u8, _place: u8, bytes: Vec<u8>) -> bool
+    requires wire { IsSeatOf wire.now seat.old }
+    requires to { (to < width wire.now) × (to ≢ seat_node seat.old) }
+    requires spelled { Spells (frame_due _node.now to _place) bytes.items }
+    requires released { Releases (known seat.old).me (known seat.old).pair.saved
+        (frame_due _node.now to _place) }
+    requires receiver { receiver (frame_due _node.now to _place) ≡ to }
+    ensures same { IsSame seat.old seat.new }
+    ensures sent { IsSent (outbox seat.old to) (frame_due _node.now to _place) result
+        (known seat.old) (known seat.new) }
+{
+    let Some(claim) = wire.claim(seat, to) else {
+        return false;
+    };
+    wire.post(seat, claim, bytes);
+    true
+}
+
+impl Desk {
+    // Sends the frame that is next to another node, and says whether the mailbox was empty.
+    pub(crate) fn send(&mut self, wire: &Wire, alloc: Global, to: u8) -> Result<bool, Refusal>
+        requires wire { IsSeatOf wire.now self.old.seat }
+        requires other { IsTrue (is_other self.old.node.local to) }
+        ensures same { IsSame self.old.seat self.new.seat }
+        ensures sent { IfOk result (λ sent. IsSent (outbox self.old.seat to)
+            (frame_due self.old.node to (slice_index_or self.old.places to 0)) sent
+            (known self.old.seat) (known self.new.seat)) }
+        ensures places { IfOk result (λ sent. self.new.places
+            ≡ places_after sent self.old.node to self.old.places) }
+        ensures refused { IfErr result (λ e. (e ≡ Memory) × (self.new.seat ≡ self.old.seat)
+            × (self.new.places ≡ self.old.places)) }
+        ensures node { self.new.node ≡ self.old.node }
+        ensures saved { self.new.saved.value ≡ self.old.saved.value }
+        ensures unsaved { self.new.is_unsaved ≡ self.old.is_unsaved }
+    {
+        let place = self.places[usize::from(to)];
+        let (frame, next) = due(&self.node, to, place);
+        let bytes = encode(alloc, &frame)?;
+        let is_sent = send(wire, &mut self.seat, &self.node, to, place, bytes);
+        if is_sent {
+            self.places[usize::from(to)] = next;
+        }
+        Ok(is_sent)
+    }
+
+    // Takes the frame that is there from another node, and empties its mailbox. None where that
+    // wasn't full.
+    pub(crate) fn take(&mut self, wire: &Wire, from: u8) -> Option<Frame>
+        requires wire { IsSeatOf wire.now self.old.seat }
+        requires other { IsTrue (is_other self.old.node.local from) }
+        ensures same { IsSame self.old.seat self.new.seat }
+        ensures taken { MatchOption result
+            (((known self.new.seat).read ≢ 1)
+            × (known self.new.seat ≡ notes (known self.new.seat).read (known self.old.seat)))
+            (λ f. (sender (plain f) ≡ from) × (receiver (plain f) ≡ (known self.old.seat).me)
+            × IsReleased (known self.old.seat).opening (plain f)
+            × (known self.new.seat
+            ≡ emptied (inbox self.old.seat from) (plain f) (known self.old.seat))) }
+        ensures node { self.new.node ≡ self.old.node }
+        ensures saved { self.new.saved.value ≡ self.old.saved.value }
+        ensures places { self.new.places ≡ self.old.places }
+        ensures unsaved { self.new.is_unsaved ≡ self.old.is_unsaved }
+    {
+        let taken = wire.take(&mut self.seat, from)?;
+        let bytes = wire.clear(&mut self.seat, taken);
+        match decode(&bytes) {
+            Ok(frame) => Some(frame),
+            Err(_) => unreachable!(),
+        }
+    }
+
+    // Shows the cycle that the saved state knows to have ended.
+    pub(crate) fn raise(&mut self, wire: &Wire) -> Raised
+        requires wire { IsSeatOf wire.now self.old.seat }
+        requires first { self.old.own ≡ 0 }
+        ensures same { IsSame self.old.seat self.new.seat }
+        ensures cycle { raised_cycle result
+            ≡ (known self.old.seat).pair.saved.local.phases.ended }
+        ensures of { IsRaisedOf wire.now result }
+        ensures known { known self.new.seat
+            ≡ marks (known self.old.seat).pair.saved.local.phases.ended (known self.old.seat) }
+        ensures node { self.new.node ≡ self.old.node }
+        ensures saved { self.new.saved.value ≡ self.old.saved.value }
+        ensures places { self.new.places ≡ self.old.places }
+        ensures unsaved { self.new.is_unsaved ≡ self.old.is_unsaved }
+    {
+        wire.raise(&mut self.seat, self.ended)
+    }
+
+    // Whether this is another node of the space.
+    pub(crate) fn is_other(&self, node: u8) -> bool
+        ensures { result ≡ is_other self.now.node.local node }
+    {
+        node < self.nodes && node != self.own
+    }
+
+    // Gives the node a frame that was taken from another one.
+    pub(crate) fn handle(&mut self, wire: &Wire, frame: Frame) -> Result<Answer, Refusal>
+        requires wire { IsSeatOf wire.now self.old.seat }
+        requires taken { (k : ℕ)
+            × (slice_get (known self.old.seat).taken k ≡ Some (plain frame)) }
+        requires sender { sender (plain frame) < (known self.old.seat).nodes }
+        requires receiver { receiver (plain frame) ≡ (known self.old.seat).me }
+        ensures handled { Handled frame result self.old.node self.new.node
+            (known self.old.seat) (known self.new.seat) }
+        ensures same { IsSame self.old.seat self.new.seat }
+        ensures saved { self.new.saved.value ≡ self.old.saved.value }
+        ensures places { self.new.places ≡ self.old.places }
+    {
+        match frame {
+            Frame::Data(data) => {
+                let step = Step::Deliver {
+                    from: data.from,
+                    to: data.to,
+                    number: data.number,
+                };
+                self.perform(wire, Event::Data(data), step)
+            }
+            Frame::Ack(ack) => self.acknowledge(ack),
+        }
+    }
+}

@@ -1,0 +1,46 @@
+// What a trace says of a call's answer.
+ghost use Rattle.std.specs.Prelude.{◌≡◌};
+ghost use Rattle.cell.specs.Events.{outcome_of, outcome_of_answer, done_outcome};
+
+use ids::Refusal;
+use model::Answer;
+use trace::Outcome;
+
+fn answer_outcome(answer: &Answer) -> Outcome
+    ensures { result ≡ outcome_of_answer answer.now }
+{
+    match answer {
+        Answer::Repeat => Outcome::Repeat,
+        Answer::Word(_)
+        | Answer::New(_)
+        | Answer::Done
+        | Answer::Value(_)
+        | Answer::Sent(_)
+        | Answer::Letter(_)
+        | Answer::Begun(_)
+        | Answer::Scanned(_)
+        | Answer::Passed(_)
+        | Answer::ProbeAgain
+        | Answer::Ended(_)
+        | Answer::Freed { .. }
+        | Answer::Received => Outcome::Done,
+    }
+}
+
+pub(crate) fn outcome(answered: &Result<Answer, Refusal>) -> Outcome
+    ensures { result ≡ outcome_of answered.now }
+{
+    match answered {
+        Ok(answer) => answer_outcome(answer),
+        Err(refusal) => Outcome::Refused(*refusal),
+    }
+}
+
+pub(crate) fn done(answered: &Result<(), Refusal>) -> Outcome
+    ensures { result ≡ done_outcome answered.now }
+{
+    match answered {
+        Ok(()) => Outcome::Done,
+        Err(refusal) => Outcome::Refused(*refusal),
+    }
+}

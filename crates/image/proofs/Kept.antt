@@ -1,0 +1,179 @@
+-- What a node's readers give of its slots, of its messages and of its links is what its image says.
+use Rattle.std.proofs.Common.{◌≡◌, ◌≢◌, ℕ, zero, suc, ◌+◌, ◌-◌, ◌<◌, ◌≤◌, ◌^◌, ◌==◌, true, false}
+use Rattle.std.proofs.Common.{cond, List, [], ◌∷◌, ◌++◌, length, map, take, drop, get_or, Option}
+use Rattle.std.proofs.Common.{Some, None, ⊎_elim, refl, sym, ap, subst, ◌∙◌, arith}
+use Rattle.std.specs.Prelude.{nat_le, slice_get}
+use Rattle.std.specs.List.{AllByRecursion, flat_map}
+use Rattle.std.proofs.Math.Seq.{take-suc}
+use Rattle.std.proofs.lemmas.Bool.{cases_eq, eq-eqb, ne_eqb, lt-leb}
+use Rattle.std.proofs.lemmas.List.{append-nil, take-append-drop, take_all}
+use Rattle.std.proofs.lemmas.Option.{slice_get-get_or, get_or_from_slice_get}
+use Rattle.arena.specs.declared.Slot.TheVariants as slot
+use Rattle.heap.specs.Heap.{slot_of}
+use Rattle.msg.specs.declared.body.Message.{Message}
+use Rattle.model.specs.State.{Slot, Retired}
+use Rattle.model.specs.References.{no_message}
+use Rattle.model.specs.View.{Link, no_link, message_of}
+use Rattle.image.specs.Links.{StoredLink, StoredSlot}
+use Rattle.image.specs.Images.{stored_slot, stored_link, stored_links, without_at}
+use Rattle.image.proofs.Sizes.{both_longer}
+
+-- ---- slots
+
+stored_back : (x : StoredSlot) → stored_slot (slot_of x) ≡ x
+stored_back (slot.Free g) = refl
+stored_back (slot.Occupied g o) = refl
+stored_back slot.Retired = refl
+
+-- what a heap shows of a slot
+pub slot_there : (slots : List Slot) (k : ℕ) (x : StoredSlot) → k < length slots
+    → slot_of x ≡ get_or slots k Retired → x ≡ get_or (map stored_slot slots) k x
+slot_there [] k x lt e = absurd (omega (arith, lt))
+slot_there (s ∷ ss) zero x lt e = sym (stored_back x) ∙ ap stored_slot e
+slot_there (s ∷ ss) (suc k) x lt e = slot_there ss k x (omega (arith, lt)) e
+
+-- ---- messages
+
+-- the message after so many that are kept
+message_kept : (l : Link) (place : ℕ)
+    → message_of l (l.base + 1 + place) ≡ slice_get l.unacknowledged place
+message_kept l place =
+    let above : nat_le (l.base + 1 + place) l.base ≡ false =
+    lt-leb (l.base + 1 + place) l.base (omega arith) in
+    let at : l.base + 1 + place - l.base - 1 ≡ place = omega arith in
+    rw (above, at) refl
+
+pub message_there : (l : Link) (number place : ℕ) (x : Message) → number ≡ l.base + 1 + place
+    → message_of l number ≡ Some x → x ≡ get_or l.unacknowledged place x
+message_there l number place x e some =
+    sym
+    (get_or_from_slice_get l.unacknowledged place x x
+    (sym (message_kept l place) ∙ ap (message_of l) (sym e) ∙ some))
+
+pub message_missing : (l : Link) (number place : ℕ) → number ≡ l.base + 1 + place
+    → place < length l.unacknowledged → message_of l number ≡ None → ⊥
+message_missing l number place e lt none =
+    let there : ◌≡◌ {A = Option Message} (Some (get_or l.unacknowledged place no_message)) None =
+    sym (slice_get-get_or l.unacknowledged place no_message lt)
+    ∙ sym (message_kept l place) ∙ ap (message_of l) (sym e) ∙ none in
+    absurd cc
+
+-- ---- links
+
+pub count_stored : (links : List Link) (got : List ℕ) → length got ≡ length links
+    → length (stored_links links got) ≡ length links
+count_stored [] got same = refl
+count_stored (l ∷ ls) [] same = absurd (omega (arith, same))
+count_stored (l ∷ ls) (g ∷ gs) same = ap suc (count_stored ls gs (omega (arith, same)))
+
+stored_there : (links : List Link) (got : List ℕ) (k : ℕ) (d : StoredLink) → k < length links
+    → length got ≡ length links
+    → get_or (stored_links links got) k d ≡ stored_link (get_or links k no_link) (get_or got k 0)
+stored_there [] got k d lt same = absurd (omega (arith, lt))
+stored_there (l ∷ ls) [] k d lt same = absurd (omega (arith, same))
+stored_there (l ∷ ls) (g ∷ gs) zero d lt same = refl
+stored_there (l ∷ ls) (g ∷ gs) (suc k) d lt same =
+    stored_there ls gs k d (omega (arith, lt)) (omega (arith, same))
+
+pub all_stored : (links : List Link) (got : List ℕ) (k : ℕ) → length got ≡ length links
+    → length links ≤ k → take k (stored_links links got) ≡ stored_links links got
+all_stored links got k same past =
+    let count = count_stored links got same in
+    take_all k (stored_links links got) (omega (arith, count, past))
+
+without_own : {A : Type 0} (own : ℕ) (xs : List A)
+    → without_at own (take (suc own) xs) ≡ without_at own (take own xs)
+without_own zero [] = refl
+without_own zero (x ∷ xs) = refl
+without_own (suc own) [] = refl
+without_own {A = A} (suc own) (x ∷ xs) = ap (λ (ys : List A). x ∷ ys) (without_own own xs)
+
+without_other : {A : Type 0} (own k : ℕ) (xs : List A) (d : A) → k ≢ own → k < length xs
+    → without_at own (take (suc k) xs) ≡ without_at own (take k xs) ++ get_or xs k d ∷ []
+without_other own k [] d other lt = absurd (omega (arith, lt))
+without_other zero zero (x ∷ xs) d other lt = absurd (other refl)
+without_other zero (suc k) (x ∷ xs) d other lt = take-suc xs k d (omega (arith, lt))
+without_other (suc own) zero (x ∷ xs) d other lt = refl
+without_other {A = A} (suc own) (suc k) (x ∷ xs) d other lt =
+    ap (λ (ys : List A). x ∷ ys)
+    (without_other own k xs d (λ e. other (ap suc e)) (omega (arith, lt)))
+
+-- one more link, unless it is the one to the node itself
+pub others_more : (own k : ℕ) (links : List Link) (got : List ℕ) → k < length links
+    → length got ≡ length links
+    → without_at own (take (k + 1) (stored_links links got))
+    ≡ without_at own (take k (stored_links links got))
+    ++ cond (k == own) [] (stored_link (get_or links k no_link) (get_or got k 0) ∷ [])
+others_more own k links got lt same =
+    let xs : List StoredLink = stored_links links got in
+    let one : StoredLink = stored_link (get_or links k no_link) (get_or got k 0) in
+    let more : k + 1 ≡ suc k = omega arith in
+    ⊎_elim {C = without_at own (take (k + 1) xs)
+    ≡ without_at own (take k xs) ++ cond (k == own) [] (one ∷ [])}
+    (λ (here : k ≡ own).
+    let test : (k == own) ≡ true = eq-eqb k own here in
+    let same_first : without_at own (take (suc own) xs) ≡ without_at own (take own xs) =
+    without_own own xs in
+    rw (more, test, here)
+    (same_first ∙ sym (append-nil (without_at own (take own xs)))))
+    (λ (there : k ≢ own).
+    let test : (k == own) ≡ false = ne_eqb k own there in
+    let at : get_or xs k one ≡ one = stored_there links got k one lt same in
+    let within : k < length xs = subst (λ (n : ℕ). k < n) (sym (count_stored links got same)) lt in
+    rw (more, test)
+    (without_other own k xs one there within
+    ∙ ap (λ (x : StoredLink). without_at own (take k xs) ++ x ∷ []) at))
+    (cases_eq k own)
+
+without_none : {A : Type 0} (own k : ℕ)
+    → ◌≡◌ {A = List A} (without_at own []) (without_at own (take k []) ++ [])
+without_none own zero = refl
+without_none own (suc k) = refl
+
+-- the links to the first nodes come first
+without_first : {A : Type 0} (own k : ℕ) (xs : List A)
+    → (ys : List A) × (without_at own xs ≡ without_at own (take k xs) ++ ys)
+without_first own k [] = ([], without_none own k)
+without_first zero zero (x ∷ xs) = (xs, refl)
+without_first zero (suc k) (x ∷ xs) = (drop k xs, sym (take-append-drop k xs))
+without_first (suc own) zero (x ∷ xs) = (x ∷ without_at own xs, refl)
+without_first {A = A} (suc own) (suc k) (x ∷ xs) =
+    let p = without_first own k xs in
+    (p.0, ap (λ (ys : List A). x ∷ ys) p.1)
+
+pub first_shorter : {A : Type 0} (spell : A → List ℕ) (own k : ℕ) (xs : List A)
+    → length (flat_map spell (without_at own (take k xs)))
+    ≤ length (flat_map spell (without_at own xs))
+first_shorter {A = A} spell own k xs =
+    let p = without_first own k xs in
+    let all : length (flat_map spell (without_at own xs))
+    ≡ length (flat_map spell (without_at own (take k xs))) + length (flat_map spell p.0) =
+    ap (λ (ys : List A). length (flat_map spell ys)) p.1
+    ∙ both_longer spell (without_at own (take k xs)) p.0 in
+    omega (arith, all)
+
+-- ---- how many messages the links keep
+
+abbrev pub IsShort : StoredLink → Type 0
+IsShort l = length l.unacknowledged < 2 ^ 32
+
+all_short : (links : List Link) (got : List ℕ) → length got ≡ length links
+    → AllByRecursion IsShort (stored_links links got) → (to : ℕ)
+    → length (get_or links to no_link).unacknowledged < 2 ^ 32
+all_short [] got same all to = omega arith
+all_short (l ∷ ls) [] same all to = absurd (omega (arith, same))
+all_short (l ∷ ls) (g ∷ gs) same all zero = all.0
+all_short (l ∷ ls) (g ∷ gs) same all (suc to) =
+    all_short ls gs (omega (arith, same)) all.1 to
+
+pub others_short : (own : ℕ) (links : List Link) (got : List ℕ) → length got ≡ length links
+    → AllByRecursion IsShort (without_at own (stored_links links got)) → (to : ℕ) → to ≢ own
+    → length (get_or links to no_link).unacknowledged < 2 ^ 32
+others_short own [] got same all to other = omega arith
+others_short own (l ∷ ls) [] same all to other = absurd (omega (arith, same))
+others_short zero (l ∷ ls) (g ∷ gs) same all zero other = absurd (other refl)
+others_short zero (l ∷ ls) (g ∷ gs) same all (suc to) other =
+    all_short ls gs (omega (arith, same)) all to
+others_short (suc own) (l ∷ ls) (g ∷ gs) same all zero other = all.0
+others_short (suc own) (l ∷ ls) (g ∷ gs) same all (suc to) other =
+    others_short own ls gs (omega (arith, same)) all.1 to (λ e. other (ap suc e))

@@ -1,0 +1,86 @@
+-- The node that an image says is made of what the image says.
+use Rattle.std.proofs.Common.{◌≡◌, ◌≢◌, ℕ, zero, suc, ◌≤◌, List, [], ◌∷◌, ◌++◌, length}
+use Rattle.std.proofs.Common.{map, Result, Ok, Err}
+use Rattle.std.proofs.Common.{refl, sym, ap, ◌∙◌, subst, arith}
+use Rattle.std.specs.Prelude.{IfOk, IfErr, OnOk}
+use Rattle.std.specs.List.{insert}
+use Rattle.std.proofs.lemmas.List.{map-append}
+use Rattle.ids.specs.Limits.{IsShape}
+use Rattle.ids.specs.declared.refusal.Refusal.{Refusal}
+use Rattle.ids.specs.declared.refusal.Refusal.TheVariants.{Memory, BadImage}
+use Rattle.control.specs.Phases.{IsPhases}
+use Rattle.model.specs.View.{NodeView}
+use Rattle.node.specs.Parts.{IsRestorable}
+use Rattle.node.proofs.Restorable.{restorable, standing}
+use Rattle.image.specs.Grammar.{Stored, IsImage}
+use Rattle.image.specs.Nodes.{with_at, node_of, IsStanding, IsImageOf}
+
+pub map-insert : {A B : Type 0} (f : A → B) (k : ℕ) (xs : List A) (x : A) → k ≤ length xs
+    → map f (insert xs k x) ≡ with_at k (f x) (map f xs)
+map-insert f zero xs x within = refl
+map-insert f (suc k) [] x within = absurd (omega (arith, within))
+map-insert {B = B} f (suc k) (y ∷ ys) x within =
+    ap (λ (zs : List B). f y ∷ zs) (map-insert f k ys x (omega (arith, within)))
+
+-- one more in each of two lists that say the same
+pub same_more : {A B C : Type 0} (f : A → C) (g : B → C) (xs : List A) (ys : List B) (x : A) (y : B)
+    → map f xs ≡ map g ys → f x ≡ g y → map f (xs ++ x ∷ []) ≡ map g (ys ++ y ∷ [])
+same_more {C = C} f g xs ys x y same one =
+    map-append f xs (x ∷ []) ∙ ap (λ (zs : List C). zs ++ f x ∷ []) same
+    ∙ ap (λ (z : C). map g ys ++ z ∷ []) one ∙ sym (map-append g ys (y ∷ []))
+
+-- what the call of the node gave, said of the node that it stands for
+module _ (given said : NodeView) (same : given ≡ said) where
+  pub gives_said : (r : Result NodeView Refusal) → IfOk r (λ n. n ≡ given)
+      → IfOk r (λ n. n ≡ said)
+  gives_said r made = subst (λ (m : NodeView). IfOk r (λ n. n ≡ m)) same made
+
+  pub said_stands : (r : Result NodeView Refusal) → IsShape given.local.shape
+      → IsPhases given.local.phases → OnOk r (IsRestorable given) → OnOk r (IsStanding said)
+  said_stands (Ok n) shape phases is =
+      subst IsStanding same
+      (record { node = standing given shape phases is; slots = is.heap.slots })
+  said_stands (Err e) shape phases is = tt
+
+  pub said_refused : (r : Result NodeView Refusal)
+      → IfErr r (λ e. e ≢ Memory → (e ≡ BadImage) × (IsRestorable given → ⊥))
+      → IfErr r (λ e. e ≢ Memory → (e ≡ BadImage) × (IsStanding said → ⊥))
+  said_refused (Ok n) refused = tt
+  said_refused (Err e) refused = λ other.
+      let h = refused other in (
+        h.0,
+        λ is.
+            let there : IsStanding given = subst IsStanding (sym same) is in
+            h.1 (restorable given there.node there.slots),
+      )
+
+module _ (bytes : List ℕ) where
+  pub is_image : (s : Stored) (r : Result NodeView Refusal) → IsImage bytes s
+      → IfOk r (λ n. n ≡ node_of s) → OnOk r (IsStanding (node_of s)) → IfOk r (IsImageOf bytes)
+  is_image s (Ok n) image made stands = record {
+    spelled = record { says = s; image = image; node = sym made };
+    stands = subst IsStanding (sym made) stands;
+  }
+  is_image s (Err e) image made stands = tt
+
+  abbrev IsOfNone : Refusal → Type 0
+  IsOfNone e = e ≢ Memory → (e ≡ BadImage) × ((n : NodeView) → IsImageOf bytes n → ⊥)
+
+  pub is_none : (s : Stored) (r : Result NodeView Refusal)
+      → ((t : Stored) → IsImage bytes t → s ≡ t)
+      → IfErr r (λ e. e ≢ Memory → (e ≡ BadImage) × (IsStanding (node_of s) → ⊥))
+      → IfErr r IsOfNone
+  is_none s (Ok n) only refused = tt
+  is_none s (Err e) only refused = λ other.
+      let h = refused other in (
+        h.0,
+        λ n is.
+            let same : node_of s ≡ n =
+            ap node_of (only is.spelled.says is.spelled.image) ∙ is.spelled.node in
+            h.1 (subst IsStanding (sym same) is.stands),
+      )
+
+  pub spells_none : (e : Refusal)
+      → (e ≢ Memory → (e ≡ BadImage) × ((s : Stored) → IsImage bytes s → ⊥)) → IsOfNone e
+  spells_none e refused = λ other.
+      let h = refused other in (h.0, λ n is. h.1 is.spelled.says is.spelled.image)

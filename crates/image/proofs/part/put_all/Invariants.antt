@@ -1,0 +1,11 @@
+use Rattle.std.proofs.Common.{◌≡◌, ◌++◌, take}
+use Rattle.std.specs.List.{flat_map, AllByRecursion}
+use Rattle.image.proofs.part.put_all.Given as goal
+
+abbrev pub invariant-loop-part : goal.invariant-loop-part
+invariant-loop-part g l =
+    record {
+      written : l.out.items
+          ≡ l.fn.out.items ++ flat_map g.T.Part.spell (take l.part-index l.parts);
+      width : AllByRecursion g.T.Part.of_width (take l.part-index l.parts);
+    }

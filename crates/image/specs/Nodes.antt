@@ -1,0 +1,87 @@
+-- Which node an image says.
+use Rattle.std.specs.Prelude.{◌≡◌, ℕ, zero, suc, ◌+◌, ◌==◌, if◌then◌else◌, List, [], ◌∷◌, length}
+use Rattle.std.specs.Prelude.{map, replicate}
+use Rattle.heap.specs.Heap.{slot_of, IsSlotted}
+use Rattle.node.specs.Invariant.{IsNode}
+use Rattle.model.specs.View.{Link, NodeView, no_link}
+use Rattle.image.specs.declared.parts.Head.{Head}
+use Rattle.image.specs.Links.{StoredLink}
+use Rattle.image.specs.Grammar.{Stored, IsImage}
+
+-- all messages count as saved
+abbrev pub link_of : StoredLink → Link
+link_of l = record {
+  base = l.base;
+  unacknowledged = l.unacknowledged;
+  kept = l.base + length l.unacknowledged;
+}
+
+abbrev pub received_of : StoredLink → ℕ
+received_of l = l.received
+
+-- a list that has an element more, at this place
+abbrev pub with_at : {A : Type 0} → ℕ → A → List A → List A
+with_at zero a xs = a ∷ xs
+with_at (suc k) a [] = []
+with_at (suc k) a (x ∷ xs) = x ∷ with_at k a xs
+
+-- for each node a report: node 0 has none of itself, and the other nodes have none
+abbrev pub reports_of : Head → List ℕ → List ℕ
+reports_of h told = if h.own == 0 then 0 ∷ told else replicate h.nodes 0
+
+-- for each node how many of its messages were taken in: none of its own
+abbrev pub got_of : Stored → List ℕ
+got_of s = with_at s.head.own 0 (map received_of s.links)
+
+-- The node that is said, all of whose messages and numbers count as saved. It sends itself nothing.
+abbrev pub node_of : Stored → NodeView
+node_of s = record {
+  local = record {
+    shape = record {
+      nodes = s.head.nodes;
+      registers = s.head.registers;
+      slots = s.head.slots;
+    };
+    own = s.head.own;
+    heap = record {
+      slots = map slot_of s.slots;
+      free = s.free;
+      registers = s.registers;
+      letters = s.letters;
+      grey = s.grey;
+    };
+    asked = s.asked;
+    phases = record {
+      cycle = s.phases.cycle;
+      ended = s.phases.ended;
+      swept = s.phases.swept;
+      cursor = s.phases.cursor;
+      reports = reports_of s.head s.reports;
+    };
+    ring = record {
+      colour = s.ring.colour;
+      earlier = s.ring.earlier;
+      recent = s.ring.recent;
+      token = s.ring.token;
+    };
+    got = got_of s;
+  };
+  links = with_at s.head.own no_link (map link_of s.links);
+  acks = got_of s;
+}
+
+-- the bytes spell the node
+pub record Spells (bytes : List ℕ) (n : NodeView) : Type 0 where
+  pub says : Stored
+  pub image : IsImage bytes says
+  pub node : node_of says ≡ n
+
+-- a node that stands, in a space of its shape
+pub record IsStanding (n : NodeView) : Type 0 where
+  pub node : IsNode n
+  pub slots : IsSlotted n.local.heap n.local.shape.slots
+
+-- the bytes are the image of the node
+pub record IsImageOf (bytes : List ℕ) (n : NodeView) : Type 0 where
+  pub spelled : Spells bytes n
+  pub stands : IsStanding n

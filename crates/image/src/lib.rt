@@ -1,0 +1,26 @@
+//! A saved node as bytes, its image.
+//!
+//! [`to_bytes`] writes it, [`from_bytes`] makes a node of it. docs/FORMATS.md has the table of its
+//! parts ("Images"), `specs/Grammar.antt` their spelling.
+#![tactic(auto)]
+
+mod elements;
+mod law;
+mod links;
+mod measuring;
+mod part;
+mod parts;
+mod reading;
+mod restoring;
+mod saving;
+mod saying;
+mod slots;
+mod tags;
+mod writing;
+
+pub use law::{grammar, nodes_saved, nodes_spelled};
+pub use restoring::from_bytes;
+pub use saving::to_bytes;
+
+#[cfg(test)]
+mod tests;

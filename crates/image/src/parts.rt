@@ -1,0 +1,86 @@
+//! A node as the parts that its image says.
+ghost use Rattle.std.specs.Prelude.{◌≡◌, ◌≤◌, ◌<◌, ◌^◌, length, IsSome, IfSome, ◌↔◌};
+
+use heap::{Object, Slot};
+use ids::Ref;
+use model::Letter;
+use msg::{Colour, Message, Token};
+use std::marker::Model;
+
+/// The sizes of the space, and the node's own number.
+#[derive(Clone, Copy, Debug, PartialEq, Eq)]
+pub(crate) struct Head {
+    pub nodes: u8,
+    pub own: u8,
+    pub registers: u16,
+    pub slots: u32,
+}
+
+/// How far the node's collection cycle is.
+#[derive(Clone, Copy, Debug, PartialEq, Eq)]
+pub(crate) struct PhasesParts {
+    pub cycle: u64,
+    pub ended: u64,
+    pub swept: u64,
+    /// The next slot to be swept.
+    pub cursor: u32,
+}
+
+/// The node's part of the ring that finds the end of marking: its colour, its balances of the
+/// messages that count in the current cycle and of those that the next one counts, and the token
+/// where the node holds it.
+#[derive(Clone, Copy, Debug, PartialEq, Eq)]
+pub(crate) struct RingParts {
+    pub colour: Colour,
+    pub earlier: i64,
+    pub recent: i64,
+    pub token: Option<Token>,
+}
+
+/// What the node holds of the links between it and another one: the highest number of its own
+/// messages that was acknowledged, the messages after it, and the number of the other's message
+/// that was taken in last.
+#[derive(Debug, Drop)]
+pub(crate) struct StoredLink {
+    pub base: u64,
+    pub unacknowledged: Vec<Message>,
+    pub received: u64,
+}
+
+impl Model for StoredLink {
+    ghost use Rattle.image.specs.Links.{StoredLink};
+
+    ghost Value = { StoredLink };
+
+    ghost view = { λ l. record {
+      base = l.base;
+      unacknowledged = l.unacknowledged.items;
+      received = l.received;
+    } };
+
+    ghost use Rattle.std.specs.Prelude.{◌<◌, ◌^◌, length};
+
+    ghost invariant = { λ l. length l.unacknowledged.items < 2 ^ 32 };
+}
+
+/// All that an image says of a node.
+#[derive(Drop)]
+pub(crate) struct NodeParts {
+    pub head: Head,
+    pub phases: PhasesParts,
+    pub ring: RingParts,
+    /// At node 0 what each other node reported to have swept, in ascending order; elsewhere none.
+    pub reports: Vec<u64>,
+    pub registers: Vec<Option<Ref>>,
+    pub slots: Vec<Slot<Object>>,
+    /// The free slots, the next to be used first.
+    pub free: Vec<u32>,
+    /// The slots of the marked objects that are still to be scanned; the last is scanned first.
+    pub grey: Vec<u32>,
+    /// The references of other nodes that were asked for in this cycle, in order.
+    pub asked: Vec<Ref>,
+    /// The letters that wait for the program, oldest first.
+    pub letters: Vec<Letter>,
+    /// The links to the other nodes, in ascending order.
+    pub links: Vec<StoredLink>,
+}

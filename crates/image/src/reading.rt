@@ -1,0 +1,400 @@
+//! Bytes as the parts of a node.
+ghost use Rattle.std.specs.Prelude.{◌≡◌, ◌≢◌, ◌≤◌, length, IfOk, IfErr, IfSome};
+ghost use Rattle.std.specs.Option.{option_map};
+ghost use Rattle.std.specs.Result.{IsOkAnd};
+ghost use Rattle.ids.specs.declared.refusal.Refusal.TheVariants.{BadImage, Memory};
+ghost use Rattle.ids.specs.declared.limits.TheConstants.{GREATEST_PLACES};
+ghost use Rattle.msg.specs.Reading.{number_at};
+ghost use Rattle.image.specs.Grammar.{Stored, Fits, spelling, reports_told, links_told};
+ghost use Rattle.image.specs.Parts.{stored_of};
+ghost use Rattle.image.specs.Reading.{
+  Gives,
+  version_at,
+  nodes_at,
+  sizes_at,
+  head_at,
+  cycles_at,
+  phases_at,
+  balances_at,
+  held_at,
+  ring_at,
+  limited_reference_at,
+  limited_optional_at,
+  limited_body_at,
+  width_at,
+  places_at,
+  object_at,
+  occupied_at,
+  slot_at,
+  letter_at,
+  message_at,
+  link_at,
+  image_at,
+  whole,
+};
+
+use crate::part::{counted, many};
+use crate::parts::{Head, NodeParts, PhasesParts, RingParts, StoredLink};
+use crate::tags::{ABSENT, FREE, OCCUPIED, PRESENT, RETIRED, START, VERSION};
+use byteorder::{BigEndian, ByteOrder};
+use heap::{Object, Slot};
+use ids::{GREATEST_IMAGE, GREATEST_PLACES, Ref, Refusal};
+use model::Letter;
+use msg::reading::{
+    body_at, colour_at, i64_at, optional_at, reference_at, token_at, u8_at, u32_at, u64_at,
+};
+use msg::{Body, Message, Token, body_fits, optional_fits};
+use std::alloc::Global;
+
+// ---- what stands before the lists
+
+fn u16_at(bytes: &[u8]) -> Option<(u16, &[u8])>
+    ensures { number_at 2 bytes.now ≡ option_map (λ x. (x.0, x.1.now)) result }
+{
+    if bytes.len() < 2 {
+        return None;
+    }
+    Some((BigEndian::read_u16(bytes), &bytes[2..]))
+}
+
+#[tactic(auto, unfolding(crate::specs::Reading::version_at))]
+fn version_at(bytes: &[u8]) -> Option<((u8, u8, u8), &[u8])>
+    ensures { version_at bytes.now ≡ option_map (λ x. (x.0, x.1.now)) result }
+{
+    let (first, rest) = u8_at(bytes)?;
+    let (second, rest) = u8_at(rest)?;
+    let (version, rest) = u8_at(rest)?;
+    if first == START[0] && second == START[1] && version == VERSION {
+        Some(((first, second, version), rest))
+    } else {
+        None
+    }
+}
+
+#[tactic(auto, unfolding(crate::specs::Reading::nodes_at))]
+fn nodes_at(bytes: &[u8]) -> Option<((u8, u8), &[u8])>
+    ensures { nodes_at bytes.now ≡ option_map (λ x. (x.0, x.1.now)) result }
+{
+    let (nodes, rest) = u8_at(bytes)?;
+    let (own, rest) = u8_at(rest)?;
+    if own < nodes {
+        Some(((nodes, own), rest))
+    } else {
+        None
+    }
+}
+
+#[tactic(auto, unfolding(crate::specs::Reading::sizes_at))]
+fn sizes_at(bytes: &[u8]) -> Option<(Head, &[u8])>
+    ensures { sizes_at bytes.now ≡ option_map (λ x. (x.0, x.1.now)) result }
+{
+    let ((nodes, own), rest) = nodes_at(bytes)?;
+    let (registers, rest) = u16_at(rest)?;
+    let (slots, rest) = u32_at(rest)?;
+    let head = Head {
+        nodes,
+        own,
+        registers,
+        slots,
+    };
+    Some((head, rest))
+}
+
+#[tactic(auto, unfolding(crate::specs::Reading::head_at))]
+fn head_at(bytes: &[u8]) -> Option<(Head, &[u8])>
+    ensures { head_at bytes.now ≡ option_map (λ x. (x.0, x.1.now)) result }
+{
+    let (_version, rest) = version_at(bytes)?;
+    let (head, rest) = sizes_at(rest)?;
+    Some((head, rest))
+}
+
+#[tactic(auto, unfolding(crate::specs::Reading::cycles_at))]
+fn cycles_at(bytes: &[u8]) -> Option<((u64, u64, u64), &[u8])>
+    ensures { cycles_at bytes.now ≡ option_map (λ x. (x.0, x.1.now)) result }
+{
+    let (cycle, rest) = u64_at(bytes)?;
+    let (ended, rest) = u64_at(rest)?;
+    let (swept, rest) = u64_at(rest)?;
+    Some(((cycle, ended, swept), rest))
+}
+
+#[tactic(auto, unfolding(crate::specs::Reading::phases_at))]
+fn phases_at(bytes: &[u8]) -> Option<(PhasesParts, &[u8])>
+    ensures { phases_at bytes.now ≡ option_map (λ x. (x.0, x.1.now)) result }
+{
+    let ((cycle, ended, swept), rest) = cycles_at(bytes)?;
+    let (cursor, rest) = u32_at(rest)?;
+    let phases = PhasesParts {
+        cycle,
+        ended,
+        swept,
+        cursor,
+    };
+    Some((phases, rest))
+}
+
+#[tactic(auto, unfolding(crate::specs::Reading::balances_at))]
+fn balances_at(bytes: &[u8]) -> Option<((i64, i64), &[u8])>
+    ensures { balances_at bytes.now ≡ option_map (λ x. (x.0, x.1.now)) result }
+{
+    let (earlier, rest) = i64_at(bytes)?;
+    let (recent, rest) = i64_at(rest)?;
+    Some(((earlier, recent), rest))
+}
+
+#[tactic(auto, unfolding(crate::specs::Reading::held_at))]
+fn held_at(bytes: &[u8]) -> Option<(Option<Token>, &[u8])>
+    ensures { held_at bytes.now ≡ option_map (λ x. (x.0, x.1.now)) result }
+{
+    let (flag, rest) = u8_at(bytes)?;
+    match flag {
+        ABSENT => Some((None, rest)),
+        PRESENT => {
+            let (token, rest) = token_at(rest)?;
+            Some((Some(token), rest))
+        }
+        _ => None,
+    }
+}
+
+#[tactic(auto, unfolding(crate::specs::Reading::ring_at))]
+fn ring_at(bytes: &[u8]) -> Option<(RingParts, &[u8])>
+    ensures { ring_at bytes.now ≡ option_map (λ x. (x.0, x.1.now)) result }
+{
+    let (colour, rest) = colour_at(bytes)?;
+    let ((earlier, recent), rest) = balances_at(rest)?;
+    let (token, rest) = held_at(rest)?;
+    let ring = RingParts {
+        colour,
+        earlier,
+        recent,
+        token,
+    };
+    Some((ring, rest))
+}
+
+// ---- what stands in the lists
+
+#[tactic(auto, unfolding(crate::specs::Reading::limited_reference_at))]
+pub(crate) fn limited_reference_at(bytes: &[u8]) -> Option<(Ref, &[u8])>
+    ensures { limited_reference_at bytes.now ≡ option_map (λ x. (x.0, x.1.now)) result }
+{
+    let (reference, rest) = reference_at(bytes)?;
+    if reference.fits() {
+        Some((reference, rest))
+    } else {
+        None
+    }
+}
+
+#[tactic(auto, unfolding(crate::specs::Reading::limited_optional_at))]
+pub(crate) fn limited_optional_at(bytes: &[u8]) -> Option<(Option<Ref>, &[u8])>
+    ensures { limited_optional_at bytes.now ≡ option_map (λ x. (x.0, x.1.now)) result }
+{
+    let (reference, rest) = optional_at(bytes)?;
+    if optional_fits(reference) {
+        Some((reference, rest))
+    } else {
+        None
+    }
+}
+
+#[tactic(auto, unfolding(crate::specs::Reading::limited_body_at))]
+fn limited_body_at(bytes: &[u8]) -> Option<(Body, &[u8])>
+    ensures { limited_body_at bytes.now ≡ option_map (λ x. (x.0, x.1.now)) result }
+{
+    let (body, rest) = body_at(bytes)?;
+    if body_fits(body) {
+        Some((body, rest))
+    } else {
+        None
+    }
+}
+
+#[tactic(auto, unfolding(crate::specs::Reading::letter_at))]
+pub(crate) fn letter_at(bytes: &[u8]) -> Option<(Letter, &[u8])>
+    ensures { letter_at bytes.now ≡ option_map (λ x. (x.0, x.1.now)) result }
+{
+    let (from, rest) = u8_at(bytes)?;
+    let (label, rest) = u32_at(rest)?;
+    let (reference, rest) = limited_optional_at(rest)?;
+    let letter = Letter {
+        from,
+        label,
+        reference,
+    };
+    Some((letter, rest))
+}
+
+#[tactic(auto, unfolding(crate::specs::Reading::message_at))]
+pub(crate) fn message_at(bytes: &[u8]) -> Option<(Message, &[u8])>
+    ensures { message_at bytes.now ≡ option_map (λ x. (x.0, x.1.now)) result }
+{
+    let (stamp, rest) = u64_at(bytes)?;
+    let (body, rest) = limited_body_at(rest)?;
+    Some((Message { stamp, body }, rest))
+}
+
+#[tactic(auto, unfolding(crate::specs::Reading::width_at))]
+fn width_at(bytes: &[u8]) -> Option<(u8, &[u8])>
+    ensures value { width_at bytes.now ≡ option_map (λ x. (x.0, x.1.now)) result }
+    ensures within { IfSome result (λ x. x.0 ≤ GREATEST_PLACES) }
+{
+    let (width, rest) = u8_at(bytes)?;
+    if width <= GREATEST_PLACES {
+        Some((width, rest))
+    } else {
+        None
+    }
+}
+
+#[tactic(auto, unfolding(crate::specs::Reading::places_at))]
+fn places_at(alloc: Global, bytes: &[u8]) -> Result<(Vec<Option<Ref>>, &[u8]), Refusal>
+    ensures value { Gives (λ x. (x.0.items, x.1.now)) result (places_at bytes.now) }
+    ensures count { IfOk result (λ x. length x.0.items ≤ GREATEST_PLACES) }
+{
+    let Some((width, rest)) = width_at(bytes) else {
+        return Err(Refusal::BadImage);
+    };
+    let (places, rest) = many(alloc, usize::from(width), rest)?;
+    Ok((places, rest))
+}
+
+#[tactic(auto, unfolding(crate::specs::Reading::object_at))]
+fn object_at(alloc: Global, bytes: &[u8]) -> Result<(Object, &[u8]), Refusal>
+    ensures { Gives (λ x. (x.0, x.1.now)) result (object_at bytes.now) }
+{
+    let (mark, rest) = u64_at(bytes).ok_or(Refusal::BadImage)?;
+    let (word, rest) = u64_at(rest).ok_or(Refusal::BadImage)?;
+    let (places, rest) = places_at(alloc, rest)?;
+    match Object::from_parts(word, mark, places) {
+        Some(object) => Ok((object, rest)),
+        None => Err(Refusal::BadImage),
+    }
+}
+
+#[tactic(auto, unfolding(crate::specs::Reading::occupied_at))]
+fn occupied_at(alloc: Global, bytes: &[u8]) -> Result<(Slot<Object>, &[u8]), Refusal>
+    ensures { Gives (λ x. (x.0, x.1.now)) result (occupied_at bytes.now) }
+{
+    let (generation, rest) = u32_at(bytes).ok_or(Refusal::BadImage)?;
+    let (object, rest) = object_at(alloc, rest)?;
+    Ok((Slot::Occupied(generation, object), rest))
+}
+
+#[tactic(auto, unfolding(crate::specs::Reading::slot_at))]
+pub(crate) fn slot_at(alloc: Global, bytes: &[u8]) -> Result<(Slot<Object>, &[u8]), Refusal>
+    ensures { Gives (λ x. (x.0, x.1.now)) result (slot_at bytes.now) }
+{
+    let (tag, rest) = u8_at(bytes).ok_or(Refusal::BadImage)?;
+    match tag {
+        FREE => {
+            let (generation, rest) = u32_at(rest).ok_or(Refusal::BadImage)?;
+            Ok((Slot::Free(generation), rest))
+        }
+        OCCUPIED => occupied_at(alloc, rest),
+        RETIRED => Ok((Slot::Retired, rest)),
+        _ => Err(Refusal::BadImage),
+    }
+}
+
+#[tactic(auto, unfolding(crate::specs::Reading::link_at))]
+pub(crate) fn link_at(alloc: Global, bytes: &[u8]) -> Result<(StoredLink, &[u8]), Refusal>
+    ensures { Gives (λ x. (x.0, x.1.now)) result (link_at bytes.now) }
+{
+    let (base, rest) = u64_at(bytes).ok_or(Refusal::BadImage)?;
+    let (unacknowledged, rest) = counted(alloc, rest)?;
+    let (received, rest) = u64_at(rest).ok_or(Refusal::BadImage)?;
+    let link = StoredLink {
+        base,
+        unacknowledged,
+        received,
+    };
+    Ok((link, rest))
+}
+
+// ---- the whole
+
+fn reports_told(head: Head) -> usize
+    ensures { result ≡ reports_told head }
+{
+    if head.own == 0 {
+        usize::from(head.nodes.saturating_sub(1))
+    } else {
+        0
+    }
+}
+
+#[tactic(auto, unfolding(crate::specs::Reading::image_at, crate::specs::Reading::front_at, crate::specs::Reading::lists_at, crate::specs::Reading::told_at, crate::specs::Reading::slots_at, crate::specs::Reading::others_at))]
+fn image_at(alloc: Global, bytes: &[u8]) -> Result<(NodeParts, &[u8]), Refusal>
+    ensures { Gives (λ x. (stored_of x.0, x.1.now)) result (image_at bytes.now) }
+{
+    let (head, rest) = head_at(bytes).ok_or(Refusal::BadImage)?;
+    let (phases, rest) = phases_at(rest).ok_or(Refusal::BadImage)?;
+    let (ring, rest) = ring_at(rest).ok_or(Refusal::BadImage)?;
+    let (reports, rest) = many(alloc, reports_told(head), rest)?;
+    let (registers, rest) = many(alloc, usize::from(head.registers), rest)?;
+    let (slots, rest) = counted(alloc, rest)?;
+    let (free, rest) = counted(alloc, rest)?;
+    let (grey, rest) = counted(alloc, rest)?;
+    let (asked, rest) = counted(alloc, rest)?;
+    let (letters, rest) = counted(alloc, rest)?;
+    let (links, rest) = many(alloc, usize::from(head.nodes.saturating_sub(1)), rest)?;
+    let parts = NodeParts {
+        head,
+        phases,
+        ring,
+        reports,
+        registers,
+        slots,
+        free,
+        grey,
+        asked,
+        letters,
+        links,
+    };
+    Ok((parts, rest))
+}
+
+#[tactic(auto, unfolding(crate::specs::Reading::whole))]
+fn whole(alloc: Global, bytes: &[u8]) -> Result<NodeParts, Refusal>
+    ensures { Gives stored_of result (whole bytes.now) }
+{
+    let (parts, rest) = image_at(alloc, bytes)?;
+    if rest.is_empty() {
+        Ok(parts)
+    } else {
+        Err(Refusal::BadImage)
+    }
+}
+
+impl NodeParts {
+    ghost use Rattle.std.specs.Prelude.{◌≡◌, ◌≢◌, IfOk, IfErr};
+    ghost use Rattle.ids.specs.declared.refusal.Refusal.TheVariants.{BadImage, Memory};
+    ghost use Rattle.image.specs.Grammar.{Stored, IsImage};
+    ghost use Rattle.image.specs.Parts.{stored_of};
+
+    /// The parts that the bytes say, all of the bytes. What they say may still be no node's, since
+    /// its parts may contradict each other.
+    ///
+    /// It takes memory in proportion to the bytes, and time likewise.
+    ///
+    /// # Errors
+    ///
+    /// [`Refusal::BadImage`] where the bytes are no image: they spell none, or are more than
+    /// [`GREATEST_IMAGE`]. [`Refusal::Memory`] where a growth was refused.
+    pub fn from_bytes(alloc: Global, bytes: &[u8]) -> Result<NodeParts, Refusal>
+        // What is read is spelled so.
+        ensures found { IfOk result (λ p. IsImage bytes.now (stored_of p)) }
+        // What is spelled so is read.
+        ensures only { (s : Stored) → IsImage bytes.now s → IfOk result (λ p. stored_of p ≡ s) }
+        ensures refused { IfErr result (λ e. e ≢ Memory
+            → (e ≡ BadImage) × ((s : Stored) → IsImage bytes.now s → ⊥)) }
+    {
+        if bytes.len() > GREATEST_IMAGE as usize {
+            return Err(Refusal::BadImage);
+        }
+        whole(alloc, bytes)
+    }
+}

@@ -1,0 +1,165 @@
+//! A node from what its image says.
+ghost use Rattle.std.specs.Prelude.{◌≡◌, ◌≢◌, ◌≤◌, length, map, IfOk, IfErr, OnOk};
+ghost use Rattle.ids.specs.declared.refusal.Refusal.TheVariants.{BadImage, Memory};
+ghost use Rattle.model.specs.View.{NodeView, no_link};
+ghost use Rattle.link.specs.Parts.{link_given, taken_given, links_given};
+ghost use Rattle.image.specs.Grammar.{Fits};
+ghost use Rattle.image.specs.Nodes.{
+  link_of,
+  received_of,
+  with_at,
+  reports_of,
+  node_of,
+  IsStanding,
+  IsImageOf,
+};
+ghost use Rattle.image.specs.Parts.{stored_of};
+
+use crate::parts::{Head, NodeParts, RingParts, StoredLink};
+use control::Phases;
+use heap::HeapParts;
+use ids::{Refusal, Shape};
+use link::LinkParts;
+use node::Node;
+use safra::Ring;
+use std::alloc::Global;
+use std::collections::VecDeque;
+
+/// The node whose image the bytes are, all of the bytes. All of its messages count as held by a
+/// saved node, and so does all that it took in. It takes memory in proportion to the bytes, and
+/// time likewise.
+///
+/// # Errors
+///
+/// [`Refusal::BadImage`] where the bytes are no image: they spell no node, or one that contradicts
+/// itself, or are more than [`GREATEST_IMAGE`](ids::GREATEST_IMAGE). [`Refusal::Memory`] where a
+/// growth was refused.
+pub fn from_bytes(alloc: Global, bytes: &[u8]) -> Result<Node, Refusal>
+    ensures read { IfOk result (λ n. IsImageOf bytes.now n) }
+    ensures refused { IfErr result (λ e. e ≢ Memory
+        → (e ≡ BadImage) × ((n : NodeView) → IsImageOf bytes.now n → ⊥)) }
+{
+    let image = NodeParts::from_bytes(alloc, bytes)?;
+    restored(alloc, image)
+}
+
+// The node that is said.
+fn restored(alloc: Global, image: NodeParts) -> Result<Node, Refusal>
+    requires { Fits (stored_of image) }
+    ensures made { IfOk result (λ n. n ≡ node_of (stored_of image)) }
+    ensures stands { OnOk result (IsStanding (node_of (stored_of image))) }
+    ensures refused { IfErr result (λ e. e ≢ Memory
+        → (e ≡ BadImage) × (IsStanding (node_of (stored_of image)) → ⊥)) }
+{
+    let NodeParts {
+        head,
+        phases,
+        ring,
+        reports,
+        registers,
+        slots,
+        free,
+        grey,
+        asked,
+        letters,
+        links,
+    } = image;
+    let Some(shape) = Shape::new(head.nodes, head.registers, head.slots) else {
+        return Err(Refusal::BadImage);
+    };
+    let reports = every_report(alloc, head, reports)?;
+    let (cycle, ended, swept) = (phases.cycle, phases.ended, phases.swept);
+    let Some(phases) = Phases::from_parts(cycle, ended, swept, phases.cursor, reports) else {
+        return Err(Refusal::BadImage);
+    };
+    let links = every_link(alloc, head.own, links)?;
+    let parts = node::NodeParts {
+        shape,
+        own: head.own,
+        heap: HeapParts {
+            slots,
+            free,
+            registers,
+            letters: VecDeque::from_vec(letters),
+            grey,
+        },
+        asked,
+        phases,
+        ring: given_ring(ring),
+        links,
+    };
+    Node::from_parts(alloc, parts)
+}
+
+// For each node of the space the report that is told of it, or 0.
+fn every_report(alloc: Global, head: Head, told: Vec<u64>) -> Result<Vec<u64>, Refusal>
+    ensures made { IfOk result (λ v. v.items ≡ reports_of head told.items) }
+    ensures refused { IfErr result (λ e. e ≡ Memory) }
+{
+    if head.own != 0 {
+        return Ok(vec![in alloc; 0; usize::from(head.nodes)]?);
+    }
+    let mut reports = told;
+    reports.insert(0, 0)?;
+    Ok(reports)
+}
+
+// The links to all nodes of the space, the node itself among them.
+fn every_link(alloc: Global, own: u8, stored: Vec<StoredLink>) -> Result<Vec<LinkParts>, Refusal>
+    requires { own ≤ length stored.items }
+    ensures made { IfOk result (λ v. links_given v.items ≡ record {
+      links = with_at own no_link (map link_of stored.items);
+      got = with_at own 0 (map received_of stored.items);
+      acks = with_at own 0 (map received_of stored.items);
+    }) }
+    ensures refused { IfErr result (λ e. e ≡ Memory) }
+{
+    let mut links = given_links(alloc, stored)?;
+    let none = LinkParts {
+        base: 0,
+        messages: VecDeque::new(alloc),
+        taken: 0,
+    };
+    links.insert(usize::from(own), none)?;
+    Ok(links)
+}
+
+fn given_links(alloc: Global, stored: Vec<StoredLink>) -> Result<Vec<LinkParts>, Refusal>
+    ensures sent { IfOk result (λ v. map link_given v.items ≡ map link_of stored.items) }
+    ensures taken { IfOk result (λ v. map taken_given v.items ≡ map received_of stored.items) }
+    ensures count { IfOk result (λ v. length v.items ≡ length stored.items) }
+    ensures refused { IfErr result (λ e. e ≡ Memory) }
+{
+    let mut links = Vec::with_capacity(alloc, stored.len())?;
+    for link in stored {
+        links.push(given_link(link))?;
+    }
+    Ok(links)
+}
+
+fn given_link(stored: StoredLink) -> LinkParts
+    ensures sent { link_given result ≡ link_of stored }
+    ensures taken { taken_given result ≡ received_of stored }
+{
+    let StoredLink {
+        base,
+        unacknowledged,
+        received,
+    } = stored;
+    LinkParts {
+        base,
+        messages: VecDeque::from_vec(unacknowledged),
+        taken: received,
+    }
+}
+
+fn given_ring(ring: RingParts) -> Ring
+    ensures { result ≡ record {
+      colour = ring.colour;
+      earlier = ring.earlier;
+      recent = ring.recent;
+      token = ring.token;
+    } }
+{
+    Ring::from_parts(ring.colour, ring.earlier, ring.recent, ring.token)
+}

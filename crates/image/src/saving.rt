@@ -1,0 +1,36 @@
+//! The bytes of a node's image.
+ghost use Rattle.std.specs.Prelude.{◌≡◌, ◌≢◌, ◌<◌, ◌≤◌, length, IfOk, IfErr, OnOk};
+ghost use Rattle.ids.specs.declared.limits.TheConstants.{GREATEST_IMAGE};
+ghost use Rattle.ids.specs.declared.refusal.Refusal.TheVariants.{ImageTooLarge, Memory};
+ghost use Rattle.model.specs.View.{kept_view};
+ghost use Rattle.image.specs.Images.{image_of};
+ghost use Rattle.image.specs.Nodes.{IsImageOf};
+
+use crate::measuring::room_after_node;
+use crate::writing::put_node;
+use ids::{GREATEST_IMAGE, Refusal};
+use node::Node;
+use std::alloc::Global;
+
+/// The bytes of the node's image: that of the node as it is after a save, all of whose messages
+/// count as held by a saved node. It takes the memory for them at once, and time likewise.
+///
+/// # Errors
+///
+/// [`Refusal::ImageTooLarge`] where there are more than [`GREATEST_IMAGE`](ids::GREATEST_IMAGE).
+/// Where there are not, [`Refusal::Memory`] where memory is refused.
+pub fn to_bytes(alloc: Global, node: &Node) -> Result<Vec<u8>, Refusal>
+    ensures written { IfOk result (λ v. v.items ≡ image_of node.now) }
+    ensures image { OnOk result (IsImageOf (image_of node.now) (kept_view node.now)) }
+    ensures refused { IfErr result (λ e. e ≢ Memory
+        → (e ≡ ImageTooLarge) × (GREATEST_IMAGE < length (image_of node.now))) }
+    ensures last { IfErr result (λ e. e ≡ Memory
+        → length (image_of node.now) ≤ GREATEST_IMAGE) }
+{
+    let Some(left) = room_after_node(node) else {
+        return Err(Refusal::ImageTooLarge);
+    };
+    let mut out = Vec::with_capacity(alloc, GREATEST_IMAGE as usize - left)?;
+    put_node(&mut out, node)?;
+    Ok(out)
+}

@@ -1,0 +1,113 @@
+-- Tests of all elements of a list, and of elements that are there once, in other words.
+use Rattle.std.proofs.Common.{◌≡◌, ◌≢◌, ℕ, zero, suc, ◌<◌, Bool, true, false, eqb, List, [], ◌∷◌}
+use Rattle.std.proofs.Common.{length, take, get_or, refl, ◌∙◌, arith}
+use Rattle.std.specs.List.{AllByRecursion, IsDistinct, list_all, list_any}
+use Rattle.std.proofs.lemmas.Bool.{and_parts, and_from, eqb-false, ne_eqb, or_from, or_parts}
+
+module _ {A : Type 0} where
+  -- each element passes
+  pub listed : (p : A → Bool) (xs : List A) (d : A)
+      → ((k : ℕ) → k < length xs → p (get_or xs k d) ≡ true) → list_all p xs ≡ true
+  listed p [] d each = refl
+  listed p (x ∷ xs) d each =
+      and_from (p x) (list_all p xs) (each 0 (omega arith))
+      (listed p xs d (λ k inside. each (suc k) (omega (arith, inside))))
+
+  -- what passing says of each element, also past the end
+  pub listed-each : (P : A → Type 0) (p : A → Bool) (xs : List A) (d : A)
+      → ((x : A) → p x ≡ true → P x) → P d → list_all p xs ≡ true → (k : ℕ) → P (get_or xs k d)
+  listed-each P p [] d says none all k = none
+  listed-each P p (x ∷ xs) d says none all zero = says x (and_parts (p x) (list_all p xs) all).0
+  listed-each P p (x ∷ xs) d says none all (suc k) =
+      listed-each P p xs d says none (and_parts (p x) (list_all p xs) all).1 k
+
+  pub all-from-listed : (P : A → Type 0) (p : A → Bool) → ((x : A) → p x ≡ true → P x)
+      → (xs : List A) → list_all p xs ≡ true → AllByRecursion P xs
+  all-from-listed P p says [] all = tt
+  all-from-listed P p says (x ∷ xs) all =
+      let parts = and_parts (p x) (list_all p xs) all in
+      (says x parts.0, all-from-listed P p says xs parts.1)
+
+  pub listed-from-all : (P : A → Type 0) (p : A → Bool) → ((x : A) → P x → p x ≡ true)
+      → (xs : List A) → AllByRecursion P xs → list_all p xs ≡ true
+  listed-from-all P p says [] all = refl
+  listed-from-all P p says (x ∷ xs) all =
+      and_from (p x) (list_all p xs) (says x all.0) (listed-from-all P p says xs all.1)
+
+  pub all-at : (P : A → Type 0) (xs : List A) (d : A) (k : ℕ) → k < length xs
+      → AllByRecursion P xs → P (get_or xs k d)
+  all-at P [] d k inside all = absurd (omega (arith, inside))
+  all-at P (x ∷ xs) d zero inside all = all.0
+  all-at P (x ∷ xs) d (suc k) inside all = all-at P xs d k (omega (arith, inside)) all.1
+
+  pub all-each : (P : A → Type 0) (xs : List A) (d : A)
+      → ((k : ℕ) → k < length xs → P (get_or xs k d)) → AllByRecursion P xs
+  all-each P [] d each = tt
+  all-each P (x ∷ xs) d each = (
+    each 0 (omega arith),
+    all-each P xs d (λ k inside. each (suc k) (omega (arith, inside))),
+  )
+
+  pub all-both : (P Q : A → Type 0) (xs : List A) → AllByRecursion P xs → AllByRecursion Q xs
+      → AllByRecursion (λ x. P x × Q x) xs
+  all-both P Q [] first second = tt
+  all-both P Q (x ∷ xs) first second =
+      ((first.0, second.0), all-both P Q xs first.1 second.1)
+
+-- ---- numbers, each once
+
+pub distinct-apart : (xs : List ℕ) → IsDistinct eqb xs → (j : ℕ) → j < length xs → (i : ℕ)
+    → i < j → get_or xs i 0 ≢ get_or xs j 0
+unfolding IsDistinct
+distinct-apart [] once j inside i below = absurd (omega (arith, inside))
+distinct-apart (x ∷ xs) once zero inside i below = absurd (omega (arith, below))
+distinct-apart (x ∷ xs) once (suc j) inside zero below =
+    eqb-false x (get_or xs j 0)
+    (all-at (λ (y : ℕ). eqb x y ≡ false) xs 0 j (omega (arith, inside)) once.0)
+distinct-apart (x ∷ xs) once (suc j) inside (suc i) below =
+    distinct-apart xs once.1 j (omega (arith, inside)) i (omega (arith, below))
+
+pub apart-distinct : (xs : List ℕ)
+    → ((j : ℕ) → j < length xs → (i : ℕ) → i < j → get_or xs i 0 ≢ get_or xs j 0)
+    → IsDistinct eqb xs
+unfolding IsDistinct
+apart-distinct [] apart = tt
+apart-distinct (x ∷ xs) apart = (
+  all-each (λ (y : ℕ). eqb x y ≡ false) xs 0
+      (λ k inside.
+      ne_eqb x (get_or xs k 0) (apart (suc k) (omega (arith, inside)) 0 (omega arith))),
+  apart-distinct xs
+      (λ j inside i below.
+      apart (suc j) (omega (arith, inside)) (suc i) (omega (arith, below))),
+)
+
+-- ---- elements that a test tells apart, none among those before it
+
+module _ {A : Type 0} (same : A → A → Bool) (flip : (a b : A) → same a b ≡ same b a) where
+  pub distinct-before : (xs : List A) → IsDistinct same xs → (j : ℕ) → j < length xs → (d : A)
+      → list_any (same (get_or xs j d)) (take j xs) ≡ false
+  unfolding IsDistinct
+  distinct-before [] once j inside d = absurd (omega (arith, inside))
+  distinct-before (x ∷ xs) once zero inside d = refl
+  distinct-before (x ∷ xs) once (suc j) inside d =
+      or_from (same (get_or xs j d) x) (list_any (same (get_or xs j d)) (take j xs))
+      (flip (get_or xs j d) x
+      ∙ all-at (λ (y : A). same x y ≡ false) xs d j (omega (arith, inside)) once.0)
+      (distinct-before xs once.1 j (omega (arith, inside)) d)
+
+  pub before-distinct : (xs : List A)
+      → ((j : ℕ) → j < length xs → (d : A)
+      → list_any (same (get_or xs j d)) (take j xs) ≡ false) → IsDistinct same xs
+  unfolding IsDistinct
+  before-distinct [] new = tt
+  before-distinct (x ∷ xs) new = (
+    all-each (λ (y : A). same x y ≡ false) xs x
+        (λ k inside.
+        flip x (get_or xs k x)
+        ∙ (or_parts (same (get_or xs k x) x) (list_any (same (get_or xs k x)) (take k xs))
+        (new (suc k) (omega (arith, inside)) x)).0),
+    before-distinct xs
+        (λ j inside d.
+        (or_parts (same (get_or xs j d) x) (list_any (same (get_or xs j d)) (take j xs))
+        (new (suc j) (omega (arith, inside)) d)).1),
+  )

@@ -1,0 +1,11 @@
+use Rattle.std.proofs.Common.{◌≡◌, ℕ, ◌+◌, ◌*◌, ◌≤◌, take}
+use Rattle.std.specs.List.{sum_by}
+use Rattle.model.specs.View.{used}
+use Rattle.node.proofs.node.parts.ends.number_sum.Given as goal
+
+abbrev pub invariant-loop-node : goal.invariant-loop-node
+invariant-loop-node l = record {
+  sum : l.sum ≡ sum_by used (take l.node l.links.links)
+      + sum_by (λ (k : ℕ). k) (take l.node l.links.got);
+  few : l.sum ≤ l.node * 562949953421312;
+}

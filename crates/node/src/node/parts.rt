@@ -1,0 +1,83 @@
+//! A node made from the parts of a saved one.
+ghost use Rattle.std.specs.Prelude.{◌≡◌, ◌≢◌, IfOk, IfErr, OnOk};
+ghost use Rattle.ids.specs.declared.refusal.Refusal.TheVariants.{BadImage, Memory};
+ghost use Rattle.node.specs.Parts.{node_given, IsRestorable};
+
+mod ends;
+mod home;
+mod lists;
+
+use super::Node;
+use control::Phases;
+use ends::{are_at_ends, is_bounded, number_sum};
+use heap::{Heap, HeapParts};
+use home::is_at_home;
+use ids::{Ref, Refusal, Shape};
+use link::{LinkParts, Links};
+use lists::{are_grey, asked_once};
+use safra::Ring;
+use std::alloc::Global;
+
+/// What a saved node is, part by part.
+#[derive(Drop)]
+pub struct NodeParts {
+    pub shape: Shape,
+    /// Its number.
+    pub own: u8,
+    pub heap: HeapParts,
+    /// References of other nodes that were asked for in its cycle, in order.
+    pub asked: Vec<Ref>,
+    pub phases: Phases,
+    pub ring: Ring,
+    /// For each node of the space, itself among them, in order of their numbers.
+    pub links: Vec<LinkParts>,
+}
+
+impl Node {
+    /// The node of these parts. All of its messages count as held by a saved node, and so does all
+    /// that it took in. It takes time for each part.
+    ///
+    /// It answers [`Refusal::BadImage`] where no node that is saved has these parts, as
+    /// "Saved nodes" in docs/RULES.md says; and [`Refusal::Memory`] where a growth was refused,
+    /// whatever the parts are. Parts that are refused are dropped.
+    pub fn from_parts(alloc: Global, parts: NodeParts) -> Result<Node, Refusal>
+        ensures made { IfOk result (λ n. n ≡ node_given parts) }
+        ensures right { OnOk result (IsRestorable (node_given parts)) }
+        ensures refused { IfErr result (λ e.
+            e ≢ Memory → (e ≡ BadImage) × (IsRestorable (node_given parts) → ⊥)) }
+    {
+        if !is_at_home(&parts) {
+            return Err(Refusal::BadImage);
+        }
+        let NodeParts {
+            shape,
+            own,
+            heap,
+            asked,
+            phases,
+            ring,
+            links,
+        } = parts;
+        let cycle = phases.cycle();
+        if !are_grey(alloc, cycle, &heap.slots, &heap.grey)? {
+            return Err(Refusal::BadImage);
+        }
+        let asked = asked_once(alloc, shape, own, &asked)?;
+        if !are_at_ends(shape, own, cycle, &links) {
+            return Err(Refusal::BadImage);
+        }
+        let links = Links::from_parts(alloc, links)?;
+        if !is_bounded(ring, number_sum(&links)) {
+            return Err(Refusal::BadImage);
+        }
+        Ok(Node {
+            shape,
+            own,
+            heap: Heap::from_parts(alloc, shape, heap)?,
+            asked,
+            phases,
+            ring,
+            links,
+        })
+    }
+}

@@ -1,0 +1,117 @@
+//! What of a saved node's parts stands on its links, and how many messages they count.
+ghost use Rattle.std.specs.Prelude.{◌≡◌, ◌↔◌, map, IsTrue};
+ghost use Rattle.std.specs.List.{list_all};
+ghost use Rattle.safra.specs.Balances.{IsBounded};
+ghost use Rattle.model.specs.Steps.{mentioned};
+ghost use Rattle.node.specs.Invariant.{number_sum};
+ghost use Rattle.node.specs.Parts.{is_named, is_placed, is_message, are_messages, AreAtEnds};
+ghost use Rattle.model.specs.View.{used};
+ghost use Rattle.link.specs.Links.{link_at, got_at};
+ghost use Rattle.link.specs.Parts.{link_given, links_given};
+
+use super::home::{is_any_named, is_named};
+use ids::{GREATEST_PLACES, Shape};
+use link::{LinkParts, Links};
+use msg::{Body, Message};
+use safra::Ring;
+use std::collections::VecDeque;
+
+/// Whether these are the ends of the links to the nodes of the shape, with messages that a node in
+/// this cycle may have sent, and with none on the link to the node itself.
+pub(super) fn are_at_ends(shape: Shape, own: u8, cycle: u64, links: &[LinkParts]) -> bool
+    ensures { IsTrue result ↔ AreAtEnds shape own cycle (links_given links.now) }
+{
+    if links.len() != usize::from(shape.nodes()) {
+        return false;
+    }
+    if !are_sent(shape, cycle, links) {
+        return false;
+    }
+    is_unused(own, links)
+}
+
+// Whether the messages on every link may be a node's in this cycle.
+fn are_sent(shape: Shape, cycle: u64, links: &[LinkParts]) -> bool
+    ensures { result ≡ list_all (are_messages shape cycle) (map link_given links.now) }
+{
+    is_each_sent(shape, cycle, links)
+}
+
+fn is_each_sent(shape: Shape, cycle: u64, links: &[LinkParts]) -> bool
+    ensures { result ≡ list_all (λ p. are_messages shape cycle (link_given p)) links.now }
+{
+    links
+        .iter()
+        .all(|link| are_messages(shape, cycle, &link.messages))
+}
+
+// Whether nothing was sent or taken in on the link of this node.
+fn is_unused(own: u8, links: &[LinkParts]) -> bool
+    ensures unused { IsTrue result
+        ↔ (used (link_at (links_given links.now) own) ≡ 0)
+        × (got_at (links_given links.now) own ≡ 0) }
+{
+    match links.get(usize::from(own)) {
+        Some(link) => link.base == 0 && link.messages.is_empty() && link.taken == 0,
+        None => true,
+    }
+}
+
+fn are_messages(shape: Shape, cycle: u64, messages: &VecDeque<Message>) -> bool
+    ensures { result ≡ list_all (is_message shape cycle) messages.now.items }
+{
+    messages
+        .iter()
+        .all(|message| is_message(shape, cycle, *message))
+}
+
+fn is_message(shape: Shape, cycle: u64, message: Message) -> bool
+    ensures { result ≡ is_message shape cycle message }
+{
+    message.stamp <= cycle && are_named(shape, message.body) && is_placed(message.body)
+}
+
+// Whether the shape has room for every reference in the body.
+fn are_named(shape: Shape, body: Body) -> bool
+    ensures { result ≡ list_all (is_named shape) (mentioned body) }
+{
+    match body {
+        Body::Begin | Body::Token(_) | Body::Ended | Body::Swept => true,
+        Body::Mark { target } | Body::Get { target, .. } => is_named(shape, target),
+        Body::Give { reference, .. } => is_any_named(shape, reference),
+        Body::Put {
+            target,
+            reference,
+            ..
+        } => is_named(shape, target) && is_any_named(shape, reference),
+    }
+}
+
+// Whether an object may have the place that the body names.
+fn is_placed(body: Body) -> bool
+    ensures { result ≡ is_placed body }
+{
+    match body {
+        Body::Put { place, .. } | Body::Get { place, .. } => place < GREATEST_PLACES,
+        _ => true,
+    }
+}
+
+/// How many messages were appended and how many taken in, on all links together.
+pub(super) fn number_sum(links: &Links) -> u64
+    ensures { result ≡ number_sum links.now.links links.now.got }
+{
+    let mut sum = 0;
+    for node in 0..links.width() {
+        sum += links.used(node) + links.taken(node);
+    }
+    sum
+}
+
+/// Whether the two balances together are no larger than this number, whatever their signs.
+pub(super) fn is_bounded(ring: Ring, most: u64) -> bool
+    ensures { IsTrue result ↔ IsBounded most ring }
+{
+    let (earlier, recent) = (ring.earlier().unsigned_abs(), ring.recent().unsigned_abs());
+    earlier <= most && recent <= most - earlier
+}

@@ -1,0 +1,148 @@
+//! What of a saved node's parts can be looked at without memory: all but the grey list, what was
+//! asked for, and the links.
+ghost use Rattle.std.specs.Prelude.{◌≡◌, ◌↔◌, map, is_some, true, false, IsTrue};
+ghost use Rattle.std.specs.List.{list_all};
+ghost use Rattle.ids.specs.Limits.{IsShape};
+ghost use Rattle.model.specs.Shading.{is_calm};
+ghost use Rattle.heap.specs.Heap.{slot_of};
+ghost use Rattle.node.specs.Parts.{
+  local_given,
+  is_named,
+  is_any_named,
+  is_letter,
+  is_object,
+  is_slot,
+  is_report,
+  AreHeard,
+  HoldsNamed,
+  IsAtHome,
+};
+
+use super::NodeParts;
+use heap::{Object, Slot};
+use ids::{GREATEST_PLACES, Ref, Shape};
+use model::Letter;
+use std::collections::VecDeque;
+
+/// Whether all of this may be a saved node's.
+pub(super) fn is_at_home(parts: &NodeParts) -> bool
+    ensures home { IsTrue result ↔ IsAtHome (local_given parts.now) }
+    ensures shape { IsShape parts.now.shape }
+{
+    let (shape, own, cycle) = (parts.shape, parts.own, parts.phases.cycle());
+    if own >= shape.nodes() || parts.phases.cursor() as usize > parts.heap.slots.len() {
+        return false;
+    }
+    if cycle <= parts.phases.ended() && !is_at_rest(parts) {
+        return false;
+    }
+    are_heard(own, shape.nodes(), parts.phases.reports()) && holds_named(parts)
+}
+
+// Whether nothing is grey and no token is held.
+fn is_at_rest(parts: &NodeParts) -> bool
+    ensures { IsTrue result
+        ↔ (is_calm (local_given parts.now).heap ≡ true)
+        × (is_some (local_given parts.now).ring.token ≡ false) }
+{
+    parts.heap.grey.is_empty() && parts.ring.token().is_none()
+}
+
+// Whether what the slots, the registers and the letters hold may be a node's.
+fn holds_named(parts: &NodeParts) -> bool
+    ensures { IsTrue result ↔ HoldsNamed (local_given parts.now) }
+{
+    let (shape, own, cycle) = (parts.shape, parts.own, parts.phases.cycle());
+    are_slots(shape, cycle, &parts.heap.slots)
+        && are_any_named(shape, &parts.heap.registers)
+        && are_letters(shape, own, &parts.heap.letters)
+}
+
+/// Whether a reference is within the shape.
+pub(super) fn is_named(shape: Shape, reference: Ref) -> bool
+    ensures { result ≡ is_named shape reference }
+{
+    reference.node < shape.nodes() && reference.slot < shape.slots() && reference.generation >= 1
+}
+
+pub(super) fn is_any_named(shape: Shape, reference: Option<Ref>) -> bool
+    ensures { result ≡ is_any_named shape reference }
+{
+    match reference {
+        Some(reference) => is_named(shape, reference),
+        None => true,
+    }
+}
+
+fn are_any_named(shape: Shape, references: &[Option<Ref>]) -> bool
+    ensures { result ≡ list_all (is_any_named shape) references.now }
+{
+    references
+        .iter()
+        .all(|reference| is_any_named(shape, *reference))
+}
+
+fn is_letter(shape: Shape, own: u8, letter: Letter) -> bool
+    ensures { result ≡ is_letter shape own letter }
+{
+    letter.from < shape.nodes() && letter.from != own && is_any_named(shape, letter.reference)
+}
+
+fn are_letters(shape: Shape, own: u8, letters: &VecDeque<Letter>) -> bool
+    ensures { result ≡ list_all (is_letter shape own) letters.now.items }
+{
+    letters.iter().all(|letter| is_letter(shape, own, *letter))
+}
+
+fn is_slot(shape: Shape, cycle: u64, slot: &Slot<Object>) -> bool
+    ensures { result ≡ is_slot shape cycle (slot_of slot.now) }
+{
+    match slot {
+        Slot::Free(generation) => *generation >= 2,
+        Slot::Occupied(_, object) => is_object(shape, cycle, object),
+        Slot::Retired => true,
+    }
+}
+
+fn is_object(shape: Shape, cycle: u64, object: &Object) -> bool
+    ensures { result ≡ is_object shape cycle object.now }
+{
+    let places = object.contents();
+    object.marked_by() <= cycle
+        && places.len() <= usize::from(GREATEST_PLACES)
+        && are_any_named(shape, places)
+}
+
+fn are_slots(shape: Shape, cycle: u64, slots: &[Slot<Object>]) -> bool
+    ensures { result ≡ list_all (is_slot shape cycle) (map slot_of slots.now) }
+{
+    is_each_slot(shape, cycle, slots)
+}
+
+fn is_each_slot(shape: Shape, cycle: u64, slots: &[Slot<Object>]) -> bool
+    ensures { result ≡ list_all (λ s. is_slot shape cycle (slot_of s)) slots.now }
+{
+    slots.iter().all(|slot| is_slot(shape, cycle, slot))
+}
+
+fn is_report(own: u8, node: usize, report: u64) -> bool
+    ensures { result ≡ is_report own node report }
+{
+    report == 0 || (own == 0 && node > 0)
+}
+
+/// Whether these are the reports of the nodes of the space: none of the node itself, and at a node
+/// other than 0 none at all.
+fn are_heard(own: u8, nodes: u8, reports: &[u64]) -> bool
+    ensures { IsTrue result ↔ AreHeard own nodes reports.now }
+{
+    if reports.len() != usize::from(nodes) {
+        return false;
+    }
+    for (node, report) in reports.iter().enumerate() {
+        if !is_report(own, node, *report) {
+            return false;
+        }
+    }
+    true
+}

@@ -1,0 +1,92 @@
+-- The image of a new node: it is short, and says the new node.
+use Rattle.std.proofs.Common.{◌≡◌, ◌≢◌, ℕ, zero, suc, ◌*◌, ◌<◌, ◌≤◌, ◌==◌, if◌then◌else◌, Bool, true, false, List, [], ◌∷◌, length, map, drop, replicate, None, refl, ap, arith}
+use Rattle.std.specs.List.{flat_map}
+use Rattle.std.specs.Int.{w64, to_be_bytes}
+use Rattle.std.proofs.lemmas.List.{length-append, length-drop, length-replicate}
+use Rattle.ids.specs.Limits.{Shaped, IsShape}
+use Rattle.ids.specs.declared.limits.TheConstants.{GREATEST_IMAGE}
+use Rattle.ids.specs.declared.refusal.Refusal.{Refusal}
+use Rattle.ids.specs.declared.refusal.Refusal.TheVariants.{Memory, ImageTooLarge}
+use Rattle.msg.specs.Grammar.{optional_bytes}
+use Rattle.model.specs.View.{Link, no_link, all_kept, kept_view, new_view}
+use Rattle.image.specs.Links.{StoredLink}
+use Rattle.image.specs.Grammar.{Stored, link_bytes, front_bytes}
+use Rattle.image.specs.Images.{image_of, stored_by, stored_link, stored_links, without_at}
+use Rattle.world.proofs.Refusals.{memory-alone}
+use Rattle.image.proofs.Sizes.{told_length, slots_length, others_length, spelling_length}
+
+-- ---- nothing was sent, so all counts as saved
+
+all-kept : (n : ℕ) → map all_kept (replicate n no_link) ≡ replicate n no_link
+all-kept zero = refl
+all-kept (suc n) = ap (λ ls. no_link ∷ ls) (all-kept n)
+
+pub new-kept : (shape : Shaped) (own : ℕ) → kept_view (new_view shape own) ≡ new_view shape own
+new-kept shape own =
+    ap (λ (ls : List Link). record (new_view shape own) { links = ls }) (all-kept shape.nodes)
+
+-- ---- how long it is
+
+all-reports : (ns : List ℕ) → length (flat_map (to_be_bytes w64) ns) ≡ 8 * length ns
+all-reports [] = refl
+all-reports (n ∷ ns) =
+    let this = length-append (to_be_bytes w64 n) (flat_map (to_be_bytes w64) ns) in
+    omega (arith, this, all-reports ns)
+
+empty-registers : (n : ℕ) → length (flat_map optional_bytes (replicate n None)) ≡ n
+empty-registers zero = refl
+empty-registers (suc n) = ap (λ k. suc k) (empty-registers n)
+
+abbrev new_links : ℕ → List StoredLink
+new_links n = stored_links (replicate n no_link) (replicate n 0)
+
+empty-links : (n : ℕ) → length (flat_map link_bytes (new_links n)) ≡ 20 * n
+empty-links zero = refl
+empty-links (suc n) =
+    let this = length-append (link_bytes (stored_link no_link 0))
+    (flat_map link_bytes (new_links n))
+    in omega (arith, this, empty-links n)
+
+-- those to other nodes
+other-links : (own n : ℕ) → length (flat_map link_bytes (without_at own (new_links n))) ≤ 20 * n
+other-links own zero = omega arith
+other-links zero (suc n) = omega (arith, empty-links n)
+other-links (suc own) (suc n) =
+    let this = length-append (link_bytes (stored_link no_link 0))
+    (flat_map link_bytes (without_at own (new_links n))) in
+    omega (arith, this, other-links own n)
+
+new-reports : (b : Bool) (n : ℕ)
+    → length (flat_map (to_be_bytes w64) (if b then drop 1 (replicate n 0) else [])) ≤ 8 * n
+new-reports false n = omega arith
+new-reports true n =
+    let zeros : List ℕ = replicate n 0 in
+    let all = all-reports (drop 1 zeros) in
+    omega (arith, all, length-drop 1 zeros, length-replicate {A = ℕ} n 0)
+
+pub new-within : (shape : Shaped) (own : ℕ) → IsShape shape
+    → length (image_of (new_view shape own)) ≤ GREATEST_IMAGE
+new-within shape own h =
+    let s : Stored = stored_by (new_view shape own) in
+    let front : length (front_bytes s) ≡ 57 = refl in
+    omega (
+      arith,
+      h.most_nodes,
+      h.most_registers,
+      spelling_length s,
+      front,
+      told_length s,
+      new-reports (own == 0) shape.nodes,
+      empty-registers shape.registers,
+      slots_length s,
+      others_length s,
+      other-links own shape.nodes,
+    )
+
+-- so it is refused for want of memory alone
+pub new-starved : (shape : Shaped) (own : ℕ) (e : Refusal) → IsShape shape
+    → (e ≢ Memory
+    → (e ≡ ImageTooLarge) × (GREATEST_IMAGE < length (image_of (new_view shape own))))
+    → e ≡ Memory
+new-starved shape own e h size =
+    memory-alone e (λ other. omega (arith, new-within shape own h, (size other).1))

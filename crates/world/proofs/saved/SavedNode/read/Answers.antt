@@ -1,0 +1,17 @@
+use Rattle.std.proofs.Common.{◌≡◌, ◌∙◌}
+use Rattle.std.proofs.lemmas.Result.{IfOk-weaker}
+use Rattle.model.specs.View.{NodeView}
+use Rattle.image.specs.Nodes.{IsImageOf}
+use Rattle.image.proofs.Spelled.{one_node}
+use Rattle.world.proofs.saved.SavedNode.read.Goals as goal
+
+-- bytes say one node
+pub returns-clause-same : goal.returns-clause-same
+returns-clause-same c =
+    let bytes = c.deref.result.now in
+    IfOk-weaker c.from_bytes.result (λ (n : NodeView). IsImageOf bytes n)
+    (λ (n : NodeView). n ≡ c.args.self.now)
+    (λ n is.
+    one_node bytes n c.self.inside.says.value is.spelled
+    (rw c.deref.ensures.value c.self.invariant.spelled) ∙ c.self.view_is)
+    c.from_bytes.ensures.read
