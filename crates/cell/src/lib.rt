@@ -13,3 +13,6 @@ mod tracing;
 
 pub use cell::Cell;
 pub use pumped::{Inbound, Outbound};
+
+#[cfg(test)]
+mod tests;

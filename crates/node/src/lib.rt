@@ -8,3 +8,6 @@ mod summary;
 pub use model::{Answer, Event, Letter};
 pub use node::{Node, NodeParts};
 pub use summary::Summary;
+
+#[cfg(test)]
+mod tests;

@@ -1,8 +1,7 @@
 //! A node made from the parts of a saved one.
 ghost use Rattle.std.specs.Prelude.{◌≡◌, ◌≢◌, IfOk, IfErr, OnOk};
 ghost use Rattle.ids.specs.declared.refusal.Refusal.TheVariants.{BadImage, Memory};
-ghost use Rattle.node.specs.Inside.{view_of};
-ghost use Rattle.node.specs.Parts.{node_given, IsRestorable, IsTested};
+ghost use Rattle.node.specs.Parts.{node_given, IsRestorable};
 
 mod ends;
 mod home;
@@ -14,7 +13,6 @@ use ends::{are_at_ends, is_bounded, number_sum};
 use heap::{Heap, HeapParts};
 use home::is_at_home;
 use ids::{Ref, Refusal, Shape};
-use indexmap::IndexSet;
 use link::{LinkParts, Links};
 use lists::{are_grey, asked_once};
 use safra::Ring;
@@ -72,47 +70,14 @@ impl Node {
         if !is_bounded(ring, number_sum(&links)) {
             return Err(Refusal::BadImage);
         }
-        let heap = Heap::from_parts(alloc, shape, heap)?;
-        Ok(Node::of_tested(shape, own, heap, asked, phases, ring, links))
-    }
-
-    fn of_tested(
-        shape: Shape,
-        own: u8,
-        heap: Heap,
-        asked: IndexSet<Ref>,
-        phases: Phases,
-        ring: Ring,
-        links: Links,
-    ) -> Node
-        requires { IsTested (record {
-          shape = shape;
-          own = own;
-          heap = heap;
-          asked = asked;
-          phases = phases;
-          ring = ring;
-          links = links;
-        }) }
-        ensures made { result ≡ view_of (record {
-          shape = shape;
-          own = own;
-          heap = heap;
-          asked = asked;
-          phases = phases;
-          ring = ring;
-          links = links;
-        }) }
-        ensures right { IsRestorable result }
-    {
-        Node {
+        Ok(Node {
             shape,
             own,
-            heap,
+            heap: Heap::from_parts(alloc, shape, heap)?,
             asked,
             phases,
             ring,
             links,
-        }
+        })
     }
 }
