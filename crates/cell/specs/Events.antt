@@ -1,5 +1,5 @@
 -- What a call makes of a node, and of what its seat knows.
-use Rattle.std.specs.Prelude.{◌≡◌, ℕ, Bool, true, false, cond, Result, Ok, Err, OnErr}
+use Rattle.std.specs.Prelude.{◌≡◌, ◌≢◌, ℕ, Bool, true, false, cond, Result, Ok, Err, OnErr}
 use Rattle.ids.specs.declared.refusal.Refusal.{Refusal}
 use Rattle.msg.specs.Grammar.{Plain}
 use Rattle.msg.specs.declared.frame.Ack.{Ack}
@@ -39,6 +39,15 @@ pair_by e p = record { current = state_of p.current (act p.current e); saved = p
 abbrev pub known_after : Event → Step → Result Answer Refusal → Known → Known
 known_after e s (Ok a) v = cond (is_counted a) (ticks s (pair_by e v.pair) v) v
 known_after e s (Err r) v = v
+
+-- whether an event came since the last save, after this answer
+abbrev pub unsaved_after : Result Answer Refusal → Bool → Bool
+unsaved_after (Ok a) was = cond (is_counted a) true was
+unsaved_after (Err r) was = was
+
+-- the same after a call, by what came to the seat's events
+abbrev pub IsMarked : Known → Known → Bool → Bool → Type 0
+IsMarked v w was is = (w.events ≡ v.events → is ≡ was) × (w.events ≢ v.events → is ≡ true)
 
 -- The node was given an event, which is this step of the space: what it answered, and how it stands
 -- afterwards, is what the definitions say of the state that it showed; and what it was refused is

@@ -4,7 +4,7 @@ ghost use Rattle.model.specs.Steps.{is_own};
 ghost use Rattle.model.specs.declared.step.Step.TheVariants as step;
 ghost use Rattle.wire.specs.Plays.{HasTaken};
 ghost use Rattle.wire.specs.Readers.{known, IsSeatOf, IsSame};
-ghost use Rattle.cell.specs.Events.{is_counted, Acted, Acknowledged, MayAct};
+ghost use Rattle.cell.specs.Events.{is_counted, unsaved_after, Acted, Acknowledged, MayAct};
 
 use crate::desk::Desk;
 use crate::entering::enter;
@@ -42,6 +42,7 @@ impl Desk {
         requires own { is_own event ≡ true }
         ensures acted { Acted event (step.Act (known self.old.seat).me event) result
             self.old.node self.new.node (known self.old.seat) (known self.new.seat) }
+        ensures unsaved { self.new.is_unsaved ≡ unsaved_after result self.old.is_unsaved }
         ensures same { IsSame self.old.seat self.new.seat }
         ensures saved { self.new.saved.value ≡ self.old.saved.value }
         ensures places { self.new.places ≡ self.old.places }
@@ -61,6 +62,7 @@ impl Desk {
         requires may { MayAct (known self.old.seat) event step }
         ensures acted { Acted event step result
             self.old.node self.new.node (known self.old.seat) (known self.new.seat) }
+        ensures unsaved { self.new.is_unsaved ≡ unsaved_after result self.old.is_unsaved }
         ensures same { IsSame self.old.seat self.new.seat }
         ensures saved { self.new.saved.value ≡ self.old.saved.value }
         ensures places { self.new.places ≡ self.old.places }
@@ -77,6 +79,7 @@ impl Desk {
     pub(crate) fn acknowledge(&mut self, ack: Ack) -> Result<Answer, Refusal>
         ensures acknowledged { Acknowledged ack result
             self.old.node self.new.node (known self.old.seat) (known self.new.seat) }
+        ensures unsaved { self.new.is_unsaved ≡ self.old.is_unsaved }
         ensures seat { self.new.seat ≡ self.old.seat }
         ensures saved { self.new.saved.value ≡ self.old.saved.value }
         ensures places { self.new.places ≡ self.old.places }

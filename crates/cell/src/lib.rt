@@ -13,6 +13,3 @@ mod tracing;
 
 pub use cell::Cell;
 pub use pumped::{Inbound, Outbound};
-
-#[cfg(test)]
-mod tests;

@@ -29,7 +29,7 @@ ghost use Rattle.wire.specs.Readers.{
   IsSeatOf,
   IsSame,
 };
-ghost use Rattle.cell.specs.Events.{emptied, Handled};
+ghost use Rattle.cell.specs.Events.{emptied, Handled, IsMarked};
 ghost use Rattle.cell.specs.Sending.{frame_due, next_place, places_after, IsSent};
 
 use crate::desk::Desk;
@@ -163,6 +163,8 @@ impl Desk {
         requires receiver { receiver (plain frame) ≡ (known self.old.seat).me }
         ensures handled { Handled frame result self.old.node self.new.node
             (known self.old.seat) (known self.new.seat) }
+        ensures unsaved { IsMarked (known self.old.seat) (known self.new.seat)
+            self.old.is_unsaved self.new.is_unsaved }
         ensures same { IsSame self.old.seat self.new.seat }
         ensures saved { self.new.saved.value ≡ self.old.saved.value }
         ensures places { self.new.places ≡ self.old.places }

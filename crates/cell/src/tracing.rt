@@ -1,6 +1,6 @@
 // What a trace says of a call's answer.
 ghost use Rattle.std.specs.Prelude.{◌≡◌};
-ghost use Rattle.cell.specs.Events.{outcome_of, outcome_of_answer, done_outcome};
+ghost use Rattle.cell.specs.Events.{outcome_of, outcome_of_answer};
 
 use ids::Refusal;
 use model::Answer;
@@ -32,15 +32,6 @@ pub(crate) fn outcome(answered: &Result<Answer, Refusal>) -> Outcome
 {
     match answered {
         Ok(answer) => answer_outcome(answer),
-        Err(refusal) => Outcome::Refused(*refusal),
-    }
-}
-
-pub(crate) fn done(answered: &Result<(), Refusal>) -> Outcome
-    ensures { result ≡ done_outcome answered.now }
-{
-    match answered {
-        Ok(()) => Outcome::Done,
         Err(refusal) => Outcome::Refused(*refusal),
     }
 }

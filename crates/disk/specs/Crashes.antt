@@ -38,7 +38,8 @@ pub record Unmoved {D : Type 0} (seen : D → Areas) (may_leave : D → Areas �
 abbrev pub Grew : ℕ → ℕ → Type 0
 Grew before now = (before < now) ⊎ (2 ^ 64 ≤ now + 1)
 
--- a call that failed has counted it
+-- a call that failed has counted it, and one that didn't has not
 pub record HasCause (before now : ℕ) (fault : Type 0) : Type 0 where
   pub later : before ≤ now
   pub failed : fault → Grew before now
+  pub fine : (fault → ⊥) → now ≡ before

@@ -1,5 +1,5 @@
 -- A disk in memory, as its callers see it.
-use Rattle.std.specs.Prelude.{ℕ, []}
+use Rattle.std.specs.Prelude.{◌≡◌, ℕ, [], None}
 use Rattle.disk.specs.Areas.{Areas}
 use Rattle.disk.specs.Record.{areas_of, leaves, filled}
 use Rattle.disk.specs.declared.memory.MemoryDisk.{MemoryDisk}
@@ -19,3 +19,7 @@ left_by d = leaves d.state
 -- what a crash now leaves where each byte that was written since the last sync became this one
 abbrev pub filled_by_crash : ℕ → MemoryDisk → Areas
 filled_by_crash fill d = filled fill d.state
+
+-- no call of it has failed, and none is to
+abbrev pub IsFaultless : MemoryDisk → Type 0
+IsFaultless d = (d.good ≡ None) × (d.failures ≡ 0)

@@ -1,11 +1,11 @@
 // A disk in memory, which can be told to fail and to crash.
 ghost use Rattle.std.specs.Prelude.{◌≡◌, ◌≤◌, ◌++◌, [], ◌∷◌, length, IfOk, IfErr, IsErr, OnOk};
-ghost use Rattle.std.specs.Prelude.{OnErr, Some, ⊤, ◌-◌};
+ghost use Rattle.std.specs.Prelude.{IsTrue, OnErr, Some, ⊤, ◌-◌};
 ghost use Rattle.disk.specs.Areas.{Areas, Changes, Holds, Reads, Torn, part};
 ghost use Rattle.disk.specs.Crashes.{Elapses, Follows, Grew, HasCause, Only};
 ghost use Rattle.disk.specs.Record.{areas_of, synced, range, leaves, moments, left_since, IsThen};
 ghost use Rattle.disk.specs.Record.{reads_left, counts_now, only_now};
-ghost use Rattle.disk.specs.Plan.{is_due, one_less};
+ghost use Rattle.disk.specs.Plan.{AsPlanned, is_due, one_less};
 
 use crate::state::{Contents, Past, Range, State, start, tick};
 use crate::{Area, Disk, DiskFault};
@@ -55,12 +55,13 @@ fn copy_out(held: &[u8], at: usize, into: &mut [u8]) -> usize
 }
 
 impl MemoryDisk {
-    ghost use Rattle.disk.specs.Memory.{blank, held_by, left_by, filled_by_crash};
+    ghost use Rattle.disk.specs.Memory.{blank, held_by, left_by, filled_by_crash, IsFaultless};
 
     /// A disk that holds nothing, and a crash leaves it so.
     pub fn new(alloc: Global) -> MemoryDisk
         ensures blank { held_by result ≡ blank }
         ensures durable { Only blank (left_by result) }
+        ensures faultless { IsFaultless result }
     {
         MemoryDisk::holding(alloc, Contents::new(alloc))
     }
@@ -69,6 +70,7 @@ impl MemoryDisk {
     fn holding(alloc: Global, held: Contents) -> MemoryDisk
         ensures held { held_by result ≡ areas_of held }
         ensures durable { Only (areas_of held) (left_by result) }
+        ensures faultless { IsFaultless result }
     {
         MemoryDisk {
             alloc,
@@ -93,6 +95,7 @@ impl MemoryDisk {
     pub(crate) fn fault(&mut self) -> DiskFault
         ensures state { self.new.state ≡ self.old.state }
         ensures past { self.new.past ≡ self.old.past }
+        ensures good { self.new.good ≡ self.old.good }
         ensures counted { HasCause self.old.failures self.new.failures ⊤ }
     {
         self.failures = self.failures.saturating_add(1);
@@ -105,6 +108,7 @@ impl MemoryDisk {
         ensures durable { Only (areas_of self.old.state.held) (leaves self.new.state) }
         ensures crash { (c : Areas) → leaves self.new.state c → leaves self.old.state c }
         ensures time { IsThen self.old.past.value self.old.state self.new.past.value }
+        ensures good { self.new.good ≡ self.old.good }
         ensures failures { self.new.failures ≡ self.old.failures }
     {
         tick(&mut self.past, &self.state);
@@ -120,6 +124,7 @@ impl MemoryDisk {
         ensures crash { Follows (Changes area (Torn at len))
             (leaves self.old.state) (leaves self.new.state) }
         ensures time { IsThen self.old.past.value self.old.state self.new.past.value }
+        ensures good { self.new.good ≡ self.old.good }
         ensures cause { HasCause self.old.failures self.new.failures (IsErr result) }
     {
         tick(&mut self.past, &self.state);
@@ -135,6 +140,7 @@ impl MemoryDisk {
         ensures filled { IfOk result (λ d. held_by d ≡ filled_by_crash fill self.now) }
         ensures left { IfOk result (λ d. left_by self.now (held_by d)) }
         ensures durable { IfOk result (λ d. Only (held_by d) (left_by d)) }
+        ensures faultless { IfOk result IsFaultless }
         ensures memory { IfErr result (λ e. e ≡ Refusal.Memory) }
     {
         let mut left = self.state.last_synced(self.alloc)?;
@@ -156,7 +162,16 @@ impl Disk for MemoryDisk {
 
     ghost faults = { λ d. d.failures };
 
-    fn read(&mut self, area: Area, at: usize, into: &mut [u8]) -> Result<usize, DiskFault> {
+    /// It fails only where [`fail_from`](MemoryDisk::fail_from) says so.
+    fn read(&mut self, area: Area, at: usize, into: &mut [u8]) -> Result<usize, DiskFault>
+        ensures bytes { IfOk result (λ n.
+            Reads (part area (areas_of self.old.state.held)) at n into.old into.new) }
+        ensures state { self.new.state ≡ self.old.state }
+        ensures past { self.new.past ≡ self.old.past }
+        ensures cause { HasCause self.old.failures self.new.failures (IsErr result) }
+        ensures plan { AsPlanned self.old.good self.new.good (IsErr result) }
+        ensures only_planned { IsErr result → IsTrue (is_due self.old.good) }
+    {
         if falters(&mut self.good) {
             return Err(self.fault());
         }
@@ -179,6 +194,7 @@ impl Disk for MemoryDisk {
             (left_since self.old.past.value self.old.state)
             (left_since self.new.past.value self.new.state) (leaves self.new.state) }
         ensures cause { HasCause self.old.failures self.new.failures (IsErr result) }
+        ensures plan { AsPlanned self.old.good self.new.good (IsErr result) }
     {
         if falters(&mut self.good) {
             self.risk(area, at, bytes.len())?;
@@ -193,7 +209,19 @@ impl Disk for MemoryDisk {
         Ok(())
     }
 
-    fn sync(&mut self) -> Result<(), DiskFault> {
+    /// It fails only where [`fail_from`](MemoryDisk::fail_from) says so.
+    fn sync(&mut self) -> Result<(), DiskFault>
+        ensures durable { OnOk result
+            (Only (areas_of self.old.state.held) (leaves self.new.state)) }
+        ensures seen { areas_of self.new.state.held ≡ areas_of self.old.state.held }
+        ensures crash { (c : Areas) → leaves self.new.state c → leaves self.old.state c }
+        ensures time { Elapses (moments self.old.past.value) (moments self.new.past.value)
+            (left_since self.old.past.value self.old.state)
+            (left_since self.new.past.value self.new.state) (leaves self.new.state) }
+        ensures cause { HasCause self.old.failures self.new.failures (IsErr result) }
+        ensures plan { AsPlanned self.old.good self.new.good (IsErr result) }
+        ensures only_planned { IsErr result → IsTrue (is_due self.old.good) }
+    {
         if falters(&mut self.good) {
             return Err(self.fault());
         }

@@ -1,8 +1,8 @@
 // A place where one value is saved over and over, so that a crash leaves the old one or the new
 // one.
-ghost use Rattle.std.specs.Prelude.{◌≡◌, ◌-◌, ◌≢◌, ◌⊎◌, ◌↔◌, ◌<◌, List, ℕ, [], length, true, false};
+ghost use Rattle.std.specs.Prelude.{◌≡◌, ◌-◌, ◌≢◌, ◌⊎◌, ◌↔◌, ◌<◌, ◌≤◌, List, ℕ, [], length};
 ghost use Rattle.std.specs.Prelude.{IfErr, IfOk, IsErr, IsErrOf, IsTrue, MatchResult, OnErr, OnOk};
-ghost use Rattle.std.specs.Prelude.{Some};
+ghost use Rattle.std.specs.Prelude.{Some, true, false};
 ghost use Rattle.ids.specs.declared.limits.TheConstants.{GREATEST_IMAGE};
 ghost use Rattle.disk.specs.Areas.{Areas};
 ghost use Rattle.disk.specs.Crashes.{Grew, HasCause, LeavesOnly, Only, Unmoved};
@@ -96,8 +96,9 @@ impl<D: Disk> Shelf<D> {
             (λ e. LeavesOnly D.moment D.left_since disk e.0 (NoneOrNew (N.image value.now))) }
         ensures disk { IfErr result (λ e.
             e.1 ≡ Refusal.Disk → Grew (D.faults disk) (D.faults e.0)) }
-        ensures too_large { IfErr result (λ e. e.1 ≡ Refusal.ImageTooLarge →
-            GREATEST_IMAGE < length (N.image value.now)) }
+        ensures too_large { MatchResult result
+            (λ _. length (N.image value.now) ≤ GREATEST_IMAGE)
+            (λ e. e.1 ≡ Refusal.ImageTooLarge ↔ GREATEST_IMAGE < length (N.image value.now)) }
         ensures unchanged { IfErr result (λ e. e.1 ≢ Refusal.Disk → e.0 ≡ disk) }
         ensures others { IfErr result (λ e. (e.1 ≡ Refusal.Memory)
             ⊎ ((e.1 ≡ Refusal.ImageTooLarge) ⊎ (e.1 ≡ Refusal.Disk))) }
@@ -191,8 +192,8 @@ impl<D: Disk> Shelf<D> {
         ensures closed { IsErrOf result Refusal.Closed ↔ (self.old.ready ≡ false) }
         ensures disk { IsErrOf result Refusal.Disk →
             Grew (D.faults self.old.disk) (D.faults self.new.disk) × (self.new.ready ≡ false) }
-        ensures too_large { IsErrOf result Refusal.ImageTooLarge →
-            GREATEST_IMAGE < length (N.image value.now) }
+        ensures too_large { IsErrOf result Refusal.ImageTooLarge ↔
+            IsTrue self.old.ready × (GREATEST_IMAGE < length (N.image value.now)) }
         ensures unchanged { IfErr result (λ e. e ≢ Refusal.Disk →
             (self.new.disk ≡ self.old.disk) × (self.new.ready ≡ self.old.ready)) }
         ensures others { IfErr result (λ e. (e ≡ Refusal.Closed) ⊎ ((e ≡ Refusal.ImageTooLarge)
@@ -212,7 +213,7 @@ impl<D: Disk> Shelf<D> {
 }
 
 impl Shelf<MemoryDisk> {
-    ghost use Rattle.disk.specs.Memory.{held_by, left_by, filled_by_crash};
+    ghost use Rattle.disk.specs.Memory.{held_by, left_by, filled_by_crash, IsFaultless};
 
     /// From now on the `k`-th call of the disk and all later ones fail, as
     /// [`MemoryDisk::fail_from`] says.
@@ -231,6 +232,7 @@ impl Shelf<MemoryDisk> {
         ensures filled { IfOk result (λ d. held_by d ≡ filled_by_crash fill self.now.disk) }
         ensures left { IfOk result (λ d. left_by self.now.disk (held_by d)) }
         ensures durable { IfOk result (λ d. Only (held_by d) (left_by d)) }
+        ensures faultless { IfOk result IsFaultless }
         ensures memory { IfErr result (λ e. e ≡ Refusal.Memory) }
     {
         self.disk.after_crash(fill)

@@ -1,5 +1,6 @@
 mod files;
 mod memory;
+mod nodes;
 mod saves;
 
 ghost use Rattle.std.specs.Prelude.{◌≡◌, ◌∷◌, [], List, ℕ, IfErr, IfOk};
@@ -100,4 +101,20 @@ fn create(alloc: Global, note: &Note) -> Result<Shelf<MemoryDisk>, Refusal> {
 fn created(alloc: Global, text: &[u8]) -> Result<Shelf<MemoryDisk>, Refusal> {
     let note = Note::new(alloc, text)?;
     create(alloc, &note)
+}
+
+/// A value is saved first on a disk whose k-th call fails: why it was refused, and the disk that a
+/// crash then leaves where each byte that wasn't synced became `fill`.
+fn created_in_part<N: Persist>(
+    alloc: Global,
+    value: &N,
+    k: u64,
+    fill: u8,
+) -> Result<(Option<Refusal>, MemoryDisk), Refusal> {
+    let mut disk = MemoryDisk::new(alloc);
+    disk.fail_from(k);
+    match Shelf::create(alloc, disk, value) {
+        Ok(shelf) => Ok((None, shelf.after_crash(fill)?)),
+        Err((disk, refusal)) => Ok((Some(refusal), disk.after_crash(fill)?)),
+    }
 }

@@ -1,8 +1,9 @@
 -- What freeing an object in the arena makes of the heap that shows it, and sweeping slot by slot.
-use Rattle.std.proofs.Common.{◌≡◌, ℕ, suc, ◌+◌, ◌-◌, ◌<◌, ◌==◌, if◌then◌else◌, Bool, true, false, cond, List, ◌∷◌, set, get_or, Some, None, refl, sym, ap, ◌∙◌, arith}
-use Rattle.std.proofs.lemmas.Bool.{eq-eqb, cond-true, cond-false}
-use Rattle.std.proofs.lemmas.List.{map-set}
+use Rattle.std.proofs.Common.{◌≡◌, ℕ, zero, suc, ◌+◌, ◌-◌, ◌<◌, ◌≤◌, ◌==◌, if◌then◌else◌, Bool, true, false, cond, List, ◌∷◌, length, set, get_or, Option, Some, None, min, inl, inr, refl, sym, ap, ◌∙◌, arith}
+use Rattle.std.proofs.lemmas.Bool.{eq-eqb, cases_lt, cond-true, cond-false}
+use Rattle.std.proofs.lemmas.List.{map-set, length-set, length-map, get_or_past}
 use Rattle.std.proofs.Math.ListN.{get_or-map}
+use Rattle.std.proofs.Math.Nat.{min-eq_left, min-eq_right}
 use Rattle.arena.specs.Arena.{Arena, key_of, value_of, freed, retired, without, removed}
 use Rattle.arena.specs.Arena as arena
 use Rattle.arena.specs.declared.TheConstants.{GREATEST_GENERATION}
@@ -43,6 +44,24 @@ pub vacated-stored : (h : Inside) (key : Key)
     → heap_with h (arena.vacated h.objects key)
     ≡ collecting.vacated (view_of h).heap key.slot key.generation
 vacated-stored h key = vacated_by (key.generation == GREATEST_GENERATION) h key
+
+vacated-slots : (b : Bool) (a : Arena Object) (key : Key)
+    → length (if b then retired a key else freed a key).slots ≡ length a.slots
+vacated-slots true a key = length-set a.slots key.slot Retired
+vacated-slots false a key = length-set a.slots key.slot (Free (key.generation + 1))
+
+without-slots : (found : Option Object) (a : Arena Object) (key : Key)
+    → length (without found a key).slots ≡ length a.slots
+without-slots None a key = refl
+without-slots (Some o) a key = vacated-slots (key.generation == GREATEST_GENERATION) a key
+
+-- there are as many slots as before
+pub removed-slots : (h : Inside) (key : Key)
+    → length (heap_with h (removed h.objects key)).slots ≡ length (view_of h).heap.slots
+removed-slots h key =
+    length-map (removed h.objects key).slots slot_of
+    ∙ without-slots (arena.get h.objects key) h.objects key
+    ∙ sym (length-map h.objects.slots slot_of)
 
 -- the slot has an object, under this key
 record IsHeld (s : Slot Object) (slot : ℕ) (key : Key) : Type 0 where
@@ -106,6 +125,32 @@ pub swept-none : (h : Heap) (slot cycle n : ℕ) → is_garbage cycle (slot_at h
     → sweep_one cycle slot (record { heap = h; freed = n }) ≡ record { heap = h; freed = n }
 unfolding sweep_one
 swept-none h slot cycle n kept = cond-false (is_garbage cycle (slot_at h slot)) _ _ kept
+
+-- sweeping stops where all that was asked for is swept, or every slot that was used
+pub stops-after : (last most used slot : ℕ) → used ≤ most → min (min last most) used ≤ slot
+    → slot < last → used ≤ slot
+stops-after last most used slot within past left =
+    elim (cases_lt (min last most) used) [
+      | inl less ↦
+          let first : min last most ≤ used = omega (arith, less) in
+          elim (cases_lt last most) [
+            | inl few ↦
+                let all : last ≤ most = omega (arith, few) in
+                absurd (omega (arith, past, left, min-eq_left first, min-eq_left all))
+            | inr many ↦ omega (arith, past, within, min-eq_left first, min-eq_right many)
+          ]
+      | inr more ↦ omega (arith, past, min-eq_right more)
+    ]
+
+-- past the last slot nothing is left to sweep
+pub swept-past : (cycle k n : ℕ) (s : Sweeping) → (0 < n → length s.heap.slots ≤ k)
+    → sweep_some cycle k n s ≡ s
+swept-past cycle k zero s past = refl
+swept-past cycle k (suc n) s past =
+    let here : length s.heap.slots ≤ k = past (omega arith) in
+    let none = ap (is_garbage cycle) (get_or_past s.heap.slots k state.Retired here) in
+    ap (sweep_some cycle (k + 1) n) (swept-none s.heap k cycle s.freed none)
+    ∙ swept-past cycle (k + 1) n s (λ _. omega (arith, here))
 
 -- what is left of so many slots is the next one, and then the others
 pub swept-next : (cycle slot last : ℕ) (s : Sweeping) → slot < last

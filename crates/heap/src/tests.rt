@@ -67,23 +67,41 @@ fn registers_are_copied_and_dropped(rt: HostRuntime) -> Result<(), Refusal> {
     Ok(())
 }
 
-#[test]
-fn what_is_stored_is_loaded(rt: HostRuntime) -> Result<(), Refusal> {
-    let mut heap = small(&rt, rt.alloc())?;
+// A heap with two objects of two places each, in the registers. The second place of the first names
+// the second.
+fn stored(rt: &impl Abort, alloc: Global) -> Result<Heap, Refusal> {
+    let mut heap = small(rt, alloc)?;
     heap.alloc(OWN, CYCLE, 0, 2)?;
     heap.alloc(OWN, CYCLE, 1, 2)?;
-    assert_eq!(rt; heap.store(OWN, 0, 1, 1), Ok(()));
+    heap.store(OWN, 0, 1, 1)?;
+    Ok(heap)
+}
+
+#[test]
+fn what_is_stored_stands_in_its_place(rt: HostRuntime) -> Result<(), Refusal> {
+    let heap = stored(&rt, rt.alloc())?;
     assert_eq!(rt; heap.place(first(0), 1), Some(first(1)));
     assert_eq!(rt; heap.loaded(OWN, 1, 0, 0), Ok(None));
     assert_eq!(rt; heap.loaded(OWN, 2, 0, 1), Err(Refusal::NoRegister));
+    Ok(())
+}
+
+#[test]
+fn what_is_stored_is_loaded(rt: HostRuntime) -> Result<(), Refusal> {
+    let mut heap = stored(&rt, rt.alloc())?;
     heap.drop_register(1)?;
     let value = heap.loaded(OWN, 1, 0, 1)?;
     assert_eq!(rt; (value, heap.register(1)), (Some(first(1)), Ok(None)));
     heap.set_register(1, value);
     assert_eq!(rt; heap.register(1), Ok(Some(first(1))));
+    Ok(())
+}
+
+#[test]
+fn a_place_is_written(rt: HostRuntime) -> Result<(), Refusal> {
+    let mut heap = stored(&rt, rt.alloc())?;
     assert_eq!(rt; heap.clear(OWN, 0, 1), Ok(()));
     assert_eq!(rt; heap.place(first(0), 1), None);
-
     heap.set_place(first(1), 0, Some(first(0)));
     assert_eq!(rt; heap.place(first(1), 0), Some(first(0)));
     Ok(())
@@ -246,13 +264,8 @@ fn shown(heap: &Heap, slot: u32) -> (u32, Option<(u64, u64, usize)>) {
 
 #[test]
 fn a_heap_is_made_of_its_parts(rt: HostRuntime) -> Result<(), Refusal> {
-    let mut heap = made(rt.alloc(), &[1], 2)?;
-    assert_eq!(rt; shown(&heap, 0), (3, Some((7, CYCLE, 1))));
-    assert_eq!(rt; shown(&heap, 1), (2, None));
-    assert_eq!(rt; shown(&heap, 2), (0, None));
+    let heap = made(rt.alloc(), &[1], 2)?;
     assert_eq!(rt; (heap.vacant(), heap.live(), heap.slots()), (1, 1, 2));
-    let free: Vec<u32> = heap.free_slots().collect(rt.alloc())?;
-    assert_eq!(rt; free.as_slice(), [1].as_slice());
     assert_eq!(rt; heap.registers().len(), 2);
     assert_eq!(rt;
         (heap.letter(0), heap.letter(1)),
@@ -260,6 +273,23 @@ fn a_heap_is_made_of_its_parts(rt: HostRuntime) -> Result<(), Refusal> {
     );
     assert_eq!(rt; heap.grey_slots(), [0].as_slice());
     assert_eq!(rt; heap.last_grey(), Some(0));
+    Ok(())
+}
+
+#[test]
+fn slots_are_shown_as_given(rt: HostRuntime) -> Result<(), Refusal> {
+    let heap = made(rt.alloc(), &[1], 2)?;
+    assert_eq!(rt; shown(&heap, 0), (3, Some((7, CYCLE, 1))));
+    assert_eq!(rt; shown(&heap, 1), (2, None));
+    assert_eq!(rt; shown(&heap, 2), (0, None));
+    Ok(())
+}
+
+#[test]
+fn a_given_free_slot_is_used(rt: HostRuntime) -> Result<(), Refusal> {
+    let mut heap = made(rt.alloc(), &[1], 2)?;
+    let free: Vec<u32> = heap.free_slots().collect(rt.alloc())?;
+    assert_eq!(rt; free.as_slice(), [1].as_slice());
     let next = heap.alloc(OWN, CYCLE, 1, 0)?;
     assert_eq!(rt; (next.slot, next.generation), (1, 2));
     Ok(())

@@ -5,7 +5,7 @@ use Rattle.std.proofs.Common.{arith}
 use Rattle.std.specs.Prelude.{IfSome}
 use Rattle.std.specs.List.{AllByRecursion, Contains, IsDistinct}
 use Rattle.std.proofs.lemmas.Bool.{ne_eqb}
-use Rattle.std.proofs.lemmas.List.Elements.{All-get_or}
+use Rattle.std.proofs.lemmas.List.Elements.{All-from_get_or, recursion_from_All}
 use Rattle.ids.specs.declared.limits.TheConstants.{GREATEST_NUMBER}
 use Rattle.msg.specs.declared.body.Message.{Message}
 use Rattle.msg.specs.declared.body.Token.{Token}
@@ -17,14 +17,6 @@ use Rattle.model.specs.WellFormed.{IsSlotOf, HasMarked, IsHeld}
 use Rattle.safra.proofs.Sizes.{bounded-sizes}
 use Rattle.image.specs.Nodes.{IsStanding, IsImageOf}
 use Rattle.image.specs.Conditions.{IsUsedSlot, IsFreeSlot, IsMarkedSlot, IsMessageWithin, IsSaved}
-
-all_each : {A : Type 0} (P : A → Type 0) (xs : List A) (d : A)
-    → ((k : ℕ) → k < length xs → P (get_or xs k d)) → AllByRecursion P xs
-all_each P [] d each = tt
-all_each P (x ∷ xs) d each = (
-  each 0 (omega arith),
-  all_each P xs d (λ k inside. each (suc k) (omega (arith, inside))),
-)
 
 -- ---- the list of the free slots
 
@@ -84,6 +76,18 @@ held_in_time : (cycle ended : ℕ) (token : Option Token) → IsHeld cycle ended
 held_in_time cycle ended None is = tt
 held_in_time cycle ended (Some token) is = is
 
+-- ---- the messages of all links
+
+all_messages : (P : Message → Type 0) (ls : List Link)
+    → ((i k : ℕ) → P (get_or (get_or ls i no_link).unacknowledged k no_message))
+    → AllByRecursion (λ (l : Link). AllByRecursion P l.unacknowledged) ls
+all_messages P ls each =
+    let Each : Link → Type 0 = λ l. AllByRecursion P l.unacknowledged in
+    recursion_from_All Each ls (All-from_get_or Each ls no_link (λ i inside.
+    let messages = (get_or ls i no_link).unacknowledged in
+    recursion_from_All P messages
+    (All-from_get_or P messages no_message (λ k within. each i k))))
+
 -- ---- the node
 
 pub standing_saved : (n : NodeView) → IsStanding n → IsSaved n
@@ -93,6 +97,9 @@ standing_saved n stands =
     let links = is.links.links in
     let phases = is.phases.phases in
     let free = stands.slots in
+    let IsUsed = IsUsedSlot p.phases.cycle in
+    let IsNumber : ℕ → Type 0 = λ g. g ≤ GREATEST_NUMBER in
+    let IsCounted : Link → Type 0 = λ l. used l ≤ GREATEST_NUMBER in
     record {
       place = record { shape = is.shape; own = is.own };
       phases = record {
@@ -103,13 +110,12 @@ standing_saved n stands =
       };
       cursor = record { within = is.phases.cursor; resting = phases.cursor };
       token = held_in_time p.phases.cycle p.phases.ended p.ring.token is.token;
-      reports = all_each (λ (r : ℕ). r ≤ p.phases.cycle) p.phases.reports 0
-          (λ k inside. All-get_or (λ (r : ℕ). r ≤ p.phases.cycle) p.phases.reports k 0 inside
-          phases.reports);
+      reports = recursion_from_All (λ (r : ℕ). r ≤ p.phases.cycle) p.phases.reports phases.reports;
       slots = record {
         count = free.within;
-        each = all_each (IsUsedSlot p.phases.cycle) p.heap.slots Retired
-            (λ k inside. used_slot p.phases.cycle (slot_at p.heap k) (is.stocked.slots k));
+        each = recursion_from_All IsUsed p.heap.slots
+            (All-from_get_or IsUsed p.heap.slots Retired
+            (λ k inside. used_slot p.phases.cycle (slot_at p.heap k) (is.stocked.slots k)));
       };
       free = record {
         exactly = λ k. (
@@ -129,28 +135,19 @@ standing_saved n stands =
       };
       references = record {
         held = is.references;
-        sent = all_each
-            (λ (l : Link). AllByRecursion (IsMessageWithin p.shape) l.unacknowledged) n.links no_link
-            (λ i inside.
-            all_each (IsMessageWithin p.shape) (get_or n.links i no_link).unacknowledged no_message
-            (λ k within. (is.links.messages i k).references));
+        sent = all_messages (IsMessageWithin p.shape) n.links
+            (λ i k. (is.links.messages i k).references);
         asked = is.asked.within;
         foreign = is.asked.others;
         once = is.asked.once;
       };
       letters = is.stocked.letters;
       numbers = record {
-        sent = all_each (λ (l : Link). used l ≤ GREATEST_NUMBER) n.links no_link
-            (λ i inside. (links.links i).used);
-        received = all_each (λ (g : ℕ). g ≤ GREATEST_NUMBER) p.got 0
-            (λ i inside. links.numbers i);
-        stamps = all_each
-            (λ (l : Link). AllByRecursion (λ (x : Message). x.stamp ≤ p.phases.cycle)
-            l.unacknowledged) n.links no_link
-            (λ i inside.
-            all_each (λ (x : Message). x.stamp ≤ p.phases.cycle)
-            (get_or n.links i no_link).unacknowledged no_message
-            (λ k within. is.links.timely.stamps i k));
+        sent = recursion_from_All IsCounted n.links
+            (All-from_get_or IsCounted n.links no_link (λ i inside. (links.links i).used));
+        received = recursion_from_All IsNumber p.got
+            (All-from_get_or IsNumber p.got 0 (λ i inside. links.numbers i));
+        stamps = all_messages (λ x. x.stamp ≤ p.phases.cycle) n.links is.links.timely.stamps;
       };
       balances = bounded-sizes _ p.ring is.balance;
     }

@@ -76,7 +76,10 @@ sizes_read =
     three_read nodes_read number16_read number32_read sizes_bytes IsHead
     (λ nodes registers slots.
     record { nodes = nodes.0; own = nodes.1; registers = registers; slots = slots })
-    (λ n r s hn hr hs. (refl, record { nodes = hn.nodes; own = hn.own; registers = hr; slots = hs }))
+    (λ n r s hn hr hs. (
+      refl,
+      record { nodes = hn.nodes; own = hn.own; registers = hr; slots = hs },
+    ))
     (λ h holds. (
       (h.nodes, h.own),
       h.registers,

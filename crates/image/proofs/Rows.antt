@@ -35,7 +35,8 @@ is_new : node_of says ≡ new_view shape 1
 unfolding says shape
 is_new = refl
 
-is_spelled : spelling says ≡ (0x4D ∷ 0x52 ∷ 1 ∷ 2 ∷ 1 ∷ 0 ∷ 1 ∷ 0 ∷ 0 ∷ 0 ∷ 2 ∷ []) ++ replicate 87 0
+is_spelled : spelling says
+    ≡ (0x4D ∷ 0x52 ∷ 1 ∷ 2 ∷ 1 ∷ 0 ∷ 1 ∷ 0 ∷ 0 ∷ 0 ∷ 2 ∷ []) ++ replicate 87 0
 unfolding says
 is_spelled = refl
 

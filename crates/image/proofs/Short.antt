@@ -24,8 +24,9 @@ count spell long (x ∷ xs) =
 link_count : (l : StoredLink) → length l.unacknowledged ≤ length (link_bytes l)
 link_count l =
     let messages = count message_bytes (λ m. omega arith) l.unacknowledged in
-    let all : length (link_bytes l) ≡ 20 + length (flat_map message_bytes l.unacknowledged) =
-    omega (arith, length-append (flat_map message_bytes l.unacknowledged) (to_be_bytes w64 l.received)) in
+    let spelled = flat_map message_bytes l.unacknowledged in
+    let all : length (link_bytes l) ≡ 20 + length spelled =
+    omega (arith, length-append spelled (to_be_bytes w64 l.received)) in
     omega (arith, messages, all)
 
 links_short : (xs : List StoredLink) → length (flat_map link_bytes xs) ≤ GREATEST_IMAGE

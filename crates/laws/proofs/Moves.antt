@@ -1,5 +1,5 @@
 -- Steps of one node, one after another: what each leaves to the next.
-use Rattle.std.proofs.Common.{◌≡◌, ℕ, ◌<◌, ◌⊎◌, ◌==◌, not, true, List, [], ◌∷◌, ◌++◌, get_or, set, refl, sym, ap, ◌∙◌, subst, ⊎_elim, arith}
+use Rattle.std.proofs.Common.{◌≡◌, ℕ, ◌<◌, ◌⊎◌, ◌==◌, not, true, false, List, [], ◌∷◌, ◌++◌, get_or, set, refl, sym, ap, ◌∙◌, subst, ⊎_elim, arith}
 use Rattle.std.proofs.lemmas.Bool.{cases_Bool, both_ways}
 use Rattle.std.proofs.Math.Path.{fun_ext}
 use Rattle.ids.specs.Limits.{Shaped}
@@ -104,6 +104,31 @@ open-now : {shape : Shaped} {c d : Cut} {i : ℕ} → Moves shape c d i
     → is_open (d i).local ≡ is_open (c i).local
 open-now {i = i} m = ap (λ (z : ℕ → Phases). not ((z i).ended == (z i).cycle)) m.phases
 
+-- a node that marks then holds them
+met-open : {shape : Shaped} {c d : Cut} {i : ℕ} {rs : List Ref} {q : LocalState} → Moves shape c d i
+    → ((r : Ref) → Among r rs → Safe c r) → (d i).local ≡ q
+    → ((r : Ref) → Among r rs → Holds q r) → Met shape c d i rs
+met-open moves safe now holds = record {
+  moves = moves;
+  known = λ r a. record {
+    safe = moves.safe r (safe r a);
+    held = λ _. subst (λ (z : LocalState). Holds z r) (sym now) (holds r a);
+  };
+}
+
+-- one that doesn't is as before
+met-shut : {shape : Shaped} {c d : Cut} {i : ℕ} {rs : List Ref} → Inv shape c → Becomes c d i (c i)
+    → ((r : Ref) → Among r rs → Safe c r) → is_open (c i).local ≡ false → Met shape c d i rs
+met-shut {shape = shape} {c = c} {d = d} {i = i} inv becomes safe shut =
+    let moves : Moves shape c d i = moves-none becomes inv in
+    record {
+      moves = moves;
+      known = λ r a. record {
+        safe = moves.safe r (safe r a);
+        held = λ opened. absurd (both_ways _ shut (sym (open-now moves) ∙ opened));
+      };
+    }
+
 pub shade-met : {shape : Shaped} {c d : Cut} {i : ℕ} {rs : List Ref} → Shadeable shape c i rs
     → Becomes c d i (worked (c i) (shade_all (at_rest (c i).local) rs)) → Met shape c d i rs
 shade-met {shape = shape} {c = c} {d = d} {i = i} {rs = rs} s becomes =
@@ -119,31 +144,13 @@ shade-met {shape = shape} {c = c} {d = d} {i = i} {rs = rs} s becomes =
     let became : Becomes c d i (worked (c i) (shaded_work (c i).local [] rs)) =
     subst (λ (z : Work). Becomes c d i (worked (c i) z)) (shade_all-open (c i).local [] rs opened)
     becomes in
-    let inner = shade-inner shading became in
-    let moves : Moves shape c d i = inner-moves inner refl in
-    let now : (d i).local ≡ (shaded_work (c i).local [] rs).local =
-    ap (λ (z : NodeState). z.local) became.changed in
-    record {
-      moves = moves;
-      known = λ r a. record {
-        safe = moves.safe r (s.safe r a);
-        held = λ _.
-            subst (λ (z : LocalState). Holds z r) (sym now)
-            (meet-holds meeting {q = (shaded_work (c i).local [] rs).local} refl
-            (record { shape = refl; own = refl; phases = refl; token = refl }) refl r a);
-      };
-    })
+    met-open (inner-moves (shade-inner shading became) refl) s.safe
+    (ap (λ (z : NodeState). z.local) became.changed)
+    (meet-holds meeting {q = (shaded_work (c i).local [] rs).local} refl
+    (record { shape = refl; own = refl; phases = refl; token = refl }) refl))
     (λ shut.
-    let moves : Moves shape c d i =
-    moves-none (subst (λ (z : Work). Becomes c d i (worked (c i) z))
-    (shade_all-closed (at_rest (c i).local) rs shut) becomes) s.inv in
-    record {
-      moves = moves;
-      known = λ r a. record {
-        safe = moves.safe r (s.safe r a);
-        held = λ opened. absurd (both_ways _ shut (sym (open-now moves) ∙ opened));
-      };
-    })
+    met-shut s.inv (subst (λ (z : Work). Becomes c d i (worked (c i) z))
+    (shade_all-closed (at_rest (c i).local) rs shut) becomes) s.safe shut)
     (cases_Bool (is_open (c i).local))
 
 pub record Vouchable (shape : Shaped) (c : Cut) (i : ℕ) (rs : List Ref) : Type 0 where
@@ -169,29 +176,11 @@ vouch-met {shape = shape} {c = c} {d = d} {i = i} {rs = rs} s becomes =
     let became : Becomes c d i (worked (c i) (vouched_work (c i).local [] rs)) =
     subst (λ (z : Work). Becomes c d i (worked (c i) z)) (vouch_all-open (c i).local [] rs opened)
     becomes in
-    let inner = vouch-inner vouching became in
-    let moves : Moves shape c d i = inner-moves inner refl in
-    let now : (d i).local ≡ (vouched_work (c i).local [] rs).local =
-    ap (λ (z : NodeState). z.local) became.changed in
-    record {
-      moves = moves;
-      known = λ r a. record {
-        safe = moves.safe r (s.safe r a);
-        held = λ _.
-            subst (λ (z : LocalState). Holds z r) (sym now)
-            (meet-holds meeting {q = (vouched_work (c i).local [] rs).local} refl
-            (record { shape = refl; own = refl; phases = refl; token = refl }) refl r a);
-      };
-    })
+    met-open (inner-moves (vouch-inner vouching became) refl) s.safe
+    (ap (λ (z : NodeState). z.local) became.changed)
+    (meet-holds meeting {q = (vouched_work (c i).local [] rs).local} refl
+    (record { shape = refl; own = refl; phases = refl; token = refl }) refl))
     (λ shut.
-    let moves : Moves shape c d i =
-    moves-none (subst (λ (z : Work). Becomes c d i (worked (c i) z))
-    (vouch_all-closed (at_rest (c i).local) rs shut) becomes) s.inv in
-    record {
-      moves = moves;
-      known = λ r a. record {
-        safe = moves.safe r (s.safe r a);
-        held = λ opened. absurd (both_ways _ shut (sym (open-now moves) ∙ opened));
-      };
-    })
+    met-shut s.inv (subst (λ (z : Work). Becomes c d i (worked (c i) z))
+    (vouch_all-closed (at_rest (c i).local) rs shut) becomes) s.safe shut)
     (cases_Bool (is_open (c i).local))

@@ -218,6 +218,98 @@ others-last {c = c} {d = d} {i = i} {x = x} p b m turn k place flight new =
     (λ (past : length (sent_to (c i) k) ≤ place). omega (arith, past, below, most))
     (cases_lt place (length (sent_to (c i) k)))
 
+-- A node is as before, and sends messages that bring no reference and no token.
+pub record Says (shape : Shaped) (c d : Cut) (i : ℕ) (ms : List (ℕ × Message)) : Type 0 where
+  pub inv : Inv shape c
+  pub inside : i < shape.nodes
+  pub becomes : Becomes c d i (record {
+    local = (c i).local;
+    sent = append_all (c i).sent ms;
+  })
+  pub reaches : (m : ℕ × Message) → Among m ms → m.0 < shape.nodes
+  pub idle : (to : ℕ) (x : Message) → Among (to, x) ms → is_idle x.body ≡ true
+  pub no_token : (to : ℕ) (x : Message) (t : Token) → Among (to, x) ms → x.body ≡ body.Token t → ⊥
+  pub fits : (to : ℕ) (x : Message) → Among (to, x) ms
+      → BodyFits shape.nodes (phases_of c) i to x.stamp x.body
+
+module _ {shape : Shaped} {c d : Cut} {i : ℕ} {ms : List (ℕ × Message)}
+    (h : Says shape c d i ms) where
+  pub says-turn : Turn c d i (c i).local ms
+  says-turn = record { becomes = h.becomes; heard = λ from. le_refl _ }
+
+  pub says-phases : phases_of d ≡ phases_of c
+  says-phases =
+      fun_ext (at_turn (λ j s. s.local.phases ≡ phases_of c j) says-turn refl (λ j _. refl))
+
+  says-ended : (phases_of d 0).ended ≡ (phases_of c 0).ended
+  says-ended = ap (λ (z : ℕ → Phases). (z 0).ended) says-phases
+
+  says-quiet : Quietly shape.nodes c d i (c i).local ms
+  says-quiet = record {
+    turn = says-turn;
+    inside = h.inside;
+    cycle = refl;
+    ended = says-ended;
+    grey = refl;
+    earlier = refl;
+    colour = refl;
+    token = refl;
+    none = h.no_token;
+    stays = λ from place stamp t flight. flight.later;
+  }
+
+  says-speaks : Speaks shape c d i (c i).local ms
+  says-speaks = record {
+    inv = h.inv;
+    inside = h.inside;
+    turn = says-turn;
+    cycle = refl;
+    got = refl;
+    earlier = refl;
+    recent = refl;
+    all = all-from (λ m. m.0 < shape.nodes) ms h.reaches;
+    idle = h.idle;
+  }
+
+  says-fits : (from to place : ℕ) (x : Message) → IsInFlight d from to place x
+      → BodyFits shape.nodes (phases_of d) from to x.stamp x.body
+  says-fits from to place x flight =
+      subst (λ (z : ℕ → Phases). BodyFits shape.nodes z from to x.stamp x.body) (sym says-phases)
+      (⊎_elim {C = BodyFits shape.nodes (phases_of c) from to x.stamp x.body}
+      (λ before. h.inv.messages.fits from to place x before)
+      (λ new.
+      subst (λ (z : ℕ). BodyFits shape.nodes (phases_of c) z to x.stamp x.body) (sym new.0)
+      (h.fits to x new.1))
+      (flew says-turn from to place x flight))
+
+  -- It is still to be shown that it says once in a cycle what is said once.
+  pub says-inv : ((from to k l : ℕ) (x y : Message) → IsInFlight d from to k x
+      → IsInFlight d from to l y → x.body ≡ y.body → is_single x.body ≡ true → k ≡ l)
+      → Inv shape d
+  says-inv once = light-inv (record {
+    inv = h.inv;
+    inside = h.inside;
+    turn = says-turn;
+    own = refl;
+    same_shape = refl;
+    heard = refl;
+    within = λ from. h.inv.base.within from i;
+    heap = refl;
+    asked = refl;
+    cycle = refl;
+    ended = says-ended;
+    opened = λ o. o;
+    calm = λ shut. (h.inv.tidy i).calm shut;
+    idle = h.idle;
+    marks = λ from place stamp r flight. flight.later;
+    flows = speaks-flows says-speaks;
+    owed = (refl, refl);
+    phased = subst (Phased shape.nodes) (sym says-phases) h.inv.phased;
+    messages = record { fits = says-fits; once = once };
+    tokens = quiet-tokens says-quiet h.inv.tokens;
+    behind = λ k g o rest there past. h.inv.rested.behind i k g o rest there past;
+  })
+
 -- Node 0 tells all others. Where it tells them that marking has ended, none of them knows it, and
 -- none is on its way to know it.
 pub record Telling (shape : Shaped) (c d : Cut) (b : Body) : Type 0 where
@@ -239,87 +331,35 @@ tell-inv {shape = shape} {c = c} {d = d} {b = b} h =
     let p : LocalState = (c 0).local in
     let ms : List (ℕ × Message) = to_others p b shape.nodes in
     let own : p.own ≡ 0 = h.inv.base.own 0 h.inside in
-    let turn : Turn c d 0 p ms = record { becomes = h.becomes; heard = λ from. le_refl _ } in
     let are : (to : ℕ) (x : Message) → Among (to, x) ms
     → (x ≡ stamped p b) × (to ≢ p.own) × (to < shape.nodes) =
     others-are p b shape.nodes in
-    let idle : (to : ℕ) (x : Message) → Among (to, x) ms → is_idle x.body ≡ true =
-    λ to x a. ap (λ (z : Message). is_idle z.body) (are to x a).0 ∙ h.idle in
-    let phases : phases_of d ≡ phases_of c =
-    fun_ext (at_turn (λ j s. s.local.phases ≡ phases_of c j) turn refl (λ j _. refl)) in
-    let quiet : Quietly shape.nodes c d 0 p ms = record {
-      turn = turn;
-      inside = h.inside;
-      cycle = refl;
-      ended = ap (λ (z : ℕ → Phases). (z 0).ended) phases;
-      grey = refl;
-      earlier = refl;
-      colour = refl;
-      token = refl;
-      none = λ to x t a e.
-          h.no_token t (ap (λ (z : Message). z.body) (sym (are to x a).0) ∙ e);
-      stays = λ from place stamp t flight. flight.later;
-    } in
-    light-inv (record {
+    let says : Says shape c d 0 ms = record {
       inv = h.inv;
       inside = h.inside;
-      turn = turn;
-      own = refl;
-      same_shape = refl;
-      heard = refl;
-      within = λ from. h.inv.base.within from 0;
-      heap = refl;
-      asked = refl;
-      cycle = refl;
-      ended = ap (λ (z : ℕ → Phases). (z 0).ended) phases;
-      opened = λ o. o;
-      calm = λ shut. (h.inv.tidy 0).calm shut;
-      idle = idle;
-      marks = λ from place stamp r flight. flight.later;
-      flows =
-          (let speaks : Speaks shape c d 0 p ms = record {
-            inv = h.inv;
-            inside = h.inside;
-            turn = turn;
-            cycle = refl;
-            got = refl;
-            earlier = refl;
-            recent = refl;
-            all = all-from (λ m. m.0 < shape.nodes) ms (λ m a. (are m.0 m.1 a).2);
-            idle = idle;
-          } in
-          speaks-flows speaks);
-      owed = (refl, refl);
-      phased = subst (Phased shape.nodes) (sym phases) h.inv.phased;
-      messages = record {
-        fits = λ from to place x flight.
-            subst (λ (z : ℕ → Phases). BodyFits shape.nodes z from to x.stamp x.body) (sym phases)
-            (⊎_elim {C = BodyFits shape.nodes (phases_of c) from to x.stamp x.body}
-            (λ before. h.inv.messages.fits from to place x before)
-            (λ new.
-            let is = are to x new.1 in
-            subst (λ (z : ℕ). BodyFits shape.nodes (phases_of c) z to x.stamp x.body) (sym new.0)
-            (subst (λ (z : Message). BodyFits shape.nodes (phases_of c) 0 to z.stamp z.body)
-            (sym is.0)
-            (h.fits to (λ (e : to ≡ 0). is.1 (e ∙ sym own)) is.2)))
-            (flew turn from to place x flight));
-        once = λ from to k l x y fx fy same single. ⊎_elim {C = k ≡ l}
-            (λ ex. ⊎_elim {C = k ≡ l}
-            (λ ey. h.inv.messages.once from to k l x y ex ey same single)
-            (λ ny. absurd (clash from to k y ex ny same single))
-            (flew turn from to l y fy))
-            (λ nx. ⊎_elim {C = k ≡ l}
-            (λ ey. absurd (clash from to l x ey nx (sym same) (ap is_single (sym same) ∙ single)))
-            (λ ny.
-            last to k x (subst (λ (z : ℕ). IsInFlight d z to k x) nx.0 fx) nx.1 single
-            ∙ sym (last to l y (subst (λ (z : ℕ). IsInFlight d z to l y) ny.0 fy) ny.1
-            (ap is_single (sym same) ∙ single)))
-            (flew turn from to l y fy))
-            (flew turn from to k x fx);
-      };
-      tokens = quiet-tokens quiet h.inv.tokens;
-      behind = λ k g o rest there past. h.inv.rested.behind 0 k g o rest there past;
-    })
+      becomes = h.becomes;
+      reaches = λ m a. (are m.0 m.1 a).2;
+      idle = λ to x a. ap (λ (z : Message). is_idle z.body) (are to x a).0 ∙ h.idle;
+      no_token = λ to x t a e.
+          h.no_token t (ap (λ (z : Message). z.body) (sym (are to x a).0) ∙ e);
+      fits = λ to x a.
+          (let is = are to x a in
+          subst (λ (z : Message). BodyFits shape.nodes (phases_of c) 0 to z.stamp z.body)
+          (sym is.0) (h.fits to (λ (e : to ≡ 0). is.1 (e ∙ sym own)) is.2));
+    } in
+    says-inv says (λ from to k l x y fx fy same single. ⊎_elim {C = k ≡ l}
+    (λ ex. ⊎_elim {C = k ≡ l}
+    (λ ey. h.inv.messages.once from to k l x y ex ey same single)
+    (λ ny. absurd (clash from to k y ex ny same single))
+    (flew (says-turn says) from to l y fy))
+    (λ nx. ⊎_elim {C = k ≡ l}
+    (λ ey. absurd (clash from to l x ey nx (sym same) (ap is_single (sym same) ∙ single)))
+    (λ ny.
+    last to k x (subst (λ (z : ℕ). IsInFlight d z to k x) nx.0 fx) nx.1 single
+    ∙ sym (last to l y (subst (λ (z : ℕ). IsInFlight d z to l y) ny.0 fy) ny.1
+    (ap is_single (sym same) ∙ single)))
+    (flew (says-turn says) from to l y fy))
+    (flew (says-turn says) from to k x fx))
   where
     is-told : (to : ℕ) (x : Message) → Among (to, x) (to_others (c 0).local b shape.nodes)
         → x.body ≡ b

@@ -239,6 +239,30 @@ take-token {shape = shape} {c = c} {d = d} {i = i} {j = j} {stamp = stamp} t s b
       becomes = b;
     })
 
+-- What was taken in was alone of its kind, so no other message of that kind comes later.
+taken-alone : {shape : Shaped} {c d : Cut} {i j from to place : ℕ} {q : LocalState} {x y : Message}
+    → Hears shape c d i q j x → from ≡ j → to ≡ i → IsInFlight c from to place y → y.body ≡ x.body
+    → is_single x.body ≡ true → taken d from to ≤ place → ⊥
+taken-alone {c = c} {d = d} {i = i} {j = j} {from = from} {place = place} {q = q} {x = x} {y = y}
+    h from_j at flight same single later =
+    let flown : IsInFlight c j i place y =
+    subst (λ (z : ℕ). IsInFlight c z i place y) from_j
+    (subst (λ (z : ℕ). IsInFlight c from z place y) at flight) in
+    let alone : place ≡ taken c j i =
+    h.inv.messages.once j i place (taken c j i) y x flown h.flight same
+    (ap is_single same ∙ single) in
+    let p : LocalState = (c i).local in
+    let inside = flight-inside j i (taken c j i) x h.inv.base h.flight in
+    let heard : j < length p.got = omega (arith, inside.0, h.inv.base.heard i h.inside) in
+    let now : taken d j i ≡ taken c j i + 1 =
+    ap (λ (z : NodeState). got_from z.local j) h.becomes.changed
+    ∙ ap (λ (z : List ℕ). get_or z j 0) h.got
+    ∙ get_or-set_same p.got j (taken c j i + 1) 0 heard in
+    let after : taken d j i ≤ place =
+    subst (λ (z : ℕ). taken d z i ≤ place) from_j
+    (subst (λ (z : ℕ). taken d from z ≤ place) at later) in
+    absurd (omega (arith, alone, now, after))
+
 take-ended : {shape : Shaped} {c d : Cut} {i j stamp : ℕ}
     → Taking shape c i j (record { stamp = stamp; body = body.Ended })
     → Settles c d i j stamp body.Ended → Inv shape d
@@ -324,21 +348,7 @@ take-ended {shape = shape} {c = c} {d = d} {i = i} {j = j} {stamp = stamp} s bec
             (subst (λ (z : Body). BodyFits shape.nodes (phases_of c) from to y.stamp z) e
             (s.inv.messages.fits from to place y flight)).0 in
             let from_j : from ≡ j = sender ∙ sym fits.0 in
-            let flown : IsInFlight c j i place y =
-            subst (λ (z : ℕ). IsInFlight c z i place y) from_j
-            (subst (λ (z : ℕ). IsInFlight c from z place y) at flight) in
-            let same : place ≡ taken c j i =
-            s.inv.messages.once j i place (taken c j i) y x flown s.flight e (ap is_single e) in
-            let now : taken d j i ≡ taken c j i + 1 =
-            ap (λ (z : NodeState). got_from z.local j) b.changed
-            ∙ get_or-set_same p.got j (taken c j i + 1) 0
-            (let w : j < length p.got =
-            (let inside = flight-inside j i (taken c j i) x s.inv.base s.flight in
-            omega (arith, inside.0, s.inv.base.heard i s.inside)) in w) in
-            let after : taken d j i ≤ place =
-            subst (λ (z : ℕ). taken d z i ≤ place) from_j
-            (subst (λ (z : ℕ). taken d from z ≤ place) at later) in
-            absurd (omega (arith, same, now, after)))
+            absurd (taken-alone hears from_j at flight e refl later))
             (λ (away : to ≢ i). ap (λ (z : NodeState). z.local.phases.ended) (b.others to away))
             (cases_eq to i)),
         (λ _. ap (λ (z : Phases). get_or z.reports from 0) first),
@@ -436,21 +446,7 @@ take-swept {shape = shape} {c = c} {d = d} {i = i} {j = j} {stamp = stamp} s bec
             (subst (λ (z : Body). BodyFits shape.nodes (phases_of c) from to y.stamp z) e
             (s.inv.messages.fits from to place y flight)).0 in
             let at : to ≡ i = receiver ∙ sym zero_is in
-            let flown : IsInFlight c j i place y =
-            subst (λ (z : ℕ). IsInFlight c z i place y) from_j
-            (subst (λ (z : ℕ). IsInFlight c from z place y) at flight) in
-            let same : place ≡ taken c j i =
-            s.inv.messages.once j i place (taken c j i) y x flown s.flight e (ap is_single e) in
-            let now : taken d j i ≡ taken c j i + 1 =
-            ap (λ (z : NodeState). got_from z.local j) b.changed
-            ∙ get_or-set_same p.got j (taken c j i + 1) 0
-            (let w : j < length p.got =
-            (let inside = flight-inside j i (taken c j i) x s.inv.base s.flight in
-            omega (arith, inside.0, s.inv.base.heard i s.inside)) in w) in
-            let after : taken d j i ≤ place =
-            subst (λ (z : ℕ). taken d z i ≤ place) from_j
-            (subst (λ (z : ℕ). taken d from z ≤ place) at later) in
-            absurd (omega (arith, same, now, after)))
+            absurd (taken-alone hears from_j at flight e refl later))
             (λ (away : from ≢ j).
             ap (λ (z : List ℕ). get_or z from 0) reports
             ∙ get_or-set_other (phases_of c 0).reports j from stamp 0 away)

@@ -3,14 +3,13 @@
 use Rattle.std.proofs.Common.{◌≡◌, ◌≢◌, ℕ, zero, suc, ◌+◌, ◌<◌, ◌≤◌, ◌⊎◌, ◌==◌, eqb, true, false, List, [], ◌∷◌, length, get_or, set, Option, None, refl, sym, ap, ◌∙◌, subst, ⊎_elim, inl, arith, le_refl, length-set, get_or-set_same, get_or-set_other}
 use Rattle.std.specs.List.{AllByRecursion, IsDistinct}
 use Rattle.std.proofs.lemmas.Bool.{cases_eq, cases_lt, cases_Bool, cond_both, cond-true, cond-false, eq-eqb, ne_eqb, eqb-true, both_ways, not_from_true, not-false}
-use Rattle.std.proofs.Math.Path.{fun_ext}
 use Rattle.ids.specs.Limits.{Shaped}
 use Rattle.ids.specs.declared.names.Ref.{Ref}
 use Rattle.model.specs.Collecting.{greatest_generation}
 use Rattle.msg.specs.declared.body.Body.{Body}
 use Rattle.msg.specs.declared.body.Body.TheVariants as body
 use Rattle.msg.specs.declared.body.Message.{Message}
-use Rattle.model.specs.State.{Object, Slot, Free, Occupied, Retired, Heap, Phases, LocalState, slot_at}
+use Rattle.model.specs.State.{Object, Slot, Free, Occupied, Retired, Heap, LocalState, slot_at}
 use Rattle.model.specs.Heaps.{no_letter}
 use Rattle.model.specs.Counting.{stamped}
 use Rattle.model.specs.Collecting.{is_garbage, generation_in, vacated_slot, vacated_free, vacated, Sweeping, sweep_one, sweep_some}
@@ -27,9 +26,9 @@ use Rattle.laws.proofs.Tallies.{tally-same, tallies-turn}
 use Rattle.laws.proofs.Inner.{roots-map, resting-joined, sweeping-resting}
 use Rattle.laws.proofs.Slots.{still-free}
 use Rattle.laws.proofs.Invariant.{phases_of, cycle_of, Marking, Resting, Joined, Safe, Holds, RootsAll, PlacesAll, IsFree, FreeSlots, Tidy, Phased, BodyFits, Inv}
-use Rattle.laws.proofs.Light.{is_idle, light-inv, Speaks, speaks-flows}
+use Rattle.laws.proofs.Light.{is_idle, Speaks, speaks-flows}
 use Rattle.laws.proofs.RingSteps.{token-back, flew-one}
-use Rattle.laws.proofs.PhaseSteps.{fits-moved, Quietly, quiet-tokens}
+use Rattle.laws.proofs.PhaseSteps.{fits-moved, Says, says-turn, says-inv}
 
 -- ---- a heap of which the slots from one number up to another were swept
 
@@ -487,87 +486,43 @@ report-inv {shape = shape} {c = c} {d = d} {i = i} h =
     let p : LocalState = (c i).local in
     let x : Message = stamped p body.Swept in
     let ms : List (ℕ × Message) = (0, x) ∷ [] in
-    let turn : Turn c d i p ms = record { becomes = h.becomes; heard = λ from. le_refl _ } in
-    let phases : phases_of d ≡ phases_of c =
-    fun_ext (at_turn (λ j z. z.local.phases ≡ phases_of c j) turn refl (λ j _. refl)) in
     let joined : Joined c i = resting-joined h.inv h.resting h.inside in
-    let idle : (to : ℕ) (y : Message) → Among (to, y) ms → is_idle y.body ≡ true =
-    λ to y a. ⊎_elim {C = is_idle y.body ≡ true}
-    (λ e. ap (λ (z : ℕ × Message). is_idle z.1.body) e) (λ never. absurd never) a in
-    let quiet : Quietly shape.nodes c d i p ms = record {
-      turn = turn;
+    let says : Says shape c d i ms = record {
+      inv = h.inv;
       inside = h.inside;
-      cycle = refl;
-      ended = ap (λ (z : ℕ → Phases). (z 0).ended) phases;
-      grey = refl;
-      earlier = refl;
-      colour = refl;
-      token = refl;
-      none = λ to y t a e. ⊎_elim {C = ⊥}
+      becomes = h.becomes;
+      reaches = λ m a. ⊎_elim {C = m.0 < shape.nodes}
+          (λ (is : m ≡ (0, x)).
+          subst (λ (z : ℕ × Message). z.0 < shape.nodes) (sym is)
+          (let w = h.inside in omega (arith, w)))
+          (λ never. absurd never) a;
+      idle = λ to y a. ⊎_elim {C = is_idle y.body ≡ true}
+          (λ e. ap (λ (z : ℕ × Message). is_idle z.1.body) e) (λ never. absurd never) a;
+      no_token = λ to y t a e. ⊎_elim {C = ⊥}
           (λ (is : (to, y) ≡ (0, x)).
           absurd (let never : body.Swept ≡ body.Token t =
           ap (λ (z : ℕ × Message). z.1.body) (sym is) ∙ e in cc))
           (λ never. never) a;
-      stays = λ from place stamp t flight. flight.later;
+      fits = λ to y a. ⊎_elim {C = BodyFits shape.nodes (phases_of c) i to y.stamp y.body}
+          (λ (is : (to, y) ≡ (0, x)).
+          subst (λ (z : ℕ × Message).
+          BodyFits shape.nodes (phases_of c) i z.0 z.1.stamp z.1.body) (sym is)
+          (refl, h.other, joined, h.swept, h.unreported))
+          (λ never. absurd never) a;
     } in
-    light-inv (record {
-      inv = h.inv;
-      inside = h.inside;
-      turn = turn;
-      own = refl;
-      same_shape = refl;
-      heard = refl;
-      within = λ from. h.inv.base.within from i;
-      heap = refl;
-      asked = refl;
-      cycle = refl;
-      ended = ap (λ (z : ℕ → Phases). (z 0).ended) phases;
-      opened = λ o. o;
-      calm = λ shut. (h.inv.tidy i).calm shut;
-      idle = idle;
-      marks = λ from place stamp r flight. flight.later;
-      flows =
-          (let speaks : Speaks shape c d i p ms = record {
-            inv = h.inv;
-            inside = h.inside;
-            turn = turn;
-            cycle = refl;
-            got = refl;
-            earlier = refl;
-            recent = refl;
-            all = ((let w = h.inside in omega (arith, w)), tt);
-            idle = idle;
-          } in
-          speaks-flows speaks);
-      owed = (refl, refl);
-      phased = subst (Phased shape.nodes) (sym phases) h.inv.phased;
-      messages = record {
-        fits = λ from to place y flight.
-            subst (λ (z : ℕ → Phases). BodyFits shape.nodes z from to y.stamp y.body) (sym phases)
-            (⊎_elim {C = BodyFits shape.nodes (phases_of c) from to y.stamp y.body}
-            (λ before. h.inv.messages.fits from to place y before)
-            (λ new.
-            subst (λ (z : ℕ). BodyFits shape.nodes (phases_of c) z to y.stamp y.body) (sym new.0)
-            (subst (λ (z : Message). BodyFits shape.nodes (phases_of c) i to z.stamp z.body)
-            (sym new.2)
-            (new.1, h.other, joined, h.swept, h.unreported)))
-            (flew-one turn from to place y flight));
-        once = λ from to k l y z fy fz same single. ⊎_elim {C = k ≡ l}
-            (λ ey. ⊎_elim {C = k ≡ l}
-            (λ ez. h.inv.messages.once from to k l y z ey ez same single)
-            (λ nz.
-            absurd (clash from to k y ey nz.0 nz.1 (same ∙ ap (λ (m : Message). m.body) nz.2)))
-            (flew-one turn from to l z fz))
-            (λ ny. ⊎_elim {C = k ≡ l}
-            (λ ez.
-            absurd (clash from to l z ez ny.0 ny.1 (sym same ∙ ap (λ (m : Message). m.body) ny.2)))
-            (λ nz. ny.3 ∙ sym nz.3)
-            (flew-one turn from to l z fz))
-            (flew-one turn from to k y fy);
-      };
-      tokens = quiet-tokens quiet h.inv.tokens;
-      behind = λ k g o rest there past. h.inv.rested.behind i k g o rest there past;
-    })
+    let turn = says-turn says in
+    says-inv says (λ from to k l y z fy fz same single. ⊎_elim {C = k ≡ l}
+    (λ ey. ⊎_elim {C = k ≡ l}
+    (λ ez. h.inv.messages.once from to k l y z ey ez same single)
+    (λ nz.
+    absurd (clash from to k y ey nz.0 nz.1 (same ∙ ap (λ (m : Message). m.body) nz.2)))
+    (flew-one turn from to l z fz))
+    (λ ny. ⊎_elim {C = k ≡ l}
+    (λ ez.
+    absurd (clash from to l z ez ny.0 ny.1 (sym same ∙ ap (λ (m : Message). m.body) ny.2)))
+    (λ nz. ny.3 ∙ sym nz.3)
+    (flew-one turn from to l z fz))
+    (flew-one turn from to k y fy))
   where
     clash : (from to k : ℕ) (y : Message) → IsInFlight c from to k y → from ≡ i → to ≡ 0
         → y.body ≡ body.Swept → ⊥

@@ -1,9 +1,11 @@
 //! Frames that go from one node to another, through a mailbox and through a channel.
-ghost use Rattle.std.specs.Prelude.{◌≡◌, IfSome};
+ghost use Rattle.std.specs.Prelude.{◌≡◌, ◌+◌, ◌≤◌, if◌then◌else◌, IfSome, MatchOption};
 ghost use Rattle.msg.specs.Grammar.{ack_frame};
 ghost use Rattle.wire.specs.Rule.{Spells};
 ghost use Rattle.wire.specs.Readers.{width, seat_node, IsSeatOf, IsSame};
+ghost use Rattle.measure.specs.Frames.{posted, taken};
 
+use crate::tally::Tally;
 use crossbeam_channel::{Receiver, Sender, bounded};
 use ids::{NodeId, Refusal, Shape};
 use msg::{Ack, Frame, encode};
@@ -17,7 +19,7 @@ use wire::{NodeSeat, Wire};
 // How often a thread tries before it gives up.
 const TRIES: u64 = 1_000_000_000_000;
 
-// A wire between two new nodes, and their seats.
+// A wire between two new nodes, and their seats, which have done nothing.
 #[derive(Drop)]
 struct Joined {
     wire: Wire,
@@ -26,6 +28,15 @@ struct Joined {
     ghost two: { width wire ≡ 2 },
     ghost one: { IsSeatOf wire first × (seat_node first ≡ 0) },
     ghost other: { IsSeatOf wire second × (seat_node second ≡ 1) },
+    ghost none: { (posted first ≡ 0) × (taken second ≡ 0) },
+}
+
+/// The seat of a node, and how many frames the node took with it.
+#[derive(Drop)]
+pub(crate) struct Received {
+    seat: NodeSeat,
+    pub(crate) count: u64,
+    ghost all: { taken seat ≡ count },
 }
 
 fn two_nodes(alloc: Global) -> Result<Joined, Refusal> {
@@ -62,7 +73,9 @@ fn frame(alloc: Global) -> Option<Vec<u8>>
 // Node 0 sends the frame, where the mailbox is empty.
 fn send(wire: &Wire, alloc: Global, seat: &mut NodeSeat) -> Option<bool>
     requires { IsSeatOf wire.now seat.old × (width wire.now ≡ 2) × (seat_node seat.old ≡ 0) }
-    ensures { IsSame seat.old seat.new }
+    ensures same { IsSame seat.old seat.new }
+    ensures sent { IfSome result (λ b.
+        posted seat.new ≡ (if b then posted seat.old + 1 else posted seat.old)) }
 {
     let Some(bytes) = frame(alloc) else {
         return None;
@@ -77,88 +90,111 @@ fn send(wire: &Wire, alloc: Global, seat: &mut NodeSeat) -> Option<bool>
 // Node 1 takes what is there for it from node 0.
 fn receive(wire: &Wire, seat: &mut NodeSeat) -> Option<Vec<u8>>
     requires { IsSeatOf wire.now seat.old × (width wire.now ≡ 2) × (seat_node seat.old ≡ 1) }
-    ensures { IsSame seat.old seat.new }
+    ensures same { IsSame seat.old seat.new }
+    ensures received { MatchOption result
+        (taken seat.new ≡ taken seat.old) (λ _. taken seat.new ≡ taken seat.old + 1) }
 {
     let taken = wire.take(seat, 0)?;
     Some(wire.clear(seat, taken))
 }
 
 /// So many frames, each sent and received by one thread.
-pub fn through_mailbox(alloc: Global, count: u64) -> Option<()> {
+pub(crate) fn through_mailbox(alloc: Global, count: u64) -> Option<Received>
+    ensures { IfSome result (λ r. r.count ≡ count) }
+{
     let Joined {
         wire,
         mut first,
         mut second,
     } = two_nodes(alloc).ok()?;
-    for _ in 0..count {
+    for _place in 0..count {
         send(&wire, alloc, &mut first)?;
         receive(&wire, &mut second)?;
     }
-    Some(())
+    Some(Received {
+        seat: second,
+        count,
+    })
 }
 
 // So many frames are sent, each once the mailbox is empty.
-fn send_all(wire: &Wire, alloc: Global, seat: &mut NodeSeat, count: u64) -> Option<()>
-    requires { IsSeatOf wire.now seat.old × (width wire.now ≡ 2) × (seat_node seat.old ≡ 0) }
+fn send_all(wire: &Wire, alloc: Global, mut seat: NodeSeat, count: u64) -> Option<NodeSeat>
+    requires { IsSeatOf wire.now seat × (width wire.now ≡ 2) × (seat_node seat ≡ 0) }
+    ensures { IfSome result (λ s. posted s ≡ posted seat + count) }
 {
     let mut left = count;
     for _ in 0..TRIES {
         if left == 0 {
-            break;
+            return Some(seat);
         }
-        if send(wire, alloc, seat)? {
+        if send(wire, alloc, &mut seat)? {
             left -= 1;
         }
     }
-    Some(())
+    None
 }
 
-fn receive_all(wire: &Wire, seat: &mut NodeSeat, count: u64)
-    requires { IsSeatOf wire.now seat.old × (width wire.now ≡ 2) × (seat_node seat.old ≡ 1) }
+// So many frames are taken, each once the mailbox is full.
+fn receive_all(wire: &Wire, mut seat: NodeSeat, count: u64) -> Option<NodeSeat>
+    requires { IsSeatOf wire.now seat × (width wire.now ≡ 2) × (seat_node seat ≡ 1) }
+    ensures { IfSome result (λ s. taken s ≡ taken seat + count) }
 {
     let mut left = count;
     for _ in 0..TRIES {
         if left == 0 {
-            break;
+            return Some(seat);
         }
-        if receive(wire, seat).is_some() {
+        if receive(wire, &mut seat).is_some() {
             left -= 1;
         }
     }
+    None
 }
 
 /// So many frames, sent by one thread and received by another.
-pub fn between_threads<R: Threads + Sync>(rt: &R, alloc: Global, count: u64) -> Option<()> {
+pub(crate) fn between_threads<R: Threads + Sync>(
+    rt: &R,
+    alloc: Global,
+    count: u64,
+) -> Option<Received>
+    ensures { IfSome result (λ r. r.count ≡ count) }
+{
     let Joined {
         wire,
-        mut first,
-        mut second,
+        first,
+        second,
     } = two_nodes(alloc).ok()?;
     let shared = &wire;
-    let one = &mut first;
-    let other = &mut second;
-    let (sent, ()) = thread::join(
+    let (sent, received) = thread::join(
         rt,
         move ||
-            requires { IsSeatOf shared.now one.now × (width shared.now ≡ 2)
-                × (seat_node one.now ≡ 0) }
-        { send_all(shared, alloc, one, count) },
+            requires { IsSeatOf shared.now first × (width shared.now ≡ 2)
+                × (seat_node first ≡ 0) }
+        { send_all(shared, alloc, first, count) },
         move ||
-            requires { IsSeatOf shared.now other.now × (width shared.now ≡ 2)
-                × (seat_node other.now ≡ 1) }
-        { receive_all(shared, other, count) },
+            requires { IsSeatOf shared.now second × (width shared.now ≡ 2)
+                × (seat_node second ≡ 1) }
+            ensures { IfSome result (λ s. taken s ≡ taken second + count) }
+        { receive_all(shared, second, count) },
     );
-    sent
+    sent?;
+    Some(Received {
+        seat: received?,
+        count,
+    })
 }
 
 /// So many frames through a channel of one place, each sent and received by one thread.
-pub fn through_channel<R: Wait>(rt: &R, alloc: Global, count: u64) -> Option<()> {
+pub(crate) fn through_channel<R: Wait>(rt: &R, alloc: Global, count: u64) -> Option<Tally>
+    ensures { IfSome result (λ t. t.count ≡ count) }
+{
     let (sender, receiver) = bounded(alloc, 1).ok()?;
-    for _ in 0..count {
+    let mut tally = Tally::new();
+    for _place in 0..count {
         sender.send(rt, frame(alloc)?).ok()?;
-        receiver.recv(rt).ok()?;
+        tally.add(receiver.recv(rt).ok()?);
     }
-    Some(())
+    Some(tally)
 }
 
 fn put_all<R: Wait>(rt: &R, alloc: Global, sender: &Sender<Vec<u8>>, count: u64) -> Option<()> {
@@ -168,26 +204,34 @@ fn put_all<R: Wait>(rt: &R, alloc: Global, sender: &Sender<Vec<u8>>, count: u64)
     Some(())
 }
 
-fn get_all<R: Wait>(rt: &R, receiver: &Receiver<Vec<u8>>, count: u64) -> Option<()> {
-    for _ in 0..count {
-        receiver.recv(rt).ok()?;
+fn get_all<R: Wait>(rt: &R, receiver: &Receiver<Vec<u8>>, count: u64) -> Option<Tally>
+    ensures { IfSome result (λ t. t.count ≡ count) }
+{
+    let mut tally = Tally::new();
+    for _place in 0..count {
+        let bytes = receiver.recv(rt).ok()?;
+        tally.add(bytes);
     }
-    Some(())
+    Some(tally)
 }
 
 /// So many frames through a channel of one place, sent by one thread and received by another.
-pub fn channel_between_threads<R: Threads + Wait + Sync>(
+pub(crate) fn channel_between_threads<R: Threads + Wait + Sync>(
     rt: &R,
     alloc: Global,
     count: u64,
-) -> Option<()> {
+) -> Option<Tally>
+    ensures { IfSome result (λ t. t.count ≡ count) }
+{
     let (sender, receiver) = bounded(alloc, 1).ok()?;
     let from = &sender;
     let to = &receiver;
     let (sent, received) = thread::join(
         rt,
         move || { put_all(rt, alloc, from, count) },
-        move || { get_all(rt, to, count) },
+        move ||
+            ensures { IfSome result (λ t. t.count ≡ count) }
+        { get_all(rt, to, count) },
     );
     sent?;
     received

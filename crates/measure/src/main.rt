@@ -1,21 +1,33 @@
-//! What calls cost: a program that makes one of them so many times, for `bench/costs` to time. It isn't
-//! part of the object space.
+//! What calls cost: a program that makes one of them so many times, for `bench/costs` to time, and
+//! prints how often. It isn't part of the object space.
 #![tactic(auto)]
 
 mod events;
 mod frames;
 mod keeping;
+mod tally;
 
 use std::alloc::{AllocError, Global};
-use std::env;
 use std::fs::File;
+use std::io::Write;
 use std::process::ExitCode;
 use std::rt::{Env, Files};
 use std::sync::Wait;
 use std::thread::Threads;
+use std::{env, io};
 
 /// The words were no measure, or something was refused.
 const FAILED: u8 = 1;
+
+/// What can be measured without a folder.
+const MEASURES: [&str; 6] = [
+    "frames",
+    "frames-threads",
+    "channel",
+    "channel-threads",
+    "events",
+    "saves",
+];
 
 fn main(rt: HostRuntime) -> ExitCode {
     match run(&rt) {
@@ -24,7 +36,7 @@ fn main(rt: HostRuntime) -> ExitCode {
     }
 }
 
-// Does what the words say, so many times.
+// Does what the words say, so many times: one of the measures, or each of them.
 fn run<R: Env + Files<File = File> + Print + Threads + Wait + Sync + AllocGlobal>(
     rt: &R,
 ) -> Option<()> {
@@ -35,13 +47,51 @@ fn run<R: Env + Files<File = File> + Print + Threads + Wait + Sync + AllocGlobal
     };
     let count = count.as_str().parse::<u64>().ok()?;
     match (what.as_str(), rest) {
-        ("frames", []) => frames::through_mailbox(alloc, count),
-        ("frames-threads", []) => frames::between_threads(rt, alloc, count),
-        ("channel", []) => frames::through_channel(rt, alloc, count),
-        ("channel-threads", []) => frames::channel_between_threads(rt, alloc, count),
-        ("events", []) => events::of_cell(alloc, count),
-        ("saves", []) => keeping::save_often(alloc, count),
-        ("keep", [folder]) => keeping::keep(rt, alloc, folder.as_str(), count),
+        ("each", [folder]) => each(rt, alloc, count, folder.as_str()),
+        ("keep", [folder]) => keep(rt, alloc, count, folder.as_str()),
+        (what, []) => measure(rt, alloc, what, count),
         _ => None,
     }
+}
+
+fn each<R: Files<File = File> + Print + Threads + Wait + Sync>(
+    rt: &R,
+    alloc: Global,
+    count: u64,
+    folder: &str,
+) -> Option<()> {
+    for what in MEASURES {
+        measure(rt, alloc, what, count)?;
+    }
+    keep(rt, alloc, count, folder)
+}
+
+// Prints the measure's name, and how often it did what it measures.
+fn measure<R: Print + Threads + Wait + Sync>(
+    rt: &R,
+    alloc: Global,
+    what: &str,
+    count: u64,
+) -> Option<()> {
+    let done = match what {
+        "frames" => frames::through_mailbox(alloc, count)?.count,
+        "frames-threads" => frames::between_threads(rt, alloc, count)?.count,
+        "channel" => frames::through_channel(rt, alloc, count)?.count(),
+        "channel-threads" => frames::channel_between_threads(rt, alloc, count)?.count(),
+        "events" => events::of_cell(alloc, count)?.count,
+        "saves" => keeping::save_often(alloc, count)?.number,
+        _ => return None,
+    };
+    writeln!(io::writer(rt), "{what} {done}").ok()
+}
+
+// The numbers are printed as they are saved.
+fn keep<R: Files<File = File> + Print>(
+    rt: &R,
+    alloc: Global,
+    count: u64,
+    folder: &str,
+) -> Option<()> {
+    keeping::keep(rt, alloc, folder, count)?;
+    Some(())
 }

@@ -6,6 +6,7 @@ pub mod ShadingParts
 pub mod Appending
 pub mod Joining
 pub mod Shown
+pub mod NewNodes
 pub mod Leaving
 pub mod References
 pub mod Slots

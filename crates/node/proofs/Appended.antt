@@ -9,6 +9,7 @@ use Rattle.msg.specs.declared.body.Message.{Message}
 use Rattle.model.specs.View.{append_to}
 use Rattle.model.specs.References.{IsSendable, IsWithin}
 use Rattle.model.specs.Shading.{marks_for, unasked}
+use Rattle.model.specs.WellFormed.{IsOther}
 use Rattle.model.proofs.Appending.{length-append_to, marks-inside, marks-sendable, sendable-appended, sum-appended}
 use Rattle.model.proofs.References.{all-append}
 use Rattle.model.proofs.ShadingParts.{unasked-all}
@@ -27,11 +28,11 @@ pub record MaySend (shape : Shaped) (own cycle : ℕ) (ms : List (ℕ × Message
 pub none-may : (shape : Shaped) (own cycle : ℕ) → MaySend shape own cycle []
 none-may shape own cycle = record { inside = tt; others = tt; sendable = tt; stamps = tt }
 
-pub one-may : (shape : Shaped) (own cycle to : ℕ) (x : Message) → to < shape.nodes → to ≢ own
+pub one-may : (shape : Shaped) (own cycle to : ℕ) (x : Message) → IsOther shape own to
     → IsSendable shape x → x.stamp ≤ cycle → MaySend shape own cycle ((to, x) ∷ [])
-one-may shape own cycle to x there other sendable stamp = record {
-  inside = (there, tt);
-  others = (other, tt);
+one-may shape own cycle to x there sendable stamp = record {
+  inside = (there.0, tt);
+  others = (there.1, tt);
   sendable = (sendable, tt);
   stamps = (stamp, tt);
 }
@@ -101,7 +102,7 @@ below-may shape own cycle x (suc n) few sendable stamp =
     (below-may shape own cycle x n (omega (arith, few)) sendable stamp)
     (cond_both (n == own) [] ((n, x) ∷ []) (MaySend shape own cycle)
     (λ _. none-may shape own cycle)
-    (λ other. one-may shape own cycle n x there (eqb-false n own other) sendable stamp))
+    (λ other. one-may shape own cycle n x (there, eqb-false n own other) sendable stamp))
 
 pub others-may : (shape : Shaped) (own cycle : ℕ) (x : Message) → IsSendable shape x
     → x.stamp ≤ cycle → MaySend shape own cycle (for_others own x shape.nodes)

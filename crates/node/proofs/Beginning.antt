@@ -236,7 +236,7 @@ module _ (n : NodeView) (cycle : ℕ) (next : cycle ≡ n.local.phases.cycle + 1
         (both-may s own cycle
         ((s.nodes - 1, record { stamp = cycle; body = body.Token new_token }) ∷ [])
         (for_others own begin s.nodes)
-        (one-may s own cycle (s.nodes - 1) _ last other
+        (one-may s own cycle (s.nodes - 1) _ (last, other)
         (record { stamp = within; references = tt; place = tt }) (le_refl cycle))
         (others-may s own cycle begin
         (record { stamp = within; references = tt; place = tt }) (le_refl cycle)))

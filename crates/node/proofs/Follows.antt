@@ -14,7 +14,8 @@ use Rattle.model.specs.State.{Heap, Phases, Ring, LocalState}
 use Rattle.model.specs.Counting.{balance_of, counted_down}
 use Rattle.model.specs.References.{IfAny, IsWithin}
 use Rattle.model.specs.Shading.{is_open, is_calm, filled, make_all_grey, marks_for}
-use Rattle.model.specs.Steps.{is_marking, may_follow, may_settle}
+use Rattle.model.specs.Steps.{is_marking, may_follow, may_settle, mentioned}
+use Rattle.model.specs.View.{NodeView}
 use Rattle.model.specs.WellFormed.{IsOther, IsStocked, IsHeld, AreReports}
 use Rattle.model.proofs.Asking.{reports-heard}
 use Rattle.model.proofs.Balances.{down-token}
@@ -23,6 +24,12 @@ use Rattle.model.proofs.Stocks.{calm-empty, open-apart, stocked-greyed, stocked-
 use Rattle.node.specs.declared.node.settling.Met.{Met}
 use Rattle.node.specs.Taking.{brought_by, met_by, met_references, sought, marks_due, reply_of, replies, body_heap, body_phases, ring_after}
 use Rattle.node.proofs.Appended.{MaySend, marks-may, none-may, one-may}
+
+-- what is known of a message, and of the node that it comes to
+pub record Comes (n : NodeView) (from : ℕ) (b : Body) : Type 0 where
+  pub there : IsOther n.local.shape n.local.own from
+  pub within : AllByRecursion (IsWithin n.local.shape) (mentioned b)
+  pub brought : IfAny (IsWithin n.local.shape) (brought_by n.local.heap b)
 
 -- What the tests said of a message from there: of the node, once it is in the message's cycle. Only
 -- a node that marks meets something.
@@ -45,14 +52,15 @@ due-may shape own cycle asked m within all =
     (λ _. marks-may shape own cycle asked (filled (m.brought ∷ [])) within all)
     (λ _. none-may shape own cycle)
 
-pub reply-may : (shape : Shaped) (own to cycle : ℕ) (v : Option Ref) (b : Body)
-    → cycle ≤ GREATEST_CYCLE → IsOther shape own to → IfAny (IsWithin shape) v
-    → MaySend shape own cycle (replies to (reply_of cycle v b))
-reply-may shape own to cycle v (body.Get target place label) within there any =
-    one-may shape own cycle to _ there.0 there.1
-    (record { stamp = within; references = any-list (IsWithin shape) v any; place = tt })
-    (le_refl cycle)
-reply-may shape own to cycle v b within there any = none-may shape own cycle
+pub reply-may : (n : NodeView) (from cycle : ℕ) (b : Body) → cycle ≤ GREATEST_CYCLE
+    → Comes n from b
+    → MaySend n.local.shape n.local.own cycle
+    (replies from (reply_of cycle (brought_by n.local.heap b) b))
+reply-may n from cycle (body.Get target place label) within c =
+    let any = any-list (IsWithin n.local.shape) _ c.brought in
+    one-may n.local.shape n.local.own cycle from _ c.there
+    (record { stamp = within; references = any; place = tt }) (le_refl cycle)
+reply-may n from cycle b within c = none-may n.local.shape n.local.own cycle
 
 -- ---- what is met
 

@@ -95,33 +95,36 @@ node-rewired n v q {l = l} {r = r} old w same linked balance =
 no_message-sendable : (shape : Shaped) → IsSendable shape no_message
 no_message-sendable shape = record { stamp = omega arith; references = tt; place = tt }
 
-linked-trimmed : (shape : Shaped) (own cycle : ℕ) (l : LinksView) (from number : ℕ) → from ≢ own
-    → AreLinked shape own cycle l → IsLinks (trimmed_to l from number)
-    → AreLinked shape own cycle (trimmed_to l from number)
-linked-trimmed shape own cycle l from number other h links = record {
-  width = length-set l.links from _ ∙ h.width;
-  links = links;
-  messages = λ i k.
-      at_set (λ (z : Link). IsSendable shape (get_or z.unacknowledged k no_message)) l.links from i
-      (trimmed (get_or l.links from no_link) number) no_link
-      (let old : Link = get_or l.links from no_link in
-      subst (IsSendable shape)
-      (sym (get_or-drop (number - old.base) old.unacknowledged k no_message))
-      (h.messages from (number - old.base + k)))
-      (h.messages i k);
-  timely = timely-trimmed own cycle l.links l.got h.timely from number other;
-}
+module _ (n : NodeView) (old : IsNode n) where
+  linked-trimmed : (from number : ℕ) → from ≢ n.local.own
+      → IsLinks (trimmed_to (links_of n) from number)
+      → AreLinked n.local.shape n.local.own n.local.phases.cycle
+      (trimmed_to (links_of n) from number)
+  linked-trimmed from number other links = record {
+    width = length-set n.links from _ ∙ old.links.width;
+    links = links;
+    messages = λ i k.
+        at_set (λ (z : Link). IsSendable n.local.shape (get_or z.unacknowledged k no_message))
+        n.links from i (trimmed (get_or n.links from no_link) number) no_link
+        (let link : Link = get_or n.links from no_link in
+        subst (IsSendable n.local.shape)
+        (sym (get_or-drop (number - link.base) link.unacknowledged k no_message))
+        (old.links.messages from (number - link.base + k)))
+        (old.links.messages i k);
+    timely = timely-trimmed n.local.own n.local.phases.cycle n.links n.local.got old.links.timely
+        from number other;
+  }
 
-linked-kept : (shape : Shaped) (own cycle : ℕ) (l : LinksView) → AreLinked shape own cycle l
-    → IsLinks (kept_links l) → AreLinked shape own cycle (kept_links l)
-linked-kept shape own cycle l h links = record {
-  width = length-map l.links all_kept ∙ h.width;
-  links = links;
-  messages = λ i k.
-      subst (λ (z : Link). IsSendable shape (get_or z.unacknowledged k no_message))
-      (sym (get_or-map all_kept l.links i no_link)) (h.messages i k);
-  timely = timely-kept own cycle l.links l.got h.timely;
-}
+  linked-kept : IsLinks (kept_links (links_of n))
+      → AreLinked n.local.shape n.local.own n.local.phases.cycle (kept_links (links_of n))
+  linked-kept links = record {
+    width = length-map n.links all_kept ∙ old.links.width;
+    links = links;
+    messages = λ i k.
+        subst (λ (z : Link). IsSendable n.local.shape (get_or z.unacknowledged k no_message))
+        (sym (get_or-map all_kept n.links i no_link)) (old.links.messages i k);
+    timely = timely-kept n.local.own n.local.phases.cycle n.links n.local.got old.links.timely;
+  }
 
 -- ---- as the code has it: what a call of the links left, and the ring beside it
 
@@ -136,7 +139,7 @@ node-sent n to b old there sendable w =
     let cycle : ℕ = n.local.phases.cycle in
     let x : Message = stamped n.local b in
     let k = balance_of cycle cycle b in
-    let may = one-may s own cycle to x there.0 there.1 sendable (le_refl cycle) in
+    let may = one-may s own cycle to x there sendable (le_refl cycle) in
     node-rewired n (appended_to (links_of n) to x) (counted_up k n.local.ring) old w
     (up-token k n.local.ring)
     (linked-appended s own cycle (links_of n) ((to, x) ∷ []) old.links may)
@@ -151,8 +154,7 @@ pub node-trimmed : (n : NodeView) (from number : ℕ) {l : LinksView} → IsNode
 node-trimmed n from number old there w =
     let inside : from < length n.links = omega (arith, there.0, old.links.width) in
     node-rewired n (trimmed_to (links_of n) from number) n.local.ring old w refl
-    (linked-trimmed n.local.shape n.local.own n.local.phases.cycle (links_of n) from number there.1
-    old.links)
+    (linked-trimmed n old from number there.1)
     (balance-trimmed n.local.ring n.links n.local.got from number old.balance inside)
 
 pub node-kept : (n : NodeView) {l : LinksView} → IsNode n
@@ -160,7 +162,7 @@ pub node-kept : (n : NodeView) {l : LinksView} → IsNode n
     → IsNode (rewired n l n.local.ring)
 node-kept n old w =
     node-rewired n (kept_links (links_of n)) n.local.ring old w refl
-    (linked-kept n.local.shape n.local.own n.local.phases.cycle (links_of n) old.links)
+    (linked-kept n old)
     (balance-kept n.local.ring n.links n.local.got old.balance)
 
 phases-new : (nodes : ℕ) → IsPhases (new_phases nodes)

@@ -14,6 +14,7 @@ use Rattle.model.specs.Checks.{AllPass, IsFirstRefusal}
 use Rattle.model.specs.Counting.{announce, append, stamped}
 use Rattle.model.specs.Effects.{Effect, answers}
 use Rattle.ids.specs.Limits.{Shaped}
+use Rattle.ids.specs.declared.limits.TheConstants.{GREATEST_CYCLE}
 use Rattle.ids.specs.declared.names.Ref.{Ref}
 use Rattle.model.specs.State.{Heap, Phases, Ring, LocalState}
 use Rattle.model.specs.Collecting.{conclude, forwarded, handed_on, is_concluded, judged, new_token, pass_tests, passed, probe, whitened, without_token}
@@ -32,6 +33,7 @@ use Rattle.node.specs.Cycles.{with_token_sent}
 use Rattle.node.specs.Invariant.{IsNode, links_of, number_sum}
 use Rattle.node.proofs.Appended.{MaySend, linked-appended, numbers-appended, others-may}
 use Rattle.node.proofs.Balances.{bounded-same}
+use Rattle.node.proofs.Nodes.{Rewires}
 use Rattle.node.proofs.Events.{after_step, answered, judged_view, okay, past_tests, sending_refused, test_refused, with_parts}
 
 -- ---- the tests
@@ -243,15 +245,27 @@ module _ (n : NodeView) (cycle : ℕ) (now : cycle ≡ n.local.phases.cycle)
 
 -- ---- the node is as every node
 
-pub node-ended : {n : NodeView} {x : Message} {phases : Phases} {ring : Ring} {l : LinksView}
-    → IsNode n → n.local.heap.grey ≡ [] → IsSendable n.local.shape x
-    → x.stamp ≤ n.local.phases.cycle → IsPhases phases → phases ≡ with_ended n.local.phases
-    → ring ≡ judged_ring n.local.ring → IsLinks l → l ≡ announced (links_of n) n.local.own x
+-- what the end of marking left, of which these messages tell all others
+pub record Concluded (n : NodeView) (cycle : ℕ) (phases : Phases) (ring : Ring) (l : LinksView)
+    : Type 0 where
+  pub calm : n.local.heap.grey ≡ []
+  pub now : cycle ≡ n.local.phases.cycle
+  pub sound : IsPhases phases
+  pub ended : phases ≡ with_ended n.local.phases
+  pub left : Rewires
+      (announced (links_of n) n.local.own (record { stamp = cycle; body = body.Ended }))
+      (judged_ring n.local.ring) l ring
+
+pub node-ended : {n : NodeView} {cycle : ℕ} {phases : Phases} {ring : Ring} {l : LinksView}
+    → IsNode n → Concluded n cycle phases ring l
     → IsNode (with_parts n n.local.heap n.local.asked phases ring l)
-node-ended {n = n} {x = x} {phases = phases} {ring = ring} {l = l} old none sendable stamp sound a b
-    links d =
+node-ended {n = n} {cycle = cycle} {phases = phases} {ring = ring} {l = l} old e =
     let s : Shaped = n.local.shape in
     let p : Phases = n.local.phases in
+    let x : Message = record { stamp = cycle; body = body.Ended } in
+    let stamp : cycle ≤ p.cycle = omega (arith, e.now) in
+    let most : cycle ≤ GREATEST_CYCLE = omega (arith, stamp, old.phases.phases.within) in
+    let sendable : IsSendable s x = record { stamp = most; references = tt; place = tt } in
     let heap : Heap = n.local.heap in
     let asked : List Ref = n.local.asked in
     let r : Ring = judged_ring n.local.ring in
@@ -260,25 +274,26 @@ node-ended {n = n} {x = x} {phases = phases} {ring = ring} {l = l} old none send
     (sym old.links.width) (others-may s n.local.own p.cycle x sendable stamp) in
     let more : number_sum n.links n.local.got ≤ number_sum (append_to n.links ms) n.local.got =
     omega (arith, numbers-appended s n.local.own p.cycle (links_of n) ms old.links may) in
-    subst (λ (z : Phases). IsNode (with_parts n heap asked z ring l)) (sym a)
-    (subst (λ (z : Ring). IsNode (with_parts n heap asked (with_ended p) z l)) (sym b)
-    (subst (λ (z : LinksView). IsNode (with_parts n heap asked (with_ended p) r z)) (sym d)
+    subst (λ (z : Phases). IsNode (with_parts n heap asked z ring l)) (sym e.ended)
+    (subst (λ (z : Ring). IsNode (with_parts n heap asked (with_ended p) z l)) (sym e.left.ring)
+    (subst (λ (z : LinksView). IsNode (with_parts n heap asked (with_ended p) r z))
+    (sym e.left.links)
     (record {
       shape = old.shape;
       own = old.own;
       references = old.references;
       stocked = stocked-later s n.local.own p.cycle p.ended heap old.stocked p.cycle p.cycle
-          (le_refl p.cycle) none;
+          (le_refl p.cycle) e.calm;
       asked = old.asked;
       phases = record {
-        phases = subst IsPhases a sound;
+        phases = subst IsPhases e.ended e.sound;
         cursor = old.phases.cursor;
         reports = old.phases.reports;
         heard = old.phases.heard;
       };
       token = tt;
       links = linked-appended s n.local.own p.cycle (links_of n) ms old.links may
-          (subst IsLinks d links);
+          (subst IsLinks e.left.links e.left.sound);
       balance = bounded_more _ _ r more
           (bounded-same (number_sum n.links n.local.got) r n.local.ring refl refl old.balance);
     })))

@@ -1,5 +1,5 @@
 -- Each event on the heap alone keeps what is true of every node.
-use Rattle.std.proofs.Common.{◌≡◌, ℕ, ◌≤◌, List, [], ◌∷◌, drop, length, get_or, Some, None, Ok, ap, sym, ◌∙◌, subst, arith, length-append, le_refl}
+use Rattle.std.proofs.Common.{◌≡◌, ℕ, ◌<◌, ◌≤◌, List, [], ◌∷◌, drop, length, get_or, Some, None, Ok, ap, sym, ◌∙◌, subst, arith, length-append, le_refl}
 use Rattle.std.proofs.lemmas.Bool.{leb-true}
 use Rattle.std.proofs.lemmas.List.{length-set}
 use Rattle.ids.specs.declared.limits.TheConstants.{GREATEST_PLACES}
@@ -27,34 +27,37 @@ slots_with-more [] slots o = omega (arith, length-append slots (Occupied 1 o ∷
 slots_with-more (k ∷ ks) slots o =
     omega (arith, length-set slots k (Occupied (next_generation (get_or slots k Retired)) o))
 
-pub alloc-names : (limit own cycle : ℕ) (h : Heap) (register places : ℕ) (g : Heap) (r : Ref)
-    → heap_alloc limit own cycle h register places ≡ Ok (g, r) → own ≡ r.node
-unfolding heap_alloc
-alloc-names limit own cycle h register places g r e =
-    let both : ◌≡◌ {A = Heap × Ref} (alloc_heap own cycle h register places, new_reference own h)
-    (g, r) =
-    guarded-ok (alloc_tests limit h register places) _ _ e in
-    ap (λ (z : Heap × Ref). z.1.node) both
+-- an object was allocated, with this name and in this heap
+pub record Allocates (n : NodeView) (limit cycle register places : ℕ) (g : Heap) (r : Ref) : Type 0
+  where
+    pub now : cycle ≡ n.local.phases.cycle
+    pub done : heap_alloc limit n.local.own cycle n.local.heap register places ≡ Ok (g, r)
+    pub slot : r.slot < n.local.shape.slots
+    pub generation : 1 ≤ r.generation
 
 module _ (n : NodeView) (old : IsNode n) where
-  pub node-allocated : (limit cycle register places : ℕ) (g : Heap) (r : Ref)
-      → cycle ≡ n.local.phases.cycle → IsWithin n.local.shape r
-      → heap_alloc limit n.local.own cycle n.local.heap register places ≡ Ok (g, r)
-      → IsNode (with_heap n g)
+  pub node-allocated : {limit cycle register places : ℕ} {g : Heap} {r : Ref}
+      → Allocates n limit cycle register places g r → IsNode (with_heap n g)
   unfolding heap_alloc
-  node-allocated limit cycle register places g r now within e =
+  node-allocated {limit = limit} {cycle = cycle} {register = register} {places = places} {g = g}
+      {r = r} a =
       let p = n.local in
       let h : Heap = p.heap in
       let at : ℕ = p.phases.cycle in
       let tests = alloc_tests limit h register places in
       let both : ◌≡◌ {A = Heap × Ref}
       (alloc_heap p.own cycle h register places, new_reference p.own h) (g, r) =
-      guarded-ok tests _ _ e in
+      guarded-ok tests _ _ a.done in
       let name : new_reference p.own h ≡ r = ap (λ (z : Heap × Ref). z.1) both in
+      let within : IsWithin p.shape r = record {
+        node = subst (λ (z : Ref). z.node < p.shape.nodes) name old.own;
+        slot = a.slot;
+        generation = a.generation;
+      } in
       let heap : alloc_heap p.own at h register places ≡ g =
-      ap (λ (k : ℕ). alloc_heap p.own k h register places) (sym now)
+      ap (λ (k : ℕ). alloc_heap p.own k h register places) (sym a.now)
       ∙ ap (λ (z : Heap × Ref). z.0) both in
-      let passed : AllPass tests = guarded-passes tests _ _ e in
+      let passed : AllPass tests = guarded-passes tests _ _ a.done in
       let o : Object = new_object at places in
       subst (λ (z : Heap). IsNode (with_heap n z)) heap
       (node-heap n (alloc_heap p.own at h register places) old

@@ -18,7 +18,7 @@ use Rattle.model.specs.Shading.{is_unmarked, with_mark, make_grey, make_all_grey
 use Rattle.model.specs.Steps.{mentioned}
 use Rattle.model.specs.View.{Link, NodeView, append_to}
 use Rattle.model.specs.References.{IfAny, HoldsOnly, IsWithin}
-use Rattle.model.specs.WellFormed.{IsOther, IsStocked, AreAsked, IsHeld, AreTimely}
+use Rattle.model.specs.WellFormed.{IsStocked, AreAsked, IsHeld, AreTimely}
 use Rattle.model.proofs.Lookups.{all-map}
 use Rattle.model.proofs.Asking.{asked-more, asked-none, timely-appended, timely-later, timely-taken}
 use Rattle.model.proofs.Stocks.{held-before, stocked-greyed, stocked-later}
@@ -32,7 +32,7 @@ use Rattle.safra.proofs.Bounds.{bounded_more, bounded_marks, bounded_up, bounded
 use Rattle.node.specs.Invariant.{ArePhased, IsNode, links_of, number_sum}
 use Rattle.node.proofs.Appended.{MaySend, both-may, marks-may, none-may}
 use Rattle.node.proofs.Balances.{number-few}
-use Rattle.node.proofs.Follows.{Suits, due-may, reply-may, met-stocked, ended-calm, ended-free, token-open, swept-first, body-cycle, body-stocked, body-held, body-heard}
+use Rattle.node.proofs.Follows.{Comes, Suits, due-may, reply-may, met-stocked, ended-calm, ended-free, token-open, swept-first, body-cycle, body-stocked, body-held, body-heard}
 use Rattle.node.specs.declared.node.settling.Met.{Met}
 use Rattle.node.specs.Taking.{IsTakable, brought_by, met_by, met_references, sought, marks_due, count_due, reply_of, replies, due, looked_after, body_heap, body_phases, ring_after, followed, sought_roots, joined_parts, assembled}
 
@@ -248,12 +248,6 @@ reached-joined n cycle old within next over phases =
 
 -- ---- the message is taken in
 
--- what is known of a message, and of the node that it comes to
-pub record Comes (n : NodeView) (from : ℕ) (b : Body) : Type 0 where
-  pub there : IsOther n.local.shape n.local.own from
-  pub within : AllByRecursion (IsWithin n.local.shape) (mentioned b)
-  pub brought : IfAny (IsWithin n.local.shape) (brought_by n.local.heap b)
-
 pub comes : (n : NodeView) (from stamp : ℕ) (b : Body) → IsNode n → IsTakable n.local from stamp b
     → Comes n from b
 comes n from stamp b old t = record {
@@ -310,7 +304,7 @@ module _ (n : NodeView) (h : Heap) (asked : List Ref) (p : Phases) (r : Ring)
         both-may s own p.cycle ms _ reached.may
         (both-may s own p.cycle (marks_due p.cycle met_here sought_here) _
         (due-may s own p.cycle asked met_here within met-within)
-        (reply-may s own from p.cycle v b within c.there c.brought))
+        (reply-may n from p.cycle b within c))
 
     sends-inside : AllByRecursion (λ (x : ℕ × Message). x.0 < length n.links) sends_here
     sends-inside =

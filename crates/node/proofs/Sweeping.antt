@@ -12,7 +12,7 @@ use Rattle.model.specs.declared.event.Event.TheVariants as event
 use Rattle.model.specs.Checks.{AllPass, IsFirstRefusal}
 use Rattle.model.specs.Counting.{stamped}
 use Rattle.model.specs.Effects.{Effect}
-use Rattle.model.specs.State.{Heap, Phases, LocalState, slot_at}
+use Rattle.model.specs.State.{Heap, Phases, LocalState, Slot, slot_at}
 use Rattle.model.specs.Collecting.{Sweeping, generation_in, is_garbage, looked_at, sweep_one, sweep_some, sweep_tests, sweeps_last, swept_slots, unswept, vacated}
 use Rattle.model.specs.References.{IsWithin}
 use Rattle.model.specs.Steps.{fits}
@@ -193,29 +193,40 @@ moved swept cursor p = record p { swept = swept; cursor = cursor }
 ended-here : (p : Phases) → IsPhases p → p.swept < p.ended → p.ended ≡ p.cycle
 ended-here p is unfinished = omega (arith, is.ended, is.cycle, unfinished)
 
+-- so many slots of a node that sweeps were swept, from the first of these on
+pub record Sweeps (n : NodeView) (cycle first count : ℕ) (h : Heap) : Type 0 where
+  pub unfinished : n.local.phases.swept < n.local.phases.ended
+  pub heap : h ≡ (swept cycle first count n.local.heap).heap
+
+-- the phases moved so far, within these slots
+pub record Moves (p : Phases) (slots : List Slot) (last cursor : ℕ) (phases : Phases) : Type 0 where
+  pub sound : IsPhases phases
+  pub is : phases ≡ moved last cursor p
+  pub within : cursor ≤ length slots
+
 -- a node with swept slots, and phases that fit them
-pub node-swept : {n : NodeView} {h : Heap} {phases : Phases} (cycle k count last cursor : ℕ)
-    → IsNode n → n.local.phases.swept < n.local.phases.ended
-    → h ≡ (swept cycle k count n.local.heap).heap → phases ≡ moved last cursor n.local.phases
-    → IsPhases phases → cursor ≤ length n.local.heap.slots → IsNode (with_swept n h phases)
-node-swept {n = n} {h = h} {phases = phases} cycle k count last cursor old unfinished is moves sound
-    within =
+pub node-swept : {n : NodeView} {h : Heap} {phases : Phases} {last cursor : ℕ}
+    (cycle first count : ℕ) → IsNode n → Sweeps n cycle first count h
+    → Moves n.local.phases n.local.heap.slots last cursor phases → IsNode (with_swept n h phases)
+node-swept {n = n} {h = h} {phases = phases} {last = last} {cursor = cursor} cycle first count old s
+    m =
     let p : Phases = n.local.phases in
     let before : Sweeping = record { heap = n.local.heap; freed = 0 } in
-    let none = old.stocked.calm (ended-here p old.phases.phases unfinished) in
-    let slots = some-slots cycle k count before in
-    subst (λ (z : Phases). IsNode (with_swept n h z)) (sym moves)
-    (subst (λ (z : Heap). IsNode (with_swept n z (moved last cursor p))) (sym is)
+    let none = old.stocked.calm (ended-here p old.phases.phases s.unfinished) in
+    let slots = some-slots cycle first count before in
+    subst (λ (z : Phases). IsNode (with_swept n h z)) (sym m.is)
+    (subst (λ (z : Heap). IsNode (with_swept n z (moved last cursor p))) (sym s.heap)
     (record {
       shape = old.shape;
       own = old.own;
-      references = holds-sweep_some (IsWithin n.local.shape) cycle k count before old.references;
-      stocked = stocked-swept n.local.shape n.local.own p.cycle p.ended cycle k count before none
-          old.stocked;
+      references = holds-sweep_some (IsWithin n.local.shape) cycle first count before
+          old.references;
+      stocked = stocked-swept n.local.shape n.local.own p.cycle p.ended cycle first count before
+          none old.stocked;
       asked = old.asked;
       phases = record {
-        phases = subst IsPhases moves sound;
-        cursor = omega (arith, within, slots);
+        phases = subst IsPhases m.is m.sound;
+        cursor = omega (arith, m.within, slots);
         reports = old.phases.reports;
         heard = old.phases.heard;
       };

@@ -4,7 +4,7 @@ use Rattle.std.specs.Prelude.{◌≡◌, ◌≢◌, ℕ, ◌<◌, ◌≤◌, Boo
 use Rattle.std.specs.Prelude.{nat_lt, nat_le, List, length, take, Option, Some, None, is_some}
 use Rattle.std.specs.Prelude.{slice_index_or}
 use Rattle.std.specs.List.{list_all}
-use Rattle.ids.specs.Limits.{Shaped}
+use Rattle.ids.specs.Limits.{Shaped, IsShape}
 use Rattle.ids.specs.declared.limits.TheConstants.{GREATEST_PLACES}
 use Rattle.ids.specs.declared.names.Ref.{Ref}
 use Rattle.msg.specs.declared.body.Body.{Body}
@@ -15,11 +15,14 @@ use Rattle.model.specs.State.{Object, Slot, Free, Occupied, Retired, LocalState}
 use Rattle.model.specs.Shading.{is_calm, is_in}
 use Rattle.model.specs.Steps.{is_within, mentioned}
 use Rattle.model.specs.View.{Link, NodeView, used}
+use Rattle.control.specs.Phases.{IsPhases}
 use Rattle.heap.specs.Heap.{IsHeapFor}
 use Rattle.heap.specs.Parts.{heap_given}
 use Rattle.link.specs.Links.{LinksView, IsLinks, link_at, got_at}
 use Rattle.link.specs.Parts.{links_given}
+use Rattle.node.specs.Inside.{view_of}
 use Rattle.node.specs.Invariant.{IsBalanced, links_of}
+use Rattle.node.specs.declared.node.Node.TheInside.{Inside}
 use Rattle.node.specs.declared.node.parts.NodeParts.{NodeParts}
 
 -- all of the node but its links
@@ -158,3 +161,10 @@ pub record IsRestorable (n : NodeView) : Type 0 where
   pub ends : AreAtEnds n.local.shape n.local.own n.local.phases.cycle (links_of n)
   pub links : IsLinks (links_of n)
   pub balance : IsBalanced n.local.ring n.links n.local.got
+
+-- parts of which a node is made: they were tested, and the heap may use the slots of the shape
+pub record IsTested (n : Inside) : Type 0 where
+  pub shape : IsShape n.shape
+  pub phases : IsPhases n.phases
+  pub right : IsRestorable (view_of n)
+  pub limit : n.heap.limit ≡ n.shape.slots

@@ -8,6 +8,3 @@ mod summary;
 pub use model::{Answer, Event, Letter};
 pub use node::{Node, NodeParts};
 pub use summary::Summary;
-
-#[cfg(test)]
-mod tests;

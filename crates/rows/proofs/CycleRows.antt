@@ -1,5 +1,5 @@
 -- Worked examples of whole cycles, computed: what is held stays, and what isn't goes.
-use Rattle.std.proofs.Common.{◌≡◌, ℕ, pos, List, [], ◌∷◌, ◌++◌, refl}
+use Rattle.std.proofs.Common.{◌≡◌, ℕ, ◌+◌, pos, List, [], ◌∷◌, ◌++◌, refl}
 use Rattle.std.specs.Int.{int_wrap}
 use Rattle.ids.specs.declared.refusal.Refusal.TheVariants.{NothingToDo}
 use Rattle.msg.specs.declared.body.Colour.TheVariants.{White, Black}
@@ -11,24 +11,21 @@ use Rattle.model.specs.Steps.{act, receive, allocated, dropped, stored, given, a
 use Rattle.model.specs.World.{take_step, new_world}
 use Rattle.rows.proofs.Rows.{object, space, alloc, drop_register, give, accept, made, sent, letter, received, done, refused}
 use Rattle.rows.proofs.ObjectRows.{store}
-use Rattle.rows.proofs.Words.{begin_cycle, scan_grey, pass_token, sweep_slots, save, deliver, ok, began, scanned_grey, passed_token, probe_again, ended, freed_done, Row, ◌gives◌, Prints, mark_of, after}
+use Rattle.rows.proofs.Words.{begin_cycle, scan_grey, pass_token, sweep_slots, save, deliver, ok, began, scanned_grey, probe_again, ended, freed_done, Row, ◌gives◌, Prints, mark_of, after, passes_on}
 
--- Two nodes mark nothing. Node 1 was black when it joined, so the token goes round twice.
-abbrev pub two_probes : List Row
-two_probes =
+-- Two nodes mark nothing until this cycle ends. Node 1 was black when it joined, so the token goes
+-- round twice: it comes to node 1 as this message of node 0, and back as this one of node 1.
+abbrev pub two_probes : ℕ → ℕ → ℕ → List Row
+two_probes cycle out back =
     save 0 gives done
-    ∷ deliver 0 1 1 gives received
-    ∷ pass_token 1 gives passed_token (pos 0) Black
-    ∷ save 1 gives done
-    ∷ deliver 1 0 1 gives received
-    ∷ pass_token 0 gives probe_again
+    ∷ deliver 0 1 out gives received
+    ∷ passes_on 1 (pos 0) Black back
+    ++ pass_token 0 gives probe_again
     ∷ save 0 gives done
-    ∷ deliver 0 1 2 gives received
-    ∷ deliver 0 1 3 gives received
-    ∷ pass_token 1 gives passed_token (pos 0) White
-    ∷ save 1 gives done
-    ∷ deliver 1 0 2 gives received
-    ∷ pass_token 0 gives ended 1
+    ∷ deliver 0 1 (out + 1) gives received
+    ∷ deliver 0 1 (out + 2) gives received
+    ∷ passes_on 1 (pos 0) White (back + 1)
+    ++ pass_token 0 gives ended cycle
     ∷ []
 
 -- Both find nothing to free, and the next cycle begins.
@@ -47,7 +44,7 @@ swept_by_both =
 abbrev empty_space : List Row
 empty_space =
     begin_cycle 0 gives began 1
-    ∷ two_probes
+    ∷ two_probes 1 1 1
     ++ swept_by_both
 
 pub empty-space-prints : Prints (space 2 4 16) empty_space
@@ -76,30 +73,20 @@ building =
     ∷ save 1 gives done
     ∷ []
 
--- that register is emptied, and both go
-abbrev ring_freed : List Row
-ring_freed =
-    building
-    ++ drop_register 0 0 gives ok
-    ∷ begin_cycle 0 gives began 1
-    ∷ save 0 gives done
-    ∷ deliver 0 1 2 gives received
-    ∷ pass_token 1 gives passed_token (pos 0) Black
-    ∷ save 1 gives done
-    ∷ deliver 1 0 2 gives received
-    ∷ pass_token 0 gives probe_again
-    ∷ save 0 gives done
-    ∷ deliver 0 1 3 gives received
-    ∷ deliver 0 1 4 gives received
-    ∷ pass_token 1 gives passed_token (pos 0) White
-    ∷ save 1 gives done
-    ∷ deliver 1 0 3 gives received
-    ∷ pass_token 0 gives ended 1
-    ∷ sweep_slots 0 16 gives freed_done 1
+-- They go when neither node holds one any more.
+abbrev pub ring_swept : List Row
+ring_swept =
+    begin_cycle 0 gives began 1
+    ∷ two_probes 1 2 2
+    ++ sweep_slots 0 16 gives freed_done 1
     ∷ save 0 gives done
     ∷ deliver 0 1 5 gives received
     ∷ sweep_slots 1 16 gives freed_done 1
     ∷ []
+
+-- that register is emptied, and both go
+abbrev ring_freed : List Row
+ring_freed = building ++ drop_register 0 0 gives ok ∷ ring_swept
 
 pub ring-freed-prints : Prints (space 2 4 16) ring_freed
 unfolding int_wrap take_step act receive append announce shade vouch make_grey enter join allocated
@@ -115,27 +102,21 @@ ring_kept =
     ∷ scan_grey 0 gives scanned_grey (object 0 0 1)
     ∷ save 0 gives done
     ∷ deliver 0 1 2 gives received
-    ∷ pass_token 1 gives passed_token (pos 0) Black
-    ∷ save 1 gives done
-    ∷ deliver 1 0 2 gives received
-    ∷ pass_token 0 gives probe_again
+    ∷ passes_on 1 (pos 0) Black 2
+    ++ pass_token 0 gives probe_again
     ∷ save 0 gives done
     ∷ deliver 0 1 3 gives received
     ∷ deliver 0 1 4 gives received
     ∷ deliver 0 1 5 gives received
     ∷ pass_token 1 gives refused NothingToDo
     ∷ scan_grey 1 gives scanned_grey (object 1 0 1)
-    ∷ pass_token 1 gives passed_token (pos 0) Black
-    ∷ save 1 gives done
-    ∷ deliver 1 0 3 gives received
-    ∷ deliver 1 0 4 gives received
+    ∷ passes_on 1 (pos 0) Black 3
+    ++ deliver 1 0 4 gives received
     ∷ pass_token 0 gives probe_again
     ∷ save 0 gives done
     ∷ deliver 0 1 6 gives received
-    ∷ pass_token 1 gives passed_token (pos 0) White
-    ∷ save 1 gives done
-    ∷ deliver 1 0 5 gives received
-    ∷ pass_token 0 gives ended 1
+    ∷ passes_on 1 (pos 0) White 5
+    ++ pass_token 0 gives ended 1
     ∷ sweep_slots 0 16 gives freed_done 0
     ∷ save 0 gives done
     ∷ deliver 0 1 7 gives received

@@ -1,10 +1,10 @@
 -- A worked example of old garbage: two objects of two nodes that name each other. Both nodes have
 -- saved them, no cut reaches them, and after the next cycle's sweeps they are gone.
-use Rattle.std.proofs.Common.{◌≡◌, ℕ, zero, suc, ◌<◌, ◌≤◌, pos, Bool, List, [], ◌∷◌, ◌++◌, Option, None, Some, slice_get, refl, sym, ◌∙◌, subst, arith}
+use Rattle.std.proofs.Common.{◌≡◌, ℕ, zero, suc, ◌<◌, ◌≤◌, Bool, List, [], ◌∷◌, ◌++◌, Option, None, Some, slice_get, refl, sym, ◌∙◌, subst, arith}
 use Rattle.std.proofs.lemmas.Bool.{cond_both}
 use Rattle.std.specs.Int.{int_wrap}
 use Rattle.ids.specs.declared.names.Ref.{Ref}
-use Rattle.msg.specs.declared.body.Colour.TheVariants.{White, Black}
+use Rattle.msg.specs.declared.body.Colour.TheVariants.{}
 use Rattle.msg.specs.declared.body.Message.{Message}
 use Rattle.model.specs.declared.event.Letter.{Letter}
 use Rattle.msg.specs.declared.body.Body.TheVariants as body
@@ -16,34 +16,12 @@ use Rattle.model.specs.Steps.{act, receive, allocated, dropped, stored, given, a
 use Rattle.model.specs.World.{World, take_step, new_world}
 use Rattle.model.specs.Cuts.{cut, taken, IsInFlight, Reachable, in_register, in_letter, in_message, in_place}
 use Rattle.model.specs.Agreement.{OldGarbage}
-use Rattle.rows.proofs.Rows.{object, space, drop_register, received, done}
-use Rattle.rows.proofs.Words.{begin_cycle, pass_token, sweep_slots, save, deliver, ok, began, passed_token, probe_again, ended, freed_done, Row, ◌gives◌, Prints, after}
-use Rattle.rows.proofs.CycleRows.{building}
+use Rattle.rows.proofs.Rows.{object, space, drop_register, done}
+use Rattle.rows.proofs.Words.{save, ok, Row, ◌gives◌, Prints, after}
+use Rattle.rows.proofs.CycleRows.{building, ring_swept}
 
 abbrev ring_left : List Row
 ring_left = building ++ drop_register 0 0 gives ok ∷ save 0 gives done ∷ []
-
-abbrev ring_swept : List Row
-ring_swept =
-    begin_cycle 0 gives began 1
-    ∷ save 0 gives done
-    ∷ deliver 0 1 2 gives received
-    ∷ pass_token 1 gives passed_token (pos 0) Black
-    ∷ save 1 gives done
-    ∷ deliver 1 0 2 gives received
-    ∷ pass_token 0 gives probe_again
-    ∷ save 0 gives done
-    ∷ deliver 0 1 3 gives received
-    ∷ deliver 0 1 4 gives received
-    ∷ pass_token 1 gives passed_token (pos 0) White
-    ∷ save 1 gives done
-    ∷ deliver 1 0 3 gives received
-    ∷ pass_token 0 gives ended 1
-    ∷ sweep_slots 0 16 gives freed_done 1
-    ∷ save 0 gives done
-    ∷ deliver 0 1 5 gives received
-    ∷ sweep_slots 1 16 gives freed_done 1
-    ∷ []
 
 pub ring-swept-prints : Prints (space 2 4 16) (ring_left ++ ring_swept)
 unfolding int_wrap take_step act receive append announce shade vouch make_grey enter join allocated

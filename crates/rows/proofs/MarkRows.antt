@@ -1,5 +1,5 @@
 -- Worked examples of marking, computed: a cycle begins, and what programs hold is shaded.
-use Rattle.std.proofs.Common.{pos, neg_ℤ, false, List, [], ◌∷◌, refl}
+use Rattle.std.proofs.Common.{pos, neg_ℤ, false, List, [], ◌∷◌, ◌++◌, refl}
 use Rattle.ids.specs.declared.refusal.Refusal.TheVariants.{NoRegister, EmptyRegister, Remote, NoField, TooManyFields, SelfSend, NotDirector, CycleRunning, NothingToDo}
 use Rattle.msg.specs.declared.body.Colour.TheVariants.{White, Black}
 use Rattle.model.specs.Counting.{append, announce}
@@ -7,9 +7,9 @@ use Rattle.model.specs.Shading.{make_grey, shade, vouch, enter, join}
 use Rattle.model.specs.Collecting.{probe, begun, scan, scanned}
 use Rattle.model.specs.Steps.{act, receive, allocated, dropped, loaded, stored, given, accepted, count_in, take_body, settled, taken_in}
 use Rattle.model.specs.World.{take_step}
-use Rattle.rows.proofs.Rows.{object, space, alloc, drop_register, give, accept, made, sent, letter, received, done, refused}
+use Rattle.rows.proofs.Rows.{object, space, alloc, drop_register, give, made, sent, received, done, refused}
 use Rattle.rows.proofs.ObjectRows.{load, store}
-use Rattle.rows.proofs.Words.{begin_cycle, scan_grey, save, deliver, ok, began, scanned_grey, state, Row, ◌gives◌, ◌shows◌, Prints}
+use Rattle.rows.proofs.Words.{begin_cycle, scan_grey, save, deliver, ok, began, scanned_grey, state, Row, ◌gives◌, ◌shows◌, Prints, comes_over}
 
 -- Node 0 has a letter with a reference of node 1 when the cycle begins, and asks for its marking:
 -- the Mark, the token and Begin are its messages 1, 2 and 3.
@@ -38,17 +38,9 @@ marked-at-owner-prints = refl
 -- A scanned object's places name objects of two other nodes, which are asked to mark them.
 abbrev two_owners : List Row
 two_owners =
-    alloc 1 0 0 gives made (object 1 0 1)
-    ∷ give 1 0 1 0 gives sent 1
-    ∷ save 1 gives done
-    ∷ deliver 1 0 1 gives received
-    ∷ accept 0 1 gives letter 1 1 (object 1 0 1)
-    ∷ alloc 2 0 0 gives made (object 2 0 1)
-    ∷ give 2 0 1 0 gives sent 1
-    ∷ save 2 gives done
-    ∷ deliver 2 0 1 gives received
-    ∷ accept 0 2 gives letter 2 1 (object 2 0 1)
-    ∷ alloc 0 0 2 gives made (object 0 0 1)
+    comes_over 1 0 1
+    ++ comes_over 2 0 2
+    ++ alloc 0 0 2 gives made (object 0 0 1)
     ∷ store 0 0 0 1 gives ok
     ∷ store 0 0 1 2 gives ok
     ∷ drop_register 0 1 gives ok
@@ -69,12 +61,8 @@ abbrev refusals : List Row
 refusals =
     load 0 0 256 0 gives refused NoRegister
     ∷ load 0 0 1 0 gives refused EmptyRegister
-    ∷ alloc 1 0 0 gives made (object 1 0 1)
-    ∷ give 1 0 1 0 gives sent 1
-    ∷ save 1 gives done
-    ∷ deliver 1 0 1 gives received
-    ∷ accept 0 2 gives letter 1 1 (object 1 0 1)
-    ∷ load 0 0 2 0 gives refused Remote
+    ∷ comes_over 1 0 2
+    ++ load 0 0 2 0 gives refused Remote
     ∷ alloc 0 0 9 gives refused TooManyFields
     ∷ alloc 0 0 8 gives made (object 0 0 1)
     ∷ load 0 1 0 8 gives refused NoField

@@ -9,7 +9,7 @@ use Rattle.model.specs.Collecting.{probe, begun, scan, scanned, conclude, passed
 use Rattle.model.specs.Steps.{act, receive, allocated, dropped, count_in, take_body, settled, taken_in}
 use Rattle.model.specs.World.{take_step}
 use Rattle.rows.proofs.Rows.{object, space, alloc, drop_register, made, received, done, no_frame, refused}
-use Rattle.rows.proofs.Words.{begin_cycle, scan_grey, pass_token, sweep_slots, save, restart, deliver, ok, began, scanned_grey, passed_token, probe_again, ended, freed_done, state, Row, ◌gives◌, ◌shows◌, Prints}
+use Rattle.rows.proofs.Words.{begin_cycle, scan_grey, pass_token, sweep_slots, save, restart, deliver, ok, began, scanned_grey, probe_again, ended, freed_done, state, Row, ◌gives◌, ◌shows◌, Prints, passes_on, first_token}
 use Rattle.rows.proofs.CycleRows.{two_probes, swept_by_both}
 
 -- What becomes garbage while a cycle runs stays in it, and goes in the next.
@@ -19,22 +19,10 @@ next_cycle =
     ∷ begin_cycle 0 gives began 1
     ∷ drop_register 0 0 gives ok
     ∷ scan_grey 0 gives scanned_grey (object 0 0 1)
-    ∷ two_probes
+    ∷ two_probes 1 1 1
     ++ swept_by_both
-    ++ save 0 gives done
-    ∷ deliver 0 1 5 gives received
-    ∷ pass_token 1 gives passed_token (pos 0) Black
-    ∷ save 1 gives done
-    ∷ deliver 1 0 4 gives received
-    ∷ pass_token 0 gives probe_again
-    ∷ save 0 gives done
-    ∷ deliver 0 1 6 gives received
-    ∷ deliver 0 1 7 gives received
-    ∷ pass_token 1 gives passed_token (pos 0) White
-    ∷ save 1 gives done
-    ∷ deliver 1 0 5 gives received
-    ∷ pass_token 0 gives ended 2
-    ∷ sweep_slots 0 16 gives freed_done 1
+    ++ two_probes 2 5 4
+    ++ sweep_slots 0 16 gives freed_done 1
     ∷ []
 
 pub next-cycle-prints : Prints (space 2 4 16) next_cycle
@@ -49,25 +37,15 @@ all_reported =
     begin_cycle 1 gives refused NotDirector
     ∷ begin_cycle 0 gives began 1
     ∷ begin_cycle 0 gives refused CycleRunning
-    ∷ save 0 gives done
-    ∷ deliver 0 2 1 gives received
-    ∷ pass_token 2 gives passed_token (pos 0) Black
-    ∷ save 2 gives done
-    ∷ deliver 2 1 1 gives received
-    ∷ pass_token 1 gives passed_token (pos 0) Black
-    ∷ save 1 gives done
-    ∷ deliver 1 0 1 gives received
-    ∷ pass_token 0 gives probe_again
+    ∷ first_token
+    ++ passes_on 1 (pos 0) Black 1
+    ++ pass_token 0 gives probe_again
     ∷ save 0 gives done
     ∷ deliver 0 2 2 gives received
     ∷ deliver 0 2 3 gives received
-    ∷ pass_token 2 gives passed_token (pos 0) White
-    ∷ save 2 gives done
-    ∷ deliver 2 1 2 gives received
-    ∷ pass_token 1 gives passed_token (pos 0) White
-    ∷ save 1 gives done
-    ∷ deliver 1 0 2 gives received
-    ∷ pass_token 0 gives ended 1
+    ∷ passes_on 2 (pos 0) White 2
+    ++ passes_on 1 (pos 0) White 2
+    ++ pass_token 0 gives ended 1
     ∷ begin_cycle 0 gives refused CycleRunning
     ∷ save 0 gives done
     ∷ deliver 0 1 1 gives received

@@ -1,6 +1,6 @@
 -- Worked examples of the ring, computed: messages that were under way when a node joined, and such
 -- as were sent in the cycle.
-use Rattle.std.proofs.Common.{pos, neg_ℤ, true, false, List, [], ◌∷◌, refl}
+use Rattle.std.proofs.Common.{pos, neg_ℤ, true, false, List, [], ◌∷◌, ◌++◌, refl}
 use Rattle.std.specs.Int.{int_wrap}
 use Rattle.ids.specs.declared.refusal.Refusal.TheVariants.{NothingToDo}
 use Rattle.msg.specs.declared.body.Colour.TheVariants.{White, Black}
@@ -10,7 +10,7 @@ use Rattle.model.specs.Collecting.{probe, begun, scan, scanned, conclude, passed
 use Rattle.model.specs.Steps.{act, receive, allocated, dropped, given, accepted, count_in, take_body, settled, taken_in}
 use Rattle.model.specs.World.{take_step}
 use Rattle.rows.proofs.Rows.{object, space, alloc, drop_register, give, accept, made, sent, letter, received, done, no_frame, refused}
-use Rattle.rows.proofs.Words.{begin_cycle, scan_grey, pass_token, sweep_slots, save, deliver, ok, began, scanned_grey, passed_token, probe_again, ended, freed_done, state, Row, ◌gives◌, ◌shows◌, Prints}
+use Rattle.rows.proofs.Words.{begin_cycle, scan_grey, pass_token, sweep_slots, save, deliver, ok, began, scanned_grey, passed_token, probe_again, ended, freed_done, state, Row, ◌gives◌, ◌shows◌, Prints, passes_on, first_token, comes_over}
 
 -- A reference that was sent before joining is held back over three probes, none of which may
 -- conclude.
@@ -21,57 +21,35 @@ held_back =
     ∷ drop_register 1 0 gives ok
     ∷ save 1 gives done
     ∷ begin_cycle 0 gives began 1
-    ∷ save 0 gives done
-    ∷ deliver 0 2 1 gives received
-    ∷ pass_token 2 gives passed_token (pos 0) Black
-    ∷ save 2 gives done
-    ∷ deliver 2 1 1 gives received
-    ∷ pass_token 1 gives passed_token (pos 1) Black
-    ∷ save 1 gives done
-    ∷ deliver 1 0 1 gives received
-    ∷ pass_token 0 gives probe_again
+    ∷ first_token
+    ++ passes_on 1 (pos 1) Black 1
+    ++ pass_token 0 gives probe_again
     ∷ save 0 gives done
     ∷ deliver 0 2 2 gives received
     ∷ deliver 0 2 3 gives received
-    ∷ pass_token 2 gives passed_token (pos 0) White
-    ∷ save 2 gives done
-    ∷ deliver 2 1 2 gives received
-    ∷ pass_token 1 gives passed_token (pos 1) White
-    ∷ save 1 gives done
-    ∷ deliver 1 0 2 gives received
-    ∷ pass_token 0 gives probe_again
+    ∷ passes_on 2 (pos 0) White 2
+    ++ passes_on 1 (pos 1) White 2
+    ++ pass_token 0 gives probe_again
     ∷ save 0 gives done
     ∷ deliver 0 2 4 gives received
-    ∷ pass_token 2 gives passed_token (pos 0) White
-    ∷ save 2 gives done
-    ∷ deliver 2 1 3 gives received
-    ∷ pass_token 1 gives passed_token (pos 1) White
-    ∷ save 1 gives done
-    ∷ deliver 1 0 3 gives received
-    ∷ pass_token 0 gives probe_again
+    ∷ passes_on 2 (pos 0) White 3
+    ++ passes_on 1 (pos 1) White 3
+    ++ pass_token 0 gives probe_again
     ∷ save 0 gives done
     ∷ deliver 1 2 1 gives received
     ∷ save 2 gives done
     ∷ deliver 2 1 4 gives received
     ∷ deliver 0 2 5 gives received
-    ∷ pass_token 2 gives passed_token (pos 0) Black
-    ∷ save 2 gives done
-    ∷ deliver 2 1 5 gives received
-    ∷ pass_token 1 gives refused NothingToDo
+    ∷ passes_on 2 (pos 0) Black 5
+    ++ pass_token 1 gives refused NothingToDo
     ∷ scan_grey 1 gives scanned_grey (object 1 0 1)
-    ∷ pass_token 1 gives passed_token (pos 0) Black
-    ∷ save 1 gives done
-    ∷ deliver 1 0 4 gives received
-    ∷ pass_token 0 gives probe_again
+    ∷ passes_on 1 (pos 0) Black 4
+    ++ pass_token 0 gives probe_again
     ∷ save 0 gives done
     ∷ deliver 0 2 6 gives received
-    ∷ pass_token 2 gives passed_token (pos 0) White
-    ∷ save 2 gives done
-    ∷ deliver 2 1 6 gives received
-    ∷ pass_token 1 gives passed_token (pos 0) White
-    ∷ save 1 gives done
-    ∷ deliver 1 0 5 gives received
-    ∷ pass_token 0 gives ended 1
+    ∷ passes_on 2 (pos 0) White 6
+    ++ passes_on 1 (pos 0) White 5
+    ++ pass_token 0 gives ended 1
     ∷ save 0 gives done
     ∷ deliver 0 1 1 gives received
     ∷ deliver 0 1 2 gives received
@@ -88,19 +66,11 @@ held-back-prints = refl
 -- A reference of the same cycle to a third node's object is no cause for a Mark.
 abbrev same_cycle : List Row
 same_cycle =
-    alloc 0 0 0 gives made (object 0 0 1)
-    ∷ give 0 1 1 0 gives sent 1
-    ∷ save 0 gives done
-    ∷ deliver 0 1 1 gives received
-    ∷ accept 1 0 gives letter 0 1 (object 0 0 1)
-    ∷ begin_cycle 0 gives began 1
+    comes_over 0 1 0
+    ++ begin_cycle 0 gives began 1
     ∷ scan_grey 0 gives scanned_grey (object 0 0 1)
-    ∷ save 0 gives done
-    ∷ deliver 0 2 1 gives received
-    ∷ pass_token 2 gives passed_token (pos 0) Black
-    ∷ save 2 gives done
-    ∷ deliver 2 1 1 gives received
-    ∷ give 1 2 9 0 gives sent 1
+    ∷ first_token
+    ++ give 1 2 9 0 gives sent 1
     ∷ save 1 gives done
     ∷ deliver 1 2 1 gives received
     ∷ 2 shows state 1 0 0 White (pos 0) (neg_ℤ (pos 1)) 0 0 false 1
@@ -125,14 +95,10 @@ overtakes_mark =
     ∷ begin_cycle 0 gives began 1
     ∷ save 0 gives done
     ∷ deliver 0 2 1 gives received
-    ∷ pass_token 2 gives passed_token (pos 1) Black
-    ∷ save 2 gives done
-    ∷ deliver 2 1 2 gives received
-    ∷ give 1 0 2 0 gives sent 1
-    ∷ pass_token 1 gives passed_token (pos 1) Black
-    ∷ save 1 gives done
-    ∷ deliver 1 0 1 gives received
-    ∷ accept 0 0 gives letter 1 2 (object 2 0 1)
+    ∷ passes_on 2 (pos 1) Black 2
+    ++ give 1 0 2 0 gives sent 1
+    ∷ passes_on 1 (pos 1) Black 1
+    ++ accept 0 0 gives letter 1 2 (object 2 0 1)
     ∷ deliver 1 0 2 gives received
     ∷ pass_token 0 gives probe_again
     ∷ give 0 2 3 0 gives sent 4
@@ -144,10 +110,8 @@ overtakes_mark =
     ∷ 2 shows state 1 0 0 White (pos 1) (neg_ℤ (pos 1)) 1 1 false 1
     ∷ save 2 gives done
     ∷ deliver 2 1 3 gives received
-    ∷ pass_token 1 gives passed_token (pos 1) White
-    ∷ save 1 gives done
-    ∷ deliver 1 0 3 gives received
-    ∷ pass_token 0 gives probe_again
+    ∷ passes_on 1 (pos 1) White 3
+    ++ pass_token 0 gives probe_again
     ∷ deliver 1 2 1 gives received
     ∷ 2 shows state 1 0 0 Black (pos 0) (neg_ℤ (pos 1)) 1 1 false 1
     ∷ []
@@ -172,48 +136,30 @@ own_balance =
     ∷ deliver 0 1 1 gives received
     ∷ begin_cycle 0 gives began 1
     ∷ 0 shows state 1 0 0 White (pos 1) (pos 0) 0 0 false 0
-    ∷ save 0 gives done
-    ∷ deliver 0 2 1 gives received
-    ∷ pass_token 2 gives passed_token (pos 0) Black
-    ∷ save 2 gives done
-    ∷ deliver 2 1 1 gives received
-    ∷ 1 shows state 1 0 0 Black (pos 0) (pos 0) 0 1 true 1
-    ∷ pass_token 1 gives passed_token (pos 0) Black
-    ∷ save 1 gives done
-    ∷ deliver 1 0 2 gives received
-    ∷ pass_token 0 gives probe_again
+    ∷ first_token
+    ++ 1 shows state 1 0 0 Black (pos 0) (pos 0) 0 1 true 1
+    ∷ passes_on 1 (pos 0) Black 2
+    ++ pass_token 0 gives probe_again
     ∷ save 0 gives done
     ∷ deliver 0 2 2 gives received
     ∷ deliver 0 2 3 gives received
-    ∷ pass_token 2 gives passed_token (pos 0) White
-    ∷ save 2 gives done
-    ∷ deliver 2 1 2 gives received
-    ∷ pass_token 1 gives passed_token (pos 0) White
-    ∷ save 1 gives done
-    ∷ deliver 1 0 3 gives received
-    ∷ 0 shows state 1 0 0 White (pos 1) (pos 0) 0 0 true 0
+    ∷ passes_on 2 (pos 0) White 2
+    ++ passes_on 1 (pos 0) White 3
+    ++ 0 shows state 1 0 0 White (pos 1) (pos 0) 0 0 true 0
     ∷ pass_token 0 gives probe_again
     ∷ save 0 gives done
     ∷ deliver 0 2 4 gives received
-    ∷ pass_token 2 gives passed_token (pos 0) White
-    ∷ save 2 gives done
-    ∷ deliver 2 1 3 gives received
-    ∷ deliver 0 1 2 gives received
+    ∷ passes_on 2 (pos 0) White 3
+    ++ deliver 0 1 2 gives received
     ∷ pass_token 1 gives refused NothingToDo
     ∷ scan_grey 1 gives scanned_grey (object 1 0 1)
-    ∷ pass_token 1 gives passed_token (neg_ℤ (pos 1)) Black
-    ∷ save 1 gives done
-    ∷ deliver 1 0 4 gives received
-    ∷ pass_token 0 gives probe_again
+    ∷ passes_on 1 (neg_ℤ (pos 1)) Black 4
+    ++ pass_token 0 gives probe_again
     ∷ save 0 gives done
     ∷ deliver 0 2 5 gives received
-    ∷ pass_token 2 gives passed_token (pos 0) White
-    ∷ save 2 gives done
-    ∷ deliver 2 1 4 gives received
-    ∷ pass_token 1 gives passed_token (neg_ℤ (pos 1)) White
-    ∷ save 1 gives done
-    ∷ deliver 1 0 5 gives received
-    ∷ pass_token 0 gives ended 1
+    ∷ passes_on 2 (pos 0) White 4
+    ++ passes_on 1 (neg_ℤ (pos 1)) White 5
+    ++ pass_token 0 gives ended 1
     ∷ []
 
 pub own-balance-prints : Prints (space 3 4 16) own_balance

@@ -1,5 +1,5 @@
 -- Worked examples of the order in which references are shaded, and of what shading keeps, computed.
-use Rattle.std.proofs.Common.{pos, neg_ℤ, true, false, List, [], ◌∷◌, Some, refl}
+use Rattle.std.proofs.Common.{ℕ, ◌+◌, pos, neg_ℤ, true, false, List, [], ◌∷◌, ◌++◌, Some, refl}
 use Rattle.std.specs.Int.{int_wrap}
 use Rattle.ids.specs.declared.refusal.Refusal.TheVariants.{NothingToDo}
 use Rattle.msg.specs.declared.body.Colour.TheVariants.{White, Black}
@@ -10,7 +10,7 @@ use Rattle.model.specs.Steps.{act, receive, allocated, copied, dropped, loaded, 
 use Rattle.model.specs.World.{take_step}
 use Rattle.rows.proofs.Rows.{object, space, alloc, drop_register, give, accept, made, sent, letter, received, done, no_frame, refused}
 use Rattle.rows.proofs.ObjectRows.{copy, load, store, put, get, value}
-use Rattle.rows.proofs.Words.{begin_cycle, scan_grey, pass_token, sweep_slots, save, deliver, ok, began, scanned_grey, passed_token, probe_again, ended, freed_done, state, Row, ◌gives◌, ◌shows◌, Prints}
+use Rattle.rows.proofs.Words.{begin_cycle, scan_grey, pass_token, sweep_slots, save, deliver, ok, began, scanned_grey, probe_again, ended, freed_done, state, Row, ◌gives◌, ◌shows◌, Prints, passes_on, first_token, comes_over}
 
 -- A node that joins shades its registers in order, and then its letters, oldest first. The last
 -- object that turned grey is scanned first.
@@ -78,11 +78,11 @@ unfolding take_step act append announce shade make_grey enter join allocated dro
     probe scan scanned
 places-in-order-prints = refl
 
--- Marks are sent in the order of the places, and one for each object: the second place names the
--- same object as the first.
-abbrev marks_in_order : List Row
-marks_in_order =
-    alloc 1 0 0 gives made (object 1 0 1)
+-- Node 1 makes two objects, the first with so many places, and references to both end up in this
+-- register of node 0 and the next one.
+abbrev two_come_over : ℕ → ℕ → List Row
+two_come_over places register =
+    alloc 1 0 places gives made (object 1 0 1)
     ∷ alloc 1 1 0 gives made (object 1 1 1)
     ∷ give 1 0 1 0 gives sent 1
     ∷ give 1 0 2 1 gives sent 2
@@ -91,9 +91,16 @@ marks_in_order =
     ∷ save 1 gives done
     ∷ deliver 1 0 1 gives received
     ∷ deliver 1 0 2 gives received
-    ∷ accept 0 1 gives letter 1 1 (object 1 0 1)
-    ∷ accept 0 2 gives letter 1 2 (object 1 1 1)
-    ∷ alloc 0 0 3 gives made (object 0 0 1)
+    ∷ accept 0 register gives letter 1 1 (object 1 0 1)
+    ∷ accept 0 (register + 1) gives letter 1 2 (object 1 1 1)
+    ∷ []
+
+-- Marks are sent in the order of the places, and one for each object: the second place names the
+-- same object as the first.
+abbrev marks_in_order : List Row
+marks_in_order =
+    two_come_over 0 1
+    ++ alloc 0 0 3 gives made (object 0 0 1)
     ∷ store 0 0 0 2 gives ok
     ∷ store 0 0 1 2 gives ok
     ∷ store 0 0 2 1 gives ok
@@ -121,27 +128,13 @@ marks-in-order-prints = refl
 -- it brings. Node 1 has joined by the token, which comes to it from node 2.
 abbrev target_first : List Row
 target_first =
-    alloc 1 0 1 gives made (object 1 0 1)
-    ∷ alloc 1 1 0 gives made (object 1 1 1)
-    ∷ give 1 0 1 0 gives sent 1
-    ∷ give 1 0 2 1 gives sent 2
-    ∷ drop_register 1 0 gives ok
-    ∷ drop_register 1 1 gives ok
-    ∷ save 1 gives done
-    ∷ deliver 1 0 1 gives received
-    ∷ deliver 1 0 2 gives received
-    ∷ accept 0 0 gives letter 1 1 (object 1 0 1)
-    ∷ accept 0 1 gives letter 1 2 (object 1 1 1)
-    ∷ put 0 0 0 1 gives sent 1
+    two_come_over 1 0
+    ++ put 0 0 0 1 gives sent 1
     ∷ drop_register 0 0 gives ok
     ∷ drop_register 0 1 gives ok
     ∷ begin_cycle 0 gives began 1
-    ∷ save 0 gives done
-    ∷ deliver 0 2 1 gives received
-    ∷ pass_token 2 gives passed_token (pos 0) Black
-    ∷ save 2 gives done
-    ∷ deliver 2 1 1 gives received
-    ∷ 1 shows state 1 0 0 Black (pos 2) (pos 0) 0 2 true 0
+    ∷ first_token
+    ++ 1 shows state 1 0 0 Black (pos 2) (pos 0) 0 2 true 0
     ∷ deliver 0 1 1 gives received
     ∷ 1 shows state 1 0 0 Black (pos 1) (pos 0) 2 2 true 0
     ∷ scan_grey 1 gives scanned_grey (object 1 1 1)
@@ -158,12 +151,8 @@ target-first-prints = refl
 -- asked, the Mark comes before the Give.
 abbrev mark_before_answer : List Row
 mark_before_answer =
-    alloc 0 0 0 gives made (object 0 0 1)
-    ∷ give 0 1 1 0 gives sent 1
-    ∷ save 0 gives done
-    ∷ deliver 0 1 1 gives received
-    ∷ accept 1 1 gives letter 0 1 (object 0 0 1)
-    ∷ alloc 1 0 1 gives made (object 1 0 1)
+    comes_over 0 1 1
+    ++ alloc 1 0 1 gives made (object 1 0 1)
     ∷ store 1 0 0 1 gives ok
     ∷ give 1 0 2 0 gives sent 1
     ∷ drop_register 1 0 gives ok
@@ -174,12 +163,8 @@ mark_before_answer =
     ∷ get 0 1 0 3 gives sent 2
     ∷ drop_register 0 1 gives ok
     ∷ begin_cycle 0 gives began 1
-    ∷ save 0 gives done
-    ∷ deliver 0 2 1 gives received
-    ∷ pass_token 2 gives passed_token (pos 0) Black
-    ∷ save 2 gives done
-    ∷ deliver 2 1 1 gives received
-    ∷ 1 shows state 1 0 0 Black (pos 0) (pos 0) 0 1 true 0
+    ∷ first_token
+    ++ 1 shows state 1 0 0 Black (pos 0) (pos 0) 0 1 true 0
     ∷ deliver 0 1 2 gives received
     ∷ 1 shows state 1 0 0 Black (pos 0) (pos 1) 1 1 true 0
     ∷ save 1 gives done
@@ -211,12 +196,8 @@ value_shaded =
     ∷ get 0 0 0 2 gives sent 1
     ∷ drop_register 0 0 gives ok
     ∷ begin_cycle 0 gives began 1
-    ∷ save 0 gives done
-    ∷ deliver 0 2 1 gives received
-    ∷ pass_token 2 gives passed_token (pos 0) Black
-    ∷ save 2 gives done
-    ∷ deliver 2 1 1 gives received
-    ∷ deliver 0 1 1 gives received
+    ∷ first_token
+    ++ deliver 0 1 1 gives received
     ∷ 1 shows state 1 0 0 Black (pos 0) (pos 1) 2 2 true 0
     ∷ scan_grey 1 gives scanned_grey (object 1 1 1)
     ∷ scan_grey 1 gives scanned_grey (object 1 0 1)
@@ -231,18 +212,10 @@ value-shaded-prints = refl
 -- A reference that was vouched for counts as asked for: no Mark is sent when it is met again.
 abbrev vouched_once : List Row
 vouched_once =
-    alloc 0 0 0 gives made (object 0 0 1)
-    ∷ give 0 1 1 0 gives sent 1
-    ∷ save 0 gives done
-    ∷ deliver 0 1 1 gives received
-    ∷ accept 1 0 gives letter 0 1 (object 0 0 1)
-    ∷ begin_cycle 0 gives began 1
-    ∷ save 0 gives done
-    ∷ deliver 0 2 1 gives received
-    ∷ pass_token 2 gives passed_token (pos 0) Black
-    ∷ save 2 gives done
-    ∷ deliver 2 1 1 gives received
-    ∷ give 1 2 9 0 gives sent 1
+    comes_over 0 1 0
+    ++ begin_cycle 0 gives began 1
+    ∷ first_token
+    ++ give 1 2 9 0 gives sent 1
     ∷ save 1 gives done
     ∷ deliver 1 2 1 gives received
     ∷ accept 2 0 gives letter 1 9 (object 0 0 1)
@@ -273,16 +246,12 @@ asked_again =
     ∷ deliver 0 1 3 gives received
     ∷ scan_grey 1 gives scanned_grey (object 1 0 1)
     ∷ 1 shows state 1 0 0 Black (pos 0) (pos 0) 0 1 true 0
-    ∷ pass_token 1 gives passed_token (pos 0) Black
-    ∷ save 1 gives done
-    ∷ deliver 1 0 2 gives received
-    ∷ pass_token 0 gives probe_again
+    ∷ passes_on 1 (pos 0) Black 2
+    ++ pass_token 0 gives probe_again
     ∷ save 0 gives done
     ∷ deliver 0 1 4 gives received
-    ∷ pass_token 1 gives passed_token (pos 0) White
-    ∷ save 1 gives done
-    ∷ deliver 1 0 3 gives received
-    ∷ pass_token 0 gives ended 1
+    ∷ passes_on 1 (pos 0) White 3
+    ++ pass_token 0 gives ended 1
     ∷ sweep_slots 0 16 gives freed_done 0
     ∷ save 0 gives done
     ∷ deliver 0 1 5 gives received

@@ -21,7 +21,7 @@ slots_again =
     ∷ drop_register 0 0 gives ok
     ∷ drop_register 0 1 gives ok
     ∷ begin_cycle 0 gives began 1
-    ∷ two_probes
+    ∷ two_probes 1 1 1
     ++ sweep_slots 0 1 gives freed_more 1
     ∷ alloc 0 2 0 gives made (object 0 0 2)
     ∷ sweep_slots 0 1 gives freed_done 1
@@ -42,7 +42,7 @@ freed_last_first =
     ∷ drop_register 0 0 gives ok
     ∷ drop_register 0 1 gives ok
     ∷ begin_cycle 0 gives began 1
-    ∷ two_probes
+    ∷ two_probes 1 1 1
     ++ sweep_slots 0 16 gives freed_done 2
     ∷ alloc 0 2 0 gives made (object 0 1 2)
     ∷ alloc 0 3 0 gives made (object 0 0 2)
@@ -68,7 +68,7 @@ swept_in_parts =
     ∷ scan_grey 0 gives scanned_grey (object 0 2 1)
     ∷ scan_grey 0 gives scanned_grey (object 0 1 1)
     ∷ scan_grey 0 gives scanned_grey (object 0 0 1)
-    ∷ two_probes
+    ∷ two_probes 1 1 1
     ++ sweep_slots 0 0 gives freed_more 0
     ∷ sweep_slots 0 2 gives freed_more 0
     ∷ 0 shows state 1 1 0 White (pos 0) (pos 0) 0 3 false 0
@@ -93,7 +93,7 @@ made_marked =
     ∷ alloc 0 0 0 gives made (object 0 0 1)
     ∷ drop_register 0 0 gives ok
     ∷ 0 shows state 1 0 0 White (pos 0) (pos 0) 0 1 false 0
-    ∷ two_probes
+    ∷ two_probes 1 1 1
     ++ sweep_slots 0 255 gives freed_done 0
     ∷ []
 
@@ -117,7 +117,7 @@ load_shades =
     ∷ clear 0 0 0 gives ok
     ∷ scan_grey 0 gives scanned_grey (object 0 1 1)
     ∷ scan_grey 0 gives scanned_grey (object 0 0 1)
-    ∷ two_probes
+    ∷ two_probes 1 1 1
     ++ sweep_slots 0 16 gives freed_done 0
     ∷ []
 
@@ -131,7 +131,7 @@ load-shades-prints = refl
 abbrev own_sweep : List Row
 own_sweep =
     begin_cycle 0 gives began 1
-    ∷ two_probes
+    ∷ two_probes 1 1 1
     ++ save 0 gives done
     ∷ deliver 0 1 4 gives received
     ∷ sweep_slots 1 16 gives freed_done 0

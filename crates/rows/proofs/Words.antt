@@ -1,11 +1,12 @@
 -- Words for tables of steps and states: the events of a cycle, what becomes of them, and a node in
 -- numbers. A run of a new space is a table, a row for each step with what became of it, and now and
 -- then a node as it then is.
-use Rattle.std.specs.Prelude.{◌≡◌, ℕ, ℤ, Bool, true, false, List, [], ◌∷◌, length, count_by, is_some, Result, Ok}
+use Rattle.std.specs.Prelude.{◌≡◌, ℕ, ◌-◌, ℤ, pos, Bool, true, false, List, [], ◌∷◌, length, count_by, is_some, Result, Ok}
 use Rattle.ids.specs.Limits.{Shaped}
 use Rattle.ids.specs.declared.names.Ref.{Ref}
 use Rattle.ids.specs.declared.refusal.Refusal.{Refusal}
 use Rattle.msg.specs.declared.body.Colour.{Colour}
+use Rattle.msg.specs.declared.body.Colour.TheVariants.{Black}
 use Rattle.model.specs.declared.event.Event.TheVariants as event
 use Rattle.model.specs.declared.event.Answer.TheVariants as answer
 use Rattle.model.specs.declared.step.Step.{Step}
@@ -14,7 +15,7 @@ use Rattle.model.specs.declared.step.Outcome.{Outcome}
 use Rattle.model.specs.declared.step.Outcome.TheVariants as outcome
 use Rattle.model.specs.State.{Slot, Free, Occupied, Retired, LocalState, node_at}
 use Rattle.model.specs.World.{World, new_world, take_step, happens, outcome_of}
-use Rattle.rows.proofs.Rows.{dropped_now}
+use Rattle.rows.proofs.Rows.{object, alloc, give, accept, made, sent, letter, received, done, dropped_now}
 
 -- ---- steps; the node comes first
 
@@ -130,6 +131,34 @@ table w (i shows n ∷ rows) = i shows numbers_of (node_at w.current i).local �
 -- they write this one, in a new space of this shape
 abbrev pub Prints : Shaped → List Row → Type 0
 Prints shape rows = table (new_world shape) rows ≡ rows
+
+-- ---- rows that many tables have
+
+-- A node passes the token on, is saved, and the node before it gets the token as this message.
+abbrev pub passes_on : ℕ → ℤ → Colour → ℕ → List Row
+passes_on node q colour number =
+    pass_token node gives passed_token q colour
+    ∷ save node gives done
+    ∷ deliver node (node - 1) number gives received
+    ∷ []
+
+-- of three nodes the last joins by the first token of a cycle, which then comes to node 1
+abbrev pub first_token : List Row
+first_token =
+    save 0 gives done
+    ∷ deliver 0 2 1 gives received
+    ∷ passes_on 2 (pos 0) Black 1
+
+-- A new node makes its first object, and its first message brings a reference to it, which ends up
+-- in this register of the other.
+abbrev pub comes_over : ℕ → ℕ → ℕ → List Row
+comes_over from to register =
+    alloc from 0 0 gives made (object from 0 1)
+    ∷ give from to 1 0 gives sent 1
+    ∷ save from gives done
+    ∷ deliver from to 1 gives received
+    ∷ accept to register gives letter from 1 (object from 0 1)
+    ∷ []
 
 -- the cycle that marked the object in a slot; 0 where none is there
 abbrev pub mark_of : Slot → ℕ

@@ -1,54 +1,45 @@
--- Two new nodes, and the world in which they stand.
-use Rattle.std.proofs.Common.{◌≡◌, ◌<◌, ℕ, zero, suc, List, [], ◌∷◌, length, drop, get_or, replicate, Some, refl, sym, ap, ◌∙◌, subst, arith, slice_get}
-use Rattle.std.proofs.lemmas.List.{length-replicate}
+-- The nodes of a shape as they are made, and the world in which they stand.
+use Rattle.std.proofs.Common.{◌≡◌, ◌<◌, ℕ, zero, suc, List, [], ◌∷◌, length, drop, get_or, Some, refl, sym, ap, ◌∙◌, subst, arith, slice_get}
+use Rattle.std.proofs.lemmas.List.FromFn.{get_or-map-range_with_len, length-map-range_with_len}
+use Rattle.std.proofs.lemmas.Option.{slice_get_within}
 use Rattle.ids.specs.Limits.{Shaped}
-use Rattle.msg.specs.declared.body.Message.{Message}
-use Rattle.model.specs.State.{new_node, node_at}
-use Rattle.model.specs.View.{NodeView, Link, ShowsSent, no_link, new_view}
+use Rattle.model.specs.State.{new_node, no_node, node_at}
+use Rattle.model.specs.View.{NodeView, new_view}
 use Rattle.model.specs.World.{new_world}
-use Rattle.model.proofs.Lookups.{get_or-replicate_any}
+use Rattle.model.proofs.NewNodes.{new-counted, new-shown}
 use Rattle.wire.specs.Readers.{IsSavedAs, AreOpened}
 
-abbrev pub two_nodes : Shaped
-two_nodes = record { nodes = 2; registers = 1; slots = 1 }
+pub new-saved : (shape : Shaped) (own : ℕ) → IsSavedAs (new_view shape own) (new_node shape own)
+new-saved shape own =
+    record { shows = new-shown shape own; counted = new-counted shape own; acks = refl }
 
-new-saved : (shape : Shaped) (own : ℕ) → IsSavedAs (new_view shape own) (new_node shape own)
-new-saved shape own = record {
-  shows = record {
-    local = refl;
-    width = length-replicate shape.nodes no_link
-        ∙ sym (length-replicate {A = List Message} shape.nodes []);
-    links = λ j.
-        subst (λ (l : Link). ShowsSent l (get_or (replicate shape.nodes []) j []))
-        (sym (get_or-replicate_any shape.nodes j no_link))
-        (subst (ShowsSent no_link) (sym (get_or-replicate_any {A = List Message} shape.nodes j []))
-        (record { within = omega arith; unacknowledged = refl }));
-  };
-  counted = λ j. ap (λ (l : Link). l.kept) (get_or-replicate_any shape.nodes j no_link)
-      ∙ sym (ap length (get_or-replicate_any {A = List Message} shape.nodes j []));
-  acks = refl;
-}
+pub new-width : (shape : Shaped) → length (new_world shape).current ≡ shape.nodes
+new-width shape = length-map-range_with_len (new_node shape) 0 shape.nodes
 
-pub new-opened : (a b : NodeView) → a ≡ new_view two_nodes 0 → b ≡ new_view two_nodes 1
-    → AreOpened two_nodes (a ∷ b ∷ []) (new_world two_nodes)
-new-opened a b first second = record {
+pub new-at : (shape : Shaped) (k : ℕ) → k < shape.nodes
+    → node_at (new_world shape).current k ≡ new_node shape k
+new-at shape k inside =
+    get_or-map-range_with_len (new_node shape) 0 shape.nodes k k no_node inside (omega arith)
+
+pub new-opened : (shape : Shaped) (nodes : List NodeView) → length nodes ≡ shape.nodes
+    → ((k : ℕ) (n : NodeView) → slice_get nodes k ≡ Some n → n ≡ new_view shape k)
+    → AreOpened shape nodes (new_world shape)
+new-opened shape nodes count new = record {
   saved = refl;
-  width = refl;
-  count = refl;
-  each = each;
+  width = new-width shape;
+  count = count;
+  each = λ k n there.
+      let inside : k < shape.nodes = omega (arith, count, slice_get_within nodes k n there) in
+      subst (λ (v : NodeView). IsSavedAs v (node_at (new_world shape).current k))
+      (sym (new k n there))
+      (subst (IsSavedAs (new_view shape k)) (sym (new-at shape k inside)) (new-saved shape k));
 }
-  where
-    each : (k : ℕ) (n : NodeView) → slice_get (a ∷ b ∷ []) k ≡ Some n
-        → IsSavedAs n (node_at (new_world two_nodes).current k)
-    each zero n e =
-        let is : a ≡ n = cc in
-        subst (λ (v : NodeView). IsSavedAs v (new_node two_nodes 0)) (sym first ∙ is)
-        (new-saved two_nodes 0)
-    each (suc zero) n e =
-        let is : b ≡ n = cc in
-        subst (λ (v : NodeView). IsSavedAs v (new_node two_nodes 1)) (sym second ∙ is)
-        (new-saved two_nodes 1)
-    each (suc (suc k)) n e = absurd cc
+
+pub two-new : (shape : Shaped) (a b : NodeView) → a ≡ new_view shape 0 → b ≡ new_view shape 1
+    → (k : ℕ) (n : NodeView) → slice_get (a ∷ b ∷ []) k ≡ Some n → n ≡ new_view shape k
+two-new shape a b first second zero n e = let is : a ≡ n = cc in sym is ∙ first
+two-new shape a b first second (suc zero) n e = let is : b ≡ n = cc in sym is ∙ second
+two-new shape a b first second (suc (suc k)) n e = absurd cc
 
 -- ---- The first elements of a row
 

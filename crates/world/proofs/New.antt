@@ -1,17 +1,16 @@
 -- A new space.
-use Rattle.std.proofs.Common.{◌≡◌, ℕ, zero, suc, ◌<◌, List, [], ◌∷◌, length, map, get_or, replicate, slice_get, refl, ap, sym, ◌∙◌, subst, arith}
+use Rattle.std.proofs.Common.{◌≡◌, ℕ, zero, suc, ◌<◌, List, [], ◌∷◌, length, map, get_or, slice_get, refl, ap, sym, ◌∙◌, subst, arith}
 use Rattle.std.specs.List.{range_with_len}
-use Rattle.std.proofs.lemmas.List.{length-map, length-replicate}
+use Rattle.std.proofs.lemmas.List.{length-map}
 use Rattle.std.proofs.lemmas.List.FromFn.{get_or-map-range_with_len, length-map-range_with_len}
 use Rattle.ids.specs.Limits.{Shaped, IsShape}
-use Rattle.msg.specs.declared.body.Message.{Message}
 use Rattle.model.specs.State.{NodeState, new_node, no_node, sent_to}
-use Rattle.model.specs.View.{Link, Shows, ShowsSent, no_link, new_view}
+use Rattle.model.specs.View.{Link, new_view}
 use Rattle.model.specs.World.{acknowledged, new_world}
 use Rattle.model.proofs.Lookups.{get_or-replicate_any}
+use Rattle.model.proofs.NewNodes.{new-link, nothing-sent, new-shown, new-counted}
 use Rattle.laws.proofs.KeepsSent.{new-keeps-sent}
 use Rattle.world.specs.Outboxes.{IsFrameOf}
-use Rattle.world.proofs.SiteLemmas.{new-link}
 use Rattle.world.specs.Sites.{SiteView, frames_to, new_site}
 use Rattle.world.specs.Shows.{ShowsNode, ShowsWorld, IsPlaced, IsSim, no_site}
 
@@ -19,27 +18,11 @@ abbrev pub new_sites : Shaped → List SiteView
 new_sites shape = map (new_site shape) (range_with_len 0 shape.nodes)
 
 -- nothing was sent, released, acknowledged or let go of
-new-shown : (shape : Shaped) (own : ℕ) → Shows (new_view shape own) (new_node shape own)
-new-shown shape own = record {
-  local = refl;
-  width = length-replicate shape.nodes no_link
-      ∙ sym (length-replicate {A = List Message} shape.nodes []);
-  links = λ j.
-      subst (λ (l : Link). ShowsSent l (get_or (replicate shape.nodes []) j []))
-      (sym (get_or-replicate_any shape.nodes j no_link))
-      (subst (ShowsSent no_link) (sym (get_or-replicate_any {A = List Message} shape.nodes j []))
-      (record { within = omega arith; unacknowledged = refl }));
-}
-
-nothing-sent : (shape : Shaped) (own j : ℕ) → sent_to (new_node shape own) j ≡ []
-nothing-sent shape own j = get_or-replicate_any {A = List Message} shape.nodes j []
-
 new-node-shown : (shape : Shaped) (own : ℕ) (B : ℕ → ℕ)
     → ShowsNode (new_node shape own) B (new_view shape own) (new_node shape own)
 new-node-shown shape own B = record {
   shows = new-shown shape own;
-  counted = λ j. ap (λ (l : Link). l.kept) (new-link shape own j)
-      ∙ sym (ap length (nothing-sent shape own j));
+  counted = new-counted shape own;
   acks = refl;
   keeps = λ j. omega (arith, ap (λ (l : Link). l.base) (new-link shape own j));
 }

@@ -1,5 +1,5 @@
--- The image of a new node: it is short, and says the new node.
-use Rattle.std.proofs.Common.{◌≡◌, ◌≢◌, ℕ, zero, suc, ◌*◌, ◌<◌, ◌≤◌, ◌==◌, if◌then◌else◌, Bool, true, false, List, [], ◌∷◌, length, map, drop, replicate, None, refl, ap, arith}
+-- The image of a new node is short.
+use Rattle.std.proofs.Common.{◌≡◌, ◌≢◌, ℕ, zero, suc, ◌*◌, ◌<◌, ◌≤◌, ◌==◌, if◌then◌else◌, Bool, true, false, List, [], ◌∷◌, length, drop, replicate, None, refl, ap, arith}
 use Rattle.std.specs.List.{flat_map}
 use Rattle.std.specs.Int.{w64, to_be_bytes}
 use Rattle.std.proofs.lemmas.List.{length-append, length-drop, length-replicate}
@@ -8,22 +8,12 @@ use Rattle.ids.specs.declared.limits.TheConstants.{GREATEST_IMAGE}
 use Rattle.ids.specs.declared.refusal.Refusal.{Refusal}
 use Rattle.ids.specs.declared.refusal.Refusal.TheVariants.{Memory, ImageTooLarge}
 use Rattle.msg.specs.Grammar.{optional_bytes}
-use Rattle.model.specs.View.{Link, no_link, all_kept, kept_view, new_view}
+use Rattle.model.specs.View.{no_link, new_view}
 use Rattle.image.specs.Links.{StoredLink}
 use Rattle.image.specs.Grammar.{Stored, link_bytes, front_bytes}
 use Rattle.image.specs.Images.{image_of, stored_by, stored_link, stored_links, without_at}
 use Rattle.world.proofs.Refusals.{memory-alone}
 use Rattle.image.proofs.Sizes.{told_length, slots_length, others_length, spelling_length}
-
--- ---- nothing was sent, so all counts as saved
-
-all-kept : (n : ℕ) → map all_kept (replicate n no_link) ≡ replicate n no_link
-all-kept zero = refl
-all-kept (suc n) = ap (λ ls. no_link ∷ ls) (all-kept n)
-
-pub new-kept : (shape : Shaped) (own : ℕ) → kept_view (new_view shape own) ≡ new_view shape own
-new-kept shape own =
-    ap (λ (ls : List Link). record (new_view shape own) { links = ls }) (all-kept shape.nodes)
 
 -- ---- how long it is
 

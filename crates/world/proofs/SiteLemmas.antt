@@ -15,7 +15,8 @@ use Rattle.model.specs.declared.event.Event.TheVariants as event
 use Rattle.model.specs.declared.event.Answer.{Answer}
 use Rattle.model.specs.Steps.{ack_of, is_memory_free, is_shading}
 use Rattle.model.specs.View.{Link, NodeView, Performed, Performs, Leaves, no_link, link_to, used, appended, append_to, trimmed, let_go, view_act, new_view, all_kept, kept_view, base_of, kept_of}
-use Rattle.model.proofs.Lookups.{at_set_if, get_or-replicate_any}
+use Rattle.model.proofs.Lookups.{at_set_if}
+use Rattle.model.proofs.NewNodes.{new-link}
 use Rattle.model.proofs.Shown.{view-ok, ack-done}
 use Rattle.world.specs.Outboxes.{no_outbox, released_frames}
 use Rattle.world.specs.Sites.{SiteView, IsBacked, IsSite, Acted, Saves, new_site, bases, bases_acked}
@@ -224,9 +225,6 @@ site_restarted n v saved rows h same =
 pub no-frames : (n : ℕ) → map released_frames (replicate n no_outbox) ≡ replicate n []
 no-frames zero = refl
 no-frames (suc n) = ap (λ zs. [] ∷ zs) (no-frames n)
-
-pub new-link : (shape : Shaped) (own j : ℕ) → link_to (new_view shape own) j ≡ no_link
-new-link shape own j = get_or-replicate_any shape.nodes j no_link
 
 new-backed : (rows : List (List (List ℕ))) (shape : Shaped) (own : ℕ)
     → IsBacked rows (new_view shape own)

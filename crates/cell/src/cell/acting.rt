@@ -34,7 +34,7 @@ ghost use Rattle.wire.specs.Readers.{
 };
 ghost use Rattle.cell.specs.Desks.{IsAtSeat, IsUnsaved};
 ghost use Rattle.cell.specs.Disks.{OpensTo};
-ghost use Rattle.cell.specs.Events.{outcome_of, Acted};
+ghost use Rattle.cell.specs.Events.{outcome_of, Acted, IsMarked};
 
 use super::Cell;
 use crate::desk::Desk;
@@ -44,7 +44,7 @@ use ids::Refusal;
 use model::{Answer, Event};
 use node::Node;
 use std::alloc::Global;
-use trace::{Call, Trace};
+use trace::{Call, Outcome, Trace};
 use wire::{NodeSeat, Raised, Wire};
 
 impl<D: Disk> Cell<D> {
@@ -91,6 +91,8 @@ impl<D: Disk> Cell<D> {
             (known self.old.desk.seat) (known self.new.desk.seat) }
         ensures closed { IsErrOf result Refusal.Closed ↔ (self.old.shelf.ready ≡ false) }
         ensures shut { self.old.shelf.ready ≡ false → self.new.desk ≡ self.old.desk }
+        ensures unsaved { IsMarked (known self.old.desk.seat) (known self.new.desk.seat)
+            self.old.desk.is_unsaved self.new.desk.is_unsaved }
         ensures same { IsSame self.old.desk.seat self.new.desk.seat }
         ensures saved { self.new.desk.saved.value ≡ self.old.desk.saved.value }
         ensures places { self.new.desk.places ≡ self.old.desk.places }
@@ -98,30 +100,14 @@ impl<D: Disk> Cell<D> {
         ensures traced { self.new.trace ≡ keep_last TRACE_EVENTS (self.old.trace
             ++ record { call = call_of event; outcome = outcome_of result } ∷ []) }
     {
-        let answered = self.act_open(wire, event);
-        self.trace.push(Call::of(&event), outcome(&answered));
-        answered
-    }
-
-    fn act_open(&mut self, wire: &Wire, event: Event) -> Result<Answer, Refusal>
-        requires wire { IsSeatOf wire.now self.old.desk.seat }
-        requires own { is_own event ≡ true }
-        ensures acted { IsTrue self.old.shelf.ready
-            → Acted event (step.Act (known self.old.desk.seat).me event) result
-            self.old.desk.node self.new.desk.node
-            (known self.old.desk.seat) (known self.new.desk.seat) }
-        ensures closed { IsErrOf result Refusal.Closed ↔ (self.old.shelf.ready ≡ false) }
-        ensures shut { self.old.shelf.ready ≡ false → self.new.desk ≡ self.old.desk }
-        ensures same { IsSame self.old.desk.seat self.new.desk.seat }
-        ensures saved { self.new.desk.saved.value ≡ self.old.desk.saved.value }
-        ensures places { self.new.desk.places ≡ self.old.desk.places }
-        ensures shelf { self.new.shelf ≡ self.old.shelf }
-        ensures trace { self.new.trace ≡ self.old.trace }
-    {
         if !self.shelf.ready {
+            let closed = Outcome::Refused(Refusal::Closed);
+            self.trace.push(Call::of(&event), closed);
             return Err(Refusal::Closed);
         }
-        self.desk.act(wire, event)
+        let answered = self.desk.act(wire, event);
+        self.trace.push(Call::of(&event), outcome(&answered));
+        answered
     }
 
     /// Shows on the wire's board the last cycle that the saved node counts as ended. Refused Closed
@@ -143,6 +129,7 @@ impl<D: Disk> Cell<D> {
         ensures node { self.new.desk.node ≡ self.old.desk.node }
         ensures saved { self.new.desk.saved.value ≡ self.old.desk.saved.value }
         ensures places { self.new.desk.places ≡ self.old.desk.places }
+        ensures unsaved { self.new.desk.is_unsaved ≡ self.old.desk.is_unsaved }
         ensures shelf { self.new.shelf ≡ self.old.shelf }
         ensures trace { self.new.trace ≡ self.old.trace }
     {

@@ -2,7 +2,7 @@
 ghost use Rattle.std.specs.Prelude.{◌≡◌, ◌↔◌, ◌⊎◌, false, IfErr, IfOk, IsErrOf, IsTrue, OnErr, slice_index_or};
 ghost use Rattle.model.specs.View.{is_other};
 ghost use Rattle.wire.specs.Readers.{inbox, known, outbox, IsSame, IsSeatOf};
-ghost use Rattle.cell.specs.Events.{event_of};
+ghost use Rattle.cell.specs.Events.{event_of, IsMarked};
 ghost use Rattle.cell.specs.Pumping.{is_out, PumpedIn};
 ghost use Rattle.cell.specs.Sending.{frame_due, places_after, IsSent};
 
@@ -51,6 +51,8 @@ impl<D: Disk> Cell<D> {
             × (self.new.trace ≡ self.old.trace) }
         ensures same { IsSame self.old.desk.seat self.new.desk.seat }
         ensures saved { self.new.desk.saved.value ≡ self.old.desk.saved.value }
+        ensures unsaved { IsMarked (known self.old.desk.seat) (known self.new.desk.seat)
+            self.old.desk.is_unsaved self.new.desk.is_unsaved }
         ensures places { self.new.desk.places ≡ self.old.desk.places }
         ensures shelf { self.new.shelf ≡ self.old.shelf }
     {
@@ -73,6 +75,8 @@ impl<D: Disk> Cell<D> {
             self.old.trace self.new.trace }
         ensures same { IsSame self.old.desk.seat self.new.desk.seat }
         ensures saved { self.new.desk.saved.value ≡ self.old.desk.saved.value }
+        ensures unsaved { IsMarked (known self.old.desk.seat) (known self.new.desk.seat)
+            self.old.desk.is_unsaved self.new.desk.is_unsaved }
         ensures places { self.new.desk.places ≡ self.old.desk.places }
         ensures shelf { self.new.shelf ≡ self.old.shelf }
     {

@@ -28,17 +28,16 @@ ghost use Rattle.trace.specs.declared.call.Call.TheVariants as call;
 ghost use Rattle.model.specs.View.{NodeView, kept_view};
 ghost use Rattle.image.specs.Images.{image_of};
 ghost use Rattle.disk.specs.Crashes.{Grew, Only};
-ghost use Rattle.disk.specs.Memory.{filled_by_crash, held_by, left_by};
+ghost use Rattle.disk.specs.Memory.{filled_by_crash, held_by, IsFaultless, left_by};
 ghost use Rattle.wire.specs.Readers.{known, IsSame, IsSeatOf};
 ghost use Rattle.cell.specs.Disks.{is_same_image, OpensTo};
 ghost use Rattle.cell.specs.Events.{done_outcome, reopened_by, restarted_by, saved_by};
 
 use super::Cell;
-use crate::tracing::done;
 use disk::{Disk, MemoryDisk};
 use ids::Refusal;
 use node::Node;
-use trace::Call;
+use trace::{Call, Outcome};
 use wire::Wire;
 
 impl<D: Disk> Cell<D> {
@@ -64,8 +63,8 @@ impl<D: Disk> Cell<D> {
         ensures disk { IsErrOf result Refusal.Disk
             → Grew (D.faults self.old.shelf.disk) (D.faults self.new.shelf.disk)
             × (self.new.shelf.ready ≡ false) }
-        ensures too_large { IsErrOf result Refusal.ImageTooLarge
-            → GREATEST_IMAGE < length (image_of self.old.desk.node) }
+        ensures too_large { IsErrOf result Refusal.ImageTooLarge ↔
+            IsTrue self.old.shelf.ready × (GREATEST_IMAGE < length (image_of self.old.desk.node)) }
         ensures unchanged { IfErr result (λ e. e ≢ Refusal.Disk
             → (self.new.shelf.disk ≡ self.old.shelf.disk)
             × (self.new.shelf.ready ≡ self.old.shelf.ready)) }
@@ -74,43 +73,17 @@ impl<D: Disk> Cell<D> {
         ensures traced { self.new.trace ≡ keep_last TRACE_EVENTS (self.old.trace
             ++ record { call = call.Save; outcome = done_outcome result } ∷ []) }
     {
-        let answered = self.save_open(wire);
-        self.trace.push(Call::Save, done(&answered));
-        answered
-    }
-
-    fn save_open(&mut self, wire: &Wire) -> Result<(), Refusal>
-        requires wire { IsSeatOf wire.now self.old.desk.seat }
-        ensures saved { OnOk result
-            (known self.new.desk.seat ≡ saved_by (known self.old.desk.seat)) }
-        ensures node { OnOk result (self.new.desk.node ≡ kept_view self.old.desk.node) }
-        ensures unsaved { OnOk result (self.new.desk.is_unsaved ≡ false) }
-        ensures ready { OnOk result (self.new.shelf.ready ≡ true) }
-        ensures places { self.new.desk.places ≡ self.old.desk.places }
-        ensures same { IsSame self.old.desk.seat self.new.desk.seat }
-        ensures refused { OnErr result ((self.new.desk.node ≡ self.old.desk.node)
-            × (self.new.desk.seat ≡ self.old.desk.seat)
-            × (self.new.desk.saved.value ≡ self.old.desk.saved.value)
-            × (self.new.desk.is_unsaved ≡ self.old.desk.is_unsaved)) }
-        ensures closed { IsErrOf result Refusal.Closed ↔ (self.old.shelf.ready ≡ false) }
-        ensures disk { IsErrOf result Refusal.Disk
-            → Grew (D.faults self.old.shelf.disk) (D.faults self.new.shelf.disk)
-            × (self.new.shelf.ready ≡ false) }
-        ensures too_large { IsErrOf result Refusal.ImageTooLarge
-            → GREATEST_IMAGE < length (image_of self.old.desk.node) }
-        ensures unchanged { IfErr result (λ e. e ≢ Refusal.Disk
-            → (self.new.shelf.disk ≡ self.old.shelf.disk)
-            × (self.new.shelf.ready ≡ self.old.shelf.ready)) }
-        ensures others { IfErr result (λ e. (e ≡ Refusal.Closed) ⊎ ((e ≡ Refusal.ImageTooLarge)
-            ⊎ ((e ≡ Refusal.Memory) ⊎ (e ≡ Refusal.Disk)))) }
-        ensures trace { self.new.trace ≡ self.old.trace }
-    {
         match self.shelf.save(&self.desk.node) {
-            Ok(()) => {}
-            Err(refusal) => return Err(refusal),
+            Ok(()) => {
+                self.desk.save(wire);
+                self.trace.push(Call::Save, Outcome::Done);
+                Ok(())
+            }
+            Err(refusal) => {
+                self.trace.push(Call::Save, Outcome::Refused(refusal));
+                Err(refusal)
+            }
         }
-        self.desk.save(wire);
-        Ok(())
     }
 
     /// Syncs the disk, and takes up the node that it holds; the cell is then open. Where the cell
@@ -139,33 +112,17 @@ impl<D: Disk> Cell<D> {
         ensures traced { self.new.trace ≡ keep_last TRACE_EVENTS (self.old.trace
             ++ record { call = call.Reopen; outcome = done_outcome result } ∷ []) }
     {
-        let answered = self.reopen_disk(wire);
-        self.trace.push(Call::Reopen, done(&answered));
-        answered
-    }
-
-    fn reopen_disk(&mut self, wire: &Wire) -> Result<(), Refusal>
-        requires wire { IsSeatOf wire.now self.old.desk.seat }
-        ensures opened { OnOk result (OpensTo self.new.desk.node (D.seen self.old.shelf.disk)) }
-        ensures reopened { OnOk result (known self.new.desk.seat
-            ≡ reopened_by (is_same_image self.new.desk.node self.old.desk.saved.value)
-            (known self.old.desk.seat)) }
-        ensures restarted { OnOk result (IsTrue self.old.shelf.ready
-            → known self.new.desk.seat ≡ restarted_by (known self.old.desk.seat)) }
-        ensures unsaved { OnOk result (self.new.desk.is_unsaved ≡ false) }
-        ensures ready { OnOk result (self.new.shelf.ready ≡ true) }
-        ensures places { OnOk result (self.new.desk.places ≡ replicate 16 0) }
-        ensures same { IsSame self.old.desk.seat self.new.desk.seat }
-        ensures refused { OnErr result (self.new.desk ≡ self.old.desk) }
-        ensures shut { IsErr result → self.new.shelf.ready ≡ false }
-        ensures disk { IsErrOf result Refusal.Disk
-            → Grew (D.faults self.old.shelf.disk) (D.faults self.new.shelf.disk) }
-        ensures others { IfErr result (λ e. (e ≡ Refusal.Memory) ⊎ (e ≡ Refusal.Disk)) }
-        ensures trace { self.new.trace ≡ self.old.trace }
-    {
-        let found = self.shelf.reopen::<Node>()?;
-        self.desk.reopen(wire, found);
-        Ok(())
+        match self.shelf.reopen::<Node>() {
+            Ok(found) => {
+                self.desk.reopen(wire, found);
+                self.trace.push(Call::Reopen, Outcome::Done);
+                Ok(())
+            }
+            Err(refusal) => {
+                self.trace.push(Call::Reopen, Outcome::Refused(refusal));
+                Err(refusal)
+            }
+        }
     }
 }
 
@@ -188,6 +145,7 @@ impl Cell<MemoryDisk> {
         ensures filled { IfOk result (λ d. held_by d ≡ filled_by_crash fill self.now.shelf.disk) }
         ensures left { IfOk result (λ d. left_by self.now.shelf.disk (held_by d)) }
         ensures durable { IfOk result (λ d. Only (held_by d) (left_by d)) }
+        ensures faultless { IfOk result IsFaultless }
         ensures memory { IfErr result (λ e. e ≡ Refusal.Memory) }
     {
         self.shelf.after_crash(fill)

@@ -1,4 +1,4 @@
-use super::{Note, create, created, expect_text};
+use super::{Note, create, created, created_in_part, expect_text};
 use crate::{Area, Disk, MemoryDisk, Shelf, is_blank};
 use ids::{GREATEST_IMAGE, Refusal};
 use std::alloc::Global;
@@ -46,30 +46,32 @@ fn a_crash_within_a_save_leaves_the_old_or_the_new(rt: HostRuntime) -> Result<()
     Ok(())
 }
 
+// The k-th call of a creation fails, and then a crash leaves this byte where the disk wasn't
+// synced.
+fn fail_a_creation(
+    rt: &impl Abort,
+    alloc: Global,
+    note: &Note,
+    k: u64,
+    fill: u8,
+) -> Result<(), Refusal> {
+    let (refusal, mut left) = created_in_part(alloc, note, k, fill)?;
+    let expected = if k <= 5 { Some(Refusal::Disk) } else { None };
+    assert_eq!(rt; refusal, expected, "{k}");
+    assert_eq!(rt; is_blank(&mut left), Ok(k <= 3), "{k}");
+    if k > 3 {
+        expect_text(rt, alloc, left, OLD)?;
+    }
+    Ok(())
+}
+
 #[test]
 fn a_crash_within_a_creation_leaves_nothing_or_the_value(rt: HostRuntime) -> Result<(), Refusal> {
     let alloc = rt.alloc();
     let note = Note::new(alloc, OLD)?;
     for k in 1..=6u64 {
         for fill in 0..=u8::MAX {
-            let mut disk = MemoryDisk::new(alloc);
-            disk.fail_from(k);
-            let mut left = match Shelf::create(alloc, disk, &note) {
-                Ok(shelf) => {
-                    assert_eq!(rt; k, 6);
-                    shelf.after_crash(fill)?
-                }
-                Err((disk, refusal)) => {
-                    assert_eq!(rt; (refusal, k < 6), (Refusal::Disk, true));
-                    disk.after_crash(fill)?
-                }
-            };
-            if k <= 3 {
-                assert_eq!(rt; is_blank(&mut left), Ok(true), "{k}");
-            } else {
-                assert_eq!(rt; is_blank(&mut left), Ok(false), "{k}");
-                expect_text(&rt, alloc, left, OLD)?;
-            }
+            fail_a_creation(&rt, alloc, &note, k, fill)?;
         }
     }
     Ok(())

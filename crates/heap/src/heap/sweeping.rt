@@ -16,18 +16,17 @@ impl Heap {
 
     /// Frees the objects in so many slots, from slot `cursor` on, that `cycle` hasn't marked, and
     /// says how many they were. Their slots are the next to be used, the one that was freed last
-    /// first, each with the next generation; a slot that had the last generation is retired. It
-    /// takes no memory, and time for these slots alone.
+    /// first, each with the next generation; a slot that had the last generation is retired. Slots
+    /// that were never used are passed over. It takes no memory, and time for those of these slots
+    /// that were used.
     pub fn sweep(&mut self, cycle: u64, cursor: u32, count: u32) -> u32
-        requires { cursor + count ≤ length self.old.heap.slots }
         ensures done { self.new
             ≡ record self.old { heap = (swept cycle cursor count self.old.heap).heap } }
         ensures freed { result ≡ (swept cycle cursor count self.old.heap).freed }
     {
-        // the slots end at a number of their type, and so do those that are swept
-        let _slots = self.slots();
+        let end = cursor.saturating_add(count).min(self.slots());
         let mut freed = 0;
-        for slot in cursor..cursor + count {
+        for slot in cursor..end {
             if self.free_unmarked(cycle, slot) {
                 freed += 1;
             }
@@ -42,6 +41,7 @@ impl Heap {
             (record { heap = self.old.heap; freed = freed })
             ≡ record { heap = self.new.heap; freed = cond result (freed + 1) freed } }
         ensures rest { self.new ≡ record self.old { heap = self.new.heap } }
+        ensures slots { length self.new.heap.slots ≡ length self.old.heap.slots }
     {
         if !self.is_garbage(cycle, slot) {
             return false;

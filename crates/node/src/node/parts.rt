@@ -1,7 +1,8 @@
 //! A node made from the parts of a saved one.
 ghost use Rattle.std.specs.Prelude.{◌≡◌, ◌≢◌, IfOk, IfErr, OnOk};
 ghost use Rattle.ids.specs.declared.refusal.Refusal.TheVariants.{BadImage, Memory};
-ghost use Rattle.node.specs.Parts.{node_given, IsRestorable};
+ghost use Rattle.node.specs.Inside.{view_of};
+ghost use Rattle.node.specs.Parts.{node_given, IsRestorable, IsTested};
 
 mod ends;
 mod home;
@@ -13,6 +14,7 @@ use ends::{are_at_ends, is_bounded, number_sum};
 use heap::{Heap, HeapParts};
 use home::is_at_home;
 use ids::{Ref, Refusal, Shape};
+use indexmap::IndexSet;
 use link::{LinkParts, Links};
 use lists::{are_grey, asked_once};
 use safra::Ring;
@@ -70,14 +72,47 @@ impl Node {
         if !is_bounded(ring, number_sum(&links)) {
             return Err(Refusal::BadImage);
         }
-        Ok(Node {
+        let heap = Heap::from_parts(alloc, shape, heap)?;
+        Ok(Node::of_tested(shape, own, heap, asked, phases, ring, links))
+    }
+
+    fn of_tested(
+        shape: Shape,
+        own: u8,
+        heap: Heap,
+        asked: IndexSet<Ref>,
+        phases: Phases,
+        ring: Ring,
+        links: Links,
+    ) -> Node
+        requires { IsTested (record {
+          shape = shape;
+          own = own;
+          heap = heap;
+          asked = asked;
+          phases = phases;
+          ring = ring;
+          links = links;
+        }) }
+        ensures made { result ≡ view_of (record {
+          shape = shape;
+          own = own;
+          heap = heap;
+          asked = asked;
+          phases = phases;
+          ring = ring;
+          links = links;
+        }) }
+        ensures right { IsRestorable result }
+    {
+        Node {
             shape,
             own,
-            heap: Heap::from_parts(alloc, shape, heap)?,
+            heap,
             asked,
             phases,
             ring,
             links,
-        })
+        }
     }
 }

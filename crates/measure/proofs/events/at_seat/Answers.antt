@@ -1,10 +1,10 @@
-use Rattle.std.proofs.Common.{rules, ◌≡◌, [], ◌∷◌, length, sym, ◌∙◌, subst, arith}
-use Rattle.std.proofs.lemmas.List.FromFn.{length-map-range_with_len}
-use Rattle.model.specs.State.{new_node}
+use Rattle.std.proofs.Common.{rules, ◌≡◌, [], ◌∷◌, length, sym, ap, ◌∙◌, subst, arith}
 use Rattle.wire.specs.Readers.{IsSeatOf}
+use Rattle.wire.specs.Views.{Known}
 use Rattle.wire.specs.declared.seats.NodeSeat.{NodeSeat}
-use Rattle.wire.proofs.NewWires.{there}
-use Rattle.cell.proofs.NewCells.{at-seat, new-opened, two-new}
+use Rattle.wire.proofs.NewWires.{new-opened, new-width, two-new, there}
+use Rattle.cell.proofs.NewCells.{at-seat}
+use Rattle.measure.specs.Frames.{happened}
 use Rattle.measure.proofs.events.at_seat.Goals as goal
 
 pub new-requires-4 : goal.new-requires-4
@@ -21,7 +21,7 @@ new_cell-requires c =
     let shape = c.in-Some.shape in
     let made = c.in_ok-wire.ensures.made in
     let two : shape.nodes ≡ 2 = search rules in
-    let width = made.nodes ∙ length-map-range_with_len (new_node shape) 0 shape.nodes in
+    let width = made.nodes ∙ new-width shape in
     let many = made.seat_count ∙ width ∙ two in
     let seat = c.remove-seat.result in
     at-seat shape 0 c.in_ok-wire.wire seat made.opening width (omega (arith, two))
@@ -33,12 +33,13 @@ invariant_of-result c =
     let shape = c.in-Some.shape in
     let made = c.in_ok-wire.ensures.made in
     let two : shape.nodes ≡ 2 = search rules in
-    let width = made.nodes ∙ length-map-range_with_len (new_node shape) 0 shape.nodes in
-    let many = made.seat_count ∙ width ∙ two in
+    let many = made.seat_count ∙ made.nodes ∙ new-width shape ∙ two in
     let seat = c.remove-seat.result in
     let first = made.each_seat 0 seat
     (there c.in_ok-wire.seats.items 0 seat (omega (arith, many)) c.remove-seat.ensures.value) in
+    let same = sym c.in_ok-cell.ensures.seat in
     record {
-      sits = subst (λ (s : NodeSeat). IsSeatOf c.in_ok-wire.wire s) (sym c.in_ok-cell.ensures)
-          first.of;
+      sits = subst (λ (s : NodeSeat). IsSeatOf c.in_ok-wire.wire s) same first.of;
+      ready = c.in_ok-cell.ensures.ready;
+      none = ap happened (sym same) ∙ ap (λ (v : Known). length v.events) first.known;
     }

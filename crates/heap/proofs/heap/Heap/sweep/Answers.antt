@@ -1,7 +1,8 @@
-use Rattle.std.proofs.Common.{◌≡◌, ℕ, ◌+◌, ◌-◌, cond, sym, ap, ◌∙◌, arith}
+use Rattle.std.proofs.Common.{◌≡◌, ℕ, ◌+◌, ◌-◌, ◌≤◌, ◌<◌, ◌^◌, cond, min, length, sym, ap, ◌∙◌, arith}
+use Rattle.std.proofs.Math.Nat.{min-le_left}
 use Rattle.model.specs.Collecting.{Sweeping, sweep_some}
-use Rattle.heap.specs.Heap.{HeapView}
-use Rattle.heap.proofs.Frees.{swept-next}
+use Rattle.heap.specs.Heap.{HeapView, swept}
+use Rattle.heap.proofs.Frees.{stops-after, swept-next, swept-past}
 use Rattle.heap.proofs.heap.Heap.sweep.Goals.{then-free_unmarked, else-free_unmarked}
 use Rattle.heap.proofs.heap.Heap.sweep.Goals as goal
 
@@ -18,15 +19,46 @@ loop-slot-preserved c =
       | then-free_unmarked w ↦ rw (w.freed-is, w.if-free_unmarked.true)
       | else-free_unmarked w ↦ rw (w.freed-is, w.if-free_unmarked.false)
     ] in
+    let used = min-le_left c.saturating_add.result c.slots.result in
+    let asked = min-le_left last (2 ^ 32 - 1) in
+    let before : loop.slot < last =
+    omega (arith, used, asked, c.min-end.ensures, c.saturating_add.ensures, c.loop-slot-test.true)
+    in
     record {
       left = ap (λ (n : ℕ). some (record { heap = h; freed = n })) count
           ∙ ap some (sym (c.free_unmarked.ensures.done loop.freed))
-          ∙ sym (swept-next cycle loop.slot last _ (omega arith))
+          ∙ sym (swept-next cycle loop.slot last _ before)
           ∙ old.left;
-      last = old.last;
+      slots = c.free_unmarked.ensures.slots ∙ old.slots;
       few = elim c.if-free_unmarked.branch [
         | then-free_unmarked w ↦ omega arith
         | else-free_unmarked w ↦ omega arith
       ];
       rest = c.free_unmarked.ensures.rest ∙ ap (λ (v : HeapView). record v { heap = h }) old.rest;
     }
+
+-- once the slots have come to the end, all that was to be swept is
+is-swept : (c : goal.After-loop-slot) → c.min-end.result ≤ c.loop-slot.slot
+    → record { heap = c.loop-slot.self.heap; freed = c.loop-slot.freed }
+    ≡ swept c.args.cycle c.args.cursor c.args.count c.args.self.now.heap
+is-swept c ended =
+    let loop = c.loop-slot in
+    let last = c.args.cursor + c.args.count in
+    let used = length loop.self.heap.slots in
+    let within : used ≤ 2 ^ 32 - 1 =
+    omega (arith, loop.invariant.slots, c.slots.ensures, c.slots.type_inv) in
+    let past : min (min last (2 ^ 32 - 1)) used ≤ loop.slot =
+    rw (loop.invariant.slots, ← c.slots.ensures, ← c.saturating_add.ensures, ← c.min-end.ensures)
+    ended in
+    sym (swept-past c.args.cycle loop.slot (last - loop.slot) _
+    (λ left. stops-after last (2 ^ 32 - 1) used loop.slot within past (omega (arith, left))))
+    ∙ loop.invariant.left
+
+pub returns-clause-done : goal.returns-clause-done
+returns-clause-done c =
+    c.loop-slot.invariant.rest
+    ∙ ap (λ (s : Sweeping). record c.args.self.now { heap = s.heap })
+    (is-swept c (omega arith))
+
+pub returns-clause-freed : goal.returns-clause-freed
+returns-clause-freed c = ap (λ (s : Sweeping). s.freed) (is-swept c (omega arith))

@@ -4,8 +4,8 @@ use Rattle.image.proofs.parts.NodeParts.from_bytes.Goals as goal
 
 pub returns-clause-found : goal.returns-clause-found
 returns-clause-found c =
-    is_found c.args.bytes.now c.whole.result (λ i. omega (arith, c.type_inv.bytes i)) c.if-bytes.false
-    c.whole.ensures
+    is_found c.args.bytes.now c.whole.result (λ i. omega (arith, c.type_inv.bytes i))
+    c.if-bytes.false c.whole.ensures
 
 pub returns-clause-only : goal.returns-clause-only
 returns-clause-only c = is_read c.args.bytes.now c.whole.result c.whole.ensures

@@ -1,16 +1,13 @@
-use Rattle.std.proofs.Common.{◌≡◌, ℕ, ◌-◌, ◌≤◌, [], false, Ok, Err, ap, arith, refl, subst, sym}
+use Rattle.std.proofs.Common.{◌≡◌, ℕ, ◌-◌, [], false, Ok, Err, ap, arith, refl, subst, sym}
 use Rattle.std.proofs.lemmas.Result.{err_from_is_err_and}
-use Rattle.ids.specs.declared.limits.TheConstants.{GREATEST_CYCLE}
-use Rattle.msg.specs.declared.body.Body.TheVariants as body
 use Rattle.model.specs.declared.event.Answer.TheVariants as answer
 use Rattle.model.specs.Collecting.{judged}
-use Rattle.model.specs.References.{IsSendable}
 use Rattle.model.specs.View.{NodeView, Performed, view_done}
 use Rattle.safra.specs.declared.verdict.Verdict.TheVariants.{Probe}
 use Rattle.safra.specs.Verdicts.{judged_ring, verdict_of}
 use Rattle.node.specs.Inside.{view_of}
 use Rattle.node.proofs.Events.{parts-same, with_parts}
-use Rattle.node.proofs.Passing.{again-answered, again-sends, ended-answered, ended-refused, node-ended, token-refused}
+use Rattle.node.proofs.Passing.{Concluded, again-answered, again-sends, ended-answered, ended-refused, node-ended, token-refused}
 use Rattle.node.proofs.node.Node.judge.Goals as goal
 
 pub returns-in_err-announce-in-Ended : goal.returns-in_err-announce-in-Ended
@@ -36,23 +33,15 @@ pub invariant_of-self-in-Ended : goal.invariant_of-self-in-Ended
 invariant_of-self-in-Ended c =
     let n : NodeView = view_of c.self.inside in
     let left = c.in_ok-announce-in-Ended.ensures in
-    let old = c.self.invariant.node in
-    let sendable : IsSendable n.local.shape
-    (record { stamp = c.cycle-cycle.result; body = body.Ended }) = record {
-      stamp = subst (λ (k : ℕ). k ≤ GREATEST_CYCLE) (sym c.cycle-cycle.ensures.value)
-          old.phases.phases.within;
-      references = tt;
-      place = tt;
+    let done : Concluded n c.cycle-cycle.result c.on_ended.new.self c.verdict.new.self
+    c.announce.new.self = record {
+      calm = subst (λ (m : NodeView). m.local.heap.grey ≡ []) (sym c.self.view_is) c.requires.calm;
+      now = c.cycle-cycle.ensures.value;
+      sound = c.on_ended.ensures.sound;
+      ended = c.on_ended.ensures.done;
+      left = record { sound = left.sound; links = left.done; ring = c.in-Ended.ensures.done };
     } in
-    let none = subst (λ (m : NodeView). m.local.heap.grey ≡ []) (sym c.self.view_is)
-    c.requires.calm in
-    let stamp : c.cycle-cycle.result ≤ n.local.phases.cycle =
-    omega (arith, c.cycle-cycle.ensures.value) in
-    record {
-      node = node-ended old none sendable stamp c.on_ended.ensures.sound c.on_ended.ensures.done
-          c.in-Ended.ensures.done left.sound left.done;
-      limit = c.self.invariant.limit;
-    }
+    record { node = node-ended c.self.invariant.node done; limit = c.self.invariant.limit }
 
 pub returns-in_err-send_token-in-Probe : goal.returns-in_err-send_token-in-Probe
 returns-in_err-send_token-in-Probe c =

@@ -29,7 +29,6 @@ pub invariant_of-self : goal.invariant_of-self
 invariant_of-self c =
     let n : NodeView = view_of c.self.inside in
     let done = c.sweep-freed.ensures.done in
-    let phases = c.advance.ensures.done in
     let within : n.local.phases.cursor + c.args.count ≤ length n.local.heap.slots =
     omega (
       arith,
@@ -40,10 +39,15 @@ invariant_of-self c =
     let unfinished : n.local.phases.swept < n.local.phases.ended =
     omega (arith, c.if-swept-ended.false, c.swept.ensures, c.ended.ensures) in
     record {
-      node = node-swept c.cycle-cycle.result c.cursor-cursor.result c.args.count
-          n.local.phases.swept (n.local.phases.cursor + c.args.count) c.self.invariant.node
-          unfinished
-          (ap (λ (v : HeapView). v.heap) done) phases c.advance.ensures.sound within;
+      node = node-swept {last = n.local.phases.swept}
+          {cursor = n.local.phases.cursor + c.args.count} c.cycle-cycle.result
+          c.cursor-cursor.result c.args.count c.self.invariant.node
+          (record { unfinished = unfinished; heap = ap (λ (v : HeapView). v.heap) done })
+          (record {
+            sound = c.advance.ensures.sound;
+            is = c.advance.ensures.done;
+            within = within;
+          });
       limit = ap (λ (v : HeapView). v.limit) done ∙ c.self.invariant.limit;
     }
 
@@ -97,7 +101,6 @@ pub invariant_of-self-2 : goal.invariant_of-self-2
 invariant_of-self-2 c =
     let m : NodeView = view_of c.self-2.inside in
     let done = c.sweep-freed-2.ensures.done in
-    let phases = c.end_sweep.ensures.done in
     let now = c.self-2.view_is
     ∙ subst
     (λ (v : NodeView).
@@ -108,10 +111,14 @@ invariant_of-self-2 c =
     omega (arith, c.if-swept-ended.false, c.swept.ensures, c.ended.ensures) in
     before) in
     record {
-      node = node-swept c.cycle-cycle.result c.cursor-cursor.result
-          (c.slots.result - c.cursor-cursor.result) m.local.phases.cycle 0 c.self-2.invariant.node
-          unfinished
-          (ap (λ (v : HeapView). v.heap) done) phases c.end_sweep.ensures.sound (omega arith);
+      node = node-swept {last = m.local.phases.cycle} {cursor = 0} c.cycle-cycle.result
+          c.cursor-cursor.result (c.slots.result - c.cursor-cursor.result) c.self-2.invariant.node
+          (record { unfinished = unfinished; heap = ap (λ (v : HeapView). v.heap) done })
+          (record {
+            sound = c.end_sweep.ensures.sound;
+            is = c.end_sweep.ensures.done;
+            within = omega arith;
+          });
       limit = ap (λ (v : HeapView). v.limit) done ∙ c.self-2.invariant.limit;
     }
 

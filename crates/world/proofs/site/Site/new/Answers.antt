@@ -3,7 +3,8 @@ use Rattle.std.proofs.lemmas.Result.{err_from_is_err_and}
 use Rattle.model.specs.View.{NodeView, kept_view}
 use Rattle.image.specs.Images.{image_of}
 use Rattle.image.specs.Nodes.{IsImageOf}
-use Rattle.world.proofs.NewImages.{new-kept, new-starved}
+use Rattle.model.proofs.NewNodes.{new-kept}
+use Rattle.world.proofs.NewImages.{new-starved}
 use Rattle.world.proofs.SiteLemmas.{no-frames, site-new}
 use Rattle.world.proofs.site.Site.new.Goals as goal
 
