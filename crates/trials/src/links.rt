@@ -1,5 +1,6 @@
-use crate::{LinkParts, Links, Offer, Receiver, Sender};
+//! Links between nodes, and their two ends.
 use ids::{GREATEST_NUMBER, Refusal};
+use link::{LinkParts, Links, Offer, Receiver, Sender};
 use msg::{Body, Message};
 use std::alloc::Global;
 use std::collections::VecDeque;

@@ -1,4 +1,5 @@
-use crate::{Heap, HeapParts, Object, Slot};
+//! Heaps: objects, registers, letters, marking and sweeping.
+use heap::{Heap, HeapParts, Object, Slot};
 use ids::{Ref, Refusal, Shape};
 use model::Letter;
 use std::alloc::Global;
