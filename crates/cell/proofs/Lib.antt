@@ -5,4 +5,3 @@ pub mod Releasing
 pub mod Opening
 pub mod Refusing
 pub mod NewCells
-pub mod Taking

@@ -3,13 +3,10 @@ ghost use Rattle.std.specs.Prelude.{◌≡◌};
 ghost use Rattle.wire.specs.Readers.{known};
 ghost use Rattle.cell.specs.Desks.{IsSeatAt, IsSavedNode, IsUnsaved, StandsAt};
 
-use ids::{Cycle, GREATEST_NODES};
+use ids::Cycle;
 use node::Node;
 use std::snapshot::Snapshot;
 use wire::NodeSeat;
-
-// How many nodes a space has at most, a place for each.
-pub(crate) const PLACES: usize = GREATEST_NODES as usize;
 
 // A node as it stands and as it was saved last, and its seat.
 #[derive(Drop)]
@@ -22,7 +19,7 @@ pub(crate) struct Desk {
     pub(crate) ended: Cycle,
     pub(crate) seat: NodeSeat,
     // For each node the place in the window to it whose frame is sent next.
-    pub(crate) places: [u8; PLACES],
+    pub(crate) places: [u8; 16],
     // Whether an event came since the last save or reopening.
     pub(crate) is_unsaved: bool,
     ghost at: { IsSeatAt own nodes seat },

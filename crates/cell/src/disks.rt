@@ -1,6 +1,5 @@
 // What a disk does for the node at a desk.
 ghost use Rattle.std.specs.Prelude.{◌≡◌, false, replicate};
-ghost use Rattle.ids.specs.declared.limits.TheConstants.{GREATEST_NODES};
 ghost use Rattle.model.specs.View.{kept_view};
 ghost use Rattle.image.specs.Images.{image_of};
 ghost use Rattle.image.specs.Nodes.{IsImageOf};
@@ -9,7 +8,7 @@ ghost use Rattle.cell.specs.Desks.{IsAtSeat};
 ghost use Rattle.cell.specs.Disks.{is_same_image};
 ghost use Rattle.cell.specs.Events.{reopened_by, saved_by};
 
-use crate::desk::{Desk, PLACES};
+use crate::desk::Desk;
 use crate::entering::{enter_found, enter_save};
 use ids::Cycle;
 use node::Node;
@@ -33,7 +32,7 @@ impl Desk {
         ensures node { result.node ≡ node }
         ensures seat { result.seat ≡ seat }
         ensures saved { result.saved.value ≡ node }
-        ensures places { result.places ≡ replicate GREATEST_NODES 0 }
+        ensures places { result.places ≡ replicate 16 0 }
         ensures unsaved { result.is_unsaved ≡ false }
     {
         let state = node.state();
@@ -44,7 +43,7 @@ impl Desk {
             ended: ended_by(&node),
             node,
             seat,
-            places: [0; PLACES],
+            places: [0; 16],
             is_unsaved: false,
         }
     }
@@ -78,14 +77,14 @@ impl Desk {
             ≡ reopened_by (is_same_image found self.old.saved.value) (known self.old.seat) }
         ensures node { self.new.node ≡ found }
         ensures saved { self.new.saved.value ≡ found }
-        ensures places { self.new.places ≡ replicate GREATEST_NODES 0 }
+        ensures places { self.new.places ≡ replicate 16 0 }
         ensures unsaved { self.new.is_unsaved ≡ false }
     {
         enter_found(wire, &mut self.seat, &found, &self.saved);
         self.saved = Snapshot::of(&found);
         self.ended = ended_by(&found);
         self.node = found;
-        self.places = [0; PLACES];
+        self.places = [0; 16];
         self.is_unsaved = false;
     }
 }

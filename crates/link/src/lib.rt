@@ -12,3 +12,6 @@ pub use links::Links;
 pub use parts::LinkParts;
 pub use receiver::{Offer, Receiver};
 pub use sender::Sender;
+
+#[cfg(test)]
+mod tests;

@@ -5,10 +5,4 @@
 #[cfg(test)]
 mod cells;
 #[cfg(test)]
-mod heaps;
-#[cfg(test)]
-mod links;
-#[cfg(test)]
 mod nodes;
-#[cfg(test)]
-mod shading;

@@ -10,7 +10,7 @@ use Rattle.model.specs.World.{World, run}
 use Rattle.wire.specs.Views.{Role, dealer, node, watch, Pair, Known, marks, pair_at}
 use Rattle.wire.specs.Rule.{nodes_of, ended_of, WatchOk, SeatOk, Holds}
 use Rattle.wire.specs.Plays.{HasEnded, raised, looked}
-use Rattle.wire.proofs.Stays.{Standing, noted, node-of, same-log, still-ok}
+use Rattle.wire.proofs.Stays.{Standing, noted, node-of, same-log}
 
 module _ {S : Type 0} (bytes : S → List ℕ) (opening : World) where
   abbrev n : ℕ
@@ -56,7 +56,16 @@ module _ {S : Type 0} (bytes : S → List ℕ) (opening : World) where
               (SeatOk opening h.log (slice_index words (n * n + 1)) (set s.views id (marks k v))
               h.boxes id (marks k v))
               (sym role)
-              (still-ok ok);
+              (record {
+                below = ok.below;
+                nodes_is = ok.nodes_is;
+                opening_is = ok.opening_is;
+                pair_is = ok.pair_is;
+                events_are = ok.events_are;
+                released = ok.released;
+                fills = ok.fills;
+                empties = ok.empties;
+              });
           no_dealer = λ d. (let never : ◌≡◌ {A = Role} node dealer = sym role ∙ d in absurd cc);
         }),
         (refl, refl),

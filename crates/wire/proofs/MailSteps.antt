@@ -20,7 +20,7 @@ use Rattle.wire.specs.Plays.{Releases, Owns, IsFresh, claimed, took, posted, emp
 use Rattle.wire.proofs.Lists.{has-here, has-more, has-gone, has-stays, found-here, found-more, found-gone, found-stays}
 use Rattle.wire.proofs.Boxes.{holder, is-empty, is-full, none-from, set-at}
 use Rattle.wire.proofs.Events.{count}
-use Rattle.wire.proofs.Stays.{Standing, still-ok, still-seat, noted, same-log, moved, node-of}
+use Rattle.wire.proofs.Stays.{Standing, still-seat, noted, same-log, moved, node-of}
 
 -- what a saved state releases is in the net
 in-net : (w : World) (i : ℕ) (saved : NodeState) (f : Plain) → node_at w.saved i ≡ saved
@@ -109,7 +109,16 @@ module _ {S : Type 0} (bytes : S → List ℕ) (opening : World) where
               (SeatOk opening h.log (slice_index s.words (n * n + 1)) (set s.views id (notes r v))
               h.boxes id (notes r v))
               (sym role)
-              (still-ok ok);
+              (record {
+                below = ok.below;
+                nodes_is = ok.nodes_is;
+                opening_is = ok.opening_is;
+                pair_is = ok.pair_is;
+                events_are = ok.events_are;
+                released = ok.released;
+                fills = ok.fills;
+                empties = ok.empties;
+              });
           no_dealer = λ d. (let never : ◌≡◌ {A = Role} node dealer = sym role ∙ d in absurd cc);
         }))
 

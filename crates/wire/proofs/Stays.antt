@@ -1,5 +1,5 @@
 -- What stays of the rule when one seat takes a step.
-use Rattle.std.proofs.Common.{◌≡◌, ◌≢◌, ℕ, suc, ◌+◌, ◌*◌, ◌/◌, ◌%◌, ◌^◌, ◌<◌, ◌≤◌, true, List, length, set, get_or, Some, refl, sym, ap, ◌∙◌, subst, ⊎_elim, arith, le_refl, le_trans, length-set, get_or-set_other, get_or-set_same, slice_get}
+use Rattle.std.proofs.Common.{◌≡◌, ◌≢◌, ℕ, suc, ◌+◌, ◌*◌, ◌%◌, ◌^◌, ◌<◌, ◌≤◌, true, List, length, set, get_or, Some, refl, sym, ap, ◌∙◌, subst, ⊎_elim, arith, le_refl, le_trans, length-set, get_or-set_other, get_or-set_same, slice_get}
 use Rattle.std.specs.Prelude.{slice_index}
 use mathlib.Core.Option as maybe
 use mathlib.Core.Option.{some, some-injective}
@@ -67,21 +67,6 @@ pub record Extends (opening : World) (log log' : List Step) (v : Known) : Type 0
 
 pub same-log : (opening : World) (log : List Step) (v : Known) → Extends opening log log v
 same-log opening log v = record { net = λ f h. h; others = λ i apart. (refl, refl) }
-
--- what a seat read, and which number it marked, is nothing that the rule speaks of
-pub still-ok : {opening : World} {log : List Step} {boxes : ℕ → Box} {id read tries number : ℕ}
-    {v : Known} → NodeOk opening log boxes id v
-    → NodeOk opening log boxes id (record v { read = read; tries = tries; number = number })
-still-ok ok = record {
-  below = ok.below;
-  nodes_is = ok.nodes_is;
-  opening_is = ok.opening_is;
-  pair_is = ok.pair_is;
-  events_are = ok.events_are;
-  released = ok.released;
-  fills = ok.fills;
-  empties = ok.empties;
-}
 
 -- a seat in a state that keeps the rule
 pub record Standing {S : Type 0} (bytes : S → List ℕ) (opening : World) : Type 0 where
@@ -232,14 +217,13 @@ module _ {S : Type 0} (bytes : S → List ℕ) (opening : World) where
 
   module _ (p : Standing bytes opening) (w : Known) (log : List Step) (words : List ℕ)
       (homes : Homes S) (m : ℕ) (l : Leaves p w log words homes m) where
-    -- a node's seat, and what a mailbox knows of it
-    abbrev Seated : ℕ → ℕ → (Known → Type 0) → List Known → Type 0
-    Seated j i P views =
-        (x : Known) × (get_elem? views j ≡ some x) × (x.role ≡ node) × (x.me ≡ i) × P x
-
-    seated-stays : (P : Known → Type 0) → (P p.view → P w) → (j i : ℕ)
-        → Seated j i P p.state.views → Seated j i P (after p w)
-    seated-stays P moves j i c =
+    content-stays : (b : Box)
+        → Content bytes n (run opening p.holds.log) p.state.homes p.state.views m b
+        → Content bytes n (run opening log) homes (after p w) m b
+    content-stays empty c = (c.0, l.home ∙ c.1)
+    content-stays (full f) c =
+        ((c.0.0, l.home ∙ c.0.1, c.0.2), l.extends.net f c.1, c.2, c.3)
+    content-stays (filling_by j) c =
         dite (ℕ_discrete j p.id)
         (λ e.
         let is : p.view ≡ c.0 =
@@ -250,20 +234,23 @@ module _ {S : Type 0} (bytes : S → List ℕ) (opening : World) where
               (set-at p.state.views p.id w p.view p.at),
           l.alike.role ∙ ap (λ (x : Known). x.role) is ∙ c.2,
           l.alike.me ∙ ap (λ (x : Known). x.me) is ∙ c.3,
-          moves (subst P (sym is) c.4),
+          l.like.fills ∙ ap (λ (x : Known). has m x.filling) is ∙ c.4,
         ))
         (λ apart. (c.0, set_else p.state.views p.id j w apart ∙ c.1, c.2, c.3, c.4))
-
-    content-stays : (b : Box)
-        → Content bytes n (run opening p.holds.log) p.state.homes p.state.views m b
-        → Content bytes n (run opening log) homes (after p w) m b
-    content-stays empty c = (c.0, l.home ∙ c.1)
-    content-stays (full f) c =
-        ((c.0.0, l.home ∙ c.0.1, c.0.2), l.extends.net f c.1, c.2, c.3)
-    content-stays (filling_by j) c =
-        seated-stays (λ x. has m x.filling ≡ true) (λ e. l.like.fills ∙ e) j (m / n) c
     content-stays (emptying_by j f) c =
-        seated-stays (λ x. found m x.emptying ≡ Some f) (λ e. l.like.empties ∙ e) j (m % n) c
+        dite (ℕ_discrete j p.id)
+        (λ e.
+        let is : p.view ≡ c.0 =
+        some-injective p.view c.0
+        (sym p.at ∙ subst (λ (k : ℕ). get_elem? p.state.views k ≡ some c.0) e c.1) in (
+          w,
+          subst (λ (k : ℕ). get_elem? (after p w) k ≡ some w) (sym e)
+              (set-at p.state.views p.id w p.view p.at),
+          l.alike.role ∙ ap (λ (x : Known). x.role) is ∙ c.2,
+          l.alike.me ∙ ap (λ (x : Known). x.me) is ∙ c.3,
+          l.like.empties ∙ ap (λ (x : Known). found m x.emptying) is ∙ c.4,
+        ))
+        (λ apart. (c.0, set_else p.state.views p.id j w apart ∙ c.1, c.2, c.3, c.4))
 
     box-stays : BoxOk bytes n (run opening log) words homes (after p w) m
         (p.holds.boxes m)

@@ -18,7 +18,7 @@ ghost use Rattle.std.specs.Prelude.{
   string_bytes,
 };
 ghost use Rattle.circular_buffer.specs.Buffer.{keep_last};
-ghost use Rattle.ids.specs.declared.limits.TheConstants.{GREATEST_NODES, TRACE_EVENTS};
+ghost use Rattle.ids.specs.declared.limits.TheConstants.{TRACE_EVENTS};
 ghost use Rattle.ids.specs.declared.refusal.Refusal.TheVariants.{Memory};
 ghost use Rattle.trace.specs.Lines.{call_of, line_text};
 ghost use Rattle.model.specs.Steps.{is_own};
@@ -64,7 +64,7 @@ impl<D: Disk> Cell<D> {
         requires disk { OpensTo node (D.seen shelf.disk) }
         ensures node { IfOk result (λ c. c.desk.node ≡ node) }
         ensures seat { IfOk result (λ c. c.desk.seat ≡ seat) }
-        ensures places { IfOk result (λ c. c.desk.places ≡ replicate GREATEST_NODES 0) }
+        ensures places { IfOk result (λ c. c.desk.places ≡ replicate 16 0) }
         ensures unsaved { IfOk result (λ c. c.desk.is_unsaved ≡ false) }
         ensures shelf { IfOk result (λ c. c.shelf ≡ shelf) }
         ensures trace { IfOk result (λ c. c.trace ≡ []) }

@@ -23,7 +23,7 @@ ghost use Rattle.std.specs.Prelude.{
   Some,
 };
 ghost use Rattle.circular_buffer.specs.Buffer.{keep_last};
-ghost use Rattle.ids.specs.declared.limits.TheConstants.{GREATEST_IMAGE, GREATEST_NODES, TRACE_EVENTS};
+ghost use Rattle.ids.specs.declared.limits.TheConstants.{GREATEST_IMAGE, TRACE_EVENTS};
 ghost use Rattle.trace.specs.declared.call.Call.TheVariants as call;
 ghost use Rattle.model.specs.View.{NodeView, kept_view};
 ghost use Rattle.image.specs.Images.{image_of};
@@ -102,7 +102,7 @@ impl<D: Disk> Cell<D> {
             → known self.new.desk.seat ≡ restarted_by (known self.old.desk.seat)) }
         ensures unsaved { OnOk result (self.new.desk.is_unsaved ≡ false) }
         ensures ready { OnOk result (self.new.shelf.ready ≡ true) }
-        ensures places { OnOk result (self.new.desk.places ≡ replicate GREATEST_NODES 0) }
+        ensures places { OnOk result (self.new.desk.places ≡ replicate 16 0) }
         ensures same { IsSame self.old.desk.seat self.new.desk.seat }
         ensures refused { OnErr result (self.new.desk ≡ self.old.desk) }
         ensures shut { IsErr result → self.new.shelf.ready ≡ false }

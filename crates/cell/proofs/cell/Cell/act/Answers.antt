@@ -21,8 +21,7 @@ invariant_of-self-2 g c =
 pub returns-clause-closed : goal.returns-clause-closed
 returns-clause-closed g c = (
   λ closed. absurd (never-closed (is_shading c.args.event) c.args.event c.args.self.now.desk.node
-      c.act-answered.new.self.node c.act-answered.result c.act-answered.ensures.acted.performs
-      closed),
+      c.act-answered.new.self.node c.act-answered.result c.act-answered.ensures.acted.performs closed),
   λ shut. (let never : ◌≡◌ {A = Bool} true false =
       sym (c.if-not-self.false) ∙ shut in absurd cc),
 )

@@ -1,11 +1,16 @@
-use Rattle.std.proofs.Common.{◌≡◌, true, length, slice_get, Some, sym, ap, ◌∙◌, subst}
+use Rattle.std.proofs.Common.{◌≡◌, true, [], ◌∷◌, ◌++◌, length, slice_get, Some, Result, sym, ap, ◌∙◌, subst}
 use Rattle.cell.proofs.Opening.{open-stays, settled-left}
-use Rattle.cell.proofs.Taking.{took-in}
+use Rattle.circular_buffer.specs.Buffer.{keep_last}
+use Rattle.ids.specs.declared.limits.TheConstants.{TRACE_EVENTS}
+use Rattle.ids.specs.declared.refusal.Refusal.{Refusal}
 use Rattle.laws.proofs.Lookups.{slice_get-last}
 use Rattle.msg.specs.Frames.{plain}
+use Rattle.model.specs.declared.event.Answer.{Answer}
+use Rattle.model.specs.View.{NodeView}
 use Rattle.trace.specs.Lines.{call_of}
 use Rattle.wire.specs.Views.{Known}
-use Rattle.wire.specs.Readers.{known}
+use Rattle.wire.specs.Readers.{inbox, known}
+use Rattle.cell.specs.Events.{emptied, outcome_of, Handled}
 use Rattle.cell.proofs.cell.Cell.receive.Goals as goal
 
 pub invariant_of-self : goal.invariant_of-self
@@ -47,12 +52,60 @@ handle-answered-requires-clause-taken g c =
 
 pub returns-in-Ok-clause-pumped : goal.returns-in-Ok-clause-pumped
 returns-in-Ok-clause-pumped g c =
-    took-in c.in-Some.frame c.in-Some.ensures.taken c.take.ensures.node
-    c.handle-answered.ensures.handled c.push.ensures (c.of.ensures ∙ ap call_of c.event_of.ensures)
-    c.outcome.ensures c.in-Ok.is
+    let cell = c.args.self.now in
+    let f = c.in-Some.frame in
+    let taken = c.in-Some.ensures.taken in
+    let desk = c.handle-answered.new.self in
+    let given : Handled f c.handle-answered.result cell.desk.node desk.node
+    (emptied (inbox cell.desk.seat c.args.from) (plain f) (known cell.desk.seat))
+    (known desk.seat) =
+    subst (λ (v : Known).
+    Handled f c.handle-answered.result cell.desk.node desk.node v (known desk.seat)) taken.3
+    (subst (λ (n : NodeView).
+    Handled f c.handle-answered.result n desk.node (known c.take.new.self.seat) (known desk.seat))
+    c.take.ensures.node c.handle-answered.ensures.handled) in
+    record {
+      frame = f;
+      sender = taken.0;
+      receiver = taken.1;
+      released = taken.2;
+      handled = subst (λ (r : Result Answer Refusal).
+          Handled f r cell.desk.node desk.node
+          (emptied (inbox cell.desk.seat c.args.from) (plain f) (known cell.desk.seat))
+          (known desk.seat)) c.in-Ok.is given;
+      traced = c.push.ensures
+          ∙ (λ i. keep_last TRACE_EVENTS (cell.trace ++ record {
+            call = (c.of.ensures ∙ ap call_of c.event_of.ensures) i;
+            outcome = (c.outcome.ensures ∙ ap outcome_of c.in-Ok.is) i;
+          } ∷ []));
+    }
 
 pub returns-in-Err-clause-pumped : goal.returns-in-Err-clause-pumped
 returns-in-Err-clause-pumped g c =
-    took-in c.in-Some.frame c.in-Some.ensures.taken c.take.ensures.node
-    c.handle-answered.ensures.handled c.push.ensures (c.of.ensures ∙ ap call_of c.event_of.ensures)
-    c.outcome.ensures c.in-Err.is
+    let cell = c.args.self.now in
+    let f = c.in-Some.frame in
+    let taken = c.in-Some.ensures.taken in
+    let desk = c.handle-answered.new.self in
+    let given : Handled f c.handle-answered.result cell.desk.node desk.node
+    (emptied (inbox cell.desk.seat c.args.from) (plain f) (known cell.desk.seat))
+    (known desk.seat) =
+    subst (λ (v : Known).
+    Handled f c.handle-answered.result cell.desk.node desk.node v (known desk.seat)) taken.3
+    (subst (λ (n : NodeView).
+    Handled f c.handle-answered.result n desk.node (known c.take.new.self.seat) (known desk.seat))
+    c.take.ensures.node c.handle-answered.ensures.handled) in
+    record {
+      frame = f;
+      sender = taken.0;
+      receiver = taken.1;
+      released = taken.2;
+      handled = subst (λ (r : Result Answer Refusal).
+          Handled f r cell.desk.node desk.node
+          (emptied (inbox cell.desk.seat c.args.from) (plain f) (known cell.desk.seat))
+          (known desk.seat)) c.in-Err.is given;
+      traced = c.push.ensures
+          ∙ (λ i. keep_last TRACE_EVENTS (cell.trace ++ record {
+            call = (c.of.ensures ∙ ap call_of c.event_of.ensures) i;
+            outcome = (c.outcome.ensures ∙ ap outcome_of c.in-Err.is) i;
+          } ∷ []));
+    }

@@ -2,7 +2,7 @@ use Rattle.std.proofs.Common.{◌<◌, take}
 use Rattle.std.specs.List.{AllByRecursion}
 use Rattle.ids.specs.declared.names.Ref.{Ref}
 use Rattle.model.specs.Shading.{filled}
-use Rattle.trials.proofs.shading.are_near.Given as goal
+use Rattle.barrier.proofs.tests.are_near.Given as goal
 
 abbrev pub invariant-loop-reference : goal.invariant-loop-reference
 invariant-loop-reference l =

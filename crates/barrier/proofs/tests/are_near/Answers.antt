@@ -4,7 +4,7 @@ use Rattle.ids.specs.declared.names.Ref.{Ref}
 use Rattle.model.specs.Shading.{filled}
 use Rattle.model.proofs.References.{all-append}
 use Rattle.barrier.proofs.InTurn.{filled-more}
-use Rattle.trials.proofs.shading.are_near.Goals as goal
+use Rattle.barrier.proofs.tests.are_near.Goals as goal
 
 pub loop-reference-preserved : goal.loop-reference-preserved
 loop-reference-preserved c =

@@ -1,5 +1,4 @@
-//! Heaps: objects, registers, letters, marking and sweeping.
-use heap::{Heap, HeapParts, Object, Slot};
+use crate::{Heap, HeapParts, Object, Slot};
 use ids::{Ref, Refusal, Shape};
 use model::Letter;
 use std::alloc::Global;

@@ -1,9 +1,8 @@
-//! Shading many references, all or nothing.
 ghost use Rattle.std.specs.Prelude.{◌≡◌, ◌<◌, length, option_to_list, IfOk, IsTrue};
 ghost use Rattle.std.specs.List.{AllByRecursion};
 ghost use Rattle.model.specs.Shading.{filled, roots};
 
-use barrier::{ask, ask_for_roots, scan, shade_all, unask, unvouch, vouch};
+use crate::{ask, ask_for_roots, scan, shade_all, unask, unvouch, vouch};
 use heap::Heap;
 use ids::{Ref, Refusal, Shape};
 use indexmap::IndexSet;

@@ -1,6 +1,5 @@
-//! Links between nodes, and their two ends.
+use crate::{LinkParts, Links, Offer, Receiver, Sender};
 use ids::{GREATEST_NUMBER, Refusal};
-use link::{LinkParts, Links, Offer, Receiver, Sender};
 use msg::{Body, Message};
 use std::alloc::Global;
 use std::collections::VecDeque;
