@@ -2,9 +2,8 @@
 ghost use Rattle.std.specs.Prelude.{◌≡◌, ◌≤◌, ◌<◌, ◌∷◌, [], length, map, take, None, IfNone, IfSome, IsTrue, MatchOption};
 ghost use Rattle.std.specs.Char.{is_ascii_digit};
 ghost use Rattle.std.specs.List.{list_all};
-ghost use Rattle.model.specs.Steps.{is_own};
-ghost use Rattle.model.specs.World.{is_own_step};
-ghost use Rattle.markring.specs.Grammar.{alone, u8_of, delivery_of, hand_of, is_number, is_own_line, line_of, command_of, u64_of, u16_of, node_line_of, space_of, with_none, with_one, with_three, with_two, u32_of, words_of};
+ghost use Rattle.model.specs.declared.event.Event.TheVariants as event;
+ghost use Rattle.markring.specs.Grammar.{alone, of_two, of_three, u8_of, delivery_of, hand_of, is_number, is_own_line, line_of, command_of, u64_of, u16_of, node_line_of, space_of, with_none, with_one, with_three, with_two, u32_of, words_of};
 
 use model::{Event, Step};
 
@@ -38,30 +37,35 @@ impl Line {
         ensures reads { result ≡ line_of (words_of text.now) }
         ensures own { IfSome result (λ l. IsTrue (is_own_line l)) }
     {
-        let mut words = text.split(' ').filter(|word| !word.is_empty());
-        let Some(first) = words.next() else {
-            return Some(Line::Blank);
-        };
-        if first.starts_with('#') {
-            return Some(Line::Blank);
-        }
-        let mut operands = [""; MOST_OPERANDS];
-        let mut count = 0;
-        for word in words {
-            if count == operands.len() {
-                return None;
-            }
-            operands[count] = word;
-            count += 1;
-        }
-        command(first, &operands[..count])
+        line_in(text)
     }
+}
+
+fn line_in(text: &str) -> Option<Line>
+    ensures { result ≡ line_of (words_of text.now) }
+{
+    let mut words = text.split(' ').filter(|word| !word.is_empty());
+    let Some(first) = words.next() else {
+        return Some(Line::Blank);
+    };
+    if first.starts_with('#') {
+        return Some(Line::Blank);
+    }
+    let mut operands = [""; MOST_OPERANDS];
+    let mut count = 0;
+    for word in words {
+        if count == operands.len() {
+            return None;
+        }
+        operands[count] = word;
+        count += 1;
+    }
+    command(first, &operands[..count])
 }
 
 #[tactic(auto, unfolding(crate::specs::Grammar::command_of))]
 fn command(first: &str, words: &[&str]) -> Option<Line>
-    ensures reads { result ≡ command_of first.now (map (λ w. w.now) words.now) }
-    ensures own { IfSome result (λ l. IsTrue (is_own_line l)) }
+    ensures { result ≡ command_of first.now (map (λ w. w.now) words.now) }
 {
     match first {
         "space" => space(words),
@@ -73,8 +77,7 @@ fn command(first: &str, words: &[&str]) -> Option<Line>
 
 #[tactic(auto, unfolding(crate::specs::Grammar::space_of))]
 fn space(words: &[&str]) -> Option<Line>
-    ensures reads { result ≡ space_of (map (λ w. w.now) words.now) }
-    ensures own { IfSome result (λ l. IsTrue (is_own_line l)) }
+    ensures { result ≡ space_of (map (λ w. w.now) words.now) }
 {
     let [nodes, registers, slots] = words else {
         return None;
@@ -88,8 +91,7 @@ fn space(words: &[&str]) -> Option<Line>
 
 #[tactic(auto, unfolding(crate::specs::Grammar::delivery_of))]
 fn delivery(words: &[&str]) -> Option<Step>
-    ensures reads { result ≡ delivery_of (map (λ w. w.now) words.now) }
-    ensures own { IfSome result (λ s. IsTrue (is_own_step s)) }
+    ensures { result ≡ delivery_of (map (λ w. w.now) words.now) }
 {
     let [from, to, number] = words else {
         return None;
@@ -103,8 +105,7 @@ fn delivery(words: &[&str]) -> Option<Step>
 
 #[tactic(auto, unfolding(crate::specs::Grammar::hand_of))]
 fn hand(words: &[&str]) -> Option<Step>
-    ensures reads { result ≡ hand_of (map (λ w. w.now) words.now) }
-    ensures own { IfSome result (λ s. IsTrue (is_own_step s)) }
+    ensures { result ≡ hand_of (map (λ w. w.now) words.now) }
 {
     let [from, to] = words else {
         return None;
@@ -116,8 +117,7 @@ fn hand(words: &[&str]) -> Option<Step>
 /// What stands after a node's number.
 #[tactic(auto, unfolding(crate::specs::Grammar::node_line_of))]
 fn node_line(node: u8, words: &[&str]) -> Option<Line>
-    ensures reads { result ≡ node_line_of node (map (λ w. w.now) words.now) }
-    ensures own { IfSome result (λ l. IsTrue (is_own_line l)) }
+    ensures { result ≡ node_line_of node (map (λ w. w.now) words.now) }
 {
     let event = match words {
         [verb] => return alone(node, verb),
@@ -132,8 +132,7 @@ fn node_line(node: u8, words: &[&str]) -> Option<Line>
 /// What a verb says that stands alone after a node's number.
 #[tactic(auto, unfolding(crate::specs::Grammar::alone))]
 fn alone(node: u8, verb: &str) -> Option<Line>
-    ensures reads { result ≡ alone node verb.now }
-    ensures own { IfSome result (λ l. IsTrue (is_own_line l)) }
+    ensures { result ≡ alone node verb.now }
 {
     match verb {
         "save" => Some(Line::Step(Step::Save(node))),
@@ -146,8 +145,7 @@ fn alone(node: u8, verb: &str) -> Option<Line>
 /// What a verb says with no operand.
 #[tactic(auto, unfolding(crate::specs::Grammar::with_none))]
 fn with_none(verb: &str) -> Option<Event>
-    ensures reads { result ≡ with_none verb.now }
-    ensures own { IfSome result (λ e. IsTrue (is_own e)) }
+    ensures { result ≡ with_none verb.now }
 {
     match verb {
         "begin" => Some(Event::Begin),
@@ -160,22 +158,13 @@ fn with_none(verb: &str) -> Option<Event>
 /// What a verb says with one operand.
 #[tactic(auto, unfolding(crate::specs::Grammar::with_one))]
 fn with_one(verb: &str, a: &str) -> Option<Event>
-    ensures reads { result ≡ with_one verb.now a.now }
-    ensures own { IfSome result (λ e. IsTrue (is_own e)) }
+    ensures { result ≡ with_one verb.now a.now }
 {
     match verb {
-        "drop" => Some(Event::Drop {
-            register: read_u16(a)?,
-        }),
-        "accept" => Some(Event::Accept {
-            register: read_u16(a)?,
-        }),
-        "word" => Some(Event::Word {
-            object: read_u16(a)?,
-        }),
-        "sweep" => Some(Event::Sweep {
-            count: read_u32(a)?,
-        }),
+        "drop" => read_u16(a).map(|register| Event::Drop { register }),
+        "accept" => read_u16(a).map(|register| Event::Accept { register }),
+        "word" => read_u16(a).map(|object| Event::Word { object }),
+        "sweep" => read_u32(a).map(|count| Event::Sweep { count }),
         _ => None,
     }
 }
@@ -183,64 +172,125 @@ fn with_one(verb: &str, a: &str) -> Option<Event>
 /// What a verb says with two operands.
 #[tactic(auto, unfolding(crate::specs::Grammar::with_two))]
 fn with_two(verb: &str, a: &str, b: &str) -> Option<Event>
-    ensures reads { result ≡ with_two verb.now a.now b.now }
-    ensures own { IfSome result (λ e. IsTrue (is_own e)) }
+    ensures { result ≡ with_two verb.now a.now b.now }
 {
     match verb {
-        "alloc" => Some(Event::Alloc {
-            register: read_u16(a)?,
-            places: read_u8(b)?,
-        }),
-        "copy" => Some(Event::Copy {
-            register: read_u16(a)?,
-            source: read_u16(b)?,
-        }),
-        "clear" => Some(Event::Clear {
-            object: read_u16(a)?,
-            place: read_u8(b)?,
-        }),
-        "setword" => Some(Event::SetWord {
-            object: read_u16(a)?,
-            word: read_u64(b)?,
-        }),
+        "alloc" => alloc(a, b),
+        "copy" => copy(a, b),
+        "clear" => clear(a, b),
+        "setword" => set_word(a, b),
         _ => None,
     }
+}
+
+fn alloc(register: &str, places: &str) -> Option<Event>
+    ensures { result ≡ of_two u16_of u8_of (λ register places. event.Alloc register places)
+        register.now places.now }
+{
+    Some(Event::Alloc {
+        register: read_u16(register)?,
+        places: read_u8(places)?,
+    })
+}
+
+fn copy(register: &str, source: &str) -> Option<Event>
+    ensures { result ≡ of_two u16_of u16_of (λ register source. event.Copy register source)
+        register.now source.now }
+{
+    Some(Event::Copy {
+        register: read_u16(register)?,
+        source: read_u16(source)?,
+    })
+}
+
+fn clear(object: &str, place: &str) -> Option<Event>
+    ensures { result ≡ of_two u16_of u8_of (λ object place. event.Clear object place)
+        object.now place.now }
+{
+    Some(Event::Clear {
+        object: read_u16(object)?,
+        place: read_u8(place)?,
+    })
+}
+
+fn set_word(object: &str, word: &str) -> Option<Event>
+    ensures { result ≡ of_two u16_of u64_of (λ object word. event.SetWord object word)
+        object.now word.now }
+{
+    Some(Event::SetWord {
+        object: read_u16(object)?,
+        word: read_u64(word)?,
+    })
 }
 
 /// What a verb says with three operands.
 #[tactic(auto, unfolding(crate::specs::Grammar::with_three))]
 fn with_three(verb: &str, a: &str, b: &str, c: &str) -> Option<Event>
-    ensures reads { result ≡ with_three verb.now a.now b.now c.now }
-    ensures own { IfSome result (λ e. IsTrue (is_own e)) }
+    ensures { result ≡ with_three verb.now a.now b.now c.now }
 {
     match verb {
-        "give" => Some(Event::Give {
-            to: read_u8(a)?,
-            label: read_u32(b)?,
-            register: read_u16(c)?,
-        }),
-        "load" => Some(Event::Load {
-            register: read_u16(a)?,
-            object: read_u16(b)?,
-            place: read_u8(c)?,
-        }),
-        "store" => Some(Event::Store {
-            object: read_u16(a)?,
-            place: read_u8(b)?,
-            register: read_u16(c)?,
-        }),
-        "put" => Some(Event::Put {
-            object: read_u16(a)?,
-            place: read_u8(b)?,
-            register: read_u16(c)?,
-        }),
-        "get" => Some(Event::Get {
-            object: read_u16(a)?,
-            place: read_u8(b)?,
-            label: read_u32(c)?,
-        }),
+        "give" => give(a, b, c),
+        "load" => load(a, b, c),
+        "store" => store(a, b, c),
+        "put" => put(a, b, c),
+        "get" => get(a, b, c),
         _ => None,
     }
+}
+
+fn give(to: &str, label: &str, register: &str) -> Option<Event>
+    ensures { result ≡ of_three u8_of u32_of u16_of (λ to label register. event.Give to label register)
+        to.now label.now register.now }
+{
+    Some(Event::Give {
+        to: read_u8(to)?,
+        label: read_u32(label)?,
+        register: read_u16(register)?,
+    })
+}
+
+fn load(register: &str, object: &str, place: &str) -> Option<Event>
+    ensures { result ≡ of_three u16_of u16_of u8_of (λ register object place. event.Load register object place)
+        register.now object.now place.now }
+{
+    Some(Event::Load {
+        register: read_u16(register)?,
+        object: read_u16(object)?,
+        place: read_u8(place)?,
+    })
+}
+
+fn store(object: &str, place: &str, register: &str) -> Option<Event>
+    ensures { result ≡ of_three u16_of u8_of u16_of (λ object place register. event.Store object place register)
+        object.now place.now register.now }
+{
+    Some(Event::Store {
+        object: read_u16(object)?,
+        place: read_u8(place)?,
+        register: read_u16(register)?,
+    })
+}
+
+fn put(object: &str, place: &str, register: &str) -> Option<Event>
+    ensures { result ≡ of_three u16_of u8_of u16_of (λ object place register. event.Put object place register)
+        object.now place.now register.now }
+{
+    Some(Event::Put {
+        object: read_u16(object)?,
+        place: read_u8(place)?,
+        register: read_u16(register)?,
+    })
+}
+
+fn get(object: &str, place: &str, label: &str) -> Option<Event>
+    ensures { result ≡ of_three u16_of u8_of u32_of (λ object place label. event.Get object place label)
+        object.now place.now label.now }
+{
+    Some(Event::Get {
+        object: read_u16(object)?,
+        place: read_u8(place)?,
+        label: read_u32(label)?,
+    })
 }
 
 /// The number that the word spells, where it fits.
@@ -291,6 +341,3 @@ fn are_digits(word: &[u8]) -> bool
 {
     word.iter().all(|byte| byte.is_ascii_digit())
 }
-
-#[cfg(test)]
-mod tests;

@@ -1,12 +1,12 @@
 //! The words with which the program is called.
-ghost use Rattle.std.specs.Prelude.{◌≡◌, ◌≤◌, ◌++◌, ◌∷◌, [], None, Ok, IfOk, OnOk, IsTrue, codes, drop, length, map, option_map, string_bytes};
+ghost use Rattle.std.specs.Prelude.{◌≡◌, ◌≤◌, ◌++◌, ◌∷◌, [], false, None, Ok, IfOk, OnOk, IsTrue, codes, drop, length, map, option_map, string_bytes};
 ghost use Rattle.std.specs.Io.KnownBytes.{Appends};
 ghost use Rattle.std.specs.IoError.{error_kind};
-ghost use Rattle.clap.specs.Words.{app_of, kind_of, subcommand_rows_of};
+ghost use Rattle.clap.specs.Words.{app_of, kind_of, rule_of, subcommand_rows_of, with_subcommand};
 ghost use Rattle.clap.specs.declared.error.ErrorKind.TheVariants as parse;
 ghost use Rattle.std.specs.declared.io.ErrorKind.TheVariants as io;
 ghost use Rattle.markring.specs.declared.words.WordsError.TheVariants.{OutOfMemory};
-ghost use Rattle.markring.specs.Called.{Reads, TellsMemory, call_in, call_of, called_of, has_no_dash, program};
+ghost use Rattle.markring.specs.Called.{Reads, TellsMemory, call_in, call_of, called_of, has_no_dash, program, with_one_word};
 
 use crate::script::{REFUSED, UNREADABLE};
 use clap::error::ErrorKind;
@@ -99,13 +99,25 @@ fn known<'a>(alloc: Global) -> Result<clap::Command<'a>, AllocError>
     ensures { IfOk result (λ c. app_of c ≡ program) }
 {
     let script = Arg::new(alloc, "script");
-    let sim = clap::Command::new(alloc, "sim").arg(script)?;
     let hex = Arg::new(alloc, "hex").required(true);
-    let decode = clap::Command::new(alloc, "decode").arg(hex)?;
-    clap::Command::new(alloc, "markring")
-        .subcommand_required(true)
-        .subcommand(sim)?
-        .subcommand(decode)
+    let app = clap::Command::new(alloc, "markring").subcommand_required(true);
+    let app = with_command(alloc, app, "sim", script)?;
+    with_command(alloc, app, "decode", hex)
+}
+
+/// Adds a command after which one word may stand.
+fn with_command<'a>(
+    alloc: Global,
+    app: clap::Command<'a>,
+    name: &'a str,
+    word: Arg<'a>,
+) -> Result<clap::Command<'a>, AllocError>
+    requires { word.global ≡ false }
+    ensures { IfOk result (λ c. app_of c ≡ with_subcommand (app_of app.entry)
+        (with_one_word name.now (rule_of word.entry))) }
+{
+    let command = clap::Command::new(alloc, name).arg(word)?;
+    app.subcommand(command)
 }
 
 /// Prints that the words are no command, and answers the status: 1 for want of memory, else 2. The
@@ -122,6 +134,3 @@ pub fn print_refused_words<W: Write>(out: &mut W, error: WordsError) -> io::Resu
         WordsError::Unknown => UNREADABLE,
     })
 }
-
-#[cfg(test)]
-mod tests;

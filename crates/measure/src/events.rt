@@ -1,5 +1,5 @@
 //! Events of a cell whose node is saved in memory.
-ghost use Rattle.std.specs.Prelude.{◌≡◌, ◌+◌, true, cond, IfOk, IfSome, Some};
+ghost use Rattle.std.specs.Prelude.{◌≡◌, true, IfOk, Some};
 ghost use Rattle.model.specs.Steps.{is_own};
 ghost use Rattle.model.specs.View.{kept_view, new_view};
 ghost use Rattle.image.specs.Images.{image_of};
@@ -8,8 +8,6 @@ ghost use Rattle.disk.specs.Memory.{held_by};
 ghost use Rattle.disk.specs.Shelf.{opened};
 ghost use Rattle.wire.specs.Readers.{IsSame, IsSeatOf};
 ghost use Rattle.cell.specs.Desks.{IsAtSeat};
-ghost use Rattle.cell.specs.Events.{is_counted};
-ghost use Rattle.measure.specs.Frames.{happened};
 
 use cell::Cell;
 use disk::{MemoryDisk, Shelf};
@@ -19,23 +17,12 @@ use node::Node;
 use std::alloc::Global;
 use wire::{NodeSeat, Wire};
 
-// A wire, and the cell of node 0 on it, which is open and has had no event.
+// A wire, and the cell of node 0 on it.
 #[derive(Drop)]
 struct Seated {
     wire: Wire,
     cell: Cell<MemoryDisk>,
     ghost sits: { IsSeatOf wire cell.desk.seat },
-    ghost ready: { cell.shelf.ready ≡ true },
-    ghost none: { happened cell.desk.seat ≡ 0 },
-}
-
-/// A cell, and how often the word of an object was written in it. Making the object was an event
-/// too.
-#[derive(Drop)]
-pub(crate) struct Written {
-    cell: Cell<MemoryDisk>,
-    pub(crate) count: u64,
-    ghost all: { happened cell.desk.seat ≡ count + 1 },
 }
 
 // A shelf on which the node was created.
@@ -53,8 +40,7 @@ fn shelf_of(alloc: Global, node: &Node) -> Result<Shelf<MemoryDisk>, Refusal>
 // The cell of a new node 0.
 fn new_cell(alloc: Global, shape: Shape, seat: NodeSeat) -> Result<Cell<MemoryDisk>, Refusal>
     requires { IsAtSeat (new_view shape 0) seat }
-    ensures seat { IfOk result (λ c. c.desk.seat ≡ seat) }
-    ensures ready { IfOk result (λ c. c.shelf.ready ≡ true) }
+    ensures { IfOk result (λ c. c.desk.seat ≡ seat) }
 {
     let node = Node::new(alloc, shape, NodeId { number: 0 })?;
     let shelf = shelf_of(alloc, &node)?;
@@ -75,47 +61,25 @@ fn at_seat(alloc: Global) -> Result<Seated, Refusal> {
     Ok(Seated { wire, cell })
 }
 
-// Gives the cell an event, which enters the history where its answer counts.
+// Gives the cell an event.
 fn act(wire: &Wire, cell: &mut Cell<MemoryDisk>, event: Event) -> Option<Answer>
     requires wire { IsSeatOf wire.now cell.old.desk.seat }
     requires own { is_own event ≡ true }
-    requires ready { cell.old.shelf.ready ≡ true }
-    ensures same { IsSame cell.old.desk.seat cell.new.desk.seat }
-    ensures ready { cell.new.shelf.ready ≡ true }
-    ensures happened { IfSome result (λ a. happened cell.new.desk.seat
-        ≡ cond (is_counted a) (happened cell.old.desk.seat + 1) (happened cell.old.desk.seat)) }
+    ensures { IsSame cell.old.desk.seat cell.new.desk.seat }
 {
     cell.act(wire, event).ok()
 }
 
-fn write(wire: &Wire, cell: &mut Cell<MemoryDisk>, word: u64) -> Option<()>
-    requires wire { IsSeatOf wire.now cell.old.desk.seat }
-    requires ready { cell.old.shelf.ready ≡ true }
-    ensures same { IsSame cell.old.desk.seat cell.new.desk.seat }
-    ensures ready { cell.new.shelf.ready ≡ true }
-    ensures happened { IfSome result (λ _.
-        happened cell.new.desk.seat ≡ happened cell.old.desk.seat + 1) }
-{
-    match act(wire, cell, Event::SetWord { object: 0, word })? {
-        Answer::Done => Some(()),
-        _ => None,
-    }
-}
-
 /// So many events, each of which writes the word of an object.
-pub(crate) fn of_cell(alloc: Global, count: u64) -> Option<Written>
-    ensures { IfSome result (λ w. w.count ≡ count) }
-{
+pub(crate) fn of_cell(alloc: Global, count: u64) -> Option<()> {
     let Seated { wire, mut cell } = at_seat(alloc).ok()?;
     let object = Event::Alloc {
         register: 0,
         places: 0,
     };
-    let Answer::New(_) = act(&wire, &mut cell, object)? else {
-        return None;
-    };
+    act(&wire, &mut cell, object)?;
     for word in 0..count {
-        write(&wire, &mut cell, word)?;
+        act(&wire, &mut cell, Event::SetWord { object: 0, word })?;
     }
-    Some(Written { cell, count })
+    Some(())
 }

@@ -1,11 +1,9 @@
 //! Frames that go from one node to another, through a mailbox and through a channel.
-ghost use Rattle.std.specs.Prelude.{◌≡◌, ◌+◌, ◌≤◌, if◌then◌else◌, IfSome, MatchOption};
+ghost use Rattle.std.specs.Prelude.{◌≡◌, IfSome};
 ghost use Rattle.msg.specs.Grammar.{ack_frame};
 ghost use Rattle.wire.specs.Rule.{Spells};
 ghost use Rattle.wire.specs.Readers.{width, seat_node, IsSeatOf, IsSame};
-ghost use Rattle.measure.specs.Frames.{posted, taken};
 
-use crate::tally::Tally;
 use crossbeam_channel::{Receiver, Sender, bounded};
 use ids::{NodeId, Refusal, Shape};
 use msg::{Ack, Frame, encode};
@@ -19,7 +17,7 @@ use wire::{NodeSeat, Wire};
 // How often a thread tries before it gives up.
 const TRIES: u64 = 1_000_000_000_000;
 
-// A wire between two new nodes, and their seats, which have done nothing.
+// A wire between two new nodes, and their seats.
 #[derive(Drop)]
 struct Joined {
     wire: Wire,
@@ -28,15 +26,6 @@ struct Joined {
     ghost two: { width wire ≡ 2 },
     ghost one: { IsSeatOf wire first × (seat_node first ≡ 0) },
     ghost other: { IsSeatOf wire second × (seat_node second ≡ 1) },
-    ghost none: { (posted first ≡ 0) × (taken second ≡ 0) },
-}
-
-/// The seat of a node, and how many frames the node took with it.
-#[derive(Drop)]
-pub(crate) struct Received {
-    seat: NodeSeat,
-    pub(crate) count: u64,
-    ghost all: { taken seat ≡ count },
 }
 
 fn two_nodes(alloc: Global) -> Result<Joined, Refusal> {
@@ -73,9 +62,7 @@ fn frame(alloc: Global) -> Option<Vec<u8>>
 // Node 0 sends the frame, where the mailbox is empty.
 fn send(wire: &Wire, alloc: Global, seat: &mut NodeSeat) -> Option<bool>
     requires { IsSeatOf wire.now seat.old × (width wire.now ≡ 2) × (seat_node seat.old ≡ 0) }
-    ensures same { IsSame seat.old seat.new }
-    ensures sent { IfSome result (λ b.
-        posted seat.new ≡ (if b then posted seat.old + 1 else posted seat.old)) }
+    ensures { IsSame seat.old seat.new }
 {
     let Some(bytes) = frame(alloc) else {
         return None;
@@ -90,18 +77,14 @@ fn send(wire: &Wire, alloc: Global, seat: &mut NodeSeat) -> Option<bool>
 // Node 1 takes what is there for it from node 0.
 fn receive(wire: &Wire, seat: &mut NodeSeat) -> Option<Vec<u8>>
     requires { IsSeatOf wire.now seat.old × (width wire.now ≡ 2) × (seat_node seat.old ≡ 1) }
-    ensures same { IsSame seat.old seat.new }
-    ensures received { MatchOption result
-        (taken seat.new ≡ taken seat.old) (λ _. taken seat.new ≡ taken seat.old + 1) }
+    ensures { IsSame seat.old seat.new }
 {
     let taken = wire.take(seat, 0)?;
     Some(wire.clear(seat, taken))
 }
 
 /// So many frames, each sent and received by one thread.
-pub(crate) fn through_mailbox(alloc: Global, count: u64) -> Option<Received>
-    ensures { IfSome result (λ r. r.count ≡ count) }
-{
+pub(crate) fn through_mailbox(alloc: Global, count: u64) -> Option<()> {
     let Joined {
         wire,
         mut first,
@@ -111,16 +94,12 @@ pub(crate) fn through_mailbox(alloc: Global, count: u64) -> Option<Received>
         send(&wire, alloc, &mut first)?;
         receive(&wire, &mut second)?;
     }
-    Some(Received {
-        seat: second,
-        count,
-    })
+    Some(())
 }
 
 // So many frames are sent, each once the mailbox is empty.
 fn send_all(wire: &Wire, alloc: Global, mut seat: NodeSeat, count: u64) -> Option<NodeSeat>
     requires { IsSeatOf wire.now seat × (width wire.now ≡ 2) × (seat_node seat ≡ 0) }
-    ensures { IfSome result (λ s. posted s ≡ posted seat + count) }
 {
     let mut left = count;
     for _ in 0..TRIES {
@@ -137,7 +116,6 @@ fn send_all(wire: &Wire, alloc: Global, mut seat: NodeSeat, count: u64) -> Optio
 // So many frames are taken, each once the mailbox is full.
 fn receive_all(wire: &Wire, mut seat: NodeSeat, count: u64) -> Option<NodeSeat>
     requires { IsSeatOf wire.now seat × (width wire.now ≡ 2) × (seat_node seat ≡ 1) }
-    ensures { IfSome result (λ s. taken s ≡ taken seat + count) }
 {
     let mut left = count;
     for _ in 0..TRIES {
@@ -152,13 +130,7 @@ fn receive_all(wire: &Wire, mut seat: NodeSeat, count: u64) -> Option<NodeSeat>
 }
 
 /// So many frames, sent by one thread and received by another.
-pub(crate) fn between_threads<R: Threads + Sync>(
-    rt: &R,
-    alloc: Global,
-    count: u64,
-) -> Option<Received>
-    ensures { IfSome result (λ r. r.count ≡ count) }
-{
+pub(crate) fn between_threads<R: Threads + Sync>(rt: &R, alloc: Global, count: u64) -> Option<()> {
     let Joined {
         wire,
         first,
@@ -174,27 +146,21 @@ pub(crate) fn between_threads<R: Threads + Sync>(
         move ||
             requires { IsSeatOf shared.now second × (width shared.now ≡ 2)
                 × (seat_node second ≡ 1) }
-            ensures { IfSome result (λ s. taken s ≡ taken second + count) }
         { receive_all(shared, second, count) },
     );
     sent?;
-    Some(Received {
-        seat: received?,
-        count,
-    })
+    received?;
+    Some(())
 }
 
 /// So many frames through a channel of one place, each sent and received by one thread.
-pub(crate) fn through_channel<R: Wait>(rt: &R, alloc: Global, count: u64) -> Option<Tally>
-    ensures { IfSome result (λ t. t.count ≡ count) }
-{
+pub(crate) fn through_channel<R: Wait>(rt: &R, alloc: Global, count: u64) -> Option<()> {
     let (sender, receiver) = bounded(alloc, 1).ok()?;
-    let mut tally = Tally::new();
     for _place in 0..count {
         sender.send(rt, frame(alloc)?).ok()?;
-        tally.add(receiver.recv(rt).ok()?);
+        receiver.recv(rt).ok()?;
     }
-    Some(tally)
+    Some(())
 }
 
 fn put_all<R: Wait>(rt: &R, alloc: Global, sender: &Sender<Vec<u8>>, count: u64) -> Option<()> {
@@ -204,15 +170,11 @@ fn put_all<R: Wait>(rt: &R, alloc: Global, sender: &Sender<Vec<u8>>, count: u64)
     Some(())
 }
 
-fn get_all<R: Wait>(rt: &R, receiver: &Receiver<Vec<u8>>, count: u64) -> Option<Tally>
-    ensures { IfSome result (λ t. t.count ≡ count) }
-{
-    let mut tally = Tally::new();
-    for _place in 0..count {
-        let bytes = receiver.recv(rt).ok()?;
-        tally.add(bytes);
+fn get_all<R: Wait>(rt: &R, receiver: &Receiver<Vec<u8>>, count: u64) -> Option<()> {
+    for _ in 0..count {
+        receiver.recv(rt).ok()?;
     }
-    Some(tally)
+    Some(())
 }
 
 /// So many frames through a channel of one place, sent by one thread and received by another.
@@ -220,19 +182,16 @@ pub(crate) fn channel_between_threads<R: Threads + Wait + Sync>(
     rt: &R,
     alloc: Global,
     count: u64,
-) -> Option<Tally>
-    ensures { IfSome result (λ t. t.count ≡ count) }
-{
+) -> Option<()> {
     let (sender, receiver) = bounded(alloc, 1).ok()?;
     let from = &sender;
     let to = &receiver;
     let (sent, received) = thread::join(
         rt,
         move || { put_all(rt, alloc, from, count) },
-        move ||
-            ensures { IfSome result (λ t. t.count ≡ count) }
-        { get_all(rt, to, count) },
+        move || { get_all(rt, to, count) },
     );
     sent?;
-    received
+    received?;
+    Some(())
 }

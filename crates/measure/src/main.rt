@@ -5,7 +5,6 @@
 mod events;
 mod frames;
 mod keeping;
-mod tally;
 
 use std::alloc::{AllocError, Global};
 use std::fs::File;
@@ -48,7 +47,7 @@ fn run<R: Env + Files<File = File> + Print + Threads + Wait + Sync + AllocGlobal
     let count = count.as_str().parse::<u64>().ok()?;
     match (what.as_str(), rest) {
         ("each", [folder]) => each(rt, alloc, count, folder.as_str()),
-        ("keep", [folder]) => keep(rt, alloc, count, folder.as_str()),
+        ("keep", [folder]) => keeping::keep(rt, alloc, folder.as_str(), count),
         (what, []) => measure(rt, alloc, what, count),
         _ => None,
     }
@@ -63,35 +62,24 @@ fn each<R: Files<File = File> + Print + Threads + Wait + Sync>(
     for what in MEASURES {
         measure(rt, alloc, what, count)?;
     }
-    keep(rt, alloc, count, folder)
+    keeping::keep(rt, alloc, folder, count)
 }
 
-// Prints the measure's name, and how often it did what it measures.
+// Does what is measured so often, and then prints its name and the count.
 fn measure<R: Print + Threads + Wait + Sync>(
     rt: &R,
     alloc: Global,
     what: &str,
     count: u64,
 ) -> Option<()> {
-    let done = match what {
-        "frames" => frames::through_mailbox(alloc, count)?.count,
-        "frames-threads" => frames::between_threads(rt, alloc, count)?.count,
-        "channel" => frames::through_channel(rt, alloc, count)?.count(),
-        "channel-threads" => frames::channel_between_threads(rt, alloc, count)?.count(),
-        "events" => events::of_cell(alloc, count)?.count,
-        "saves" => keeping::save_often(alloc, count)?.number,
+    match what {
+        "frames" => frames::through_mailbox(alloc, count)?,
+        "frames-threads" => frames::between_threads(rt, alloc, count)?,
+        "channel" => frames::through_channel(rt, alloc, count)?,
+        "channel-threads" => frames::channel_between_threads(rt, alloc, count)?,
+        "events" => events::of_cell(alloc, count)?,
+        "saves" => keeping::save_often(alloc, count)?,
         _ => return None,
-    };
-    writeln!(io::writer(rt), "{what} {done}").ok()
-}
-
-// The numbers are printed as they are saved.
-fn keep<R: Files<File = File> + Print>(
-    rt: &R,
-    alloc: Global,
-    count: u64,
-    folder: &str,
-) -> Option<()> {
-    keeping::keep(rt, alloc, folder, count)?;
-    Some(())
+    }
+    writeln!(io::writer(rt), "{what} {count}").ok()
 }

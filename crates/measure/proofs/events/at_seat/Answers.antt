@@ -1,10 +1,8 @@
 use Rattle.std.proofs.Common.{rules, ◌≡◌, [], ◌∷◌, length, sym, ap, ◌∙◌, subst, arith}
 use Rattle.wire.specs.Readers.{IsSeatOf}
-use Rattle.wire.specs.Views.{Known}
 use Rattle.wire.specs.declared.seats.NodeSeat.{NodeSeat}
 use Rattle.wire.proofs.NewWires.{new-opened, new-width, two-new, there}
 use Rattle.cell.proofs.NewCells.{at-seat}
-use Rattle.measure.specs.Frames.{happened}
 use Rattle.measure.proofs.events.at_seat.Goals as goal
 
 pub new-requires-4 : goal.new-requires-4
@@ -37,9 +35,5 @@ invariant_of-result c =
     let seat = c.remove-seat.result in
     let first = made.each_seat 0 seat
     (there c.in_ok-wire.seats.items 0 seat (omega (arith, many)) c.remove-seat.ensures.value) in
-    let same = sym c.in_ok-cell.ensures.seat in
-    record {
-      sits = subst (λ (s : NodeSeat). IsSeatOf c.in_ok-wire.wire s) same first.of;
-      ready = c.in_ok-cell.ensures.ready;
-      none = ap happened (sym same) ∙ ap (λ (v : Known). length v.events) first.known;
-    }
+    let same = sym c.in_ok-cell.ensures in
+    record { sits = subst (λ (s : NodeSeat). IsSeatOf c.in_ok-wire.wire s) same first.of }

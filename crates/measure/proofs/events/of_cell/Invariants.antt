@@ -1,9 +1,5 @@
-use Rattle.std.proofs.Common.{◌≡◌, ◌+◌, true}
 use Rattle.wire.specs.Readers.{IsSeatOf}
-use Rattle.measure.specs.Frames.{happened}
 use Rattle.measure.proofs.events.of_cell.Given as goal
 
 abbrev pub invariant-loop-word : goal.invariant-loop-word
-invariant-loop-word l =
-    IsSeatOf l.wire l.cell.desk.seat × (l.cell.shelf.ready ≡ true)
-    × (happened l.cell.desk.seat ≡ l.word + 1)
+invariant-loop-word l = IsSeatOf l.wire l.cell.desk.seat

@@ -1,9 +1,6 @@
-use Rattle.std.proofs.Common.{◌≡◌, ◌+◌}
+use Rattle.std.proofs.Common.{◌≡◌}
 use Rattle.wire.specs.Readers.{IsSeatOf, width, seat_node}
-use Rattle.measure.specs.Frames.{taken}
 use Rattle.measure.proofs.frames.receive_all.Given as goal
 
 abbrev pub invariant-loop : goal.invariant-loop
-invariant-loop l =
-    IsSeatOf l.wire l.seat × (width l.wire ≡ 2) × (seat_node l.seat ≡ 1)
-    × (taken l.seat + l.left ≡ taken l.fn.seat + l.count)
+invariant-loop l = IsSeatOf l.wire l.seat × (width l.wire ≡ 2) × (seat_node l.seat ≡ 1)

@@ -1,5 +1,4 @@
 use Rattle.std.proofs.Common.{rules, ◌≡◌, [], ◌∷◌, length, get_or, sym, ap, ◌∙◌, arith}
-use Rattle.wire.specs.Views.{Known}
 use Rattle.wire.proofs.NewWires.{new-opened, new-width, two-new, there, second}
 use Rattle.measure.proofs.frames.two_nodes.Goals as goal
 
@@ -29,8 +28,4 @@ invariant_of-result c =
       two = two;
       one = (first.of, first.node);
       other = (other.of, other.node);
-      none = (
-        ap (λ (v : Known). length v.sent) first.known,
-        ap (λ (v : Known). length v.taken) other.known,
-      );
     }
