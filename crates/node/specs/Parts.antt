@@ -162,6 +162,15 @@ pub record IsRestorable (n : NodeView) : Type 0 where
   pub links : IsLinks (links_of n)
   pub balance : IsBalanced n.local.ring n.links n.local.got
 
+-- what is tested of parts before a node is made of them
+pub record AreParts (p : NodeParts) : Type 0 where
+  pub shape : IsShape p.shape
+  pub phases : IsPhases p.phases
+  pub home : IsAtHome (local_given p)
+  pub grey : AreGreyIn p.phases.cycle (heap_given p.heap).slots p.heap.grey.items
+  pub asked : AreAsked p.shape p.own p.asked.items
+  pub ends : AreAtEnds p.shape p.own p.phases.cycle (links_given p.links.items)
+
 -- parts of which a node is made: they were tested, and the heap may use the slots of the shape
 pub record IsTested (n : Inside) : Type 0 where
   pub shape : IsShape n.shape

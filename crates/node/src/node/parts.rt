@@ -2,7 +2,7 @@
 ghost use Rattle.std.specs.Prelude.{◌≡◌, ◌≢◌, IfOk, IfErr, OnOk};
 ghost use Rattle.ids.specs.declared.refusal.Refusal.TheVariants.{BadImage, Memory};
 ghost use Rattle.node.specs.Inside.{view_of};
-ghost use Rattle.node.specs.Parts.{node_given, IsRestorable, IsTested};
+ghost use Rattle.node.specs.Parts.{node_given, AreParts, IsRestorable, IsTested};
 
 mod ends;
 mod home;
@@ -35,6 +35,27 @@ pub struct NodeParts {
     pub links: Vec<LinkParts>,
 }
 
+/// What was asked for, where all that can be tested of the parts by themselves may be a saved
+/// node's.
+fn tested(alloc: Global, parts: &NodeParts) -> Result<IndexSet<Ref>, Refusal>
+    ensures asked { IfOk result (λ s. s.keys ≡ parts.now.asked.items) }
+    ensures right { OnOk result (AreParts parts.now) }
+    ensures refused { IfErr result (λ e.
+        e ≢ Memory → (e ≡ BadImage) × (AreParts parts.now → ⊥)) }
+{
+    if !is_at_home(parts) {
+        return Err(Refusal::BadImage);
+    }
+    let cycle = parts.phases.cycle();
+    if !are_grey(alloc, cycle, &parts.heap.slots, &parts.heap.grey)? {
+        return Err(Refusal::BadImage);
+    }
+    if !are_at_ends(parts.shape, parts.own, cycle, &parts.links) {
+        return Err(Refusal::BadImage);
+    }
+    asked_once(alloc, parts.shape, parts.own, &parts.asked)
+}
+
 impl Node {
     /// The node of these parts. All of its messages count as held by a saved node, and so does all
     /// that it took in. It takes time for each part.
@@ -48,26 +69,16 @@ impl Node {
         ensures refused { IfErr result (λ e.
             e ≢ Memory → (e ≡ BadImage) × (IsRestorable (node_given parts) → ⊥)) }
     {
-        if !is_at_home(&parts) {
-            return Err(Refusal::BadImage);
-        }
+        let asked = tested(alloc, &parts)?;
         let NodeParts {
             shape,
             own,
             heap,
-            asked,
+            asked: _asked,
             phases,
             ring,
             links,
         } = parts;
-        let cycle = phases.cycle();
-        if !are_grey(alloc, cycle, &heap.slots, &heap.grey)? {
-            return Err(Refusal::BadImage);
-        }
-        let asked = asked_once(alloc, shape, own, &asked)?;
-        if !are_at_ends(shape, own, cycle, &links) {
-            return Err(Refusal::BadImage);
-        }
         let links = Links::from_parts(alloc, links)?;
         if !is_bounded(ring, number_sum(&links)) {
             return Err(Refusal::BadImage);
