@@ -63,6 +63,3 @@ fn print_refusal<W: Write>(out: &mut W, refusal: Refusal) -> io::Result<u8>
     writeln!(out, "refused {refusal}")?;
     Ok(REFUSED)
 }
-
-#[cfg(test)]
-mod tests;

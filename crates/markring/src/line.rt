@@ -291,6 +291,3 @@ fn are_digits(word: &[u8]) -> bool
 {
     word.iter().all(|byte| byte.is_ascii_digit())
 }
-
-#[cfg(test)]
-mod tests;

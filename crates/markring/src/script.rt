@@ -254,6 +254,3 @@ fn show_state<S: Space>(state: &State<S>, node: u8) -> Reply
         },
     }
 }
-
-#[cfg(test)]
-mod tests;

@@ -104,6 +104,3 @@ fn yes_or_no(yes: bool) -> &'static str
 {
     if yes { "yes" } else { "no" }
 }
-
-#[cfg(test)]
-mod tests;

@@ -122,6 +122,3 @@ pub fn print_refused_words<W: Write>(out: &mut W, error: WordsError) -> io::Resu
         WordsError::Unknown => UNREADABLE,
     })
 }
-
-#[cfg(test)]
-mod tests;
