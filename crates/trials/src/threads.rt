@@ -1,7 +1,11 @@
-use super::{Seated, new_cells, new_wire};
+//! Threads that work on one wire at once. What is printed is the same whatever their schedule.
+use crate::case::{Stop, Subject, u8_of, u32_of};
+use crate::cells::{Seated, new_cells, new_wire};
+use crate::mailboxes::exchange_frames;
+use crate::out::Out;
 use ids::{GREATEST_NODES, Refusal, Shape};
+use model::Event;
 use std::alloc::Global;
-use std::test::*;
 use std::thread;
 use std::thread::Threads;
 
@@ -21,19 +25,13 @@ struct Member<'a> {
 impl<'a> Member<'a> {
     // The member of a cell, which gets an object of its own.
     fn new(mut seated: Seated<'a>, letters: u32) -> Result<Member<'a>, Refusal> {
-        let _ = seated.allocate()?;
+        let object = Event::Alloc {
+            register: 0,
+            places: 0,
+        };
+        let _ = seated.act(object)?;
         let state = seated.cell.node().state();
-        let last = state.shape.nodes().saturating_sub(1);
-        let next = if state.own < last {
-            state.own.saturating_add(1)
-        } else {
-            0
-        };
-        let previous = if state.own > 0 {
-            state.own.saturating_sub(1)
-        } else {
-            last
-        };
+        let (previous, next) = beside(state.own, state.shape.nodes());
         Ok(Member {
             seated,
             next,
@@ -42,11 +40,21 @@ impl<'a> Member<'a> {
         })
     }
 
-    // Gives a letter, where it is to and may, saves, and sends and takes in what there is.
-    fn turn(&mut self) {
-        if self.left > 0 && self.seated.give(self.next).is_ok() {
+    // Gives a letter, where it is to and may.
+    fn give(&mut self) {
+        let letter = Event::Give {
+            to: self.next,
+            label: 4,
+            register: 0,
+        };
+        if self.left > 0 && self.seated.act(letter).is_ok() {
             self.left = self.left.saturating_sub(1);
         }
+    }
+
+    // Gives a letter, saves, and sends and takes in what there is.
+    fn turn(&mut self) {
+        self.give();
         if self.seated.is_unsaved() {
             let _ = self.seated.save();
         }
@@ -66,6 +74,14 @@ impl<'a> Member<'a> {
     fn has_taken(&self, letters: u32) -> bool {
         self.seated.cell.node().taken_from(self.previous) == u64::from(letters)
     }
+}
+
+// The numbers before and after this one in a ring of so many.
+fn beside(own: u8, nodes: u8) -> (u8, u8) {
+    let last = nodes.saturating_sub(1);
+    let next = if own < last { own.saturating_add(1) } else { 0 };
+    let previous = if own > 0 { own.saturating_sub(1) } else { last };
+    (previous, next)
 }
 
 // The ring of these cells, each of which is to give so many letters.
@@ -122,29 +138,35 @@ fn exchange<R: Threads + Sync>(
     letters: u32,
     turns: u32,
 ) -> Result<bool, Refusal> {
-    let (wire, seats) = new_wire(alloc, shape)?;
+    let (wire, seats, _watch) = new_wire(alloc, shape)?;
     let cells = new_cells(alloc, shape, &wire, seats)?;
     let mut members = ring(alloc, cells, letters)?;
     take_turns(rt, &mut members, turns);
     Ok(finish(&mut members, letters))
 }
 
-#[test]
-fn two_threads_exchange_letters(rt: HostRuntime) -> Result<(), Refusal> {
-    let shape = Shape::new(2, 1, 2).expect(&rt, "the shape is within the limits");
-    for turns in [0u32, 20, 400] {
-        let given = exchange(&rt, rt.alloc(), shape, 100, turns)?;
-        assert!(rt; given);
-    }
-    Ok(())
+/// A case of threads.
+#[derive(Drop)]
+pub(crate) struct Schedules<'r, R> {
+    pub(crate) rt: &'r R,
+    pub(crate) alloc: Global,
 }
 
-#[test]
-fn sixteen_threads_give_letters_in_a_ring(rt: HostRuntime) -> Result<(), Refusal> {
-    let shape = Shape::new(16, 1, 2).expect(&rt, "the shape is within the limits");
-    for turns in [0u32, 10, 100] {
-        let given = exchange(&rt, rt.alloc(), shape, 20, turns)?;
-        assert!(rt; given);
+impl<'r, R: Threads + Sync> Subject for Schedules<'r, R> {
+    fn take(&mut self, words: &[&str], out: &mut Out) -> Result<(), Stop> {
+        match words {
+            ["ring", nodes, letters, turns] => {
+                let Some(shape) = Shape::new(u8_of(nodes)?, 1, 2) else {
+                    return Err(Stop::Unknown);
+                };
+                let (letters, turns) = (u32_of(letters)?, u32_of(turns)?);
+                out.answer(exchange(self.rt, self.alloc, shape, letters, turns));
+            }
+            ["frames", tries] => {
+                out.answer(exchange_frames(self.rt, self.alloc, u32_of(tries)?));
+            }
+            _ => return Err(Stop::Unknown),
+        }
+        Ok(())
     }
-    Ok(())
 }
