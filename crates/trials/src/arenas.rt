@@ -53,7 +53,10 @@ impl<'a> Subject for Arenas<'a> {
             ["slots", limit, free, slots @ ..] => {
                 let slots = slots_of(self.alloc, slots, self.drops)?;
                 let free = numbers_of(self.alloc, free)?;
-                self.set(Arena::from_slots(self.alloc, u32_of(limit)?, slots, &free), out);
+                self.set(
+                    Arena::from_slots(self.alloc, u32_of(limit)?, slots, &free),
+                    out,
+                );
             }
             words => {
                 let drops = self.drops;

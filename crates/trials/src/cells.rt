@@ -1,5 +1,6 @@
 //! Cells of new nodes on a wire, which are saved in memory.
 ghost use Rattle.std.specs.Prelude.{◌≡◌, ◌<◌, ℕ, length, slice_get, true, IfOk, Some};
+ghost use Rattle.model.specs.Steps.{is_own};
 ghost use Rattle.model.specs.View.{NodeView, kept_view, new_view};
 ghost use Rattle.image.specs.Images.{image_of};
 ghost use Rattle.image.specs.Nodes.{IsImageOf};
@@ -85,10 +86,7 @@ fn new_nodes(alloc: Global, shape: Shape) -> Result<Vec<Node>, Refusal>
 }
 
 /// A wire between the new nodes of a shape, their seats, and a watch.
-pub(crate) fn new_wire(
-    alloc: Global,
-    shape: Shape,
-) -> Result<(Wire, Vec<NodeSeat>, Watch), Refusal>
+pub(crate) fn new_wire(alloc: Global, shape: Shape) -> Result<(Wire, Vec<NodeSeat>, Watch), Refusal>
     ensures seats { IfOk result (λ r. AreSeated shape r.0 0 r.1.items) }
     ensures watch { IfOk result (λ r. IsWatchOf r.0 r.2) }
 {
@@ -231,12 +229,7 @@ fn on_cell(
 }
 
 // A question to a cell, or an event of its node.
-fn ask(
-    alloc: Global,
-    seated: &mut Seated<'_>,
-    words: &[&str],
-    out: &mut Out,
-) -> Result<(), Stop> {
+fn ask(alloc: Global, seated: &mut Seated<'_>, words: &[&str], out: &mut Out) -> Result<(), Stop> {
     match words {
         ["unsaved"] => out.debug(&seated.is_unsaved()),
         ["state"] => out.show(&InNumbers(seated.cell.node().state())),
@@ -244,7 +237,11 @@ fn ask(
         ["trace"] => put_trace(seated, out),
         ["crash", fill] => put_crashed(alloc, seated, u8_of(fill)?, out),
         ["frame-at", to, place] => {
-            put_frame(alloc, seated.cell.node().frame_at(u8_of(to)?, u8_of(place)?), out);
+            put_frame(
+                alloc,
+                seated.cell.node().frame_at(u8_of(to)?, u8_of(place)?),
+                out,
+            );
         }
         words => return act(seated, event_of(words)?, out),
     }

@@ -98,10 +98,7 @@ fn fail(held: &mut Held<MemoryDisk>, k: u64, out: &mut Out) -> Result<(), Stop> 
     Ok(())
 }
 
-fn after_crash(
-    held: &Held<MemoryDisk>,
-    fill: u8,
-) -> Result<Result<MemoryDisk, Refusal>, Stop> {
+fn after_crash(held: &Held<MemoryDisk>, fill: u8) -> Result<Result<MemoryDisk, Refusal>, Stop> {
     match held {
         Held::Loose(disk) => Ok(disk.after_crash(fill)),
         Held::Shelved(shelf) => Ok(shelf.after_crash(fill)),
@@ -119,12 +116,7 @@ enum Opening {
     Refused,
 }
 
-fn opens_to(
-    alloc: Global,
-    left: Result<MemoryDisk, Refusal>,
-    old: &[u8],
-    new: &[u8],
-) -> Opening {
+fn opens_to(alloc: Global, left: Result<MemoryDisk, Refusal>, old: &[u8], new: &[u8]) -> Opening {
     let Ok(mut disk) = left else {
         return Opening::Refused;
     };

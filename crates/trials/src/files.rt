@@ -32,7 +32,7 @@ impl<'r, R: Files<File = File> + AllocGlobal> Folders<'r, R> {
 impl<'r, R: Files<File = File> + AllocGlobal> Subject for Folders<'r, R> {
     fn take(&mut self, words: &[&str], out: &mut Out) -> Result<(), Stop> {
         match words {
-            ["at", path] => match FileDisk::at(self.rt, self.alloc, path) {
+            ["at", path] => match FileDisk::at(self.rt, self.alloc, below(path)?) {
                 Ok(disk) => {
                     self.bench.held = Held::Loose(disk);
                     out.text("ok");
@@ -65,7 +65,10 @@ fn on_files<R: Files<File = File> + AllocGlobal>(
             put_done(fs::write(rt, below(path)?, bytes.as_slice()), out);
         }
         ["folder", path] => put_done(fs::create_dir_all(rt, below(path)?), out),
-        ["clean", path] => put_done(fs::remove_dir_all(rt, below(path)?), out),
+        ["clean", path] => {
+            let _ = fs::remove_dir_all(rt, below(path)?);
+            out.text("ok");
+        }
         _ => return Err(Stop::Unknown),
     }
     Ok(())

@@ -64,6 +64,19 @@ impl Joined {
         self.watch.hear(&raised);
     }
 
+    fn fill(&mut self, out: &mut Out) {
+        let done = fill(
+            &self.wire,
+            self.alloc,
+            &mut self.first,
+            &mut self.second,
+            out,
+        );
+        if let Err(refusal) = done {
+            out.refused(refusal);
+        }
+    }
+
     fn look(&mut self, out: &mut Out) {
         let seen = self.wire.look(&mut self.watch);
         out.show(&seen.number);
@@ -100,6 +113,58 @@ fn receive(wire: &Wire, seat: &mut NodeSeat) -> Option<Vec<u8>>
 {
     let taken = wire.take(seat, 0)?;
     Some(wire.clear(seat, taken))
+}
+
+// Node 0 claims its mailbox, node 1 looks there, and then it is filled.
+fn fill(
+    wire: &Wire,
+    alloc: Global,
+    seat: &mut NodeSeat,
+    other: &mut NodeSeat,
+    out: &mut Out,
+) -> Result<(), Refusal>
+    requires first { IsSeatOf wire.now seat.old × (width wire.now ≡ 2)
+        × (seat_node seat.old ≡ 0) }
+    requires second { IsSeatOf wire.now other.old × (width wire.now ≡ 2)
+        × (seat_node other.old ≡ 1) }
+    ensures first { IsSame seat.old seat.new }
+    ensures second { IsSame other.old other.new }
+{
+    let bytes = nothing(alloc)?;
+    let Some(claim) = wire.claim(seat, 1) else {
+        out.text("taken");
+        return Ok(());
+    };
+    out.text("claimed");
+    put_received(receive(wire, other), out);
+    wire.post(seat, claim, bytes);
+    out.text("ok");
+    Ok(())
+}
+
+// Node 1 takes what is there, node 0 tries to send, and then the mailbox is emptied.
+fn empty(wire: &Wire, alloc: Global, seat: &mut NodeSeat, other: &mut NodeSeat, out: &mut Out)
+    requires first { IsSeatOf wire.now seat.old × (width wire.now ≡ 2)
+        × (seat_node seat.old ≡ 0) }
+    requires second { IsSeatOf wire.now other.old × (width wire.now ≡ 2)
+        × (seat_node other.old ≡ 1) }
+    ensures first { IsSame seat.old seat.new }
+    ensures second { IsSame other.old other.new }
+{
+    let Some(taken) = wire.take(other, 0) else {
+        return out.text("nothing");
+    };
+    out.text("taken");
+    out.answer(send(wire, alloc, seat));
+    let bytes = wire.clear(other, taken);
+    out.bytes(&bytes);
+}
+
+fn put_received(received: Option<Vec<u8>>, out: &mut Out) {
+    match received {
+        Some(bytes) => out.bytes(&bytes),
+        None => out.text("nothing"),
+    }
 }
 
 // A save of the seat's node.
@@ -184,10 +249,17 @@ impl Subject for Joined {
     fn take(&mut self, words: &[&str], out: &mut Out) -> Result<(), Stop> {
         match words {
             ["send"] => out.answer(send(&self.wire, self.alloc, &mut self.first)),
-            ["receive"] => match receive(&self.wire, &mut self.second) {
-                Some(bytes) => out.bytes(&bytes),
-                None => out.text("nothing"),
-            },
+            ["receive"] => put_received(receive(&self.wire, &mut self.second), out),
+            ["fill"] => self.fill(out),
+            ["empty"] => {
+                empty(
+                    &self.wire,
+                    self.alloc,
+                    &mut self.first,
+                    &mut self.second,
+                    out,
+                );
+            }
             ["raise"] => {
                 self.raise();
                 out.text("ok");

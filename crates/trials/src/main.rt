@@ -103,12 +103,7 @@ fn take_case<R: Files<File = File> + Threads + Sync + AllocGlobal>(
 }
 
 // The subjects that need neither files nor threads.
-fn take_simple(
-    alloc: Global,
-    subject: &str,
-    rest: &[Line<'_>],
-    out: &mut Out,
-) -> Result<(), Stop> {
+fn take_simple(alloc: Global, subject: &str, rest: &[Line<'_>], out: &mut Out) -> Result<(), Stop> {
     match subject {
         "node" => take_all(&mut Nodes::new(alloc), rest, out),
         "disk" => take_all(&mut Disks::new(alloc), rest, out),

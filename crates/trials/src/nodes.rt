@@ -144,13 +144,11 @@ impl fmt::Display for InNumbers {
         write!(
             f,
             "cycle {} ended {} swept {} colour {} ",
-            state.cycle,
-            state.ended,
-            state.swept,
-            state.colour
+            state.cycle, state.ended, state.swept, state.colour
         )?;
         write!(f, "old {} cur {} ", state.earlier, state.recent)?;
         write!(f, "grey {} live {} ", state.grey, state.live)?;
-        write!(f, "token {} letters {}", state.has_token, state.letters)
+        let token = if state.has_token { "yes" } else { "no" };
+        write!(f, "token {token} letters {}", state.letters)
     }
 }

@@ -19,11 +19,12 @@ pub(crate) struct Lists {
 
 impl Subject for Lists {
     fn take(&mut self, words: &[&str], out: &mut Out) -> Result<(), Stop> {
-        let ["reach", lists, turns] = words else {
+        let ["reach", lists, turns, least] = words else {
             return Err(Stop::Unknown);
         };
+        let least = u64_of(least)?;
         match run_lists(self.alloc, u64_of(lists)?, u32_of(turns)?) {
-            Ok(found) => found.put(out),
+            Ok(found) => found.put(least, out),
             Err(refusal) => out.refused(refusal),
         }
         Ok(())
@@ -61,11 +62,11 @@ impl Found {
         }
     }
 
-    // Whether lists went far enough to free something and to reach something, and what was missing.
-    fn put(self, out: &mut Out) {
-        out.count("freed", self.freed);
-        out.count("reached", self.reached);
+    // How much was missing, and whether the lists went far enough to free so many objects, and to
+    // reach as many.
+    fn put(self, least: u64, out: &mut Out) {
         out.count("missing", self.missing);
+        out.debug(&(self.freed >= least && self.reached >= least));
     }
 }
 
