@@ -34,7 +34,6 @@ use std::io;
 use std::process::ExitCode;
 use std::rt::Files;
 use std::thread::Threads;
-use threads::Schedules;
 use trace::Trace;
 use traces::Traces;
 
@@ -88,7 +87,7 @@ fn take_case<R: Files<File = File> + Threads + Sync + AllocGlobal>(
     match first.words.as_slice() {
         ["files"] => take_all(&mut Folders::new(rt), rest, out),
         ["flaky"] => take_all(&mut FlakyFolders::new(rt, &Plans::new()), rest, out),
-        ["threads"] => take_all(&mut Schedules { rt, alloc }, rest, out),
+        ["threads"] => threads::run(rt, alloc, rest, out),
         ["wire"] => match Joined::new(alloc) {
             Ok(mut joined) => take_all(&mut joined, rest, out),
             Err(_) => Err(Stop::Memory),

@@ -1,5 +1,5 @@
 //! Threads that work on one wire at once. What is printed is the same whatever their schedule.
-use crate::case::{Stop, Subject, u8_of, u32_of};
+use crate::case::{Line, Stop, u8_of, u32_of};
 use crate::cells::{Seated, new_cells, new_wire};
 use crate::mailboxes::exchange_frames;
 use crate::out::Out;
@@ -146,27 +146,35 @@ fn exchange<R: Threads + Sync>(
 }
 
 /// A case of threads.
-#[derive(Drop)]
-pub(crate) struct Schedules<'r, R> {
-    pub(crate) rt: &'r R,
-    pub(crate) alloc: Global,
+pub(crate) fn run<R: Threads + Sync>(
+    rt: &R,
+    alloc: Global,
+    lines: &[Line<'_>],
+    out: &mut Out,
+) -> Result<(), Stop> {
+    for line in lines {
+        out.line = line.number;
+        take(rt, alloc, line.words.as_slice(), out)?;
+    }
+    Ok(())
 }
 
-impl<'r, R: Threads + Sync> Subject for Schedules<'r, R> {
-    fn take(&mut self, words: &[&str], out: &mut Out) -> Result<(), Stop> {
-        match words {
-            ["ring", nodes, letters, turns] => {
-                let Some(shape) = Shape::new(u8_of(nodes)?, 1, 2) else {
-                    return Err(Stop::Unknown);
-                };
-                let (letters, turns) = (u32_of(letters)?, u32_of(turns)?);
-                out.answer(exchange(self.rt, self.alloc, shape, letters, turns));
-            }
-            ["frames", tries] => {
-                out.answer(exchange_frames(self.rt, self.alloc, u32_of(tries)?));
-            }
-            _ => return Err(Stop::Unknown),
+fn take<R: Threads + Sync>(
+    rt: &R,
+    alloc: Global,
+    words: &[&str],
+    out: &mut Out,
+) -> Result<(), Stop> {
+    match words {
+        ["ring", nodes, letters, turns] => {
+            let Some(shape) = Shape::new(u8_of(nodes)?, 1, 2) else {
+                return Err(Stop::Unknown);
+            };
+            let (letters, turns) = (u32_of(letters)?, u32_of(turns)?);
+            out.answer(exchange(rt, alloc, shape, letters, turns));
         }
-        Ok(())
+        ["frames", tries] => out.answer(exchange_frames(rt, alloc, u32_of(tries)?)),
+        _ => return Err(Stop::Unknown),
     }
+    Ok(())
 }
