@@ -1,5 +1,5 @@
 //! An arena of values that count their drops.
-use crate::case::{Line, Stop, Subject, take_all, u32_of, u64_of};
+use crate::case::{Line, Stop, read};
 use crate::out::Out;
 use arena::{Arena, Fault, Key, Slot};
 use std::alloc::Global;
@@ -29,20 +29,23 @@ struct Arenas<'a> {
 /// A case over an arena with this limit.
 pub(crate) fn run(
     alloc: Global,
-    limit: &str,
+    limit: u32,
     lines: &[Line<'_>],
     out: &mut Out,
 ) -> Result<(), Stop> {
     let drops = Cell::new(0);
-    let mut subject = Arenas {
+    let mut arenas = Arenas {
         alloc,
         drops: &drops,
-        arena: Some(Arena::with_limit(alloc, u32_of(limit)?)),
+        arena: Some(Arena::with_limit(alloc, limit)),
     };
-    take_all(&mut subject, lines, out)
+    for line in lines {
+        arenas.take(out.at(line), out)?;
+    }
+    Ok(())
 }
 
-impl<'a> Subject for Arenas<'a> {
+impl<'a> Arenas<'a> {
     fn take(&mut self, words: &[&str], out: &mut Out) -> Result<(), Stop> {
         match words {
             ["drops"] => out.show(&self.drops.get()),
@@ -54,7 +57,7 @@ impl<'a> Subject for Arenas<'a> {
                 let slots = slots_of(self.alloc, slots, self.drops)?;
                 let free = numbers_of(self.alloc, free)?;
                 self.set(
-                    Arena::from_slots(self.alloc, u32_of(limit)?, slots, &free),
+                    Arena::from_slots(self.alloc, read(limit)?, slots, &free),
                     out,
                 );
             }
@@ -68,9 +71,7 @@ impl<'a> Subject for Arenas<'a> {
         }
         Ok(())
     }
-}
 
-impl<'a> Arenas<'a> {
     // The arena takes the place of the one that was there, unless it was refused.
     fn set(&mut self, made: Result<Arena<Counted<'a>>, Fault>, out: &mut Out) {
         match made {
@@ -92,13 +93,13 @@ fn on_arena<'a>(
 ) -> Result<(), Stop> {
     match words {
         ["insert", word] => {
-            let word = u64_of(word)?;
+            let word = read(word)?;
             put_inserted(arena.insert(Counted { word, drops }), out);
         }
         ["remove", slot, generation] => put_word(arena.remove(key_of(slot, generation)?), out),
         ["get", slot, generation] => put_found(arena.get(key_of(slot, generation)?), out),
         ["set", slot, generation, word] => {
-            set_word(arena, key_of(slot, generation)?, u64_of(word)?, out);
+            set_word(arena, key_of(slot, generation)?, read(word)?, out);
         }
         words => return ask(arena, words, out),
     }
@@ -113,9 +114,9 @@ fn ask(arena: &Arena<Counted<'_>>, words: &[&str], out: &mut Out) -> Result<(), 
         ["vacant"] => out.show(&arena.vacant()),
         ["full"] => out.show(&arena.is_full()),
         ["empty"] => out.show(&arena.is_empty()),
-        ["key-at", slot] => put_key(arena.key_at(u32_of(slot)?), out),
-        ["generation-at", slot] => out.debug(&arena.generation_at(u32_of(slot)?)),
-        ["slot", slot] => put_slot(arena.slot(u32_of(slot)?), out),
+        ["key-at", slot] => put_key(arena.key_at(read(slot)?), out),
+        ["generation-at", slot] => out.debug(&arena.generation_at(read(slot)?)),
+        ["slot", slot] => put_slot(arena.slot(read(slot)?), out),
         ["free"] => put_free(arena, out),
         _ => return Err(Stop::Unknown),
     }
@@ -124,8 +125,8 @@ fn ask(arena: &Arena<Counted<'_>>, words: &[&str], out: &mut Out) -> Result<(), 
 
 fn key_of(slot: &str, generation: &str) -> Result<Key, Stop> {
     Ok(Key {
-        slot: u32_of(slot)?,
-        generation: u32_of(generation)?,
+        slot: read(slot)?,
+        generation: read(generation)?,
     })
 }
 
@@ -192,7 +193,7 @@ fn numbers_of(alloc: Global, word: &str) -> Result<Vec<u32>, Stop> {
         return Ok(numbers);
     }
     for number in word.split(',') {
-        numbers.push(u32_of(number)?)?;
+        numbers.push(read(number)?)?;
     }
     Ok(numbers)
 }
@@ -215,8 +216,8 @@ fn slots_of<'a>(
 // `free:G`, `occupied:G` or `retired`, where G is a generation.
 fn slot_of<'a>(word: &str, value: Counted<'a>) -> Result<Slot<Counted<'a>>, Stop> {
     match word.split_once(':') {
-        Some(("free", generation)) => Ok(Slot::Free(u32_of(generation)?)),
-        Some(("occupied", generation)) => Ok(Slot::Occupied(u32_of(generation)?, value)),
+        Some(("free", generation)) => Ok(Slot::Free(read(generation)?)),
+        Some(("occupied", generation)) => Ok(Slot::Occupied(read(generation)?, value)),
         None if word == "retired" => Ok(Slot::Retired),
         _ => Err(Stop::Unknown),
     }

@@ -1,7 +1,7 @@
 //! A case as lines of words, and what words say.
-use crate::out::Out;
 use hex::FromHexError;
 use std::alloc::{AllocError, AllocFailed, Global};
+use std::str::FromStr;
 
 /// Why a case goes no further.
 #[derive(Clone, Copy, Debug, PartialEq, Eq)]
@@ -29,25 +29,6 @@ impl<T: Drop> From<AllocFailed<T>> for Stop {
 pub(crate) struct Line<'a> {
     pub(crate) number: usize,
     pub(crate) words: Vec<&'a str>,
-}
-
-/// What takes the commands of a case.
-pub(crate) trait Subject {
-    /// Does what the words say, and prints the answer.
-    fn take(&mut self, words: &[&str], out: &mut Out) -> Result<(), Stop>;
-}
-
-/// Does what the lines say, up to the first one that is no command.
-pub(crate) fn take_all<S: Subject>(
-    subject: &mut S,
-    lines: &[Line<'_>],
-    out: &mut Out,
-) -> Result<(), Stop> {
-    for line in lines {
-        out.line = line.number;
-        subject.take(line.words.as_slice(), out)?;
-    }
-    Ok(())
 }
 
 /// The lines of a case that hold words, but comments.
@@ -78,36 +59,12 @@ fn is_silent(words: &[&str]) -> bool {
     }
 }
 
-pub(crate) fn u64_of(word: &str) -> Result<u64, Stop> {
-    match word.parse::<u64>() {
-        Ok(number) => Ok(number),
-        Err(_) => Err(Stop::Unknown),
-    }
-}
-
-pub(crate) fn u32_of(word: &str) -> Result<u32, Stop> {
-    match word.parse::<u32>() {
-        Ok(number) => Ok(number),
-        Err(_) => Err(Stop::Unknown),
-    }
-}
-
-pub(crate) fn u16_of(word: &str) -> Result<u16, Stop> {
-    match word.parse::<u16>() {
-        Ok(number) => Ok(number),
-        Err(_) => Err(Stop::Unknown),
-    }
-}
-
-pub(crate) fn u8_of(word: &str) -> Result<u8, Stop> {
-    match word.parse::<u8>() {
-        Ok(number) => Ok(number),
-        Err(_) => Err(Stop::Unknown),
-    }
-}
-
-pub(crate) fn usize_of(word: &str) -> Result<usize, Stop> {
-    match word.parse::<usize>() {
+/// The number that the word spells.
+pub(crate) fn read<T: FromStr>(word: &str) -> Result<T, Stop>
+where
+    T::Err: Drop,
+{
+    match word.parse::<T>() {
         Ok(number) => Ok(number),
         Err(_) => Err(Stop::Unknown),
     }

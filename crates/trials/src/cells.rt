@@ -10,9 +10,9 @@ ghost use Rattle.wire.specs.Readers.{IsSeatOf, IsWatchOf};
 ghost use Rattle.cell.specs.Desks.{IsAtSeat};
 ghost use Rattle.trials.specs.Cells.{AreSeated};
 
-use crate::case::{Line, Stop, Subject, take_all, u8_of, u64_of, usize_of};
+use crate::case::{Line, Stop, read};
 use crate::events::{event_of, is_own};
-use crate::nodes::{InNumbers, put_frame, put_image, shape_of};
+use crate::nodes::{InNumbers, put_frame, put_image};
 use crate::out::Out;
 use crate::traces::put_texts;
 use cell::{Cell, Inbound, Outbound};
@@ -144,12 +144,10 @@ pub(crate) fn new_cells<'a>(
 /// A case over the cells of new nodes.
 pub(crate) fn run(
     alloc: Global,
-    sizes: [&str; 3],
+    shape: Shape,
     lines: &[Line<'_>],
     out: &mut Out,
 ) -> Result<(), Stop> {
-    let [nodes, registers, slots] = sizes;
-    let shape = shape_of(nodes, registers, slots)?;
     match on_wire(alloc, shape, lines, out) {
         Ok(taken) => taken,
         Err(_) => Err(Stop::Memory),
@@ -170,7 +168,7 @@ fn on_wire(
         watch,
         cells,
     };
-    Ok(take_all(&mut subject, lines, out))
+    Ok(subject.take_all(lines, out))
 }
 
 // The cells of a case, and a watch that hears nothing.
@@ -188,16 +186,21 @@ impl Cells<'_> {
         let seen = self.wire.look(&mut self.watch);
         out.show(&seen.number);
     }
-}
 
-impl Subject for Cells<'_> {
+    fn take_all(&mut self, lines: &[Line<'_>], out: &mut Out) -> Result<(), Stop> {
+        for line in lines {
+            self.take(out.at(line), out)?;
+        }
+        Ok(())
+    }
+
     fn take(&mut self, words: &[&str], out: &mut Out) -> Result<(), Stop> {
         match words {
             ["look"] => {
                 self.look(out);
                 Ok(())
             }
-            [number, words @ ..] => match self.cells.get_mut(usize_of(number)?) {
+            [number, words @ ..] => match self.cells.get_mut(read::<usize>(number)?) {
                 Some(seated) => on_cell(self.alloc, seated, words, out),
                 None => Err(Stop::Unknown),
             },
@@ -217,10 +220,10 @@ fn on_cell(
         ["save"] => out.done(seated.save()),
         ["reopen"] => out.done(seated.reopen()),
         ["raise"] => out.done(seated.raise()),
-        ["send", to] => out.answer(seated.send(u8_of(to)?)),
-        ["receive", from] => out.answer(seated.receive(u8_of(from)?)),
+        ["send", to] => out.answer(seated.send(read(to)?)),
+        ["receive", from] => out.answer(seated.receive(read(from)?)),
         ["fail", k] => {
-            seated.fail(u64_of(k)?);
+            seated.fail(read(k)?);
             out.text("ok");
         }
         words => return ask(alloc, seated, words, out),
@@ -235,11 +238,11 @@ fn ask(alloc: Global, seated: &mut Seated<'_>, words: &[&str], out: &mut Out) ->
         ["state"] => out.show(&InNumbers(seated.cell.node().state())),
         ["bytes"] => put_image(alloc, seated.cell.node(), out),
         ["trace"] => put_trace(seated, out),
-        ["crash", fill] => put_crashed(alloc, seated, u8_of(fill)?, out),
+        ["crash", fill] => put_crashed(alloc, seated, read(fill)?, out),
         ["frame-at", to, place] => {
             put_frame(
                 alloc,
-                seated.cell.node().frame_at(u8_of(to)?, u8_of(place)?),
+                seated.cell.node().frame_at(read(to)?, read(place)?),
                 out,
             );
         }

@@ -1,23 +1,31 @@
 //! A disk in memory, which can be told to fail and to crash.
-use crate::case::{Stop, Subject, u8_of, u64_of};
-use crate::out::Out;
+use crate::case::{Line, Stop, read};
+use crate::out::{Out, Tally};
 use crate::shelves::{Bench, Held};
 use disk::{MemoryDisk, Shelf, is_blank};
 use ids::Refusal;
 use node::Node;
 use std::alloc::Global;
 
-/// A case over a disk in memory.
 #[derive(Drop)]
-pub(crate) struct Disks {
+struct Disks {
     alloc: Global,
     bench: Bench<MemoryDisk>,
     // The image that was noted as the old one.
     old: Vec<u8>,
 }
 
+/// A case over a disk in memory.
+pub(crate) fn run(alloc: Global, lines: &[Line<'_>], out: &mut Out) -> Result<(), Stop> {
+    let mut disks = Disks::new(alloc);
+    for line in lines {
+        disks.take(out.at(line), out)?;
+    }
+    Ok(())
+}
+
 impl Disks {
-    pub(crate) fn new(alloc: Global) -> Disks {
+    fn new(alloc: Global) -> Disks {
         Disks {
             alloc,
             bench: Bench::new(alloc),
@@ -42,13 +50,8 @@ impl Disks {
 
     // The disk is the one that a crash leaves.
     fn crash(&mut self, fill: u8, out: &mut Out) -> Result<(), Stop> {
-        match after_crash(&self.bench.held, fill)? {
-            Ok(disk) => {
-                self.bench.held = Held::Loose(disk);
-                out.text("ok");
-            }
-            Err(refusal) => out.refused(refusal),
-        }
+        let left = after_crash(&self.bench.held, fill)?;
+        self.bench.hold(left, out);
         Ok(())
     }
 
@@ -60,26 +63,23 @@ impl Disks {
         let Ok(new) = image::to_bytes(self.alloc, node) else {
             return Err(Stop::Memory);
         };
-        let mut counts = Counts::new();
+        let mut tally = Tally::<5>::new();
         for fill in 0..=u8::MAX {
             let left = after_crash(&self.bench.held, fill)?;
-            counts.add(opens_to(self.alloc, left, &self.old, &new));
+            tally.add(opens_to(self.alloc, left, &self.old, &new) as usize);
         }
-        counts.put(out);
+        tally.put(&NAMES, out);
         Ok(())
     }
-}
 
-impl Subject for Disks {
     fn take(&mut self, words: &[&str], out: &mut Out) -> Result<(), Stop> {
         match words {
             ["fresh"] => {
-                self.bench.held = Held::Loose(MemoryDisk::new(self.alloc));
-                out.text("ok");
+                self.bench.hold(Ok(MemoryDisk::new(self.alloc)), out);
                 Ok(())
             }
-            ["fail", k] => fail(&mut self.bench.held, u64_of(k)?, out),
-            ["crash", fill] => self.crash(u8_of(fill)?, out),
+            ["fail", k] => fail(&mut self.bench.held, read(k)?, out),
+            ["crash", fill] => self.crash(read(fill)?, out),
             ["crashes"] => self.crashes(out),
             ["note"] => self.note(out),
             words => self.bench.take(words, out),
@@ -116,6 +116,8 @@ enum Opening {
     Refused,
 }
 
+const NAMES: [&str; 5] = ["blank", "old", "new", "other", "refused"];
+
 fn opens_to(alloc: Global, left: Result<MemoryDisk, Refusal>, old: &[u8], new: &[u8]) -> Opening {
     let Ok(mut disk) = left else {
         return Opening::Refused;
@@ -138,51 +140,5 @@ fn which(found: Result<Vec<u8>, Refusal>, old: &[u8], new: &[u8]) -> Opening {
         Ok(image) if image.as_slice() == new => Opening::New,
         Ok(_) => Opening::Other,
         Err(_) => Opening::Refused,
-    }
-}
-
-/// How many disks open to what.
-#[derive(Clone, Copy)]
-struct Counts {
-    blank: u64,
-    old: u64,
-    new: u64,
-    other: u64,
-    refused: u64,
-}
-
-impl Counts {
-    fn new() -> Counts {
-        Counts {
-            blank: 0,
-            old: 0,
-            new: 0,
-            other: 0,
-            refused: 0,
-        }
-    }
-
-    fn add(&mut self, opening: Opening) {
-        let count = match opening {
-            Opening::Blank => &mut self.blank,
-            Opening::Old => &mut self.old,
-            Opening::New => &mut self.new,
-            Opening::Other => &mut self.other,
-            Opening::Refused => &mut self.refused,
-        };
-        *count = count.saturating_add(1);
-    }
-
-    fn put(self, out: &mut Out) {
-        let Counts {
-            blank,
-            old,
-            new,
-            other,
-            refused,
-        } = self;
-        out.show(&format_args!(
-            "blank {blank} old {old} new {new} other {other} refused {refused}"
-        ));
     }
 }

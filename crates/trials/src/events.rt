@@ -2,7 +2,7 @@
 ghost use Rattle.std.specs.Prelude.{◌≡◌};
 ghost use Rattle.model.specs.Steps.{is_own};
 
-use crate::case::{Stop, u8_of, u16_of, u32_of, u64_of};
+use crate::case::{Stop, read};
 use model::Event;
 
 /// Whether the event comes from no other node.
@@ -33,38 +33,33 @@ fn with_none(verb: &str) -> Result<Event, Stop> {
 }
 
 fn with_one(verb: &str, a: &str) -> Result<Event, Stop> {
-    let number = u32_of(a)?;
-    if verb == "sweep" {
-        return Ok(Event::Sweep { count: number });
-    }
-    let register = u16_of(a)?;
     match verb {
-        "drop" => Ok(Event::Drop { register }),
-        "accept" => Ok(Event::Accept { register }),
-        "word" => Ok(Event::Word { object: register }),
+        "sweep" => Ok(Event::Sweep { count: read(a)? }),
+        "drop" => Ok(Event::Drop { register: read(a)? }),
+        "accept" => Ok(Event::Accept { register: read(a)? }),
+        "word" => Ok(Event::Word { object: read(a)? }),
         _ => Err(Stop::Unknown),
     }
 }
 
 fn with_two(verb: &str, a: &str, b: &str) -> Result<Event, Stop> {
-    let first = u16_of(a)?;
-    let second = u64_of(b)?;
+    let register = read(a)?;
     match verb {
-        "setword" => Ok(Event::SetWord {
-            object: first,
-            word: second,
+        "alloc" => Ok(Event::Alloc {
+            register,
+            places: read(b)?,
         }),
         "copy" => Ok(Event::Copy {
-            register: first,
-            source: u16_of(b)?,
-        }),
-        "alloc" => Ok(Event::Alloc {
-            register: first,
-            places: u8_of(b)?,
+            register,
+            source: read(b)?,
         }),
         "clear" => Ok(Event::Clear {
-            object: first,
-            place: u8_of(b)?,
+            object: register,
+            place: read(b)?,
+        }),
+        "setword" => Ok(Event::SetWord {
+            object: register,
+            word: read(b)?,
         }),
         _ => Err(Stop::Unknown),
     }
@@ -73,41 +68,36 @@ fn with_two(verb: &str, a: &str, b: &str) -> Result<Event, Stop> {
 fn with_three(verb: &str, a: &str, b: &str, c: &str) -> Result<Event, Stop> {
     match verb {
         "give" => Ok(Event::Give {
-            to: u8_of(a)?,
-            label: u32_of(b)?,
-            register: u16_of(c)?,
+            to: read(a)?,
+            label: read(b)?,
+            register: read(c)?,
         }),
         "load" => Ok(Event::Load {
-            register: u16_of(a)?,
-            object: u16_of(b)?,
-            place: u8_of(c)?,
+            register: read(a)?,
+            object: read(b)?,
+            place: read(c)?,
         }),
-        verb => of_place(verb, u16_of(a)?, u8_of(b)?, u32_of(c)?),
+        verb => of_place(verb, read(a)?, read(b)?, c),
     }
 }
 
 // The events of a place of the object in a register.
-fn of_place(verb: &str, object: u16, place: u8, label: u32) -> Result<Event, Stop> {
-    if verb == "get" {
-        return Ok(Event::Get {
+fn of_place(verb: &str, object: u16, place: u8, c: &str) -> Result<Event, Stop> {
+    match verb {
+        "get" => Ok(Event::Get {
             object,
             place,
-            label,
-        });
-    }
-    let Ok(register) = u16::try_from(label) else {
-        return Err(Stop::Unknown);
-    };
-    match verb {
+            label: read(c)?,
+        }),
         "store" => Ok(Event::Store {
             object,
             place,
-            register,
+            register: read(c)?,
         }),
         "put" => Ok(Event::Put {
             object,
             place,
-            register,
+            register: read(c)?,
         }),
         _ => Err(Stop::Unknown),
     }

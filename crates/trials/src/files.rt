@@ -1,7 +1,7 @@
 //! Disks in files of a folder, some of which fail as they are told to.
-use crate::case::{Stop, Subject, bytes_of};
+use crate::case::{Line, Stop, bytes_of};
 use crate::out::Out;
-use crate::shelves::{Bench, Held, area_of};
+use crate::shelves::{Bench, area_of};
 use disk::{Area, FileDisk, MemoryDisk};
 use ids::Refusal;
 use std::alloc::Global;
@@ -10,43 +10,75 @@ use std::fs::{self, File, Files, Metadata, OpenFile, OpenOptions};
 use std::io::{self, ErrorKind};
 use std::os::unix::fs::FileExt;
 
-/// A case over a disk in files.
-#[derive(Drop)]
-pub(crate) struct Folders<'r, R> {
-    rt: &'r R,
-    alloc: Global,
-    bench: Bench<FileDisk>,
+/// A case over two disks in files, of which one's fail as they are told to.
+pub(crate) fn run<R: Files<File = File> + AllocGlobal>(
+    rt: &R,
+    lines: &[Line<'_>],
+    out: &mut Out,
+) -> Result<(), Stop> {
+    let plans = Plans::new();
+    let mut folders = Folders::new(rt, &plans);
+    for line in lines {
+        folders.take(out.at(line), out)?;
+    }
+    Ok(())
 }
 
-impl<'r, R: Files<File = File> + AllocGlobal> Folders<'r, R> {
-    pub(crate) fn new(rt: &'r R) -> Folders<'r, R> {
+#[derive(Drop)]
+struct Folders<'a, R> {
+    rt: &'a R,
+    alloc: Global,
+    plans: &'a Plans,
+    bench: Bench<FileDisk>,
+    flaky: Bench<FileDisk<Flaky<'a>>>,
+}
+
+impl<'a, R: Files<File = File> + AllocGlobal> Folders<'a, R> {
+    fn new(rt: &'a R, plans: &'a Plans) -> Folders<'a, R> {
         let alloc = rt.alloc();
         Folders {
             rt,
             alloc,
+            plans,
             bench: Bench::new(alloc),
+            flaky: Bench::new(alloc),
+        }
+    }
+
+    // A command to the disk whose files fail.
+    fn take_flaky(&mut self, words: &[&str], out: &mut Out) -> Result<(), Stop> {
+        match words {
+            ["at", path] => {
+                let disk = flaky_disk(self.rt, self.alloc, self.plans, below(path)?);
+                self.flaky.hold(disk.map_err(refusal_of), out);
+            }
+            ["next", area, word] => {
+                let next = next_of(word)?;
+                self.plans.of(area_of(area)?).next.set(next);
+                out.text("ok");
+            }
+            ["writes", area] => out.show(&self.plans.of(area_of(area)?).writes.get()),
+            words => return self.flaky.take(words, out),
+        }
+        Ok(())
+    }
+
+    fn take(&mut self, words: &[&str], out: &mut Out) -> Result<(), Stop> {
+        match words {
+            ["at", path] => {
+                let disk = FileDisk::at(self.rt, self.alloc, below(path)?);
+                self.bench.hold(disk, out);
+                Ok(())
+            }
+            ["file", words @ ..] => on_files(self.rt, words, out),
+            ["flaky", words @ ..] => self.take_flaky(words, out),
+            words => self.bench.take(words, out),
         }
     }
 }
 
-impl<'r, R: Files<File = File> + AllocGlobal> Subject for Folders<'r, R> {
-    fn take(&mut self, words: &[&str], out: &mut Out) -> Result<(), Stop> {
-        match words {
-            ["at", path] => match FileDisk::at(self.rt, self.alloc, below(path)?) {
-                Ok(disk) => {
-                    self.bench.held = Held::Loose(disk);
-                    out.text("ok");
-                    Ok(())
-                }
-                Err(refusal) => {
-                    out.refused(refusal);
-                    Ok(())
-                }
-            },
-            ["file", words @ ..] => on_files(self.rt, words, out),
-            words => self.bench.take(words, out),
-        }
-    }
+fn refusal_of(_error: io::Error) -> Refusal {
+    Refusal::Disk
 }
 
 // A command to the files below the current folder.
@@ -133,14 +165,14 @@ impl Plan {
 
 /// The plans of the three files of a disk.
 #[derive(Drop)]
-pub(crate) struct Plans {
+struct Plans {
     select: Plan,
     a: Plan,
     b: Plan,
 }
 
 impl Plans {
-    pub(crate) fn new() -> Plans {
+    fn new() -> Plans {
         Plans {
             select: Plan::new(),
             a: Plan::new(),
@@ -202,50 +234,6 @@ impl OpenFile for Flaky<'_> {
 
     fn sync_data(&self) -> io::Result<()> {
         self.file.sync_data()
-    }
-}
-
-/// A case over a disk in files that fail.
-#[derive(Drop)]
-pub(crate) struct FlakyFolders<'a, R> {
-    rt: &'a R,
-    alloc: Global,
-    plans: &'a Plans,
-    bench: Bench<FileDisk<Flaky<'a>>>,
-}
-
-impl<'a, R: Files<File = File> + AllocGlobal> FlakyFolders<'a, R> {
-    pub(crate) fn new(rt: &'a R, plans: &'a Plans) -> FlakyFolders<'a, R> {
-        let alloc = rt.alloc();
-        FlakyFolders {
-            rt,
-            alloc,
-            plans,
-            bench: Bench::new(alloc),
-        }
-    }
-}
-
-impl<'a, R: Files<File = File> + AllocGlobal> Subject for FlakyFolders<'a, R> {
-    fn take(&mut self, words: &[&str], out: &mut Out) -> Result<(), Stop> {
-        match words {
-            ["at", path] => match flaky_disk(self.rt, self.alloc, self.plans, below(path)?) {
-                Ok(disk) => {
-                    self.bench.held = Held::Loose(disk);
-                    out.text("ok");
-                }
-                Err(_) => out.refused(Refusal::Disk),
-            },
-            ["next", area, word] => {
-                let next = next_of(word)?;
-                self.plans.of(area_of(area)?).next.set(next);
-                out.text("ok");
-            }
-            ["writes", area] => out.show(&self.plans.of(area_of(area)?).writes.get()),
-            ["file", words @ ..] => return on_files(self.rt, words, out),
-            words => return self.bench.take(words, out),
-        }
-        Ok(())
     }
 }
 

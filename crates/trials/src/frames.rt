@@ -1,48 +1,21 @@
 //! Bytes that are cut or changed: what is still read as a frame or as a node.
-use crate::case::{Stop, Subject, bytes_of};
-use crate::out::Out;
+use crate::case::{Line, Stop, bytes_of};
+use crate::out::{Out, Tally};
 use ids::Refusal;
 use msg::{decode, encode};
 use std::alloc::{AllocError, Global};
 
-/// How many bytes were read and are spelled so, how many were refused as no spelling, and how many
-/// met with anything else.
+/// What becomes of bytes.
 #[derive(Clone, Copy)]
-struct Tally {
-    read: u64,
-    refused: u64,
-    other: u64,
-}
-
-impl Tally {
-    fn new() -> Tally {
-        Tally {
-            read: 0,
-            refused: 0,
-            other: 0,
-        }
-    }
-
-    fn add(&mut self, met: Met) {
-        match met {
-            Met::Read => self.read = self.read.saturating_add(1),
-            Met::Refused => self.refused = self.refused.saturating_add(1),
-            Met::Other => self.other = self.other.saturating_add(1),
-        }
-    }
-
-    fn put(self, out: &mut Out) {
-        out.count("read", self.read);
-        out.count("refused", self.refused);
-        out.count("other", self.other);
-    }
-}
-
 enum Met {
+    /// They are what they are read as, spelled again.
     Read,
+    /// They are refused, as no spelling.
     Refused,
     Other,
 }
+
+const NAMES: [&str; 3] = ["read", "refused", "other"];
 
 /// What bytes may spell.
 #[derive(Clone, Copy, PartialEq, Eq)]
@@ -75,16 +48,23 @@ fn meet_image(alloc: Global, bytes: &[u8]) -> Met {
     }
 }
 
-fn meet(alloc: Global, kind: Kind, bytes: &[u8]) -> Met {
-    match kind {
+fn meet(alloc: Global, kind: Kind, bytes: &[u8]) -> usize {
+    let met = match kind {
         Kind::Frame => meet_frame(alloc, bytes),
         Kind::Image => meet_image(alloc, bytes),
-    }
+    };
+    met as usize
+}
+
+fn read_once(alloc: Global, kind: Kind, bytes: &[u8]) -> Tally<3> {
+    let mut tally = Tally::<3>::new();
+    tally.add(meet(alloc, kind, bytes));
+    tally
 }
 
 // All shorter beginnings of the bytes, and these with one byte more.
-fn cut(alloc: Global, kind: Kind, bytes: &[u8]) -> Result<Tally, AllocError> {
-    let mut tally = Tally::new();
+fn cut(alloc: Global, kind: Kind, bytes: &[u8]) -> Result<Tally<3>, AllocError> {
+    let mut tally = Tally::<3>::new();
     for len in 0..bytes.len() {
         tally.add(meet(alloc, kind, &bytes[..len]));
     }
@@ -95,7 +75,7 @@ fn cut(alloc: Global, kind: Kind, bytes: &[u8]) -> Result<Tally, AllocError> {
 }
 
 // The bytes with each value in this place.
-fn change_one(alloc: Global, kind: Kind, bytes: &mut [u8], at: usize, tally: &mut Tally) {
+fn change_one(alloc: Global, kind: Kind, bytes: &mut [u8], at: usize, tally: &mut Tally<3>) {
     if at >= bytes.len() {
         return;
     }
@@ -108,18 +88,12 @@ fn change_one(alloc: Global, kind: Kind, bytes: &mut [u8], at: usize, tally: &mu
 }
 
 // The bytes with each value in each place.
-fn change(alloc: Global, kind: Kind, mut bytes: Vec<u8>) -> Tally {
-    let mut tally = Tally::new();
+fn change(alloc: Global, kind: Kind, mut bytes: Vec<u8>) -> Tally<3> {
+    let mut tally = Tally::<3>::new();
     for at in 0..bytes.len() {
         change_one(alloc, kind, &mut bytes, at, &mut tally);
     }
     tally
-}
-
-/// Bytes that may spell a frame or a node.
-#[derive(Drop)]
-pub(crate) struct Bytes {
-    pub(crate) alloc: Global,
 }
 
 fn kind_of(word: &str) -> Result<Kind, Stop> {
@@ -130,23 +104,26 @@ fn kind_of(word: &str) -> Result<Kind, Stop> {
     }
 }
 
-impl Subject for Bytes {
-    fn take(&mut self, words: &[&str], out: &mut Out) -> Result<(), Stop> {
-        let [verb, kind, digits] = words else {
-            return Err(Stop::Unknown);
-        };
-        let kind = kind_of(kind)?;
-        let bytes = bytes_of(self.alloc, digits)?;
-        match *verb {
-            "read" => {
-                let mut tally = Tally::new();
-                tally.add(meet(self.alloc, kind, &bytes));
-                tally.put(out);
-            }
-            "cuts" => cut(self.alloc, kind, &bytes)?.put(out),
-            "changes" => change(self.alloc, kind, bytes).put(out),
-            _ => return Err(Stop::Unknown),
-        }
-        Ok(())
+/// A case over bytes that may spell a frame or a node.
+pub(crate) fn run(alloc: Global, lines: &[Line<'_>], out: &mut Out) -> Result<(), Stop> {
+    for line in lines {
+        take(alloc, out.at(line), out)?;
     }
+    Ok(())
+}
+
+fn take(alloc: Global, words: &[&str], out: &mut Out) -> Result<(), Stop> {
+    let [verb, kind, digits] = words else {
+        return Err(Stop::Unknown);
+    };
+    let kind = kind_of(kind)?;
+    let bytes = bytes_of(alloc, digits)?;
+    let tally = match *verb {
+        "read" => read_once(alloc, kind, &bytes),
+        "cuts" => cut(alloc, kind, &bytes)?,
+        "changes" => change(alloc, kind, bytes),
+        _ => return Err(Stop::Unknown),
+    };
+    tally.put(&NAMES, out);
+    Ok(())
 }

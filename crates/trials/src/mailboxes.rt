@@ -11,11 +11,11 @@ ghost use Rattle.wire.specs.Readers.{
   IsRaisedOf,
 };
 
-use crate::case::{Stop, Subject};
+use crate::case::{Line, Stop};
+use crate::cells::new_wire;
 use crate::out::Out;
-use ids::{Cycle, NodeId, Refusal, Shape};
+use ids::{Cycle, Refusal, Shape};
 use msg::{Ack, Frame, encode};
-use node::Node;
 use std::alloc::Global;
 use std::thread;
 use std::thread::Threads;
@@ -23,7 +23,7 @@ use wire::{NodeSeat, Raised, Watch, Wire};
 
 /// A wire between two new nodes, their seats, and a watch.
 #[derive(Drop)]
-pub(crate) struct Joined {
+struct Joined {
     alloc: Global,
     wire: Wire,
     first: NodeSeat,
@@ -36,18 +36,13 @@ pub(crate) struct Joined {
 }
 
 impl Joined {
-    pub(crate) fn new(alloc: Global) -> Result<Joined, Refusal> {
+    fn new(alloc: Global) -> Result<Joined, Refusal> {
         let Some(shape) = Shape::new(2, 1, 1) else {
             return Err(Refusal::NoNode);
         };
-        let nodes = [
-            Node::new(alloc, shape, NodeId { number: 0 })?,
-            Node::new(alloc, shape, NodeId { number: 1 })?,
-        ];
-        let (wire, mut seats, mut watches) = Wire::new(alloc, shape, &nodes, 1)?;
+        let (wire, mut seats, watch) = new_wire(alloc, shape)?;
         let first = seats.remove(0);
         let second = seats.remove(0);
-        let watch = watches.remove(0);
         Ok(Joined {
             alloc,
             wire,
@@ -81,6 +76,41 @@ impl Joined {
         let seen = self.wire.look(&mut self.watch);
         out.show(&seen.number);
     }
+
+    fn take(&mut self, words: &[&str], out: &mut Out) -> Result<(), Stop> {
+        match words {
+            ["send"] => out.answer(send(&self.wire, self.alloc, &mut self.first)),
+            ["receive"] => put_received(receive(&self.wire, &mut self.second), out),
+            ["fill"] => self.fill(out),
+            ["empty"] => {
+                empty(
+                    &self.wire,
+                    self.alloc,
+                    &mut self.first,
+                    &mut self.second,
+                    out,
+                );
+            }
+            ["raise"] => {
+                self.raise();
+                out.text("ok");
+            }
+            ["look"] => self.look(out),
+            _ => return Err(Stop::Unknown),
+        }
+        Ok(())
+    }
+}
+
+/// A case over a wire between two new nodes.
+pub(crate) fn run(alloc: Global, lines: &[Line<'_>], out: &mut Out) -> Result<(), Stop> {
+    let Ok(mut joined) = Joined::new(alloc) else {
+        return Err(Stop::Memory);
+    };
+    for line in lines {
+        joined.take(out.at(line), out)?;
+    }
+    Ok(())
 }
 
 // The bytes of node 0's acknowledgement of nothing.
@@ -243,30 +273,4 @@ pub(crate) fn exchange_frames<R: Threads + Sync>(
 ) -> Result<bool, Refusal> {
     let (sent, taken) = exchange(rt, Joined::new(alloc)?, tries);
     Ok(sent >= 1 && taken <= sent && sent <= taken.saturating_add(1))
-}
-
-impl Subject for Joined {
-    fn take(&mut self, words: &[&str], out: &mut Out) -> Result<(), Stop> {
-        match words {
-            ["send"] => out.answer(send(&self.wire, self.alloc, &mut self.first)),
-            ["receive"] => put_received(receive(&self.wire, &mut self.second), out),
-            ["fill"] => self.fill(out),
-            ["empty"] => {
-                empty(
-                    &self.wire,
-                    self.alloc,
-                    &mut self.first,
-                    &mut self.second,
-                    out,
-                );
-            }
-            ["raise"] => {
-                self.raise();
-                out.text("ok");
-            }
-            ["look"] => self.look(out),
-            _ => return Err(Stop::Unknown),
-        }
-        Ok(())
-    }
 }

@@ -19,23 +19,15 @@ mod shelves;
 mod threads;
 mod traces;
 
-use case::{Line, Stop, read_lines, take_all};
-use disks::Disks;
-use files::{FlakyFolders, Folders, Plans};
-use frames::Bytes;
-use mailboxes::Joined;
-use names::Names;
-use nodes::Nodes;
+use case::{Line, Stop, read, read_lines};
+use nodes::shape_of;
 use out::Out;
-use reaching::Lists;
 use std::alloc::Global;
 use std::fs::File;
 use std::io;
 use std::process::ExitCode;
 use std::rt::Files;
 use std::thread::Threads;
-use trace::Trace;
-use traces::Traces;
 
 /// Output or memory was refused.
 const FAILED: u8 = 1;
@@ -80,39 +72,36 @@ fn take_case<R: Files<File = File> + Threads + Sync + AllocGlobal>(
     lines: &[Line<'_>],
     out: &mut Out,
 ) -> Result<(), Stop> {
-    let [first, rest @ ..] = lines else {
+    let [first, lines @ ..] = lines else {
         return Ok(());
     };
-    out.line = first.number;
-    match first.words.as_slice() {
-        ["files"] => take_all(&mut Folders::new(rt), rest, out),
-        ["flaky"] => take_all(&mut FlakyFolders::new(rt, &Plans::new()), rest, out),
-        ["threads"] => threads::run(rt, alloc, rest, out),
-        ["wire"] => match Joined::new(alloc) {
-            Ok(mut joined) => take_all(&mut joined, rest, out),
-            Err(_) => Err(Stop::Memory),
-        },
+    match out.at(first) {
+        ["files"] => files::run(rt, lines, out),
+        ["threads"] => threads::run(rt, alloc, lines, out),
         ["cells", nodes, registers, slots] => {
-            cells::run(alloc, [nodes, registers, slots], rest, out)
+            cells::run(alloc, shape_of(nodes, registers, slots)?, lines, out)
         }
-        ["arena", limit] => arenas::run(alloc, limit, rest, out),
-        [word] => take_simple(alloc, word, rest, out),
+        ["arena", limit] => arenas::run(alloc, read(limit)?, lines, out),
+        [word] => take_simple(alloc, word, lines, out),
         _ => Err(Stop::Unknown),
     }
 }
 
-// The subjects that need neither files nor threads.
-fn take_simple(alloc: Global, subject: &str, rest: &[Line<'_>], out: &mut Out) -> Result<(), Stop> {
+// The subjects of one word that need neither files nor threads.
+fn take_simple(
+    alloc: Global,
+    subject: &str,
+    lines: &[Line<'_>],
+    out: &mut Out,
+) -> Result<(), Stop> {
     match subject {
-        "node" => take_all(&mut Nodes::new(alloc), rest, out),
-        "disk" => take_all(&mut Disks::new(alloc), rest, out),
-        "bytes" => take_all(&mut Bytes { alloc }, rest, out),
-        "names" => take_all(&mut Names { alloc }, rest, out),
-        "lists" => take_all(&mut Lists { alloc }, rest, out),
-        "trace" => match Trace::new(alloc) {
-            Ok(trace) => take_all(&mut Traces { alloc, trace }, rest, out),
-            Err(_) => Err(Stop::Memory),
-        },
+        "node" => nodes::run(alloc, lines, out),
+        "disk" => disks::run(alloc, lines, out),
+        "bytes" => frames::run(alloc, lines, out),
+        "names" => names::run(lines, out),
+        "lists" => reaching::run(alloc, lines, out),
+        "trace" => traces::run(alloc, lines, out),
+        "wire" => mailboxes::run(alloc, lines, out),
         _ => Err(Stop::Unknown),
     }
 }

@@ -1,47 +1,45 @@
-//! Names and their limits, frames as text, and laws.
-use crate::case::{Stop, Subject, bytes_of, u8_of, u16_of, u32_of, u64_of};
+//! Names and their limits, and laws.
+use crate::case::{Line, Stop, read};
 use crate::out::Out;
 use ids::{Cycle, NodeId, Ref, RefOrDash, Shape};
-use std::alloc::Global;
 
-/// Names, which are within the limits or none.
-#[derive(Drop)]
-pub(crate) struct Names {
-    pub(crate) alloc: Global,
+/// A case over names, which are within the limits or none.
+pub(crate) fn run(lines: &[Line<'_>], out: &mut Out) -> Result<(), Stop> {
+    for line in lines {
+        take(out.at(line), out)?;
+    }
+    Ok(())
 }
 
-impl Subject for Names {
-    fn take(&mut self, words: &[&str], out: &mut Out) -> Result<(), Stop> {
-        match words {
-            ["shape", nodes, registers, slots] => {
-                let shape = Shape::new(u8_of(nodes)?, u16_of(registers)?, u32_of(slots)?);
-                put_shape(shape, out);
-            }
-            ["node", number] => match NodeId::new(u8_of(number)?) {
-                Some(id) => out.show(&id.number),
-                None => out.text("-"),
-            },
-            ["cycle", number] => match Cycle::new(u64_of(number)?) {
-                Some(cycle) => out.show(&cycle.number),
-                None => out.text("-"),
-            },
-            ["ref", node, slot, generation] => {
-                put_ref(u8_of(node)?, u32_of(slot)?, u32_of(generation)?, out);
-            }
-            ["decode", digits] => {
-                let bytes = bytes_of(self.alloc, digits)?;
-                match msg::decode(&bytes) {
-                    Ok(frame) => out.show(&frame),
-                    Err(refusal) => out.refused(refusal),
-                }
-            }
-            ["laws"] => {
-                call_laws();
-                out.text("ok");
-            }
-            _ => return Err(Stop::Unknown),
+fn take(words: &[&str], out: &mut Out) -> Result<(), Stop> {
+    match words {
+        ["shape", nodes, registers, slots] => {
+            put_shape(
+                Shape::new(read(nodes)?, read(registers)?, read(slots)?),
+                out,
+            );
         }
-        Ok(())
+        ["node", number] => put(
+            NodeId::new(read(number)?).map(|id| u64::from(id.number)),
+            out,
+        ),
+        ["cycle", number] => put(Cycle::new(read(number)?).map(|cycle| cycle.number), out),
+        ["ref", node, slot, generation] => {
+            put_ref(read(node)?, read(slot)?, read(generation)?, out);
+        }
+        ["laws"] => {
+            call_laws();
+            out.text("ok");
+        }
+        _ => return Err(Stop::Unknown),
+    }
+    Ok(())
+}
+
+fn put(number: Option<u64>, out: &mut Out) {
+    match number {
+        Some(number) => out.show(&number),
+        None => out.text("-"),
     }
 }
 

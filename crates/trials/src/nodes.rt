@@ -1,5 +1,5 @@
 //! One node: its events, its frames and its image.
-use crate::case::{Stop, Subject, bytes_of, u8_of, u16_of, u32_of, u64_of};
+use crate::case::{Line, Stop, bytes_of, read};
 use crate::events::event_of;
 use crate::out::Out;
 use ids::{NodeId, Refusal, Shape};
@@ -14,6 +14,15 @@ use std::fmt;
 pub(crate) struct Nodes {
     pub(crate) alloc: Global,
     pub(crate) node: Option<Node>,
+}
+
+/// A case over one node.
+pub(crate) fn run(alloc: Global, lines: &[Line<'_>], out: &mut Out) -> Result<(), Stop> {
+    let mut nodes = Nodes::new(alloc);
+    for line in lines {
+        nodes.take(out.at(line), out)?;
+    }
+    Ok(())
 }
 
 impl Nodes {
@@ -31,14 +40,12 @@ impl Nodes {
             Err(refusal) => out.refused(refusal),
         }
     }
-}
 
-impl Subject for Nodes {
-    fn take(&mut self, words: &[&str], out: &mut Out) -> Result<(), Stop> {
+    pub(crate) fn take(&mut self, words: &[&str], out: &mut Out) -> Result<(), Stop> {
         match words {
             ["new", nodes, registers, slots, own] => {
                 let shape = shape_of(nodes, registers, slots)?;
-                let made = new_node(self.alloc, shape, u8_of(own)?)?;
+                let made = new_node(self.alloc, shape, read(own)?)?;
                 self.set(made, out);
                 Ok(())
             }
@@ -57,7 +64,7 @@ impl Subject for Nodes {
 
 /// The shape that the words say.
 pub(crate) fn shape_of(nodes: &str, registers: &str, slots: &str) -> Result<Shape, Stop> {
-    match Shape::new(u8_of(nodes)?, u16_of(registers)?, u32_of(slots)?) {
+    match Shape::new(read(nodes)?, read(registers)?, read(slots)?) {
         Some(shape) => Ok(shape),
         None => Err(Stop::Unknown),
     }
@@ -84,15 +91,15 @@ fn on_node(alloc: Global, node: &mut Node, words: &[&str], out: &mut Out) -> Res
             out.answer(take_frame(node, &bytes));
         }
         ["repeat", count, words @ ..] => {
-            out.answer(repeat(node, event_of(words)?, u64_of(count)?));
+            out.answer(repeat(node, event_of(words)?, read(count)?));
         }
         ["frame-at", to, place] => {
-            put_frame(alloc, node.frame_at(u8_of(to)?, u8_of(place)?), out);
+            put_frame(alloc, node.frame_at(read(to)?, read(place)?), out);
         }
         ["numbered", to, number] => {
-            put_frame(alloc, node.numbered_frame(u8_of(to)?, u64_of(number)?), out);
+            put_frame(alloc, node.numbered_frame(read(to)?, read(number)?), out);
         }
-        ["ack-for", from] => put_frame(alloc, node.ack_for(u8_of(from)?), out),
+        ["ack-for", from] => put_frame(alloc, node.ack_for(read(from)?), out),
         words => out.answer(node.act(event_of(words)?)),
     }
     Ok(())

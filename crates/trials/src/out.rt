@@ -1,4 +1,5 @@
 //! What a case prints.
+use crate::case::Line;
 use ids::Refusal;
 use std::alloc::Global;
 use std::fmt::{Debug, Display};
@@ -21,6 +22,12 @@ impl Out {
             line: 0,
             failed: false,
         }
+    }
+
+    /// From now on the answers are those to this line, whose words these are.
+    pub(crate) fn at<'a>(&mut self, line: &'a Line<'a>) -> &'a [&'a str] {
+        self.line = line.number;
+        line.words.as_slice()
     }
 
     pub(crate) fn text(&mut self, text: &str) {
@@ -80,11 +87,32 @@ impl Out {
             Err(_) => self.failed = true,
         }
     }
+}
 
-    /// A name and how many there are of it.
-    pub(crate) fn count(&mut self, name: &str, count: u64) {
-        if writeln!(self.text, "{name} {count}").is_err() {
-            self.failed = true;
+/// How often each of some things came.
+#[derive(Clone, Copy)]
+pub(crate) struct Tally<const N: usize> {
+    counts: [u64; N],
+}
+
+impl<const N: usize> Tally<N> {
+    pub(crate) fn new() -> Tally<N> {
+        Tally { counts: [0; N] }
+    }
+
+    pub(crate) fn add(&mut self, place: usize) {
+        if place < N {
+            self.counts[place] = self.counts[place].saturating_add(1);
+        }
+    }
+
+    /// A line for each, with its name.
+    pub(crate) fn put(&self, names: &[&str], out: &mut Out) {
+        for place in 0..N {
+            if place < names.len() {
+                let (name, count) = (names[place], self.counts[place]);
+                out.show(&format_args!("{name} {count}"));
+            }
         }
     }
 }

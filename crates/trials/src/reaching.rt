@@ -2,7 +2,7 @@
 ghost use Rattle.std.specs.Prelude.{◌≡◌};
 ghost use Rattle.model.specs.World.{is_own_step};
 
-use crate::case::{Stop, Subject, u32_of, u64_of};
+use crate::case::{Line, Stop, read};
 use crate::out::Out;
 use crate::random::{Dice, MOST, NODES, new_space, next_turn};
 use ids::{Ref, Refusal};
@@ -12,28 +12,31 @@ use std::alloc::Global;
 use world::{Sim, reach};
 
 /// A case over lists of steps.
-#[derive(Drop)]
-pub(crate) struct Lists {
-    pub(crate) alloc: Global,
+pub(crate) fn run(alloc: Global, lines: &[Line<'_>], out: &mut Out) -> Result<(), Stop> {
+    for line in lines {
+        take(alloc, out.at(line), out)?;
+    }
+    Ok(())
 }
 
-impl Subject for Lists {
-    fn take(&mut self, words: &[&str], out: &mut Out) -> Result<(), Stop> {
-        let ["reach", lists, turns, least] = words else {
-            return Err(Stop::Unknown);
-        };
-        let least = u64_of(least)?;
-        match run_lists(self.alloc, u64_of(lists)?, u32_of(turns)?) {
-            Ok(found) => found.put(least, out),
-            Err(refusal) => out.refused(refusal),
-        }
-        Ok(())
-    }
+fn take(alloc: Global, words: &[&str], out: &mut Out) -> Result<(), Stop> {
+    let ["reach", lists, turns, least] = words else {
+        return Err(Stop::Unknown);
+    };
+    let mut found = Found {
+        freed: 0,
+        reached: 0,
+        missing: 0,
+    };
+    let done = run_lists(alloc, read(lists)?, read(turns)?, &mut found);
+    found.put(read(least)?, out);
+    out.done(done);
+    Ok(())
 }
 
 /// How many objects were freed, how many references were reached in all cuts after sweeps, and how
 /// many of these named no object that is there.
-#[derive(Clone, Copy)]
+#[derive(Drop)]
 struct Found {
     freed: u64,
     reached: u64,
@@ -41,20 +44,6 @@ struct Found {
 }
 
 impl Found {
-    fn nothing() -> Found {
-        Found {
-            freed: 0,
-            reached: 0,
-            missing: 0,
-        }
-    }
-
-    fn add(&mut self, other: Found) {
-        self.freed = self.freed.saturating_add(other.freed);
-        self.reached = self.reached.saturating_add(other.reached);
-        self.missing = self.missing.saturating_add(other.missing);
-    }
-
     fn count(&mut self, is_there: bool) {
         self.reached = self.reached.saturating_add(1);
         if !is_there {
@@ -64,31 +53,29 @@ impl Found {
 
     // How much was missing, and whether the lists went far enough to free so many objects, and to
     // reach as many.
-    fn put(self, least: u64, out: &mut Out) {
-        out.count("missing", self.missing);
+    fn put(&self, least: u64, out: &mut Out) {
+        out.show(&self.missing);
         out.debug(&(self.freed >= least && self.reached >= least));
     }
 }
 
-fn run_lists(alloc: Global, lists: u64, turns: u32) -> Result<Found, Refusal> {
-    let mut found = Found::nothing();
+fn run_lists(alloc: Global, lists: u64, turns: u32, found: &mut Found) -> Result<(), Refusal> {
     for seed in 0..lists {
-        found.add(run_list(alloc, seed, turns)?);
+        run_list(alloc, Dice { state: seed }, turns, found)?;
     }
-    Ok(found)
+    Ok(())
 }
 
-fn run_list(alloc: Global, seed: u64, turns: u32) -> Result<Found, Refusal> {
+fn run_list(alloc: Global, mut dice: Dice, turns: u32, found: &mut Found) -> Result<(), Refusal> {
     let sim = new_space(alloc)?;
     let saved = all_saved(alloc, &sim)?;
-    let mut run = Run { alloc, sim, saved };
-    let mut dice = Dice { state: seed };
-    let mut found = Found::nothing();
+    let mut walk = Walk { alloc, sim, saved };
     for _turn in 0..turns {
-        let turn = next_turn(&mut dice, &run.sim);
-        found.add(run.take_turn(turn)?);
+        for step in next_turn(&mut dice, &walk.sim).iter() {
+            walk.take_step(*step, found)?;
+        }
     }
-    Ok(found)
+    Ok(())
 }
 
 // A node as it is after a save.
@@ -117,39 +104,28 @@ fn is_own(step: Step) -> bool
 
 /// A space, and its nodes as they were saved last.
 #[derive(Drop)]
-struct Run {
+struct Walk {
     alloc: Global,
     sim: Sim,
     saved: Vec<Node>,
 }
 
-impl Run {
-    // Takes these steps, and looks at all cuts after each sweep.
-    fn take_turn(&mut self, turn: [Option<Step>; MOST]) -> Result<Found, Refusal> {
-        let mut found = Found::nothing();
-        for step in turn {
-            if let Some(step) = step {
-                found.add(self.take_step(step)?);
-            }
-        }
-        Ok(found)
-    }
-
-    fn take_step(&mut self, step: Step) -> Result<Found, Refusal> {
+impl Walk {
+    // Takes a step, if there is one, and looks at all cuts after a sweep.
+    fn take_step(&mut self, step: Option<Step>, found: &mut Found) -> Result<(), Refusal> {
+        let Some(step) = step else {
+            return Ok(());
+        };
         if !is_own(step) {
-            return Ok(Found::nothing());
+            return Ok(());
         }
-        let outcome = self.sim.step(step);
-        if let (Step::Save(number), Ok(_)) = (step, &outcome) {
-            self.note_save(number)?;
-        }
-        match outcome {
-            Ok(Outcome::Answer(Answer::Freed { count, .. })) => {
-                let mut found = self.look_at_cuts()?;
-                found.freed = u64::from(count);
-                Ok(found)
+        match (step, self.sim.step(step)) {
+            (Step::Save(number), Ok(_)) => self.note_save(number),
+            (_, Ok(Outcome::Answer(Answer::Freed { count, .. }))) => {
+                found.freed = found.freed.saturating_add(u64::from(count));
+                self.look_at_cuts(found)
             }
-            _ => Ok(Found::nothing()),
+            _ => Ok(()),
         }
     }
 
@@ -164,26 +140,23 @@ impl Run {
         Ok(())
     }
 
-    fn look_at_cuts(&self) -> Result<Found, Refusal> {
-        let mut found = Found::nothing();
+    fn look_at_cuts(&self, found: &mut Found) -> Result<(), Refusal> {
         for choice in 0_u8..8 {
-            let saved = [choice & 1 != 0, choice & 2 != 0, choice & 4 != 0];
-            found.add(self.look_at(saved)?);
+            self.look_at([choice & 1 != 0, choice & 2 != 0, choice & 4 != 0], found)?;
         }
-        Ok(found)
+        Ok(())
     }
 
     // In one choice of current and saved nodes, whether each reference that is reached names an
     // object that is there.
-    fn look_at(&self, saved: [bool; 3]) -> Result<Found, Refusal> {
-        let mut found = Found::nothing();
+    fn look_at(&self, saved: [bool; 3], found: &mut Found) -> Result<(), Refusal> {
         if self.sim.count() != NODES {
             return Err(Refusal::NoNode);
         }
         for reference in &reach(self.alloc, &self.sim, &saved)? {
             found.count(self.is_there(*reference, &saved));
         }
-        Ok(found)
+        Ok(())
     }
 
     fn is_there(&self, reference: Ref, saved: &[bool]) -> bool {

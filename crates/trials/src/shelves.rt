@@ -1,5 +1,5 @@
 //! A disk, and a shelf over it that keeps the node of the case.
-use crate::case::{Stop, Subject, bytes_of, usize_of};
+use crate::case::{Stop, bytes_of, read};
 use crate::nodes::Nodes;
 use crate::out::Out;
 use disk::{Area, Disk, DiskFault, Shelf, is_blank};
@@ -28,6 +28,17 @@ impl<D: Disk + Drop> Bench<D> {
         Bench {
             nodes: Nodes::new(alloc),
             held: Held::Nothing,
+        }
+    }
+
+    /// Holds the disk, unless it was refused.
+    pub(crate) fn hold(&mut self, disk: Result<D, Refusal>, out: &mut Out) {
+        match disk {
+            Ok(disk) => {
+                self.held = Held::Loose(disk);
+                out.text("ok");
+            }
+            Err(refusal) => out.refused(refusal),
         }
     }
 
@@ -84,27 +95,8 @@ impl<D: Disk + Drop> Bench<D> {
         self.nodes.set(found, out);
         Ok(())
     }
-}
 
-// The disk once a creation of the node was tried, and what it was answered. `BadImage` stands for a
-// disk that isn't blank.
-fn created<D: Disk + Drop>(
-    alloc: Global,
-    mut disk: D,
-    node: &Node,
-) -> (Held<D>, Result<(), Refusal>) {
-    match is_blank(&mut disk) {
-        Ok(true) => match Shelf::create(alloc, disk, node) {
-            Ok(shelf) => (Held::Shelved(shelf), Ok(())),
-            Err((disk, refusal)) => (Held::Loose(disk), Err(refusal)),
-        },
-        Ok(false) => (Held::Loose(disk), Err(Refusal::BadImage)),
-        Err(_) => (Held::Loose(disk), Err(Refusal::Disk)),
-    }
-}
-
-impl<D: Disk + Drop> Subject for Bench<D> {
-    fn take(&mut self, words: &[&str], out: &mut Out) -> Result<(), Stop> {
+    pub(crate) fn take(&mut self, words: &[&str], out: &mut Out) -> Result<(), Stop> {
         match words {
             ["create"] => self.create(out),
             ["open"] => self.open(out),
@@ -124,6 +116,23 @@ impl<D: Disk + Drop> Subject for Bench<D> {
     }
 }
 
+// The disk once a creation of the node was tried, and what it was answered. `BadImage` stands for a
+// disk that isn't blank.
+fn created<D: Disk + Drop>(
+    alloc: Global,
+    mut disk: D,
+    node: &Node,
+) -> (Held<D>, Result<(), Refusal>) {
+    match is_blank(&mut disk) {
+        Ok(true) => match Shelf::create(alloc, disk, node) {
+            Ok(shelf) => (Held::Shelved(shelf), Ok(())),
+            Err((disk, refusal)) => (Held::Loose(disk), Err(refusal)),
+        },
+        Ok(false) => (Held::Loose(disk), Err(Refusal::BadImage)),
+        Err(_) => (Held::Loose(disk), Err(Refusal::Disk)),
+    }
+}
+
 fn refusal_of(_fault: DiskFault) -> Refusal {
     Refusal::Disk
 }
@@ -140,12 +149,12 @@ fn on_disk<D: Disk>(
         ["blank"] => out.answer(is_blank(disk).map_err(refusal_of)),
         ["failures"] => out.show(&disk.failures()),
         ["read", area, at, count] => {
-            let mut into = vec![in alloc; 0; usize_of(count)?]?;
-            put_read(disk, area_of(area)?, usize_of(at)?, &mut into, out);
+            let mut into = vec![in alloc; 0; read(count)?]?;
+            put_read(disk, area_of(area)?, read(at)?, &mut into, out);
         }
         ["write", area, at, digits] => {
             let bytes = bytes_of(alloc, digits)?;
-            let done = write(disk, area_of(area)?, usize_of(at)?, &bytes)?;
+            let done = write(disk, area_of(area)?, read(at)?, &bytes)?;
             out.done(done.map_err(refusal_of));
         }
         _ => return Err(Stop::Unknown),

@@ -1,5 +1,5 @@
 //! Threads that work on one wire at once. What is printed is the same whatever their schedule.
-use crate::case::{Line, Stop, u8_of, u32_of};
+use crate::case::{Line, Stop, read};
 use crate::cells::{Seated, new_cells, new_wire};
 use crate::mailboxes::exchange_frames;
 use crate::out::Out;
@@ -153,8 +153,7 @@ pub(crate) fn run<R: Threads + Sync>(
     out: &mut Out,
 ) -> Result<(), Stop> {
     for line in lines {
-        out.line = line.number;
-        take(rt, alloc, line.words.as_slice(), out)?;
+        take(rt, alloc, out.at(line), out)?;
     }
     Ok(())
 }
@@ -167,13 +166,13 @@ fn take<R: Threads + Sync>(
 ) -> Result<(), Stop> {
     match words {
         ["ring", nodes, letters, turns] => {
-            let Some(shape) = Shape::new(u8_of(nodes)?, 1, 2) else {
+            let Some(shape) = Shape::new(read(nodes)?, 1, 2) else {
                 return Err(Stop::Unknown);
             };
-            let (letters, turns) = (u32_of(letters)?, u32_of(turns)?);
+            let (letters, turns) = (read(letters)?, read(turns)?);
             out.answer(exchange(rt, alloc, shape, letters, turns));
         }
-        ["frames", tries] => out.answer(exchange_frames(rt, alloc, u32_of(tries)?)),
+        ["frames", tries] => out.answer(exchange_frames(rt, alloc, read(tries)?)),
         _ => return Err(Stop::Unknown),
     }
     Ok(())

@@ -1,74 +1,42 @@
 //! Traces of calls.
-use crate::case::{Stop, Subject, u8_of};
+use crate::case::{Line, Stop};
 use crate::events::event_of;
 use crate::out::Out;
 use ids::Refusal;
 use std::alloc::Global;
 use trace::{Call, Outcome, Trace};
 
-/// The refusals, each after the one with the next lower number.
-const REFUSALS: [Refusal; 24] = [
-    Refusal::Memory,
-    Refusal::ArenaFull,
-    Refusal::NoRegister,
-    Refusal::EmptyRegister,
-    Refusal::Remote,
-    Refusal::Local,
-    Refusal::NoNode,
-    Refusal::NoLetter,
-    Refusal::NoField,
-    Refusal::TooManyFields,
-    Refusal::SelfSend,
-    Refusal::LinkSpent,
-    Refusal::CyclesSpent,
-    Refusal::NotDirector,
-    Refusal::CycleRunning,
-    Refusal::NothingToDo,
-    Refusal::OutOfOrder,
-    Refusal::AckBeyond,
-    Refusal::BadFrame,
-    Refusal::WrongNode,
-    Refusal::BadImage,
-    Refusal::ImageTooLarge,
-    Refusal::Disk,
-    Refusal::Closed,
-];
-
-/// The trace of a case, if there was memory for it.
-#[derive(Drop)]
-pub(crate) struct Traces {
-    pub(crate) alloc: Global,
-    pub(crate) trace: Trace,
-}
-
-impl Subject for Traces {
-    fn take(&mut self, words: &[&str], out: &mut Out) -> Result<(), Stop> {
-        match words {
-            ["lines"] => put_lines(self.alloc, &self.trace, out),
-            ["refusals"] => put_refusals(out),
-            ["call", came, words @ ..] => {
-                let outcome = outcome_of(came)?;
-                self.trace.push(call_of(words)?, outcome);
-                out.text("ok");
-            }
-            _ => return Err(Stop::Unknown),
-        }
-        Ok(())
+/// A case over a trace.
+pub(crate) fn run(alloc: Global, lines: &[Line<'_>], out: &mut Out) -> Result<(), Stop> {
+    let Ok(mut trace) = Trace::new(alloc) else {
+        return Err(Stop::Memory);
+    };
+    for line in lines {
+        take(alloc, &mut trace, out.at(line), out)?;
     }
+    Ok(())
 }
 
-// `ok`, `repeat`, or the number of a refusal.
+fn take(alloc: Global, trace: &mut Trace, words: &[&str], out: &mut Out) -> Result<(), Stop> {
+    match words {
+        ["lines"] => put_lines(alloc, trace, out),
+        ["call", came, words @ ..] => {
+            trace.push(call_of(words)?, outcome_of(came)?);
+            out.text("ok");
+        }
+        _ => return Err(Stop::Unknown),
+    }
+    Ok(())
+}
+
 fn outcome_of(word: &str) -> Result<Outcome, Stop> {
     match word {
         "ok" => Ok(Outcome::Done),
         "repeat" => Ok(Outcome::Repeat),
-        number => {
-            let before = u8_of(number)?.wrapping_sub(1);
-            match REFUSALS.get(usize::from(before)) {
-                Some(refusal) => Ok(Outcome::Refused(*refusal)),
-                None => Err(Stop::Unknown),
-            }
-        }
+        "nothing" => Ok(Outcome::Refused(Refusal::NothingToDo)),
+        "register" => Ok(Outcome::Refused(Refusal::NoRegister)),
+        "disk" => Ok(Outcome::Refused(Refusal::Disk)),
+        _ => Err(Stop::Unknown),
     }
 }
 
@@ -93,11 +61,5 @@ fn put_lines(alloc: Global, trace: &Trace, out: &mut Out) {
 pub(crate) fn put_texts(lines: &[String], out: &mut Out) {
     for line in lines {
         out.text(line.as_str());
-    }
-}
-
-fn put_refusals(out: &mut Out) {
-    for refusal in REFUSALS {
-        out.refused(refusal);
     }
 }
