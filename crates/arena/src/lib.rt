@@ -16,8 +16,6 @@ mod entry;
 mod free;
 mod made;
 mod store;
-#[cfg(test)]
-mod tests;
 
 use crate::entry::Entry;
 pub use crate::free::FreeSlots;

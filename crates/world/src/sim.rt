@@ -114,7 +114,7 @@ impl Sim {
     }
 
     /// How many nodes there are.
-    pub(crate) fn count(&self) -> u8
+    pub fn count(&self) -> u8
         ensures { result ≡ length self.now }
     {
         self.sites.len() as u8
