@@ -87,7 +87,7 @@ pub number-append : (f : Message → Bool) (xs ys : List Message)
 number-append f [] ys = omega arith
 number-append f (x ∷ xs) ys = omega (arith, number-append f xs ys)
 
-pub drop-append : (g : ℕ) (xs ys : List Message) → g ≤ length xs → drop g (xs ++ ys) ≡ drop g xs ++ ys
+drop-append : (g : ℕ) (xs ys : List Message) → g ≤ length xs → drop g (xs ++ ys) ≡ drop g xs ++ ys
 drop-append zero xs ys h = refl
 drop-append (suc g) [] ys h = absurd (omega (arith, h))
 drop-append (suc g) (x ∷ xs) ys h =
