@@ -51,3 +51,5 @@ pub mod OldGarbage
 pub mod Things
 pub mod Unseen
 pub mod Doings
+pub mod Telling
+pub mod Seeing

@@ -257,7 +257,7 @@ deliver-answer w m a there h =
     (subst (λ (z : Option Message). outcome_of (given z) ≡ Ok (outcome.Answer a)) there found)
 
 -- a message of which every test passes is refused for its numbers alone
-after-err : (s : NodeState) (r : Result Effect Refusal) (e : Refusal) → after s r ≡ Err e
+pub after-err : (s : NodeState) (r : Result Effect Refusal) (e : Refusal) → after s r ≡ Err e
     → r ≡ Err e
 after-err s (Ok x) e h = absurd cc
 after-err s (Err f) e h = cc
