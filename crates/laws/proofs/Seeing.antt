@@ -5,6 +5,8 @@ use Rattle.std.proofs.Common.{◌≡◌, ◌≢◌, ℕ, ◌+◌, ◌<◌, ◌�
 use Rattle.std.specs.Prelude.{is_some, unwrap_or}
 use Rattle.std.proofs.lemmas.Bool.{cases_Bool, cases_eq, cond_both, cond-true, cond-false, eq-eqb, ne_eqb, eqb-true, eqb-false, and_parts, and_from, not-true}
 use Rattle.std.proofs.Math.Path.{fun_ext}
+use Rattle.std.specs.List.{AllByRecursion}
+use Rattle.model.specs.References.{IfAny}
 use Rattle.ids.specs.Limits.{Shaped}
 use Rattle.ids.specs.declared.names.Ref.{Ref}
 use Rattle.ids.specs.declared.refusal.Refusal.{Refusal}
@@ -18,9 +20,9 @@ use Rattle.model.specs.Checks.{AllPass}
 use Rattle.model.specs.State.{Object, Heap, LocalState, NodeState, slot_at, got_from, sent_to}
 use Rattle.model.specs.Heaps.{is_filled, is_local, named, no_reference, object_at, object_of, place_of, place_loaded}
 use Rattle.model.specs.Effects.{Work, at_rest, Effect}
-use Rattle.model.specs.Counting.{is_reference, append}
-use Rattle.model.specs.Shading.{shade_all}
-use Rattle.model.specs.Steps.{allocated, copied, dropped, stored, cleared, word_read, word_set, accepted, tests, made, is_own, is_addressed, mentioned, target_of, take_body, settled, taken_in, append_all, loaded, given, put_asked, get_asked}
+use Rattle.model.specs.Counting.{is_reference, stamped, append}
+use Rattle.model.specs.Shading.{shade_all, joined}
+use Rattle.model.specs.Steps.{allocated, copied, dropped, stored, cleared, word_read, word_set, accepted, tests, made, is_own, is_addressed, mentioned, target_of, take_carried, count_in, take_body, settled, taken_in, append_all, loaded, given, put_asked, get_asked}
 use Rattle.model.specs.Cuts.{Cut, taken, IsInFlight, Becomes}
 use Rattle.laws.specs.Objects.{Thing, Space, with_messages, is_program, does, follows, arrives}
 use Rattle.laws.specs.Sights.{thing_of, programs}
@@ -32,12 +34,12 @@ use Rattle.laws.proofs.Stands.{own-stands, taken-takes}
 use Rattle.laws.proofs.Base.{first_in_flight}
 use Rattle.laws.proofs.Moves.{worked}
 use Rattle.laws.proofs.OwnEvents.{effect_work}
-use Rattle.laws.proofs.Invariant.{Safe, Inv}
+use Rattle.laws.proofs.Invariant.{phases_of, Safe, BodyFits, Inv}
 use Rattle.laws.proofs.Inner.{occupied-inside}
 use Rattle.laws.proofs.Deliveries.{target-own}
 use Rattle.laws.proofs.Past.{PastAt, Ages, ages-own, ages-taken}
 use Rattle.laws.proofs.GoodHeaps.{own_reference}
-use Rattle.laws.proofs.Things.{Still, quiet-append, posts, posts-append, quiet-posts, sent-posts, drop-first}
+use Rattle.laws.proofs.Things.{Still, still-through, quiet-append, posts, posts-append, quiet-posts, sent-posts, drop-first}
 use Rattle.laws.proofs.Unseen.{none-quiet, calm-shade, before_body, Calm, calm-before, calm-body, unseen-own}
 use Rattle.laws.proofs.Doings.{Here, IsMade, Effects, here-kept, effects-none, effects-behind, Doing, own-does, Following, body-does}
 use Rattle.laws.proofs.Telling.{Ready}
@@ -259,6 +261,24 @@ pub record Taking (shape : Shaped) (s : Space) (c d : Cut) (from to : ℕ) (x : 
         (worked (c to)
         (effect_work (taken_in (c to).local from (taken c from to + 1) x.stamp x.body)))
 
+-- what its body makes the node send goes to the sender
+body-inside : (from stamp : ℕ) (b : Body) (p : LocalState) (k n : ℕ) → from < n → n ≤ k
+    → posts k (take_body from stamp b p).sends ≡ []
+unfolding take_body append
+body-inside from stamp (body.Give label reference) p k n inside past = refl
+body-inside from stamp (body.Put target place reference) p k n inside past = refl
+body-inside from stamp (body.Get target place label) p k n inside past =
+    let v : Option Ref = place_of (object_at p.heap target) place in
+    let w : Work = shade_all (at_rest p) (option_to_list v) in
+    let last : List (ℕ × Message) = (append from (body.Give label v) w.local).sends in
+    posts-append k w.sends last
+    ∙ ap (λ (z : List Body). z ++ posts k last)
+    (quiet-posts k w.sends (calm-shade (at_rest p) (option_to_list v) none-quiet).quiet)
+    ∙ one-inside from (stamped w.local (body.Give label v)) n k inside past
+body-inside from stamp (body.Mark target) p k n inside past =
+    quiet-posts k _ (calm-body from stamp (body.Mark target) p refl).quiet
+body-inside from stamp b p k n inside past = refl
+
 -- how many were taken in afterwards
 module _ {shape : Shaped} {s : Space} {c d : Cut} {from to : ℕ} {x : Message}
     (h : Taking shape s c d from to x) where
@@ -294,3 +314,135 @@ module _ {shape : Shaped} {s : Space} {c d : Cut} {from to : ℕ} {x : Message}
       h.at.same.messages from to
       ∙ ap programs (drop-first (taken c from to) (sent_to (c from) to) x h.flight.there)
       ∙ ap (λ (z : ℕ). programs (x ∷ drop z (sent_to (c from) to))) (sym taken-one)
+
+  -- this link, and all others
+  on-link : (P : ℕ → ℕ → Type 0) → P from to
+      → ((a b : ℕ) → (a ≡ from → b ≢ to) → P a b) → (a b : ℕ) → P a b
+  on-link P here else a b = ⊎_elim {C = P a b}
+      (λ (ea : a ≡ from). ⊎_elim {C = P a b}
+      (λ (eb : b ≡ to).
+      subst (λ (z : ℕ). P z b) (sym ea) (subst (λ (z : ℕ). P from z) (sym eb) here))
+      (λ (nb : b ≢ to). else a b (λ _. nb))
+      (cases_eq b to))
+      (λ (na : a ≢ from). else a b (λ e. absurd (na e)))
+      (cases_eq a from)
+
+  else-same : (a b : ℕ) → (a ≡ from → b ≢ to)
+      → s.under_way a b ≡ programs (drop (taken d a b) (sent_to (c a) b))
+  else-same a b other =
+      h.at.same.messages a b
+      ∙ ap (λ (z : ℕ). programs (drop z (sent_to (c a) b))) (sym (taken-else a b other))
+
+  -- one of the collector's leaves what is under way
+  quiet-stage : is_reference x.body ≡ false → SameAt (taken d) s c
+  quiet-stage none = record {
+    here = h.at.same.here;
+    past = h.at.same.past;
+    messages =
+        on-link (λ a b. s.under_way a b ≡ programs (drop (taken d a b) (sent_to (c a) b)))
+        (first-is ∙ cond-false (is_reference x.body) (x.body ∷ rest) rest none)
+        else-same;
+  }
+
+  -- one of a program leaves it
+  abbrev pub left : Space
+  left = with_messages s from to rest
+
+  left-stage : SameAt (taken d) left c
+  left-stage = record {
+    here = λ i. (let z = h.at.same.here i in record { desk = z.desk; lives = z.lives });
+    past = h.at.same.past;
+    messages =
+        on-link (λ a b. left.under_way a b ≡ programs (drop (taken d a b) (sent_to (c a) b)))
+        (cond-true ((from == from) && (to == to)) rest (s.under_way from to)
+        (and_from (from == from) (to == to) (eq-eqb from from refl) (eq-eqb to to refl)))
+        (λ a b other.
+        cond-false ((a == from) && (b == to)) rest (s.under_way a b)
+        (⊎_elim {C = ((a == from) && (b == to)) ≡ false}
+        (λ (is : a ≡ from).
+        ap (λ (z : Bool). z && (b == to)) (eq-eqb a from is) ∙ ne_eqb b to (other is))
+        (λ (no : a ≢ from). ap (λ (z : Bool). z && (b == to)) (ne_eqb a from no))
+        (cases_eq a from))
+        ∙ else-same a b other);
+  }
+
+  -- what comes before the body is followed isn't seen
+  abbrev first : Work
+  first = before_body (c to).local from (taken c from to + 1) x.stamp x.body
+
+  calm-first : Calm (c to).local.heap first
+  calm-first = calm-before (c to).local from (taken c from to + 1) x.stamp x.body
+
+  following : Following left to x.body first.local
+  following = record {
+    here = here-kept ((left-stage).here to) calm-first.still.kept;
+    own = λ r about.
+        subst (IfAny (λ (z : Ref). z.node ≡ to)) about
+        (target-own shape.nodes c from to x.stamp x.body
+        (h.at.inv.messages.fits from to (taken c from to) x h.flight));
+    there = λ target place label is.
+        (let safe : Safe c target =
+        (subst (λ (z : Body). AllByRecursion (Safe c) (mentioned z)) is
+        (h.at.inv.closed.messages from to (taken c from to) x h.flight)).0 in
+        let own : target.node ≡ to =
+        (subst (λ (z : Body). BodyFits shape.nodes (phases_of c) from to x.stamp z) is
+        (h.at.inv.messages.fits from to (taken c from to) x h.flight)).0 in
+        let later = calm-first.still.lasting target.slot target.generation safe.object
+        (ap (λ (z : ℕ). slot_at (c z).local.heap target.slot) (sym own) ∙ safe.there) in
+        ap (λ (z : Option Object). is_some z)
+        (object-there (slot_at first.local.heap target.slot) target.generation later.0 later.1));
+  }
+
+  -- the step, where the other space becomes t
+  taken-step : {r t : Space} → SameAt (taken d) r c
+      → Effects r t to (take_body from x.stamp x.body first.local).local.heap
+      (take_body from x.stamp x.body first.local).sends
+      → Same t d
+  unfolding taken_in settled
+  taken-step {r = r} {t = t} stage effects =
+      let p : LocalState = (c to).local in
+      let number : ℕ = taken c from to + 1 in
+      let y : Effect = taken_in p from number x.stamp x.body in
+      let done : Work = take_body from x.stamp x.body first.local in
+      let sends : first.sends ++ done.sends ≡ y.sends =
+      append_assoc (joined p x.stamp).sends
+      (take_carried x.stamp x.body
+      (count_in from number x.stamp x.body (joined p x.stamp).local)).sends
+      done.sends in
+      same-step {s = r} {t = t} {q = y.local} {ms = y.sends} (record {
+        becomes = h.becomes;
+        same = stage;
+        effects = subst (Effects r t to y.local.heap) sends
+            (effects-behind first.sends calm-first.quiet effects);
+        ages = ages-taken p from number x.stamp x.body;
+        within = λ k.
+            (let w = h.at.inv.base.within to k in
+            let e : taken d to k ≡ taken c to k =
+            taken-else to k (λ is. absurd (h.apart (sym is))) in
+            omega (arith, w, e));
+        inside = λ k past.
+            (let w = h.at.inv.base.width to h.at.inside in
+            ap (posts k) (sym sends)
+            ∙ posts-append k first.sends done.sends
+            ∙ ap (λ (z : List Body). z ++ posts k done.sends)
+            (quiet-posts k first.sends calm-first.quiet)
+            ∙ body-inside from x.stamp x.body first.local k shape.nodes h.sender
+            (omega (arith, past, w)));
+      })
+
+  -- a message of a program comes
+  pub came-is : is_reference x.body ≡ true → s.under_way from to ≡ x.body ∷ rest
+  came-is is = first-is ∙ cond-true (is_reference x.body) (x.body ∷ rest) rest is
+
+  pub came-same : is_reference x.body ≡ true → Same (arrives s from to (s.under_way from to)) d
+  came-same is =
+      subst (λ (z : List Body). Same (arrives s from to z) d) (sym (came-is is))
+      (taken-step left-stage (body-does from x.stamp x.body first.local is following))
+
+  -- one of the collector isn't seen
+  pub quiet-same : is_reference x.body ≡ false → Same s d
+  quiet-same none =
+      let calm = calm-body from x.stamp x.body first.local none in
+      taken-step (quiet-stage none)
+      (effects-none
+      (here-kept (h.at.same.here to) (still-through calm-first.still calm.still).kept) calm.quiet)
