@@ -1,8 +1,8 @@
 -- What a node does, and what the same event or message does in a space without a collector: each
 -- event of a program, and the receipt of each message.
-use Rattle.std.proofs.Common.{◌≡◌, ◌≢◌, ℕ, Bool, true, false, cond, ◌==◌, ◌&&◌, List, [], ◌∷◌, ◌++◌, ◌⊎◌, get_or, set, Option, None, Some, option_to_list, refl, sym, ap, ◌∙◌, subst, ⊎_elim, inl, inr, append-nil, append_assoc}
+use Rattle.std.proofs.Common.{◌≡◌, ◌≢◌, ℕ, Bool, true, cond, ◌==◌, ◌&&◌, List, [], ◌∷◌, ◌++◌, ◌⊎◌, set, Option, None, Some, option_to_list, refl, sym, ap, ◌∙◌, subst, ⊎_elim, inl, inr, append-nil}
 use Rattle.std.specs.Prelude.{is_some, option_map}
-use Rattle.std.proofs.lemmas.Bool.{cases_Bool, cases_eq, cond_both, cond-true, cond-false, eq-eqb, ne_eqb, eqb-true, and_from, false_from_ne_true}
+use Rattle.std.proofs.lemmas.Bool.{cases_eq, cond_both, cond-true, cond-false, eq-eqb, ne_eqb, eqb-true, and_from, false_from_ne_true}
 use Rattle.ids.specs.declared.names.Ref.{Ref}
 use Rattle.msg.specs.declared.body.Body.{Body}
 use Rattle.msg.specs.declared.body.Body.TheVariants as body
@@ -22,7 +22,7 @@ use Rattle.laws.specs.Sights.{thing_of, programs}
 use Rattle.model.proofs.Slots.{found-object}
 use Rattle.laws.proofs.Slots.{object-where, object-placed}
 use Rattle.laws.proofs.Invariant.{FreeSlots}
-use Rattle.laws.proofs.Past.{PastAt, occupied-past, new-not_past, Ages, ages-own}
+use Rattle.laws.proofs.Past.{PastAt, occupied-past, new-not_past}
 use Rattle.laws.proofs.GoodHeaps.{own_reference}
 use Rattle.laws.proofs.Meets.{same-is, is-same}
 use Rattle.laws.proofs.Things.{desk_of, Kept, kept-desk, LivesIn, lives-rewritten, rewriting-back, posts, posts-append, IsQuiet, quiet-posts, quiet-append}

@@ -1,15 +1,14 @@
 -- A space without a collector stays beside a cut as the cut takes a plain step: the same registers
 -- and letters, the same messages of programs under way, and the same in every object that its node
 -- still has.
-use Rattle.std.proofs.Common.{◌≡◌, ◌≢◌, ℕ, ◌+◌, ◌<◌, ◌≤◌, ◌⊎◌, Bool, true, false, cond, ◌==◌, ◌&&◌, eqb, List, [], ◌∷◌, ◌++◌, length, map, drop, get_or, set, Option, None, Some, option_to_list, refl, sym, ap, ◌∙◌, subst, ⊎_elim, inl, inr, arith, append-nil, append_assoc, get_or-set_same, get_or-set_other, ltb-true}
-use Rattle.std.specs.Prelude.{is_some, unwrap_or}
-use Rattle.std.proofs.lemmas.Bool.{cases_Bool, cases_eq, cond_both, cond-true, cond-false, eq-eqb, ne_eqb, eqb-true, eqb-false, and_parts, and_from, not-true}
+use Rattle.std.proofs.Common.{◌≡◌, ◌≢◌, ℕ, ◌+◌, ◌<◌, ◌≤◌, Bool, true, false, ◌==◌, ◌&&◌, eqb, List, [], ◌∷◌, ◌++◌, length, map, drop, get_or, set, Option, option_to_list, refl, sym, ap, ◌∙◌, subst, ⊎_elim, arith, append_assoc, get_or-set_same, get_or-set_other, ltb-true}
+use Rattle.std.specs.Prelude.{is_some}
+use Rattle.std.proofs.lemmas.Bool.{cases_eq, cond-true, cond-false, eq-eqb, ne_eqb, eqb-true, and_from}
 use Rattle.std.proofs.Math.Path.{fun_ext}
 use Rattle.std.specs.List.{AllByRecursion}
 use Rattle.model.specs.References.{IfAny}
 use Rattle.ids.specs.Limits.{Shaped}
 use Rattle.ids.specs.declared.names.Ref.{Ref}
-use Rattle.ids.specs.declared.refusal.Refusal.{Refusal}
 use Rattle.msg.specs.declared.body.Body.{Body}
 use Rattle.msg.specs.declared.body.Body.TheVariants as body
 use Rattle.msg.specs.declared.body.Message.{Message}
@@ -17,21 +16,20 @@ use Rattle.model.specs.declared.event.Event.{Event}
 use Rattle.model.specs.declared.event.Event.TheVariants as event
 use Rattle.model.specs.declared.event.Answer.{Answer}
 use Rattle.model.specs.Checks.{AllPass}
-use Rattle.model.specs.State.{Object, Heap, LocalState, NodeState, slot_at, got_from, sent_to}
-use Rattle.model.specs.Heaps.{is_filled, is_local, named, no_reference, object_at, object_of, place_of, place_loaded}
+use Rattle.model.specs.State.{Object, LocalState, NodeState, slot_at, got_from, sent_to}
+use Rattle.model.specs.Heaps.{is_filled, named, no_reference, object_at, place_of, place_loaded}
 use Rattle.model.specs.Effects.{Work, at_rest, Effect}
 use Rattle.model.specs.Counting.{is_reference, stamped, append}
 use Rattle.model.specs.Shading.{shade_all, joined}
-use Rattle.model.specs.Steps.{allocated, copied, dropped, stored, cleared, word_read, word_set, accepted, tests, made, is_own, is_addressed, mentioned, target_of, take_carried, count_in, take_body, settled, taken_in, append_all, loaded, given, put_asked, get_asked}
+use Rattle.model.specs.Steps.{allocated, copied, dropped, stored, cleared, word_read, word_set, accepted, tests, made, is_own, mentioned, take_carried, count_in, take_body, settled, taken_in, append_all, loaded, given, put_asked, get_asked}
 use Rattle.model.specs.Cuts.{Cut, taken, IsInFlight, Becomes}
-use Rattle.laws.specs.Objects.{Thing, Space, with_messages, is_program, does, follows, arrives}
-use Rattle.laws.specs.Sights.{thing_of, programs}
+use Rattle.laws.specs.Objects.{Space, with_messages, is_program, does, arrives}
+use Rattle.laws.specs.Sights.{programs}
 use Rattle.model.proofs.Slots.{object-there}
-use Rattle.laws.proofs.Lookups.{any-some, any-there}
-use Rattle.laws.proofs.StepFacts.{Stepped, tests_of}
+use Rattle.laws.proofs.Lookups.{any-there}
+use Rattle.laws.proofs.StepFacts.{Stepped}
 use Rattle.laws.proofs.Turns.{at_becomes}
 use Rattle.laws.proofs.Stands.{own-stands, taken-takes}
-use Rattle.laws.proofs.Base.{first_in_flight}
 use Rattle.laws.proofs.Moves.{worked}
 use Rattle.laws.proofs.OwnEvents.{effect_work}
 use Rattle.laws.proofs.Invariant.{phases_of, Safe, BodyFits, Inv}
@@ -39,7 +37,7 @@ use Rattle.laws.proofs.Inner.{occupied-inside}
 use Rattle.laws.proofs.Deliveries.{target-own}
 use Rattle.laws.proofs.Past.{PastAt, Ages, ages-own, ages-taken}
 use Rattle.laws.proofs.GoodHeaps.{own_reference}
-use Rattle.laws.proofs.Things.{Still, still-through, quiet-append, posts, posts-append, quiet-posts, sent-posts, drop-first}
+use Rattle.laws.proofs.Things.{still-through, quiet-append, posts, posts-append, quiet-posts, sent-posts, drop-first}
 use Rattle.laws.proofs.Unseen.{none-quiet, calm-shade, before_body, Calm, calm-before, calm-body, unseen-own}
 use Rattle.laws.proofs.Doings.{Here, IsMade, Effects, here-kept, effects-none, effects-behind, Doing, own-does, Following, body-does}
 use Rattle.laws.proofs.Telling.{Ready}

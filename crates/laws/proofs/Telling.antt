@@ -1,19 +1,17 @@
 -- What a program is told of its events it may be told in a space without a collector: the tests are
 -- the same, since what a register names is there.
-use Rattle.std.proofs.Common.{◌≡◌, ℕ, Bool, true, false, cond, ◌==◌, ◌⊎◌, List, [], ◌∷◌, ◌++◌, length, map, Option, Some, Result, Ok, Err, refl, sym, ap, ◌∙◌, subst, ⊎_elim, inl, inr}
+use Rattle.std.proofs.Common.{◌≡◌, ℕ, Bool, true, false, ◌==◌, ◌⊎◌, List, [], ◌∷◌, ◌++◌, length, map, Option, Ok, Err, refl, sym, ap, ◌∙◌, subst, ⊎_elim, inl, inr}
 use Rattle.std.specs.Prelude.{is_some, not, nat_lt, nat_le}
-use Rattle.ids.specs.Limits.{Shaped}
 use Rattle.ids.specs.declared.limits.TheConstants.{GREATEST_PLACES}
 use Rattle.ids.specs.declared.refusal.Refusal.{Refusal}
 use Rattle.ids.specs.declared.refusal.Refusal.TheVariants.{ArenaFull, EmptyRegister, NoField, NoNode, NoRegister, Remote, SelfSend, TooManyFields, LinkSpent}
 use Rattle.model.specs.declared.event.Event.{Event}
 use Rattle.model.specs.declared.event.Event.TheVariants as event
 use Rattle.model.specs.Checks.{guarded, AllPass}
-use Rattle.model.specs.State.{Object, Heap, LocalState, NodeState}
+use Rattle.model.specs.State.{Heap, LocalState, NodeState}
 use Rattle.model.specs.Heaps.{is_register, is_filled, is_local, has_slot, has_place, named, object_at, copy_tests, drop_tests, word_tests, register_tests, put_tests, get_tests, accept_tests}
-use Rattle.model.specs.Steps.{tests, made, fits, all_tests, checked, act, allocated, copied, dropped, loaded, stored, cleared, word_read, word_set, given, accepted, put_asked, get_asked}
+use Rattle.model.specs.Steps.{tests, made, fits, all_tests, checked, act, allocated, copied, dropped, stored, cleared, word_read, word_set, accepted}
 use Rattle.laws.specs.Objects.{Thing, Space, object_in, has_that, is_program, object_tests, checks, IsLimit, IsTold}
-use Rattle.laws.specs.Sights.{thing_of}
 use Rattle.model.proofs.Checks.{guarded-pass, guarded-passes}
 use Rattle.laws.proofs.StepFacts.{after-err}
 use Rattle.laws.proofs.Doings.{Here, thing-has, thing-there, object-same, Doing, own-answers}

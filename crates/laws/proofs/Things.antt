@@ -1,7 +1,7 @@
 -- What a space without a collector sees of a heap, and of the messages that a node sends.
-use Rattle.std.proofs.Common.{◌≡◌, ◌≢◌, ℕ, zero, suc, ◌+◌, ◌<◌, ◌≤◌, Bool, true, false, cond, ◌==◌, ◌&&◌, eqb, List, [], ◌∷◌, ◌++◌, length, length-set, map, drop, get_or, set, Option, None, Some, slice_get, refl, sym, ap, ◌∙◌, subst, ⊎_elim, inl, inr, arith, append-nil, append_assoc, get_or-set_same, get_or-set_other}
+use Rattle.std.proofs.Common.{◌≡◌, ◌≢◌, ℕ, zero, suc, ◌+◌, ◌<◌, ◌≤◌, Bool, false, cond, ◌==◌, ◌&&◌, eqb, List, [], ◌∷◌, ◌++◌, length, length-set, map, drop, get_or, set, Option, None, Some, slice_get, refl, sym, ap, ◌∙◌, subst, ⊎_elim, inl, inr, arith, append-nil, append_assoc, get_or-set_same, get_or-set_other}
 use Rattle.std.specs.Prelude.{filter, option_map}
-use Rattle.std.proofs.lemmas.Bool.{cases_Bool, cases_eq, cases_lt, cond_both, cond-true, cond-false, eqb-true, eqb-false, eq-eqb, ne_eqb, and_parts, and_from}
+use Rattle.std.proofs.lemmas.Bool.{cases_Bool, cases_eq, cases_lt, cond_both, cond-true, cond-false, eq-eqb, ne_eqb}
 use Rattle.std.proofs.lemmas.List.{get_or_past, map-append, drop-append-le}
 use Rattle.std.proofs.lemmas.List.Elements.{filter-append}
 use Rattle.ids.specs.declared.names.Ref.{Ref}
@@ -13,14 +13,14 @@ use Rattle.model.specs.Counting.{is_reference}
 use Rattle.model.specs.Shading.{is_unmarked, with_mark, make_grey, make_all_grey, is_same}
 use Rattle.model.specs.Steps.{append_all}
 use Rattle.model.specs.Cuts.{Among}
-use Rattle.laws.specs.Objects.{Thing, Space, with_thing, rewriting}
+use Rattle.laws.specs.Objects.{Thing, Space, rewriting}
 use Rattle.laws.specs.Sights.{thing_of, body_of, programs}
-use Rattle.model.proofs.Slots.{occupied-within, same-object, found-object}
+use Rattle.model.proofs.Slots.{occupied-within}
 use Rattle.laws.proofs.Lookups.{among-append}
 use Rattle.laws.proofs.StepFacts.{length-append_all}
 use Rattle.laws.proofs.Slots.{rewritten-back, rewritten-rewrites}
 use Rattle.laws.proofs.GoodHeaps.{own_reference}
-use Rattle.laws.proofs.Meets.{same-is, is-same}
+use Rattle.laws.proofs.Meets.{same-is}
 
 -- ---- heaps
 

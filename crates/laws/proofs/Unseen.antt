@@ -1,7 +1,7 @@
 -- What no space without a collector sees: shading, vouching, joining, the collector's own steps and
 -- its messages. They leave registers, letters and objects as they are, but that a sweep takes some
 -- objects away; and they send no message of a program.
-use Rattle.std.proofs.Common.{◌≡◌, ℕ, ◌+◌, ◌==◌, true, false, cond, List, [], ◌∷◌, ◌++◌, option_to_list, refl, sym, ap, ◌∙◌, subst, ⊎_elim, inl, inr, ltb}
+use Rattle.std.proofs.Common.{◌≡◌, ℕ, ◌+◌, ◌==◌, true, false, List, [], ◌∷◌, ◌++◌, refl, sym, ap, ◌∙◌, subst, ⊎_elim, inl, inr, ltb}
 use Rattle.std.proofs.lemmas.Bool.{cases_Bool, cond_both}
 use Rattle.ids.specs.declared.names.Ref.{Ref}
 use Rattle.msg.specs.declared.body.Body.{Body}
@@ -12,11 +12,10 @@ use Rattle.model.specs.declared.event.Event.TheVariants as event
 use Rattle.model.specs.declared.event.Answer.TheVariants as answer
 use Rattle.model.specs.State.{Heap, LocalState, slot_at}
 use Rattle.model.specs.Effects.{Work, at_rest, then, Effect, answers}
-use Rattle.model.specs.Counting.{is_reference, stamped, append, announce, to_others}
-use Rattle.model.specs.Shading.{is_open, shade, shade_all, vouch_all, filled, roots, enter, join, joined, last_grey, without_last_grey, mark_for, marks_for, unasked}
+use Rattle.model.specs.Counting.{is_reference, append, announce, to_others}
+use Rattle.model.specs.Shading.{is_open, shade_all, vouch_all, filled, roots, enter, join, joined, last_grey, without_last_grey, marks_for, unasked}
 use Rattle.model.specs.Collecting.{without_token, is_concluded, probe, begun, places_in, scan, scanned, conclude, judged, handed_on, passed, reports_sweep, looked_at, swept_slots}
-use Rattle.model.specs.Steps.{is_own, made, carried, count_in, take_carried, take_body, settled, taken_in}
-use Rattle.model.specs.Cuts.{Among}
+use Rattle.model.specs.Steps.{is_own, made, carried, count_in, take_carried, take_body}
 use Rattle.laws.specs.Objects.{is_program}
 use Rattle.model.proofs.ShadingParts.{shade_all-closed, shade_all-open, vouch_all-closed, vouch_all-open}
 use Rattle.laws.proofs.Meets.{marks-from}
