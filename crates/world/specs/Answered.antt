@@ -5,12 +5,12 @@ use Rattle.ids.specs.declared.refusal.Refusal.{Refusal}
 use Rattle.ids.specs.declared.refusal.Refusal.TheVariants.{Memory, ImageTooLarge}
 use Rattle.model.specs.declared.step.Step.{Step}
 use Rattle.model.specs.declared.step.Outcome.{Outcome}
-use Rattle.model.specs.World.{World, FollowsStep, new_world, happens, run}
+use Rattle.model.specs.World.{World, new_world, happens, run}
 use Rattle.model.specs.Cuts.{cut}
 use Rattle.laws.specs.Objects.{new_space, Sight, IsRun, after}
 use Rattle.laws.specs.Sights.{seen, at_first, LooksLike}
 use Rattle.world.specs.Sites.{SiteView}
-use Rattle.world.specs.Shows.{ShowsWorld}
+use Rattle.world.specs.Shows.{ShowsWorld, FollowsShown}
 
 -- a call of `Sim::step`: the step, what was answered, and the space of the code then
 pub record Call : Type 0 where
@@ -18,12 +18,11 @@ pub record Call : Type 0 where
   pub result : Result Outcome Refusal
   pub sites : List SiteView
 
--- calls one after another, of which each keeps what the contract says (`follows`)
+-- calls one after another, of each of which the contract of `Sim::step` says so much (`follows`)
 abbrev pub AreCalls : List SiteView → List Call → Type 0
 AreCalls old [] = Unit {0}
 AreCalls old (k ∷ ks) =
-    ((w : World) → ShowsWorld old w → FollowsStep ShowsWorld w k.step k.result k.sites)
-    × AreCalls k.sites ks
+    FollowsShown k.result old k.sites k.step × AreCalls k.sites ks
 
 -- the space of the code after them
 abbrev pub sites_after : List SiteView → List Call → List SiteView
