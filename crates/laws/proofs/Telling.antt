@@ -11,7 +11,7 @@ use Rattle.model.specs.Checks.{guarded, AllPass}
 use Rattle.model.specs.State.{Heap, LocalState, NodeState}
 use Rattle.model.specs.Heaps.{is_register, is_filled, is_local, has_slot, has_place, named, object_at, copy_tests, drop_tests, word_tests, register_tests, put_tests, get_tests, accept_tests}
 use Rattle.model.specs.Steps.{tests, made, fits, all_tests, checked, act, allocated, copied, dropped, stored, cleared, word_read, word_set, accepted}
-use Rattle.laws.specs.Objects.{Thing, Space, object_in, has_that, is_program, object_tests, checks, IsLimit, IsTold}
+use Rattle.laws.specs.Objects.{Thing, Space, object_in, has_that, is_program, own_tests, checks, IsLimit, IsTold}
 use Rattle.model.proofs.Checks.{guarded-pass, guarded-passes}
 use Rattle.laws.proofs.StepFacts.{after-err}
 use Rattle.laws.proofs.Doings.{Here, thing-has, thing-there, object-same, Doing, own-answers}
@@ -80,17 +80,21 @@ some-same {p = p} object x filled own =
     (object-same object x.here own (x.there object filled own))
     ∙ thing-there (object_at p.heap (named p.heap object)))
 
+-- the same of a heap
+abbrev own_of : ℕ → Heap → ℕ → Bool → List (Bool × Refusal)
+own_of i h object passes = (is_local i h object, Remote) ∷ (passes, NoField) ∷ []
+
 word-alike : {s : Space} (p : LocalState) (object : ℕ) → Ready s p
     → Alike (word_tests p.own p.heap object)
     (drop_tests (s.desk p.own) object
-    ++ object_tests p.own (s.desk p.own) object (is_some (object_in s p.own object)))
+    ++ own_tests s p.own object (is_some (object_in s p.own object)))
 word-alike {s = s} p object x =
     let b : Bool = is_some (object_in s p.own object) in
     alike-last
     (drop_tests p.heap object ++ (is_local p.own p.heap object, Remote) ∷ []) _ b NoField
     (λ passed. some-same object x passed.1.0 passed.1.1.0)
     ∙ ap (λ (z : Heap). guarded {A = Unit {0}}
-    (drop_tests z object ++ object_tests p.own z object b) tt) (sym x.here.desk)
+    (drop_tests z object ++ own_of p.own z object b) tt) (sym x.here.desk)
 
 -- the tests but those of a limit: that a slot is to be had, and that messages get numbers
 abbrev tested : LocalState → Event → List (Bool × Refusal)
@@ -115,7 +119,7 @@ tested-pass p (event.Alloc register places) passed = (passed.0, (passed.1.0, tt)
 tested-pass p e passed = passed
 
 tests-alike : {s : Space} (p : LocalState) (e : Event) → is_program e ≡ true → Ready s p
-    → Alike (tested p e) (checks p.shape.nodes s p.own e)
+    → Alike (tested p e) (checks s p.own p.shape.nodes e)
 tests-alike p (event.Alloc register places) is x =
     ap (λ (z : Heap). guarded {A = Unit {0}}
     ((is_register z register, NoRegister) ∷ (nat_le places GREATEST_PLACES, TooManyFields) ∷ [])
@@ -130,7 +134,7 @@ tests-alike {s = s} p (event.Load register object place) is x =
     (copy_tests p.heap register object ++ (is_local p.own p.heap object, Remote) ∷ []) _ b NoField
     (λ passed. has-same object place x passed.1.1.0 passed.1.1.1.0)
     ∙ ap (λ (z : Heap). guarded {A = Unit {0}}
-    (copy_tests z register object ++ object_tests p.own z object b) tt) (sym x.here.desk)
+    (copy_tests z register object ++ own_of p.own z object b) tt) (sym x.here.desk)
 tests-alike {s = s} p (event.Store object place register) is x =
     let b : Bool = has_that (object_in s p.own object) place in
     let first : Heap → List (Bool × Refusal) =
@@ -142,7 +146,7 @@ tests-alike {s = s} p (event.Store object place register) is x =
     ∷ [] in
     alike-last (first p.heap ++ (is_local p.own p.heap object, Remote) ∷ []) _ b NoField
     (λ passed. has-same object place x passed.1.1.0 passed.1.1.1.1.0)
-    ∙ ap (λ (z : Heap). guarded {A = Unit {0}} (first z ++ object_tests p.own z object b) tt)
+    ∙ ap (λ (z : Heap). guarded {A = Unit {0}} (first z ++ own_of p.own z object b) tt)
     (sym x.here.desk)
 tests-alike {s = s} p (event.Clear object place) is x =
     let b : Bool = has_that (object_in s p.own object) place in
@@ -150,7 +154,7 @@ tests-alike {s = s} p (event.Clear object place) is x =
     (drop_tests p.heap object ++ (is_local p.own p.heap object, Remote) ∷ []) _ b NoField
     (λ passed. has-same object place x passed.1.0 passed.1.1.0)
     ∙ ap (λ (z : Heap). guarded {A = Unit {0}}
-    (drop_tests z object ++ object_tests p.own z object b) tt) (sym x.here.desk)
+    (drop_tests z object ++ own_of p.own z object b) tt) (sym x.here.desk)
 tests-alike p (event.Word object) is x = word-alike p object x
 tests-alike p (event.SetWord object word) is x = word-alike p object x
 tests-alike p (event.Give to label register) is x =
@@ -171,9 +175,9 @@ tests-alike p e never x = absurd cc
 -- an answer
 pub told-ok : {s : Space} (p : LocalState) (counts : List ℕ) (e : Event) → is_program e ≡ true
     → Ready s p → Doing s p e
-    → IsTold p.shape.nodes s p.own e (Ok (made p counts e).answer)
+    → IsTold s p.own p.shape.nodes e (Ok (made p counts e).answer)
 told-ok {s = s} p counts e is x d = (
-  alike-pass (tested p e) (checks p.shape.nodes s p.own e) (tests-alike p e is x)
+  alike-pass (tested p e) (checks s p.own p.shape.nodes e) (tests-alike p e is x)
       (tested-pass p e d.passed),
   own-answers p counts e is d,
 )
@@ -211,17 +215,17 @@ limit-refused p counts e r is h = never-refused _ r h
 -- a refusal
 pub told-err : {s : Space} (n : NodeState) (e : Event) (r : Refusal) → is_program e ≡ true
     → Ready s n.local → act n e ≡ Err r
-    → IsTold n.local.shape.nodes s n.local.own e (Err r)
+    → IsTold s n.local.own n.local.shape.nodes e (Err r)
 unfolding act
 told-err {s = s} n e r is x refused =
     let p : LocalState = n.local in
     let counts : List ℕ = map length n.sent in
     let all = after-err n (checked (tests p e) counts (made p counts e)) r refused in
     let alike = tests-alike p e is x in
-    ⊎_elim {C = IsTold p.shape.nodes s p.own e (Err r)}
-    (λ first. inl (alike-refuse (tested p e) (checks p.shape.nodes s p.own e) _ s r alike first))
+    ⊎_elim {C = IsTold s p.own p.shape.nodes e (Err r)}
+    (λ first. inl (alike-refuse (tested p e) (checks s p.own p.shape.nodes e) _ s r alike first))
     (λ last. inr (
-      alike-pass (tested p e) (checks p.shape.nodes s p.own e) alike last.0,
+      alike-pass (tested p e) (checks s p.own p.shape.nodes e) alike last.0,
       limit-refused p counts e r is last.1,
     ))
     (refused-by (tested p e) (limits p counts e) (made p counts e) r

@@ -141,10 +141,10 @@ at-node w choice i h same within = record {
 -- what is told at a node of the cut
 told-at : {shape : Shaped} {s : Space} {c : Cut} {i : ℕ} (e : Event)
     (r : Result Answer Refusal) → At shape s c i
-    → IsTold (c i).local.shape.nodes s (c i).local.own e r → IsTold shape.nodes s i e r
+    → IsTold s (c i).local.own (c i).local.shape.nodes e r → IsTold s i shape.nodes e r
 told-at {shape = shape} {s = s} {c = c} {i = i} e r at h =
-    subst (λ (z : ℕ). IsTold shape.nodes s z e r) (at.inv.base.own i at.inside)
-    (subst (λ (z : Shaped). IsTold z.nodes s (c i).local.own e r)
+    subst (λ (z : ℕ). IsTold s z shape.nodes e r) (at.inv.base.own i at.inside)
+    (subst (λ (z : Shaped). IsTold s (c i).local.own z.nodes e r)
     (at.inv.base.shapes i at.inside) h)
 
 answer-seen : {shape : Shaped} {s : Space} {w : World} {choice : ℕ → Bool} {i : ℕ} {e : Event}
@@ -178,7 +178,7 @@ answer-seen {shape = shape} {s = s} {w = w} {choice = choice} {i = i} {e = e} t 
         (
           at.inside,
           is,
-          subst (λ (z : Answer). IsTold shape.nodes s i e (Ok z)) (sym found.answer)
+          subst (λ (z : Answer). IsTold s i shape.nodes e (Ok z)) (sym found.answer)
               (told-at e (Ok (made p counts e).answer) at
               (told-ok p counts e is (ready at) (doing at found.passed))),
         ),

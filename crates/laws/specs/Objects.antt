@@ -42,10 +42,6 @@ new_space shape = record {
 
 -- ---- reading
 
--- the object that a register names, if one was made under what the register holds
-abbrev pub object_in : Space → ℕ → ℕ → Option Thing
-object_in s i register = s.objects (named (s.desk i) register)
-
 abbrev pub has_that : Option Thing → ℕ → Bool
 has_that None place = false
 has_that (Some o) place = nat_lt place (length o.places)
@@ -97,57 +93,6 @@ is_program (event.Data d) = false
 is_program (event.Ack a) = false
 is_program e = true
 
--- the object that a register names is the node's own, and passes a test
-abbrev pub object_tests : ℕ → Heap → ℕ → Bool → List (Bool × Refusal)
-object_tests i h object passes = (is_local i h object, Remote) ∷ (passes, NoField) ∷ []
-
--- The tests of an event of node i, each with its refusal, in order: those that a node makes, but
--- that a slot is to be had. That an object was freed is none of them.
-abbrev pub checks : ℕ → Space → ℕ → Event → List (Bool × Refusal)
-checks nodes s i (event.Alloc register places) =
-    (is_register (s.desk i) register, NoRegister)
-    ∷ (nat_le places GREATEST_PLACES, TooManyFields) ∷ []
-checks nodes s i (event.Copy register source) = copy_tests (s.desk i) register source
-checks nodes s i (event.Drop register) = drop_tests (s.desk i) register
-checks nodes s i (event.Load register object place) =
-    copy_tests (s.desk i) register object
-    ++ object_tests i (s.desk i) object (has_that (object_in s i object) place)
-checks nodes s i (event.Store object place register) =
-    (is_register (s.desk i) object, NoRegister)
-    ∷ (is_register (s.desk i) register, NoRegister)
-    ∷ (is_filled (s.desk i) object, EmptyRegister)
-    ∷ (is_filled (s.desk i) register, EmptyRegister)
-    ∷ object_tests i (s.desk i) object (has_that (object_in s i object) place)
-checks nodes s i (event.Clear object place) =
-    drop_tests (s.desk i) object
-    ++ object_tests i (s.desk i) object (has_that (object_in s i object) place)
-checks nodes s i (event.Word object) =
-    drop_tests (s.desk i) object
-    ++ object_tests i (s.desk i) object (is_some (object_in s i object))
-checks nodes s i (event.SetWord object word) =
-    drop_tests (s.desk i) object
-    ++ object_tests i (s.desk i) object (is_some (object_in s i object))
-checks nodes s i (event.Give to label register) =
-    (nat_lt to nodes, NoNode) ∷ (not (to == i), SelfSend) ∷ register_tests (s.desk i) register
-checks nodes s i (event.Accept register) = accept_tests (s.desk i) register
-checks nodes s i (event.Put object place register) = put_tests i (s.desk i) object place register
-checks nodes s i (event.Get object place label) = get_tests i (s.desk i) object place
-checks nodes s i e = []
-
--- What an event that passes them may be answered. A new object gets any reference of its node under
--- which none was made; of a message's number nothing is said.
-abbrev pub IsAnswer : Space → ℕ → Event → Answer → Type 0
-IsAnswer s i (event.Alloc register places) a =
-    (r : Ref) × (a ≡ answer.New r) × (r.node ≡ i) × (s.objects r ≡ None)
-IsAnswer s i (event.Load register object place) a =
-    a ≡ answer.Value (stands_in (object_in s i object) place)
-IsAnswer s i (event.Word object) a = a ≡ answer.Word (word_in (object_in s i object))
-IsAnswer s i (event.Give to label register) a = (number : ℕ) × (a ≡ answer.Sent number)
-IsAnswer s i (event.Accept register) a = a ≡ answer.Letter (oldest_letter (s.desk i))
-IsAnswer s i (event.Put object place register) a = (number : ℕ) × (a ≡ answer.Sent number)
-IsAnswer s i (event.Get object place label) a = (number : ℕ) × (a ≡ answer.Sent number)
-IsAnswer s i e a = a ≡ answer.Done
-
 -- Limits of the nodes that this space lacks: an Alloc may find no slot, and a message that an event
 -- sends, or that shading what a Load reads sends, no number.
 abbrev pub IsLimit : Event → Refusal → Type 0
@@ -158,14 +103,7 @@ IsLimit (event.Put object place register) e = e ≡ LinkSpent
 IsLimit (event.Get object place label) e = e ≡ LinkSpent
 IsLimit event e = ⊥
 
--- what the program of node i may be told of an event: an answer, where every test passes; the
--- refusal of the first that fails; or, where none fails, that of a limit
-abbrev pub IsTold : ℕ → Space → ℕ → Event → Result Answer Refusal → Type 0
-IsTold nodes s i e (Ok a) = AllPass (checks nodes s i e) × IsAnswer s i e a
-IsTold nodes s i e (Err r) =
-    (guarded (checks nodes s i e) s ≡ Err r) ⊎ (AllPass (checks nodes s i e) × IsLimit e r)
-
--- the new object's reference
+-- the new object's reference, in an answer
 abbrev pub new_in : Answer → Ref
 new_in (answer.New r) = r
 new_in a = no_reference
@@ -173,29 +111,91 @@ new_in a = no_reference
 abbrev pub new_thing : ℕ → Thing
 new_thing places = record { word = 0; places = replicate places None }
 
--- what an event that was answered does
-abbrev pub does : Space → ℕ → Event → Answer → Space
-does s i (event.Alloc register places) a =
-    with_desk (with_thing s (new_in a) (Some (new_thing places))) i
-    (with_register (s.desk i) register (Some (new_in a)))
-does s i (event.Copy register source) a =
-    with_desk s i (register_copied (s.desk i) register source)
-does s i (event.Drop register) a = with_desk s i (with_register (s.desk i) register None)
-does s i (event.Load register object place) a =
-    with_desk s i (with_register (s.desk i) register (stands_in (object_in s i object) place))
-does s i (event.Store object place register) a =
-    with_place s (named (s.desk i) object) place (register_at (s.desk i) register)
-does s i (event.Clear object place) a = with_place s (named (s.desk i) object) place None
-does s i (event.SetWord object word) a = with_word s (named (s.desk i) object) word
-does s i (event.Give to label register) a =
-    posted s i to (body.Give label (register_at (s.desk i) register))
-does s i (event.Accept register) a = with_desk s i (letter_taken (s.desk i) register)
-does s i (event.Put object place register) a =
-    posted s i (named (s.desk i) object).node
-    (body.Put (named (s.desk i) object) place (register_at (s.desk i) register))
-does s i (event.Get object place label) a =
-    posted s i (named (s.desk i) object).node (body.Get (named (s.desk i) object) place label)
-does s i e a = s
+-- the program of node i
+module _ (s : Space) (i : ℕ) where
+  -- what a register holds; what it names; the object that was made under that, if one was
+  abbrev pub held : ℕ → Option Ref
+  held register = register_at (s.desk i) register
+
+  abbrev pub named_by : ℕ → Ref
+  named_by register = named (s.desk i) register
+
+  abbrev pub object_in : ℕ → Option Thing
+  object_in register = s.objects (named_by register)
+
+  -- the object is the node's own, and passes a test
+  abbrev pub own_tests : ℕ → Bool → List (Bool × Refusal)
+  own_tests object passes = (is_local i (s.desk i) object, Remote) ∷ (passes, NoField) ∷ []
+
+  -- The tests of an event, each with its refusal, in order: those that a node makes, but that a
+  -- slot is to be had. That an object was freed is none of them.
+  abbrev pub checks : ℕ → Event → List (Bool × Refusal)
+  checks nodes (event.Alloc register places) =
+      (is_register (s.desk i) register, NoRegister)
+      ∷ (nat_le places GREATEST_PLACES, TooManyFields) ∷ []
+  checks nodes (event.Copy register source) = copy_tests (s.desk i) register source
+  checks nodes (event.Drop register) = drop_tests (s.desk i) register
+  checks nodes (event.Load register object place) =
+      copy_tests (s.desk i) register object ++ own_tests object (has_that (object_in object) place)
+  checks nodes (event.Store object place register) =
+      (is_register (s.desk i) object, NoRegister)
+      ∷ (is_register (s.desk i) register, NoRegister)
+      ∷ (is_filled (s.desk i) object, EmptyRegister)
+      ∷ (is_filled (s.desk i) register, EmptyRegister)
+      ∷ own_tests object (has_that (object_in object) place)
+  checks nodes (event.Clear object place) =
+      drop_tests (s.desk i) object ++ own_tests object (has_that (object_in object) place)
+  checks nodes (event.Word object) =
+      drop_tests (s.desk i) object ++ own_tests object (is_some (object_in object))
+  checks nodes (event.SetWord object word) =
+      drop_tests (s.desk i) object ++ own_tests object (is_some (object_in object))
+  checks nodes (event.Give to label register) =
+      (nat_lt to nodes, NoNode) ∷ (not (to == i), SelfSend) ∷ register_tests (s.desk i) register
+  checks nodes (event.Accept register) = accept_tests (s.desk i) register
+  checks nodes (event.Put object place register) = put_tests i (s.desk i) object place register
+  checks nodes (event.Get object place label) = get_tests i (s.desk i) object place
+  checks nodes e = []
+
+  -- What an event that passes them may be answered. A new object gets any reference of its node
+  -- under which none was made; of a message's number nothing is said.
+  abbrev pub IsAnswer : Event → Answer → Type 0
+  IsAnswer (event.Alloc register places) a =
+      (r : Ref) × (a ≡ answer.New r) × (r.node ≡ i) × (s.objects r ≡ None)
+  IsAnswer (event.Load register object place) a =
+      a ≡ answer.Value (stands_in (object_in object) place)
+  IsAnswer (event.Word object) a = a ≡ answer.Word (word_in (object_in object))
+  IsAnswer (event.Give to label register) a = (number : ℕ) × (a ≡ answer.Sent number)
+  IsAnswer (event.Accept register) a = a ≡ answer.Letter (oldest_letter (s.desk i))
+  IsAnswer (event.Put object place register) a = (number : ℕ) × (a ≡ answer.Sent number)
+  IsAnswer (event.Get object place label) a = (number : ℕ) × (a ≡ answer.Sent number)
+  IsAnswer e a = a ≡ answer.Done
+
+  -- what the program may be told of an event: an answer, where every test passes; the refusal of
+  -- the first that fails; or, where none fails, that of a limit
+  abbrev pub IsTold : ℕ → Event → Result Answer Refusal → Type 0
+  IsTold nodes e (Ok a) = AllPass (checks nodes e) × IsAnswer e a
+  IsTold nodes e (Err r) =
+      (guarded (checks nodes e) s ≡ Err r) ⊎ (AllPass (checks nodes e) × IsLimit e r)
+
+  -- what an event that was answered does
+  abbrev pub does : Event → Answer → Space
+  does (event.Alloc register places) a =
+      with_desk (with_thing s (new_in a) (Some (new_thing places))) i
+      (with_register (s.desk i) register (Some (new_in a)))
+  does (event.Copy register source) a = with_desk s i (register_copied (s.desk i) register source)
+  does (event.Drop register) a = with_desk s i (with_register (s.desk i) register None)
+  does (event.Load register object place) a =
+      with_desk s i (with_register (s.desk i) register (stands_in (object_in object) place))
+  does (event.Store object place register) a = with_place s (named_by object) place (held register)
+  does (event.Clear object place) a = with_place s (named_by object) place None
+  does (event.SetWord object word) a = with_word s (named_by object) word
+  does (event.Give to label register) a = posted s i to (body.Give label (held register))
+  does (event.Accept register) a = with_desk s i (letter_taken (s.desk i) register)
+  does (event.Put object place register) a =
+      posted s i (named_by object).node (body.Put (named_by object) place (held register))
+  does (event.Get object place label) a =
+      posted s i (named_by object).node (body.Get (named_by object) place label)
+  does e a = s
 
 -- ---- what comes in
 
@@ -224,7 +224,7 @@ pub data Sight : Type 0 where
 
 -- it may be seen of this space
 abbrev pub IsSight : ℕ → Space → Sight → Type 0
-IsSight nodes s (told i e r) = (i < nodes) × IsTrue (is_program e) × IsTold nodes s i e r
+IsSight nodes s (told i e r) = (i < nodes) × IsTrue (is_program e) × IsTold s i nodes e r
 IsSight nodes s (came from to) =
     (from < nodes) × (to < nodes) × (s.under_way from to ≢ [])
 
