@@ -262,7 +262,7 @@ pub after-err : (s : NodeState) (r : Result Effect Refusal) (e : Refusal) → af
 after-err s (Ok x) e h = absurd cc
 after-err s (Err f) e h = cc
 
-last-refusal : (ts : List (Bool × Refusal)) (last : Bool × Refusal) (x : Effect) (e : Refusal)
+pub last-refusal : (ts : List (Bool × Refusal)) (last : Bool × Refusal) (x : Effect) (e : Refusal)
     → AllPass ts → guarded (ts ++ last ∷ []) x ≡ Err e → last.1 ≡ e
 last-refusal [] last x e passed h =
     cond_both last.0 (Ok x) (Err last.1) (λ z. z ≡ Err e → last.1 ≡ e) (λ _ never. absurd cc)

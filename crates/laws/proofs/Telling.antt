@@ -13,7 +13,7 @@ use Rattle.model.specs.Heaps.{is_register, is_filled, is_local, has_slot, has_pl
 use Rattle.model.specs.Steps.{tests, made, fits, all_tests, checked, act, allocated, copied, dropped, stored, cleared, word_read, word_set, accepted}
 use Rattle.laws.specs.Objects.{Thing, Space, object_in, has_that, is_program, own_tests, checks, IsLimit, IsTold}
 use Rattle.model.proofs.Checks.{guarded-pass, guarded-passes}
-use Rattle.laws.proofs.StepFacts.{after-err}
+use Rattle.laws.proofs.StepFacts.{after-err, last-refusal}
 use Rattle.laws.proofs.Doings.{Here, thing-has, thing-there, object-same, Doing, own-answers}
 
 -- ---- lists of tests
@@ -182,12 +182,7 @@ told-ok {s = s} p counts e is x d = (
   own-answers p counts e is d,
 )
 
--- the last test, that messages get numbers; where none is sent it passes
-last-refused : {A : Type 0} (b : Bool) (x : A) (r : Refusal)
-    → guarded ((b, LinkSpent) ∷ []) x ≡ Err r → r ≡ LinkSpent
-last-refused true x r h = absurd cc
-last-refused false x r h = let same : LinkSpent ≡ r = cc in sym same
-
+-- where no message is sent, each gets its number
 never-refused : {A : Type 0} (x : A) (r : Refusal) → guarded ((true, LinkSpent) ∷ []) x ≡ Err r → ⊥
 never-refused x r h = absurd cc
 
@@ -200,10 +195,10 @@ limit-refused : (p : LocalState) (counts : List ℕ) (e : Event) (r : Refusal) �
     → guarded (limits p counts e) (made p counts e) ≡ Err r → IsLimit e r
 unfolding allocated copied dropped stored cleared word_read word_set accepted
 limit-refused p counts (event.Alloc register places) r is h = slot-refused _ _ r h
-limit-refused p counts (event.Load register object place) r is h = last-refused _ _ r h
-limit-refused p counts (event.Give to label register) r is h = last-refused _ _ r h
-limit-refused p counts (event.Put object place register) r is h = last-refused _ _ r h
-limit-refused p counts (event.Get object place label) r is h = last-refused _ _ r h
+limit-refused p counts (event.Load register object place) r is h = sym (last-refusal [] (fits counts _, LinkSpent) _ r tt h)
+limit-refused p counts (event.Give to label register) r is h = sym (last-refusal [] (fits counts _, LinkSpent) _ r tt h)
+limit-refused p counts (event.Put object place register) r is h = sym (last-refusal [] (fits counts _, LinkSpent) _ r tt h)
+limit-refused p counts (event.Get object place label) r is h = sym (last-refusal [] (fits counts _, LinkSpent) _ r tt h)
 limit-refused p counts event.Begin r never h = absurd cc
 limit-refused p counts event.Scan r never h = absurd cc
 limit-refused p counts event.Pass r never h = absurd cc

@@ -1,24 +1,25 @@
 -- What a space without a collector sees of a heap, and of the messages that a node sends.
-use Rattle.std.proofs.Common.{◌≡◌, ◌≢◌, ℕ, zero, suc, ◌+◌, ◌<◌, ◌≤◌, Bool, false, cond, ◌==◌, ◌&&◌, eqb, List, [], ◌∷◌, ◌++◌, length, length-set, map, drop, get_or, set, Option, None, Some, slice_get, refl, sym, ap, ◌∙◌, subst, ⊎_elim, inl, inr, arith, append-nil, append_assoc, get_or-set_same, get_or-set_other}
+use Rattle.std.proofs.Common.{◌≡◌, ◌≢◌, ℕ, ◌+◌, ◌<◌, ◌≤◌, Bool, false, cond, ◌==◌, ◌&&◌, eqb, List, [], ◌∷◌, ◌++◌, length, length-set, map, drop, get_or, set, Option, None, Some, slice_get, refl, sym, ap, ◌∙◌, subst, ⊎_elim, inl, inr, arith, append-nil, append_assoc, get_or-set_same, get_or-set_other}
 use Rattle.std.specs.Prelude.{filter, option_map}
 use Rattle.std.proofs.lemmas.Bool.{cases_Bool, cases_eq, cases_lt, cond_both, cond-true, cond-false, eq-eqb, ne_eqb}
-use Rattle.std.proofs.lemmas.List.{get_or_past, map-append, drop-append-le}
+use Rattle.std.proofs.lemmas.List.{get_or_past, map-append, drop-append-le, drop_more}
 use Rattle.std.proofs.lemmas.List.Elements.{filter-append}
+use Rattle.std.proofs.lemmas.Option.{slice_get_within, get_or_from_slice_get}
+use Rattle.model.specs.References.{no_message}
 use Rattle.ids.specs.declared.names.Ref.{Ref}
 use Rattle.msg.specs.declared.body.Body.{Body}
 use Rattle.msg.specs.declared.body.Message.{Message}
-use Rattle.model.specs.State.{Object, Slot, Free, Occupied, Retired, Heap, slot_at}
-use Rattle.model.specs.Heaps.{rewritten, with_rewritten, object_at}
+use Rattle.model.specs.State.{Object, Slot, Occupied, Retired, Heap, slot_at}
+use Rattle.model.specs.Heaps.{with_rewritten, object_at}
 use Rattle.model.specs.Counting.{is_reference}
 use Rattle.model.specs.Shading.{is_unmarked, with_mark, make_grey, make_all_grey, is_same}
 use Rattle.model.specs.Steps.{append_all}
 use Rattle.model.specs.Cuts.{Among}
 use Rattle.laws.specs.Objects.{Thing, Space, rewriting}
 use Rattle.laws.specs.Sights.{thing_of, body_of, programs}
-use Rattle.model.proofs.Slots.{occupied-within}
 use Rattle.laws.proofs.Lookups.{among-append}
 use Rattle.laws.proofs.StepFacts.{length-append_all}
-use Rattle.laws.proofs.Slots.{rewritten-back, rewritten-rewrites}
+use Rattle.laws.proofs.Slots.{rewritten-at, rewritten-back, rewritten-rewrites}
 use Rattle.laws.proofs.GoodHeaps.{own_reference}
 use Rattle.laws.proofs.Meets.{same-is}
 
@@ -118,50 +119,7 @@ still-greys own cycle h (r ∷ rs) =
 
 -- ---- an object is rewritten
 
--- that of the reference, and no other
-rewritten-in : (f : Object → Object) (generation : ℕ) (s : Slot) (g : ℕ) (y : Object)
-    → rewritten f generation s ≡ Occupied g y
-    → (x : Object) × (s ≡ Occupied g x) × (y ≡ cond (g == generation) (f x) x)
-rewritten-in f generation (Free n) g y h = absurd cc
-rewritten-in f generation (Occupied n x) g y h =
-    let same : cond (n == generation) (f x) x ≡ y = cc in
-    let at : n ≡ g = cc in (
-      x,
-      ap (λ (z : ℕ). Occupied z x) at,
-      sym same ∙ ap (λ (z : ℕ). cond (z == generation) (f x) x) at,
-    )
-rewritten-in f generation Retired g y h = absurd cc
-
-pub rewritten-at : (h : Heap) (r : Ref) (f : Object → Object) (k g : ℕ) (y : Object)
-    → slot_at (with_rewritten h r f) k ≡ Occupied g y
-    → (x : Object) × (slot_at h k ≡ Occupied g x)
-    × (y ≡ cond ((k == r.slot) && (g == r.generation)) (f x) x)
-rewritten-at h r f k g y there =
-    let s : Slot = rewritten f r.generation (slot_at h r.slot) in
-    ⊎_elim {C = (x : Object) × (slot_at h k ≡ Occupied g x)
-    × (y ≡ cond ((k == r.slot) && (g == r.generation)) (f x) x)}
-    (λ (here : k ≡ r.slot).
-    let before = rewritten-back h r f k g y there in
-    let inside : r.slot < length h.slots =
-    occupied-within h.slots r.slot g before.0 (ap (slot_at h) (sym here) ∙ before.1) in
-    let made : s ≡ Occupied g y =
-    sym (get_or-set_same h.slots r.slot s Retired inside)
-    ∙ ap (λ (z : ℕ). get_or (set h.slots r.slot s) z Retired) (sym here) ∙ there in
-    let found = rewritten-in f r.generation (slot_at h r.slot) g y made in (
-      found.0,
-      ap (slot_at h) here ∙ found.1,
-      found.2
-          ∙ ap (λ (z : Bool). cond (z && (g == r.generation)) (f found.0) found.0)
-          (sym (eq-eqb k r.slot here)),
-    ))
-    (λ (other : k ≢ r.slot). (
-      y,
-      sym (get_or-set_other h.slots r.slot k s Retired other) ∙ there,
-      ap (λ (z : Bool). cond (z && (g == r.generation)) (f y) y) (sym (ne_eqb k r.slot other)),
-    ))
-    (cases_eq k r.slot)
-
--- the same of a space without a collector, in which the reference is to an object of this node
+-- a reference to an object of this node is the other one's
 own-same : (i k g : ℕ) (r : Ref) → r.node ≡ i
     → is_same (own_reference i k g) r ≡ ((k == r.slot) && (g == r.generation))
 own-same i k g r own =
@@ -308,9 +266,6 @@ sent-posts sent ms to g within past = ⊎_elim
 -- the first message in flight
 pub drop-first : (g : ℕ) (xs : List Message) (x : Message) → slice_get xs g ≡ Some x
     → drop g xs ≡ x ∷ drop (g + 1) xs
-drop-first g [] x there = absurd cc
-drop-first zero (y ∷ xs) x there =
-    let same : y ≡ x = cc in ap (λ (z : Message). z ∷ xs) same
-drop-first (suc g) (y ∷ xs) x there =
-    drop-first g xs x there
-    ∙ ap (λ (k : ℕ). x ∷ drop k (y ∷ xs)) (let e : suc (g + 1) ≡ suc g + 1 = omega arith in e)
+drop-first g xs x there =
+    drop_more xs g no_message (slice_get_within xs g x there)
+    ∙ ap (λ (z : Message). z ∷ drop (g + 1) xs) (get_or_from_slice_get xs g x no_message there)

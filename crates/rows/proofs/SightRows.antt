@@ -13,7 +13,7 @@ use Rattle.model.specs.Shading.{make_grey, shade, vouch, enter, join}
 use Rattle.model.specs.Collecting.{probe, begun, conclude, passed, sweep_one, swept_slots}
 use Rattle.model.specs.Steps.{act, receive, allocated, dropped, word_read, given, accepted, count_in, take_body, settled, taken_in}
 use Rattle.model.specs.World.{take_step, new_world}
-use Rattle.laws.specs.Objects.{Sight, told, came}
+use Rattle.laws.specs.Objects.{new_space, Sight, told, came, IsRun}
 use Rattle.laws.specs.Sights.{kept}
 use Rattle.rows.proofs.Rows.{object, space, alloc, drop_register, give, accept, made, sent, letter, received, done, refused}
 use Rattle.rows.proofs.Words.{begin_cycle, sweep_slots, save, restart, deliver, ok, began, freed_done, Row, ◌gives◌, ◌shows◌, Prints}
@@ -65,6 +65,18 @@ before_saves =
     ∷ told 1 (event.Drop 1) (Ok answer.Done)
     ∷ came 1 0
     ∷ []
+
+-- what the restart undid can't be seen beside what came after it: the one message comes once
+pub not-twice : IsRun 2 (new_space (space 2 4 16)) (
+    told 0 (event.Alloc 0 1) (Ok (answer.New (object 0 0 1)))
+    ∷ told 0 (event.Give 1 7 0) (Ok (answer.Sent 1))
+    ∷ told 0 (event.Drop 0) (Ok answer.Done)
+    ∷ came 0 1
+    ∷ told 1 (event.Accept 0)
+    (Ok (answer.Letter (record { from = 0; label = 7; reference = Some (object 0 0 1) })))
+    ∷ came 0 1
+    ∷ []) → ⊥
+not-twice run = run.1.1.1.1.1.0.2 refl
 
 abbrev after_sweep : List Sight
 after_sweep =

@@ -5,6 +5,10 @@ ghost use Rattle.world.specs.Answered.{AnswersAreUnseen};
 /// The headline, over every list of steps of every space: events of programs and of the collector,
 /// deliveries, losses, repeats, reorderings, acknowledgements, saves and restarts.
 ///
+/// Programs can't tell that there is a collector: what they are told and get is what a space may
+/// tell and give them in which no object is ever freed (`transparent`; of what the code answers
+/// `answers`). The rest serves this.
+///
 /// No node frees an object that can be reached from a register, a letter or a message in flight
 /// (`frees_none_reachable`), whichever of their states, current or saved, the other nodes go on
 /// from: all that can be reached in such a choice is there (`live`). No two nodes disagree whether
