@@ -155,7 +155,8 @@ rewritten-at h r f k g y there =
     (let w = occupied-within (set h.slots r.slot s) r.slot g y written in
     let e = length-set h.slots r.slot s in omega (arith, w, e)) in
     let found = rewritten-from f r.generation (slot_at h r.slot) g y
-    (sym (get_or-set_same h.slots r.slot s Retired inside) ∙ written) in (
+    (subst (λ (z : Slot). z ≡ Occupied g y) (get_or-set_same h.slots r.slot s Retired inside)
+    written) in (
       found.0,
       ap (slot_at h) here ∙ found.1,
       found.2

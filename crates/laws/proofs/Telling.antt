@@ -86,8 +86,7 @@ own_of i h object passes = (is_local i h object, Remote) ∷ (passes, NoField) �
 
 word-alike : {s : Space} (p : LocalState) (object : ℕ) → Ready s p
     → Alike (word_tests p.own p.heap object)
-    (drop_tests (s.desk p.own) object
-    ++ own_tests s p.own object (is_some (object_in s p.own object)))
+    (own_tests s p.own object (is_some (object_in s p.own object)))
 word-alike {s = s} p object x =
     let b : Bool = is_some (object_in s p.own object) in
     alike-last

@@ -123,9 +123,11 @@ module _ (s : Space) (i : ℕ) where
   abbrev pub object_in : ℕ → Option Thing
   object_in register = s.objects (named_by register)
 
-  -- the object is the node's own, and passes a test
+  -- a register names an object of the node's own that passes a test
   abbrev pub own_tests : ℕ → Bool → List (Bool × Refusal)
-  own_tests object passes = (is_local i (s.desk i) object, Remote) ∷ (passes, NoField) ∷ []
+  own_tests object passes =
+      drop_tests (s.desk i) object
+      ++ (is_local i (s.desk i) object, Remote) ∷ (passes, NoField) ∷ []
 
   -- The tests of an event, each with its refusal, in order: those that a node makes, but that a
   -- slot is to be had. That an object was freed is none of them.
@@ -136,19 +138,17 @@ module _ (s : Space) (i : ℕ) where
   checks nodes (event.Copy register source) = copy_tests (s.desk i) register source
   checks nodes (event.Drop register) = drop_tests (s.desk i) register
   checks nodes (event.Load register object place) =
-      copy_tests (s.desk i) register object ++ own_tests object (has_that (object_in object) place)
+      register_tests (s.desk i) register ++ own_tests object (has_that (object_in object) place)
   checks nodes (event.Store object place register) =
       (is_register (s.desk i) object, NoRegister)
       ∷ (is_register (s.desk i) register, NoRegister)
       ∷ (is_filled (s.desk i) object, EmptyRegister)
       ∷ (is_filled (s.desk i) register, EmptyRegister)
-      ∷ own_tests object (has_that (object_in object) place)
-  checks nodes (event.Clear object place) =
-      drop_tests (s.desk i) object ++ own_tests object (has_that (object_in object) place)
-  checks nodes (event.Word object) =
-      drop_tests (s.desk i) object ++ own_tests object (is_some (object_in object))
-  checks nodes (event.SetWord object word) =
-      drop_tests (s.desk i) object ++ own_tests object (is_some (object_in object))
+      ∷ (is_local i (s.desk i) object, Remote)
+      ∷ (has_that (object_in object) place, NoField) ∷ []
+  checks nodes (event.Clear object place) = own_tests object (has_that (object_in object) place)
+  checks nodes (event.Word object) = own_tests object (is_some (object_in object))
+  checks nodes (event.SetWord object word) = own_tests object (is_some (object_in object))
   checks nodes (event.Give to label register) =
       (nat_lt to nodes, NoNode) ∷ (not (to == i), SelfSend) ∷ register_tests (s.desk i) register
   checks nodes (event.Accept register) = accept_tests (s.desk i) register
@@ -225,8 +225,7 @@ pub data Sight : Type 0 where
 -- it may be seen of this space
 abbrev pub IsSight : ℕ → Space → Sight → Type 0
 IsSight nodes s (told i e r) = (i < nodes) × IsTrue (is_program e) × IsTold s i nodes e r
-IsSight nodes s (came from to) =
-    (from < nodes) × (to < nodes) × (s.under_way from to ≢ [])
+IsSight nodes s (came from to) = (from < nodes) × (to < nodes) × (s.under_way from to ≢ [])
 
 -- the space then
 abbrev pub then : Space → Sight → Space
