@@ -150,25 +150,32 @@ rewritten-at h r f k g y there =
     × (y ≡ cond ((k == r.slot) && (g == r.generation)) (f x) x)}
     (λ (here : k ≡ r.slot).
     let written : get_or (set h.slots r.slot s) r.slot Retired ≡ Occupied g y =
-    ap (λ (z : ℕ). get_or (set h.slots r.slot s) z Retired) (sym here) ∙ there in
+    subst (λ (z : ℕ). get_or (set h.slots r.slot s) z Retired ≡ Occupied g y) here there in
     let inside : r.slot < length h.slots =
     (let w = occupied-within (set h.slots r.slot s) r.slot g y written in
     let e = length-set h.slots r.slot s in omega (arith, w, e)) in
-    let found = rewritten-from f r.generation (slot_at h r.slot) g y
+    by here
+    (rewritten-from f r.generation (slot_at h r.slot) g y
     (subst (λ (z : Slot). z ≡ Occupied g y) (get_or-set_same h.slots r.slot s Retired inside)
-    written) in (
-      found.0,
-      ap (slot_at h) here ∙ found.1,
-      found.2
-          ∙ ap (λ (z : Bool). cond (z && (g == r.generation)) (f found.0) found.0)
-          (sym (eq-eqb k r.slot here)),
-    ))
+    written)))
     (λ (other : k ≢ r.slot). (
       y,
       sym (get_or-set_other h.slots r.slot k s Retired other) ∙ there,
       ap (λ (z : Bool). cond (z && (g == r.generation)) (f y) y) (sym (ne_eqb k r.slot other)),
     ))
     (cases_eq k r.slot)
+  where
+    by : k ≡ r.slot
+        → (x : Object) × (slot_at h r.slot ≡ Occupied g x) × (y ≡ cond (g == r.generation) (f x) x)
+        → (x : Object) × (slot_at h k ≡ Occupied g x)
+        × (y ≡ cond ((k == r.slot) && (g == r.generation)) (f x) x)
+    by here found = (
+      found.0,
+      ap (slot_at h) here ∙ found.1,
+      found.2
+          ∙ ap (λ (z : Bool). cond (z && (g == r.generation)) (f found.0) found.0)
+          (sym (eq-eqb k r.slot here)),
+    )
 
 pub rewritten-back : (h : Heap) (r : Ref) (f : Object → Object) (k g : ℕ) (y : Object)
     → slot_at (with_rewritten h r f) k ≡ Occupied g y
