@@ -33,8 +33,8 @@ came_of from to (Ok (outcome.Answer answer.Received)) (Some x) =
     cond (is_reference x.body) (came from to ∷ []) []
 came_of from to r found = []
 
--- What is seen of a step of which this became, where the choice takes current states: where it
--- takes a node's saved state instead, what that node does isn't in the cut.
+-- What is seen of a step, by what became of it. Where the choice takes a node's saved state, what
+-- its program is told and what the node takes in isn't in the cut.
 abbrev pub seen : World → (ℕ → Bool) → Step → Result Outcome Refusal → List Sight
 seen w choice (step.Act i e) r =
     cond (is_node w i && (is_program e && not (choice i))) (told_of i e r) []
@@ -44,8 +44,8 @@ seen w choice s r = []
 
 -- ---- what is seen of a run
 
--- A cut after a step is one before it: of a node that is saved, both states are the current one
--- before; of one that is restarted, the saved one.
+-- Seen from before a step, the cut that a choice picks after it takes of a node that is saved the
+-- current state, and of one that is restarted the saved one.
 abbrev pub choosing : (ℕ → Bool) → ℕ → Bool → ℕ → Bool
 choosing choice i b k = cond (k == i) b (choice k)
 
@@ -54,7 +54,7 @@ before (step.Save i) choice = choosing choice i false
 before (step.Restart i) choice = choosing choice i true
 before s choice = choice
 
--- before a list of steps
+-- the same, seen from before a list of steps
 abbrev pub at_first : List Step → (ℕ → Bool) → ℕ → Bool
 at_first [] choice = choice
 at_first (s ∷ ss) choice = before s (at_first ss choice)
