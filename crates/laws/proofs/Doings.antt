@@ -257,8 +257,7 @@ own-allocates {s = s} p register places d =
     let placed =
     effects-desk {s = t} {i = p.own} {h = alloc_heap p.own p.phases.cycle h register places}
     {ms = []} (with_register (s.desk p.own) register (Some r))
-    (ap (λ (z : Heap). with_register z register (Some r)) d.here.desk) lives (λ to x never. absurd never)
-    in
+    (ap (λ (z : Heap). with_register z register (Some r)) d.here.desk) lives none-quiet in
     record {
       here = placed.here;
       desks = placed.desks;

@@ -194,10 +194,14 @@ limit-refused : (p : LocalState) (counts : List ℕ) (e : Event) (r : Refusal) �
     → guarded (limits p counts e) (made p counts e) ≡ Err r → IsLimit e r
 unfolding allocated copied dropped stored cleared word_read word_set accepted
 limit-refused p counts (event.Alloc register places) r is h = slot-refused _ _ r h
-limit-refused p counts (event.Load register object place) r is h = sym (last-refusal [] (fits counts _, LinkSpent) _ r tt h)
-limit-refused p counts (event.Give to label register) r is h = sym (last-refusal [] (fits counts _, LinkSpent) _ r tt h)
-limit-refused p counts (event.Put object place register) r is h = sym (last-refusal [] (fits counts _, LinkSpent) _ r tt h)
-limit-refused p counts (event.Get object place label) r is h = sym (last-refusal [] (fits counts _, LinkSpent) _ r tt h)
+limit-refused p counts (event.Load register object place) r is h =
+    sym (last-refusal [] (fits counts _, LinkSpent) _ r tt h)
+limit-refused p counts (event.Give to label register) r is h =
+    sym (last-refusal [] (fits counts _, LinkSpent) _ r tt h)
+limit-refused p counts (event.Put object place register) r is h =
+    sym (last-refusal [] (fits counts _, LinkSpent) _ r tt h)
+limit-refused p counts (event.Get object place label) r is h =
+    sym (last-refusal [] (fits counts _, LinkSpent) _ r tt h)
 limit-refused p counts event.Begin r never h = absurd cc
 limit-refused p counts event.Scan r never h = absurd cc
 limit-refused p counts event.Pass r never h = absurd cc

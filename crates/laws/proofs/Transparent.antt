@@ -1,5 +1,5 @@
--- The collector can't be seen: what programs are told and get in a run, as far as a cut has it, is a
--- run of a space without a collector.
+-- The collector can't be seen: what programs are told and get in a run, as far as a cut keeps it,
+-- is a run of a space without a collector.
 use Rattle.std.proofs.Common.{◌≡◌, ℕ, ◌+◌, ◌≤◌, Bool, true, false, cond, ◌==◌, ◌&&◌, List, [], ◌∷◌, ◌++◌, length, map, drop, set, Option, None, Some, Result, Ok, Err, refl, sym, ap, ◌∙◌, subst, ⊎_elim, arith, ltb-true, leb}
 use Rattle.std.specs.Prelude.{not}
 use Rattle.std.proofs.lemmas.Bool.{cases_Bool, cond_both, cond-true, cond-false, and_parts, and_from, eqb-false, ltb-false, not_from_false, not-true}
@@ -58,9 +58,9 @@ new-same shape choice = record {
       let none : sent_to (cut (new_world shape) choice from) to ≡ [] =
       at-new shape choice from (λ z. sent_to z to ≡ [])
       (λ z own. get_or-replicate_any {A = List Message} z.nodes to []) in
-      sym (ap (λ (z : List Message). programs (drop (taken (cut (new_world shape) choice) from to) z))
-      none
-      ∙ ap programs (drop_all (taken (cut (new_world shape) choice) from to) [] (omega arith)));
+      let heard : ℕ = taken (cut (new_world shape) choice) from to in
+      sym (ap (λ (z : List Message). programs (drop heard z)) none
+      ∙ ap programs (drop_all heard [] (omega arith)));
 }
 
 -- ---- sights, one list after another
@@ -473,7 +473,7 @@ hand-quiet w from to =
 
 step-seen : {shape : Shaped} {s : Space} (w : World) (st : Step) (choice : ℕ → Bool)
     → Standing shape w → Same s (cut w (before st choice))
-    → Seen shape.nodes s (seen w choice st (outcome_of (take_step w st))) (cut (happens w st) choice)
+    → StepSeen shape s w choice st (take_step w st)
 step-seen w (step.Act i e) choice h same = act-seen w choice i e h same
 step-seen w (step.Save i) choice h same = seen-nothing (save-seen w choice i h same)
 step-seen w (step.Restart i) choice h same = seen-nothing (restart-seen w choice i h same)
