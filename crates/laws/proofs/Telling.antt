@@ -9,9 +9,9 @@ use Rattle.model.specs.declared.event.Event.{Event}
 use Rattle.model.specs.declared.event.Event.TheVariants as event
 use Rattle.model.specs.Checks.{guarded, AllPass}
 use Rattle.model.specs.State.{Heap, LocalState, NodeState}
-use Rattle.model.specs.Heaps.{is_register, is_filled, is_local, has_slot, has_place, named, object_at, copy_tests, drop_tests, word_tests, register_tests, put_tests, get_tests, accept_tests}
+use Rattle.model.specs.Heaps.{is_register, is_filled, is_local, has_slot, has_place, named, object_at, own_tests, copy_tests, drop_tests, word_tests, register_tests, put_tests, get_tests, accept_tests}
 use Rattle.model.specs.Steps.{tests, made, fits, all_tests, checked, act, allocated, copied, dropped, stored, cleared, word_read, word_set, accepted}
-use Rattle.laws.specs.Objects.{Thing, Space, object_in, has_that, is_program, own_tests, checks, IsLimit, IsTold}
+use Rattle.laws.specs.Objects.{Thing, Space, object_in, has_that, is_program, checks, IsLimit, IsTold}
 use Rattle.model.proofs.Checks.{guarded-pass, guarded-passes}
 use Rattle.laws.proofs.StepFacts.{after-err, last-refusal}
 use Rattle.laws.proofs.Doings.{Here, thing-has, thing-there, object-same, Doing, own-answers}
@@ -80,20 +80,16 @@ some-same {p = p} object x filled own =
     (object-same object x.here own (x.there object filled own))
     ∙ thing-there (object_at p.heap (named p.heap object)))
 
--- the same of a heap
-abbrev own_of : ℕ → Heap → ℕ → Bool → List (Bool × Refusal)
-own_of i h object passes = (is_local i h object, Remote) ∷ (passes, NoField) ∷ []
-
 word-alike : {s : Space} (p : LocalState) (object : ℕ) → Ready s p
     → Alike (word_tests p.own p.heap object)
-    (own_tests s p.own object (is_some (object_in s p.own object)))
+    (own_tests p.own (s.desk p.own) object (is_some (object_in s p.own object)))
 word-alike {s = s} p object x =
     let b : Bool = is_some (object_in s p.own object) in
     alike-last
     (drop_tests p.heap object ++ (is_local p.own p.heap object, Remote) ∷ []) _ b NoField
     (λ passed. some-same object x passed.1.0 passed.1.1.0)
     ∙ ap (λ (z : Heap). guarded {A = Unit {0}}
-    (drop_tests z object ++ own_of p.own z object b) tt) (sym x.here.desk)
+    (own_tests p.own z object b) tt) (sym x.here.desk)
 
 -- the tests but those of a limit: that a slot is to be had, and that messages get numbers
 abbrev tested : LocalState → Event → List (Bool × Refusal)
@@ -133,7 +129,7 @@ tests-alike {s = s} p (event.Load register object place) is x =
     (copy_tests p.heap register object ++ (is_local p.own p.heap object, Remote) ∷ []) _ b NoField
     (λ passed. has-same object place x passed.1.1.0 passed.1.1.1.0)
     ∙ ap (λ (z : Heap). guarded {A = Unit {0}}
-    (copy_tests z register object ++ own_of p.own z object b) tt) (sym x.here.desk)
+    ((is_register z register, NoRegister) ∷ own_tests p.own z object b) tt) (sym x.here.desk)
 tests-alike {s = s} p (event.Store object place register) is x =
     let b : Bool = has_that (object_in s p.own object) place in
     let first : Heap → List (Bool × Refusal) =
@@ -145,7 +141,7 @@ tests-alike {s = s} p (event.Store object place register) is x =
     ∷ [] in
     alike-last (first p.heap ++ (is_local p.own p.heap object, Remote) ∷ []) _ b NoField
     (λ passed. has-same object place x passed.1.1.0 passed.1.1.1.1.0)
-    ∙ ap (λ (z : Heap). guarded {A = Unit {0}} (first z ++ own_of p.own z object b) tt)
+    ∙ ap (λ (z : Heap). guarded {A = Unit {0}} (first z ++ (is_local p.own z object, Remote) ∷ (b, NoField) ∷ []) tt)
     (sym x.here.desk)
 tests-alike {s = s} p (event.Clear object place) is x =
     let b : Bool = has_that (object_in s p.own object) place in
@@ -153,7 +149,7 @@ tests-alike {s = s} p (event.Clear object place) is x =
     (drop_tests p.heap object ++ (is_local p.own p.heap object, Remote) ∷ []) _ b NoField
     (λ passed. has-same object place x passed.1.0 passed.1.1.0)
     ∙ ap (λ (z : Heap). guarded {A = Unit {0}}
-    (drop_tests z object ++ own_of p.own z object b) tt) (sym x.here.desk)
+    (own_tests p.own z object b) tt) (sym x.here.desk)
 tests-alike p (event.Word object) is x = word-alike p object x
 tests-alike p (event.SetWord object word) is x = word-alike p object x
 tests-alike p (event.Give to label register) is x =

@@ -15,7 +15,7 @@ use Rattle.model.specs.declared.event.Answer.{Answer}
 use Rattle.model.specs.declared.event.Answer.TheVariants as answer
 use Rattle.model.specs.Checks.{guarded, AllPass}
 use Rattle.model.specs.State.{Heap, register_at, node_at}
-use Rattle.model.specs.Heaps.{is_register, is_filled, is_local, with_register, register_copied, named, no_reference, oldest_letter, letter_taken, with_letter, register_tests, copy_tests, drop_tests, put_tests, get_tests, accept_tests}
+use Rattle.model.specs.Heaps.{is_register, is_filled, is_local, with_register, register_copied, named, no_reference, oldest_letter, letter_taken, with_letter, own_tests, register_tests, copy_tests, drop_tests, put_tests, get_tests, accept_tests}
 use Rattle.model.specs.Shading.{is_same}
 use Rattle.model.specs.World.{new_nodes}
 
@@ -124,12 +124,6 @@ module _ (s : Space) (i : ℕ) where
   abbrev pub object_in : ℕ → Option Thing
   object_in register = s.objects (named_by register)
 
-  -- a register names an object of the node's own that passes a test
-  abbrev pub own_tests : ℕ → Bool → List (Bool × Refusal)
-  own_tests object passes =
-      drop_tests (s.desk i) object
-      ++ (is_local i (s.desk i) object, Remote) ∷ (passes, NoField) ∷ []
-
   -- The tests of an event, each with its refusal, in order: those that a node makes, but that a
   -- slot is to be had. That an object was freed is none of them.
   abbrev pub checks : ℕ → Event → List (Bool × Refusal)
@@ -139,7 +133,8 @@ module _ (s : Space) (i : ℕ) where
   checks nodes (event.Copy register source) = copy_tests (s.desk i) register source
   checks nodes (event.Drop register) = drop_tests (s.desk i) register
   checks nodes (event.Load register object place) =
-      register_tests (s.desk i) register ++ own_tests object (has_that (object_in object) place)
+      (is_register (s.desk i) register, NoRegister)
+      ∷ own_tests i (s.desk i) object (has_that (object_in object) place)
   checks nodes (event.Store object place register) =
       (is_register (s.desk i) object, NoRegister)
       ∷ (is_register (s.desk i) register, NoRegister)
@@ -147,9 +142,10 @@ module _ (s : Space) (i : ℕ) where
       ∷ (is_filled (s.desk i) register, EmptyRegister)
       ∷ (is_local i (s.desk i) object, Remote)
       ∷ (has_that (object_in object) place, NoField) ∷ []
-  checks nodes (event.Clear object place) = own_tests object (has_that (object_in object) place)
-  checks nodes (event.Word object) = own_tests object (is_some (object_in object))
-  checks nodes (event.SetWord object word) = own_tests object (is_some (object_in object))
+  checks nodes (event.Clear object place) =
+      own_tests i (s.desk i) object (has_that (object_in object) place)
+  checks nodes (event.Word object) = own_tests i (s.desk i) object (is_some (object_in object))
+  checks nodes (event.SetWord object word) = own_tests i (s.desk i) object (is_some (object_in object))
   checks nodes (event.Give to label register) =
       (nat_lt to nodes, NoNode) ∷ (not (to == i), SelfSend) ∷ register_tests (s.desk i) register
   checks nodes (event.Accept register) = accept_tests (s.desk i) register
