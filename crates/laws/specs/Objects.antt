@@ -27,8 +27,7 @@ pub record Thing : Type 0 where
 pub record Space : Type 0 where
   -- the object that was made under a reference, if one was
   pub objects : Ref → Option Thing
-  -- each node's registers and letters, as a heap with nothing in its slots, so that the tests and
-  -- effects of heaps serve
+  -- each node's registers and letters, as a heap without slots, so that the tests of heaps serve
   pub desk : ℕ → Heap
   -- the Gives, Puts and Gets that one node sent another, and that haven't arrived, oldest first
   pub under_way : ℕ → ℕ → List Body
