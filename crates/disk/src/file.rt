@@ -142,8 +142,8 @@ fn load(alloc: Global, memory: &mut MemoryDisk, area: Area, file: &mut File) -> 
 }
 
 impl<F: FileExt + OpenFile> FileDisk<F> {
-    /// The disk in these files, which are to hold what `memory` says. That isn't taken on trust: the
-    /// first sync compares them, and fails while they differ.
+    /// The disk in these files, which are to hold what `memory` says. That isn't taken on trust:
+    /// the first sync compares them, and fails while they differ.
     pub fn over(select: F, a: F, b: F, memory: MemoryDisk) -> Self
         ensures { result.memory ≡ memory }
     {

@@ -39,13 +39,17 @@ pub(crate) fn run(
         drops: &drops,
         arena: Some(Arena::with_limit(alloc, limit)),
     };
-    for line in lines {
-        arenas.take(out.at(line), out)?;
-    }
-    Ok(())
+    arenas.take_all(lines, out)
 }
 
 impl<'a> Arenas<'a> {
+    fn take_all(&mut self, lines: &[Line<'_>], out: &mut Out) -> Result<(), Stop> {
+        for line in lines {
+            self.take(out.at(line), out)?;
+        }
+        Ok(())
+    }
+
     fn take(&mut self, words: &[&str], out: &mut Out) -> Result<(), Stop> {
         match words {
             ["drops"] => out.show(&self.drops.get()),

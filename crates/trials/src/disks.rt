@@ -18,10 +18,7 @@ struct Disks {
 /// A case over a disk in memory.
 pub(crate) fn run(alloc: Global, lines: &[Line<'_>], out: &mut Out) -> Result<(), Stop> {
     let mut disks = Disks::new(alloc);
-    for line in lines {
-        disks.take(out.at(line), out)?;
-    }
-    Ok(())
+    disks.take_all(lines, out)
 }
 
 impl Disks {
@@ -60,8 +57,12 @@ impl Disks {
         let Some(node) = &self.bench.nodes.node else {
             return Err(Stop::Unknown);
         };
-        let Ok(new) = image::to_bytes(self.alloc, node) else {
-            return Err(Stop::Memory);
+        let new = match image::to_bytes(self.alloc, node) {
+            Ok(new) => new,
+            Err(refusal) => {
+                out.refused(refusal);
+                return Ok(());
+            }
         };
         let mut tally = Tally::<5>::new();
         for fill in 0..=u8::MAX {
@@ -69,6 +70,13 @@ impl Disks {
             tally.add(opens_to(self.alloc, left, &self.old, &new) as usize);
         }
         tally.put(&NAMES, out);
+        Ok(())
+    }
+
+    fn take_all(&mut self, lines: &[Line<'_>], out: &mut Out) -> Result<(), Stop> {
+        for line in lines {
+            self.take(out.at(line), out)?;
+        }
         Ok(())
     }
 

@@ -18,10 +18,7 @@ pub(crate) fn run<R: Files<File = File> + AllocGlobal>(
 ) -> Result<(), Stop> {
     let plans = Plans::new();
     let mut folders = Folders::new(rt, &plans);
-    for line in lines {
-        folders.take(out.at(line), out)?;
-    }
-    Ok(())
+    folders.take_all(lines, out)
 }
 
 #[derive(Drop)]
@@ -59,6 +56,13 @@ impl<'a, R: Files<File = File> + AllocGlobal> Folders<'a, R> {
             }
             ["writes", area] => out.show(&self.plans.of(area_of(area)?).writes.get()),
             words => return self.flaky.take(words, out),
+        }
+        Ok(())
+    }
+
+    fn take_all(&mut self, lines: &[Line<'_>], out: &mut Out) -> Result<(), Stop> {
+        for line in lines {
+            self.take(out.at(line), out)?;
         }
         Ok(())
     }

@@ -77,6 +77,13 @@ impl Joined {
         out.show(&seen.number);
     }
 
+    fn take_all(&mut self, lines: &[Line<'_>], out: &mut Out) -> Result<(), Stop> {
+        for line in lines {
+            self.take(out.at(line), out)?;
+        }
+        Ok(())
+    }
+
     fn take(&mut self, words: &[&str], out: &mut Out) -> Result<(), Stop> {
         match words {
             ["send"] => out.answer(send(&self.wire, self.alloc, &mut self.first)),
@@ -107,10 +114,7 @@ pub(crate) fn run(alloc: Global, lines: &[Line<'_>], out: &mut Out) -> Result<()
     let Ok(mut joined) = Joined::new(alloc) else {
         return Err(Stop::Memory);
     };
-    for line in lines {
-        joined.take(out.at(line), out)?;
-    }
-    Ok(())
+    joined.take_all(lines, out)
 }
 
 // The bytes of node 0's acknowledgement of nothing.

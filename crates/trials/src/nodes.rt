@@ -19,10 +19,7 @@ pub(crate) struct Nodes {
 /// A case over one node.
 pub(crate) fn run(alloc: Global, lines: &[Line<'_>], out: &mut Out) -> Result<(), Stop> {
     let mut nodes = Nodes::new(alloc);
-    for line in lines {
-        nodes.take(out.at(line), out)?;
-    }
-    Ok(())
+    nodes.take_all(lines, out)
 }
 
 impl Nodes {
@@ -39,6 +36,13 @@ impl Nodes {
             }
             Err(refusal) => out.refused(refusal),
         }
+    }
+
+    fn take_all(&mut self, lines: &[Line<'_>], out: &mut Out) -> Result<(), Stop> {
+        for line in lines {
+            self.take(out.at(line), out)?;
+        }
+        Ok(())
     }
 
     pub(crate) fn take(&mut self, words: &[&str], out: &mut Out) -> Result<(), Stop> {

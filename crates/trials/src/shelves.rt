@@ -182,8 +182,8 @@ fn put_read<D: Disk>(disk: &mut D, area: Area, at: usize, into: &mut [u8], out: 
     }
 }
 
-// Writes at an offset; where that isn't the area's start, the byte before it is read first, and there
-// has to be one.
+// Writes at an offset; where that isn't the area's start, the byte before it is read first, and
+// there has to be one.
 fn write<D: Disk>(
     disk: &mut D,
     area: Area,
