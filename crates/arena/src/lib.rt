@@ -12,6 +12,7 @@ ghost use Rattle.arena.specs.Arena.{IsSound, IsFaultOf, IsKey, get, key_at, gene
 ghost use Rattle.arena.specs.Arena.{inserted, removed, vacated, occupied_count, is_full};
 ghost use Rattle.arena.specs.Arena.{slot_at, slot_read, plain, Refuses};
 
+mod block;
 mod entry;
 mod free;
 mod made;
