@@ -1,6 +1,7 @@
 pub mod Arena
 pub mod Block
 pub mod Entry
+pub mod Laid
 pub mod LendsItem
 pub mod LendsPlace
 pub mod LendsValue

@@ -13,6 +13,7 @@ ghost use Rattle.arena.specs.Arena.{inserted, removed, vacated, occupied_count, 
 ghost use Rattle.arena.specs.Arena.{slot_at, slot_read, plain, Refuses};
 
 mod block;
+mod chunk;
 mod entry;
 mod free;
 mod made;
