@@ -3,6 +3,8 @@ mod Lending
 pub mod Linking
 mod Names
 mod Opens
+mod Packed
 mod Places
+mod Reach
 pub mod Sound
 mod Threads

@@ -1,7 +1,9 @@
 pub mod Arena
 pub mod Block
+pub mod Chunked
 pub mod Entry
 pub mod Laid
+pub mod LendsChunks
 pub mod LendsItem
 pub mod LendsPlace
 pub mod LendsValue

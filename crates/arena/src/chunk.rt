@@ -1,5 +1,5 @@
 //! A row of items of fixed capacity, in one block, which never moves.
-ghost use Rattle.std.specs.Prelude.{◌≡◌, ◌+◌, ◌*◌, ◌<◌, ◌≤◌, ◌++◌, ◌∷◌, [], length};
+ghost use Rattle.std.specs.Prelude.{◌≡◌, ◌+◌, ◌<◌, ◌≤◌, ◌++◌, ◌∷◌, [], length};
 ghost use Rattle.std.specs.Prelude.{slice_index_or, nat_le, IfOk, OnOk, OnErr};
 ghost use Rattle.std.specs.Borrow.{sem};
 ghost use Rattle.arena.specs.Row.{row};
@@ -54,7 +54,8 @@ impl<T> Chunk<T> {
 
     /// Whether there is no room for one item more.
     pub(crate) fn is_full(&self) -> bool
-        ensures { result ≡ nat_le self.now.capacity (length self.now.items) }
+        ensures value { result ≡ nat_le self.now.capacity (length self.now.items) }
+        ensures sound { length self.now.items ≤ self.now.capacity }
     {
         self.len >= self.capacity
     }
@@ -85,13 +86,13 @@ impl<T> Chunk<T> {
         self.len += 1;
     }
 
-    /// Moves all items into a block of twice the capacity. Where there is no memory for it, nothing
-    /// happens.
-    pub(crate) fn double(&mut self) -> Result<(), AllocError>
-        ensures done { OnOk result (self.new ≡ row self.old.items (self.old.capacity * 2)) }
+    /// Moves all items into a larger block. Where there is no memory for it, nothing happens.
+    pub(crate) fn grow(&mut self) -> Result<(), AllocError>
+        ensures items { self.new.items ≡ self.old.items }
+        ensures larger { OnOk result (self.old.capacity < self.new.capacity) }
         ensures unchanged { OnErr result (self.new ≡ self.old) }
     {
-        let larger = Chunk::with_capacity(self.alloc, self.capacity * 2)?;
+        let larger = Chunk::with_capacity(self.alloc, self.capacity.max(2) * 2)?;
         let before = mem::replace(self, larger);
         before.move_into(self);
         Ok(())

@@ -17,6 +17,7 @@ mod chunk;
 mod entry;
 mod free;
 mod made;
+mod root;
 mod store;
 #[cfg(test)]
 mod tests;
