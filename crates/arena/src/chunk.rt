@@ -107,13 +107,13 @@ impl<T> Chunk<T> {
             mut block,
             title,
             len,
-            capacity,
+            capacity: places,
             alloc,
         } = self;
         for index in 0..len {
             other.push(block.take(index));
         }
-        release(&alloc, capacity, block, title);
+        release(&alloc, places, block, title);
     }
 }
 
@@ -126,8 +126,8 @@ impl<T: Drop> Drop for Chunk<T> {
             capacity,
             alloc,
         } = self;
-        for index in 0..len {
-            drop(block.take(index));
+        for place in 0..len {
+            drop(block.take(place));
         }
         release(&alloc, capacity, block, title);
     }

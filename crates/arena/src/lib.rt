@@ -19,8 +19,6 @@ mod free;
 mod made;
 mod root;
 mod store;
-#[cfg(test)]
-mod tests;
 
 use crate::entry::Entry;
 pub use crate::free::FreeSlots;

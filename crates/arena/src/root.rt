@@ -70,11 +70,7 @@ impl<E> Root<E> {
 
 /// Adds a chunk with this item. Where there is no memory for it, the item comes back, and the
 /// chunks are as they were.
-pub(crate) fn add_chunk<E>(
-    chunks: &mut Chunk<Chunk<E>>,
-    alloc: Global,
-    item: E,
-) -> Result<(), E>
+pub(crate) fn add_chunk<E>(chunks: &mut Chunk<Chunk<E>>, alloc: Global, item: E) -> Result<(), E>
     requires { length chunks.old.items < chunks.old.capacity }
     ensures done { OnOk result (chunks.new
         ≡ row (chunks.old.items ++ row (item ∷ []) CHUNK ∷ []) chunks.old.capacity) }

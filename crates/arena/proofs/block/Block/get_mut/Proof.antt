@@ -75,7 +75,7 @@ get_mut_spec 𝓤 𝓛 𝓜 𝓡 wired T L =
     let lt : index < length xs = asked.1 in let from : ℕ = k * s + o in let at : ℕ = index * s + o in
     let some_value : el_x E = (not-empty xs (omega (arith, lt))).0 in let x : el_x E = get_or xs index some_value in
     let here : at ≡ place s from index =
-        ap (λ (j : ℕ). index * s + j) (sym (ap (λ (j : ℕ). j * s + o) asked.0 ∙ first-place s o)) ∙ sym (place_is s from index) in
+    ap (λ (j : ℕ). index * s + j) (sym (ap (λ (j : ℕ). j * s + o) asked.0 ∙ first-place s o)) ∙ sym (place_is s from index) in
     let tiny : s < 2 ^ 64 = omega (arith, one_below (k + length xs + n) s (2 ^ 63) (omega (arith, lt)) small) in
     let far : index * s < 2 ^ 64 = omega (arith, times_below index (k + length xs + n) s (2 ^ 63) (omega (arith, lt)) small) in
     let way = back E 𝓛 d index rb ro b o ms e word small lt at here in let kept : Fml = Rest E 𝓛 d index rb ro b o ms in

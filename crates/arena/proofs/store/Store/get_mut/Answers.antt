@@ -22,8 +22,7 @@ invariant_of-self-lent g c w =
 pub returns : goal.returns
 returns g c =
     let below = rw (← c.self.view_is) at c.requires in
-    let there = at_item c.chunks_mut-chunks.ensures.value c.self.invariant.1 c.args.index below _ c.get_mut-chunk.ensures.value in
-    (
+    let there = at_item c.chunks_mut-chunks.ensures.value c.self.invariant.1 c.args.index below _ c.get_mut-chunk.ensures.value in (
       (refl, λ w. rw (← c.self.view_is) (ap (λ (xs : List g.row.E.Denot). row xs c.self.inside.capacity) (there.write w))),
       record { writes_back = tt; value = rw (← c.self.view_is) (there.read _ c.get_mut.ensures.value) },
     )
