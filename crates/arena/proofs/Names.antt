@@ -12,9 +12,12 @@ pub use mir.MapTy.{inst_fn}
 pub use mir.Val.{Val, vptr, vint, vunit, vstruct, vcons, vnil, WT}
 pub use prog.Wp.{Env, WpFn}
 pub use types.Logic.{Logic, sem}
-pub use types.Kit.{Item, ⋆, ‵, raw, ◌⊛◌, some, given, at_ret, ◌$◌, ◌∵◌, !, qed, by, move, keep, drop, use0, use1, use2, split, join, rewrite, fsplit, fsplit3, fjoin, fjoin3, pick, learn, feq_i, flt_l, flt_i, suffices, frame, done}
+pub use types.Kit.{Item, ⋆, ‵, raw, ◌⊛◌, some, given, at_ret, ◌$◌, ◌∵◌, !, qed, by, move, keep}
+pub use types.Kit.{drop, use0, use1, use2, split, join, rewrite, fsplit, fsplit3, fjoin, fjoin3}
+pub use types.Kit.{pick, learn, feq_i, flt_l, flt_i, suffices, frame, done}
 pub use types.Part.{whole, sub, look_in}
-pub use types.Run.{enter, look, init, stop, fld, load, bin, of_opd, unit_lit, size_lit, assigns_last, first, blocks, exec, returns}
+pub use types.Run.{enter, look, init, stop, fld, load, bin, of_opd, unit_lit, size_lit}
+pub use types.Run.{assigns_last, first, blocks, exec, returns}
 pub use types.ByLocal.{alloc_all, pass_all, free_all, look_at, get, through, sets, sets_last, env}
 pub use contract.Monad.{fact, fact_i}
 pub use contract.Running.{tables}
@@ -29,5 +32,6 @@ pub use denote.RawPtr.{Ptr, block_ptr, in_a_block}
 pub use denote.Signature.{plain, types_at}
 pub use denote.Steps.{nothing, opens, closes, heard}
 pub use denote.Triple.Walked.{Stays, walk_of, stay_dropped, stay_ref, Goes-dropped, Goes-ref}
-pub use Rattle.core.proofs.ptr.Rows.{El, R, el_x, elτ, sz, Good, el_out, el_in, times_below, one_below}
+pub use Rattle.core.proofs.ptr.Rows.{El, R, el_x, elτ, sz, Good, el_out, el_in, times_below}
+pub use Rattle.core.proofs.ptr.Rows.{one_below}
 pub use Rattle.std.proofs.raw_atomic.Walks.{proved_at, leaves}

@@ -24,7 +24,8 @@ module _ (R : RattleType) where
   abbrev pub block_owns : Ptr → ℕ → List R.Denot → ℕ → Fml
   block_owns (block_ptr b o) k xs n =
       fsep (is_small (k + length xs + n))
-      (fsep (row R full_share xs b (k * type_size R + o)) (fsep (room_of k b o) (room_of n b ((k + length xs) * type_size R + o))))
+      (fsep (row R full_share xs b (k * type_size R + o))
+      (fsep (room_of k b o) (room_of n b ((k + length xs) * type_size R + o))))
   block_owns null_ptr k xs n = ffalse
 
   -- a `&` to each value

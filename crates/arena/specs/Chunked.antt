@@ -1,5 +1,5 @@
 -- How the items of a `Store` lie in chunks. No public clause cites this module.
-use Rattle.std.specs.Prelude.{◌≡◌, ℕ, ◌<◌, ◌≤◌, List, [], ◌∷◌, ◌++◌, length, ⊤}
+use Rattle.std.specs.Prelude.{◌≡◌, ◌<◌, ◌≤◌, List, [], ◌∷◌, ◌++◌, length, ⊤}
 use Rattle.arena.specs.Row.{Row}
 use Rattle.arena.specs.declared.root.Root.{Root}
 use Rattle.arena.specs.declared.root.Root.TheVariants.{Absent, Present}

@@ -7,5 +7,6 @@ use Rattle.arena.specs.contracts.chunk.Chunk as chunk
 use Rattle.arena.specs.contracts.root.Root.{the_row}
 
 -- once the borrow ends, the chunks are what was written through it
-abbrev pub lends_chunks : (E : RattleType) → MutBor (Root E.Denot) → MutBor (Row (Row E.Denot)) → Fml
+abbrev pub lends_chunks : (E : RattleType) → MutBor (Root E.Denot) → MutBor (Row (Row E.Denot))
+    → Fml
 lends_chunks E s r = Lends (the_row E) (chunk.the_row (chunk.the_row E)) s r (λ cs. Present cs)

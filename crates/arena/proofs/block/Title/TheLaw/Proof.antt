@@ -14,6 +14,8 @@ use Rattle.arena.proofs.block.Title.TheLaw.Statement.{statement}
 pub shares : (T A : RattleType) (g : Ghosts A.Denot) (L : Laws T) (K : Laws A) → statement T A g L K
 shares T A g L K =
     let mark = marker.the_row RawPtr in
-    of_Lends (title.struct T A g) (title.the_codes T.Denot A.Denot T.coded A.coded mark.coded) (title.the_heap T A g) (title.the_lent T A g)
-    (λ d p. nothing_shr_laws) (copy_shared (marker.the_field RawPtr) (field_copy (marker.the_type RawPtr) tt), tt)
+    of_Lends (title.struct T A g) (title.the_codes T.Denot A.Denot T.coded A.coded mark.coded)
+    (title.the_heap T A g) (title.the_lent T A g)
+    (λ d p. nothing_shr_laws)
+    (copy_shared (marker.the_field RawPtr) (field_copy (marker.the_type RawPtr) tt), tt)
     (λ M 𝓤 𝓛 d p. Lends-nothing 𝓛 (title.the_heap T A g d) (title.the_row T A g).lives)
