@@ -7,4 +7,5 @@ mod Packed
 mod Places
 mod Reach
 pub mod Sound
+mod Taking
 mod Threads

@@ -291,11 +291,10 @@ impl<T> Arena<T> {
         ensures value { result ≡ get self.old key }
         ensures done { self.new ≡ removed self.old key }
     {
-        if self.get(key).is_some() {
-            Some(self.take(key))
-        } else {
-            None
+        if key.slot as usize >= self.entries.len() {
+            return None;
         }
+        self.take(key)
     }
 
     // Stores a value in the free slot that is used next.
@@ -313,22 +312,25 @@ impl<T> Arena<T> {
         Key { slot, generation }
     }
 
-    // Takes out a value that is there.
-    fn take(&mut self, key: Key) -> T
-        requires { IsSome (get self.old key) }
-        ensures value { get self.old key ≡ Some result }
-        ensures done { self.new ≡ vacated self.old key }
+    // Takes the value under a key out of a slot that was used.
+    fn take(&mut self, key: Key) -> Option<T>
+        requires { key.slot < length self.old.slots }
+        ensures value { result ≡ get self.old key }
+        ensures done { self.new ≡ removed self.old key }
     {
         let entry = self.entries.get_mut(key.slot as usize);
+        if entry.value(key.generation).is_none() {
+            return None;
+        }
         self.len -= 1;
         if key.generation == GREATEST_GENERATION {
-            return mem::replace(entry, Entry::Retired).into_value();
+            return Some(mem::replace(entry, Entry::Retired).into_value());
         }
         let freed = Entry::Free(key.generation + 1, self.first);
         let value = mem::replace(entry, freed).into_value();
         self.first = key.slot;
         self.vacant += 1;
-        value
+        Some(value)
     }
 
     // A value that is there, for writing.

@@ -1,9 +1,10 @@
 //! A row of items that grows at its end, in chunks that never move. Nothing else of the crate knows
 //! how the items lie in memory.
-ghost use Rattle.std.specs.Prelude.{◌≡◌, ◌<◌, ◌++◌, ◌∷◌, [], length, slice_index_or};
+ghost use Rattle.std.specs.Prelude.{◌≡◌, ◌<◌, ◌%◌, ◌++◌, ◌∷◌, [], length, slice_index_or};
 ghost use Rattle.std.specs.Prelude.{OnOk, OnErr, IfErr};
 ghost use Rattle.std.specs.Borrow.{sem};
 ghost use Rattle.arena.specs.Row.{row};
+ghost use Rattle.arena.specs.declared.root.TheConstants.{CHUNK};
 
 use crate::root::{CHUNK, Root, add_chunk};
 use std::alloc::Global;
@@ -92,13 +93,25 @@ impl<E> Store<E> {
         ensures back { IfErr result (λ e. e ≡ item) }
         ensures unchanged { OnErr result (self.new ≡ self.old) }
     {
-        if self.len % CHUNK != 0 {
-            let chunks = self.root.chunks_mut();
-            let chunk = chunks.get_mut(self.len / CHUNK);
-            chunk.push(item);
-            self.len += 1;
-            return Ok(());
+        if self.len % CHUNK == 0 {
+            return self.push_chunk(item);
         }
+        let chunks = self.root.chunks_mut();
+        let chunk = chunks.get_mut(self.len / CHUNK);
+        chunk.push(item);
+        self.len += 1;
+        Ok(())
+    }
+
+    // Puts an item at the end where all chunks are full, so into a chunk of its own.
+    #[cold]
+    fn push_chunk(&mut self, item: E) -> Result<(), E>
+        requires { length self.old.items % CHUNK ≡ 0 }
+        ensures done { OnOk result
+            (self.new ≡ row (self.old.items ++ item ∷ []) self.old.capacity) }
+        ensures back { IfErr result (λ e. e ≡ item) }
+        ensures unchanged { OnErr result (self.new ≡ self.old) }
+    {
         if self.root.make_room(self.alloc).is_err() {
             return Err(item);
         }
