@@ -25,7 +25,7 @@ module _ {T : Type 0} where
   there es first vacant limit key {e} r within read found is =
       let near : key.slot < length es = rw length-map at within in
       let at : get_or (map slot_of es) key.slot slot.Retired ≡ slot_of e =
-          get_or-map slot_of es key.slot Retired ∙ ap slot_of (sym (get_or_read es key.slot e near read Retired)) in
+      get_or-map slot_of es key.slot Retired ∙ ap slot_of (sym (get_or_read es key.slot e near read Retired)) in
       subst (λ s. IsSome (value_of s key.generation)) (sym at) (some_of r (value_of (slot_of e) key.generation) found is)
 
   without-some : (o : Option T) (a : Arena T) (key : Key) → IsSome o → without o a key ≡ vacated a key

@@ -75,10 +75,11 @@ pub enum Fault {
 #[derive(Drop)]
 pub struct Arena<T> {
     entries: Store<Entry<T>>,
-    // The slot that is used next, where `vacant` is not 0.
-    first: u32,
     // How many slots are free.
     vacant: u32,
+    // The slot that is used next, where `vacant` is not 0. It stands between the two counts, which
+    // are written one by one and would else be read as one.
+    first: u32,
     // How many slots are occupied.
     len: u32,
 }
