@@ -26,7 +26,6 @@ use crate::made::Filled;
 use crate::store::Store;
 use std::alloc::Global;
 use std::marker::Model;
-use std::mem;
 
 /// Counts the values that a slot has had, from [`FIRST_GENERATION`] on.
 pub type Generation = u32;
@@ -325,10 +324,9 @@ impl<T> Arena<T> {
         }
         self.len -= 1;
         if key.generation == GREATEST_GENERATION {
-            return Some(mem::replace(entry, Entry::Retired).into_value());
+            return Some(entry.retire());
         }
-        let freed = Entry::Free(key.generation + 1, self.first);
-        let value = mem::replace(entry, freed).into_value();
+        let value = entry.free(key.generation + 1, self.first);
         self.first = key.slot;
         self.vacant += 1;
         Some(value)

@@ -17,7 +17,7 @@ invariant_of-self-then-key-eq-GREATEST_GENERATION g c =
     let some = there _ c.self.inside.first c.self.inside.vacant c.self.inside.entries.capacity
     c.args.key c.value.result within c.get_mut-entry.ensures.value c.value.ensures c.if-is_none.ensures in
     let r = retires c.self.invariant c.args.key some c.if-key-eq-GREATEST_GENERATION.true in
-    rw c.replace.ensures.after r.linked
+    rw c.retire.ensures.done r.linked
 
 pub returns-then-key-eq-GREATEST_GENERATION-clause-done :
     goal.returns-then-key-eq-GREATEST_GENERATION-clause-done
@@ -26,7 +26,7 @@ returns-then-key-eq-GREATEST_GENERATION-clause-done g c =
     let some = there _ c.self.inside.first c.self.inside.vacant c.self.inside.entries.capacity
     c.args.key c.value.result within c.get_mut-entry.ensures.value c.value.ensures c.if-is_none.ensures in
     let r = retires c.self.invariant c.args.key some c.if-key-eq-GREATEST_GENERATION.true in
-    rw (← c.self.view_is, c.replace.ensures.after) (r.done ∙ goes _ c.args.key some)
+    rw (← c.self.view_is, c.retire.ensures.done) (r.done ∙ goes _ c.args.key some)
 
 pub overflow_add-self : goal.overflow_add-self
 overflow_add-self g c =
@@ -43,7 +43,7 @@ invariant_of-self-2 g c =
     let some = there _ c.self.inside.first c.self.inside.vacant c.self.inside.entries.capacity
     c.args.key c.value.result within c.get_mut-entry.ensures.value c.value.ensures c.if-is_none.ensures in
     let f = frees c.self.invariant c.args.key some c.if-key-eq-GREATEST_GENERATION.false in
-    rw c.replace-2.ensures.after f.linked
+    rw c.free-value.ensures.done f.linked
 
 pub returns-clause-done : goal.returns-clause-done
 returns-clause-done g c =
@@ -51,4 +51,4 @@ returns-clause-done g c =
     let some = there _ c.self.inside.first c.self.inside.vacant c.self.inside.entries.capacity
     c.args.key c.value.result within c.get_mut-entry.ensures.value c.value.ensures c.if-is_none.ensures in
     let f = frees c.self.invariant c.args.key some c.if-key-eq-GREATEST_GENERATION.false in
-    rw (← c.self.view_is, c.replace-2.ensures.after) (f.done ∙ goes _ c.args.key some)
+    rw (← c.self.view_is, c.free-value.ensures.done) (f.done ∙ goes _ c.args.key some)
