@@ -5,16 +5,16 @@ pub use Prim.Native.Nat.{ℕ, suc, ◌+◌, ◌-◌, ◌*◌, ◌<◌, ◌^◌}
 pub use native.Mathlib.Omega.{arith}
 pub use lib.ListN.{length, get_or, set, length-append, length-set}
 pub use base.Fraction.{full_share}
-pub use base.Fml.{Lft, Share, GName, Fml, ftrue, fsep, fat, froom, flft, fobs, fbor}
+pub use base.Fml.{Lft, Share, GName, Fml, ftrue, fsep, fat, froom, flft}
 pub use base.Logic.{SProp, ent, sep, id⊢, never}
-pub use mir.Syntax.{Fn, Ty, a_type, named, w64, ty_array}
+pub use mir.Syntax.{Fn, a_type, named, w64, ty_array}
 pub use mir.MapTy.{inst_fn}
-pub use mir.Val.{Val, vptr, vint, vunit, vstruct, vcons, vnil, WT}
+pub use mir.Val.{Val, vptr, vint, vunit, vstruct, vcons, vnil}
 pub use prog.Wp.{Env, WpFn}
 pub use types.Logic.{Logic, sem}
-pub use types.Kit.{Item, ⋆, ‵, raw, ◌⊛◌, some, given, at_ret, ◌$◌, ◌∵◌, !, qed, by, move, keep}
+pub use types.Kit.{‵, raw, ◌⊛◌, some, given, at_ret, ◌$◌, ◌∵◌, !, qed, by, move, keep}
 pub use types.Kit.{drop, use0, use1, use2, split, join, rewrite, fsplit, fsplit3, fjoin, fjoin3}
-pub use types.Kit.{pick, learn, feq_i, flt_l, flt_i, suffices, frame, done}
+pub use types.Kit.{pick, learn, feq_i, flt_l, flt_i, suffices, done}
 pub use types.Part.{whole, sub, look_in}
 pub use types.Run.{enter, look, init, stop, fld, load, bin, of_opd, unit_lit, size_lit}
 pub use types.Run.{assigns_last, first, blocks, exec, returns}
@@ -22,7 +22,7 @@ pub use types.ByLocal.{alloc_all, pass_all, free_all, look_at, get, through, set
 pub use contract.Monad.{fact, fact_i}
 pub use contract.Running.{tables}
 pub use contract.BorrowLft.{◌⊑◌}
-pub use denote.Builtin.{usize, unit}
+pub use denote.Builtin.{usize}
 pub use denote.Exit.{yes, no}
 pub use denote.Index.{place, place_is, row, others, takes, puts}
 pub use denote.Memory.{cell_at, part_at, shares}
@@ -30,7 +30,7 @@ pub use denote.Param.{layouts}
 pub use denote.RattleType.{RattleType, owns}
 pub use denote.RawPtr.{Ptr, block_ptr, in_a_block}
 pub use denote.Signature.{plain, types_at}
-pub use denote.Steps.{nothing, opens, closes, heard}
+pub use denote.Steps.{nothing, heard}
 pub use denote.Triple.Walked.{Stays, walk_of, stay_dropped, stay_ref, Goes-dropped, Goes-ref}
 pub use Rattle.core.proofs.ptr.Rows.{El, R, el_x, elτ, sz, Good, el_out, el_in, times_below}
 pub use Rattle.core.proofs.ptr.Rows.{one_below}
