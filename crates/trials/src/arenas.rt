@@ -69,7 +69,10 @@ fn each_value_is_dropped_once(rt: HostRuntime) {
     let drops = Cell::new(0);
     let mut arena = Arena::with_limit(rt.alloc(), 1_000);
     fill(&rt, &mut arena, &drops, 1_000);
-    assert_eq!(rt; fault(&mut arena, Counted { drops: &drops }), Some(Fault::Full));
+    assert_eq!(rt;
+        fault(&mut arena, Counted { drops: &drops }),
+        Some(Fault::Full)
+    );
     // The value that was given back.
     assert_eq!(rt; drops.replace(0), 1);
 
@@ -82,11 +85,7 @@ fn each_value_is_dropped_once(rt: HostRuntime) {
 }
 
 // So many occupied slots of the first generation.
-fn occupied<'a>(
-    alloc: Global,
-    drops: &'a Cell<u32>,
-    count: u32,
-) -> Option<Vec<Slot<Counted<'a>>>> {
+fn occupied<'a>(alloc: Global, drops: &'a Cell<u32>, count: u32) -> Option<Vec<Slot<Counted<'a>>>> {
     let mut slots = Vec::new(alloc);
     for _ in 0..count {
         if slots.push(Slot::Occupied(1, Counted { drops })).is_err() {
@@ -108,7 +107,11 @@ fn made<'a>(
 #[test]
 fn given_values_are_dropped_once(rt: HostRuntime) {
     let drops = Cell::new(0);
-    for (limit, list) in [(3_000, [].as_slice()), (2_999, [].as_slice()), (3_000, [0].as_slice())] {
+    for (limit, list) in [
+        (3_000, [].as_slice()),
+        (2_999, [].as_slice()),
+        (3_000, [0].as_slice()),
+    ] {
         let slots = occupied(rt.alloc(), &drops, 3_000).expect(&rt, "there is memory");
         let arena = made(rt.alloc(), limit, slots, list);
         assert_eq!(rt; arena.is_ok(), limit == 3_000 && list.is_empty());
