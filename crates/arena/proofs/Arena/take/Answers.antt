@@ -1,4 +1,4 @@
-use Rattle.std.proofs.Common.{◌+◌, ◌^◌, ◌<◌, ◌≤◌, ◌∙◌, arith}
+use Rattle.std.proofs.Common.{◌+◌, ◌^◌, ◌<◌, ◌∙◌, arith}
 use Rattle.arena.proofs.Chains.{retires, frees, vacant_fits}
 use Rattle.arena.proofs.Taking.{there, goes, counted}
 use Rattle.arena.proofs.Arena.take.Goals as goal
