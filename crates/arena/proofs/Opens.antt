@@ -51,7 +51,8 @@ module _ (E : El) where
           → Seq K 𝓛 (‵ (room_of (R E) d.unused b ((d.emptied + length d.values) * sz E + o))
           ∷ ‵ (room_of (R E) d.emptied b o)
           ∷ ‵ (row (R E) full_share d.values b (d.emptied * sz E + o))
-          ∷ ‵ (cell_at full_share B.mir (owner b o ∷ []) rb ro) ∷ ‵ (Fields.own_val (d.start, tt) ms)
+          ∷ ‵ (cell_at full_share B.mir (owner b o ∷ []) rb ro)
+          ∷ ‵ (Fields.own_val (d.start, tt) ms)
           ∷ ‵ (fobor κ q (Body (mem B) rb ro γ)) ∷ ‵ (fobs γ (B.coded.code d))
           ∷ ‵ (fauth γ (B.coded.code d)) ∷ Γ) G)
           → Seq K 𝓛 (‵ (fobs γ (B.coded.code d)) ∷ ‵ (fbor κ (Body (mem B) rb ro γ)) ∷ ‵ (flft κ q)
@@ -59,7 +60,8 @@ module _ (E : El) where
       block_in t z {κ} {q} {γ} d rb ro then =
           opens t z B {h = d} rb ro (λ ms. move t (1 ∷ []) $
           peeks t B _ (shows 𝓛 B) d ms (λ is. fsplit t $ move t (1 ∷ []) $
-          in_a_block t d.start (λ p. block_owns (R E) p d.emptied d.values d.unused) (id⊢ 𝓤 (never 𝓤))
+          in_a_block t d.start (λ p. block_owns (R E) p d.emptied d.values d.unused)
+          (id⊢ 𝓤 (never 𝓤))
           (λ b o e. fsplit t $ flt_l t (λ small. fsplit t $ move t (1 ∷ []) $ fsplit t $
           move t (1 ∷ []) $
           let laid = lowers (R E) (param_laws 0 E.row E.laws) in
@@ -72,12 +74,14 @@ module _ (E : El) where
       pub block_out : K → Soaks G
           → {κ : Lft} {q : Share} {γ : GName} (d new : B.Denot) (rb ro b o : ℕ) (ms : List Val)
           → new.start ≡ block_ptr b o → d.start ≡ new.start → ms ≡ owner b o ∷ [] → IsSmall new
-          → Step K 𝓛 (‵ (fobs γ (B.coded.code new)) ∷ ‵ (fbor κ (Body (mem B) rb ro γ)) ∷ ‵ (flft κ q)
+          → Step K 𝓛 (‵ (fobs γ (B.coded.code new)) ∷ ‵ (fbor κ (Body (mem B) rb ro γ))
+          ∷ ‵ (flft κ q)
           ∷ Γ) G
           (‵ (room_of (R E) new.unused b ((new.emptied + length new.values) * sz E + o))
           ∷ ‵ (room_of (R E) new.emptied b o)
           ∷ ‵ (row (R E) full_share new.values b (new.emptied * sz E + o))
-          ∷ ‵ (cell_at full_share B.mir (owner b o ∷ []) rb ro) ∷ ‵ (Fields.own_val (d.start, tt) ms)
+          ∷ ‵ (cell_at full_share B.mir (owner b o ∷ []) rb ro)
+          ∷ ‵ (Fields.own_val (d.start, tt) ms)
           ∷ ‵ (fobor κ q (Body (mem B) rb ro γ)) ∷ ‵ (fobs γ (B.coded.code d))
           ∷ ‵ (fauth γ (B.coded.code d)) ∷ Γ) G
       block_out t z {κ} {q} {γ} d new rb ro b o ms e kept word small = step (λ s.

@@ -9,7 +9,7 @@ ghost use Rattle.std.specs.Prelude.{IsSome, IsOk, OnOk, OnErr, IfOk, IfErr, Some
 ghost use Rattle.std.specs.Option.{option_copied_mut};
 ghost use Rattle.std.specs.Borrow.{sem};
 ghost use Rattle.arena.specs.Arena.{IsSound, IsFaultOf, IsKey, get, key_at, generation_at, next_key};
-ghost use Rattle.arena.specs.Arena.{inserted, removed, vacated, occupied_count, is_full};
+ghost use Rattle.arena.specs.Arena.{inserted, removed, occupied_count, is_full};
 ghost use Rattle.arena.specs.Arena.{slot_at, slot_read, plain, Refuses};
 
 mod block;

@@ -31,7 +31,8 @@ impl<E> Model for Store<E> {
 
     ghost view = { λ s. row (flat (chunks_of s.root)) s.capacity };
 
-    ghost invariant = { λ s. (s.len ≡ length (flat (chunks_of s.root))) × IsPacked (chunks_of s.root) };
+    ghost invariant = { λ s. (s.len ≡ length (flat (chunks_of s.root)))
+        × IsPacked (chunks_of s.root) };
 }
 
 impl<E> Store<E> {

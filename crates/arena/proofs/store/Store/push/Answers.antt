@@ -1,4 +1,4 @@
-use Rattle.std.proofs.Common.{◌≡◌, ◌<◌, ◌%◌, ◌∷◌, [], List, length, ap, ◌∙◌}
+use Rattle.std.proofs.Common.{◌<◌, ◌%◌, ◌∷◌, [], List, length, ap, ◌∙◌}
 use Rattle.std.proofs.Common.{arith}
 use Rattle.std.proofs.Math.ListN.{length-append}
 use Rattle.arena.specs.Row.{row}

@@ -1,4 +1,4 @@
-use Rattle.std.proofs.Common.{rules, ◌≡◌, ◌%◌, ◌∷◌, [], List, length, ap, ◌∙◌, arith}
+use Rattle.std.proofs.Common.{rules, ◌%◌, ◌∷◌, [], List, length, ap, ◌∙◌, arith}
 use Rattle.std.proofs.Math.ListN.{length-append}
 use Rattle.arena.specs.Row.{row}
 use Rattle.arena.specs.Chunked.{chunks_of, flat, HasRoom}
