@@ -14,6 +14,7 @@ ghost use Rattle.std.specs.Prelude.{
 };
 ghost use Rattle.ids.specs.declared.refusal.Refusal.TheVariants.{Memory};
 ghost use Rattle.msg.specs.Frames.{plain};
+ghost use Rattle.model.specs.Steps.{is_memory_free};
 ghost use Rattle.model.specs.View.{is_other};
 ghost use Rattle.wire.specs.Rule.{receiver, sender, Spells};
 ghost use Rattle.wire.specs.Plays.{IsReleased, Releases};
@@ -29,7 +30,7 @@ ghost use Rattle.wire.specs.Readers.{
   IsSeatOf,
   IsSame,
 };
-ghost use Rattle.cell.specs.Events.{emptied, Handled, IsMarked};
+ghost use Rattle.cell.specs.Events.{emptied, event_of, Handled, IsMarked};
 ghost use Rattle.cell.specs.Sending.{frame_due, next_place, places_after, IsSent};
 
 use crate::desk::Desk;
@@ -163,6 +164,8 @@ impl Desk {
         requires receiver { receiver (plain frame) ≡ (known self.old.seat).me }
         ensures handled { Handled frame result self.old.node self.new.node
             (known self.old.seat) (known self.new.seat) }
+        ensures memory_free { IsTrue (is_memory_free self.old.node.local (event_of frame))
+            → IfErr result (λ e. e ≢ Memory) }
         ensures unsaved { IsMarked (known self.old.seat) (known self.new.seat)
             self.old.is_unsaved self.new.is_unsaved }
         ensures same { IsSame self.old.seat self.new.seat }
