@@ -18,7 +18,7 @@ ghost use Rattle.model.specs.Steps.{is_memory_free};
 ghost use Rattle.model.specs.View.{is_other};
 ghost use Rattle.wire.specs.Rule.{receiver, sender, Spells};
 ghost use Rattle.wire.specs.Plays.{IsReleased, Releases};
-ghost use Rattle.wire.specs.Views.{marks, notes};
+ghost use Rattle.wire.specs.Views.{notes, raises};
 ghost use Rattle.wire.specs.Readers.{
   known,
   inbox,
@@ -139,7 +139,7 @@ impl Desk {
             ≡ (known self.old.seat).pair.saved.local.phases.ended }
         ensures of { IsRaisedOf wire.now result }
         ensures known { known self.new.seat
-            ≡ marks (known self.old.seat).pair.saved.local.phases.ended (known self.old.seat) }
+            ≡ raises (known self.old.seat).pair.saved.local.phases.ended (known self.old.seat) }
         ensures node { self.new.node ≡ self.old.node }
         ensures saved { self.new.saved.value ≡ self.old.saved.value }
         ensures places { self.new.places ≡ self.old.places }

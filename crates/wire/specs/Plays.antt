@@ -11,7 +11,7 @@ use Rattle.model.specs.declared.step.Outcome.TheVariants as outcome
 use Rattle.model.specs.State.{NodeState, got_from, sent_to}
 use Rattle.model.specs.Steps.{act, receive, is_own}
 use Rattle.model.specs.World.{World, run, is_eventful, numbered, IsInNet}
-use Rattle.wire.specs.Views.{Pair, Known, pair_at, notes, claims, takes_in, posts, clears, ticks, marks}
+use Rattle.wire.specs.Views.{Pair, Known, pair_at, notes, claims, takes_in, posts, clears, ticks, raises, marks}
 use Rattle.wire.specs.Lists.{has, found}
 use Rattle.wire.specs.Rule.{AreEvents, events_of, ended_of, sender, receiver, Spells}
 
@@ -119,7 +119,7 @@ module _ {S : Type 0} where
   ticked e q st m r m' = (m'.0 ≡ ticks e q m.0) × (m'.1 ≡ m.1) × Enters e m.0 r m'.0
 
   abbrev pub raised : Step S → Me S Known → ℕ → Me S Known → Type 0
-  raised st m r m' = (m'.0 ≡ marks st.first m.0) × (m'.1 ≡ m.1)
+  raised st m r m' = (m'.0 ≡ raises st.first m.0) × (m'.1 ≡ m.1)
 
   abbrev pub looked : Step S → Me S Known → ℕ → Me S Known → Type 0
   looked st m r m' =

@@ -23,7 +23,7 @@ ghost use Rattle.ids.specs.declared.refusal.Refusal.TheVariants.{Memory};
 ghost use Rattle.trace.specs.Lines.{call_of, line_text};
 ghost use Rattle.model.specs.Steps.{is_memory_free, is_own};
 ghost use Rattle.model.specs.declared.step.Step.TheVariants as step;
-ghost use Rattle.wire.specs.Views.{marks};
+ghost use Rattle.wire.specs.Views.{raises};
 ghost use Rattle.wire.specs.Readers.{
   known,
   raised_cycle,
@@ -122,7 +122,7 @@ impl<D: Disk> Cell<D> {
             ≡ (known self.old.desk.seat).pair.saved.local.phases.ended)
             × IsRaisedOf wire.now r
             × (known self.new.desk.seat
-            ≡ marks (known self.old.desk.seat).pair.saved.local.phases.ended
+            ≡ raises (known self.old.desk.seat).pair.saved.local.phases.ended
             (known self.old.desk.seat))) }
         ensures closed { IsErrOf result Refusal.Closed ↔ (self.old.shelf.ready ≡ false) }
         ensures director { IfErr result (λ e. e ≢ Refusal.Closed
