@@ -17,7 +17,7 @@ ghost use Rattle.msg.specs.Frames.{plain};
 ghost use Rattle.model.specs.Steps.{is_memory_free};
 ghost use Rattle.model.specs.View.{is_other};
 ghost use Rattle.wire.specs.Rule.{receiver, sender, Spells};
-ghost use Rattle.wire.specs.Plays.{IsReleased, Releases};
+ghost use Rattle.wire.specs.Plays.{Arrives, Releases};
 ghost use Rattle.wire.specs.Views.{notes, raises};
 ghost use Rattle.wire.specs.Readers.{
   known,
@@ -114,7 +114,7 @@ impl Desk {
             (((known self.new.seat).read ≢ 1)
             × (known self.new.seat ≡ notes (known self.new.seat).read (known self.old.seat)))
             (λ f. (sender (plain f) ≡ from) × (receiver (plain f) ≡ (known self.old.seat).me)
-            × IsReleased (known self.old.seat).opening (plain f)
+            × Arrives (known self.old.seat) (plain f)
             × (known self.new.seat
             ≡ emptied (inbox self.old.seat from) (plain f) (known self.old.seat))) }
         ensures node { self.new.node ≡ self.old.node }

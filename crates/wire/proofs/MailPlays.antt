@@ -11,6 +11,7 @@ use Rattle.wire.specs.Lists.{has, found}
 use Rattle.wire.specs.Views.{node, Known, notes, claims, takes_in, posts, clears}
 use Rattle.wire.specs.Rule.{nodes_of, AreEvents, Holds}
 use Rattle.wire.specs.Plays.{Owns, claimed, took, posted, emptied}
+use Rattle.wire.specs.Views.{pair_at}
 use Rattle.wire.proofs.Stays.{Standing, node-of}
 use Rattle.wire.proofs.MailSteps.{missed, claim-hit, take-hit, post-done, clear-done}
 
@@ -80,9 +81,14 @@ module _ {S : Type 0} (bytes : S → List ℕ) (opening : World) where
               refl,
               c.7 ∙ ap (λ (k : ℕ). m / k) (sym mine.nodes_is),
               c.8 ∙ sym me_is,
-              subst
-                  (λ (w : World). (log : List Step) × AreEvents w log × IsInNet (run w log) c.0)
-                  (sym mine.opening_is) (h.log, h.events, c.6),
+              record {
+                log = h.log;
+                events = subst (λ (o : World). AreEvents o h.log) (sym mine.opening_is) h.events;
+                net = subst (λ (o : World). IsInNet (run o h.log) c.0) (sym mine.opening_is) c.6;
+                pair = ap (λ (o : World). pair_at (run o h.log) me.0.me) mine.opening_is
+                    ∙ mine.pair_is;
+                own = mine.events_are;
+              },
               (c.1, refl, c.5, c.4),
             ),
           )),

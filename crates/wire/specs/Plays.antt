@@ -72,6 +72,15 @@ abbrev pub IsReleased : World → Plain → Type 0
 IsReleased opening f =
     (log : List model.Step) × AreEvents opening log × IsInNet (run opening log) f
 
+-- Some list of events has the frame in its net, and leads to the seat's pair: the frame may be
+-- delivered where the seat's node stands now.
+pub record Arrives (v : Known) (f : Plain) : Type 0 where
+  pub log : List model.Step
+  pub events : AreEvents v.opening log
+  pub net : IsInNet (run v.opening log) f
+  pub pair : pair_at (run v.opening log) v.me ≡ v.pair
+  pub own : v.events ≡ events_of v.me log
+
 -- node 0 had ended this cycle, and was saved so
 abbrev pub HasEnded : World → ℕ → Type 0
 HasEnded opening number =
@@ -94,7 +103,7 @@ module _ {S : Type 0} where
   abbrev pub Took : (S → List ℕ) → Step S → Me S Known → Me S Known → Plain → Type 0
   Took bytes st m m' f =
       (m'.0 ≡ takes_in st.word f m.0) × (sender f ≡ st.word / m.0.nodes) × (receiver f ≡ m.0.me)
-      × IsReleased m.0.opening f
+      × Arrives m.0 f
       × ((x : S) × (m'.1 ≡ (st.word, x) ∷ m.1) × Spells f (bytes x) × IsFresh st.word m.0)
 
   abbrev pub took : (S → List ℕ) → Step S → Me S Known → ℕ → Me S Known → Type 0

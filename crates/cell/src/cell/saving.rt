@@ -31,7 +31,15 @@ ghost use Rattle.disk.specs.Crashes.{Grew, Only};
 ghost use Rattle.disk.specs.Memory.{filled_by_crash, held_by, IsFaultless, left_by};
 ghost use Rattle.wire.specs.Readers.{known, IsSame, IsSeatOf};
 ghost use Rattle.cell.specs.Disks.{is_same_image, HoldsSaved, OpensTo};
-ghost use Rattle.cell.specs.Events.{done_outcome, reopened_by, restarted_by, saved_by};
+ghost use Rattle.cell.specs.Events.{
+  done_outcome,
+  found_step,
+  reopened_by,
+  restarted_by,
+  saved_by,
+  Entered,
+};
+ghost use Rattle.model.specs.declared.step.Step.TheVariants as step;
 
 use super::Cell;
 use disk::{Disk, MemoryDisk};
@@ -50,6 +58,8 @@ impl<D: Disk> Cell<D> {
         requires wire { IsSeatOf wire.now self.old.desk.seat }
         ensures saved { OnOk result
             (known self.new.desk.seat ≡ saved_by (known self.old.desk.seat)) }
+        ensures entered { OnOk result (Entered (step.Save (known self.old.desk.seat).me)
+            (known self.old.desk.seat) (known self.new.desk.seat)) }
         ensures node { OnOk result (self.new.desk.node ≡ kept_view self.old.desk.node) }
         ensures unsaved { OnOk result (self.new.desk.is_unsaved ≡ false) }
         ensures ready { OnOk result (self.new.shelf.ready ≡ true) }
@@ -99,6 +109,10 @@ impl<D: Disk> Cell<D> {
         ensures reopened { OnOk result (known self.new.desk.seat
             ≡ reopened_by (is_same_image self.new.desk.node self.old.desk.saved.value)
             (known self.old.desk.seat)) }
+        ensures entered { OnOk result (Entered
+            (found_step (is_same_image self.new.desk.node self.old.desk.saved.value)
+            (known self.old.desk.seat).me)
+            (known self.old.desk.seat) (known self.new.desk.seat)) }
         ensures restarted { OnOk result (IsTrue self.old.shelf.ready
             → known self.new.desk.seat ≡ restarted_by (known self.old.desk.seat)) }
         ensures saved_still { OnErr result

@@ -70,7 +70,8 @@ returns-in-Ok-clause-pumped g c =
       frame = f;
       sender = taken.0;
       receiver = taken.1;
-      released = taken.2;
+      released = (taken.2.log, taken.2.events, taken.2.net);
+      arrives = taken.2;
       handled = subst (λ (r : Result Answer Refusal).
           Handled f r cell.desk.node desk.node
           (emptied (inbox cell.desk.seat c.args.from) (plain f) (known cell.desk.seat))
@@ -105,7 +106,8 @@ returns-in-Err-clause-pumped g c =
       frame = f;
       sender = taken.0;
       receiver = taken.1;
-      released = taken.2;
+      released = (taken.2.log, taken.2.events, taken.2.net);
+      arrives = taken.2;
       handled = subst (λ (r : Result Answer Refusal).
           Handled f r cell.desk.node desk.node
           (emptied (inbox cell.desk.seat c.args.from) (plain f) (known cell.desk.seat))
