@@ -5,7 +5,6 @@ use prog.Atomic.{either}
 use Rattle.atomic_table.specs.Table.{State, Me, step, Act, keeps, takes, gives, carried_after, stepped, Valid, Allows, rest}
 use Rattle.atomic_table.proofs.Lists.{exchanged}
 use Rattle.msg.specs.Grammar.{Plain}
-use Rattle.model.specs.declared.step.Step.{Step}
 use Rattle.model.specs.World.{World, run, IsInNet}
 use Rattle.wire.specs.Lists.{has, found}
 use Rattle.wire.specs.Views.{node, Known, notes, claims, takes_in, posts, clears}

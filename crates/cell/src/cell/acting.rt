@@ -22,6 +22,7 @@ ghost use Rattle.ids.specs.declared.limits.TheConstants.{TRACE_EVENTS};
 ghost use Rattle.ids.specs.declared.refusal.Refusal.TheVariants.{Memory};
 ghost use Rattle.trace.specs.Lines.{call_of, line_text};
 ghost use Rattle.model.specs.Steps.{is_memory_free, is_own};
+ghost use Rattle.model.specs.View.{Shows};
 ghost use Rattle.model.specs.declared.step.Step.TheVariants as step;
 ghost use Rattle.wire.specs.Views.{raises};
 ghost use Rattle.wire.specs.Readers.{
@@ -154,9 +155,10 @@ impl<D: Disk> Cell<D> {
         self.desk.is_unsaved
     }
 
-    /// The node as it stands.
+    /// The node as it stands: it shows the state in which the seat's events leave it.
     pub fn node(&self) -> &Node
-        ensures { result.now ≡ self.now.desk.node }
+        ensures value { result.now ≡ self.now.desk.node }
+        ensures shows { Shows result.now (known self.now.desk.seat).pair.current }
     {
         &self.desk.node
     }

@@ -1,4 +1,4 @@
-use Rattle.std.proofs.Common.{◌≡◌, ℕ, ◌+◌, ◌*◌, Some, sym, ap, ◌∙◌, subst}
+use Rattle.std.proofs.Common.{◌≡◌, ◌+◌, ◌*◌, Some, sym, ap, ◌∙◌, subst}
 use Rattle.msg.specs.Grammar.{Plain, spelling}
 use Rattle.msg.specs.Frames.{plain}
 use Rattle.wire.specs.Lists.{found}
