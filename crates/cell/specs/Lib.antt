@@ -3,3 +3,5 @@ pub mod Disks
 pub mod Events
 pub mod Sending
 pub mod Pumping
+pub mod Names
+pub mod Laws
