@@ -5,3 +5,4 @@ pub mod Releasing
 pub mod Opening
 pub mod Refusing
 pub mod NewCells
+pub mod Sent

@@ -1,5 +1,5 @@
 -- The cell of a new node.
-use Rattle.std.proofs.Common.{◌≡◌, ◌<◌, ℕ, List, Some, sym, ap, ◌∙◌, subst}
+use Rattle.std.proofs.Common.{◌≡◌, ◌<◌, ℕ, Some, sym, ap, ◌∙◌, subst}
 use Rattle.ids.specs.Limits.{Shaped}
 use Rattle.model.specs.State.{new_node}
 use Rattle.model.specs.View.{NodeView, Shows, kept_view, new_view}

@@ -1,11 +1,11 @@
 -- The frame that a desk's node sends next is one that its saved state releases.
-use Rattle.std.proofs.Common.{◌≡◌, ◌≢◌, ℕ, ◌+◌, ◌-◌, ◌<◌, ◌≤◌, ltb-true, Bool, true, false, ◌&&◌, cond, not, ◌==◌, List, [], length, take, drop, Option, Some, None, slice_get, refl, sym, ap, ◌∙◌, subst, arith, inl, inr}
+use Rattle.std.proofs.Common.{◌≡◌, ◌≢◌, ℕ, ◌+◌, ◌-◌, ◌<◌, ltb-true, Bool, true, ◌&&◌, not, ◌==◌, List, [], length, take, Option, Some, None, slice_get, refl, sym, ap, ◌∙◌, subst, arith, inl, inr}
 use Rattle.std.specs.Prelude.{nat_lt, slice_index_or}
 use Rattle.std.specs.Option.{option_map}
 use Rattle.std.proofs.lemmas.List.{append-nil}
 use Rattle.std.proofs.lemmas.Bool.{and_parts, cases_Bool, cond-true, cond-false, eq-eqb, lt-ltb}
 use Rattle.ids.specs.declared.limits.TheConstants.{WINDOW}
-use Rattle.msg.specs.Grammar.{Plain, data_frame, ack_frame, spelling}
+use Rattle.msg.specs.Grammar.{Plain, spelling}
 use Rattle.msg.proofs.Frames.{no_spelling_begins_another}
 use Rattle.msg.specs.declared.body.Message.{Message}
 use Rattle.model.specs.State.{LocalState, got_from, sent_to}
@@ -15,7 +15,7 @@ use Rattle.model.proofs.Lookups.{slice_get-drop, slice_get-take}
 use Rattle.node.specs.Frames.{frame_of}
 use Rattle.wire.specs.Views.{Pair}
 use Rattle.wire.specs.Plays.{Releases}
-use Rattle.wire.specs.Rule.{receiver, Spells}
+use Rattle.wire.specs.Rule.{Spells}
 use Rattle.cell.specs.Desks.{StandsAt}
 use Rattle.cell.specs.Sending.{frame_or_ack, frame_due}
 

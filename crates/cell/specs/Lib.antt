@@ -3,3 +3,4 @@ pub mod Disks
 pub mod Events
 pub mod Sending
 pub mod Pumping
+pub mod Names

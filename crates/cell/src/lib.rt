@@ -9,7 +9,9 @@ mod entering;
 mod events;
 mod pumped;
 mod sending;
+mod shared;
 mod tracing;
 
 pub use cell::Cell;
 pub use pumped::{Inbound, Outbound};
+pub use shared::{Naming, Shared, SharedOn, Unnamed};

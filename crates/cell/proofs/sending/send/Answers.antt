@@ -1,5 +1,4 @@
 use Rattle.std.proofs.Common.{ℕ, ◌+◌, ◌*◌, ◌%◌, ◌<◌, ◌≡◌, sym, ◌∙◌, subst}
-use Rattle.wire.specs.Readers.{claim_to}
 use Rattle.wire.specs.Views.{Known, posts}
 use Rattle.wire.specs.Plays.{Releases}
 use Rattle.wire.proofs.Numbers.{is-box}

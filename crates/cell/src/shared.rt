@@ -1,0 +1,176 @@
+//! A cell that the threads of a program share.
+ghost use Rattle.std.specs.Prelude.{◌≡◌, ◌≢◌, ◌⊎◌, true, IfErr, IfOk};
+ghost use Rattle.std.specs.Arc.{arc_value};
+ghost use Rattle.ids.specs.declared.refusal.Refusal.TheVariants as refusal;
+ghost use Rattle.model.specs.Steps.{is_own};
+ghost use Rattle.wire.specs.Readers.{IsSeatOf};
+ghost use Rattle.cell.specs.Names.{name_of, raised_on, seat_name, IsNamed};
+
+use crate::cell::Cell;
+use crate::pumped::{Inbound, Outbound};
+use disk::Disk;
+use ids::Refusal;
+use model::{Answer, Event};
+use std::alloc::Global;
+use std::marker::{Brand, PhantomData};
+use std::sync::{Arc, Mutex, Wait};
+use wire::{Raised, Wire};
+
+/// Names a wire in proofs, so that what was raised through one shared cell can be told to a watch
+/// of the same wire.
+pub trait Naming {
+    ghost use Rattle.std.specs.Prelude.{Option};
+    ghost use Rattle.atomic_table.specs.Seated.{TableId};
+
+    ghost wire: { Option TableId };
+}
+
+/// Names no wire.
+pub struct Unnamed;
+
+impl Naming for Unnamed {
+    ghost use Rattle.std.specs.Prelude.{None};
+
+    ghost wire = { None };
+}
+
+impl Naming for Brand {
+    ghost use Rattle.std.specs.Prelude.{None};
+
+    ghost wire = { None };
+}
+
+// A cell and its wire.
+#[derive(Drop)]
+struct Held<D: Disk, W: Naming> {
+    cell: Cell<D>,
+    wire: Arc<Wire, Global>,
+    name: PhantomData<W>,
+    ghost sits: { IsSeatOf (arc_value wire) cell.desk.seat },
+    ghost named: { IsNamed W.wire (seat_name cell.desk.seat) },
+}
+
+/// A cell that threads share, with its wire: each call locks it for that call alone. Between two
+/// calls all that the cell keeps of its node, seat and disk holds, and the seat is one of the wire.
+/// No clause says what a call did to the cell, since another thread's call may come next.
+#[derive(Drop)]
+pub struct SharedOn<D: Disk, W: Naming> {
+    held: Mutex<Held<D, W>>,
+}
+
+/// A shared cell whose wire has no name in proofs.
+pub type Shared<D> = SharedOn<D, Unnamed>;
+
+impl<D: Disk, W: Naming> Held<D, W> {
+    fn act(&mut self, event: Event) -> Result<Answer, Refusal>
+        requires own { is_own event ≡ true }
+    {
+        let Held { cell, wire, .. } = self;
+        cell.act(wire, event)
+    }
+
+    fn pump_in(&mut self, from: u8) -> Result<Inbound, Refusal> {
+        let Held { cell, wire, .. } = self;
+        cell.pump_in(wire, from)
+    }
+
+    fn save(&mut self) -> Result<(), Refusal>
+        ensures others { IfErr result (λ e. (e ≡ refusal.Closed) ⊎ ((e ≡ refusal.ImageTooLarge)
+            ⊎ ((e ≡ refusal.Memory) ⊎ (e ≡ refusal.Disk)))) }
+    {
+        let Held { cell, wire, .. } = self;
+        cell.save(wire)
+    }
+
+    fn pump_out(&mut self, to: u8) -> Result<Outbound, Refusal>
+        ensures others { IfErr result (λ e. (e ≡ refusal.Closed)
+            ⊎ ((e ≡ refusal.NoNode) ⊎ (e ≡ refusal.Memory))) }
+    {
+        let Held { cell, wire, .. } = self;
+        cell.pump_out(wire, to)
+    }
+
+    fn reopen(&mut self) -> Result<(), Refusal>
+        ensures others { IfErr result (λ e. (e ≡ refusal.Memory) ⊎ (e ≡ refusal.Disk)) }
+    {
+        let Held { cell, wire, .. } = self;
+        cell.reopen(wire)
+    }
+
+    fn raise(&mut self) -> Result<Raised, Refusal>
+        ensures raised { IfOk result (λ r. IsNamed W.wire (raised_on r)) }
+        ensures others { IfErr result (λ e. e ≢ refusal.Closed → e ≡ refusal.NotDirector) }
+    {
+        let Held { cell, wire, .. } = self;
+        cell.raise(wire)
+    }
+
+    fn unsaved(&self) -> bool {
+        self.cell.unsaved()
+    }
+}
+
+impl<D: Disk, W: Naming> SharedOn<D, W> {
+    /// Shares a cell whose seat is one of the wire.
+    pub fn new(cell: Cell<D>, wire: Arc<Wire>) -> SharedOn<D, W>
+        requires seat { IsSeatOf (arc_value wire) cell.desk.seat }
+        requires name { IsNamed W.wire (name_of (arc_value wire)) }
+    {
+        SharedOn {
+            held: Mutex::new(Held {
+                cell,
+                wire,
+                name: PhantomData,
+            }),
+        }
+    }
+
+    /// Gives the node an event of its own, as [`Cell::act`] does.
+    pub fn act<R: Wait>(&self, rt: &R, event: Event) -> Result<Answer, Refusal>
+        requires own { is_own event ≡ true }
+    {
+        self.held.lock(rt).act(event)
+    }
+
+    /// Gives the node the frame that is there from another node, as [`Cell::pump_in`] does.
+    pub fn pump_in<R: Wait>(&self, rt: &R, from: u8) -> Result<Inbound, Refusal> {
+        self.held.lock(rt).pump_in(from)
+    }
+
+    /// Saves the node, as [`Cell::save`] does.
+    pub fn save<R: Wait>(&self, rt: &R) -> Result<(), Refusal>
+        ensures others { IfErr result (λ e. (e ≡ refusal.Closed) ⊎ ((e ≡ refusal.ImageTooLarge)
+            ⊎ ((e ≡ refusal.Memory) ⊎ (e ≡ refusal.Disk)))) }
+    {
+        self.held.lock(rt).save()
+    }
+
+    /// Sends another node the frame that is next, as [`Cell::pump_out`] does.
+    pub fn pump_out<R: Wait>(&self, rt: &R, to: u8) -> Result<Outbound, Refusal>
+        ensures others { IfErr result (λ e. (e ≡ refusal.Closed)
+            ⊎ ((e ≡ refusal.NoNode) ⊎ (e ≡ refusal.Memory))) }
+    {
+        self.held.lock(rt).pump_out(to)
+    }
+
+    /// Takes up the node that the disk holds, as [`Cell::reopen`] does.
+    pub fn reopen<R: Wait>(&self, rt: &R) -> Result<(), Refusal>
+        ensures others { IfErr result (λ e. (e ≡ refusal.Memory) ⊎ (e ≡ refusal.Disk)) }
+    {
+        self.held.lock(rt).reopen()
+    }
+
+    /// Shows on the wire's board what node 0, as saved, counts as ended, as [`Cell::raise`] does.
+    /// Where the wire is named, what is raised is of that wire.
+    pub fn raise<R: Wait>(&self, rt: &R) -> Result<Raised, Refusal>
+        ensures raised { IfOk result (λ r. IsNamed W.wire (raised_on r)) }
+        ensures others { IfErr result (λ e. e ≢ refusal.Closed → e ≡ refusal.NotDirector) }
+    {
+        self.held.lock(rt).raise()
+    }
+
+    /// Whether an event came since the last save or reopening.
+    pub fn unsaved<R: Wait>(&self, rt: &R) -> bool {
+        self.held.lock(rt).unsaved()
+    }
+}
