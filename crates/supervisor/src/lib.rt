@@ -1,0 +1,9 @@
+//! A space whose nodes run in threads of their own: how it is configured, opened from its disks,
+//! started and closed.
+#![tactic(auto)]
+
+mod config;
+mod fault;
+
+pub use config::Config;
+pub use fault::OpenFault;
