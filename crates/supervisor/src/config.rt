@@ -1,9 +1,9 @@
 //! The configuration of a space, as a TOML document says it.
-ghost use Rattle.std.specs.Prelude.{◌≡◌, ◌≤◌, ◌<◌, ◌⊎◌, None, Some, IfErr, IfOk, IfSome, option_and_then, option_map};
+ghost use Rattle.std.specs.Prelude.{◌≡◌, ◌≤◌, ◌<◌, ◌⊎◌, None, Some, IfErr, IfOk, IfSome, cond, ◌==◌, option_and_then, option_map};
 ghost use Rattle.toml.specs.Data.{as_integer, get_member};
 ghost use Rattle.toml.specs.View.{table_view, view};
 ghost use Rattle.ids.specs.declared.refusal.Refusal.TheVariants.{Memory};
-ghost use Rattle.supervisor.specs.Settings.{found_settings, settings_of, folder_in, number_at, shape_at, table_settings, text_settings, within};
+ghost use Rattle.supervisor.specs.Settings.{count_keys, found_settings, settings_of, folder_in, number_at, shape_at, table_settings, text_settings, within};
 ghost use Rattle.supervisor.specs.declared.fault.OpenFault.TheVariants as fault;
 
 use crate::fault::OpenFault;
@@ -29,6 +29,7 @@ pub struct Config {
 }
 
 // What a table says.
+#[derive(Clone, Copy)]
 struct Found<'a> {
     shape: Shape,
     turns: u32,
@@ -90,8 +91,7 @@ fn found_in(table: &Table) -> Option<Found<'_>>
     let shape = shape_in(table)?;
     let turns = number_at(table, "turns", 1, GREATEST_TURNS)?;
     let folder = folder_in(value_at(table, "folder"))?;
-    let keys = if folder.is_some() { KEYS + 1 } else { KEYS };
-    if table.len() != keys {
+    if !has_keys(table, folder.is_some()) {
         return None;
     }
     Some(Found {
@@ -99,6 +99,20 @@ fn found_in(table: &Table) -> Option<Found<'_>>
         turns,
         folder,
     })
+}
+
+// Whether a table has as many keys as a configuration with a folder or without.
+fn has_keys(table: &Table, with_folder: bool) -> bool
+    ensures { result ≡ (count_keys (table_view table.now) == cond with_folder 5 4) }
+{
+    let keys = if with_folder { KEYS + 1 } else { KEYS };
+    count_in(table) == keys
+}
+
+fn count_in(table: &Table) -> usize
+    ensures { result ≡ count_keys (table_view table.now) }
+{
+    table.len()
 }
 
 // The sizes that a table says, if all three are there and within their limits.
