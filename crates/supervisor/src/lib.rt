@@ -4,6 +4,8 @@
 
 mod config;
 mod fault;
+mod team;
 
 pub use config::Config;
 pub use fault::OpenFault;
+pub use team::{Plan, Team};
