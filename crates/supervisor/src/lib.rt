@@ -2,8 +2,10 @@
 //! started and closed.
 #![tactic(auto)]
 
+mod cells;
 mod config;
 mod fault;
+mod nodes;
 mod team;
 
 pub use config::Config;
