@@ -6,8 +6,10 @@ mod cells;
 mod config;
 mod fault;
 mod nodes;
+mod space;
 mod team;
 
 pub use config::Config;
 pub use fault::OpenFault;
+pub use space::Space;
 pub use team::{Plan, Team};
