@@ -88,7 +88,7 @@ module _ {T : Type 0} where
   slot_read es k e read = get_or-map slot_of es k Retired ∙ ap slot_of read
 
   -- the count of the values after a write
-  count-set : (es : List (Entry T)) (k : ℕ) (old new : Entry T) → k < length es
+  pub count-set : (es : List (Entry T)) (k : ℕ) (old new : Entry T) → k < length es
       → get_or es k Retired ≡ old
       → count_by is_occupied (map slot_of (set es k new)) + cond (is_occupied (slot_of old)) 1 0
       ≡ count_by is_occupied (map slot_of es) + cond (is_occupied (slot_of new)) 1 0
@@ -129,7 +129,7 @@ module _ {T : Type 0} where
   found_entry Retired g some = absurd (true≢false (sym some))
 
   -- the entry under a key that finds a value
-  found : (es : List (Entry T)) (first vacant limit : ℕ) (key : Key)
+  pub found : (es : List (Entry T)) (first vacant limit : ℕ) (key : Key)
       → IsSome (get (arena_of es first vacant limit) key) → IsFound es key
   found es first vacant limit key some =
       elim (cases_lt key.slot (length es)) [

@@ -1,6 +1,11 @@
 pub mod Arena
+pub mod Block
+pub mod Chunked
 pub mod Entry
+pub mod Laid
+pub mod LendsChunks
 pub mod LendsItem
+pub mod LendsPlace
 pub mod LendsValue
 pub mod Made
 pub mod Row

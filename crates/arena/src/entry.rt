@@ -136,6 +136,25 @@ impl<T> Entry<T> {
         }
     }
 
+    /// Takes the value out of a slot that is then free, with the generation of its next value, and
+    /// the free slot that is used after it.
+    pub(crate) fn free(&mut self, generation: Generation, next: u32) -> T
+        requires { IsSome (held_by self.old) }
+        ensures value { held_by self.old ≡ Some result }
+        ensures done { self.new ≡ Entry.Free generation next }
+    {
+        mem::replace(self, Entry::Free(generation, next)).into_value()
+    }
+
+    /// Takes the value out of a slot that is never used again.
+    pub(crate) fn retire(&mut self) -> T
+        requires { IsSome (held_by self.old) }
+        ensures value { held_by self.old ≡ Some result }
+        ensures done { self.new ≡ Entry.Retired }
+    {
+        mem::replace(self, Entry::Retired).into_value()
+    }
+
     /// Puts a value into a free slot, under the generation that the slot has for it. It gives that
     /// generation, and the free slot that was named.
     pub(crate) fn occupy(&mut self, value: T) -> (Generation, u32)

@@ -9,15 +9,16 @@ ghost use Rattle.std.specs.Prelude.{IsSome, IsOk, OnOk, OnErr, IfOk, IfErr, Some
 ghost use Rattle.std.specs.Option.{option_copied_mut};
 ghost use Rattle.std.specs.Borrow.{sem};
 ghost use Rattle.arena.specs.Arena.{IsSound, IsFaultOf, IsKey, get, key_at, generation_at, next_key};
-ghost use Rattle.arena.specs.Arena.{inserted, removed, vacated, occupied_count, is_full};
+ghost use Rattle.arena.specs.Arena.{inserted, removed, occupied_count, is_full};
 ghost use Rattle.arena.specs.Arena.{slot_at, slot_read, plain, Refuses};
 
+mod block;
+mod chunk;
 mod entry;
 mod free;
 mod made;
+mod root;
 mod store;
-#[cfg(test)]
-mod tests;
 
 use crate::entry::Entry;
 pub use crate::free::FreeSlots;
@@ -25,7 +26,6 @@ use crate::made::Filled;
 use crate::store::Store;
 use std::alloc::Global;
 use std::marker::Model;
-use std::mem;
 
 /// Counts the values that a slot has had, from [`FIRST_GENERATION`] on.
 pub type Generation = u32;
@@ -74,10 +74,11 @@ pub enum Fault {
 #[derive(Drop)]
 pub struct Arena<T> {
     entries: Store<Entry<T>>,
-    // The slot that is used next, where `vacant` is not 0.
-    first: u32,
     // How many slots are free.
     vacant: u32,
+    // The slot that is used next, where `vacant` is not 0. It stands between the two counts, which
+    // are written one by one and would else be read as one.
+    first: u32,
     // How many slots are occupied.
     len: u32,
 }
@@ -290,11 +291,10 @@ impl<T> Arena<T> {
         ensures value { result ≡ get self.old key }
         ensures done { self.new ≡ removed self.old key }
     {
-        if self.get(key).is_some() {
-            Some(self.take(key))
-        } else {
-            None
+        if key.slot as usize >= self.entries.len() {
+            return None;
         }
+        self.take(key)
     }
 
     // Stores a value in the free slot that is used next.
@@ -312,22 +312,24 @@ impl<T> Arena<T> {
         Key { slot, generation }
     }
 
-    // Takes out a value that is there.
-    fn take(&mut self, key: Key) -> T
-        requires { IsSome (get self.old key) }
-        ensures value { get self.old key ≡ Some result }
-        ensures done { self.new ≡ vacated self.old key }
+    // Takes the value under a key out of a slot that was used.
+    fn take(&mut self, key: Key) -> Option<T>
+        requires { key.slot < length self.old.slots }
+        ensures value { result ≡ get self.old key }
+        ensures done { self.new ≡ removed self.old key }
     {
         let entry = self.entries.get_mut(key.slot as usize);
+        if entry.value(key.generation).is_none() {
+            return None;
+        }
         self.len -= 1;
         if key.generation == GREATEST_GENERATION {
-            return mem::replace(entry, Entry::Retired).into_value();
+            return Some(entry.retire());
         }
-        let freed = Entry::Free(key.generation + 1, self.first);
-        let value = mem::replace(entry, freed).into_value();
+        let value = entry.free(key.generation + 1, self.first);
         self.first = key.slot;
         self.vacant += 1;
-        value
+        Some(value)
     }
 
     // A value that is there, for writing.

@@ -1,18 +1,24 @@
-//! A row of items that grows at its end. Nothing else of the crate knows how the items lie in
-//! memory.
-ghost use Rattle.std.specs.Prelude.{◌≡◌, ◌<◌, ◌++◌, ◌∷◌, [], length, slice_index_or};
+//! A row of items that grows at its end, in chunks that never move. Nothing else of the crate knows
+//! how the items lie in memory.
+ghost use Rattle.std.specs.Prelude.{◌≡◌, ◌<◌, ◌%◌, ◌++◌, ◌∷◌, [], length, slice_index_or};
 ghost use Rattle.std.specs.Prelude.{OnOk, OnErr, IfErr};
 ghost use Rattle.std.specs.Borrow.{sem};
 ghost use Rattle.arena.specs.Row.{row};
+ghost use Rattle.arena.specs.declared.root.TheConstants.{CHUNK};
 
+use crate::root::{CHUNK, Root, add_chunk};
 use std::alloc::Global;
 use std::marker::Model;
 
 /// At most as many items as its capacity says, numbered from 0 in the order in which they came.
+/// Every chunk but the last is full, and none is empty. To grow takes one chunk, and now and then
+/// a root of twice the size, into which the chunks' own pointers are moved and no item.
 #[derive(Drop)]
 pub(crate) struct Store<E> {
-    items: Vec<E>,
+    root: Root<E>,
+    len: usize,
     capacity: usize,
+    alloc: Global,
 }
 
 impl<E> Model for Store<E> {
@@ -20,7 +26,13 @@ impl<E> Model for Store<E> {
 
     ghost Value = { Row E };
 
-    ghost view = { λ s. row s.items.items s.capacity };
+    ghost use Rattle.arena.specs.Chunked.{IsPacked, flat, chunks_of};
+    ghost use Rattle.std.specs.Prelude.{length, ◌≡◌};
+
+    ghost view = { λ s. row (flat (chunks_of s.root)) s.capacity };
+
+    ghost invariant = { λ s. (s.len ≡ length (flat (chunks_of s.root)))
+        × IsPacked (chunks_of s.root) };
 }
 
 impl<E> Store<E> {
@@ -31,8 +43,10 @@ impl<E> Store<E> {
         ensures { result ≡ row [] capacity }
     {
         Store {
-            items: Vec::new(alloc),
+            root: Root::Absent,
+            len: 0,
             capacity,
+            alloc,
         }
     }
 
@@ -47,7 +61,7 @@ impl<E> Store<E> {
     pub(crate) fn len(&self) -> usize
         ensures { result ≡ length self.now.items }
     {
-        self.items.len()
+        self.len
     }
 
     /// The item of a number.
@@ -55,7 +69,9 @@ impl<E> Store<E> {
         requires { index < length self.now.items }
         ensures { result.now ≡ slice_index_or self.now.items index result.now }
     {
-        &self.items[index]
+        let chunks = self.root.chunks();
+        let chunk = chunks.get(index / CHUNK);
+        chunk.get(index % CHUNK)
     }
 
     /// The item of a number, for writing.
@@ -64,7 +80,9 @@ impl<E> Store<E> {
         ensures* writes_back { sem 𝓛 (lends_item E.row self.entry index result) }
         ensures value { result.now ≡ slice_index_or self.old.items index result.now }
     {
-        &mut self.items[index]
+        let chunks = self.root.chunks_mut();
+        let chunk = chunks.get_mut(index / CHUNK);
+        chunk.get_mut(index % CHUNK)
     }
 
     /// Puts an item at the end. Where there is no memory for it, it comes back, and the store is as
@@ -76,6 +94,30 @@ impl<E> Store<E> {
         ensures back { IfErr result (λ e. e ≡ item) }
         ensures unchanged { OnErr result (self.new ≡ self.old) }
     {
-        self.items.push(item).map_err(|failed| failed.value)
+        if self.len % CHUNK == 0 {
+            return self.push_chunk(item);
+        }
+        let chunks = self.root.chunks_mut();
+        let chunk = chunks.get_mut(self.len / CHUNK);
+        chunk.push(item);
+        self.len += 1;
+        Ok(())
+    }
+
+    // Puts an item at the end where all chunks are full, so into a chunk of its own.
+    #[cold]
+    fn push_chunk(&mut self, item: E) -> Result<(), E>
+        requires { length self.old.items % CHUNK ≡ 0 }
+        ensures done { OnOk result
+            (self.new ≡ row (self.old.items ++ item ∷ []) self.old.capacity) }
+        ensures back { IfErr result (λ e. e ≡ item) }
+        ensures unchanged { OnErr result (self.new ≡ self.old) }
+    {
+        if self.root.make_room(self.alloc).is_err() {
+            return Err(item);
+        }
+        add_chunk(self.root.chunks_mut(), self.alloc, item)?;
+        self.len += 1;
+        Ok(())
     }
 }

@@ -23,6 +23,3 @@ pub use asking::{ask, unask, unvouch, vouch};
 pub use joining::ask_for_roots;
 pub use scanning::scan;
 pub use shading::shade_all;
-
-#[cfg(test)]
-mod tests;

@@ -6,3 +6,4 @@ pub mod Opening
 pub mod Refusing
 pub mod NewCells
 pub mod Sent
+pub mod Composed

@@ -18,3 +18,7 @@ OpensToEither saved n c = OpensTo saved c ⊎ OpensTo (kept_view n) c
 -- the nodes have the same image
 abbrev pub is_same_image : NodeView → NodeView → Bool
 is_same_image m n = bytes_eq (image_of m) (image_of n)
+
+-- whatever a crash leaves opens to the node that was saved last
+abbrev pub HoldsSaved : (Areas → Type 0) → NodeView → Type 0
+HoldsSaved may_leave saved = (c : Areas) → may_leave c → ∥ OpensTo saved c ∥₁

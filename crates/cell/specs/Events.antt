@@ -1,5 +1,5 @@
 -- What a call makes of a node, and of what its seat knows.
-use Rattle.std.specs.Prelude.{◌≡◌, ◌≢◌, ℕ, Bool, true, false, cond, Result, Ok, Err, OnErr}
+use Rattle.std.specs.Prelude.{◌≡◌, ◌≢◌, ℕ, Bool, true, false, cond, Result, Ok, Err, IfOk, OnErr}
 use Rattle.ids.specs.declared.refusal.Refusal.{Refusal}
 use Rattle.msg.specs.Grammar.{Plain}
 use Rattle.msg.specs.declared.frame.Ack.{Ack}
@@ -17,7 +17,7 @@ use Rattle.model.specs.Steps.{act, is_shading}
 use Rattle.model.specs.View.{NodeView, Follows, Performs, view_act}
 use Rattle.model.specs.World.{is_eventful}
 use Rattle.wire.specs.Views.{Known, Pair, ticks, clears, takes_in}
-use Rattle.wire.specs.Plays.{Happens, IsEventful}
+use Rattle.wire.specs.Plays.{Enters, Happens, IsEventful}
 use Rattle.trace.specs.declared.call.Outcome as trace
 use Rattle.trace.specs.declared.call.Outcome.TheVariants as traced
 
@@ -49,15 +49,22 @@ unsaved_after (Err r) was = was
 abbrev pub IsMarked : Known → Known → Bool → Bool → Type 0
 IsMarked v w was is = (w.events ≡ v.events → is ≡ was) × (w.events ≢ v.events → is ≡ true)
 
+-- The step entered the history of the space: some list of events leads to what the seat knew before,
+-- and with this step after it to what the seat knows now.
+abbrev pub Entered : Step → Known → Known → Type 0
+Entered s v w = (count : ℕ) × Enters s v count w
+
 -- The node was given an event, which is this step of the space: what it answered, and how it stands
 -- afterwards, is what the definitions say of the state that it showed; and what it was refused is
--- the first refusal that applies. What is refused, reads a word or repeats a message is no event.
+-- the first refusal that applies. What is refused, reads a word or repeats a message is no event;
+-- all else entered the history.
 pub record Acted (e : Event) (s : Step) (result : Result Answer Refusal) (old new : NodeView)
     (v w : Known) : Type 0 where
   pub performs : Performs (is_shading e) result new (view_act old e)
   pub states : Follows e result new (act v.pair.current e)
   pub unchanged : OnErr result (new ≡ old)
   pub known : w ≡ known_after e s result v
+  pub entered : IfOk result (λ a. is_counted a ≡ true → Entered s v w)
 
 -- the same of an acknowledgement, which is no event
 pub record Acknowledged (a : Ack) (result : Result Answer Refusal) (old new : NodeView)

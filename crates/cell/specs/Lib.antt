@@ -4,3 +4,4 @@ pub mod Events
 pub mod Sending
 pub mod Pumping
 pub mod Names
+pub mod Laws

@@ -6,7 +6,8 @@ ghost use Rattle.image.specs.Nodes.{IsImageOf};
 ghost use Rattle.wire.specs.Readers.{known, IsSeatOf, IsSame};
 ghost use Rattle.cell.specs.Desks.{IsAtSeat};
 ghost use Rattle.cell.specs.Disks.{is_same_image};
-ghost use Rattle.cell.specs.Events.{reopened_by, saved_by};
+ghost use Rattle.cell.specs.Events.{found_step, reopened_by, saved_by, Entered};
+ghost use Rattle.model.specs.declared.step.Step.TheVariants as step;
 
 use crate::desk::Desk;
 use crate::entering::{enter_found, enter_save};
@@ -54,6 +55,8 @@ impl Desk {
         requires image { IsImageOf (image_of self.old.node) (kept_view self.old.node) }
         ensures same { IsSame self.old.seat self.new.seat }
         ensures known { known self.new.seat ≡ saved_by (known self.old.seat) }
+        ensures entered { Entered (step.Save (known self.old.seat).me)
+            (known self.old.seat) (known self.new.seat) }
         ensures node { self.new.node ≡ kept_view self.old.node }
         ensures saved { self.new.saved.value ≡ kept_view self.old.node }
         ensures places { self.new.places ≡ self.old.places }
@@ -75,6 +78,9 @@ impl Desk {
         ensures same { IsSame self.old.seat self.new.seat }
         ensures known { known self.new.seat
             ≡ reopened_by (is_same_image found self.old.saved.value) (known self.old.seat) }
+        ensures entered { Entered
+            (found_step (is_same_image found self.old.saved.value) (known self.old.seat).me)
+            (known self.old.seat) (known self.new.seat) }
         ensures node { self.new.node ≡ found }
         ensures saved { self.new.saved.value ≡ found }
         ensures places { self.new.places ≡ replicate 16 0 }

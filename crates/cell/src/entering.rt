@@ -1,10 +1,11 @@
 // How an event enters the history of the space.
 ghost use Rattle.std.specs.Prelude.{◌≡◌};
 ghost use Rattle.model.specs.declared.step.Step.{Step as StepOf};
+ghost use Rattle.model.specs.declared.step.Step.TheVariants as step;
 ghost use Rattle.wire.specs.Views.{Pair, ticks};
 ghost use Rattle.wire.specs.Plays.{Happens};
 ghost use Rattle.wire.specs.Readers.{known, IsSeatOf, IsSame};
-ghost use Rattle.cell.specs.Events.{saved_by};
+ghost use Rattle.cell.specs.Events.{saved_by, Entered};
 
 use model::{Event, Step};
 use node::Node;
@@ -18,6 +19,7 @@ pub(crate) fn enter(wire: &Wire, seat: &mut NodeSeat, _step: Step, _event: &Even
     requires event { Happens (known seat.old) happened.0 happened.1 }
     ensures same { IsSame seat.old seat.new }
     ensures ticked { known seat.new ≡ ticks happened.0 happened.1 (known seat.old) }
+    ensures entered { Entered happened.0 (known seat.old) (known seat.new) }
 {
     wire.tick(seat);
 }
@@ -27,6 +29,7 @@ pub(crate) fn enter_save(wire: &Wire, seat: &mut NodeSeat)
     requires wire { IsSeatOf wire.now seat.old }
     ensures same { IsSame seat.old seat.new }
     ensures ticked { known seat.new ≡ saved_by (known seat.old) }
+    ensures entered { Entered (step.Save (known seat.old).me) (known seat.old) (known seat.new) }
 {
     wire.tick(seat);
 }
@@ -39,6 +42,7 @@ pub(crate) fn enter_found(wire: &Wire, seat: &mut NodeSeat, _found: &Node, _save
     requires event { Happens (known seat.old) happened.0 happened.1 }
     ensures same { IsSame seat.old seat.new }
     ensures ticked { known seat.new ≡ ticks happened.0 happened.1 (known seat.old) }
+    ensures entered { Entered happened.0 (known seat.old) (known seat.new) }
 {
     wire.tick(seat);
 }

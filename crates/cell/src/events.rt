@@ -1,6 +1,7 @@
 // Events of the node at a desk.
-ghost use Rattle.std.specs.Prelude.{◌≡◌, true};
-ghost use Rattle.model.specs.Steps.{is_own};
+ghost use Rattle.std.specs.Prelude.{◌≡◌, ◌≢◌, true, IfErr, IsTrue};
+ghost use Rattle.ids.specs.declared.refusal.Refusal.TheVariants.{Memory};
+ghost use Rattle.model.specs.Steps.{is_memory_free, is_own};
 ghost use Rattle.model.specs.declared.step.Step.TheVariants as step;
 ghost use Rattle.wire.specs.Plays.{HasTaken};
 ghost use Rattle.wire.specs.Readers.{known, IsSeatOf, IsSame};
@@ -42,6 +43,8 @@ impl Desk {
         requires own { is_own event ≡ true }
         ensures acted { Acted event (step.Act (known self.old.seat).me event) result
             self.old.node self.new.node (known self.old.seat) (known self.new.seat) }
+        ensures memory_free { IsTrue (is_memory_free self.old.node.local event)
+            → IfErr result (λ e. e ≢ Memory) }
         ensures unsaved { self.new.is_unsaved ≡ unsaved_after result self.old.is_unsaved }
         ensures same { IsSame self.old.seat self.new.seat }
         ensures saved { self.new.saved.value ≡ self.old.saved.value }
@@ -62,6 +65,8 @@ impl Desk {
         requires may { MayAct (known self.old.seat) event step }
         ensures acted { Acted event step result
             self.old.node self.new.node (known self.old.seat) (known self.new.seat) }
+        ensures memory_free { IsTrue (is_memory_free self.old.node.local event)
+            → IfErr result (λ e. e ≢ Memory) }
         ensures unsaved { self.new.is_unsaved ≡ unsaved_after result self.old.is_unsaved }
         ensures same { IsSame self.old.seat self.new.seat }
         ensures saved { self.new.saved.value ≡ self.old.saved.value }
@@ -79,6 +84,7 @@ impl Desk {
     pub(crate) fn acknowledge(&mut self, ack: Ack) -> Result<Answer, Refusal>
         ensures acknowledged { Acknowledged ack result
             self.old.node self.new.node (known self.old.seat) (known self.new.seat) }
+        ensures memory_free { IfErr result (λ e. e ≢ Memory) }
         ensures unsaved { self.new.is_unsaved ≡ self.old.is_unsaved }
         ensures seat { self.new.seat ≡ self.old.seat }
         ensures saved { self.new.saved.value ≡ self.old.saved.value }

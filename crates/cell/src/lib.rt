@@ -7,11 +7,13 @@ mod desk;
 mod disks;
 mod entering;
 mod events;
+mod headline;
 mod pumped;
 mod sending;
 mod shared;
 mod tracing;
 
 pub use cell::Cell;
+pub use headline::laws;
 pub use pumped::{Inbound, Outbound};
 pub use shared::{Naming, Shared, SharedOn, Unnamed};

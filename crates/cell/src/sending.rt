@@ -14,10 +14,11 @@ ghost use Rattle.std.specs.Prelude.{
 };
 ghost use Rattle.ids.specs.declared.refusal.Refusal.TheVariants.{Memory};
 ghost use Rattle.msg.specs.Frames.{plain};
+ghost use Rattle.model.specs.Steps.{is_memory_free};
 ghost use Rattle.model.specs.View.{is_other};
 ghost use Rattle.wire.specs.Rule.{receiver, sender, Spells};
-ghost use Rattle.wire.specs.Plays.{IsReleased, Releases};
-ghost use Rattle.wire.specs.Views.{marks, notes};
+ghost use Rattle.wire.specs.Plays.{Arrives, Releases};
+ghost use Rattle.wire.specs.Views.{notes, raises};
 ghost use Rattle.wire.specs.Readers.{
   known,
   inbox,
@@ -29,7 +30,7 @@ ghost use Rattle.wire.specs.Readers.{
   IsSeatOf,
   IsSame,
 };
-ghost use Rattle.cell.specs.Events.{emptied, Handled, IsMarked};
+ghost use Rattle.cell.specs.Events.{emptied, event_of, Handled, IsMarked};
 ghost use Rattle.cell.specs.Sending.{frame_due, next_place, places_after, IsSent};
 
 use crate::desk::Desk;
@@ -113,7 +114,7 @@ impl Desk {
             (((known self.new.seat).read ≢ 1)
             × (known self.new.seat ≡ notes (known self.new.seat).read (known self.old.seat)))
             (λ f. (sender (plain f) ≡ from) × (receiver (plain f) ≡ (known self.old.seat).me)
-            × IsReleased (known self.old.seat).opening (plain f)
+            × Arrives (known self.old.seat) (plain f)
             × (known self.new.seat
             ≡ emptied (inbox self.old.seat from) (plain f) (known self.old.seat))) }
         ensures node { self.new.node ≡ self.old.node }
@@ -138,7 +139,7 @@ impl Desk {
             ≡ (known self.old.seat).pair.saved.local.phases.ended }
         ensures of { IsRaisedOf wire.now result }
         ensures known { known self.new.seat
-            ≡ marks (known self.old.seat).pair.saved.local.phases.ended (known self.old.seat) }
+            ≡ raises (known self.old.seat).pair.saved.local.phases.ended (known self.old.seat) }
         ensures node { self.new.node ≡ self.old.node }
         ensures saved { self.new.saved.value ≡ self.old.saved.value }
         ensures places { self.new.places ≡ self.old.places }
@@ -163,6 +164,8 @@ impl Desk {
         requires receiver { receiver (plain frame) ≡ (known self.old.seat).me }
         ensures handled { Handled frame result self.old.node self.new.node
             (known self.old.seat) (known self.new.seat) }
+        ensures memory_free { IsTrue (is_memory_free self.old.node.local (event_of frame))
+            → IfErr result (λ e. e ≢ Memory) }
         ensures unsaved { IsMarked (known self.old.seat) (known self.new.seat)
             self.old.is_unsaved self.new.is_unsaved }
         ensures same { IsSame self.old.seat self.new.seat }

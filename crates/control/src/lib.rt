@@ -5,6 +5,3 @@
 mod phases;
 
 pub use phases::Phases;
-
-#[cfg(test)]
-mod tests;

@@ -70,7 +70,10 @@ fn open_folder<R: Files<File = File>>(
     load(alloc, &mut memory, Area::Select, &mut select)?;
     load(alloc, &mut memory, Area::A, &mut a)?;
     load(alloc, &mut memory, Area::B, &mut b)?;
-    Ok(FileDisk::over(select, a, b, memory))
+    // The files were just read.
+    let mut disk = FileDisk::over(select, a, b, memory);
+    disk.doubted = false;
+    Ok(disk)
 }
 
 /// Makes a folder, and those above it, where they are absent. Each is synced into the one above it.
@@ -139,19 +142,22 @@ fn load(alloc: Global, memory: &mut MemoryDisk, area: Area, file: &mut File) -> 
 }
 
 impl<F: FileExt + OpenFile> FileDisk<F> {
-    /// The disk in these files, which hold what `memory` says.
-    pub(crate) fn over(select: F, a: F, b: F, memory: MemoryDisk) -> Self {
+    /// The disk in these files, which are to hold what `memory` says. That isn't taken on trust:
+    /// the first sync compares them, and fails while they differ.
+    pub fn over(select: F, a: F, b: F, memory: MemoryDisk) -> Self
+        ensures { result.memory ≡ memory }
+    {
         FileDisk {
             select,
             a,
             b,
             memory,
-            doubted: false,
+            doubted: true,
             stale: false,
         }
     }
 
-    pub(crate) fn file(&self, area: Area) -> &F {
+    fn file(&self, area: Area) -> &F {
         match area {
             Area::Select => &self.select,
             Area::A => &self.a,

@@ -18,6 +18,3 @@ pub use file::FileDisk;
 pub use memory::MemoryDisk;
 pub use persist::Persist;
 pub use shelf::{Shelf, is_blank};
-
-#[cfg(test)]
-mod tests;

@@ -7,6 +7,3 @@ mod object;
 pub use arena::{FreeSlots, Slot};
 pub use heap::{Heap, HeapParts};
 pub use object::Object;
-
-#[cfg(test)]
-mod tests;

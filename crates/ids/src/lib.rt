@@ -14,6 +14,3 @@ pub use limits::{
 pub use names::{Cycle, NodeId, Ref, RefOrDash};
 pub use refusal::Refusal;
 pub use shape::Shape;
-
-#[cfg(test)]
-mod tests;

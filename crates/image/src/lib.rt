@@ -21,6 +21,3 @@ mod writing;
 pub use law::{grammar, nodes_saved, nodes_spelled};
 pub use restoring::from_bytes;
 pub use saving::to_bytes;
-
-#[cfg(test)]
-mod tests;

@@ -179,7 +179,7 @@ base-run (further before s) base = base-plain s (base-run before base)
 
 -- ---- a new space
 
-new-at : (shape : Shaped) (choice : ℕ → Bool) (i : ℕ)
+pub new-at : (shape : Shaped) (choice : ℕ → Bool) (i : ℕ)
     → cut (new_world shape) choice i ≡ node_at (new_nodes shape) i
 new-at shape choice i =
     cond_both (choice i) (node_at (new_nodes shape) i) (node_at (new_nodes shape) i)

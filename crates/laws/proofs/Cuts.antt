@@ -12,6 +12,7 @@ use Rattle.model.specs.Steps.{act, receive}
 use Rattle.model.specs.World.{World, KeepsSent, released, numbered, new_world, happens, run}
 use Rattle.model.specs.Cuts.{Cut, cut, taken, IsInFlight, Becomes, PlainStep, acts, delivers, PlainRun, still, further}
 use Rattle.laws.specs.Statements.{CutsExtend}
+use Rattle.laws.specs.Sights.{choosing}
 use Rattle.model.proofs.Lookups.{at_set_if}
 use Rattle.laws.proofs.Lookups.{Grows, grows-refl, slice_get-grows}
 use Rattle.laws.proofs.StepFacts.{Delivery, given_to, IsTurnOf, IsReleased, Acted, Delivered, Happening, nothing, acted, delivered, saved, restarted, happening, Receipt, repeated, next, receipt-cases}
@@ -28,7 +29,7 @@ one-step : {c d : Cut} → PlainStep c d → PlainRun c d
 one-step {c = c} s = further (still (λ i. refl)) s
 
 -- the current state, where that is chosen
-current-chosen : (w : World) (choice : ℕ → Bool) (i : ℕ) → choice i ≡ false
+pub current-chosen : (w : World) (choice : ℕ → Bool) (i : ℕ) → choice i ≡ false
     → cut w choice i ≡ node_at w.current i
 current-chosen w choice i chosen = cond-false (choice i) _ _ chosen
 
@@ -66,7 +67,7 @@ cut-released w choice from to number x h there =
 
 -- a released message whose turn it is, is the first in flight where the current state of its
 -- receiver is chosen
-turn-number : (w : World) (choice : ℕ → Bool) (m : Delivery) → choice m.to ≡ false
+pub turn-number : (w : World) (choice : ℕ → Bool) (m : Delivery) → choice m.to ≡ false
     → IsTurnOf (node_at w.current m.to) m → m.number ≡ taken (cut w choice) m.from m.to + 1
 turn-number w choice m chosen turn =
     turn
@@ -89,11 +90,11 @@ Before w d = (earlier : ℕ → Bool) × PlainRun (cut w earlier) d
 
 -- the current state of a node changes
 module _ (w : World) (i : ℕ) (t : NodeState) (choice : ℕ → Bool) where
-  abbrev after_change : Cut
+  abbrev pub after_change : Cut
   after_change = cut (record w { current = set w.current i t }) choice
 
   -- this doesn't show where the saved state of the node is chosen
-  hidden : choice i ≡ true → (j : ℕ) → after_change j ≡ cut w choice j
+  pub hidden : choice i ≡ true → (j : ℕ) → after_change j ≡ cut w choice j
   hidden chosen j =
       at_set_if (λ z. cond (choice j) (node_at w.saved j) z ≡ cut w choice j) w.current i j t
       no_node
@@ -103,7 +104,7 @@ module _ (w : World) (i : ℕ) (t : NodeState) (choice : ℕ → Bool) where
       refl
 
   -- else it is what has changed
-  shown : i < length w.current → choice i ≡ false → Becomes (cut w choice) after_change i t
+  pub shown : i < length w.current → choice i ≡ false → Becomes (cut w choice) after_change i t
   shown within chosen = record {
     changed = cond-false (choice i) _ _ chosen ∙ get_or-set_same w.current i t no_node within;
     others = λ j other.
@@ -166,10 +167,7 @@ either : (b : Bool) (x y : NodeState) → x ≡ y → cond b x y ≡ y
 either true x y h = h
 either false x y h = refl
 
-abbrev choosing : (ℕ → Bool) → ℕ → Bool → ℕ → Bool
-choosing choice i b k = cond (eqb k i) b (choice k)
-
-cut-choosing : (w : World) (choice : ℕ → Bool) (i : ℕ) (b : Bool) (s : NodeState) (j : ℕ)
+pub cut-choosing : (w : World) (choice : ℕ → Bool) (i : ℕ) (b : Bool) (s : NodeState) (j : ℕ)
     → (j ≡ i → s ≡ cond b (node_at w.saved j) (node_at w.current j)) → (j ≢ i → s ≡ cut w choice j)
     → s ≡ cut w (choosing choice i b) j
 cut-choosing w choice i b s j here others = ⊎_elim
@@ -189,7 +187,7 @@ set-here : (states : List NodeState) (i j : ℕ) (s : NodeState) → i < length 
 set-here states i j s within e =
     ap (node_at (set states i s)) e ∙ get_or-set_same states i s no_node within
 
-cut-saved : (w : World) (i : ℕ) (choice : ℕ → Bool) → i < length w.saved → (j : ℕ)
+pub cut-saved : (w : World) (i : ℕ) (choice : ℕ → Bool) → i < length w.saved → (j : ℕ)
     → cut (record w { saved = set w.saved i (node_at w.current i) }) choice j
     ≡ cut w (choosing choice i false) j
 cut-saved w i choice within j =
@@ -201,7 +199,7 @@ cut-saved w i choice within j =
     ap (λ (z : NodeState). cond (choice j) z (node_at w.current j))
     (get_or-set_other w.saved i j (node_at w.current i) no_node other))
 
-cut-restarted : (w : World) (i : ℕ) (choice : ℕ → Bool) → i < length w.current → (j : ℕ)
+pub cut-restarted : (w : World) (i : ℕ) (choice : ℕ → Bool) → i < length w.current → (j : ℕ)
     → cut (record w { current = set w.current i (node_at w.saved i) }) choice j
     ≡ cut w (choosing choice i true) j
 cut-restarted w i choice within j =

@@ -38,7 +38,7 @@ use Rattle.laws.proofs.Live.{all-inv}
 -- ---- targets
 
 -- what a message is about is the receiver's own, and is one that it mentions
-target-own : (n : ℕ) (c : Cut) (from to s : ℕ) (b : Body) → BodyFits n (phases_of c) from to s b
+pub target-own : (n : ℕ) (c : Cut) (from to s : ℕ) (b : Body) → BodyFits n (phases_of c) from to s b
     → IfAny (λ (r : Ref). r.node ≡ to) (target_of b)
 target-own n c from to s (body.Mark target) fits = fits.0
 target-own n c from to s (body.Put target place reference) fits = fits.0

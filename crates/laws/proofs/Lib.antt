@@ -48,3 +48,9 @@ pub mod Good
 pub mod GoodEvents
 pub mod GoodCuts
 pub mod OldGarbage
+pub mod Things
+pub mod Unseen
+pub mod Doings
+pub mod Telling
+pub mod Seeing
+pub mod Transparent

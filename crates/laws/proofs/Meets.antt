@@ -27,7 +27,7 @@ use Rattle.laws.proofs.Greys.{Greys, greys-all, Turned, as_was, turned, all-mark
 
 -- ---- lists of references
 
-same-is : (r s : Ref) → is_same r s ≡ true → r ≡ s
+pub same-is : (r s : Ref) → is_same r s ≡ true → r ≡ s
 same-is r s h =
     let parts = and_parts (r.node == s.node) _ h in
     let rest = and_parts (r.slot == s.slot) (r.generation == s.generation) parts.1 in
@@ -37,7 +37,7 @@ same-is r s h =
     (eqb-true _ _ rest.0)
     ∙ ap (λ (n : ℕ). record { node = s.node; slot = s.slot; generation = n }) (eqb-true _ _ rest.1)
 
-is-same : (r : Ref) → is_same r r ≡ true
+pub is-same : (r : Ref) → is_same r r ≡ true
 is-same r =
     rw (eq-eqb r.node r.node refl, eq-eqb r.slot r.slot refl, eq-eqb r.generation r.generation refl)
     refl

@@ -1,7 +1,7 @@
 -- What becomes of slots as an object is made or rewritten.
-use Rattle.std.proofs.Common.{◌≡◌, ◌≢◌, ℕ, zero, suc, ◌<◌, ◌≤◌, ◌⊎◌, ◌||◌, true, false, cond, ◌==◌, eqb, List, [], ◌∷◌, ◌++◌, length, length-set, length-append, get_or, set, drop, replicate, Option, None, refl, sym, ap, ◌∙◌, subst, ⊎_elim, inl, inr, arith, get_or-set_same, get_or-set_other, ltb, ltb-true}
+use Rattle.std.proofs.Common.{◌≡◌, ◌≢◌, ℕ, zero, suc, ◌<◌, ◌≤◌, ◌⊎◌, ◌||◌, ◌&&◌, Bool, true, false, cond, ◌==◌, eqb, List, [], ◌∷◌, ◌++◌, length, length-set, length-append, get_or, set, drop, replicate, Option, None, refl, sym, ap, ◌∙◌, subst, ⊎_elim, inl, inr, arith, get_or-set_same, get_or-set_other, ltb, ltb-true}
 use Rattle.std.specs.List.{AllByRecursion}
-use Rattle.std.proofs.lemmas.Bool.{cases_lt, cases_eq, cond_both, eqb-false}
+use Rattle.std.proofs.lemmas.Bool.{cases_lt, cases_eq, cond_both, eqb-false, eq-eqb, ne_eqb}
 use Rattle.std.proofs.lemmas.List.{get_or_past, get_or_push, get_or_append_left}
 use Rattle.std.proofs.lemmas.Map.Keys.{IsDistinct-head, IsDistinct-tail}
 use Rattle.ids.specs.declared.names.Ref.{Ref}
@@ -128,30 +128,66 @@ no-places (suc n) (suc j) = no-places n j
 -- the object of that generation is the rewritten one
 rewritten-from : (f : Object → Object) (generation : ℕ) (s : Slot) (g : ℕ) (y : Object)
     → rewritten f generation s ≡ Occupied g y
-    → (x : Object) × (s ≡ Occupied g x) × ((y ≡ x) ⊎ (y ≡ f x))
+    → (x : Object) × (s ≡ Occupied g x) × (y ≡ cond (g == generation) (f x) x)
 rewritten-from f generation (Free n) g y h = absurd cc
 rewritten-from f generation (Occupied n x) g y h =
     let same : cond (n == generation) (f x) x ≡ y = cc in
     let at : n ≡ g = cc in (
       x,
       ap (λ (z : ℕ). Occupied z x) at,
-      cond_both (n == generation) (f x) x (λ z. z ≡ y → (y ≡ x) ⊎ (y ≡ f x))
-          (λ _ e. inr (sym e)) (λ _ e. inl (sym e)) same,
+      sym same ∙ ap (λ (z : ℕ). cond (z == generation) (f x) x) at,
     )
 rewritten-from f generation Retired g y h = absurd cc
 
--- the same of a heap
+-- the same of a heap: that of the reference is rewritten, and no other
+pub rewritten-at : (h : Heap) (r : Ref) (f : Object → Object) (k g : ℕ) (y : Object)
+    → slot_at (with_rewritten h r f) k ≡ Occupied g y
+    → (x : Object) × (slot_at h k ≡ Occupied g x)
+    × (y ≡ cond ((k == r.slot) && (g == r.generation)) (f x) x)
+rewritten-at h r f k g y there =
+    let s : Slot = rewritten f r.generation (slot_at h r.slot) in
+    ⊎_elim {C = (x : Object) × (slot_at h k ≡ Occupied g x)
+    × (y ≡ cond ((k == r.slot) && (g == r.generation)) (f x) x)}
+    (λ (here : k ≡ r.slot).
+    let written : get_or (set h.slots r.slot s) r.slot Retired ≡ Occupied g y =
+    subst (λ (z : ℕ). get_or (set h.slots r.slot s) z Retired ≡ Occupied g y) here there in
+    let inside : r.slot < length h.slots =
+    (let w = occupied-within (set h.slots r.slot s) r.slot g y written in
+    let e = length-set h.slots r.slot s in omega (arith, w, e)) in
+    by here
+    (rewritten-from f r.generation (slot_at h r.slot) g y
+    (subst (λ (z : Slot). z ≡ Occupied g y) (get_or-set_same h.slots r.slot s Retired inside)
+    written)))
+    (λ (other : k ≢ r.slot). (
+      y,
+      sym (get_or-set_other h.slots r.slot k s Retired other) ∙ there,
+      ap (λ (z : Bool). cond (z && (g == r.generation)) (f y) y) (sym (ne_eqb k r.slot other)),
+    ))
+    (cases_eq k r.slot)
+  where
+    by : k ≡ r.slot
+        → (x : Object) × (slot_at h r.slot ≡ Occupied g x) × (y ≡ cond (g == r.generation) (f x) x)
+        → (x : Object) × (slot_at h k ≡ Occupied g x)
+        × (y ≡ cond ((k == r.slot) && (g == r.generation)) (f x) x)
+    by here found = (
+      found.0,
+      ap (slot_at h) here ∙ found.1,
+      found.2
+          ∙ ap (λ (z : Bool). cond (z && (g == r.generation)) (f found.0) found.0)
+          (sym (eq-eqb k r.slot here)),
+    )
+
 pub rewritten-back : (h : Heap) (r : Ref) (f : Object → Object) (k g : ℕ) (y : Object)
     → slot_at (with_rewritten h r f) k ≡ Occupied g y
     → (x : Object) × (slot_at h k ≡ Occupied g x) × ((y ≡ x) ⊎ (y ≡ f x))
-rewritten-back h r f k g y =
-    at_set_if (λ z. z ≡ Occupied g y
-    → (x : Object) × (slot_at h k ≡ Occupied g x) × ((y ≡ x) ⊎ (y ≡ f x)))
-    h.slots r.slot k (rewritten f r.generation (slot_at h r.slot)) Retired
-    (λ (at : r.slot ≡ k) there.
-    let found = rewritten-from f r.generation (slot_at h r.slot) g y there in
-    (found.0, ap (slot_at h) (sym at) ∙ found.1, found.2))
-    (λ there. (y, there, inl refl))
+rewritten-back h r f k g y there =
+    let found = rewritten-at h r f k g y there in (
+      found.0,
+      found.1,
+      cond_both ((k == r.slot) && (g == r.generation)) (f found.0) found.0
+          (λ (z : Object). y ≡ z → (y ≡ found.0) ⊎ (y ≡ f found.0))
+          (λ _ e. inr e) (λ _ e. inl e) found.2,
+    )
 
 pub rewritten-stays : (f : Object → Object) (generation cycle : ℕ) (s : Slot) (g : ℕ) (x : Object)
     → (((f x).mark ≡ x.mark) ⊎ ((f x).mark ≡ cycle)) → s ≡ Occupied g x

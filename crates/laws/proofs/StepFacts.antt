@@ -257,12 +257,12 @@ deliver-answer w m a there h =
     (subst (λ (z : Option Message). outcome_of (given z) ≡ Ok (outcome.Answer a)) there found)
 
 -- a message of which every test passes is refused for its numbers alone
-after-err : (s : NodeState) (r : Result Effect Refusal) (e : Refusal) → after s r ≡ Err e
+pub after-err : (s : NodeState) (r : Result Effect Refusal) (e : Refusal) → after s r ≡ Err e
     → r ≡ Err e
 after-err s (Ok x) e h = absurd cc
 after-err s (Err f) e h = cc
 
-last-refusal : (ts : List (Bool × Refusal)) (last : Bool × Refusal) (x : Effect) (e : Refusal)
+pub last-refusal : (ts : List (Bool × Refusal)) (last : Bool × Refusal) (x : Effect) (e : Refusal)
     → AllPass ts → guarded (ts ++ last ∷ []) x ≡ Err e → last.1 ≡ e
 last-refusal [] last x e passed h =
     cond_both last.0 (Ok x) (Err last.1) (λ z. z ≡ Err e → last.1 ≡ e) (λ _ never. absurd cc)

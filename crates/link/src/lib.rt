@@ -12,6 +12,3 @@ pub use links::Links;
 pub use parts::LinkParts;
 pub use receiver::{Offer, Receiver};
 pub use sender::Sender;
-
-#[cfg(test)]
-mod tests;

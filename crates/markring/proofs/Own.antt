@@ -35,19 +35,19 @@ module _ {X : Type 0} {test : X → Bool} where
       → (a b : List ℕ) → Passes test (of_two f g make a b)
   two f g make all a b =
       elim (f a)
-          as (λ o. Passes test (option_and_then (λ x. option_map (λ y. make x y) (g b)) o)) [
-            | None ↦ none
-            | Some x ↦ one (λ y. make x y) (λ y. all x y) (g b)
-          ]
+      as (λ o. Passes test (option_and_then (λ x. option_map (λ y. make x y) (g b)) o)) [
+        | None ↦ none
+        | Some x ↦ one (λ y. make x y) (λ y. all x y) (g b)
+      ]
 
   three : (f g h : Number) (make : ℕ → ℕ → ℕ → X) → ((x y z : ℕ) → test (make x y z) ≡ true)
       → (a b c : List ℕ) → Passes test (of_three f g h make a b c)
   three f g h make all a b c =
       elim (f a)
-          as (λ o. Passes test (option_and_then (λ x. of_two g h (λ y z. make x y z) b c) o)) [
-            | None ↦ none
-            | Some x ↦ two g h (λ y z. make x y z) (λ y z. all x y z) b c
-          ]
+      as (λ o. Passes test (option_and_then (λ x. of_two g h (λ y z. make x y z) b c) o)) [
+        | None ↦ none
+        | Some x ↦ two g h (λ y z. make x y z) (λ y z. all x y z) b c
+      ]
 
 own-none : (verb : List ℕ) → Passes is_own (with_none verb)
 unfolding with_none
@@ -139,10 +139,10 @@ own-command first words =
     (either _ (own-stepped (delivery_of words) (own-delivery words))
     (either _ (own-stepped (hand_of words) (own-hand words))
     (elim (u8_of first)
-        as (λ o. Passes is_own_line (option_and_then (λ node. node_line_of node words) o)) [
-          | None ↦ none
-          | Some node ↦ own-node node words
-        ])))
+    as (λ o. Passes is_own_line (option_and_then (λ node. node_line_of node words) o)) [
+      | None ↦ none
+      | Some node ↦ own-node node words
+    ])))
 
 own-line : (words : List (List ℕ)) → Passes is_own_line (line_of words)
 unfolding line_of

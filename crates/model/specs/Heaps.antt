@@ -133,15 +133,20 @@ with_place h r place v = with_rewritten h r (λ o. record o { places = slice_set
 abbrev pub with_word : Heap → Ref → ℕ → Heap
 with_word h r word = with_rewritten h r (λ o. record o { word = word })
 
+-- a register names an object of the node's own that passes a test
+abbrev pub own_tests : ℕ → Heap → ℕ → Bool → List (Bool × Refusal)
+own_tests own h object passes =
+    (is_register h object, NoRegister)
+    ∷ (is_filled h object, EmptyRegister)
+    ∷ (is_local own h object, Remote)
+    ∷ (passes, NoField)
+    ∷ []
+
 -- reading a place of the object that a register names into a register
 abbrev pub load_tests : ℕ → Heap → ℕ → ℕ → ℕ → List (Bool × Refusal)
 load_tests own h register object place =
     (is_register h register, NoRegister)
-    ∷ (is_register h object, NoRegister)
-    ∷ (is_filled h object, EmptyRegister)
-    ∷ (is_local own h object, Remote)
-    ∷ (has_place (object_at h (named h object)) place, NoField)
-    ∷ []
+    ∷ own_tests own h object (has_place (object_at h (named h object)) place)
 
 abbrev pub place_loaded : Heap → ℕ → ℕ → Option Ref
 place_loaded h object place = place_of (object_at h (named h object)) place
@@ -160,20 +165,11 @@ store_tests own h object place register =
 -- emptying a place
 abbrev pub clear_tests : ℕ → Heap → ℕ → ℕ → List (Bool × Refusal)
 clear_tests own h object place =
-    (is_register h object, NoRegister)
-    ∷ (is_filled h object, EmptyRegister)
-    ∷ (is_local own h object, Remote)
-    ∷ (has_place (object_at h (named h object)) place, NoField)
-    ∷ []
+    own_tests own h object (has_place (object_at h (named h object)) place)
 
 -- reading or writing the word
 abbrev pub word_tests : ℕ → Heap → ℕ → List (Bool × Refusal)
-word_tests own h object =
-    (is_register h object, NoRegister)
-    ∷ (is_filled h object, EmptyRegister)
-    ∷ (is_local own h object, Remote)
-    ∷ (is_some (object_at h (named h object)), NoField)
-    ∷ []
+word_tests own h object = own_tests own h object (is_some (object_at h (named h object)))
 
 -- asking the owner of an object that isn't this node's to write or to read a place of it
 abbrev pub put_tests : ℕ → Heap → ℕ → ℕ → ℕ → List (Bool × Refusal)

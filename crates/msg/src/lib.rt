@@ -31,6 +31,3 @@ pub use body::{Body, Colour, Message, Token};
 pub use frame::{Ack, Data, Frame, body_fits, grammar, optional_fits};
 pub use reading::decode;
 pub use writing::encode;
-
-#[cfg(test)]
-mod tests;

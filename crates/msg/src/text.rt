@@ -98,6 +98,3 @@ impl fmt::Display for Frame {
         }
     }
 }
-
-#[cfg(test)]
-mod tests;

@@ -11,3 +11,4 @@ mod ShadingRows
 mod TurnRows
 mod LimitRows
 mod GarbageRows
+mod SightRows

@@ -14,6 +14,3 @@ mod verdict;
 pub use counting::balance_of;
 pub use ring::Ring;
 pub use verdict::Verdict;
-
-#[cfg(test)]
-mod tests;

@@ -6,6 +6,3 @@ mod trace;
 
 pub use call::{Call, Outcome};
 pub use trace::{Line, Trace};
-
-#[cfg(test)]
-mod tests;

@@ -1,79 +1,67 @@
-// Cells of new nodes, which are saved in memory.
-mod crashes;
-mod files;
-mod letters;
-mod threads;
-
+//! Cells of new nodes on a wire, which are saved in memory.
 ghost use Rattle.std.specs.Prelude.{◌≡◌, ◌<◌, ℕ, length, slice_get, true, IfOk, Some};
+ghost use Rattle.model.specs.Steps.{is_own};
 ghost use Rattle.model.specs.View.{NodeView, kept_view, new_view};
 ghost use Rattle.image.specs.Images.{image_of};
 ghost use Rattle.image.specs.Nodes.{IsImageOf};
 ghost use Rattle.disk.specs.Memory.{held_by};
 ghost use Rattle.disk.specs.Shelf.{opened};
-ghost use Rattle.wire.specs.Readers.{IsSeatOf};
+ghost use Rattle.wire.specs.Readers.{IsSeatOf, IsWatchOf};
 ghost use Rattle.cell.specs.Desks.{IsAtSeat};
 ghost use Rattle.trials.specs.Cells.{AreSeated};
 
+use crate::case::{Line, Stop, read};
+use crate::events::{event_of, is_own};
+use crate::nodes::{InNumbers, put_frame, put_image};
+use crate::out::Out;
+use crate::traces::put_texts;
 use cell::{Cell, Inbound, Outbound};
 use disk::{MemoryDisk, Shelf};
 use ids::{NodeId, Refusal, Shape};
 use model::{Answer, Event};
 use node::Node;
 use std::alloc::Global;
-use std::process::Abort;
-use std::test::*;
-use wire::{NodeSeat, Wire};
+use wire::{NodeSeat, Watch, Wire};
 
 // A cell, with the wire on which it sits.
 #[derive(Drop)]
-struct Seated<'a> {
+pub(crate) struct Seated<'a> {
     wire: &'a Wire,
-    cell: Cell<MemoryDisk>,
+    pub(crate) cell: Cell<MemoryDisk>,
     ghost sits: { IsSeatOf wire.now cell.desk.seat },
 }
 
 impl Seated<'_> {
-    // A new object without places, in register 0.
-    fn allocate(&mut self) -> Result<Answer, Refusal> {
-        let event = Event::Alloc {
-            register: 0,
-            places: 0,
-        };
+    pub(crate) fn act(&mut self, event: Event) -> Result<Answer, Refusal>
+        requires { is_own event ≡ true }
+    {
         self.cell.act(self.wire, event)
     }
 
-    // Register 0 goes to another node, in a letter with the label 4.
-    fn give(&mut self, to: u8) -> Result<Answer, Refusal> {
-        let event = Event::Give {
-            to,
-            label: 4,
-            register: 0,
-        };
-        self.cell.act(self.wire, event)
-    }
-
-    fn save(&mut self) -> Result<(), Refusal> {
+    pub(crate) fn save(&mut self) -> Result<(), Refusal> {
         self.cell.save(self.wire)
     }
 
-    fn reopen(&mut self) -> Result<(), Refusal> {
+    pub(crate) fn reopen(&mut self) -> Result<(), Refusal> {
         self.cell.reopen(self.wire)
     }
 
-    fn send(&mut self, to: u8) -> Result<Outbound, Refusal> {
+    pub(crate) fn send(&mut self, to: u8) -> Result<Outbound, Refusal> {
         self.cell.pump_out(self.wire, to)
     }
 
-    fn receive(&mut self, from: u8) -> Result<Inbound, Refusal> {
+    pub(crate) fn receive(&mut self, from: u8) -> Result<Inbound, Refusal> {
         self.cell.pump_in(self.wire, from)
     }
 
-    // Why the board isn't raised, if it isn't.
-    fn raise(&mut self) -> Option<Refusal> {
-        self.cell.raise(self.wire).err()
+    fn raise(&mut self) -> Result<(), Refusal> {
+        match self.cell.raise(self.wire) {
+            Ok(_raised) => Ok(()),
+            Err(refusal) => Err(refusal),
+        }
     }
 
-    fn is_unsaved(&self) -> bool {
+    pub(crate) fn is_unsaved(&self) -> bool {
         self.cell.unsaved()
     }
 
@@ -97,13 +85,15 @@ fn new_nodes(alloc: Global, shape: Shape) -> Result<Vec<Node>, Refusal>
     Ok(nodes)
 }
 
-// A wire between them, and their seats.
-fn new_wire(alloc: Global, shape: Shape) -> Result<(Wire, Vec<NodeSeat>), Refusal>
-    ensures { IfOk result (λ r. AreSeated shape r.0 0 r.1.items) }
+/// A wire between the new nodes of a shape, their seats, and a watch.
+pub(crate) fn new_wire(alloc: Global, shape: Shape) -> Result<(Wire, Vec<NodeSeat>, Watch), Refusal>
+    ensures seats { IfOk result (λ r. AreSeated shape r.0 0 r.1.items) }
+    ensures watch { IfOk result (λ r. IsWatchOf r.0 r.2) }
 {
     let nodes = new_nodes(alloc, shape)?;
-    let (wire, seats, _watches) = Wire::new(alloc, shape, &nodes, 0)?;
-    Ok((wire, seats))
+    let (wire, seats, mut watches) = Wire::new(alloc, shape, &nodes, 1)?;
+    let watch = watches.remove(0);
+    Ok((wire, seats, watch))
 }
 
 // A shelf on which a node was created.
@@ -133,8 +123,8 @@ fn new_cell(
     Cell::new(alloc, node, shelf, seat)
 }
 
-// The cells of the new nodes of a shape, in order, each at its own seat.
-fn new_cells<'a>(
+/// The cells of the new nodes of a shape, in order, each at its own seat.
+pub(crate) fn new_cells<'a>(
     alloc: Global,
     shape: Shape,
     wire: &'a Wire,
@@ -151,55 +141,141 @@ fn new_cells<'a>(
     Ok(cells)
 }
 
-// The cells of two new nodes.
-fn two_cells<'a>(
+/// A case over the cells of new nodes.
+pub(crate) fn run(
     alloc: Global,
     shape: Shape,
+    lines: &[Line<'_>],
+    out: &mut Out,
+) -> Result<(), Stop> {
+    match on_wire(alloc, shape, lines, out) {
+        Ok(taken) => taken,
+        Err(_) => Err(Stop::Memory),
+    }
+}
+
+fn on_wire(
+    alloc: Global,
+    shape: Shape,
+    lines: &[Line<'_>],
+    out: &mut Out,
+) -> Result<Result<(), Stop>, Refusal> {
+    let (wire, seats, watch) = new_wire(alloc, shape)?;
+    let cells = new_cells(alloc, shape, &wire, seats)?;
+    let mut subject = Cells {
+        alloc,
+        wire: &wire,
+        watch,
+        cells,
+    };
+    Ok(subject.take_all(lines, out))
+}
+
+// The cells of a case, and a watch that hears nothing.
+#[derive(Drop)]
+struct Cells<'a> {
+    alloc: Global,
     wire: &'a Wire,
-    seats: Vec<NodeSeat>,
-) -> Result<(Seated<'a>, Seated<'a>), Refusal>
-    requires { AreSeated shape wire.now 0 seats.items }
-{
-    let mut cells = new_cells(alloc, shape, wire, seats)?;
-    let Some(second) = cells.pop() else {
-        return Err(Refusal::NoNode);
-    };
-    let Some(first) = cells.pop() else {
-        return Err(Refusal::NoNode);
-    };
-    Ok((first, second))
+    watch: Watch,
+    cells: Vec<Seated<'a>>,
+    ghost looks: { IsWatchOf wire.now watch },
 }
 
-// The shape of two nodes with one register and two objects each.
-fn pair(rt: &impl Abort) -> Shape {
-    Shape::new(2, 1, 2).expect(rt, "the shape is within the limits")
+impl Cells<'_> {
+    fn look(&mut self, out: &mut Out) {
+        let seen = self.wire.look(&mut self.watch);
+        out.show(&seen.number);
+    }
+
+    fn take_all(&mut self, lines: &[Line<'_>], out: &mut Out) -> Result<(), Stop> {
+        for line in lines {
+            self.take(out.at(line), out)?;
+        }
+        Ok(())
+    }
+
+    fn take(&mut self, words: &[&str], out: &mut Out) -> Result<(), Stop> {
+        match words {
+            ["look"] => {
+                self.look(out);
+                Ok(())
+            }
+            [number, words @ ..] => match self.cells.get_mut(read::<usize>(number)?) {
+                Some(seated) => on_cell(self.alloc, seated, words, out),
+                None => Err(Stop::Unknown),
+            },
+            [] => Err(Stop::Unknown),
+        }
+    }
 }
 
-// What a call answers is what was expected.
-fn expect_answer(
-    rt: &impl Abort,
-    answered: Result<Answer, Refusal>,
-    expected: Result<Answer, Refusal>,
-) {
-    assert!(rt; answered == expected);
+// A command to a cell.
+fn on_cell(
+    alloc: Global,
+    seated: &mut Seated<'_>,
+    words: &[&str],
+    out: &mut Out,
+) -> Result<(), Stop> {
+    match words {
+        ["save"] => out.done(seated.save()),
+        ["reopen"] => out.done(seated.reopen()),
+        ["raise"] => out.done(seated.raise()),
+        ["send", to] => out.answer(seated.send(read(to)?)),
+        ["receive", from] => out.answer(seated.receive(read(from)?)),
+        ["fail", k] => {
+            seated.fail(read(k)?);
+            out.text("ok");
+        }
+        words => return ask(alloc, seated, words, out),
+    }
+    Ok(())
 }
 
-fn expect_done(rt: &impl Abort, done: Result<(), Refusal>, expected: Result<(), Refusal>) {
-    assert!(rt; done == expected);
+// A question to a cell, or an event of its node.
+fn ask(alloc: Global, seated: &mut Seated<'_>, words: &[&str], out: &mut Out) -> Result<(), Stop> {
+    match words {
+        ["unsaved"] => out.debug(&seated.is_unsaved()),
+        ["state"] => out.show(&InNumbers(seated.cell.node().state())),
+        ["bytes"] => put_image(alloc, seated.cell.node(), out),
+        ["trace"] => put_trace(seated, out),
+        ["crash", fill] => put_crashed(alloc, seated, read(fill)?, out),
+        ["frame-at", to, place] => {
+            put_frame(
+                alloc,
+                seated.cell.node().frame_at(read(to)?, read(place)?),
+                out,
+            );
+        }
+        words => return act(seated, event_of(words)?, out),
+    }
+    Ok(())
 }
 
-fn expect_out(
-    rt: &impl Abort,
-    sent: Result<Outbound, Refusal>,
-    expected: Result<Outbound, Refusal>,
-) {
-    assert!(rt; sent == expected);
+fn act(seated: &mut Seated<'_>, event: Event, out: &mut Out) -> Result<(), Stop> {
+    if !is_own(&event) {
+        return Err(Stop::Unknown);
+    }
+    out.answer(seated.act(event));
+    Ok(())
 }
 
-fn expect_in(rt: &impl Abort, came: Result<Inbound, Refusal>, expected: Result<Inbound, Refusal>) {
-    assert!(rt; came == expected);
+fn put_trace(seated: &Seated<'_>, out: &mut Out) {
+    match seated.cell.trace_lines() {
+        Ok(lines) => put_texts(&lines, out),
+        Err(refusal) => out.refused(refusal),
+    }
 }
 
-fn expect_raised(rt: &impl Abort, refused: Option<Refusal>, expected: Option<Refusal>) {
-    assert!(rt; refused == expected);
+// The node that a crash now leaves on the cell's disk, in numbers.
+fn put_crashed(alloc: Global, seated: &Seated<'_>, fill: u8, out: &mut Out) {
+    match crashed(alloc, seated, fill) {
+        Ok(node) => out.show(&InNumbers(node.state())),
+        Err(refusal) => out.refused(refusal),
+    }
+}
+
+fn crashed(alloc: Global, seated: &Seated<'_>, fill: u8) -> Result<Node, Refusal> {
+    let disk = seated.cell.after_crash(fill)?;
+    let (_shelf, node) = Shelf::open::<Node>(alloc, disk)?;
+    Ok(node)
 }

@@ -1,251 +1,165 @@
-//! Tests of `node`: one node, or two that take in one another's messages.
-mod asking;
-mod collecting;
-mod links;
-mod objects;
-mod parts;
-mod taking;
-
-use ids::{NodeId, Ref, Refusal, Shape};
-use model::{Answer, Event, Letter};
-use msg::{Ack, Body, Colour, Data, Frame};
+//! One node: its events, its frames and its image.
+use crate::case::{Line, Stop, bytes_of, read};
+use crate::events::event_of;
+use crate::out::Out;
+use ids::{NodeId, Refusal, Shape};
+use model::{Answer, Event};
+use msg::{Frame, decode, encode};
 use node::{Node, Summary};
 use std::alloc::Global;
-use std::process::Abort;
+use std::fmt;
 
-fn space(rt: &impl Abort, registers: u16, slots: u32) -> Shape {
-    Shape::new(2, registers, slots).expect(rt, "the shape is within the limits")
+/// The node of a case, once there is one.
+#[derive(Drop)]
+pub(crate) struct Nodes {
+    pub(crate) alloc: Global,
+    pub(crate) node: Option<Node>,
 }
 
-fn new_node(rt: &impl Abort, alloc: Global, shape: Shape, own: u8) -> Result<Node, Refusal> {
-    let own = NodeId::new(own).expect(rt, "the number is within the limits");
-    Node::new(alloc, shape, own)
+/// A case over one node.
+pub(crate) fn run(alloc: Global, lines: &[Line<'_>], out: &mut Out) -> Result<(), Stop> {
+    let mut nodes = Nodes::new(alloc);
+    nodes.take_all(lines, out)
 }
 
-fn object(node: u8, slot: u32, generation: u32) -> Ref {
-    Ref {
-        node,
-        slot,
-        generation,
+impl Nodes {
+    pub(crate) fn new(alloc: Global) -> Nodes {
+        Nodes { alloc, node: None }
     }
-}
 
-// The first object of a slot of node 0.
-fn first(slot: u32) -> Ref {
-    object(0, slot, 1)
-}
-
-// A message from node 0 to node 1.
-fn message(rt: &impl Abort, number: u64, stamp: u64, body: Body) -> Data {
-    Data::new(0, 1, number, stamp, body).expect(rt, "the parts are within the limits")
-}
-
-fn ack(rt: &impl Abort, from: u8, to: u8, number: u64) -> Event {
-    let ack = Ack::new(from, to, number);
-    Event::Ack(ack.expect(rt, "the parts are within the limits"))
-}
-
-fn give_body(label: u32, reference: Option<Ref>) -> Body {
-    Body::Give { label, reference }
-}
-
-fn get_body(target: Ref, place: u8, label: u32) -> Body {
-    Body::Get {
-        target,
-        place,
-        label,
-    }
-}
-
-fn alloc(register: u16, places: u8) -> Event {
-    Event::Alloc { register, places }
-}
-
-fn copy(register: u16, source: u16) -> Event {
-    Event::Copy { register, source }
-}
-
-fn load(register: u16, object: u16, place: u8) -> Event {
-    Event::Load {
-        register,
-        object,
-        place,
-    }
-}
-
-fn store(object: u16, place: u8, register: u16) -> Event {
-    Event::Store {
-        object,
-        place,
-        register,
-    }
-}
-
-fn clear(object: u16, place: u8) -> Event {
-    Event::Clear { object, place }
-}
-
-fn word(object: u16) -> Event {
-    Event::Word { object }
-}
-
-fn set_word(object: u16, word: u64) -> Event {
-    Event::SetWord { object, word }
-}
-
-fn give(to: u8, label: u32, register: u16) -> Event {
-    Event::Give {
-        to,
-        label,
-        register,
-    }
-}
-
-fn accept(register: u16) -> Event {
-    Event::Accept { register }
-}
-
-fn put(object: u16, place: u8, register: u16) -> Event {
-    Event::Put {
-        object,
-        place,
-        register,
-    }
-}
-
-fn get(object: u16, place: u8, label: u32) -> Event {
-    Event::Get {
-        object,
-        place,
-        label,
-    }
-}
-
-fn letter(from: u8, label: u32, reference: Option<Ref>) -> Answer {
-    Answer::Letter(Letter {
-        from,
-        label,
-        reference,
-    })
-}
-
-// The numbers of a new node of two nodes.
-fn new_summary(shape: Shape, own: u8) -> Summary {
-    Summary {
-        shape,
-        own,
-        cycle: 0,
-        ended: 0,
-        swept: 0,
-        colour: Colour::White,
-        earlier: 0,
-        recent: 0,
-        grey: 0,
-        live: 0,
-        has_token: false,
-        letters: 0,
-    }
-}
-
-// The node's numbers are these.
-fn check_state(rt: &impl Abort, node: &Node, state: Summary) {
-    assert_eq!(rt; node.state(), state);
-}
-
-// The node has sent so many messages to the other.
-fn check_appended(rt: &impl Abort, node: &Node, to: u8, count: u64) {
-    assert_eq!(rt; node.appended(to), count, "{to}");
-}
-
-// Under these numbers the node has these messages for the other.
-fn check_numbered(rt: &impl Abort, node: &Node, to: u8, rows: &[(u64, Option<Frame>)]) {
-    for (number, frame) in rows {
-        assert_eq!(rt; node.numbered_frame(to, *number), *frame, "{to} {number}");
-    }
-}
-
-// At these places the node gives out these messages for the other.
-fn check_given(rt: &impl Abort, node: &Node, to: u8, rows: &[(u8, Option<Frame>)]) {
-    for (place, frame) in rows {
-        assert_eq!(rt; node.frame_at(to, *place), *frame, "{to} {place}");
-    }
-}
-
-// The node tells the other that it has saved what it took in up to this number.
-fn check_ack(rt: &impl Abort, node: &Node, from: u8, frame: Option<Frame>) {
-    assert_eq!(rt; node.ack_for(from), frame, "{from}");
-}
-
-// What the node shows now is what its next image holds.
-fn save(node: &mut Node) {
-    node.kept();
-}
-
-// The event has this answer, or is refused so.
-fn answer(rt: &impl Abort, acting: &mut Node, event: Event, expected: Result<Answer, Refusal>) {
-    assert_eq!(rt; acting.act(event), expected, "{event:?}");
-}
-
-// The node refuses the event so, and stays as it is.
-fn refuse(rt: &impl Abort, acting: &mut Node, event: Event, refusal: Refusal) {
-    let before = acting.state();
-    assert_eq!(rt; acting.act(event), Err(refusal), "{event:?}");
-    assert_eq!(rt; acting.state(), before);
-}
-
-// Each event has the answer that stands beside it.
-fn answer_all(rt: &impl Abort, acting: &mut Node, rows: &[(Event, Answer)]) {
-    for (event, expected) in rows {
-        assert_eq!(rt; acting.act(*event), Ok(*expected), "{event:?}");
-    }
-}
-
-// The message of this number goes from one node to the other.
-fn deliver(rt: &impl Abort, sender: &Node, receiver: &mut Node, number: u64) {
-    let sent = match sender.numbered_frame(receiver.state().own, number) {
-        Some(Frame::Data(sent)) => Some(sent),
-        Some(Frame::Ack(_)) | None => None,
-    };
-    let sent = sent.expect(rt, "the sender has sent the message");
-    answer(rt, receiver, Event::Data(sent), Ok(Answer::Received));
-}
-
-// These messages of one node are taken in by the other.
-fn deliver_all(rt: &impl Abort, sender: &Node, receiver: &mut Node, numbers: &[u64]) {
-    for number in numbers {
-        deliver(rt, sender, receiver, *number);
-    }
-}
-
-// Node 0 has the first object of node 1, which has two places, in its register 0.
-fn two_nodes(rt: &impl Abort, memory: Global) -> Result<(Node, Node), Refusal> {
-    let shape = space(rt, 4, 16);
-    let mut asking = new_node(rt, memory, shape, 0)?;
-    let mut owner = new_node(rt, memory, shape, 1)?;
-    let rows = [
-        (alloc(0, 2), Answer::New(object(1, 0, 1))),
-        (give(0, 1, 0), Answer::Sent(1)),
-    ];
-    answer_all(rt, &mut owner, &rows);
-    deliver(rt, &owner, &mut asking, 1);
-    let rows = [(accept(0), letter(1, 1, Some(object(1, 0, 1))))];
-    answer_all(rt, &mut asking, &rows);
-    Ok((asking, owner))
-}
-
-#[test]
-fn a_new_node_is_empty(rt: HostRuntime) -> Result<(), Refusal> {
-    let shape = space(&rt, 4, 16);
-    for own in [0, 1] {
-        let new = new_node(&rt, rt.alloc(), shape, own)?;
-        check_state(&rt, &new, new_summary(shape, own));
-        for other in 0..3 {
-            check_appended(&rt, &new, other, 0);
-            check_numbered(&rt, &new, other, &[(0, None), (1, None)]);
-            check_given(&rt, &new, other, &[(0, None), (1, None)]);
+    /// The node takes the place of the one that was there, unless it was refused.
+    pub(crate) fn set(&mut self, made: Result<Node, Refusal>, out: &mut Out) {
+        match made {
+            Ok(node) => {
+                self.node = Some(node);
+                out.text("ok");
+            }
+            Err(refusal) => out.refused(refusal),
         }
     }
-    let beyond = new_node(&rt, rt.alloc(), shape, 2);
-    assert!(rt; matches!(beyond, Err(Refusal::NoNode)));
+
+    fn take_all(&mut self, lines: &[Line<'_>], out: &mut Out) -> Result<(), Stop> {
+        for line in lines {
+            self.take(out.at(line), out)?;
+        }
+        Ok(())
+    }
+
+    pub(crate) fn take(&mut self, words: &[&str], out: &mut Out) -> Result<(), Stop> {
+        match words {
+            ["new", nodes, registers, slots, own] => {
+                let shape = shape_of(nodes, registers, slots)?;
+                let made = new_node(self.alloc, shape, read(own)?)?;
+                self.set(made, out);
+                Ok(())
+            }
+            ["image", digits] => {
+                let bytes = bytes_of(self.alloc, digits)?;
+                self.set(image::from_bytes(self.alloc, &bytes), out);
+                Ok(())
+            }
+            words => match &mut self.node {
+                Some(node) => on_node(self.alloc, node, words, out),
+                None => Err(Stop::Unknown),
+            },
+        }
+    }
+}
+
+/// The shape that the words say.
+pub(crate) fn shape_of(nodes: &str, registers: &str, slots: &str) -> Result<Shape, Stop> {
+    match Shape::new(read(nodes)?, read(registers)?, read(slots)?) {
+        Some(shape) => Ok(shape),
+        None => Err(Stop::Unknown),
+    }
+}
+
+fn new_node(alloc: Global, shape: Shape, own: u8) -> Result<Result<Node, Refusal>, Stop> {
+    match NodeId::new(own) {
+        Some(own) => Ok(Node::new(alloc, shape, own)),
+        None => Err(Stop::Unknown),
+    }
+}
+
+// A command to a node.
+fn on_node(alloc: Global, node: &mut Node, words: &[&str], out: &mut Out) -> Result<(), Stop> {
+    match words {
+        ["bytes"] => put_image(alloc, node, out),
+        ["state"] => out.show(&InNumbers(node.state())),
+        ["kept"] => {
+            node.kept();
+            out.text("ok");
+        }
+        ["frame", digits] => {
+            let bytes = bytes_of(alloc, digits)?;
+            out.answer(take_frame(node, &bytes));
+        }
+        ["repeat", count, words @ ..] => {
+            out.answer(repeat(node, event_of(words)?, read(count)?));
+        }
+        ["frame-at", to, place] => {
+            put_frame(alloc, node.frame_at(read(to)?, read(place)?), out);
+        }
+        ["numbered", to, number] => {
+            put_frame(alloc, node.numbered_frame(read(to)?, read(number)?), out);
+        }
+        ["ack-for", from] => put_frame(alloc, node.ack_for(read(from)?), out),
+        words => out.answer(node.act(event_of(words)?)),
+    }
     Ok(())
+}
+
+// The frame that the bytes spell is given to the node.
+fn take_frame(node: &mut Node, bytes: &[u8]) -> Result<Answer, Refusal> {
+    match decode(bytes)? {
+        Frame::Data(data) => node.act(Event::Data(data)),
+        Frame::Ack(ack) => node.act(Event::Ack(ack)),
+    }
+}
+
+// The event, so often, up to the first refusal; the last answer.
+fn repeat(node: &mut Node, event: Event, count: u64) -> Result<Answer, Refusal> {
+    let mut last = Answer::Done;
+    for _ in 0..count {
+        last = node.act(event)?;
+    }
+    Ok(last)
+}
+
+/// The node's image as bytes, or why it has none.
+pub(crate) fn put_image(alloc: Global, node: &Node, out: &mut Out) {
+    match image::to_bytes(alloc, node) {
+        Ok(bytes) => out.bytes(&bytes),
+        Err(refusal) => out.refused(refusal),
+    }
+}
+
+/// The frame's bytes, or `-` where there is none.
+pub(crate) fn put_frame(alloc: Global, frame: Option<Frame>, out: &mut Out) {
+    let Some(frame) = frame else {
+        return out.text("-");
+    };
+    match encode(alloc, &frame) {
+        Ok(bytes) => out.bytes(&bytes),
+        Err(refusal) => out.refused(refusal),
+    }
+}
+
+/// A node in numbers, in the words that scripts have for them.
+#[derive(Clone, Copy)]
+pub(crate) struct InNumbers(pub(crate) Summary);
+
+impl fmt::Display for InNumbers {
+    fn fmt<W: fmt::Write>(&self, f: &mut fmt::Formatter<W>) -> fmt::Result {
+        let state = self.0;
+        write!(
+            f,
+            "cycle {} ended {} swept {} colour {} ",
+            state.cycle, state.ended, state.swept, state.colour
+        )?;
+        write!(f, "old {} cur {} ", state.earlier, state.recent)?;
+        write!(f, "grey {} live {} ", state.grey, state.live)?;
+        let token = if state.has_token { "yes" } else { "no" };
+        write!(f, "token {token} letters {}", state.letters)
+    }
 }

@@ -7,7 +7,7 @@ use lib.Seq.{set-get_or}
 use Rattle.atomic_table.specs.Table.{Me, step, keeps, Allows}
 use Rattle.ids.specs.declared.limits.TheConstants.{GREATEST_CYCLE}
 use Rattle.model.specs.World.{World, run}
-use Rattle.wire.specs.Views.{Role, dealer, node, watch, Pair, Known, marks, pair_at}
+use Rattle.wire.specs.Views.{Role, dealer, node, watch, Pair, Known, marks, raises, pair_at}
 use Rattle.wire.specs.Rule.{nodes_of, ended_of, WatchOk, SeatOk, Holds}
 use Rattle.wire.specs.Plays.{HasEnded, raised, looked}
 use Rattle.wire.proofs.Stays.{Standing, noted, node-of, same-log}
@@ -35,10 +35,10 @@ module _ {S : Type 0} (bytes : S → List ℕ) (opening : World) where
       let saved : k ≤ ended_of (run opening h.log) =
       subst (λ (p : Pair). k ≤ p.saved.local.phases.ended)
       (sym ok.pair_is ∙ ap (pair_at (run opening h.log)) first) ended in (
-        marks k v,
+        raises k v,
         keeps,
         tt,
-        noted bytes opening here (marks k v) h.log words (record {
+        noted bytes opening here (raises k v) h.log words (record {
           alike = record { role = refl; me = refl };
           filling = refl;
           emptying = refl;
@@ -52,9 +52,10 @@ module _ {S : Type 0} (bytes : S → List ℕ) (opening : World) where
           fits = subst (λ (z : ℕ). z ≤ GREATEST_CYCLE) (sym same)
               (max-le h.fits within);
           higher = subst (λ (z : ℕ). r ≤ z) (sym same) (le-max_left r k);
+          shown = λ other. absurd (other role first);
           mine = subst
-              (SeatOk opening h.log (slice_index words (n * n + 1)) (set s.views id (marks k v))
-              h.boxes id (marks k v))
+              (SeatOk opening h.log (slice_index words (n * n + 1)) (set s.views id (raises k v))
+              h.mail id (raises k v))
               (sym role)
               (record {
                 below = ok.below;
@@ -65,6 +66,9 @@ module _ {S : Type 0} (bytes : S → List ℕ) (opening : World) where
                 released = ok.released;
                 fills = ok.fills;
                 empties = ok.empties;
+                sends = ok.sends;
+                gets = ok.gets;
+                shows = λ at_first. same ∙ ap (λ (z : ℕ). max z k) (ok.shows first);
               });
           no_dealer = λ d. (let never : ◌≡◌ {A = Role} node dealer = sym role ∙ d in absurd cc);
         }),
@@ -80,7 +84,7 @@ module _ {S : Type 0} (bytes : S → List ℕ) (opening : World) where
       let v : Known = me.0 in
       let r : ℕ = slice_index s.words (n * n + 1) in
       let ok : WatchOk opening r v =
-      subst (SeatOk opening h.log r s.views h.boxes id v) role (h.each_seat id v at) in (
+      subst (SeatOk opening h.log r s.views h.mail id v) role (h.each_seat id v at) in (
         marks r v,
         keeps,
         tt,
@@ -101,8 +105,9 @@ module _ {S : Type 0} (bytes : S → List ℕ) (opening : World) where
               board = h.board;
               fits = h.fits;
               higher = le_refl r;
+              shown = λ _. refl;
               mine = subst
-                  (SeatOk opening h.log r (set s.views id (marks r v)) h.boxes id (marks r v))
+                  (SeatOk opening h.log r (set s.views id (marks r v)) h.mail id (marks r v))
                   (sym role)
                   (record { opening_is = ok.opening_is; loaded = le_refl r });
               no_dealer = λ d.

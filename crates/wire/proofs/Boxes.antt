@@ -6,15 +6,15 @@ use lib.ListN.{get_elem?}
 use Rattle.msg.specs.Grammar.{Plain}
 use Rattle.wire.specs.Rule.{Box, empty, full, filling_by, emptying_by, face}
 
-abbrev pick : {P : Type 0} → Dec P → Box → Box → Box
+abbrev pick : {P A : Type 0} → Dec P → A → A → A
 pick (yes _) a b = a
 pick (no _) a b = b
 
-pub put : (ℕ → Box) → ℕ → Box → ℕ → Box
+pub put : {A : Type 0} → (ℕ → A) → ℕ → A → ℕ → A
 put boxes m b k = pick (ℕ_discrete k m) b (boxes k)
 
 -- what holds of the new one, and of each other, holds after
-pub at_put : (boxes : ℕ → Box) (m : ℕ) (b : Box) (F : ℕ → Box → Type 0) (k : ℕ) → F m b
+pub at_put : {A : Type 0} (boxes : ℕ → A) (m : ℕ) (b : A) (F : ℕ → A → Type 0) (k : ℕ) → F m b
     → (k ≢ m → F k (boxes k)) → F k (put boxes m b k)
 unfolding put
 at_put boxes m b F k here other = go (ℕ_discrete k m)
@@ -23,9 +23,14 @@ at_put boxes m b F k here other = go (ℕ_discrete k m)
     go (yes e) = subst (λ (j : ℕ). F j b) (sym e) here
     go (no n) = other n
 
-pub put-other : (boxes : ℕ → Box) (m : ℕ) (b : Box) (k : ℕ) → k ≢ m → put boxes m b k ≡ boxes k
+pub put-other : {A : Type 0} (boxes : ℕ → A) (m : ℕ) (b : A) (k : ℕ) → k ≢ m
+    → put boxes m b k ≡ boxes k
 put-other boxes m b k apart =
     at_put boxes m b (λ j x. j ≢ m → x ≡ boxes j) k (λ ne. absurd (ne refl)) (λ _ _. refl) apart
+
+pub put-here : {A : Type 0} (boxes : ℕ → A) (m : ℕ) (b : A) (k : ℕ) → k ≡ m → put boxes m b k ≡ b
+put-here boxes m b k is =
+    at_put boxes m b (λ j x. j ≡ m → x ≡ b) k (λ _. refl) (λ ne e. absurd (ne e)) is
 
 -- who holds it, if anyone: 0, or 1 more than the seat's index
 abbrev pub holder : Box → ℕ

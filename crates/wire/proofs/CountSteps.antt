@@ -37,7 +37,7 @@ module _ {S : Type 0} (bytes : S → List ℕ) (opening : World) where
     abbrev v : Known
     v = p.view
 
-    ok : NodeOk opening h.log h.boxes id v
+    ok : NodeOk opening h.log (slice_index s.words (n * n + 1)) h.mail id v
     ok = node-of bytes opening p role
 
     long : length (run opening h.log).current ≡ n
@@ -61,7 +61,8 @@ module _ {S : Type 0} (bytes : S → List ℕ) (opening : World) where
     now : run opening (h.log ++ e ∷ []) ≡ happens (run opening h.log) e
     now = run-push opening h.log e
 
-    mine : NodeOk opening (h.log ++ e ∷ []) h.boxes id (ticks e q v)
+    mine : NodeOk opening (h.log ++ e ∷ []) (slice_index s.words (n * n + 1)) h.mail id
+        (ticks e q v)
     mine = record {
       below = ok.below;
       nodes_is = ok.nodes_is;
@@ -72,6 +73,9 @@ module _ {S : Type 0} (bytes : S → List ℕ) (opening : World) where
       released = λ k f there. net-push opening h.log h.opens e f (ok.released k f there);
       fills = ok.fills;
       empties = ok.empties;
+      sends = ok.sends;
+      gets = ok.gets;
+      shows = ok.shows;
     }
 
     enters : Enters e v (slice_index s.words (n * n)) (ticks e q v)
@@ -117,10 +121,13 @@ module _ {S : Type 0} (bytes : S → List ℕ) (opening : World) where
               (le_trans h.board (ended-push opening h.log h.opens e));
           fits = subst (λ (z : ℕ). z ≤ GREATEST_CYCLE) (sym board) h.fits;
           higher = subst (λ (z : ℕ). get_or s.words (n * n + 1) 0 ≤ z) (sym board) (le_refl _);
+          shown = λ _. board;
           mine = subst
               (SeatOk opening (h.log ++ e ∷ []) (slice_index words (n * n + 1))
-              (set s.views id (ticks e q v)) h.boxes id (ticks e q v))
-              (sym role) mine;
+              (set s.views id (ticks e q v)) h.mail id (ticks e q v))
+              (sym role)
+              (subst (λ (z : ℕ). NodeOk opening (h.log ++ e ∷ []) z h.mail id (ticks e q v))
+              (sym board) mine);
           no_dealer = λ d. (let never : ◌≡◌ {A = Role} node dealer = sym role ∙ d in absurd cc);
         })
 

@@ -1,5 +1,5 @@
 -- A new wire meets the rule, and goes on to while its seats are made.
-use Rattle.std.proofs.Common.{◌≡◌, ◌≢◌, ◌⊎◌, ℕ, zero, suc, ◌+◌, ◌*◌, ◌<◌, ◌≤◌, true, false, List, [], ◌∷◌, ◌++◌, length, set, get_or, Option, Some, None, refl, sym, ap, ◌∙◌, subst, inl, inr, ⊎_elim, arith, zero-le}
+use Rattle.std.proofs.Common.{◌≡◌, ◌≢◌, ◌⊎◌, ℕ, zero, suc, ◌+◌, ◌*◌, ◌<◌, ◌≤◌, true, false, List, [], ◌∷◌, ◌++◌, length, set, get_or, Option, Some, None, refl, sym, ap, ◌∙◌, subst, inl, inr, ⊎_elim, arith, zero-le, le_refl, le_trans}
 use Rattle.std.specs.Prelude.{slice_index}
 use mathlib.Core.Option.{some, some-injective, some-ne-none}
 use lib.ListN.{get_elem?}
@@ -10,7 +10,7 @@ use Rattle.ids.specs.declared.limits.TheConstants.{GREATEST_CYCLE}
 use Rattle.msg.specs.Grammar.{Plain}
 use Rattle.model.specs.World.{World, run}
 use Rattle.wire.specs.Views.{Role, dealer, node, watch, Known, pair_at, dealing, dealer_after, next_node, next_watch}
-use Rattle.wire.specs.Rule.{nodes_of, ended_of, IsOpening, Box, empty, full, filling_by, emptying_by, Content, DealerOk, SeatOk, Holds}
+use Rattle.wire.specs.Rule.{nodes_of, ended_of, IsOpening, Box, Mail, empty, full, filling_by, emptying_by, Content, DealerOk, SeatOk, Holds}
 
 at-end : {A : Type 0} (l : List A) (a b : A) (j : ℕ) → get_elem? (l ++ a ∷ []) j ≡ some b
     → (get_elem? l j ≡ some b) ⊎ ((j ≡ length l) × (a ≡ b))
@@ -35,16 +35,18 @@ module _ {S : Type 0} (bytes : S → List ℕ) (opening : World) where
       pub was : v.role ≡ dealer
       pub role : left.role ≡ dealer
       pub no_dealer : right.role ≢ dealer
-      pub left_ok : DealerOk opening h.log (Seats s.views left right id) id left
+      pub left_ok : DealerOk opening h.log (slice_index s.words (n * n + 1)) h.mail
+          (Seats s.views left right id) id left
       pub right_ok : SeatOk opening h.log (slice_index s.words (n * n + 1))
-          (Seats s.views left right id) h.boxes (length (set s.views id left)) right right.role
+          (Seats s.views left right id) h.mail (length (set s.views id left)) right right.role
       pub alone : right.role ≡ node → (k : ℕ) (u : Known) → get_elem? s.views k ≡ some u
           → u.role ≡ node → u.me ≢ right.me
 
   dealer-of : (s : State S Known) (h : Holds bytes opening s) (id : ℕ) (v : Known)
-      → get_elem? s.views id ≡ some v → v.role ≡ dealer → DealerOk opening h.log s.views id v
+      → get_elem? s.views id ≡ some v → v.role ≡ dealer
+      → DealerOk opening h.log (slice_index s.words (n * n + 1)) h.mail s.views id v
   dealer-of s h id v at role =
-      subst (SeatOk opening h.log (slice_index s.words (n * n + 1)) s.views h.boxes id v) role
+      subst (SeatOk opening h.log (slice_index s.words (n * n + 1)) s.views h.mail id v) role
       (h.each_seat id v at)
 
   module _ (s : State S Known) (h : Holds bytes opening s) (id : ℕ) (v left right : Known)
@@ -85,9 +87,9 @@ module _ {S : Type 0} (bytes : S → List ℕ) (opening : World) where
 
     seat-kept : (j : ℕ) (u : Known) → j ≢ id → get_elem? s.views j ≡ some u → (r : Role)
         → u.role ≡ r
-        → SeatOk opening h.log (slice_index s.words (n * n + 1)) s.views h.boxes j u r
+        → SeatOk opening h.log (slice_index s.words (n * n + 1)) s.views h.mail j u r
         → SeatOk opening h.log (slice_index s.words (n * n + 1)) (Seats s.views left right id)
-        h.boxes j u r
+        h.mail j u r
     seat-kept j u apart e dealer is ok =
         absurd (apart ((dealer-of s h id v t.at t.was).alone j u e is))
     seat-kept j u apart e node is ok = ok
@@ -117,22 +119,22 @@ module _ {S : Type 0} (bytes : S → List ℕ) (opening : World) where
 
     seats-kept : (j : ℕ) (u : Known) → get_elem? (Seats s.views left right id) j ≡ some u
         → SeatOk opening h.log (slice_index s.words (n * n + 1)) (Seats s.views left right id)
-        h.boxes j u u.role
+        h.mail j u u.role
     seats-kept j u e =
         ⊎_elim
         (λ a. ⊎_elim
         (λ (is : (j ≡ id) × (left ≡ u)).
         subst (λ (x : ℕ × Known). SeatOk opening h.log (slice_index s.words (n * n + 1))
-        (Seats s.views left right id) h.boxes x.0 x.1 x.1.role)
+        (Seats s.views left right id) h.mail x.0 x.1 x.1.role)
         (λ k. (sym is.0 k, is.1 k))
         (subst (SeatOk opening h.log (slice_index s.words (n * n + 1)) (Seats s.views left right id)
-        h.boxes id left) (sym t.role) t.left_ok))
+        h.mail id left) (sym t.role) t.left_ok))
         (λ (is : (j ≢ id) × (get_elem? s.views j ≡ some u)).
         seat-kept j u is.0 is.1 u.role refl (h.each_seat j u is.1))
         (at_set s.views id j left u a))
         (λ (is : (j ≡ length (set s.views id left)) × (right ≡ u)).
         subst (λ (x : ℕ × Known). SeatOk opening h.log (slice_index s.words (n * n + 1))
-        (Seats s.views left right id) h.boxes x.0 x.1 x.1.role)
+        (Seats s.views left right id) h.mail x.0 x.1 x.1.role)
         (λ k. (sym is.0 k, is.1 k)) t.right_ok)
         (at-end (set s.views id left) right u j e)
 
@@ -140,7 +142,8 @@ module _ {S : Type 0} (bytes : S → List ℕ) (opening : World) where
         (record { words = s.words; homes = s.homes; views = Seats s.views left right id })
     dealt = record {
       log = h.log;
-      boxes = h.boxes;
+      mail = h.mail;
+      in_order = h.in_order;
       opens = h.opens;
       wide = h.wide;
       slots = h.slots;
@@ -150,7 +153,7 @@ module _ {S : Type 0} (bytes : S → List ℕ) (opening : World) where
       fits = h.fits;
       each_box = λ m below. (
           let b = h.each_box m below in
-          record { shows = b.shows; content = content-kept m (h.boxes m) b.content }
+          record { shows = b.shows; content = content-kept m (h.mail.boxes m) b.content }
           );
       each_seat = seats-kept;
       one = λ j k x u. one-kept j k;
@@ -171,6 +174,9 @@ module _ {S : Type 0} (bytes : S → List ℕ) (opening : World) where
 
   clash : {A : Type 0} {r : Role} → r ≡ dealer → r ≡ node → A
   clash d e = let never : ◌≡◌ {A = Role} dealer node = sym d ∙ e in absurd cc
+
+  later : (k : ℕ) → k ≤ k + 1
+  later k = omega arith
 
   pub next_splits : (id : ℕ) (v : Known) → v.role ≡ dealer → v.me < v.nodes
       → Splits (Holds bytes opening) id v (dealer_after v) (next_node v)
@@ -205,6 +211,9 @@ module _ {S : Type 0} (bytes : S → List ℕ) (opening : World) where
               other)
               (among s id (dealer_after v) (next_node v) k u e);
           still = λ i late. ok.still i (omega arith);
+          unsent = λ m inside late. ok.unsent m inside (le_trans (later v.me) late);
+          untaken = λ m inside late. ok.untaken m inside (le_trans (later v.me) late);
+          unseen = λ none. absurd (omega (arith, none));
         };
         right_ok = record {
           below = subst (λ (k : ℕ). v.me < k) ok.nodes_is below;
@@ -215,6 +224,9 @@ module _ {S : Type 0} (bytes : S → List ℕ) (opening : World) where
           released = λ k f e. (let never : ◌≡◌ {A = Option Plain} None (Some f) = e in absurd cc);
           fills = λ m e. (let never : false ≡ true = e in absurd cc);
           empties = λ m f e. (let never : ◌≡◌ {A = Option Plain} None (Some f) = e in absurd cc);
+          sends = λ m inside me. ok.unsent m inside (subst (λ (k : ℕ). v.me ≤ k) me (le_refl v.me));
+          gets = λ m inside me. ok.untaken m inside (subst (λ (k : ℕ). v.me ≤ k) me (le_refl v.me));
+          shows = ok.unseen;
         };
         alone = λ r k u a ru same. (let before : u.me < v.me = ok.earlier k u a ru in omega arith);
       })
@@ -250,6 +262,9 @@ module _ {S : Type 0} (bytes : S → List ℕ) (opening : World) where
               other)
               (among s id v (next_watch v) k u e);
           still = ok.still;
+          unsent = ok.unsent;
+          untaken = ok.untaken;
+          unseen = ok.unseen;
         };
         right_ok = record { opening_is = ok.opening_is; loaded = zero-le };
         alone = λ r. (let never : ◌≡◌ {A = Role} watch node = r in absurd cc);
@@ -259,6 +274,9 @@ module _ {S : Type 0} (bytes : S → List ℕ) (opening : World) where
   first-at v u zero e = (refl, some-injective v u e)
   first-at v u (suc j) e = absurd (some-ne-none u (sym e))
 
+  abbrev no_mail : Mail
+  no_mail = record { boxes = λ _. empty; posted = λ _. []; got = λ _. [] }
+
   pub starts : (words : List ℕ) (slots : List S) → IsOpening opening
       → length words ≡ n * n + 2 → ((k : ℕ) → get_or words k 0 ≡ 0) → length slots ≡ n * n
       → length (table.opening words slots (dealing opening)).homes ≡ n * n
@@ -267,7 +285,8 @@ module _ {S : Type 0} (bytes : S → List ℕ) (opening : World) where
       let v : Known = dealing opening in
       record {
         log = [];
-        boxes = λ _. empty;
+        mail = no_mail;
+        in_order = λ m below. refl;
         opens = opens;
         wide = wide;
         slots = homes;
@@ -282,7 +301,7 @@ module _ {S : Type 0} (bytes : S → List ℕ) (opening : World) where
         each_seat = λ j u e. (
             let is = first-at v u j e in
             subst (λ (x : ℕ × Known). SeatOk opening [] (slice_index words (n * n + 1)) (v ∷ [])
-            (λ _. empty) x.0 x.1 x.1.role) (λ k. (sym is.0 k, is.1 k))
+            no_mail x.0 x.1 x.1.role) (λ k. (sym is.0 k, is.1 k))
             (record {
               nodes_is = refl;
               opening_is = refl;
@@ -290,6 +309,9 @@ module _ {S : Type 0} (bytes : S → List ℕ) (opening : World) where
                   clash refl (ap (λ (y : Known). y.role) (first-at v x k at).1 ∙ r);
               alone = λ k x at r. (first-at v x k at).0;
               still = λ i late. (refl, refl);
+              unsent = λ m inside late. refl;
+              untaken = λ m inside late. refl;
+              unseen = λ _. zeros (n * n + 1);
             })
             );
         one = λ j k x u ex eu rx ru me.

@@ -2,8 +2,11 @@ pub mod Ages
 pub mod Events
 pub mod Lists
 pub mod Boxes
+pub mod InOrder
 pub mod Stays
+pub mod Moves
 pub mod MailSteps
+pub mod MailPlays
 pub mod CountSteps
 pub mod BoardSteps
 pub mod DealSteps

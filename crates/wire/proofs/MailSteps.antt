@@ -1,26 +1,26 @@
 -- The four steps on a mailbox keep the rule.
-use Rattle.std.proofs.Common.{◌≡◌, ◌≢◌, ℕ, suc, ◌+◌, ◌*◌, ◌/◌, ◌%◌, ◌<◌, ◌≤◌, true, false, true≢false, List, [], ◌∷◌, length, set, get_or, Option, Some, None, refl, sym, ap, ◌∙◌, subst, ⊎_elim, arith, eqb, ne_eqb, mod-lt}
+use Rattle.std.proofs.Common.{◌≡◌, ◌≢◌, ℕ, suc, ◌+◌, ◌*◌, ◌/◌, ◌%◌, ◌<◌, ◌≤◌, true, false, true≢false, List, [], ◌∷◌, ◌++◌, append-nil, length, set, get_or, Option, Some, None, refl, sym, ap, ◌∙◌, subst, ⊎_elim, arith, ne_eqb, mod-lt}
 use Rattle.std.proofs.lemmas.Bool.{cond-false, false_from_ne_true}
 use Rattle.std.specs.Prelude.{slice_index}
 use mathlib.Core.Option.{none, some, some-injective}
 use lib.ListN.{get_elem?}
 use lib.Seq.{set-get_or}
-use prog.Atomic.{either}
-use Rattle.atomic_table.specs.Table.{State, Me, step, Act, keeps, takes, gives, carried_after, stepped, Valid, Allows, rest}
-use Rattle.atomic_table.proofs.Lists.{set_here, exchanged}
+use Rattle.atomic_table.specs.Table.{State, Me, keeps, takes, gives, stepped}
+use Rattle.atomic_table.proofs.Lists.{set_here}
 use Rattle.msg.specs.Grammar.{Plain, data_frame, ack_frame}
-use Rattle.model.specs.declared.step.Step.{Step}
 use Rattle.model.specs.State.{NodeState, node_at, got_from, sent_to}
 use Rattle.model.specs.World.{World, run, numbered, IsInNet}
 use Rattle.laws.proofs.Lookups.{slice_get-push}
 use Rattle.wire.specs.Lists.{has, found}
 use Rattle.wire.specs.Views.{Role, dealer, node, Pair, Known, notes, claims, takes_in, posts, clears}
-use Rattle.wire.specs.Rule.{nodes_of, AreEvents, empty, full, filling_by, emptying_by, face, Content, NodeOk, SeatOk, Holds, Spells, sender, receiver}
-use Rattle.wire.specs.Plays.{Releases, Owns, IsFresh, claimed, took, posted, emptied}
+use Rattle.wire.specs.Rule.{nodes_of, Box, empty, full, filling_by, emptying_by, face, lying, Content, NodeOk, SeatOk, Holds, Spells, sender, receiver}
+use Rattle.wire.specs.Plays.{Releases, Owns, IsFresh}
 use Rattle.wire.proofs.Lists.{has-here, has-more, has-gone, has-stays, found-here, found-more, found-gone, found-stays}
+use Rattle.wire.proofs.InOrder.{box-number, box-here, box-else}
 use Rattle.wire.proofs.Boxes.{holder, is-empty, is-full, none-from, set-at}
 use Rattle.wire.proofs.Events.{count}
-use Rattle.wire.proofs.Stays.{Standing, still-seat, noted, same-log, moved, node-of}
+use Rattle.wire.proofs.Stays.{Standing, still-seat, noted, same-log, node-of}
+use Rattle.wire.proofs.Moves.{moved}
 
 -- what a saved state releases is in the net
 in-net : (w : World) (i : ℕ) (saved : NodeState) (f : Plain) → node_at w.saved i ≡ saved
@@ -54,12 +54,6 @@ module _ {S : Type 0} (bytes : S → List ℕ) (opening : World) where
   abbrev Sat : Type 0
   Sat = Me S Known
 
-  -- what a step on the word m owes
-  abbrev Goes : St → ℕ → ℕ → Sat → (Sat → Type 0) → ℕ → Type 0
-  Goes s m id me told x =
-      (w : Known) × (a : Act S) × Valid s.homes me.1 a
-      × Holds bytes opening (stepped s m x id me.1 w a) × told (w, carried_after me.1 a)
-
   module _ (p : Standing bytes opening) (role : p.view.role ≡ node) where
     abbrev s : State S Known
     s = p.state
@@ -73,18 +67,18 @@ module _ {S : Type 0} (bytes : S → List ℕ) (opening : World) where
     abbrev v : Known
     v = p.view
 
-    ok : NodeOk opening h.log h.boxes id v
+    ok : NodeOk opening h.log (slice_index s.words (n * n + 1)) h.mail id v
     ok = node-of bytes opening p role
 
     -- a mailbox that the seat neither fills nor empties
-    fresh : (m : ℕ) → holder (h.boxes m) ≢ suc id → IsFresh m v
+    fresh : (m : ℕ) → holder (h.mail.boxes m) ≢ suc id → IsFresh m v
     fresh m none_holds = (
       false_from_ne_true (has m v.filling) (λ e. none_holds (ap holder (ok.fills m e).1)),
       none-from (found m v.emptying) (λ f e. none_holds (ap holder (ok.empties m f e).1)),
     )
 
     -- a claim or a take that goes no further
-    missed : (m r : ℕ) → r ≡ get_or s.words m 0
+    pub missed : (m r : ℕ) → r ≡ get_or s.words m 0
         → Holds bytes opening (stepped s m r id [] (notes r v) keeps)
     missed m r is =
         subst
@@ -105,9 +99,10 @@ module _ {S : Type 0} (bytes : S → List ℕ) (opening : World) where
           fits = h.fits;
           higher = (let z : ℕ = slice_index s.words (n * n + 1) in
               let le : z ≤ z = omega arith in le);
+          shown = λ _. refl;
           mine = subst
               (SeatOk opening h.log (slice_index s.words (n * n + 1)) (set s.views id (notes r v))
-              h.boxes id (notes r v))
+              h.mail id (notes r v))
               (sym role)
               (record {
                 below = ok.below;
@@ -118,19 +113,22 @@ module _ {S : Type 0} (bytes : S → List ℕ) (opening : World) where
                 released = ok.released;
                 fills = ok.fills;
                 empties = ok.empties;
+                sends = ok.sends;
+                gets = ok.gets;
+                shows = ok.shows;
               });
           no_dealer = λ d. (let never : ◌≡◌ {A = Role} node dealer = sym role ∙ d in absurd cc);
         }))
 
-    claim-hit : (m : ℕ) → m < n * n → v.me ≡ m / n → get_or s.words m 0 ≡ 0 → (c : List (ℕ × S))
+    pub claim-hit : (m : ℕ) → m < n * n → v.me ≡ m / n → get_or s.words m 0 ≡ 0 → (c : List (ℕ × S))
         → (x : S) × (get_elem? s.homes m ≡ some (some x))
         × Holds bytes opening (stepped s m 3 id c (claims m v) (takes m x)) × IsFresh m v
     claim-hit m below me_is hit c =
         let b = h.each_box m below in
-        let is = is-empty (h.boxes m) (sym b.shows ∙ hit) in
+        let is = is-empty (h.mail.boxes m) (sym b.shows ∙ hit) in
         let lies = subst
         (Content bytes n (run opening h.log) s.homes s.views m) is b.content in
-        let loose : (j : ℕ) → holder (h.boxes m) ≢ suc j =
+        let loose : (j : ℕ) → holder (h.mail.boxes m) ≢ suc j =
         λ j e. (let never : 0 ≡ suc j = sym (ap holder is) ∙ e in omega arith) in (
           lies.0,
           lies.1,
@@ -152,22 +150,32 @@ module _ {S : Type 0} (bytes : S → List ℕ) (opening : World) where
             taken = ok.released;
             fills = λ _. refl;
             empties = λ f e. absurd (loose id (ap holder (ok.empties m f e).1));
+            posted = h.mail.posted m;
+            got = h.mail.got m;
+            in_order = subst (λ (y : Box). h.mail.posted m ≡ h.mail.got m ++ lying y) is
+                (h.in_order m below);
+            sends = ok.sends m below;
+            gets = ok.gets m below;
+            sends_none = λ _. refl;
+            gets_none = λ _. refl;
+            sent = λ k apart. refl;
+            took = λ k apart. refl;
           }),
           fresh m (loose id),
         )
 
-    take-hit : (m : ℕ) → m < n * n → v.me ≡ m % n → get_or s.words m 0 ≡ 1 → (c : List (ℕ × S))
+    pub take-hit : (m : ℕ) → m < n * n → v.me ≡ m % n → get_or s.words m 0 ≡ 1 → (c : List (ℕ × S))
         → (f : Plain) × (x : S) × (get_elem? s.homes m ≡ some (some x))
         × Holds bytes opening (stepped s m 2 id c (takes_in m f v) (takes m x)) × IsFresh m v
         × Spells f (bytes x) × IsInNet (run opening h.log) f × (sender f ≡ m / n)
         × (receiver f ≡ m % n)
     take-hit m below me_is hit c =
         let b = h.each_box m below in
-        let is = is-full (h.boxes m) (sym b.shows ∙ hit) in
+        let is = is-full (h.mail.boxes m) (sym b.shows ∙ hit) in
         let f : Plain = is.0 in
         let lies = subst
         (Content bytes n (run opening h.log) s.homes s.views m) is.1 b.content in
-        let loose : (j : ℕ) → holder (h.boxes m) ≢ suc j =
+        let loose : (j : ℕ) → holder (h.mail.boxes m) ≢ suc j =
         λ j e. (let never : 0 ≡ suc j = sym (ap holder is.1) ∙ e in omega arith) in (
           f,
           lies.0.0,
@@ -198,6 +206,17 @@ module _ {S : Type 0} (bytes : S → List ℕ) (opening : World) where
                 sym (found-here m f v.emptying) ∙ e in
                 let same : f ≡ g = cc in ap (emptying_by id) same
                 );
+            posted = h.mail.posted m;
+            got = h.mail.got m ++ f ∷ [];
+            in_order = subst (λ (y : Box). h.mail.posted m ≡ h.mail.got m ++ lying y) is.1
+                (h.in_order m below) ∙ sym (append-nil (h.mail.got m ++ f ∷ []));
+            sends = ok.sends m below;
+            gets = λ me. ap (λ (fs : List Plain). fs ++ f ∷ []) (ok.gets m below me)
+                ∙ sym (box-here n m f v.taken (box-number n m f lies.2 lies.3));
+            sends_none = λ _. refl;
+            gets_none = λ other. absurd (other me_is);
+            sent = λ k apart. refl;
+            took = λ k apart. box-else n m k f v.taken (box-number n m f lies.2 lies.3) apart;
           }),
           fresh m (loose id),
           lies.0.2,
@@ -206,7 +225,7 @@ module _ {S : Type 0} (bytes : S → List ℕ) (opening : World) where
           lies.3,
         )
 
-    post-done : (m : ℕ) → has m v.filling ≡ true → (x : S) (c : List (ℕ × S))
+    pub post-done : (m : ℕ) → has m v.filling ≡ true → (x : S) (c : List (ℕ × S))
         → (owns : Owns m v (bytes x))
         → Holds bytes opening (stepped s m 1 id ((m, x) ∷ c) (posts m owns.0 v) gives)
         × (found m v.emptying ≡ None)
@@ -219,6 +238,7 @@ module _ {S : Type 0} (bytes : S → List ℕ) (opening : World) where
         let f : Plain = owns.0 in
         let pos : 0 < n = (let below = ok.below in omega (arith, below)) in
         let to_is : receiver f ≡ m % n = owns.2 ∙ ap (λ (k : ℕ). m % k) ok.nodes_is in
+        let number = box-number n m f (sender-is v.me v.pair.saved f owns.3 ∙ me_is) to_is in
         let long : length (run opening h.log).current ≡ n = count opening h.log h.opens in
         let net = in-net (run opening h.log) v.me v.pair.saved f
         (ap (λ (p : Pair). p.saved) ok.pair_is)
@@ -242,11 +262,23 @@ module _ {S : Type 0} (bytes : S → List ℕ) (opening : World) where
               sender-is v.me v.pair.saved f owns.3 ∙ me_is,
               to_is,
             );
-            free = λ j apart. only-one id j (holder (h.boxes m)) (ap holder mine.1) apart;
+            free = λ j apart. only-one id j (holder (h.mail.boxes m)) (ap holder mine.1) apart;
             like = λ k apart. record { fills = has-stays m k v.filling apart; empties = refl };
             taken = ok.released;
             fills = λ e. absurd (true≢false (sym e ∙ has-gone m v.filling));
             empties = λ g e. absurd (clash g (sym mine.1 ∙ (ok.empties m g e).1));
+            posted = h.mail.posted m ++ f ∷ [];
+            got = h.mail.got m;
+            in_order = ap (λ (fs : List Plain). fs ++ f ∷ [])
+                (subst (λ (y : Box). h.mail.posted m ≡ h.mail.got m ++ lying y) mine.1
+                (h.in_order m mine.0) ∙ append-nil (h.mail.got m));
+            sends = λ me. ap (λ (fs : List Plain). fs ++ f ∷ []) (ok.sends m mine.0 me)
+                ∙ sym (box-here n m f v.sent number);
+            gets = ok.gets m mine.0;
+            sends_none = λ other. absurd (other me_is);
+            gets_none = λ _. refl;
+            sent = λ k apart. box-else n m k f v.sent number apart;
+            took = λ k apart. refl;
           }),
           none-from (found m v.emptying) (λ g e. clash g (sym mine.1 ∙ (ok.empties m g e).1)),
         )
@@ -254,7 +286,7 @@ module _ {S : Type 0} (bytes : S → List ℕ) (opening : World) where
         clash : (g : Plain) → filling_by id ≡ emptying_by id g → ⊥
         clash g e = let never : ◌≡◌ {A = ℕ} 3 2 = ap face e in absurd cc
 
-    clear-done : (m : ℕ) (f : Plain) → found m v.emptying ≡ Some f → (x : S) (c : List (ℕ × S))
+    pub clear-done : (m : ℕ) (f : Plain) → found m v.emptying ≡ Some f → (x : S) (c : List (ℕ × S))
         → Holds bytes opening (stepped s m 0 id ((m, x) ∷ c) (clears m v) gives)
         × (has m v.filling ≡ false)
     clear-done m f emptying x c =
@@ -269,7 +301,7 @@ module _ {S : Type 0} (bytes : S → List ℕ) (opening : World) where
               x,
               set_here s.homes m (some x) (subst (λ (k : ℕ). m < k) (sym h.slots) mine.0),
             );
-            free = λ j apart. only-one id j (holder (h.boxes m)) (ap holder mine.1) apart;
+            free = λ j apart. only-one id j (holder (h.mail.boxes m)) (ap holder mine.1) apart;
             like = λ k apart. record { fills = refl; empties = found-stays m k v.emptying apart };
             taken = ok.released;
             fills = λ e. absurd (clash (sym (ok.fills m e).1 ∙ mine.1));
@@ -277,114 +309,19 @@ module _ {S : Type 0} (bytes : S → List ℕ) (opening : World) where
                 let never : ◌≡◌ {A = Option Plain} (Some g) None =
                 sym e ∙ found-gone m v.emptying in absurd cc
                 );
+            posted = h.mail.posted m;
+            got = h.mail.got m;
+            in_order = subst (λ (y : Box). h.mail.posted m ≡ h.mail.got m ++ lying y) mine.1
+                (h.in_order m mine.0);
+            sends = ok.sends m mine.0;
+            gets = ok.gets m mine.0;
+            sends_none = λ _. refl;
+            gets_none = λ _. refl;
+            sent = λ k apart. refl;
+            took = λ k apart. refl;
           }),
           false_from_ne_true (has m v.filling) (λ e. clash (sym (ok.fills m e).1 ∙ mine.1)),
         )
       where
         clash : filling_by id ≡ emptying_by id f → ⊥
         clash e = let never : ◌≡◌ {A = ℕ} 3 2 = ap face e in absurd cc
-
-  -- ---- The steps
-
-  pub claims_allowed : {slots m : ℕ} (id : ℕ) (me : Sat) → m < n * n → me.0.role ≡ node
-      → me.0.me ≡ m / n
-      → Allows (Holds bytes opening) slots id me m (λ r. either (eqb r 0) 3 r)
-      (claimed (step slots m 0 3 none) me)
-  claims_allowed {slots} {m} id me below role me_is s h wide at small =
-      let here : Standing bytes opening =
-      record { state = s; holds = h; id = id; view = me.0; at = at } in
-      let r : ℕ = get_or s.words m 0 in
-      let told = claimed (step slots m 0 3 none) me r in
-      exchanged r 0 3 (Goes s m id me told)
-      (λ hit.
-      let c = claim-hit here role m below me_is hit me.1 in (
-        claims m me.0,
-        takes m c.0,
-        c.1,
-        c.2,
-        ((λ _. (c.0, refl, refl, c.3)), (λ miss. absurd (miss hit))),
-      ))
-      (λ miss. (
-        notes r me.0,
-        keeps,
-        tt,
-        missed here role m r refl,
-        ((λ hit. absurd (miss hit)), (λ _. (refl, refl))),
-      ))
-
-  pub takes_allowed : {slots m : ℕ} (id : ℕ) (me : Sat) → m < n * n → me.0.role ≡ node
-      → me.0.me ≡ m % n
-      → Allows (Holds bytes opening) slots id me m (λ r. either (eqb r 1) 2 r)
-      (took bytes (step slots m 1 2 none) me)
-  takes_allowed {slots} {m} id me below role me_is s h wide at small =
-      let here : Standing bytes opening =
-      record { state = s; holds = h; id = id; view = me.0; at = at } in
-      let r : ℕ = get_or s.words m 0 in
-      let told = took bytes (step slots m 1 2 none) me r in
-      let mine = node-of bytes opening here role in
-      exchanged r 1 2 (Goes s m id me told)
-      (λ hit.
-      let c = take-hit here role m below me_is hit me.1 in (
-        takes_in m c.0 me.0,
-        takes m c.1,
-        c.2,
-        c.3,
-        (
-          (λ _. (
-            c.0,
-            (
-              refl,
-              c.7 ∙ ap (λ (k : ℕ). m / k) (sym mine.nodes_is),
-              c.8 ∙ sym me_is,
-              subst
-                  (λ (w : World). (log : List Step) × AreEvents w log × IsInNet (run w log) c.0)
-                  (sym mine.opening_is) (h.log, h.events, c.6),
-              (c.1, refl, c.5, c.4),
-            ),
-          )),
-          (λ miss. absurd (miss hit)),
-        ),
-      ))
-      (λ miss. (
-        notes r me.0,
-        keeps,
-        tt,
-        missed here role m r refl,
-        ((λ hit. absurd (miss hit)), (λ _. (refl, refl))),
-      ))
-
-  -- the bytes lie in the slot that comes first
-  pub posts_allowed : {slots m : ℕ} (id : ℕ) (me : Sat) (x : S) → me.0.role ≡ node
-      → has m me.0.filling ≡ true → me.1 ≡ (m, x) ∷ rest me.1 → Owns m me.0 (bytes x)
-      → Allows (Holds bytes opening) slots id me m (λ _. 1)
-      (λ _. posted bytes (step slots m 1 0 none) me 1)
-  posts_allowed {m = m} id me x role filling front owns s h wide at small =
-      let here : Standing bytes opening =
-      record { state = s; holds = h; id = id; view = me.0; at = at } in
-      let d = post-done here role m filling x (rest me.1) owns in (
-        posts m owns.0 me.0,
-        gives,
-        tt,
-        subst
-            (λ (c : List (ℕ × S)).
-            Holds bytes opening (stepped s m 1 id c (posts m owns.0 me.0) gives))
-            (sym front) d.0,
-        (owns.0, (refl, refl, d.1, (x, front, owns.1))),
-      )
-
-  pub clears_allowed : {slots m : ℕ} (id : ℕ) (me : Sat) (x : S) (f : Plain) → me.0.role ≡ node
-      → found m me.0.emptying ≡ Some f → me.1 ≡ (m, x) ∷ rest me.1
-      → Allows (Holds bytes opening) slots id me m (λ _. 0)
-      (λ _. emptied (step slots m 0 0 none) me 0)
-  clears_allowed {m = m} id me x f role emptying front s h wide at small =
-      let here : Standing bytes opening =
-      record { state = s; holds = h; id = id; view = me.0; at = at } in
-      let d = clear-done here role m f emptying x (rest me.1) in (
-        clears m me.0,
-        gives,
-        tt,
-        subst
-            (λ (c : List (ℕ × S)). Holds bytes opening (stepped s m 0 id c (clears m me.0) gives))
-            (sym front) d.0,
-        (refl, refl, d.1),
-      )

@@ -1,5 +1,5 @@
 -- What stays of the rule when one seat takes a step.
-use Rattle.std.proofs.Common.{◌≡◌, ◌≢◌, ℕ, suc, ◌+◌, ◌*◌, ◌%◌, ◌^◌, ◌<◌, ◌≤◌, true, List, length, set, get_or, Some, refl, sym, ap, ◌∙◌, subst, ⊎_elim, arith, le_refl, le_trans, length-set, get_or-set_other, get_or-set_same, slice_get}
+use Rattle.std.proofs.Common.{◌≡◌, ◌≢◌, ℕ, suc, ◌+◌, ◌*◌, ◌/◌, ◌%◌, ◌^◌, ◌<◌, ◌≤◌, List, ◌++◌, length, set, refl, sym, ap, ◌∙◌, subst, ⊎_elim, arith, le_trans}
 use Rattle.std.specs.Prelude.{slice_index}
 use mathlib.Core.Option as maybe
 use mathlib.Core.Option.{some, some-injective}
@@ -14,8 +14,8 @@ use Rattle.model.specs.declared.step.Step.{Step}
 use Rattle.model.specs.World.{World, run, IsInNet}
 use Rattle.wire.specs.Lists.{has, found}
 use Rattle.wire.specs.Views.{Role, dealer, node, watch, Known, pair_at}
-use Rattle.wire.specs.Rule.{nodes_of, ended_of, events_of, AreEvents, Box, empty, full, filling_by, emptying_by, face, Content, BoxOk, NodeOk, DealerOk, SeatOk, Holds}
-use Rattle.wire.proofs.Boxes.{put, at_put, put-other, holder, set-at}
+use Rattle.wire.specs.Rule.{nodes_of, ended_of, events_of, AreEvents, Box, Mail, empty, full, filling_by, emptying_by, lying, Content, BoxOk, NodeOk, DealerOk, SeatOk, Holds}
+use Rattle.wire.proofs.Boxes.{holder, set-at}
 
 -- what the others read of a seat
 pub record IsAlike (v w : Known) : Type 0 where
@@ -29,6 +29,7 @@ pub record IsSeat (v w : Known) : Type 0 where
   pub opens : w.opening ≡ v.opening
   pub pair : w.pair ≡ v.pair
   pub events : w.events ≡ v.events
+  pub shown : w.shown ≡ v.shown
 
 pub still-seat : {v : Known} {read tries : ℕ} {filling : List ℕ} {emptying : List (ℕ × Plain)}
     {taken sent : List Plain}
@@ -46,6 +47,7 @@ still-seat = record {
   opens = refl;
   pair = refl;
   events = refl;
+  shown = refl;
 }
 
 -- what a mailbox reads of one
@@ -67,6 +69,17 @@ pub record Extends (opening : World) (log log' : List Step) (v : Known) : Type 0
 
 pub same-log : (opening : World) (log : List Step) (v : Known) → Extends opening log log v
 same-log opening log v = record { net = λ f h. h; others = λ i apart. (refl, refl) }
+
+-- What the mailboxes of other nodes than the seat's have alike after its step, and the board unless
+-- the seat is node 0's.
+pub record Apart (n : ℕ) (old new : ℕ) (mail mail' : Mail) (v : Known) : Type 0 where
+  pub posted : (m : ℕ) → (v.role ≡ node → v.me ≢ m / n) → mail'.posted m ≡ mail.posted m
+  pub got : (m : ℕ) → (v.role ≡ node → v.me ≢ m % n) → mail'.got m ≡ mail.got m
+  pub board : (v.role ≡ node → v.me ≢ 0) → new ≡ old
+
+pub same-mail : (n b : ℕ) (mail : Mail) (v : Known) → Apart n b b mail mail v
+same-mail n b mail v =
+    record { posted = λ m a. refl; got = λ m a. refl; board = λ a. refl }
 
 -- a seat in a state that keeps the rule
 pub record Standing {S : Type 0} (bytes : S → List ℕ) (opening : World) : Type 0 where
@@ -111,28 +124,41 @@ module _ {S : Type 0} (bytes : S → List ℕ) (opening : World) where
         let a = was j x ex in let b = was k u eu in
         one j k a.0 b.0 a.1 b.1 (a.2 ∙ rx) (b.2 ∙ ru) (a.3 ∙ me ∙ sym b.3)
 
-    dealer-stays : (log : List Step) (j : ℕ) (u : Known)
-        → ((i : ℕ) → u.me ≤ i
-        → (pair_at (run opening log) i ≡ pair_at (run opening p.holds.log) i)
-        × (events_of i log ≡ events_of i p.holds.log))
-        → DealerOk opening p.holds.log p.state.views j u
-        → DealerOk opening log (after p w) j u
-    dealer-stays log j u same h = record {
+    dealer-stays : (log : List Step) (board : ℕ) (mail : Mail) (j : ℕ) (u : Known)
+        → Extends opening p.holds.log log p.view
+        → Apart n (slice_index p.state.words (n * n + 1)) board p.holds.mail mail p.view
+        → DealerOk opening p.holds.log (slice_index p.state.words (n * n + 1)) p.holds.mail
+        p.state.views j u
+        → DealerOk opening log board mail (after p w) j u
+    dealer-stays log board mail j u extends apart h = record {
       nodes_is = h.nodes_is;
       opening_is = h.opening_is;
       earlier = λ k x e r. let a = was k x e in
           subst (λ (i : ℕ). i < u.me) a.3 (h.earlier k a.0 a.1 (a.2 ∙ r));
       alone = λ k x e r. let a = was k x e in h.alone k a.0 a.1 (a.2 ∙ r);
-      still = λ i late. let a = h.still i late in let b = same i late in (b.1 ∙ a.0, b.0 ∙ a.1);
+      still = λ i late. let a = h.still i late in let b = extends.others i (below i late) in
+          (b.1 ∙ a.0, b.0 ∙ a.1);
+      unsent = λ m inside late. apart.posted m (λ r e. below (m / n) late r (sym e))
+          ∙ h.unsent m inside late;
+      untaken = λ m inside late. apart.got m (λ r e. below (m % n) late r (sym e))
+          ∙ h.untaken m inside late;
+      unseen = λ first. apart.board (λ r e. below 0 (omega (arith, first)) r (sym e))
+          ∙ h.unseen first;
     }
+      where
+        below : (i : ℕ) → u.me ≤ i → p.view.role ≡ node → i ≢ p.view.me
+        below i late r e = let before : p.view.me < u.me = h.earlier p.id p.view p.at r in
+            omega (arith, before, late, e)
 
   -- the step of the seat makes its view w
   pub record Turn (p : Standing bytes opening) (w : Known) (words : List ℕ)
       (homes : Homes S) : Type 0 where
     pub alike : IsAlike p.view w
     pub log : List Step
-    pub boxes : ℕ → Box
+    pub mail : Mail
     pub extends : Extends opening p.holds.log log p.view
+    pub apart : Apart n (slice_index p.state.words (n * n + 1)) (slice_index words (n * n + 1))
+        p.holds.mail mail p.view
     pub wide : length words ≡ length p.state.words
     pub slots : length homes ≡ length p.state.homes
     pub events : AreEvents opening log
@@ -141,10 +167,11 @@ module _ {S : Type 0} (bytes : S → List ℕ) (opening : World) where
     pub fits : slice_index words (n * n + 1) ≤ GREATEST_CYCLE
     pub higher : slice_index p.state.words (n * n + 1) ≤ slice_index words (n * n + 1)
     pub each : (m : ℕ) → m < n * n
-        → BoxOk bytes n (run opening log) words homes (after p w) m (boxes m)
-    pub theirs : (j : ℕ) → j ≢ p.id → (m : ℕ) → holder (p.holds.boxes m) ≡ suc j
-        → boxes m ≡ p.holds.boxes m
-    pub mine : SeatOk opening log (slice_index words (n * n + 1)) (after p w) boxes p.id
+        → BoxOk bytes n (run opening log) words homes (after p w) m (mail.boxes m)
+    pub in_order : (m : ℕ) → m < n * n → mail.posted m ≡ mail.got m ++ lying (mail.boxes m)
+    pub theirs : (j : ℕ) → j ≢ p.id → (m : ℕ) → holder (p.holds.mail.boxes m) ≡ suc j
+        → mail.boxes m ≡ p.holds.mail.boxes m
+    pub mine : SeatOk opening log (slice_index words (n * n + 1)) (after p w) mail p.id
         w w.role
     pub no_dealer : p.view.role ≢ dealer
 
@@ -153,16 +180,15 @@ module _ {S : Type 0} (bytes : S → List ℕ) (opening : World) where
     theirs-stay : (j : ℕ) (u : Known) → j ≢ p.id → get_elem? p.state.views j ≡ some u → (r : Role)
         → u.role ≡ r
         → SeatOk opening p.holds.log (slice_index p.state.words (n * n + 1)) p.state.views
-        p.holds.boxes j u r
-        → SeatOk opening t.log (slice_index words (n * n + 1)) (after p w) t.boxes j u r
+        p.holds.mail j u r
+        → SeatOk opening t.log (slice_index words (n * n + 1)) (after p w) t.mail j u r
     theirs-stay j u apart at dealer is ok =
-        dealer-stays p w t.alike t.log j u
-        (λ i late. t.extends.others i
-        (λ r e. let before : p.view.me < u.me = ok.earlier p.id p.view p.at r in omega arith))
+        dealer-stays p w t.alike t.log (slice_index words (n * n + 1)) t.mail j u t.extends t.apart
         ok
     theirs-stay j u apart at node is ok =
-        let same = t.extends.others u.me
-        (λ r e. apart (p.holds.one j p.id u p.view at p.at is r e)) in
+        let other : (i : ℕ) → u.me ≡ i → p.view.role ≡ node → p.view.me ≢ i =
+        λ i me r e. apart (p.holds.one j p.id u p.view at p.at is r (me ∙ sym e)) in
+        let same = t.extends.others u.me (λ r e. other u.me refl r (sym e)) in
         let theirs = t.theirs j apart in
         record {
           below = ok.below;
@@ -173,6 +199,9 @@ module _ {S : Type 0} (bytes : S → List ℕ) (opening : World) where
           released = λ k f e. t.extends.net f (ok.released k f e);
           fills = λ m e. let a = ok.fills m e in (a.0, theirs m (ap holder a.1) ∙ a.1);
           empties = λ m f e. let a = ok.empties m f e in (a.0, theirs m (ap holder a.1) ∙ a.1);
+          sends = λ m inside me. t.apart.posted m (other (m / n) me) ∙ ok.sends m inside me;
+          gets = λ m inside me. t.apart.got m (other (m % n) me) ∙ ok.gets m inside me;
+          shows = λ first. t.apart.board (other 0 first) ∙ ok.shows first;
         }
     theirs-stay j u apart at watch is ok =
         record { opening_is = ok.opening_is; loaded = le_trans ok.loaded t.higher }
@@ -181,7 +210,7 @@ module _ {S : Type 0} (bytes : S → List ℕ) (opening : World) where
         Holds bytes opening (record { words = words; homes = homes; views = after p w })
     turned = record {
       log = t.log;
-      boxes = t.boxes;
+      mail = t.mail;
       opens = p.holds.opens;
       wide = t.wide ∙ p.holds.wide;
       slots = t.slots ∙ p.holds.slots;
@@ -190,12 +219,13 @@ module _ {S : Type 0} (bytes : S → List ℕ) (opening : World) where
       board = t.board;
       fits = t.fits;
       each_box = t.each;
+      in_order = t.in_order;
       each_seat = λ j u e.
           ⊎_elim
           (λ (is : (j ≡ p.id) × (w ≡ u)).
           subst
           (λ (x : ℕ × Known).
-          SeatOk opening t.log (slice_index words (n * n + 1)) (after p w) t.boxes
+          SeatOk opening t.log (slice_index words (n * n + 1)) (after p w) t.mail
           x.0 x.1 x.1.role)
           (λ k. (sym is.0 k, is.1 k)) t.mine)
           (λ (is : (j ≢ p.id) × (get_elem? p.state.views j ≡ some u)).
@@ -252,122 +282,22 @@ module _ {S : Type 0} (bytes : S → List ℕ) (opening : World) where
         ))
         (λ apart. (c.0, set_else p.state.views p.id j w apart ∙ c.1, c.2, c.3, c.4))
 
-    box-stays : BoxOk bytes n (run opening log) words homes (after p w) m
-        (p.holds.boxes m)
+    pub box-stays : BoxOk bytes n (run opening log) words homes (after p w) m
+        (p.holds.mail.boxes m)
     box-stays =
         let ok = p.holds.each_box m l.below in
         record {
           shows = l.word ∙ ok.shows;
-          content = content-stays (p.holds.boxes m) ok.content;
+          content = content-stays (p.holds.mail.boxes m) ok.content;
         }
 
-  -- ---- A step that moves a mailbox
-
-  pub record Move (p : Standing bytes opening) (w : Known) (m x : ℕ) (b : Box) : Type 0 where
-    -- what stands in the mailbox's slot
-    pub home : maybe.Option S
-    pub below : m < n * n
-    pub role : p.view.role ≡ node
-    pub seat : IsSeat p.view w
-    pub shows : x ≡ face b
-    pub content : Content bytes n (run opening p.holds.log) (set p.state.homes m home)
-        (after p w) m b
-    pub free : (j : ℕ) → j ≢ p.id → holder (p.holds.boxes m) ≢ suc j
-    pub like : (k : ℕ) → k ≢ m → IsLike k p.view w
-    pub taken : (k : ℕ) (f : Plain) → slice_get w.taken k ≡ Some f
-        → IsInNet (run opening p.holds.log) f
-    pub fills : has m w.filling ≡ true → b ≡ filling_by p.id
-    pub empties : (f : Plain) → found m w.emptying ≡ Some f → b ≡ emptying_by p.id f
-
   pub node-of : (p : Standing bytes opening) → p.view.role ≡ node
-      → NodeOk opening p.holds.log p.holds.boxes p.id p.view
+      → NodeOk opening p.holds.log (slice_index p.state.words (n * n + 1)) p.holds.mail p.id p.view
   node-of p role =
       subst
       (SeatOk opening p.holds.log (slice_index p.state.words (n * n + 1)) p.state.views
-      p.holds.boxes p.id p.view)
+      p.holds.mail p.id p.view)
       role (p.holds.each_seat p.id p.view p.at)
-
-  module _ (p : Standing bytes opening) (w : Known) (m x : ℕ) (b : Box)
-      (t : Move p w m x b) where
-    was-node : NodeOk opening p.holds.log p.holds.boxes p.id p.view
-    was-node = node-of p t.role
-
-    moved-node : NodeOk opening p.holds.log (put p.holds.boxes m b) p.id w
-    moved-node = record {
-      below = subst (λ (i : ℕ). i < n) (sym t.seat.alike.me) was-node.below;
-      nodes_is = t.seat.nodes ∙ was-node.nodes_is;
-      opening_is = t.seat.opens ∙ was-node.opening_is;
-      pair_is = ap (pair_at (run opening p.holds.log)) t.seat.alike.me ∙ was-node.pair_is
-          ∙ sym t.seat.pair;
-      events_are = t.seat.events ∙ was-node.events_are
-          ∙ ap (λ (i : ℕ). events_of i p.holds.log) (sym t.seat.alike.me);
-      released = t.taken;
-      fills = λ k. at_put p.holds.boxes m b
-          (λ i y. has i w.filling ≡ true → (i < n * n) × (y ≡ filling_by p.id)) k
-          (λ e. (t.below, t.fills e))
-          (λ apart e. was-node.fills k (sym (t.like k apart).fills ∙ e));
-      empties = λ k f. at_put p.holds.boxes m b
-          (λ i y. found i w.emptying ≡ Some f → (i < n * n) × (y ≡ emptying_by p.id f)) k
-          (λ e. (t.below, t.empties f e))
-          (λ apart e. was-node.empties k f (sym (t.like k apart).empties ∙ e));
-    }
-
-    pub moved : Holds bytes opening
-        (record {
-          words = set p.state.words m x;
-          homes = set p.state.homes m t.home;
-          views = after p w;
-        })
-    moved =
-        let wide : length p.state.words ≡ n * n + 2 = p.holds.wide in
-        let homes = set p.state.homes m t.home in
-        let below : m < n * n = t.below in
-        let other : (k : ℕ) → k ≢ m
-        → get_or (set p.state.words m x) k 0 ≡ get_or p.state.words k 0 =
-        λ k apart. get_or-set_other p.state.words m k x 0 apart in
-        let count = other (n * n) (omega arith) in
-        let board = other (n * n + 1) (omega arith) in
-        turned p w (set p.state.words m x) homes (record {
-          alike = t.seat.alike;
-          log = p.holds.log;
-          boxes = put p.holds.boxes m b;
-          extends = same-log opening p.holds.log p.view;
-          wide = length-set p.state.words m x;
-          slots = length-set p.state.homes m t.home;
-          events = p.holds.events;
-          count = count ∙ p.holds.count;
-          board = subst (λ (z : ℕ). z ≤ ended_of (run opening p.holds.log)) (sym board)
-              p.holds.board;
-          fits = subst (λ (z : ℕ). z ≤ GREATEST_CYCLE) (sym board) p.holds.fits;
-          higher = subst (λ (z : ℕ). get_or p.state.words (n * n + 1) 0 ≤ z) (sym board)
-              (le_refl _);
-          each = λ k k_below. at_put p.holds.boxes m b
-              (λ i y. i < n * n
-              → BoxOk bytes n (run opening p.holds.log) (set p.state.words m x) homes
-              (after p w) i y) k
-              (λ _. record {
-                shows = get_or-set_same p.state.words m x 0 (omega arith) ∙ t.shows;
-                content = t.content;
-              })
-              (λ apart _. box-stays p w p.holds.log (set p.state.words m x) homes k (record {
-                below = k_below;
-                alike = t.seat.alike;
-                extends = same-log opening p.holds.log p.view;
-                word = other k apart;
-                home = set_else p.state.homes m k t.home apart;
-                like = t.like k apart;
-              }))
-              k_below;
-          theirs = λ j apart k held.
-              put-other p.holds.boxes m b k
-              (λ e. t.free j apart (subst (λ (i : ℕ). holder (p.holds.boxes i) ≡ suc j) e held));
-          mine = subst
-              (SeatOk opening p.holds.log (slice_index (set p.state.words m x) (n * n + 1))
-              (after p w)
-              (put p.holds.boxes m b) p.id w)
-              (sym (t.seat.alike.role ∙ t.role)) moved-node;
-          no_dealer = λ d. (let never : ◌≡◌ {A = Role} node dealer = sym t.role ∙ d in absurd cc);
-        })
 
   -- ---- A step that moves none
 
@@ -384,7 +314,9 @@ module _ {S : Type 0} (bytes : S → List ℕ) (opening : World) where
     pub board : slice_index words (n * n + 1) ≤ ended_of (run opening log)
     pub fits : slice_index words (n * n + 1) ≤ GREATEST_CYCLE
     pub higher : slice_index p.state.words (n * n + 1) ≤ slice_index words (n * n + 1)
-    pub mine : SeatOk opening log (slice_index words (n * n + 1)) (after p w) p.holds.boxes p.id
+    pub shown : (p.view.role ≡ node → p.view.me ≢ 0)
+        → slice_index words (n * n + 1) ≡ slice_index p.state.words (n * n + 1)
+    pub mine : SeatOk opening log (slice_index words (n * n + 1)) (after p w) p.holds.mail p.id
         w w.role
     pub no_dealer : p.view.role ≢ dealer
 
@@ -395,8 +327,10 @@ module _ {S : Type 0} (bytes : S → List ℕ) (opening : World) where
       turned p w words p.state.homes (record {
         alike = t.alike;
         log = log;
-        boxes = p.holds.boxes;
+        mail = p.holds.mail;
         extends = t.extends;
+        apart = record { posted = λ m a. refl; got = λ m a. refl; board = t.shown };
+        in_order = p.holds.in_order;
         wide = t.wide;
         slots = refl;
         events = t.events;

@@ -11,7 +11,7 @@ use Rattle.model.specs.declared.step.Outcome.TheVariants as outcome
 use Rattle.model.specs.State.{NodeState, got_from, sent_to}
 use Rattle.model.specs.Steps.{act, receive, is_own}
 use Rattle.model.specs.World.{World, run, is_eventful, numbered, IsInNet}
-use Rattle.wire.specs.Views.{Pair, Known, pair_at, notes, claims, takes_in, posts, clears, ticks, marks}
+use Rattle.wire.specs.Views.{Pair, Known, pair_at, notes, claims, takes_in, posts, clears, ticks, raises, marks}
 use Rattle.wire.specs.Lists.{has, found}
 use Rattle.wire.specs.Rule.{AreEvents, events_of, ended_of, sender, receiver, Spells}
 
@@ -72,6 +72,15 @@ abbrev pub IsReleased : World → Plain → Type 0
 IsReleased opening f =
     (log : List model.Step) × AreEvents opening log × IsInNet (run opening log) f
 
+-- Some list of events has the frame in its net, and leads to the seat's pair: the frame may be
+-- delivered where the seat's node stands now.
+pub record Arrives (v : Known) (f : Plain) : Type 0 where
+  pub log : List model.Step
+  pub events : AreEvents v.opening log
+  pub net : IsInNet (run v.opening log) f
+  pub pair : pair_at (run v.opening log) v.me ≡ v.pair
+  pub own : v.events ≡ events_of v.me log
+
 -- node 0 had ended this cycle, and was saved so
 abbrev pub HasEnded : World → ℕ → Type 0
 HasEnded opening number =
@@ -94,7 +103,7 @@ module _ {S : Type 0} where
   abbrev pub Took : (S → List ℕ) → Step S → Me S Known → Me S Known → Plain → Type 0
   Took bytes st m m' f =
       (m'.0 ≡ takes_in st.word f m.0) × (sender f ≡ st.word / m.0.nodes) × (receiver f ≡ m.0.me)
-      × IsReleased m.0.opening f
+      × Arrives m.0 f
       × ((x : S) × (m'.1 ≡ (st.word, x) ∷ m.1) × Spells f (bytes x) × IsFresh st.word m.0)
 
   abbrev pub took : (S → List ℕ) → Step S → Me S Known → ℕ → Me S Known → Type 0
@@ -119,7 +128,7 @@ module _ {S : Type 0} where
   ticked e q st m r m' = (m'.0 ≡ ticks e q m.0) × (m'.1 ≡ m.1) × Enters e m.0 r m'.0
 
   abbrev pub raised : Step S → Me S Known → ℕ → Me S Known → Type 0
-  raised st m r m' = (m'.0 ≡ marks st.first m.0) × (m'.1 ≡ m.1)
+  raised st m r m' = (m'.0 ≡ raises st.first m.0) × (m'.1 ≡ m.1)
 
   abbrev pub looked : Step S → Me S Known → ℕ → Me S Known → Type 0
   looked st m r m' =

@@ -1,7 +1,7 @@
 -- What holds of a wire between any two atomic steps ("The rule" in docs/WIRE.md).
 -- The word m, for m below n * n, is that of the mailbox from node m / n to node m % n, and the slot
 -- m holds its bytes. Then come the count word and the board.
-use Rattle.std.specs.Prelude.{◌≡◌, ℕ, ◌+◌, ◌*◌, ◌/◌, ◌%◌, ◌^◌, ◌<◌, ◌≤◌, true, cond, ◌==◌, List, [], ◌∷◌, length, slice_index, slice_get, Some}
+use Rattle.std.specs.Prelude.{◌≡◌, ℕ, ◌+◌, ◌*◌, ◌/◌, ◌%◌, ◌^◌, ◌<◌, ◌≤◌, true, cond, ◌==◌, List, [], ◌∷◌, ◌++◌, length, slice_index, slice_get, Some}
 use mathlib.Core.Option as maybe
 use mathlib.Core.Option.{some}
 use lib.ListN.{get_elem?}
@@ -70,6 +70,28 @@ face (full f) = 1
 face (emptying_by j f) = 2
 face (filling_by j) = 3
 
+-- the frame that lies in it, if there is one
+abbrev pub lying : Box → List Plain
+lying empty = []
+lying (full f) = f ∷ []
+lying (filling_by j) = []
+lying (emptying_by j f) = []
+
+-- the mailbox between the frame's nodes, and those frames of a list that are of one mailbox
+abbrev pub box_of : ℕ → Plain → ℕ
+box_of n f = sender f * n + receiver f
+
+abbrev pub in_box : ℕ → ℕ → List Plain → List Plain
+in_box n m [] = []
+in_box n m (f ∷ fs) = cond (box_of n f == m) (f ∷ in_box n m fs) (in_box n m fs)
+
+-- The mailboxes, and for each of them the frames that were ever posted to it and those that were
+-- ever taken from it, in order.
+pub record Mail : Type 0 where
+  pub boxes : ℕ → Box
+  pub posted : ℕ → List Plain
+  pub got : ℕ → List Plain
+
 module _ {S : Type 0} (bytes : S → List ℕ) (n : ℕ) (w : World)
     (homes : List (maybe.Option S)) (views : List Known) (m : ℕ) where
   -- the frame's bytes lie in the slot
@@ -95,7 +117,7 @@ pub record BoxOk {S : Type 0} (bytes : S → List ℕ) (n : ℕ) (w : World)
     pub content : Content bytes n w homes views m b
 
 -- a node's seat, with the index j
-pub record NodeOk (opening : World) (log : List Step) (boxes : ℕ → Box) (j : ℕ)
+pub record NodeOk (opening : World) (log : List Step) (board : ℕ) (mail : Mail) (j : ℕ)
     (v : Known) : Type 0 where
   pub below : v.me < nodes_of opening
   pub nodes_is : v.nodes ≡ nodes_of opening
@@ -104,35 +126,48 @@ pub record NodeOk (opening : World) (log : List Step) (boxes : ℕ → Box) (j :
   pub events_are : v.events ≡ events_of v.me log
   pub released : (k : ℕ) (f : Plain) → slice_get v.taken k ≡ Some f → IsInNet (run opening log) f
   pub fills : (m : ℕ) → has m v.filling ≡ true
-      → (m < nodes_of opening * nodes_of opening) × (boxes m ≡ filling_by j)
+      → (m < nodes_of opening * nodes_of opening) × (mail.boxes m ≡ filling_by j)
   pub empties : (m : ℕ) (f : Plain) → found m v.emptying ≡ Some f
-      → (m < nodes_of opening * nodes_of opening) × (boxes m ≡ emptying_by j f)
+      → (m < nodes_of opening * nodes_of opening) × (mail.boxes m ≡ emptying_by j f)
+  -- it posted what was ever posted to its mailboxes, and took what was ever taken from them
+  pub sends : (m : ℕ) → m < nodes_of opening * nodes_of opening → v.me ≡ m / nodes_of opening
+      → mail.posted m ≡ in_box (nodes_of opening) m v.sent
+  pub gets : (m : ℕ) → m < nodes_of opening * nodes_of opening → v.me ≡ m % nodes_of opening
+      → mail.got m ≡ in_box (nodes_of opening) m v.taken
+  -- the board shows the greatest number that node 0's seat raised
+  pub shows : v.me ≡ 0 → board ≡ v.shown
 
--- There is one dealer. The nodes that have no seat yet are as they were.
-pub record DealerOk (opening : World) (log : List Step) (views : List Known) (j : ℕ)
-    (v : Known) : Type 0 where
+-- There is one dealer. The nodes that have no seat yet are as they were, and so are their mailboxes
+-- and, before node 0 has one, the board.
+pub record DealerOk (opening : World) (log : List Step) (board : ℕ) (mail : Mail)
+    (views : List Known) (j : ℕ) (v : Known) : Type 0 where
   pub nodes_is : v.nodes ≡ nodes_of opening
   pub opening_is : v.opening ≡ opening
   pub earlier : (k : ℕ) (u : Known) → get_elem? views k ≡ some u → u.role ≡ node → u.me < v.me
   pub alone : (k : ℕ) (u : Known) → get_elem? views k ≡ some u → u.role ≡ dealer → k ≡ j
   pub still : (i : ℕ) → v.me ≤ i
       → (events_of i log ≡ []) × (pair_at (run opening log) i ≡ pair_at opening i)
+  pub unsent : (m : ℕ) → m < nodes_of opening * nodes_of opening → v.me ≤ m / nodes_of opening
+      → mail.posted m ≡ []
+  pub untaken : (m : ℕ) → m < nodes_of opening * nodes_of opening → v.me ≤ m % nodes_of opening
+      → mail.got m ≡ []
+  pub unseen : v.me ≡ 0 → board ≡ 0
 
 pub record WatchOk (opening : World) (board : ℕ) (v : Known) : Type 0 where
   pub opening_is : v.opening ≡ opening
   pub loaded : v.number ≤ board
 
-abbrev pub SeatOk : World → List Step → ℕ → List Known → (ℕ → Box) → ℕ → Known → Role → Type 0
-SeatOk opening log board views boxes j v dealer = DealerOk opening log views j v
-SeatOk opening log board views boxes j v node = NodeOk opening log boxes j v
-SeatOk opening log board views boxes j v watch = WatchOk opening board v
+abbrev pub SeatOk : World → List Step → ℕ → List Known → Mail → ℕ → Known → Role → Type 0
+SeatOk opening log board views mail j v dealer = DealerOk opening log board mail views j v
+SeatOk opening log board views mail j v node = NodeOk opening log board mail j v
+SeatOk opening log board views mail j v watch = WatchOk opening board v
 
 -- Some list of events leads from the opening world to the pairs in the seats' views, each of which
 -- has its node's events of the list, in order; the count word is its length.
 pub record Holds {S : Type 0} (bytes : S → List ℕ) (opening : World)
     (s : State S Known) : Type 0 where
   pub log : List Step
-  pub boxes : ℕ → Box
+  pub mail : Mail
   pub opens : IsOpening opening
   pub wide : length s.words ≡ nodes_of opening * nodes_of opening + 2
   pub slots : length s.homes ≡ nodes_of opening * nodes_of opening
@@ -142,10 +177,13 @@ pub record Holds {S : Type 0} (bytes : S → List ℕ) (opening : World)
       ≤ ended_of (run opening log)
   pub fits : slice_index s.words (nodes_of opening * nodes_of opening + 1) ≤ GREATEST_CYCLE
   pub each_box : (m : ℕ) → m < nodes_of opening * nodes_of opening
-      → BoxOk bytes (nodes_of opening) (run opening log) s.words s.homes s.views m (boxes m)
+      → BoxOk bytes (nodes_of opening) (run opening log) s.words s.homes s.views m (mail.boxes m)
+  -- no frame is lost on the way, nor comes twice, nor before an earlier one
+  pub in_order : (m : ℕ) → m < nodes_of opening * nodes_of opening
+      → mail.posted m ≡ mail.got m ++ lying (mail.boxes m)
   pub each_seat : (j : ℕ) (v : Known) → get_elem? s.views j ≡ some v
       → SeatOk opening log (slice_index s.words (nodes_of opening * nodes_of opening + 1)) s.views
-      boxes j v v.role
+      mail j v v.role
   -- a node has one seat
   pub one : (j k : ℕ) (v u : Known) → get_elem? s.views j ≡ some v → get_elem? s.views k ≡ some u
       → v.role ≡ node → u.role ≡ node → v.me ≡ u.me → j ≡ k

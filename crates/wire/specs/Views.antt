@@ -1,5 +1,5 @@
 -- What each seat of a wire knows, in proofs alone.
-use Rattle.std.specs.Prelude.{ℕ, ◌+◌, Bool, true, false, List, [], ◌∷◌, ◌++◌, length}
+use Rattle.std.specs.Prelude.{ℕ, ◌+◌, max, Bool, true, false, List, [], ◌∷◌, ◌++◌, length}
 use Rattle.msg.specs.Grammar.{Plain}
 use Rattle.model.specs.declared.step.Step.{Step}
 use Rattle.model.specs.State.{NodeState, no_node, node_at}
@@ -40,6 +40,8 @@ pub record Known : Type 0 where
   pub tries : ℕ
   -- the number that it raised last; of a watch, the one that it loaded last
   pub number : ℕ
+  -- the greatest number that it raised
+  pub shown : ℕ
 
 abbrev pub pair_at : World → ℕ → Pair
 pair_at w i = record { current = node_at w.current i; saved = node_at w.saved i }
@@ -71,6 +73,7 @@ fresh role me nodes opening pair = record {
   read = 0;
   tries = 0;
   number = 0;
+  shown = 0;
 }
 
 abbrev pub dealer_of : World → ℕ → Known
@@ -114,7 +117,11 @@ clears box v = record v { emptying = cleared box v.emptying }
 abbrev pub ticks : Step → Pair → Known → Known
 ticks s q v = record v { pair = q; events = v.events ++ s ∷ [] }
 
--- a number was raised, or loaded
+-- a number was raised
+abbrev pub raises : ℕ → Known → Known
+raises number v = record v { number = number; shown = max v.shown number }
+
+-- a number was loaded
 abbrev pub marks : ℕ → Known → Known
 marks number v = record v { number = number }
 

@@ -1,5 +1,5 @@
 ghost use Rattle.std.specs.Prelude.{◌≡◌, ◌≤◌, max};
-ghost use Rattle.wire.specs.Views.{marks};
+ghost use Rattle.wire.specs.Views.{raises};
 ghost use Rattle.wire.specs.Plays.{HasEnded};
 ghost use Rattle.wire.specs.Readers.{
   known,
@@ -29,7 +29,7 @@ impl Wire {
         requires first { seat_node seat.old ≡ 0 }
         requires ended { cycle.number ≤ (known seat.old).pair.saved.local.phases.ended }
         ensures same { IsSame seat.old seat.new }
-        ensures raised { known seat.new ≡ marks cycle.number (known seat.old) }
+        ensures raised { known seat.new ≡ raises cycle.number (known seat.old) }
         ensures cycle { (raised_cycle result ≡ cycle.number) × IsRaisedOf self.now result }
     {
         let board = self.nodes * self.nodes + 1;

@@ -11,6 +11,3 @@ mod seats;
 mod views;
 
 pub use seats::{Claim, NodeSeat, Raised, Taken, Watch, Wire};
-
-#[cfg(test)]
-mod tests;

@@ -21,7 +21,7 @@ ghost use Rattle.msg.specs.Grammar.{Plain, Fits, spelling};
 ghost use Rattle.wire.specs.Lists.{has, found};
 ghost use Rattle.wire.specs.Views.{notes, claims, takes_in, posts, clears};
 ghost use Rattle.wire.specs.Rule.{sender, receiver, Spells};
-ghost use Rattle.wire.specs.Plays.{Owns, IsReleased};
+ghost use Rattle.wire.specs.Plays.{Arrives, Owns};
 ghost use Rattle.wire.specs.Readers.{
   width,
   known,
@@ -107,7 +107,7 @@ impl Wire {
             × (known seat.new ≡ notes (known seat.new).read (known seat.old)))
             (λ t. (taken_from t ≡ from) × IsTakenOf seat.old t
             × ((f : Plain) × Fits f × (sender f ≡ from) × (receiver f ≡ seat_node seat.old)
-            × IsReleased (known seat.old).opening f
+            × Arrives (known seat.old) f
             × (known seat.new ≡ takes_in (inbox seat.old from) f (known seat.old)))) }
     {
         let at = usize::from(from) * seat.nodes + seat.node;

@@ -15,3 +15,4 @@ pub mod Finding
 pub mod Following
 pub mod Reading
 pub mod Reached
+pub mod Answers

@@ -6,3 +6,4 @@ pub mod Sites
 pub mod InsideSite
 pub mod Shows
 pub mod Reach
+pub mod Answered

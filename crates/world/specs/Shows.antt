@@ -128,12 +128,17 @@ abbrev pub IsSmall : World → Step → Type 0
 IsSmall w (step.Save i) = length (image_of (whole_view (node_at w.current i))) ≤ GREATEST_IMAGE
 IsSmall w s = Unit {0}
 
+-- A step against that of the definitions, on each of their spaces that was shown before.
+abbrev pub FollowsShown : Result Outcome Refusal → List SiteView → List SiteView → Step → Type 0
+FollowsShown result old new s =
+    (w : World) → ShowsWorld old w → FollowsStep ShowsWorld w s result new
+
 -- What a step answered, and the space after it. An answer is that of the definitions, whose space
 -- is then shown; a refusal is the first that applies, or of an image that is too large, and changes
 -- nothing.
 pub record Stepped (result : Result Outcome Refusal) (old new : List SiteView)
     (s : Step) : Type 0 where
-  pub follows : (w : World) → ShowsWorld old w → FollowsStep ShowsWorld w s result new
+  pub follows : FollowsShown result old new s
   pub too_large : result ≡ Err ImageTooLarge ↔ SavesTooLarge old s
   pub unchanged : OnErr result (new ≡ old)
   pub lets_go : IfOk result (λ o. bases_of new ≡ bases_after (bases_of old) s o)

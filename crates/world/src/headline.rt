@@ -1,7 +1,13 @@
+ghost use Rattle.laws.specs.Sights.{CollectorIsUnseen};
 ghost use Rattle.laws.specs.Statements.{OnlyEventsChange, CutsExtend, ReachIsLive, SweepsFreeNoneReachable, NodesAgree, BalancesAddUp, OldGarbageGoes, TargetsAreLive, NetGrows, NoneRefusedInTurn, NoneBeyond, AcknowledgementsGoThrough, HandsGoThrough, AcknowledgedIsTakenIn};
+ghost use Rattle.world.specs.Answered.{AnswersAreUnseen};
 
 /// The headline, over every list of steps of every space: events of programs and of the collector,
 /// deliveries, losses, repeats, reorderings, acknowledgements, saves and restarts.
+///
+/// Programs can't tell that there is a collector: what they are told and get is what a space may
+/// tell and give them in which no object is ever freed (`transparent`; of what the code answers
+/// `answers`). The rest serves this.
 ///
 /// No node frees an object that can be reached from a register, a letter or a message in flight
 /// (`frees_none_reachable`), whichever of their states, current or saved, the other nodes go on
@@ -22,6 +28,14 @@ ghost use Rattle.laws.specs.Statements.{OnlyEventsChange, CutsExtend, ReachIsLiv
 /// This does nothing: its contract is the theorems, and [`Sim::step`](crate::Sim::step) speaks of
 /// the same spaces.
 pub fn laws()
+    // In each choice of current and saved states, what programs were told and got in the run, but
+    // for what restarts have undone, is a run of a space with no collector, in which no object is
+    // ever freed; and it ends with the same registers, letters, messages of programs and reachable
+    // objects.
+    ensures transparent { CollectorIsUnseen }
+    // The same of the code: of any calls of `Sim::step` after `Sim::new`, what they answered is, as
+    // programs see it, a run of that space, in each choice of current and saved states.
+    ensures answers { AnswersAreUnseen }
     // A step that is no event, as reading a word, a repeat, or what is refused, changes nothing.
     ensures events { OnlyEventsChange }
     // Whatever a run does after some moment, each choice of current and saved states is one of that

@@ -14,6 +14,3 @@ pub use headline::laws;
 pub use model::{Answer, Event, Letter, Outcome, Step};
 pub use reaching::reach;
 pub use sim::Sim;
-
-#[cfg(test)]
-mod tests;

@@ -3,9 +3,9 @@ ghost use Rattle.std.specs.Option.{option_copied, option_map};
 ghost use Rattle.ids.specs.declared.refusal.Refusal.TheVariants.{Memory, ImageTooLarge};
 ghost use Rattle.model.specs.Steps.{is_own};
 ghost use Rattle.node.specs.Summaries.{summary_of};
-ghost use Rattle.model.specs.World.{World, FollowsStep, new_world, is_own_step, is_step_memory_free};
+ghost use Rattle.model.specs.World.{World, new_world, is_own_step, is_step_memory_free};
 ghost use Rattle.model.specs.declared.step.Step.TheVariants as step;
-ghost use Rattle.world.specs.Shows.{ShowsWorld, SavesTooLarge, IsSmall, Stepped, ExtendsRun, Given, IsAckOf, bases_of, bases_after, frame_at, site_at, summary_at};
+ghost use Rattle.world.specs.Shows.{ShowsWorld, SavesTooLarge, IsSmall, FollowsShown, Stepped, ExtendsRun, Given, IsAckOf, bases_of, bases_after, frame_at, site_at, summary_at};
 
 use crate::site::Site;
 use ids::{NodeId, Refusal, Shape};
@@ -60,8 +60,7 @@ impl Sim {
     /// large.
     pub fn step(&mut self, step: Step) -> Result<Outcome, Refusal>
         requires own { IsTrue (is_own_step step) }
-        ensures follows { (w : World) → ShowsWorld self.old w
-            → FollowsStep ShowsWorld w step result self.new }
+        ensures follows { FollowsShown result self.old self.new step }
         ensures runs { ExtendsRun result self.old self.new step }
         ensures lets_go { IfOk result (λ o.
             bases_of self.new ≡ bases_after (bases_of self.old) step o) }
@@ -114,7 +113,7 @@ impl Sim {
     }
 
     /// How many nodes there are.
-    pub(crate) fn count(&self) -> u8
+    pub fn count(&self) -> u8
         ensures { result ≡ length self.now }
     {
         self.sites.len() as u8

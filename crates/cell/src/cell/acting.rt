@@ -21,9 +21,10 @@ ghost use Rattle.circular_buffer.specs.Buffer.{keep_last};
 ghost use Rattle.ids.specs.declared.limits.TheConstants.{TRACE_EVENTS};
 ghost use Rattle.ids.specs.declared.refusal.Refusal.TheVariants.{Memory};
 ghost use Rattle.trace.specs.Lines.{call_of, line_text};
-ghost use Rattle.model.specs.Steps.{is_own};
+ghost use Rattle.model.specs.Steps.{is_memory_free, is_own};
+ghost use Rattle.model.specs.View.{Shows};
 ghost use Rattle.model.specs.declared.step.Step.TheVariants as step;
-ghost use Rattle.wire.specs.Views.{marks};
+ghost use Rattle.wire.specs.Views.{raises};
 ghost use Rattle.wire.specs.Readers.{
   known,
   raised_cycle,
@@ -81,7 +82,8 @@ impl<D: Disk> Cell<D> {
 
     /// Gives the node an event of its own. It answers what the node answers, and the event enters
     /// the history; `Word` enters nothing. Refused as by the node, which then changes nothing, and
-    /// Closed exactly while the cell is closed. A line is added to the trace either way.
+    /// Closed exactly while the cell is closed. An event that takes no memory is never refused
+    /// Memory. A line is added to the trace either way.
     pub fn act(&mut self, wire: &Wire, event: Event) -> Result<Answer, Refusal>
         requires wire { IsSeatOf wire.now self.old.desk.seat }
         requires own { is_own event ≡ true }
@@ -89,6 +91,8 @@ impl<D: Disk> Cell<D> {
             → Acted event (step.Act (known self.old.desk.seat).me event) result
             self.old.desk.node self.new.desk.node
             (known self.old.desk.seat) (known self.new.desk.seat) }
+        ensures memory_free { IsTrue (is_memory_free self.old.desk.node.local event)
+            → IfErr result (λ e. e ≢ Memory) }
         ensures closed { IsErrOf result Refusal.Closed ↔ (self.old.shelf.ready ≡ false) }
         ensures shut { self.old.shelf.ready ≡ false → self.new.desk ≡ self.old.desk }
         ensures unsaved { IsMarked (known self.old.desk.seat) (known self.new.desk.seat)
@@ -119,7 +123,7 @@ impl<D: Disk> Cell<D> {
             ≡ (known self.old.desk.seat).pair.saved.local.phases.ended)
             × IsRaisedOf wire.now r
             × (known self.new.desk.seat
-            ≡ marks (known self.old.desk.seat).pair.saved.local.phases.ended
+            ≡ raises (known self.old.desk.seat).pair.saved.local.phases.ended
             (known self.old.desk.seat))) }
         ensures closed { IsErrOf result Refusal.Closed ↔ (self.old.shelf.ready ≡ false) }
         ensures director { IfErr result (λ e. e ≢ Refusal.Closed
@@ -151,9 +155,10 @@ impl<D: Disk> Cell<D> {
         self.desk.is_unsaved
     }
 
-    /// The node as it stands.
+    /// The node as it stands: it shows the state in which the seat's events leave it.
     pub fn node(&self) -> &Node
-        ensures { result.now ≡ self.now.desk.node }
+        ensures value { result.now ≡ self.now.desk.node }
+        ensures shows { Shows result.now (known self.now.desk.seat).pair.current }
     {
         &self.desk.node
     }

@@ -30,8 +30,16 @@ ghost use Rattle.image.specs.Images.{image_of};
 ghost use Rattle.disk.specs.Crashes.{Grew, Only};
 ghost use Rattle.disk.specs.Memory.{filled_by_crash, held_by, IsFaultless, left_by};
 ghost use Rattle.wire.specs.Readers.{known, IsSame, IsSeatOf};
-ghost use Rattle.cell.specs.Disks.{is_same_image, OpensTo};
-ghost use Rattle.cell.specs.Events.{done_outcome, reopened_by, restarted_by, saved_by};
+ghost use Rattle.cell.specs.Disks.{is_same_image, HoldsSaved, OpensTo};
+ghost use Rattle.cell.specs.Events.{
+  done_outcome,
+  found_step,
+  reopened_by,
+  restarted_by,
+  saved_by,
+  Entered,
+};
+ghost use Rattle.model.specs.declared.step.Step.TheVariants as step;
 
 use super::Cell;
 use disk::{Disk, MemoryDisk};
@@ -50,6 +58,8 @@ impl<D: Disk> Cell<D> {
         requires wire { IsSeatOf wire.now self.old.desk.seat }
         ensures saved { OnOk result
             (known self.new.desk.seat ≡ saved_by (known self.old.desk.seat)) }
+        ensures entered { OnOk result (Entered (step.Save (known self.old.desk.seat).me)
+            (known self.old.desk.seat) (known self.new.desk.seat)) }
         ensures node { OnOk result (self.new.desk.node ≡ kept_view self.old.desk.node) }
         ensures unsaved { OnOk result (self.new.desk.is_unsaved ≡ false) }
         ensures ready { OnOk result (self.new.shelf.ready ≡ true) }
@@ -87,8 +97,9 @@ impl<D: Disk> Cell<D> {
     }
 
     /// Syncs the disk, and takes up the node that it holds; the cell is then open. Where the cell
-    /// was open this is a restart; after a save that was refused Disk it is a restart or that save,
-    /// by what the disk opens to. The windows to other nodes are sent from their start.
+    /// was open this is a restart, and so it is after reopenings of an open cell that were refused;
+    /// after a save that was refused Disk it is a restart or that save, by what the disk opens to.
+    /// The windows to other nodes are sent from their start.
     ///
     /// Refused Disk where the device failed, and Memory: the cell is then closed, and no event
     /// enters. A line is added to the trace either way.
@@ -98,7 +109,18 @@ impl<D: Disk> Cell<D> {
         ensures reopened { OnOk result (known self.new.desk.seat
             ≡ reopened_by (is_same_image self.new.desk.node self.old.desk.saved.value)
             (known self.old.desk.seat)) }
+        ensures entered { OnOk result (Entered
+            (found_step (is_same_image self.new.desk.node self.old.desk.saved.value)
+            (known self.old.desk.seat).me)
+            (known self.old.desk.seat) (known self.new.desk.seat)) }
         ensures restarted { OnOk result (IsTrue self.old.shelf.ready
+            → known self.new.desk.seat ≡ restarted_by (known self.old.desk.seat)) }
+        ensures saved_still { OnErr result
+            (IsTrue self.old.shelf.ready ⊎ HoldsSaved (D.may_leave self.old.shelf.disk)
+            self.old.desk.saved.value
+            → HoldsSaved (D.may_leave self.new.shelf.disk) self.new.desk.saved.value) }
+        ensures restarted_later { OnOk result
+            (HoldsSaved (D.may_leave self.old.shelf.disk) self.old.desk.saved.value
             → known self.new.desk.seat ≡ restarted_by (known self.old.desk.seat)) }
         ensures unsaved { OnOk result (self.new.desk.is_unsaved ≡ false) }
         ensures ready { OnOk result (self.new.shelf.ready ≡ true) }

@@ -1,40 +1,60 @@
-use Rattle.std.proofs.Common.{◌+◌, ◌^◌, ◌<◌, arith}
+use Rattle.std.proofs.Common.{◌+◌, ◌^◌, ◌<◌, ◌∙◌, arith}
 use Rattle.arena.proofs.Chains.{retires, frees, vacant_fits}
+use Rattle.arena.proofs.Taking.{there, goes, counted}
 use Rattle.arena.proofs.Arena.take.Goals as goal
 
-pub invariant_of-self : goal.invariant_of-self
-invariant_of-self g c =
-    let there = rw (← c.self.view_is) at c.requires in
-    let last = c.if-key-eq-GREATEST_GENERATION.true in
-    let r = retires c.self.invariant c.args.key there last in
-    rw c.replace.ensures.after r.linked
+pub overflow_sub-self : goal.overflow_sub-self
+overflow_sub-self g c =
+    let within = rw (← c.self.view_is) at c.requires in
+    let some = there _ c.self.inside.first c.self.inside.vacant c.self.inside.entries.capacity
+    c.args.key c.value.result within c.get_mut-entry.ensures.value c.value.ensures
+    c.if-is_none.ensures in
+    counted c.args.key c.self.invariant some
+
+pub invariant_of-self-then-key-eq-GREATEST_GENERATION :
+    goal.invariant_of-self-then-key-eq-GREATEST_GENERATION
+invariant_of-self-then-key-eq-GREATEST_GENERATION g c =
+    let within = rw (← c.self.view_is) at c.requires in
+    let some = there _ c.self.inside.first c.self.inside.vacant c.self.inside.entries.capacity
+    c.args.key c.value.result within c.get_mut-entry.ensures.value c.value.ensures
+    c.if-is_none.ensures in
+    let r = retires c.self.invariant c.args.key some c.if-key-eq-GREATEST_GENERATION.true in
+    rw c.retire.ensures.done r.linked
 
 pub returns-then-key-eq-GREATEST_GENERATION-clause-done :
     goal.returns-then-key-eq-GREATEST_GENERATION-clause-done
 returns-then-key-eq-GREATEST_GENERATION-clause-done g c =
-    let there = rw (← c.self.view_is) at c.requires in
-    let last = c.if-key-eq-GREATEST_GENERATION.true in
-    let r = retires c.self.invariant c.args.key there last in
-    rw (← c.self.view_is, c.replace.ensures.after) r.done
+    let within = rw (← c.self.view_is) at c.requires in
+    let some = there _ c.self.inside.first c.self.inside.vacant c.self.inside.entries.capacity
+    c.args.key c.value.result within c.get_mut-entry.ensures.value c.value.ensures
+    c.if-is_none.ensures in
+    let r = retires c.self.invariant c.args.key some c.if-key-eq-GREATEST_GENERATION.true in
+    rw (← c.self.view_is, c.retire.ensures.done) (r.done ∙ goes _ c.args.key some)
 
 pub overflow_add-self : goal.overflow_add-self
 overflow_add-self g c =
-    let there = rw (← c.self.view_is) at c.requires in
-    let more = c.if-key-eq-GREATEST_GENERATION.false in
-    let f = frees c.self.invariant c.args.key there more in
+    let within = rw (← c.self.view_is) at c.requires in
+    let some = there _ c.self.inside.first c.self.inside.vacant c.self.inside.entries.capacity
+    c.args.key c.value.result within c.get_mut-entry.ensures.value c.value.ensures
+    c.if-is_none.ensures in
+    let f = frees c.self.invariant c.args.key some c.if-key-eq-GREATEST_GENERATION.false in
     let below : c.self.inside.vacant + 1 < 2 ^ 32 = vacant_fits f.linked in
     omega arith
 
 pub invariant_of-self-2 : goal.invariant_of-self-2
 invariant_of-self-2 g c =
-    let there = rw (← c.self.view_is) at c.requires in
-    let more = c.if-key-eq-GREATEST_GENERATION.false in
-    let f = frees c.self.invariant c.args.key there more in
-    rw c.replace-2.ensures.after f.linked
+    let within = rw (← c.self.view_is) at c.requires in
+    let some = there _ c.self.inside.first c.self.inside.vacant c.self.inside.entries.capacity
+    c.args.key c.value.result within c.get_mut-entry.ensures.value c.value.ensures
+    c.if-is_none.ensures in
+    let f = frees c.self.invariant c.args.key some c.if-key-eq-GREATEST_GENERATION.false in
+    rw c.free-value.ensures.done f.linked
 
 pub returns-clause-done : goal.returns-clause-done
 returns-clause-done g c =
-    let there = rw (← c.self.view_is) at c.requires in
-    let more = c.if-key-eq-GREATEST_GENERATION.false in
-    let f = frees c.self.invariant c.args.key there more in
-    rw (← c.self.view_is, c.replace-2.ensures.after) f.done
+    let within = rw (← c.self.view_is) at c.requires in
+    let some = there _ c.self.inside.first c.self.inside.vacant c.self.inside.entries.capacity
+    c.args.key c.value.result within c.get_mut-entry.ensures.value c.value.ensures
+    c.if-is_none.ensures in
+    let f = frees c.self.invariant c.args.key some c.if-key-eq-GREATEST_GENERATION.false in
+    rw (← c.self.view_is, c.free-value.ensures.done) (f.done ∙ goes _ c.args.key some)

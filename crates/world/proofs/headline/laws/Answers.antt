@@ -4,7 +4,15 @@ use Rattle.laws.proofs.Live.{reach-is-live, sweeps-free-none-reachable, nodes-ag
 use Rattle.laws.proofs.OldGarbage.{old-garbage-goes}
 use Rattle.laws.proofs.Deliveries.{targets-are-live, none-refused-in-turn}
 use Rattle.laws.proofs.Net.{net-grows, none-beyond, acknowledgements-go-through, hands-go-through, acknowledged-is-taken-in}
+use Rattle.laws.proofs.Transparent.{collector-is-unseen}
+use Rattle.world.proofs.Answers.{answers-are-unseen}
 use Rattle.world.proofs.headline.laws.Goals as goal
+
+pub returns-clause-transparent : goal.returns-clause-transparent
+returns-clause-transparent c = collector-is-unseen
+
+pub returns-clause-answers : goal.returns-clause-answers
+returns-clause-answers c = answers-are-unseen
 
 pub returns-clause-events : goal.returns-clause-events
 returns-clause-events c = only-events-change

@@ -1,16 +1,18 @@
-use Rattle.std.proofs.Common.{◌≡◌, true, [], ◌∷◌, ◌++◌, length, slice_get, Some, Result, sym, ap, ◌∙◌, subst}
+use Rattle.std.proofs.Common.{◌≡◌, ◌≢◌, IfErr, true, [], ◌∷◌, ◌++◌, length, slice_get, Some, Result, sym, ap, ◌∙◌, subst}
 use Rattle.cell.proofs.Opening.{open-stays, settled-left}
 use Rattle.circular_buffer.specs.Buffer.{keep_last}
 use Rattle.ids.specs.declared.limits.TheConstants.{TRACE_EVENTS}
 use Rattle.ids.specs.declared.refusal.Refusal.{Refusal}
+use Rattle.ids.specs.declared.refusal.Refusal.TheVariants.{Memory}
 use Rattle.laws.proofs.Lookups.{slice_get-last}
 use Rattle.msg.specs.Frames.{plain}
 use Rattle.model.specs.declared.event.Answer.{Answer}
+use Rattle.model.specs.Steps.{is_memory_free}
 use Rattle.model.specs.View.{NodeView}
 use Rattle.trace.specs.Lines.{call_of}
 use Rattle.wire.specs.Views.{Known}
 use Rattle.wire.specs.Readers.{inbox, known}
-use Rattle.cell.specs.Events.{emptied, outcome_of, Handled}
+use Rattle.cell.specs.Events.{emptied, event_of, outcome_of, Handled}
 use Rattle.cell.proofs.cell.Cell.receive.Goals as goal
 
 pub invariant_of-self : goal.invariant_of-self
@@ -68,11 +70,17 @@ returns-in-Ok-clause-pumped g c =
       frame = f;
       sender = taken.0;
       receiver = taken.1;
-      released = taken.2;
+      released = (taken.2.log, taken.2.events, taken.2.net);
+      arrives = taken.2;
       handled = subst (λ (r : Result Answer Refusal).
           Handled f r cell.desk.node desk.node
           (emptied (inbox cell.desk.seat c.args.from) (plain f) (known cell.desk.seat))
           (known desk.seat)) c.in-Ok.is given;
+      memory_free = λ free.
+          subst (λ (r : Result Answer Refusal). IfErr r (λ e. e ≢ Memory)) c.in-Ok.is
+          (c.handle-answered.ensures.memory_free
+          (subst (λ (n : NodeView). is_memory_free n.local (event_of f) ≡ true)
+          (sym c.take.ensures.node) free));
       traced = c.push.ensures
           ∙ (λ i. keep_last TRACE_EVENTS (cell.trace ++ record {
             call = (c.of.ensures ∙ ap call_of c.event_of.ensures) i;
@@ -98,11 +106,17 @@ returns-in-Err-clause-pumped g c =
       frame = f;
       sender = taken.0;
       receiver = taken.1;
-      released = taken.2;
+      released = (taken.2.log, taken.2.events, taken.2.net);
+      arrives = taken.2;
       handled = subst (λ (r : Result Answer Refusal).
           Handled f r cell.desk.node desk.node
           (emptied (inbox cell.desk.seat c.args.from) (plain f) (known cell.desk.seat))
           (known desk.seat)) c.in-Err.is given;
+      memory_free = λ free.
+          subst (λ (r : Result Answer Refusal). IfErr r (λ e. e ≢ Memory)) c.in-Err.is
+          (c.handle-answered.ensures.memory_free
+          (subst (λ (n : NodeView). is_memory_free n.local (event_of f) ≡ true)
+          (sym c.take.ensures.node) free));
       traced = c.push.ensures
           ∙ (λ i. keep_last TRACE_EVENTS (cell.trace ++ record {
             call = (c.of.ensures ∙ ap call_of c.event_of.ensures) i;

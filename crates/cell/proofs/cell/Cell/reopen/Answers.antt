@@ -1,4 +1,5 @@
 use Rattle.std.proofs.Common.{Bool, inl, inr, ⊎_elim, sym, ap, ◌∙◌, subst}
+use Rattle.disk.specs.Areas.{Areas}
 use Rattle.wire.specs.Readers.{known}
 use Rattle.cell.specs.Disks.{OpensTo}
 use Rattle.cell.specs.Events.{reopened_by}
@@ -50,3 +51,21 @@ returns-in-Ok-clause-restarted g c ready =
     ∙ ap (λ (b : Bool). reopened_by b (known cell.desk.seat))
     (saved-found cell.desk.saved.value c.in-Ok.found (g.D.Disk.seen cell.shelf.disk)
     c.in-Ok.ensures.opened (cell.while_open ready))
+
+pub returns-in-Ok-clause-restarted_later : goal.returns-in-Ok-clause-restarted_later
+returns-in-Ok-clause-restarted_later g c holds =
+    let cell = c.args.self.now in
+    let seen = g.D.Disk.seen cell.shelf.disk in
+    c.reopen-in-Ok.ensures.known
+    ∙ ap (λ (b : Bool). reopened_by b (known cell.desk.seat))
+    (saved-found cell.desk.saved.value c.in-Ok.found seen c.in-Ok.ensures.opened
+    (holds seen (g.met.D.Disk.reads_left cell.shelf.disk)))
+
+pub returns-in-Err-clause-saved_still : goal.returns-in-Err-clause-saved_still
+returns-in-Err-clause-saved_still g c held x may =
+    let cell = c.args.self.now in
+    let before = c.reopen.ensures.quiet.crash x may in
+    ⊎_elim
+    (λ ready. subst (λ (a : Areas). ∥ OpensTo cell.desk.saved.value a ∥₁)
+    (sym ((cell.shelf.settled ready).0 x before)) (cell.while_open ready))
+    (λ holds. holds x before) held

@@ -1,7 +1,7 @@
 use Rattle.std.proofs.Common.{rules, ◌≡◌, ◌+◌, ◌*◌, ◌<◌, refl, sym, ◌∙◌, arith, length, vec_len}
 use Rattle.wire.proofs.Numbers.{box-of, in-words, a-node}
 use Rattle.wire.proofs.Sitting.{room-for, fresh-minds}
-use Rattle.wire.proofs.MailSteps.{claims_allowed}
+use Rattle.wire.proofs.MailPlays.{claims_allowed}
 use Rattle.wire.proofs.seats.Wire.claim.Goals as goal
 
 pub compare_exchange-found-requires : goal.compare_exchange-found-requires

@@ -6,7 +6,7 @@ use Rattle.wire.specs.Views.{Known, clears}
 use Rattle.wire.specs.Seated.{Sits}
 use Rattle.wire.proofs.Numbers.{box-of, in-words, a-node}
 use Rattle.wire.proofs.Sitting.{sits-cleared}
-use Rattle.wire.proofs.MailSteps.{clears_allowed}
+use Rattle.wire.proofs.MailPlays.{clears_allowed}
 use Rattle.wire.proofs.seats.Wire.clear.Goals as goal
 
 pub store-requires : goal.store-requires

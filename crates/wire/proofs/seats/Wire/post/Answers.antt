@@ -6,7 +6,7 @@ use Rattle.wire.specs.Plays.{Owns}
 use Rattle.wire.specs.Seated.{Sits}
 use Rattle.wire.proofs.Numbers.{box-of, in-words, a-node}
 use Rattle.wire.proofs.Sitting.{sits-posted}
-use Rattle.wire.proofs.MailSteps.{posts_allowed}
+use Rattle.wire.proofs.MailPlays.{posts_allowed}
 use Rattle.wire.proofs.seats.Wire.post.Goals as goal
 
 pub store-requires : goal.store-requires

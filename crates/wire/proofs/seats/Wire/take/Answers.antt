@@ -3,7 +3,7 @@ use Rattle.wire.specs.Views.{takes_in}
 use Rattle.wire.specs.Seated.{Sits}
 use Rattle.wire.proofs.Numbers.{box-of, in-words, a-node}
 use Rattle.wire.proofs.Sitting.{room-for, fresh-minds, sits-took}
-use Rattle.wire.proofs.MailSteps.{takes_allowed}
+use Rattle.wire.proofs.MailPlays.{takes_allowed}
 use Rattle.wire.proofs.seats.Wire.take.Goals as goal
 
 pub compare_exchange-found-requires : goal.compare_exchange-found-requires

@@ -1,0 +1,130 @@
+-- The theorems on lists of steps, of what cells do.
+use Rattle.std.proofs.Common.{◌≡◌, ◌⊎◌, ℕ, ◌+◌, ◌<◌, Bool, true, false, List, ◌++◌, map, length, Ok, Err, refl, sym, ap, ◌∙◌, subst}
+use Rattle.ids.specs.declared.names.Ref.{Ref}
+use Rattle.ids.specs.declared.refusal.Refusal.{Refusal}
+use Rattle.ids.specs.declared.refusal.Refusal.TheVariants.{LinkSpent, OutOfOrder}
+use Rattle.msg.specs.Frames.{plain, plain_data}
+use Rattle.msg.specs.Grammar.{data_frame}
+use Rattle.msg.specs.declared.body.Body.{Body}
+use Rattle.msg.specs.declared.frame.Data.{Data}
+use Rattle.msg.specs.declared.frame.Frame.{Frame}
+use Rattle.msg.specs.declared.frame.Frame.TheVariants as frame
+use Rattle.model.specs.declared.event.Event.TheVariants as event
+use Rattle.model.specs.declared.event.Answer.{Answer}
+use Rattle.model.specs.declared.step.Step.{Step}
+use Rattle.model.specs.State.{LocalState, NodeState, Object, Occupied, got_from, node_at, slot_at}
+use Rattle.model.specs.Steps.{act, made, receive}
+use Rattle.model.specs.Collecting.{swept_slots}
+use Rattle.model.specs.World.{World, new_world, run, IsInNet}
+use Rattle.model.specs.Cuts.{cut, Reachable}
+use Rattle.model.proofs.Runs.{run-append}
+use Rattle.laws.proofs.StepFacts.{act-ok}
+use Rattle.laws.proofs.Live as laws
+use Rattle.laws.proofs.Deliveries as deliveries
+use Rattle.wire.specs.Rule.{receiver}
+use Rattle.wire.specs.Views.{Pair}
+use Rattle.cell.specs.Events.{is_counted, emptied, Handled}
+use Rattle.cell.specs.Laws.{IsReached, NoneRefusedInTurn, SweepsFreeNoneReachable}
+
+-- what a list of events leads to from a world that a run reaches, a run reaches too
+onward : (w : World) (log : List Step) (r : IsReached w)
+    → run (new_world r.shape) (r.steps ++ log) ≡ run w log
+onward w log r =
+    run-append (new_world r.shape) r.steps log ∙ ap (λ (x : World). run x log) (sym r.by)
+
+-- ---- Sweeps
+
+-- the theorem, of one world
+abbrev SweptIn : World → Type 0
+SweptIn w =
+    (choice : ℕ → Bool) (i count : ℕ) (s : NodeState) (a : Answer) (r : Ref) → choice i ≡ false
+    → act (node_at w.current i) (event.Sweep count) ≡ Ok (s, a)
+    → Reachable (cut w choice) r → r.node ≡ i
+    → (o : Object)
+    × (slot_at (node_at w.current i).local.heap r.slot ≡ Occupied r.generation o)
+    × (slot_at s.local.heap r.slot ≡ Occupied r.generation o)
+
+swept-in : (w : World) (log : List Step) → IsReached w → SweptIn (run w log)
+swept-in w log r =
+    subst SweptIn (onward w log r)
+    (laws.sweeps-free-none-reachable r.shape r.limits (r.steps ++ log))
+
+sweep-answer : (p : LocalState) (counts : List ℕ) (count : ℕ)
+    → is_counted (made p counts (event.Sweep count)).answer ≡ true
+unfolding swept_slots
+sweep-answer p counts count = refl
+
+-- each sweep is an event
+sweep-counts : (s t : NodeState) (count : ℕ) (a : Answer) → act s (event.Sweep count) ≡ Ok (t, a)
+    → is_counted a ≡ true
+sweep-counts s t count a answered =
+    subst (λ (x : Answer). is_counted x ≡ true)
+    (sym (act-ok s (event.Sweep count) t a answered).answer)
+    (sweep-answer s.local (map length s.sent) count)
+
+pub sweeps-free-none-reachable : SweepsFreeNoneReachable
+sweeps-free-none-reachable count old new v w reached shows swept =
+    let a = swept.answer in
+    let acted = swept.acted in
+    let s : NodeState = acted.states.0 in
+    let answered : act v.pair.current (event.Sweep count) ≡ Ok (s, a) = acted.states.1 in
+    let e = (acted.entered (sweep-counts v.pair.current s count a answered)).1 in
+    let here : node_at (run v.opening e.log).current v.me ≡ v.pair.current =
+    ap (λ (p : Pair). p.current) e.before in (
+      e.log,
+      e.events,
+      e.before,
+      e.after,
+      λ choice r current reach own.
+          (let kept = swept-in v.opening e.log reached choice v.me count s a r current
+          (ap (λ (t : NodeState). act t (event.Sweep count)) here ∙ answered) reach own in (
+            kept.0,
+            ap (λ (p : LocalState). slot_at p.heap r.slot)
+                (shows.local ∙ ap (λ (t : NodeState). t.local) (sym here)) ∙ kept.1,
+            ap (λ (p : LocalState). slot_at p.heap r.slot) acted.states.2.local ∙ kept.2,
+          )),
+    )
+
+-- ---- Messages
+
+abbrev InTurnIn : World → Type 0
+InTurnIn w =
+    (from to number stamp : ℕ) (body : Body) (e : Refusal)
+    → IsInNet w (data_frame from to number stamp body)
+    → receive (node_at w.current to) from to number stamp body ≡ Err e
+    → (e ≡ LinkSpent)
+    ⊎ ((e ≡ OutOfOrder) × (got_from (node_at w.current to).local from + 1 < number))
+
+in-turn : (w : World) (log : List Step) → IsReached w → InTurnIn (run w log)
+in-turn w log r =
+    subst InTurnIn (onward w log r)
+    (deliveries.none-refused-in-turn r.shape r.limits (r.steps ++ log))
+
+received : (s : NodeState) (d : Data) (e : Refusal) → act s (event.Data d) ≡ Err e
+    → receive s d.from d.to d.number d.stamp d.body ≡ Err e
+unfolding act receive
+received s d e refused = refused
+
+pub none-refused-in-turn : NoneRefusedInTurn
+none-refused-in-turn d e old v reached shows refusing plenty =
+    let took = refusing.took in
+    let is = refusing.is in
+    let net : IsInNet (run v.opening took.arrives.log) (plain_data d) =
+    subst (λ (f : Frame). IsInNet (run v.opening took.arrives.log) (plain f)) is
+    took.arrives.net in
+    let taken = emptied refusing.box (plain took.frame) v in
+    let given : Handled (frame.Data d) (Err e) old refusing.new taken refusing.w =
+    subst (λ (f : Frame). Handled f (Err e) old refusing.new taken refusing.w) is
+    took.handled in
+    let refused = received v.pair.current d e ((given.states tt).0 plenty) in
+    let to : v.me ≡ d.to =
+    sym took.receiver ∙ ap (λ (f : Frame). receiver (plain f)) is in
+    let here : node_at (run v.opening took.arrives.log).current d.to ≡ v.pair.current =
+    ap (λ (i : ℕ). node_at (run v.opening took.arrives.log).current i) (sym to)
+    ∙ ap (λ (p : Pair). p.current) took.arrives.pair in
+    subst
+    (λ (k : ℕ). (e ≡ LinkSpent) ⊎ ((e ≡ OutOfOrder) × (k + 1 < d.number)))
+    (ap (λ (s : NodeState). got_from s.local d.from) here
+    ∙ ap (λ (p : LocalState). got_from p d.from) (sym shows.local))
+    (in-turn v.opening took.arrives.log reached d.from d.to d.number d.stamp d.body e net
+    (ap (λ (s : NodeState). receive s d.from d.to d.number d.stamp d.body) here ∙ refused))

@@ -1,0 +1,8 @@
+use Rattle.cell.proofs.Composed.{none-refused-in-turn, sweeps-free-none-reachable}
+use Rattle.cell.proofs.headline.laws.Goals as goal
+
+pub returns-clause-frees_none_reachable : goal.returns-clause-frees_none_reachable
+returns-clause-frees_none_reachable c = sweeps-free-none-reachable
+
+pub returns-clause-in_turn : goal.returns-clause-in_turn
+returns-clause-in_turn c = none-refused-in-turn

@@ -1,0 +1,76 @@
+-- What the theorems on lists of steps say of cells. The premises are what the calls of a cell
+-- ensure, that the node shows the seat's state, as each cell keeps, and that a run reaches the world
+-- in which the wire was made: its nodes were new then, or as a run had saved them.
+use Rattle.std.specs.Prelude.{◌≡◌, ◌≢◌, ◌⊎◌, ℕ, ◌+◌, ◌<◌, Bool, false, List, [], ◌∷◌, ◌++◌, Ok, Err}
+use Rattle.ids.specs.Limits.{Shaped, IsShape}
+use Rattle.ids.specs.declared.names.Ref.{Ref}
+use Rattle.ids.specs.declared.refusal.Refusal.{Refusal}
+use Rattle.ids.specs.declared.refusal.Refusal.TheVariants.{LinkSpent, Memory, OutOfOrder}
+use Rattle.msg.specs.declared.frame.Data.{Data}
+use Rattle.msg.specs.declared.frame.Frame.TheVariants as frame
+use Rattle.model.specs.declared.event.Event.TheVariants as event
+use Rattle.model.specs.declared.event.Answer.{Answer}
+use Rattle.model.specs.declared.step.Step.{Step}
+use Rattle.model.specs.declared.step.Step.TheVariants as step
+use Rattle.model.specs.State.{Object, Occupied, got_from, slot_at}
+use Rattle.model.specs.View.{NodeView, Shows}
+use Rattle.model.specs.World.{World, new_world, run}
+use Rattle.model.specs.Cuts.{cut, Reachable}
+use Rattle.trace.specs.declared.trace.Line.{Line}
+use Rattle.wire.specs.Rule.{AreEvents}
+use Rattle.wire.specs.Views.{Known, pair_at}
+use Rattle.cell.specs.Events.{Acted}
+use Rattle.cell.specs.Pumping.{TookIn}
+
+-- a run of a space of this shape reaches the world
+pub record IsReached (w : World) : Type 0 where
+  pub shape : Shaped
+  pub limits : IsShape shape
+  pub steps : List Step
+  pub by : w ≡ run (new_world shape) steps
+
+-- what the sweep of the node i leaves where it was
+abbrev pub KeepsReachable : World → ℕ → NodeView → NodeView → Type 0
+KeepsReachable w i old new =
+    (choice : ℕ → Bool) (r : Ref) → choice i ≡ false → Reachable (cut w choice) r → r.node ≡ i
+    → (o : Object)
+    × (slot_at old.local.heap r.slot ≡ Occupied r.generation o)
+    × (slot_at new.local.heap r.slot ≡ Occupied r.generation o)
+
+-- a cell's call by which its node swept
+pub record HasSwept (count : ℕ) (old new : NodeView) (v w : Known) : Type 0 where
+  pub answer : Answer
+  pub acted : Acted (event.Sweep count) (step.Act v.me (event.Sweep count)) (Ok answer) old new v w
+
+-- A cell's sweep frees nothing that is reachable: some list of events, the sweep its last, leads to
+-- what the seat knows; and what can be reached just before the sweep, in a cut that takes the node's
+-- current state, is in its slot before and after.
+abbrev pub SweepsFreeNoneReachable : Type 0
+SweepsFreeNoneReachable =
+    (count : ℕ) (old new : NodeView) (v w : Known) → IsReached v.opening
+    → Shows old v.pair.current → HasSwept count old new v w
+    → (log : List Step)
+    × AreEvents v.opening (log ++ step.Act v.me (event.Sweep count) ∷ [])
+    × (pair_at (run v.opening log) v.me ≡ v.pair)
+    × (pair_at (run v.opening (log ++ step.Act v.me (event.Sweep count) ∷ [])) v.me ≡ w.pair)
+    × KeepsReachable (run v.opening log) v.me old new
+
+-- a cell's call in which a message that it took from the wire was refused
+pub record HasRefused (d : Data) (e : Refusal) (old : NodeView) (v : Known) : Type 0 where
+  pub box : ℕ
+  pub from : ℕ
+  pub new : NodeView
+  pub w : Known
+  pub before : List Line
+  pub after : List Line
+  pub took : TookIn box from (Err e) old new v w before after
+  pub is : took.frame ≡ frame.Data d
+
+-- A message that a cell took from the wire is refused in three cases alone: for want of memory,
+-- where one that it makes the node send would need a number above the greatest, and where it comes
+-- before its turn.
+abbrev pub NoneRefusedInTurn : Type 0
+NoneRefusedInTurn =
+    (d : Data) (e : Refusal) (old : NodeView) (v : Known) → IsReached v.opening
+    → Shows old v.pair.current → HasRefused d e old v → e ≢ Memory
+    → (e ≡ LinkSpent) ⊎ ((e ≡ OutOfOrder) × (got_from old.local d.from + 1 < d.number))

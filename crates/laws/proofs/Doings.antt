@@ -1,0 +1,440 @@
+-- What a node does, and what the same event or message does in a space without a collector: each
+-- event of a program, and the receipt of each message.
+use Rattle.std.proofs.Common.{◌≡◌, ◌≢◌, ℕ, Bool, true, cond, ◌==◌, ◌&&◌, List, [], ◌∷◌, ◌++◌, ◌⊎◌, set, Option, None, Some, option_to_list, refl, sym, ap, ◌∙◌, subst, ⊎_elim, inl, inr, append-nil}
+use Rattle.std.specs.Prelude.{is_some, option_map}
+use Rattle.std.proofs.lemmas.Bool.{cases_eq, cond_both, cond-true, cond-false, eq-eqb, ne_eqb, eqb-true, and_from, false_from_ne_true}
+use Rattle.ids.specs.declared.names.Ref.{Ref}
+use Rattle.msg.specs.declared.body.Body.{Body}
+use Rattle.msg.specs.declared.body.Body.TheVariants as body
+use Rattle.msg.specs.declared.body.Message.{Message}
+use Rattle.model.specs.declared.event.Event.{Event}
+use Rattle.model.specs.declared.event.Event.TheVariants as event
+use Rattle.model.specs.Checks.{AllPass}
+use Rattle.model.specs.State.{Object, Occupied, Heap, LocalState, register_at, slot_at}
+use Rattle.model.specs.Heaps.{alloc_heap, with_object, new_reference, new_object, named, object_at, has_place, place_of, word_of, with_register, register_copied, letter_taken, with_letter, with_rewritten, place_loaded, next_slot, generation_for, oldest_letter}
+use Rattle.model.specs.Effects.{Work, at_rest}
+use Rattle.model.specs.Counting.{is_reference, append}
+use Rattle.model.specs.Shading.{shade_all, is_same}
+use Rattle.model.specs.declared.event.Answer.TheVariants as answer
+use Rattle.model.specs.Steps.{tests, made, take_body, target_of, allocated, copied, dropped, loaded, stored, cleared, word_read, word_set, given, accepted, put_asked, get_asked}
+use Rattle.laws.specs.Objects.{Thing, Space, object_in, has_that, stands_in, word_in, with_desk, with_thing, rewriting, posted, is_program, new_thing, IsAnswer, does, follows, with_place, with_word}
+use Rattle.laws.specs.Sights.{thing_of, programs}
+use Rattle.model.proofs.Slots.{found-object}
+use Rattle.laws.proofs.Slots.{object-where, object-placed}
+use Rattle.laws.proofs.Invariant.{FreeSlots}
+use Rattle.laws.proofs.Past.{PastAt, occupied-past, new-not_past}
+use Rattle.laws.proofs.GoodHeaps.{own_reference}
+use Rattle.laws.proofs.Meets.{same-is, is-same}
+use Rattle.laws.proofs.Things.{desk_of, Kept, kept-desk, LivesIn, lives-rewritten, rewriting-back, posts, posts-append, IsQuiet, quiet-posts, quiet-append}
+use Rattle.laws.proofs.Unseen.{none-quiet, calm-shade}
+
+-- Node i of a space without a collector has this heap's registers and letters, and its objects.
+pub record Here (s : Space) (i : ℕ) (h : Heap) : Type 0 where
+  pub desk : s.desk i ≡ desk_of h
+  pub lives : LivesIn s i h
+
+abbrev pub IsMade : Space → Ref → Type 0
+IsMade s r = (o : Thing) × (s.objects r ≡ Some o)
+
+-- From the one space to the other node i changes as a node does that has this heap afterwards, and
+-- sends what it sends. What is made is new to the node.
+pub record Effects (s t : Space) (i : ℕ) (h : Heap) (ms : List (ℕ × Message)) : Type 0 where
+  pub here : Here t i h
+  pub desks : (j : ℕ) → j ≢ i → t.desk j ≡ s.desk j
+  pub objects : (r : Ref) → r.node ≢ i → t.objects r ≡ s.objects r
+  pub past : (k g : ℕ) → IsMade t (own_reference i k g)
+      → IsMade s (own_reference i k g) ⊎ PastAt h k g
+  pub sends : (to : ℕ) → t.under_way i to ≡ s.under_way i to ++ posts to ms
+  pub others : (from to : ℕ) → from ≢ i → t.under_way from to ≡ s.under_way from to
+
+-- ---- kinds of steps
+
+pub here-kept : {s : Space} {i : ℕ} {h g : Heap} → Here s i h → Kept h g → Here s i g
+here-kept x a = record {
+  desk = x.desk ∙ sym (kept-desk a);
+  lives = λ k e y there.
+      let found = a.objects k e y there in
+      x.lives k e found.0 found.1 ∙ ap Some (sym found.2);
+}
+
+nothing-more : (bs : List Body) (to : ℕ) (ms : List (ℕ × Message)) → IsQuiet ms
+    → bs ≡ bs ++ posts to ms
+nothing-more bs to ms quiet =
+    sym (append-nil bs) ∙ ap (λ (z : List Body). bs ++ z) (sym (quiet-posts to ms quiet))
+
+-- nothing is seen
+pub effects-none : {s : Space} {i : ℕ} {h : Heap} {ms : List (ℕ × Message)} → Here s i h
+    → IsQuiet ms → Effects s s i h ms
+effects-none {s = s} {i = i} {ms = ms} x quiet = record {
+  here = x;
+  desks = λ j other. refl;
+  objects = λ r other. refl;
+  past = λ k g made. inl made;
+  sends = λ to. nothing-more (s.under_way i to) to ms quiet;
+  others = λ from to other. refl;
+}
+
+-- what is sent before isn't seen
+pub effects-behind : {s t : Space} {i : ℕ} {h : Heap} {ns : List (ℕ × Message)}
+    (ms : List (ℕ × Message)) → IsQuiet ms → Effects s t i h ns → Effects s t i h (ms ++ ns)
+effects-behind {s = s} {i = i} {ns = ns} ms quiet x = record {
+  here = x.here;
+  desks = x.desks;
+  objects = x.objects;
+  past = x.past;
+  sends = λ to.
+      x.sends to
+      ∙ ap (λ (z : List Body). s.under_way i to ++ z)
+      (sym (posts-append to ms ns
+      ∙ ap (λ (z : List Body). z ++ posts to ns) (quiet-posts to ms quiet)));
+  others = x.others;
+}
+
+-- registers and letters change
+pub effects-desk : {s : Space} {i : ℕ} {h : Heap} {ms : List (ℕ × Message)} (desk : Heap)
+    → desk ≡ desk_of h → LivesIn s i h → IsQuiet ms → Effects s (with_desk s i desk) i h ms
+effects-desk {s = s} {i = i} {ms = ms} desk same lives quiet = record {
+  here = record {
+    desk = cond-true (i == i) desk (s.desk i) (eq-eqb i i refl) ∙ same;
+    lives = lives;
+  };
+  desks = λ j other. cond-false (j == i) desk (s.desk j) (ne_eqb j i other);
+  objects = λ r other. refl;
+  past = λ k g made. inl made;
+  sends = λ to. nothing-more (s.under_way i to) to ms quiet;
+  others = λ from to other. refl;
+}
+
+-- an object of the node is rewritten
+pub effects-rewritten : {s : Space} {i : ℕ} {h : Heap} (r : Ref) (f : Object → Object)
+    (f' : Thing → Thing) → r.node ≡ i → ((x : Object) → thing_of (f x) ≡ f' (thing_of x))
+    → Here s i h → Effects s (rewriting s r f') i (with_rewritten h r f) []
+effects-rewritten {s = s} {i = i} {h = h} r f f' own same x = record {
+  here = record { desk = x.desk; lives = lives-rewritten s i h r f f' (own, same) x.lives };
+  desks = λ j other. refl;
+  objects = λ z other.
+      cond-false (is_same z r) _ (s.objects z)
+      (false_from_ne_true (is_same z r)
+      (λ is. other (ap (λ (y : Ref). y.node) (same-is z r is) ∙ own)));
+  past = λ k g made. inl (rewriting-back s r f' (own_reference i k g) made.0 made.1);
+  sends = λ to. sym (append-nil (s.under_way i to));
+  others = λ from to other. refl;
+}
+
+-- a message of a program is sent
+pub effects-posted : {s : Space} {i : ℕ} {h : Heap} (to stamp : ℕ) (b : Body)
+    → is_reference b ≡ true → Here s i h
+    → Effects s (posted s i to b) i h ((to, record { stamp = stamp; body = b }) ∷ [])
+effects-posted {s = s} {i = i} to stamp b is here = record {
+  here = record { desk = here.desk; lives = here.lives };
+  desks = λ j other. refl;
+  objects = λ r other. refl;
+  past = λ k g made. inl made;
+  sends = λ k. ⊎_elim
+      {C = cond ((i == i) && (k == to)) (s.under_way i to ++ b ∷ []) (s.under_way i k)
+      ≡ s.under_way i k ++ programs (cond (to == k) (x ∷ []) [])}
+      (λ (at : k ≡ to).
+      cond-true ((i == i) && (k == to)) (s.under_way i to ++ b ∷ []) (s.under_way i k)
+      (and_from (i == i) (k == to) (eq-eqb i i refl) (eq-eqb k to at))
+      ∙ ap (λ (z : ℕ). s.under_way i z ++ b ∷ []) (sym at)
+      ∙ ap (λ (z : List Body). s.under_way i k ++ z)
+      (sym (ap programs (cond-true (to == k) (x ∷ []) [] (eq-eqb to k (sym at)))
+      ∙ cond-true (is_reference b) (b ∷ []) [] is)))
+      (λ (other : k ≢ to).
+      cond-false ((i == i) && (k == to)) (s.under_way i to ++ b ∷ []) (s.under_way i k)
+      (ap (λ (z : Bool). z && (k == to)) (eq-eqb i i refl) ∙ ne_eqb k to other)
+      ∙ sym (append-nil (s.under_way i k))
+      ∙ ap (λ (z : List Message). s.under_way i k ++ programs z)
+      (sym (cond-false (to == k) (x ∷ []) [] (ne_eqb to k (λ e. other (sym e))))))
+      (cases_eq k to);
+  others = λ from k other.
+      cond-false ((from == i) && (k == to)) (s.under_way i to ++ b ∷ []) (s.under_way from k)
+      (ap (λ (z : Bool). z && (k == to)) (ne_eqb from i other));
+}
+  where
+    x : Message
+    x = record { stamp = stamp; body = b }
+
+-- ---- what the node has is what was made
+
+pub found-same : {s : Space} {i : ℕ} {h : Heap} (r : Ref) → Here s i h → r.node ≡ i
+    → is_some (object_at h r) ≡ true → s.objects r ≡ option_map thing_of (object_at h r)
+found-same {s = s} {i = i} {h = h} r x own = by (object_at h r) refl
+  where
+    by : (found : Option Object) → object_at h r ≡ found → is_some found ≡ true
+        → s.objects r ≡ option_map thing_of found
+    by None is never = absurd cc
+    by (Some o) is there =
+        ap (λ (z : ℕ). s.objects (own_reference z r.slot r.generation)) own
+        ∙ x.lives r.slot r.generation o (found-object h r o is)
+
+pub thing-has : (o : Option Object) (place : ℕ)
+    → has_that (option_map thing_of o) place ≡ has_place o place
+thing-has None place = refl
+thing-has (Some o) place = refl
+
+pub thing-place : (o : Option Object) (place : ℕ)
+    → stands_in (option_map thing_of o) place ≡ place_of o place
+thing-place None place = refl
+thing-place (Some o) place = refl
+
+pub thing-word : (o : Option Object) → word_in (option_map thing_of o) ≡ word_of o
+thing-word None = refl
+thing-word (Some o) = refl
+
+pub thing-there : (o : Option Object) → is_some (option_map thing_of o) ≡ is_some o
+thing-there None = refl
+thing-there (Some o) = refl
+
+pub placed-there : (o : Option Object) (place : ℕ) → has_place o place ≡ true → is_some o ≡ true
+placed-there None place never = absurd cc
+placed-there (Some o) place there = refl
+
+-- the object that a register names
+pub object-same : {s : Space} {i : ℕ} {h : Heap} (object : ℕ) → Here s i h
+    → ((named h object).node == i) ≡ true → is_some (object_at h (named h object)) ≡ true
+    → object_in s i object ≡ option_map thing_of (object_at h (named h object))
+object-same {s = s} {i = i} {h = h} object x own there =
+    ap (λ (z : Heap). s.objects (named z object)) x.desk
+    ∙ found-same (named h object) x (eqb-true (named h object).node i own) there
+
+-- ---- events of a program
+
+-- A node may do an event, of which every test passed; under no reference was anything made that it
+-- hasn't given out.
+pub record Doing (s : Space) (p : LocalState) (e : Event) : Type 0 where
+  pub here : Here s p.own p.heap
+  pub past : (k g : ℕ) → IsMade s (own_reference p.own k g) → PastAt p.heap k g
+  pub free : FreeSlots p.heap.slots p.heap.free
+  pub passed : AllPass (tests p e)
+
+-- so nothing was made under the reference that its next object gets
+pub new-unmade : {s : Space} {p : LocalState} {e : Event} → Doing s p e
+    → s.objects (new_reference p.own p.heap) ≡ None
+new-unmade {s = s} {p = p} d = by (s.objects (new_reference p.own p.heap)) refl
+  where
+    by : (found : Option Thing) → s.objects (new_reference p.own p.heap) ≡ found → found ≡ None
+    by None is = refl
+    by (Some o) is =
+        absurd
+        (let past = d.past (next_slot p.heap.free p.heap.slots)
+        (generation_for p.heap.free p.heap.slots) (o, is) in
+        new-not_past p.heap.free p.heap.slots d.free past.used past.past)
+
+own-allocates : {s : Space} (p : LocalState) (register places : ℕ)
+    → Doing s p (event.Alloc register places)
+    → Effects s
+    (with_desk (with_thing s (new_reference p.own p.heap) (Some (new_thing places))) p.own
+    (with_register (s.desk p.own) register (Some (new_reference p.own p.heap))))
+    p.own (alloc_heap p.own p.phases.cycle p.heap register places) []
+own-allocates {s = s} p register places d =
+    let h : Heap = p.heap in
+    let r : Ref = new_reference p.own h in
+    let o : Object = new_object p.phases.cycle places in
+    let t : Space = with_thing s r (Some (new_thing places)) in
+    let there : slot_at (with_object h o) r.slot ≡ Occupied r.generation o =
+    object-placed h.free h.slots o d.free in
+    let lives : LivesIn t p.own (alloc_heap p.own p.phases.cycle h register places) =
+    λ k g y at.
+    ⊎_elim {C = t.objects (own_reference p.own k g) ≡ Some (thing_of y)}
+    (λ before.
+    cond-false (is_same (own_reference p.own k g) r) (Some (new_thing places)) _
+    (false_from_ne_true _
+    (λ is.
+    let same : own_reference p.own k g ≡ r = same-is (own_reference p.own k g) r is in
+    let never : None ≡ Some (thing_of y) =
+    sym (new-unmade d) ∙ ap s.objects (sym same) ∙ d.here.lives k g y before in
+    absurd cc))
+    ∙ d.here.lives k g y before)
+    (λ new.
+    let same : own_reference p.own k g ≡ r =
+    ap (λ (z : ℕ). own_reference p.own z g) new.0
+    ∙ ap (λ (z : ℕ). own_reference p.own r.slot z) new.1 in
+    cond-true (is_same (own_reference p.own k g) r) (Some (new_thing places)) _
+    (ap (λ (z : Ref). is_same z r) same ∙ is-same r)
+    ∙ ap (λ (z : Object). Some (thing_of z)) (sym new.2))
+    (object-where h.free h.slots o d.free k g y at) in
+    let placed =
+    effects-desk {s = t} {i = p.own} {h = alloc_heap p.own p.phases.cycle h register places}
+    {ms = []} (with_register (s.desk p.own) register (Some r))
+    (ap (λ (z : Heap). with_register z register (Some r)) d.here.desk) lives none-quiet in
+    record {
+      here = placed.here;
+      desks = placed.desks;
+      objects = λ z other.
+          cond-false (is_same z r) _ (s.objects z)
+          (false_from_ne_true (is_same z r)
+          (λ is. other (ap (λ (y : Ref). y.node) (same-is z r is))));
+      past = λ k g.
+          cond_both (is_same (own_reference p.own k g) r) (Some (new_thing places))
+          (s.objects (own_reference p.own k g))
+          (λ (z : Option Thing). (x : Thing) × (z ≡ Some x)
+          → IsMade s (own_reference p.own k g)
+          ⊎ PastAt (alloc_heap p.own p.phases.cycle h register places) k g)
+          (λ is _.
+          let same : r ≡ own_reference p.own k g =
+          sym (same-is (own_reference p.own k g) r is) in
+          let past = occupied-past (with_object h o) r.slot r.generation o there in
+          let moved : PastAt (with_object h o) k g =
+          subst (λ (z : Ref). PastAt (with_object h o) z.slot z.generation) same past in
+          inr (record { used = moved.used; past = moved.past }))
+          (λ _ made. inl made);
+      sends = placed.sends;
+      others = placed.others;
+    }
+
+-- what a Load reads
+own-reads : {s : Space} (p : LocalState) (register object place : ℕ)
+    → Doing s p (event.Load register object place)
+    → stands_in (object_in s p.own object) place ≡ place_loaded p.heap object place
+own-reads p register object place d =
+    let found : Option Object = object_at p.heap (named p.heap object) in
+    ap (λ (z : Option Thing). stands_in z place)
+    (object-same object d.here d.passed.1.1.1.0 (placed-there found place d.passed.1.1.1.1.0))
+    ∙ thing-place found place
+
+-- it is shaded, and the register gets it
+own-loads : {s : Space} (p : LocalState) (register object place : ℕ)
+    → Doing s p (event.Load register object place)
+    → Effects s
+    (with_desk s p.own
+    (with_register (s.desk p.own) register (stands_in (object_in s p.own object) place)))
+    p.own (loaded p register object place).local.heap (loaded p register object place).sends
+unfolding loaded
+own-loads {s = s} p register object place d =
+    let v : Option Ref = place_loaded p.heap object place in
+    let w : Work = shade_all (at_rest p) (option_to_list v) in
+    let calm = calm-shade (at_rest p) (option_to_list v) none-quiet in
+    effects-desk {h = with_register w.local.heap register v}
+    (with_register (s.desk p.own) register (stands_in (object_in s p.own object) place))
+    (ap (λ (z : Option Ref). with_register (s.desk p.own) register z)
+    (own-reads p register object place d)
+    ∙ ap (λ (z : Heap). with_register z register v)
+    (d.here.desk ∙ sym (kept-desk calm.still.kept)))
+    (here-kept d.here calm.still.kept).lives
+    (quiet-append w.sends [] calm.quiet none-quiet)
+
+-- the node's program does the same to its registers, letters and objects in both, and sends the
+-- same
+pub own-does : {s : Space} (p : LocalState) (counts : List ℕ) (e : Event)
+    → is_program e ≡ true → Doing s p e
+    → Effects s (does s p.own e (made p counts e).answer) p.own (made p counts e).local.heap
+    (made p counts e).sends
+unfolding allocated copied dropped stored cleared word_read word_set given accepted put_asked
+    get_asked append
+own-does p counts (event.Alloc register places) is d = own-allocates p register places d
+own-does p counts (event.Copy register source) is d =
+    effects-desk _ (ap (λ (z : Heap). register_copied z register source) d.here.desk) d.here.lives
+    none-quiet
+own-does p counts (event.Drop register) is d =
+    effects-desk _ (ap (λ (z : Heap). with_register z register None) d.here.desk) d.here.lives
+    none-quiet
+own-does p counts (event.Load register object place) is d = own-loads p register object place d
+own-does {s = s} p counts (event.Store object place register) is d =
+    let v : Option Ref = register_at p.heap register in
+    subst (λ (z : Heap).
+    Effects s (with_place s (named z object) place (register_at z register)) p.own
+    (stored p object place register).local.heap []) (sym d.here.desk)
+    (effects-rewritten (named p.heap object) _ (λ o. record o { places = set o.places place v })
+    (eqb-true _ _ d.passed.1.1.1.1.0) (λ _. refl) d.here)
+own-does {s = s} p counts (event.Clear object place) is d =
+    subst (λ (z : Heap).
+    Effects s (with_place s (named z object) place None) p.own
+    (cleared p object place).local.heap []) (sym d.here.desk)
+    (effects-rewritten (named p.heap object) _ (λ o. record o { places = set o.places place None })
+    (eqb-true _ _ d.passed.1.1.0) (λ _. refl) d.here)
+own-does p counts (event.Word object) is d = effects-none d.here none-quiet
+own-does {s = s} p counts (event.SetWord object word) is d =
+    subst (λ (z : Heap).
+    Effects s (with_word s (named z object) word) p.own (word_set p object word).local.heap [])
+    (sym d.here.desk)
+    (effects-rewritten (named p.heap object) _ (λ o. record o { word = word })
+    (eqb-true _ _ d.passed.1.1.0) (λ _. refl) d.here)
+own-does {s = s} p counts (event.Give to label register) is d =
+    subst (λ (z : Heap).
+    Effects s (posted s p.own to (body.Give label (register_at z register))) p.own p.heap
+    (given p counts to label register).sends) (sym d.here.desk)
+    (effects-posted to p.phases.cycle (body.Give label (register_at p.heap register)) refl d.here)
+own-does p counts (event.Accept register) is d =
+    effects-desk _ (ap (λ (z : Heap). letter_taken z register) d.here.desk) d.here.lives none-quiet
+own-does {s = s} p counts (event.Put object place register) is d =
+    subst (λ (z : Heap).
+    Effects s
+    (posted s p.own (named z object).node
+    (body.Put (named z object) place (register_at z register)))
+    p.own p.heap (put_asked p counts object place register).sends) (sym d.here.desk)
+    (effects-posted (named p.heap object).node p.phases.cycle
+    (body.Put (named p.heap object) place (register_at p.heap register)) refl d.here)
+own-does {s = s} p counts (event.Get object place label) is d =
+    subst (λ (z : Heap).
+    Effects s (posted s p.own (named z object).node (body.Get (named z object) place label)) p.own
+    p.heap (get_asked p counts object place label).sends) (sym d.here.desk)
+    (effects-posted (named p.heap object).node p.phases.cycle
+    (body.Get (named p.heap object) place label) refl d.here)
+own-does p counts e never d = absurd cc
+
+-- and is answered what may be answered there
+pub own-answers : {s : Space} (p : LocalState) (counts : List ℕ) (e : Event)
+    → is_program e ≡ true → Doing s p e → IsAnswer s p.own e (made p counts e).answer
+unfolding allocated copied dropped loaded stored cleared word_read word_set given accepted put_asked
+    get_asked append
+own-answers p counts (event.Alloc register places) is d =
+    (new_reference p.own p.heap, refl, refl, new-unmade d)
+own-answers p counts (event.Load register object place) is d =
+    ap answer.Value (sym (own-reads p register object place d))
+own-answers p counts (event.Word object) is d =
+    let found : Option Object = object_at p.heap (named p.heap object) in
+    ap answer.Word
+    (sym (ap word_in (object-same object d.here d.passed.1.1.0 d.passed.1.1.1.0)
+    ∙ thing-word found))
+own-answers p counts (event.Give to label register) is d = (_, refl)
+own-answers p counts (event.Accept register) is d =
+    ap (λ (z : Heap). answer.Letter (oldest_letter z)) (sym d.here.desk)
+own-answers p counts (event.Put object place register) is d = (_, refl)
+own-answers p counts (event.Get object place label) is d = (_, refl)
+own-answers p counts event.Begin never d = absurd cc
+own-answers p counts event.Scan never d = absurd cc
+own-answers p counts event.Pass never d = absurd cc
+own-answers p counts (event.Sweep count) never d = absurd cc
+own-answers p counts (event.Data m) never d = absurd cc
+own-answers p counts (event.Ack m) never d = absurd cc
+own-answers p counts e is d = refl
+
+-- ---- messages of programs
+
+-- what the body of a message asks of a node, whose object it is that it is about
+pub record Following (s : Space) (i : ℕ) (b : Body) (p : LocalState) : Type 0 where
+  pub here : Here s i p.heap
+  pub own : (r : Ref) → target_of b ≡ Some r → r.node ≡ i
+  pub there : (target : Ref) (place label : ℕ) → b ≡ body.Get target place label
+      → is_some (object_at p.heap target) ≡ true
+
+pub body-does : {s : Space} {i : ℕ} (from stamp : ℕ) (b : Body) (p : LocalState)
+    → is_reference b ≡ true → Following s i b p
+    → Effects s (follows s from i b) i (take_body from stamp b p).local.heap
+    (take_body from stamp b p).sends
+unfolding take_body append
+body-does from stamp (body.Give label reference) p is f =
+    effects-desk _
+    (ap (λ (z : Heap).
+    with_letter z (record { from = from; label = label; reference = reference })) f.here.desk)
+    f.here.lives none-quiet
+body-does from stamp (body.Put target place reference) p is f =
+    effects-rewritten target _ (λ o. record o { places = set o.places place reference })
+    (f.own target refl) (λ _. refl) f.here
+body-does {s = s} {i = i} from stamp (body.Get target place label) p is f =
+    let found : Option Object = object_at p.heap target in
+    let v : Option Ref = place_of found place in
+    let w : Work = shade_all (at_rest p) (option_to_list v) in
+    let calm = calm-shade (at_rest p) (option_to_list v) none-quiet in
+    let same : stands_in (s.objects target) place ≡ v =
+    ap (λ (z : Option Thing). stands_in z place)
+    (found-same target f.here (f.own target refl) (f.there target place label refl))
+    ∙ thing-place found place in
+    subst (λ (z : Option Ref). Effects s (posted s i from (body.Give label z)) i w.local.heap
+    (w.sends ++ (from, record { stamp = w.local.phases.cycle; body = body.Give label v }) ∷ []))
+    (sym same)
+    (effects-behind w.sends calm.quiet
+    (effects-posted from w.local.phases.cycle (body.Give label v) refl
+    (here-kept f.here calm.still.kept)))
+body-does from stamp b p never f = absurd cc

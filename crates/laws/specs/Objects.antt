@@ -1,0 +1,239 @@
+-- A space without a collector ("Without a collector" in docs/RULES.md): the objects that were made,
+-- what each node's program holds, and the messages of programs that are under way. No object is
+-- ever freed. There are no marks, cycles, tokens, slots, free lists or numbers of messages.
+use Rattle.std.specs.Prelude.{◌≡◌, ◌≢◌, ℕ, ◌<◌, ◌⊎◌, Bool, true, false, cond, ◌==◌, ◌&&◌, not, is_some, nat_lt, nat_le, List, [], ◌∷◌, ◌++◌, length, replicate, slice_set, slice_index_or, Option, None, Some, option_map, Result, Ok, Err, IsTrue}
+use Rattle.ids.specs.Limits.{Shaped}
+use Rattle.ids.specs.declared.names.Ref.{Ref}
+use Rattle.ids.specs.declared.limits.TheConstants.{GREATEST_PLACES}
+use Rattle.ids.specs.declared.refusal.Refusal.{Refusal}
+use Rattle.ids.specs.declared.refusal.Refusal.TheVariants.{ArenaFull, NoRegister, EmptyRegister, Remote, NoNode, NoField, TooManyFields, SelfSend, LinkSpent}
+use Rattle.msg.specs.declared.body.Body.{Body}
+use Rattle.msg.specs.declared.body.Body.TheVariants as body
+use Rattle.model.specs.declared.event.Event.{Event}
+use Rattle.model.specs.declared.event.Event.TheVariants as event
+use Rattle.model.specs.declared.event.Answer.{Answer}
+use Rattle.model.specs.declared.event.Answer.TheVariants as answer
+use Rattle.model.specs.Checks.{guarded, AllPass}
+use Rattle.model.specs.State.{Heap, register_at, node_at}
+use Rattle.model.specs.Heaps.{is_register, is_filled, is_local, with_register, register_copied, named, no_reference, oldest_letter, letter_taken, with_letter, own_tests, register_tests, copy_tests, drop_tests, put_tests, get_tests, accept_tests}
+use Rattle.model.specs.Shading.{is_same}
+use Rattle.model.specs.World.{new_nodes}
+
+-- an object: its word and its places
+pub record Thing : Type 0 where
+  pub word : ℕ
+  pub places : List (Option Ref)
+
+pub record Space : Type 0 where
+  -- the object that was made under a reference, if one was
+  pub objects : Ref → Option Thing
+  -- each node's registers and letters, as a heap without slots, so that the tests of heaps serve
+  pub desk : ℕ → Heap
+  -- the Gives, Puts and Gets that one node sent another, and that haven't arrived, oldest first
+  pub under_way : ℕ → ℕ → List Body
+
+-- a new one
+abbrev pub new_space : Shaped → Space
+new_space shape = record {
+  objects = λ r. None;
+  desk = λ i. (node_at (new_nodes shape) i).local.heap;
+  under_way = λ from to. [];
+}
+
+-- ---- reading
+
+abbrev pub has_that : Option Thing → ℕ → Bool
+has_that None place = false
+has_that (Some o) place = nat_lt place (length o.places)
+
+-- what stands in a place; nothing where there is no such place, or no object
+abbrev pub stands_in : Option Thing → ℕ → Option Ref
+stands_in None place = None
+stands_in (Some o) place = slice_index_or o.places place None
+
+abbrev pub word_in : Option Thing → ℕ
+word_in None = 0
+word_in (Some o) = o.word
+
+-- ---- writing
+
+abbrev pub with_desk : Space → ℕ → Heap → Space
+with_desk s i h = record s { desk = λ k. cond (k == i) h (s.desk k) }
+
+abbrev pub with_thing : Space → Ref → Option Thing → Space
+with_thing s r o = record s { objects = λ q. cond (is_same q r) o (s.objects q) }
+
+-- an object is rewritten, where one was made; a place of it becomes this, or its word
+abbrev pub rewriting : Space → Ref → (Thing → Thing) → Space
+rewriting s r f = with_thing s r (option_map f (s.objects r))
+
+abbrev pub with_place : Space → Ref → ℕ → Option Ref → Space
+with_place s r place v = rewriting s r (λ o. record o { places = slice_set o.places place v })
+
+abbrev pub with_word : Space → Ref → ℕ → Space
+with_word s r word = rewriting s r (λ o. record o { word = word })
+
+abbrev pub with_messages : Space → ℕ → ℕ → List Body → Space
+with_messages s from to bs =
+    record s { under_way = λ i k. cond ((i == from) && (k == to)) bs (s.under_way i k) }
+
+-- a message comes last
+abbrev pub posted : Space → ℕ → ℕ → Body → Space
+posted s from to b = with_messages s from to (s.under_way from to ++ b ∷ [])
+
+-- ---- what programs do
+
+-- an event of a program; the others are the collector's, or come from other nodes
+abbrev pub is_program : Event → Bool
+is_program event.Begin = false
+is_program event.Scan = false
+is_program event.Pass = false
+is_program (event.Sweep count) = false
+is_program (event.Data d) = false
+is_program (event.Ack a) = false
+is_program e = true
+
+-- Limits of the nodes that this space lacks: an Alloc may find no slot, and a message that an event
+-- sends, or that shading what a Load reads sends, no number.
+abbrev pub IsLimit : Event → Refusal → Type 0
+IsLimit (event.Alloc register places) e = e ≡ ArenaFull
+IsLimit (event.Load register object place) e = e ≡ LinkSpent
+IsLimit (event.Give to label register) e = e ≡ LinkSpent
+IsLimit (event.Put object place register) e = e ≡ LinkSpent
+IsLimit (event.Get object place label) e = e ≡ LinkSpent
+IsLimit event e = ⊥
+
+-- the new object's reference, in an answer
+abbrev pub new_in : Answer → Ref
+new_in (answer.New r) = r
+new_in a = no_reference
+
+abbrev pub new_thing : ℕ → Thing
+new_thing places = record { word = 0; places = replicate places None }
+
+-- the program of node i
+module _ (s : Space) (i : ℕ) where
+  -- what a register holds; what it names; the object that was made under that, if one was
+  abbrev pub held : ℕ → Option Ref
+  held register = register_at (s.desk i) register
+
+  abbrev pub named_by : ℕ → Ref
+  named_by register = named (s.desk i) register
+
+  abbrev pub object_in : ℕ → Option Thing
+  object_in register = s.objects (named_by register)
+
+  -- The tests of an event, each with its refusal, in order: those that a node makes, but that a
+  -- slot is to be had. That an object was freed is none of them.
+  abbrev pub checks : ℕ → Event → List (Bool × Refusal)
+  checks nodes (event.Alloc register places) =
+      (is_register (s.desk i) register, NoRegister)
+      ∷ (nat_le places GREATEST_PLACES, TooManyFields) ∷ []
+  checks nodes (event.Copy register source) = copy_tests (s.desk i) register source
+  checks nodes (event.Drop register) = drop_tests (s.desk i) register
+  checks nodes (event.Load register object place) =
+      (is_register (s.desk i) register, NoRegister)
+      ∷ own_tests i (s.desk i) object (has_that (object_in object) place)
+  checks nodes (event.Store object place register) =
+      (is_register (s.desk i) object, NoRegister)
+      ∷ (is_register (s.desk i) register, NoRegister)
+      ∷ (is_filled (s.desk i) object, EmptyRegister)
+      ∷ (is_filled (s.desk i) register, EmptyRegister)
+      ∷ (is_local i (s.desk i) object, Remote)
+      ∷ (has_that (object_in object) place, NoField) ∷ []
+  checks nodes (event.Clear object place) =
+      own_tests i (s.desk i) object (has_that (object_in object) place)
+  checks nodes (event.Word object) = own_tests i (s.desk i) object (is_some (object_in object))
+  checks nodes (event.SetWord object word) = own_tests i (s.desk i) object (is_some (object_in object))
+  checks nodes (event.Give to label register) =
+      (nat_lt to nodes, NoNode) ∷ (not (to == i), SelfSend) ∷ register_tests (s.desk i) register
+  checks nodes (event.Accept register) = accept_tests (s.desk i) register
+  checks nodes (event.Put object place register) = put_tests i (s.desk i) object place register
+  checks nodes (event.Get object place label) = get_tests i (s.desk i) object place
+  checks nodes e = []
+
+  -- What an event that passes them may be answered. A new object gets any reference of its node
+  -- under which none was made; of a message's number nothing is said.
+  abbrev pub IsAnswer : Event → Answer → Type 0
+  IsAnswer (event.Alloc register places) a =
+      (r : Ref) × (a ≡ answer.New r) × (r.node ≡ i) × (s.objects r ≡ None)
+  IsAnswer (event.Load register object place) a =
+      a ≡ answer.Value (stands_in (object_in object) place)
+  IsAnswer (event.Word object) a = a ≡ answer.Word (word_in (object_in object))
+  IsAnswer (event.Give to label register) a = (number : ℕ) × (a ≡ answer.Sent number)
+  IsAnswer (event.Accept register) a = a ≡ answer.Letter (oldest_letter (s.desk i))
+  IsAnswer (event.Put object place register) a = (number : ℕ) × (a ≡ answer.Sent number)
+  IsAnswer (event.Get object place label) a = (number : ℕ) × (a ≡ answer.Sent number)
+  IsAnswer e a = a ≡ answer.Done
+
+  -- what the program may be told of an event: an answer, where every test passes; the refusal of
+  -- the first that fails; or, where none fails, that of a limit
+  abbrev pub IsTold : ℕ → Event → Result Answer Refusal → Type 0
+  IsTold nodes e (Ok a) = AllPass (checks nodes e) × IsAnswer e a
+  IsTold nodes e (Err r) =
+      (guarded (checks nodes e) s ≡ Err r) ⊎ (AllPass (checks nodes e) × IsLimit e r)
+
+  -- what an event that was answered does
+  abbrev pub does : Event → Answer → Space
+  does (event.Alloc register places) a =
+      with_desk (with_thing s (new_in a) (Some (new_thing places))) i
+      (with_register (s.desk i) register (Some (new_in a)))
+  does (event.Copy register source) a = with_desk s i (register_copied (s.desk i) register source)
+  does (event.Drop register) a = with_desk s i (with_register (s.desk i) register None)
+  does (event.Load register object place) a =
+      with_desk s i (with_register (s.desk i) register (stands_in (object_in object) place))
+  does (event.Store object place register) a = with_place s (named_by object) place (held register)
+  does (event.Clear object place) a = with_place s (named_by object) place None
+  does (event.SetWord object word) a = with_word s (named_by object) word
+  does (event.Give to label register) a = posted s i to (body.Give label (held register))
+  does (event.Accept register) a = with_desk s i (letter_taken (s.desk i) register)
+  does (event.Put object place register) a =
+      posted s i (named_by object).node (body.Put (named_by object) place (held register))
+  does (event.Get object place label) a =
+      posted s i (named_by object).node (body.Get (named_by object) place label)
+  does e a = s
+
+-- ---- what comes in
+
+-- a letter is added; a place is written; what stands in a place is sent back
+abbrev pub follows : Space → ℕ → ℕ → Body → Space
+follows s from to (body.Give label reference) =
+    with_desk s to
+    (with_letter (s.desk to) (record { from = from; label = label; reference = reference }))
+follows s from to (body.Put target place reference) = with_place s target place reference
+follows s from to (body.Get target place label) =
+    posted s to from (body.Give label (stands_in (s.objects target) place))
+follows s from to b = s
+
+-- the first message under way arrives
+abbrev pub arrives : Space → ℕ → ℕ → List Body → Space
+arrives s from to [] = s
+arrives s from to (b ∷ bs) = follows (with_messages s from to bs) from to b
+
+-- ---- runs
+
+-- What is seen of a space: its program was told this of an event of a node; a message of a program
+-- came from one node to another.
+pub data Sight : Type 0 where
+  told : ℕ → Event → Result Answer Refusal → Sight
+  came : ℕ → ℕ → Sight
+
+-- it may be seen of this space
+abbrev pub IsSight : ℕ → Space → Sight → Type 0
+IsSight nodes s (told i e r) = (i < nodes) × IsTrue (is_program e) × IsTold s i nodes e r
+IsSight nodes s (came from to) = (from < nodes) × (to < nodes) × (s.under_way from to ≢ [])
+
+-- the space then
+abbrev pub then : Space → Sight → Space
+then s (told i e (Ok a)) = does s i e a
+then s (told i e (Err r)) = s
+then s (came from to) = arrives s from to (s.under_way from to)
+
+-- one after another
+abbrev pub IsRun : ℕ → Space → List Sight → Type 0
+IsRun nodes s [] = Unit {0}
+IsRun nodes s (x ∷ xs) = IsSight nodes s x × IsRun nodes (then s x) xs
+
+abbrev pub after : Space → List Sight → Space
+after s [] = s
+after s (x ∷ xs) = after (then s x) xs

@@ -1,0 +1,83 @@
+//! A case as lines of words, and what words say.
+use hex::FromHexError;
+use std::alloc::{AllocError, AllocFailed, Global};
+use std::str::FromStr;
+
+/// Why a case goes no further.
+#[derive(Clone, Copy, Debug, PartialEq, Eq)]
+pub(crate) enum Stop {
+    /// The line is no command, or none that can be done now.
+    Unknown,
+    /// Memory was refused to the interpreter itself.
+    Memory,
+}
+
+impl From<AllocError> for Stop {
+    fn from(_error: AllocError) -> Stop {
+        Stop::Memory
+    }
+}
+
+impl<T: Drop> From<AllocFailed<T>> for Stop {
+    fn from(_error: AllocFailed<T>) -> Stop {
+        Stop::Memory
+    }
+}
+
+/// A line of a case, as its words.
+#[derive(Drop)]
+pub(crate) struct Line<'a> {
+    pub(crate) number: usize,
+    pub(crate) words: Vec<&'a str>,
+}
+
+/// The lines of a case that hold words, but comments.
+pub(crate) fn read_lines<'a>(alloc: Global, text: &'a str) -> Result<Vec<Line<'a>>, AllocError> {
+    let mut lines = Vec::new(alloc);
+    for (index, line) in text.lines().enumerate() {
+        let words = words_of(alloc, line)?;
+        if !is_silent(&words) {
+            lines.push(Line {
+                number: index + 1,
+                words,
+            })?;
+        }
+    }
+    Ok(lines)
+}
+
+fn words_of<'a>(alloc: Global, line: &'a str) -> Result<Vec<&'a str>, AllocError> {
+    line.split(' ')
+        .filter(|word| !word.is_empty())
+        .collect(alloc)
+}
+
+fn is_silent(words: &[&str]) -> bool {
+    match words {
+        [] => true,
+        [first, ..] => first.starts_with('#'),
+    }
+}
+
+/// The number that the word spells.
+pub(crate) fn read<T: FromStr>(word: &str) -> Result<T, Stop>
+where
+    T::Err: Drop,
+{
+    match word.parse::<T>() {
+        Ok(number) => Ok(number),
+        Err(_) => Err(Stop::Unknown),
+    }
+}
+
+/// The bytes of two hexadecimal digits each; `-` stands for none.
+pub(crate) fn bytes_of(alloc: Global, word: &str) -> Result<Vec<u8>, Stop> {
+    if word == "-" {
+        return Ok(Vec::new(alloc));
+    }
+    match hex::decode(alloc, word) {
+        Ok(bytes) => Ok(bytes),
+        Err(FromHexError::OutOfMemory) => Err(Stop::Memory),
+        Err(_) => Err(Stop::Unknown),
+    }
+}

@@ -1,0 +1,129 @@
+//! Bytes that are cut or changed: what is still read as a frame or as a node.
+use crate::case::{Line, Stop, bytes_of};
+use crate::out::{Out, Tally};
+use ids::Refusal;
+use msg::{decode, encode};
+use std::alloc::{AllocError, Global};
+
+/// What becomes of bytes.
+#[derive(Clone, Copy)]
+enum Met {
+    /// They are what they are read as, spelled again.
+    Read,
+    /// They are refused, as no spelling.
+    Refused,
+    Other,
+}
+
+const NAMES: [&str; 3] = ["read", "refused", "other"];
+
+/// What bytes may spell.
+#[derive(Clone, Copy, PartialEq, Eq)]
+enum Kind {
+    Frame,
+    Image,
+}
+
+// What becomes of bytes that may spell a frame.
+fn meet_frame(alloc: Global, bytes: &[u8]) -> Met {
+    match decode(bytes) {
+        Ok(frame) => match encode(alloc, &frame) {
+            Ok(again) if again.as_slice() == bytes => Met::Read,
+            _ => Met::Other,
+        },
+        Err(Refusal::BadFrame) => Met::Refused,
+        Err(_) => Met::Other,
+    }
+}
+
+// What becomes of bytes that may spell a node.
+fn meet_image(alloc: Global, bytes: &[u8]) -> Met {
+    match image::from_bytes(alloc, bytes) {
+        Ok(node) => match image::to_bytes(alloc, &node) {
+            Ok(again) if again.as_slice() == bytes => Met::Read,
+            _ => Met::Other,
+        },
+        Err(Refusal::BadImage) => Met::Refused,
+        Err(_) => Met::Other,
+    }
+}
+
+fn meet(alloc: Global, kind: Kind, bytes: &[u8]) -> usize {
+    let met = match kind {
+        Kind::Frame => meet_frame(alloc, bytes),
+        Kind::Image => meet_image(alloc, bytes),
+    };
+    met as usize
+}
+
+fn read_once(alloc: Global, kind: Kind, bytes: &[u8]) -> Tally<3> {
+    let mut tally = Tally::<3>::new();
+    tally.add(meet(alloc, kind, bytes));
+    tally
+}
+
+// All shorter beginnings of the bytes, and these with one byte more.
+fn cut(alloc: Global, kind: Kind, bytes: &[u8]) -> Result<Tally<3>, AllocError> {
+    let mut tally = Tally::<3>::new();
+    for len in 0..bytes.len() {
+        tally.add(meet(alloc, kind, &bytes[..len]));
+    }
+    let mut longer = Vec::from_slice(alloc, bytes)?;
+    longer.push(0)?;
+    tally.add(meet(alloc, kind, &longer));
+    Ok(tally)
+}
+
+// The bytes with each value in this place.
+fn change_one(alloc: Global, kind: Kind, bytes: &mut [u8], at: usize, tally: &mut Tally<3>) {
+    if at >= bytes.len() {
+        return;
+    }
+    let before = bytes[at];
+    for value in 0..=u8::MAX {
+        bytes[at] = value;
+        tally.add(meet(alloc, kind, bytes));
+    }
+    bytes[at] = before;
+}
+
+// The bytes with each value in each place.
+fn change(alloc: Global, kind: Kind, mut bytes: Vec<u8>) -> Tally<3> {
+    let mut tally = Tally::<3>::new();
+    for at in 0..bytes.len() {
+        change_one(alloc, kind, &mut bytes, at, &mut tally);
+    }
+    tally
+}
+
+fn kind_of(word: &str) -> Result<Kind, Stop> {
+    match word {
+        "frame" => Ok(Kind::Frame),
+        "image" => Ok(Kind::Image),
+        _ => Err(Stop::Unknown),
+    }
+}
+
+/// A case over bytes that may spell a frame or a node.
+pub(crate) fn run(alloc: Global, lines: &[Line<'_>], out: &mut Out) -> Result<(), Stop> {
+    for line in lines {
+        take(alloc, out.at(line), out)?;
+    }
+    Ok(())
+}
+
+fn take(alloc: Global, words: &[&str], out: &mut Out) -> Result<(), Stop> {
+    let [verb, kind, digits] = words else {
+        return Err(Stop::Unknown);
+    };
+    let kind = kind_of(kind)?;
+    let bytes = bytes_of(alloc, digits)?;
+    let tally = match *verb {
+        "read" => read_once(alloc, kind, &bytes),
+        "cuts" => cut(alloc, kind, &bytes)?,
+        "changes" => change(alloc, kind, bytes),
+        _ => return Err(Stop::Unknown),
+    };
+    tally.put(&NAMES, out);
+    Ok(())
+}

@@ -1,0 +1,107 @@
+//! Runs a case: the first line that is read names a subject, and each further one is a command to
+//! it, whose answer is printed. `tests/README.md` lists the commands.
+#![tactic(auto)]
+
+mod arenas;
+mod case;
+mod cells;
+mod disks;
+mod events;
+mod files;
+mod frames;
+mod mailboxes;
+mod names;
+mod nodes;
+mod out;
+mod random;
+mod reaching;
+mod shelves;
+mod threads;
+mod traces;
+
+use case::{Line, Stop, read, read_lines};
+use nodes::shape_of;
+use out::Out;
+use std::alloc::Global;
+use std::fs::File;
+use std::io;
+use std::process::ExitCode;
+use std::rt::Files;
+use std::thread::Threads;
+
+/// Output or memory was refused.
+const FAILED: u8 = 1;
+
+/// A line is no command.
+const UNREADABLE: u8 = 2;
+
+fn main(rt: HostRuntime) -> ExitCode {
+    match run(&rt) {
+        Ok(status) => ExitCode::from(status),
+        Err(_) => ExitCode::from(FAILED),
+    }
+}
+
+// Runs the case on standard input, and prints what it answers.
+fn run<R: Files<File = File> + Input + Print + Threads + Sync + AllocGlobal>(
+    rt: &R,
+) -> io::Result<u8> {
+    let alloc = rt.alloc();
+    let text = io::read_to_string(alloc, rt.reader())?;
+    let lines = read_lines(alloc, text.as_str())?;
+    let mut out = Out::new(alloc);
+    let status = match take_case(rt, alloc, lines.as_slice(), &mut out) {
+        Ok(()) => 0,
+        Err(Stop::Unknown) => {
+            out.unknown();
+            UNREADABLE
+        }
+        Err(Stop::Memory) => {
+            out.text("refused 1 Memory");
+            FAILED
+        }
+    };
+    rt.print(out.text.as_str())?;
+    Ok(if out.failed { FAILED } else { status })
+}
+
+// Does what the lines of a case say.
+fn take_case<R: Files<File = File> + Threads + Sync + AllocGlobal>(
+    rt: &R,
+    alloc: Global,
+    lines: &[Line<'_>],
+    out: &mut Out,
+) -> Result<(), Stop> {
+    let [first, lines @ ..] = lines else {
+        return Ok(());
+    };
+    match out.at(first) {
+        ["files"] => files::run(rt, lines, out),
+        ["threads"] => threads::run(rt, alloc, lines, out),
+        ["cells", nodes, registers, slots] => {
+            cells::run(alloc, shape_of(nodes, registers, slots)?, lines, out)
+        }
+        ["arena", limit] => arenas::run(alloc, read(limit)?, lines, out),
+        [word] => take_simple(alloc, word, lines, out),
+        _ => Err(Stop::Unknown),
+    }
+}
+
+// The subjects of one word that need neither files nor threads.
+fn take_simple(
+    alloc: Global,
+    subject: &str,
+    lines: &[Line<'_>],
+    out: &mut Out,
+) -> Result<(), Stop> {
+    match subject {
+        "node" => nodes::run(alloc, lines, out),
+        "disk" => disks::run(alloc, lines, out),
+        "bytes" => frames::run(alloc, lines, out),
+        "names" => names::run(lines, out),
+        "lists" => reaching::run(alloc, lines, out),
+        "trace" => traces::run(alloc, lines, out),
+        "wire" => mailboxes::run(alloc, lines, out),
+        _ => Err(Stop::Unknown),
+    }
+}

@@ -1,0 +1,118 @@
+//! What a case prints.
+use crate::case::Line;
+use ids::Refusal;
+use std::alloc::Global;
+use std::fmt::{Debug, Display};
+
+/// The lines that are to be printed, and which line of the case they come from.
+#[derive(Drop)]
+pub(crate) struct Out {
+    alloc: Global,
+    pub(crate) text: String,
+    pub(crate) line: usize,
+    /// Memory for a line was refused.
+    pub(crate) failed: bool,
+}
+
+impl Out {
+    pub(crate) fn new(alloc: Global) -> Out {
+        Out {
+            alloc,
+            text: String::new(alloc),
+            line: 0,
+            failed: false,
+        }
+    }
+
+    /// From now on the answers are those to this line, whose words these are.
+    pub(crate) fn at<'a>(&mut self, line: &'a Line<'a>) -> &'a [&'a str] {
+        self.line = line.number;
+        line.words.as_slice()
+    }
+
+    pub(crate) fn text(&mut self, text: &str) {
+        if writeln!(self.text, "{text}").is_err() {
+            self.failed = true;
+        }
+    }
+
+    pub(crate) fn show<T: Display>(&mut self, value: &T) {
+        if writeln!(self.text, "{value}").is_err() {
+            self.failed = true;
+        }
+    }
+
+    pub(crate) fn debug<T: Debug>(&mut self, value: &T) {
+        if writeln!(self.text, "{value:?}").is_err() {
+            self.failed = true;
+        }
+    }
+
+    pub(crate) fn unknown(&mut self) {
+        let line = self.line;
+        if writeln!(self.text, "line {line}: not a command").is_err() {
+            self.failed = true;
+        }
+    }
+
+    pub(crate) fn refused(&mut self, refusal: Refusal) {
+        if writeln!(self.text, "refused {refusal}").is_err() {
+            self.failed = true;
+        }
+    }
+
+    /// `ok`, or the refusal.
+    pub(crate) fn done(&mut self, done: Result<(), Refusal>) {
+        match done {
+            Ok(()) => self.text("ok"),
+            Err(refusal) => self.refused(refusal),
+        }
+    }
+
+    /// The answer, or the refusal.
+    pub(crate) fn answer<T: Debug + Drop>(&mut self, answered: Result<T, Refusal>) {
+        match answered {
+            Ok(answer) => self.debug(&answer),
+            Err(refusal) => self.refused(refusal),
+        }
+    }
+
+    /// Two hexadecimal digits for each byte; `-` for no bytes.
+    pub(crate) fn bytes(&mut self, bytes: &[u8]) {
+        if bytes.is_empty() {
+            return self.text("-");
+        }
+        match hex::encode_upper(self.alloc, bytes) {
+            Ok(digits) => self.text(digits.as_str()),
+            Err(_) => self.failed = true,
+        }
+    }
+}
+
+/// How often each of some things came.
+#[derive(Clone, Copy)]
+pub(crate) struct Tally<const N: usize> {
+    counts: [u64; N],
+}
+
+impl<const N: usize> Tally<N> {
+    pub(crate) fn new() -> Tally<N> {
+        Tally { counts: [0; N] }
+    }
+
+    pub(crate) fn add(&mut self, place: usize) {
+        if place < N {
+            self.counts[place] = self.counts[place].saturating_add(1);
+        }
+    }
+
+    /// A line for each, with its name.
+    pub(crate) fn put(&self, names: &[&str], out: &mut Out) {
+        for place in 0..N {
+            if place < names.len() {
+                let (name, count) = (names[place], self.counts[place]);
+                out.show(&format_args!("{name} {count}"));
+            }
+        }
+    }
+}

@@ -1,0 +1,63 @@
+-- What a space of the code answers to a list of steps, as its programs see it.
+use Rattle.std.specs.Prelude.{ℕ, Bool, true, false, cond, List, [], ◌∷◌, ◌++◌, Result, Err}
+use Rattle.ids.specs.Limits.{Shaped, IsShape}
+use Rattle.ids.specs.declared.refusal.Refusal.{Refusal}
+use Rattle.ids.specs.declared.refusal.Refusal.TheVariants.{Memory, ImageTooLarge}
+use Rattle.model.specs.declared.step.Step.{Step}
+use Rattle.model.specs.declared.step.Outcome.{Outcome}
+use Rattle.model.specs.World.{World, new_world, happens, run}
+use Rattle.model.specs.Cuts.{cut}
+use Rattle.laws.specs.Objects.{new_space, Sight, IsRun, after}
+use Rattle.laws.specs.Sights.{seen, at_first, LooksLike}
+use Rattle.world.specs.Sites.{SiteView}
+use Rattle.world.specs.Shows.{ShowsWorld, FollowsShown}
+
+-- a call of `Sim::step`: the step, what was answered, and the space of the code then
+pub record Call : Type 0 where
+  pub step : Step
+  pub result : Result Outcome Refusal
+  pub sites : List SiteView
+
+-- calls one after another, of each of which the contract of `Sim::step` says so much (`follows`)
+abbrev pub AreCalls : List SiteView → List Call → Type 0
+AreCalls old [] = Unit {0}
+AreCalls old (k ∷ ks) =
+    FollowsShown k.result old k.sites k.step × AreCalls k.sites ks
+
+-- the space of the code after them
+abbrev pub sites_after : List SiteView → List Call → List SiteView
+sites_after old [] = old
+sites_after old (k ∷ ks) = sites_after k.sites ks
+
+-- Whether a call took a step of the definitions. What is refused for memory, or of an image that is
+-- too large, is refused by the code alone.
+abbrev pub is_taken : Result Outcome Refusal → Bool
+is_taken (Err Memory) = false
+is_taken (Err ImageTooLarge) = false
+is_taken r = true
+
+abbrev pub steps_of : List Call → List Step
+steps_of [] = []
+steps_of (k ∷ ks) = cond (is_taken k.result) (k.step ∷ steps_of ks) (steps_of ks)
+
+-- What was seen, by what the calls answered, as far as the cut has it that the choice picks at the
+-- end. Which message a delivery is of, the space of the definitions says.
+abbrev pub sights : World → List Call → (ℕ → Bool) → List Sight
+sights w [] choice = []
+sights w (k ∷ ks) choice =
+    cond (is_taken k.result)
+    (seen w (at_first (steps_of ks) choice) k.step k.result ++ sights (happens w k.step) ks choice)
+    (sights w ks choice)
+
+-- What programs see of the code: what the calls answered, seen so, is a run of a space without a
+-- collector, in each choice of current and saved states; the space of the code then shows what the
+-- steps lead to, and the run ends as the choice's cut of that is.
+abbrev pub AnswersAreUnseen : Type 0
+AnswersAreUnseen =
+    (shape : Shaped) → IsShape shape
+    → (old : List SiteView) (calls : List Call) (choice : ℕ → Bool)
+    → ShowsWorld old (new_world shape) → AreCalls old calls
+    → IsRun shape.nodes (new_space shape) (sights (new_world shape) calls choice)
+    × ShowsWorld (sites_after old calls) (run (new_world shape) (steps_of calls))
+    × LooksLike (after (new_space shape) (sights (new_world shape) calls choice))
+    (cut (run (new_world shape) (steps_of calls)) choice)
