@@ -22,9 +22,9 @@ module _ {S : Type 0} (Lies : NodeView → S → Type 0) (shape : Shaped) where
         (λ shelf. absurd (omega (arith, h.same, new.0, slice_get_within shelves k t shelf)))
         (λ last. (
           subst (λ (v : NodeView). IsNodeOf shape k v) (sym new.1)
-          (subst (λ (i : ℕ). IsNodeOf shape i n) (sym new.0) is),
+              (subst (λ (i : ℕ). IsNodeOf shape i n) (sym new.0) is),
           subst (λ (v : NodeView). Lies v t) (sym new.1)
-          (subst (λ (u : S). Lies n u) (sym last.1) lies)
+              (subst (λ (u : S). Lies n u) (sym last.1) lies),
         ))
         (pushed-at shelves s k t laid))
         (pushed-at nodes n k m there);
@@ -45,7 +45,8 @@ pub more-found : {S : Type 0} {Lies : NodeView → S → Type 0} {shape : Shaped
     (n : NodeView) (s : S) → AreFound Lies shape nodes shelves → length nodes ≡ number
     → IsNodeOf shape number n × Lies n s → (ns ≡ nodes ++ n ∷ []) × (ss ≡ shelves ++ s ∷ [])
     → AreFound Lies shape ns ss
-more-found {Lies = Lies} {shape = shape} {nodes = nodes} {shelves = shelves} ns ss n s h count it is =
+more-found {Lies = Lies} {shape = shape} {nodes = nodes} {shelves = shelves} ns ss n s h count it
+    is =
     subst (λ l. AreFound Lies shape ns l) (sym is.1)
     (subst (λ l. AreFound Lies shape l (shelves ++ s ∷ [])) (sym is.0)
     (next-found Lies shape nodes shelves n s h

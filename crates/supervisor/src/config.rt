@@ -1,9 +1,12 @@
 //! The configuration of a space, as a TOML document says it.
-ghost use Rattle.std.specs.Prelude.{◌≡◌, ◌≤◌, ◌<◌, ◌⊎◌, None, Some, IfErr, IfOk, IfSome, cond, ◌==◌, option_and_then, option_map};
+ghost use Rattle.std.specs.Prelude.{◌≡◌, ◌≤◌, ◌<◌, ◌⊎◌, None, Some, IfErr, IfOk, IfSome, cond};
+ghost use Rattle.std.specs.Prelude.{◌==◌, option_and_then, option_map};
 ghost use Rattle.toml.specs.Data.{as_integer, get_member};
 ghost use Rattle.toml.specs.View.{table_view, view};
 ghost use Rattle.ids.specs.declared.refusal.Refusal.TheVariants.{Memory};
-ghost use Rattle.supervisor.specs.Settings.{count_keys, found_settings, settings_of, folder_in, number_at, shape_at, table_settings, text_settings, within};
+ghost use Rattle.supervisor.specs.Settings.{count_keys, found_settings, settings_of, folder_in};
+ghost use Rattle.supervisor.specs.Settings.{number_at, shape_at, table_settings, text_settings};
+ghost use Rattle.supervisor.specs.Settings.{within};
 ghost use Rattle.supervisor.specs.declared.fault.OpenFault.TheVariants as fault;
 
 use crate::fault::OpenFault;
@@ -119,7 +122,12 @@ fn count_in(table: &Table) -> usize
 fn shape_in(table: &Table) -> Option<Shape>
     ensures { result ≡ shape_at (table_view table.now) }
 {
-    let nodes = number_at(table, "nodes", u32::from(LEAST_NODES), u32::from(GREATEST_NODES))?;
+    let nodes = number_at(
+        table,
+        "nodes",
+        u32::from(LEAST_NODES),
+        u32::from(GREATEST_NODES),
+    )?;
     let most_registers = u32::from(GREATEST_REGISTERS);
     let registers = number_at(table, "registers", 1, most_registers)?;
     let slots = number_at(table, "slots", 1, GREATEST_SLOTS)?;

@@ -1,5 +1,6 @@
 //! A space of nodes on their disks, and its workers.
-ghost use Rattle.std.specs.Prelude.{◌≡◌, ◌≤◌, ◌<◌, ◌↔◌, ◌⊎◌, false, true, IfErr, IfOk, IfSome, IsSome, OnErr, OnOk, is_some, max, vec_len};
+ghost use Rattle.std.specs.Prelude.{◌≡◌, ◌≤◌, ◌<◌, ◌↔◌, ◌⊎◌, false, true, IfErr, IfOk, IfSome};
+ghost use Rattle.std.specs.Prelude.{IsSome, OnErr, OnOk, is_some, max, vec_len};
 ghost use Rattle.std.specs.Arc.{arc_value};
 ghost use Rattle.std.specs.List.Sorted.{IsNonDecreasingBy};
 ghost use Rattle.ids.specs.declared.refusal.Refusal.TheVariants as refusal;
@@ -22,8 +23,8 @@ use std::thread::Threads;
 use wire::{Watch, Wire};
 use workers::{Gate, Report};
 
-/// A space whose nodes lie on disks, and its workers, once they are started. Where it is let go, the
-/// workers are asked to stop; [`Space::close`] also waits for their end.
+/// A space whose nodes lie on disks, and its workers, once they are started. Where it is let go,
+/// the workers are asked to stop; [`Space::close`] also waits for their end.
 #[derive(Drop)]
 pub struct Space<D: Disk> {
     alloc: Global,
@@ -42,8 +43,8 @@ impl<D: Disk + Drop> Space<D> {
     /// that hold nodes are those of one space that was closed or stopped earlier.
     ///
     /// `Disks` where there are fewer or more disks than nodes, or where a disk holds a node of
-    /// another shape or number; `Refused` Disk where a device failed, BadImage where a disk holds no
-    /// node, Memory. All disks are then given up.
+    /// another shape or number; `Refused` Disk where a device failed, BadImage where a disk holds
+    /// no node, Memory. All disks are then given up.
     pub fn open(alloc: Global, config: &Config, disks: Vec<D>) -> Result<Space<D>, OpenFault>
         ensures nodes { IfOk result (λ s. s.plan.nodes ≡ config.now.shape.nodes) }
         ensures turns { IfOk result (λ s. s.plan.turns ≡ config.now.turns) }
@@ -77,8 +78,8 @@ impl<D: Disk + Drop> Space<D> {
     }
 
     /// Restarts a node: it goes on as its disk holds it. NoNode where there is no node of that
-    /// number; Disk where the device failed, Memory: the node's cell is then closed, until a restart
-    /// is Ok.
+    /// number; Disk where the device failed, Memory: the node's cell is then closed, until a
+    /// restart is Ok.
     pub fn restart<R: Wait>(&self, rt: &R, node: u8) -> Result<(), Refusal>
         ensures no_node { self.now.plan.nodes ≤ node → IfErr result (λ e. e ≡ refusal.NoNode) }
         ensures others { node < self.now.plan.nodes

@@ -10,5 +10,5 @@ invariant-loop g l = record {
       l.nodes.items l.shelves.items l.seats.items;
   left : vec_len l.nodes + l.counter ≡ l.end;
   all : l.end ≡ vec_len l.fn.nodes;
-  made : vec_len l.cells ≡ l.counter
+  made : vec_len l.cells ≡ l.counter;
 }

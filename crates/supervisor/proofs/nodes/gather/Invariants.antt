@@ -8,5 +8,5 @@ invariant-loop-number g l = record {
   found : AreFound (λ n s. (s.ready ≡ true) × OpensTo n (g.D.Disk.seen s.disk)) l.shape
       l.nodes.items l.shelves.items;
   count : length l.nodes.items ≡ l.number;
-  left : vec_len l.disks + l.number ≡ l.shape.nodes
+  left : vec_len l.disks + l.number ≡ l.shape.nodes;
 }

@@ -6,5 +6,5 @@ invariant-loop-node g l = record {
   count : vec_len l.team.workers ≡ l.node;
   none : vec_len l.team.reports ≡ 0;
   room : l.plan.nodes ≤ vec_capacity l.team.workers;
-  reports : l.plan.nodes ≤ vec_capacity l.team.reports
+  reports : l.plan.nodes ≤ vec_capacity l.team.reports;
 }
