@@ -1,6 +1,7 @@
 -- The words with which the program is called: what they say, and why they are no command.
-use Rattle.std.specs.Prelude.{◌≡◌, ◌≢◌, ⊤, Bool, true, false, ◌==◌, not, if◌then◌else◌, ℕ, List, [], ◌∷◌, Option, Some, None, Result, Ok, Err, option_map, codes}
+use Rattle.std.specs.Prelude.{◌≡◌, ◌≢◌, ⊤, Bool, true, false, ◌==◌, not, ◌&&◌, if◌then◌else◌, ℕ, List, [], ◌∷◌, Option, Some, None, Result, Ok, Err, option_map, codes}
 use Rattle.std.specs.List.{list_all}
+use Rattle.std.specs.Option.{option_map_or}
 use Rattle.std.specs.Str.{bytes_eq}
 use Rattle.clap.specs.Words.{App, Row, Rule, Shape, first_of, new_app, new_rule, with_rule, with_subcommand}
 use Rattle.markring.specs.declared.words.Command.{Command}
@@ -14,10 +15,13 @@ pub data Called : Type 0 where
   sim : Option (List ℕ) → Called
   -- to print the frame that this word spells
   decode : List ℕ → Called
+  -- to run the script of a file over node threads, as the configuration of a file says
+  run : List ℕ → List ℕ → Called
 
 abbrev pub call_of : Command → Called
 call_of (command.Sim script) = sim (option_map (λ s. s.now) script)
 call_of (command.Decode hex) = decode hex.now
+call_of (command.Run config script) = run config.now script.now
 
 -- what stands after `sim`, and after `decode`
 abbrev pub sim_of : List (List ℕ) → Option Called
@@ -29,7 +33,7 @@ abbrev pub decode_of : List (List ℕ) → Option Called
 decode_of (hex ∷ []) = Some (decode hex)
 decode_of words = None
 
--- what the words after the program's name say, where none begins with a dash
+-- what they say to `clap`
 abbrev pub called_of : List (List ℕ) → Option Called
 called_of [] = Some (sim None)
 called_of (first ∷ words) =
@@ -42,6 +46,17 @@ is_dashed (b ∷ bs) = b == 45
 
 abbrev pub has_no_dash : List (List ℕ) → Bool
 has_no_dash words = list_all (λ word. not (is_dashed word)) words
+
+-- `run` and its two files
+abbrev pub run_of : List (List ℕ) → Option Called
+run_of (name ∷ config ∷ script ∷ []) =
+    if bytes_eq name (codes "run") && (not (is_dashed config) && not (is_dashed script))
+    then Some (run config script) else None
+run_of words = None
+
+-- what the words after the program's name say, where none begins with a dash
+abbrev pub asked_of : List (List ℕ) → Option Called
+asked_of words = option_map_or (λ c. Some c) (run_of words) (called_of words)
 
 -- What words say is read, and words that say nothing are unknown. Memory may be refused in place of
 -- either.

@@ -3,3 +3,4 @@ pub mod Frames
 pub mod Grammar
 pub mod Script
 pub mod Text
+pub mod Running

@@ -295,7 +295,7 @@ fn get(object: &str, place: &str, label: &str) -> Option<Event>
 
 /// The number that the word spells, where it fits.
 #[tactic(auto, unfolding(crate::specs::Grammar::u8_of, crate::specs::Grammar::u64_of))]
-fn read_u8(word: &str) -> Option<u8>
+pub(crate) fn read_u8(word: &str) -> Option<u8>
     ensures { result ≡ u8_of word.now }
 {
     u8::try_from(read_u64(word)?).ok()
@@ -303,7 +303,7 @@ fn read_u8(word: &str) -> Option<u8>
 
 /// The number that the word spells, where it fits.
 #[tactic(auto, unfolding(crate::specs::Grammar::u16_of, crate::specs::Grammar::u64_of))]
-fn read_u16(word: &str) -> Option<u16>
+pub(crate) fn read_u16(word: &str) -> Option<u16>
     ensures { result ≡ u16_of word.now }
 {
     u16::try_from(read_u64(word)?).ok()

@@ -5,15 +5,21 @@ ghost use Rattle.std.specs.Prelude.{◌≤◌, IfOk};
 
 mod frames;
 mod line;
+mod run_line;
+mod running;
 mod script;
 mod text;
 mod words;
 
 use frames::decode;
 use script::{REFUSED, print_unread, sim};
+use std::fs::File;
 use std::io::{BufWriter, Read};
 use std::process::ExitCode;
 use std::rt::{Env, Files};
+use std::sync::Wait;
+use std::thread::Threads;
+use std::time::Clock;
 use std::{env, fs, io};
 use words::{Command, WordsError, print_refused_words};
 
@@ -26,7 +32,10 @@ fn main(rt: HostRuntime) -> ExitCode {
 }
 
 /// Does what the program's words say, and answers the status.
-fn run<R: Env + Files + Input + Print + AllocGlobal>(rt: &R) -> Result<u8, WordsError>
+fn run<R>(rt: &R) -> Result<u8, WordsError>
+where
+    R: Env + Input + Print + AllocGlobal,
+    R: Files<File = File> + Clock + Threads + Wait + Clone + Send + Sync + Drop + 'static,
     ensures { IfOk result (λ status. status ≤ 2) }
 {
     let alloc = rt.alloc();
@@ -35,6 +44,7 @@ fn run<R: Env + Files + Input + Print + AllocGlobal>(rt: &R) -> Result<u8, Words
         Command::Sim { script: None } => Ok(sim_buffered(rt, rt.reader())),
         Command::Sim { script: Some(path) } => Ok(sim_file(rt, path)),
         Command::Decode { hex } => Ok(decode(alloc, hex, &mut io::writer(rt))),
+        Command::Run { config, script } => Ok(run_files(rt, config, script)),
     }
 }
 
@@ -45,6 +55,24 @@ fn sim_file<R: Files + Print + AllocGlobal>(rt: &R, path: &str) -> u8
     match fs::open(rt, path) {
         Ok(file) => sim_buffered(rt, file),
         Err(error) => print_unread(&mut io::writer(rt), error.kind()).unwrap_or(REFUSED),
+    }
+}
+
+/// Runs the script of a file over node threads, as the configuration of another file says.
+fn run_files<R>(rt: &R, config: &str, script: &str) -> u8
+where
+    R: Print + AllocGlobal,
+    R: Files<File = File> + Clock + Threads + Wait + Clone + Send + Sync + Drop + 'static,
+    ensures { result ≤ 2 }
+{
+    let out = &mut io::writer(rt);
+    let config = match fs::open(rt, config) {
+        Ok(file) => file,
+        Err(error) => return print_unread(out, error.kind()).unwrap_or(REFUSED),
+    };
+    match fs::open(rt, script) {
+        Ok(script) => running::run(rt, rt.alloc(), config, script, out),
+        Err(error) => print_unread(out, error.kind()).unwrap_or(REFUSED),
     }
 }
 

@@ -1,12 +1,12 @@
 //! The words with which the program is called.
-ghost use Rattle.std.specs.Prelude.{◌≡◌, ◌≤◌, ◌++◌, ◌∷◌, [], false, None, Ok, IfOk, OnOk, IsTrue, codes, drop, length, map, option_map, string_bytes};
+ghost use Rattle.std.specs.Prelude.{◌≡◌, ◌<◌, ◌≤◌, ◌++◌, ◌∷◌, [], false, None, Ok, IfOk, OnOk, IsTrue, codes, drop, length, map, option_map, string_bytes};
 ghost use Rattle.std.specs.Io.KnownBytes.{Appends};
 ghost use Rattle.std.specs.IoError.{error_kind};
 ghost use Rattle.clap.specs.Words.{app_of, kind_of, rule_of, subcommand_rows_of, with_subcommand};
 ghost use Rattle.clap.specs.declared.error.ErrorKind.TheVariants as parse;
 ghost use Rattle.std.specs.declared.io.ErrorKind.TheVariants as io;
 ghost use Rattle.markring.specs.declared.words.WordsError.TheVariants.{OutOfMemory};
-ghost use Rattle.markring.specs.Called.{Reads, TellsMemory, call_in, call_of, called_of, has_no_dash, program, with_one_word};
+ghost use Rattle.markring.specs.Called.{Reads, TellsMemory, asked_of, call_in, call_of, called_of, has_no_dash, is_dashed, program, run_of, with_one_word};
 
 use crate::script::{REFUSED, UNREADABLE};
 use clap::error::ErrorKind;
@@ -22,6 +22,8 @@ pub enum Command<'a> {
     Sim { script: Option<&'a str> },
     /// Prints the frame whose bytes this word spells in hexadecimal digits.
     Decode { hex: &'a str },
+    /// Runs the script of a file over node threads, which the configuration of a file describes.
+    Run { config: &'a str, script: &'a str },
 }
 
 /// Why words are no command.
@@ -65,17 +67,55 @@ impl From<AllocError> for WordsError {
 
 impl<'a> Command<'a> {
     /// The command that the words say, of which the first is the program's name. No words beside it
-    /// say `sim`. A word that begins with a dash is read as `clap` reads it.
+    /// say `sim`. A word that begins with a dash is read as `clap` reads it; with one, no words say
+    /// `run`.
     pub fn read(alloc: Global, words: &'a [String]) -> Result<Command<'a>, WordsError>
         ensures alone { length words.now ≤ 1 → result ≡ Ok (Command.Sim None) }
         ensures reads { let said = drop 1 (map string_bytes words.now) in
-            IsTrue (has_no_dash said) → Reads (called_of said) result }
+            IsTrue (has_no_dash said) → Reads (asked_of said) result }
     {
         if words.len() <= 1 {
             return Ok(Command::Sim { script: None });
         }
+        match run_in(words) {
+            Some(run) => Ok(run),
+            None => Command::known_in(alloc, words),
+        }
+    }
+
+    // The command that the words say to `clap`, of which the first is the program's name.
+    fn known_in(alloc: Global, words: &'a [String]) -> Result<Command<'a>, WordsError>
+        requires { 1 < length words.now }
+        ensures { let said = drop 1 (map string_bytes words.now) in
+            IsTrue (has_no_dash said) → Reads (called_of said) result }
+    {
         let matches = known(alloc)?.try_get_matches_from(words)?;
         command_in(&matches).ok_or(WordsError::Unknown)
+    }
+}
+
+/// The command `run`, if words say it and none of them begins with a dash.
+fn run_in<'a>(words: &'a [String]) -> Option<Command<'a>>
+    ensures { option_map call_of result ≡ run_of (drop 1 (map string_bytes words.now)) }
+{
+    let [_, name, config, script] = words else {
+        return None;
+    };
+    let (config, script) = (config.as_str(), script.as_str());
+    if name.as_str() == "run" && !is_dashed(config) && !is_dashed(script) {
+        Some(Command::Run { config, script })
+    } else {
+        None
+    }
+}
+
+/// Whether a word begins with a dash.
+fn is_dashed(word: &str) -> bool
+    ensures { result ≡ is_dashed word.now }
+{
+    match word.as_bytes() {
+        [first, ..] => *first == b'-',
+        [] => false,
     }
 }
 

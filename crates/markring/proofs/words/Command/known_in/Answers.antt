@@ -3,10 +3,10 @@ use Rattle.std.proofs.lemmas.List.{length-map}
 use Rattle.std.proofs.lemmas.Result.{err_from_is_err_and}
 use Rattle.clap.specs.Words.{HasKind, fault_of, is_simple, is_simple_and_free, subcommand_of}
 use Rattle.markring.proofs.Found.{read_refused, read_taken}
-use Rattle.markring.proofs.words.Command.read.Goals as goal
+use Rattle.markring.proofs.words.Command.known_in.Goals as goal
 
-pub returns-in_err-matches-clause-reads : goal.returns-in_err-matches-clause-reads
-returns-in_err-matches-clause-reads c =
+pub returns-in_err-matches : goal.returns-in_err-matches
+returns-in_err-matches c =
     let texts = map string_bytes c.args.words.now in
     let is = c.in_ok-known.ensures in
     let p = err_from_is_err_and c.from_residual-in_err-matches.result
@@ -16,8 +16,8 @@ returns-in_err-matches-clause-reads c =
     rw p.1 (λ plain. read_refused texts (omega (arith, length-map c.args.words.now string_bytes))
     plain c.in_err-matches.field-0.0 p.0 refused p.2)
 
-pub returns-clause-reads : goal.returns-clause-reads
-returns-clause-reads c =
+pub returns : goal.returns
+returns c =
     let texts = map string_bytes c.args.words.now in
     let is = c.in_ok-known.ensures in
     let faultless = subst (λ a. fault_of a texts ≡ []) is

@@ -1,0 +1,383 @@
+//! Runs a script over node threads.
+ghost use Rattle.std.specs.Prelude.{◌≡◌, ◌≤◌, IfOk, true};
+ghost use Rattle.std.specs.Arc.{arc_value};
+ghost use Rattle.model.specs.Steps.{is_own};
+ghost use Rattle.wire.specs.Readers.{IsWatchOf};
+
+use crate::run_line::RunLine;
+use crate::script::{DONE, REFUSED, UNREADABLE, print_unread};
+use crate::text::OutcomeText;
+use disk::{Disk, FileDisk, MemoryDisk};
+use ids::Refusal;
+use model::{Answer, Event, Outcome};
+use std::alloc::Global;
+use std::fs::File;
+use std::io::{Read, Write};
+use std::rt::Files;
+use std::sync::{Arc, Wait};
+use std::thread::Threads;
+use std::time::{Clock, Duration};
+use std::{io, thread};
+use supervisor::{Config, OpenFault, Space};
+use wire::Watch;
+use workers::{Gate, Point, Stage};
+
+/// How many microseconds a worker pauses before a turn, for each node of the space: the frames of
+/// a round of turns are as many as pairs of nodes.
+const PAUSE: u64 = 500;
+
+/// How many microseconds pass between two looks at what a line waits for.
+const LOOK: u64 = 500;
+
+/// What a line of a script comes to.
+#[derive(Clone, Copy)]
+enum Told {
+    /// Nothing is printed.
+    Nothing,
+    Outcome(Outcome),
+    Refused(Refusal),
+    /// All workers had ended before a cycle did.
+    NoVerdict,
+    /// It is outside the grammar.
+    NoCommand,
+}
+
+/// A gate that pauses before each turn, so that workers with nothing to do leave processors free.
+#[derive(Drop)]
+struct Pause<R> {
+    rt: R,
+    pause: Duration,
+}
+
+impl<R: Clock> Gate for Pause<R> {
+    fn at(&self, point: Point) {
+        if point.stage == Stage::Start {
+            thread::sleep(&self.rt, self.pause);
+        }
+    }
+}
+
+/// Runs a script over node threads, as the configuration says, and answers the status: 0 where no
+/// line was refused; 1 where the space couldn't be opened or started, some line was refused, a
+/// cycle had no end, memory was refused or output failed; 2 where the configuration is refused, one
+/// of the two can't be read, or a line is outside the grammar, which is then the last one.
+pub fn run<R, C: Read + Drop, S: Read + Drop, W: Write>(
+    rt: &R,
+    alloc: Global,
+    config: C,
+    script: S,
+    out: &mut W,
+) -> u8
+where
+    R: Files<File = File> + Clock + Threads + Wait + Clone + Send + Sync + Drop + 'static,
+    ensures { result ≤ 2 }
+{
+    match run_read(rt, alloc, config, script, out) {
+        Ok(status) => status,
+        Err(_) => REFUSED,
+    }
+}
+
+// Reads both, and then runs the script.
+fn run_read<R, C: Read + Drop, S: Read + Drop, W: Write>(
+    rt: &R,
+    alloc: Global,
+    config: C,
+    script: S,
+    out: &mut W,
+) -> io::Result<u8>
+where
+    R: Files<File = File> + Clock + Threads + Wait + Clone + Send + Sync + Drop + 'static,
+    ensures { IfOk result (λ status. status ≤ 2) }
+{
+    let config = match io::read_to_string(alloc, config) {
+        Ok(text) => text,
+        Err(error) => return print_unread(out, error.kind()),
+    };
+    let script = match io::read_to_string(alloc, script) {
+        Ok(text) => text,
+        Err(error) => return print_unread(out, error.kind()),
+    };
+    match Config::from_text(alloc, config.as_str()) {
+        Ok(config) => run_config(rt, alloc, &config, script.as_str(), out),
+        Err(OpenFault::Refused(refusal)) => {
+            writeln!(out, "refused {refusal}")?;
+            out.flush()?;
+            Ok(REFUSED)
+        }
+        Err(_) => {
+            writeln!(out, "config refused")?;
+            out.flush()?;
+            Ok(UNREADABLE)
+        }
+    }
+}
+
+// Opens the disks that the configuration names, and runs the script over them.
+fn run_config<R, W: Write>(
+    rt: &R,
+    alloc: Global,
+    config: &Config,
+    script: &str,
+    out: &mut W,
+) -> io::Result<u8>
+where
+    R: Files<File = File> + Clock + Threads + Wait + Clone + Send + Sync + Drop + 'static,
+    ensures { IfOk result (λ status. status ≤ 2) }
+{
+    let nodes = config.shape.nodes();
+    match &config.folder {
+        Some(folder) => {
+            // Files with the numbers of standard streams that are closed, so that no disk gets one.
+            let _low = low_files(rt, alloc);
+            match file_disks(rt, alloc, folder.as_str(), nodes) {
+                Ok(disks) => run_disks(rt, alloc, config, disks, script, out),
+                Err(_) => print_unopened(out),
+            }
+        }
+        None => match memory_disks(alloc, nodes) {
+            Ok(disks) => run_disks(rt, alloc, config, disks, script, out),
+            Err(_) => print_unopened(out),
+        },
+    }
+}
+
+// Three open files, as far as the system gives them.
+fn low_files<R: Files<File = File>>(rt: &R, _alloc: Global) -> [Option<File>; 3] {
+    let first = File::open(rt, "/dev/null").ok();
+    let second = File::open(rt, "/dev/null").ok();
+    let third = File::open(rt, "/dev/null").ok();
+    [first, second, third]
+}
+
+// A disk for each node in a folder of its own, named by the node's number.
+fn file_disks<R: Files<File = File>>(
+    rt: &R,
+    alloc: Global,
+    folder: &str,
+    nodes: u8,
+) -> Result<Vec<FileDisk>, Refusal> {
+    let mut disks = Vec::new(alloc);
+    for node in 0..nodes {
+        let path = format!(in alloc; "{folder}/{node}")?;
+        let disk = FileDisk::at(rt, alloc, path.as_str())?;
+        disks.push(disk)?;
+    }
+    Ok(disks)
+}
+
+// A new disk in memory for each node.
+fn memory_disks(alloc: Global, nodes: u8) -> Result<Vec<MemoryDisk>, Refusal> {
+    let mut disks = Vec::new(alloc);
+    for _ in 0..nodes {
+        disks.push(MemoryDisk::new(alloc))?;
+    }
+    Ok(disks)
+}
+
+// Prints that the space can't be opened, and answers the status.
+fn print_unopened<W: Write>(out: &mut W) -> io::Result<u8>
+    ensures { IfOk result (λ status. status ≤ 2) }
+{
+    writeln!(out, "open refused")?;
+    out.flush()?;
+    Ok(REFUSED)
+}
+
+// Opens a space on disks, starts its workers, runs the script, and closes the space.
+fn run_disks<R, D, W: Write>(
+    rt: &R,
+    alloc: Global,
+    config: &Config,
+    disks: Vec<D>,
+    script: &str,
+    out: &mut W,
+) -> io::Result<u8>
+where
+    R: Clock + Threads + Wait + Clone + Send + Sync + Drop + 'static,
+    D: Disk + Send + Drop + 'static,
+    ensures { IfOk result (λ status. status ≤ 2) }
+{
+    let Ok(mut space) = Space::open(alloc, config, disks) else {
+        return print_unopened(out);
+    };
+    let Some(mut watch) = space.watch() else {
+        return print_unopened(out);
+    };
+    let Ok(gate) = gate(rt, alloc, config.shape.nodes()) else {
+        return print_unopened(out);
+    };
+    if space.start(rt, gate).is_err() {
+        return print_unopened(out);
+    }
+    let status = run_lines(rt, &space, &mut watch, script, out);
+    let saved = save_all(rt, &space, config.shape.nodes());
+    let _ = space.close(rt);
+    Ok(status?.max(saved))
+}
+
+// The gate that all workers are given.
+fn gate<R: Clone + Drop>(rt: &R, alloc: Global, nodes: u8) -> Result<Arc<Pause<R>>, Refusal> {
+    let rt = rt.clone()?;
+    let pause = Duration::from_micros(PAUSE * u64::from(nodes));
+    Ok(Arc::new(alloc, Pause { rt, pause })?)
+}
+
+// Saves what is unsaved, so that no effect of the script is lost, and answers the status.
+fn save_all<R: Wait, D: Disk + Drop>(rt: &R, space: &Space<D>, nodes: u8) -> u8
+    ensures { result ≤ 2 }
+{
+    let mut status = DONE;
+    for node in 0..nodes {
+        if let Some(program) = space.program(node)
+            && program.unsaved(rt)
+            && program.save(rt).is_err()
+        {
+            status = REFUSED;
+        }
+    }
+    status
+}
+
+// Runs a script's lines, and answers the status; the error is that output failed.
+fn run_lines<R: Clock + Wait, D: Disk + Drop, W: Write>(
+    rt: &R,
+    space: &Space<D>,
+    watch: &mut Watch,
+    script: &str,
+    out: &mut W,
+) -> io::Result<u8>
+    requires { IsWatchOf (arc_value space.now.wire) watch.old }
+    ensures { IfOk result (λ status. status ≤ 2) }
+{
+    let mut status = DONE;
+    for (index, text) in script.lines().enumerate() {
+        let told = take_line(rt, space, watch, text);
+        print_told(out, index + 1, &told)?;
+        status = status.max(status_after(&told));
+        if let Told::NoCommand = told {
+            return Ok(status);
+        }
+    }
+    Ok(status)
+}
+
+// Does what the line says.
+fn take_line<R: Clock + Wait, D: Disk + Drop>(
+    rt: &R,
+    space: &Space<D>,
+    watch: &mut Watch,
+    text: &str,
+) -> Told
+    requires { IsWatchOf (arc_value space.now.wire) watch.old }
+    ensures { IsWatchOf (arc_value space.now.wire) watch.new }
+{
+    match RunLine::parse(text) {
+        Some(RunLine::Blank) => Told::Nothing,
+        Some(RunLine::Act(node, event)) => told_of(act(rt, space, node, event)),
+        Some(RunLine::Restart(node)) => match space.restart(rt, node) {
+            Ok(()) => Told::Outcome(Outcome::Done),
+            Err(refusal) => Told::Refused(refusal),
+        },
+        Some(RunLine::Cycle) => cycle(rt, space, watch),
+        Some(RunLine::Await { node, register }) => await_letter(rt, space, node, register),
+        None => Told::NoCommand,
+    }
+}
+
+fn told_of(answered: Result<Answer, Refusal>) -> Told {
+    match answered {
+        Ok(answer) => Told::Outcome(Outcome::Answer(answer)),
+        Err(refusal) => Told::Refused(refusal),
+    }
+}
+
+// Gives a node an event of its program.
+fn act<R: Wait, D: Disk + Drop>(
+    rt: &R,
+    space: &Space<D>,
+    node: u8,
+    event: Event,
+) -> Result<Answer, Refusal>
+    requires { is_own event ≡ true }
+{
+    match space.program(node) {
+        Some(program) => program.act(rt, event),
+        None => Err(Refusal::NoNode),
+    }
+}
+
+// Begins a cycle, and looks at the board until it shows that cycle or all workers have ended.
+fn cycle<R: Clock + Wait, D: Disk + Drop>(rt: &R, space: &Space<D>, watch: &mut Watch) -> Told
+    requires { IsWatchOf (arc_value space.now.wire) watch.old }
+    ensures { IsWatchOf (arc_value space.now.wire) watch.new }
+{
+    match space.begin(rt) {
+        Ok(Answer::Begun(cycle)) => await_end(rt, space, watch, cycle),
+        answered => told_of(answered),
+    }
+}
+
+fn await_end<R: Clock + Wait, D: Disk + Drop>(
+    rt: &R,
+    space: &Space<D>,
+    watch: &mut Watch,
+    cycle: u64,
+) -> Told
+    requires { IsWatchOf (arc_value space.now.wire) watch.old }
+    ensures { IsWatchOf (arc_value space.now.wire) watch.new }
+{
+    for _ in rt.forever() {
+        let over = space.all_ended();
+        if space.look(watch).number >= cycle {
+            return Told::Outcome(Outcome::Answer(Answer::Ended(cycle)));
+        }
+        if over {
+            return Told::NoVerdict;
+        }
+        thread::sleep(rt, Duration::from_micros(LOOK));
+    }
+    unreachable!()
+}
+
+// Takes a letter once one is there. It ends too where something else is refused, or where all
+// workers have ended.
+fn await_letter<R: Clock + Wait, D: Disk + Drop>(
+    rt: &R,
+    space: &Space<D>,
+    node: u8,
+    register: u16,
+) -> Told {
+    for _ in rt.forever() {
+        let over = space.all_ended();
+        let answered = act(rt, space, node, Event::Accept { register });
+        if over || answered != Err(Refusal::NoLetter) {
+            return told_of(answered);
+        }
+        thread::sleep(rt, Duration::from_micros(LOOK));
+    }
+    unreachable!()
+}
+
+// Prints what the line of this number comes to.
+fn print_told<W: Write>(out: &mut W, number: usize, told: &Told) -> io::Result<()> {
+    match told {
+        Told::Nothing => {}
+        Told::Outcome(outcome) => writeln!(out, "{}", OutcomeText(*outcome))?,
+        Told::Refused(refusal) => writeln!(out, "refused {refusal}")?,
+        Told::NoVerdict => writeln!(out, "no verdict")?,
+        Told::NoCommand => writeln!(out, "line {number}: not a command")?,
+    }
+    out.flush()
+}
+
+// The status that a script has at least where a line comes to this.
+fn status_after(told: &Told) -> u8
+    ensures { result ≤ 2 }
+{
+    match told {
+        Told::Nothing | Told::Outcome(_) => DONE,
+        Told::Refused(_) | Told::NoVerdict => REFUSED,
+        Told::NoCommand => UNREADABLE,
+    }
+}

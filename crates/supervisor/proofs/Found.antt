@@ -1,0 +1,53 @@
+-- Nodes as they lie on shelves, one after another.
+use Rattle.std.proofs.Common.{◌≡◌, ◌<◌, ◌+◌, ℕ, zero, suc, List, [], ◌∷◌, ◌++◌, Some, length, length-append, slice_get, refl, sym, ap, ◌∙◌, subst, arith, ⊎_elim}
+use Rattle.std.proofs.lemmas.Option.{slice_get_within}
+use Rattle.ids.specs.Limits.{Shaped}
+use Rattle.model.specs.View.{NodeView, kept_view}
+use Rattle.supervisor.specs.Opened.{IsNodeOf, AreFound}
+use Rattle.supervisor.proofs.Places.{some_at, pushed-at}
+
+module _ {S : Type 0} (Lies : NodeView → S → Type 0) (shape : Shaped) where
+  -- one more node on its shelf
+  pub next-found : (nodes : List NodeView) (shelves : List S) (n : NodeView) (s : S)
+      → AreFound Lies shape nodes shelves → IsNodeOf shape (length nodes) n → Lies n s
+      → AreFound Lies shape (nodes ++ n ∷ []) (shelves ++ s ∷ [])
+  next-found nodes shelves n s h is lies = record {
+    same = omega (arith, h.same, length-append nodes (n ∷ []), length-append shelves (s ∷ []));
+    each = λ k m t there laid.
+        ⊎_elim
+        (λ old. ⊎_elim (λ shelf. h.each k m t old shelf)
+        (λ last. absurd (omega (arith, h.same, last.0, slice_get_within nodes k m old)))
+        (pushed-at shelves s k t laid))
+        (λ new. ⊎_elim
+        (λ shelf. absurd (omega (arith, h.same, new.0, slice_get_within shelves k t shelf)))
+        (λ last. (
+          subst (λ (v : NodeView). IsNodeOf shape k v) (sym new.1)
+              (subst (λ (i : ℕ). IsNodeOf shape i n) (sym new.0) is),
+          subst (λ (v : NodeView). Lies v t) (sym new.1)
+              (subst (λ (u : S). Lies n u) (sym last.1) lies),
+        ))
+        (pushed-at shelves s k t laid))
+        (pushed-at nodes n k m there);
+  }
+
+-- what holds of all that lies on a shelf holds of each node
+pub found-kept : {S : Type 0} {Lies : NodeView → S → Type 0} {shape : Shaped}
+    {nodes : List NodeView} {shelves : List S}
+    → ((n : NodeView) (s : S) → Lies n s → kept_view n ≡ n) → AreFound Lies shape nodes shelves
+    → (k : ℕ) (n : NodeView) → slice_get nodes k ≡ Some n → kept_view n ≡ n
+found-kept {nodes = nodes} {shelves = shelves} kept h k n there =
+    let inside : k < length shelves = omega (arith, h.same, slice_get_within nodes k n there) in
+    let shelf = some_at shelves k inside in
+    kept n shelf.0 (h.each k n shelf.0 there shelf.1).1
+
+pub more-found : {S : Type 0} {Lies : NodeView → S → Type 0} {shape : Shaped}
+    {nodes : List NodeView} {shelves : List S} {number : ℕ} (ns : List NodeView) (ss : List S)
+    (n : NodeView) (s : S) → AreFound Lies shape nodes shelves → length nodes ≡ number
+    → IsNodeOf shape number n × Lies n s → (ns ≡ nodes ++ n ∷ []) × (ss ≡ shelves ++ s ∷ [])
+    → AreFound Lies shape ns ss
+more-found {Lies = Lies} {shape = shape} {nodes = nodes} {shelves = shelves} ns ss n s h count it
+    is =
+    subst (λ l. AreFound Lies shape ns l) (sym is.1)
+    (subst (λ l. AreFound Lies shape l (shelves ++ s ∷ [])) (sym is.0)
+    (next-found Lies shape nodes shelves n s h
+    (subst (λ (i : ℕ). IsNodeOf shape i n) (sym count) it.0) it.1))

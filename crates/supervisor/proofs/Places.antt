@@ -1,0 +1,19 @@
+-- What stands in a place of a list.
+use Rattle.std.proofs.Common.{◌≡◌, ◌<◌, ◌⊎◌, inl, inr, ⊎_elim, ℕ, zero, suc, List, [], ◌∷◌, ◌++◌, Some, length, slice_get, refl, ap, arith}
+
+-- something stands in each place of a list
+pub some_at : {A : Type 0} (xs : List A) (k : ℕ) → k < length xs
+    → (x : A) × (slice_get xs k ≡ Some x)
+some_at [] k inside = absurd (omega arith)
+some_at (x ∷ xs) zero inside = (x, refl)
+some_at (x ∷ xs) (suc k) inside = some_at xs k (omega arith)
+
+-- what stands in a place after a push stood there, or is the new element in the last place
+pub pushed-at : {A : Type 0} (xs : List A) (y : A) (k : ℕ) (x : A)
+    → slice_get (xs ++ y ∷ []) k ≡ Some x
+    → (slice_get xs k ≡ Some x) ⊎ ((k ≡ length xs) × (x ≡ y))
+pushed-at [] y zero x h = inr (refl, cc)
+pushed-at [] y (suc k) x h = absurd cc
+pushed-at (a ∷ xs) y zero x h = inl h
+pushed-at (a ∷ xs) y (suc k) x h =
+    ⊎_elim inl (λ last. inr (ap suc last.0, last.1)) (pushed-at xs y k x h)

@@ -1,0 +1,18 @@
+//! Why a space isn't opened.
+use ids::Refusal;
+use thiserror::Error;
+
+/// Why a space isn't opened.
+#[derive(Clone, Copy, Debug, PartialEq, Eq, Error)]
+pub enum OpenFault {
+    /// The text is no configuration.
+    #[error("config refused")]
+    Config,
+    /// There are fewer or more disks than nodes, or a disk holds a node of another space, or one
+    /// of another number.
+    #[error("disks refused")]
+    Disks,
+    /// A node, its disk or the wire was refused.
+    #[error("refused {0}")]
+    Refused(Refusal),
+}

@@ -1,0 +1,15 @@
+//! A space whose nodes run in threads of their own: how it is configured, opened from its disks,
+//! started and closed.
+#![tactic(auto)]
+
+mod cells;
+mod config;
+mod fault;
+mod nodes;
+mod space;
+mod team;
+
+pub use config::Config;
+pub use fault::OpenFault;
+pub use space::Space;
+pub use team::{Plan, Team};

@@ -1,0 +1,125 @@
+//! Nodes as their disks hold them.
+ghost use Rattle.std.specs.Prelude.{◌≡◌, ◌++◌, [], ◌∷◌, true, IfOk, IsTrue, OnOk, length};
+ghost use Rattle.disk.specs.Areas.{Areas};
+ghost use Rattle.cell.specs.Disks.{OpensTo};
+ghost use Rattle.supervisor.specs.Opened.{AreFound, IsNodeOf};
+
+use crate::fault::OpenFault;
+use disk::{Disk, Shelf, is_blank};
+use ids::{NodeId, Refusal, Shape};
+use node::Node;
+use std::alloc::Global;
+
+// A new node, on a disk on which nothing was ever created.
+fn create_node<D: Disk + Drop>(
+    alloc: Global,
+    shape: Shape,
+    own: NodeId,
+    disk: D,
+) -> Result<(Node, Shelf<D>), OpenFault>
+    requires { (c : Areas) → D.may_leave disk c → c.select ≡ [] }
+
+    ensures node { IfOk result (λ r. IsNodeOf shape own.number r.0) }
+    ensures ready { IfOk result (λ r. r.1.ready ≡ true) }
+    ensures opens { IfOk result (λ r. OpensTo r.0 (D.seen r.1.disk)) }
+{
+    let node = match Node::new(alloc, shape, own) {
+        Ok(node) => node,
+        Err(refusal) => return Err(OpenFault::Refused(refusal)),
+    };
+    match Shelf::create(alloc, disk, &node) {
+        Ok(shelf) => Ok((node, shelf)),
+        Err((_disk, refusal)) => Err(OpenFault::Refused(refusal)),
+    }
+}
+
+// Whether a node is the one of this number in a space of this shape.
+fn is_node_of(node: &Node, shape: Shape, own: NodeId) -> bool
+    ensures { IsTrue result → IsNodeOf shape own.number node.now }
+{
+    let state = node.state();
+    let is_sized = state.shape.nodes() == shape.nodes()
+        && state.shape.registers() == shape.registers()
+        && state.shape.slots() == shape.slots();
+    is_sized && state.own == own.number
+}
+
+// Adds a value to a list.
+fn keep<T: Drop>(values: &mut Vec<T>, value: T) -> Result<(), OpenFault>
+    ensures { OnOk result (values.new.items ≡ values.old.items ++ value ∷ []) }
+{
+    match values.push(value) {
+        Ok(()) => Ok(()),
+        Err(_) => Err(OpenFault::Refused(Refusal::Memory)),
+    }
+}
+
+// The node that a disk holds, if it is the one of this number in a space of this shape.
+fn read_node<D: Disk + Drop>(
+    alloc: Global,
+    shape: Shape,
+    own: NodeId,
+    disk: D,
+) -> Result<(Node, Shelf<D>), OpenFault>
+    ensures node { IfOk result (λ r. IsNodeOf shape own.number r.0) }
+    ensures ready { IfOk result (λ r. r.1.ready ≡ true) }
+    ensures opens { IfOk result (λ r. OpensTo r.0 (D.seen r.1.disk)) }
+{
+    let (shelf, node) = match Shelf::open::<Node>(alloc, disk) {
+        Ok(found) => found,
+        Err(refusal) => return Err(OpenFault::Refused(refusal)),
+    };
+    if is_node_of(&node, shape, own) {
+        Ok((node, shelf))
+    } else {
+        Err(OpenFault::Disks)
+    }
+}
+
+// The node of this number: a new one where nothing was ever created on the disk, else the one that
+// the disk holds.
+fn node_of<D: Disk + Drop>(
+    alloc: Global,
+    shape: Shape,
+    own: NodeId,
+    mut disk: D,
+) -> Result<(Node, Shelf<D>), OpenFault>
+    ensures node { IfOk result (λ r. IsNodeOf shape own.number r.0) }
+    ensures ready { IfOk result (λ r. r.1.ready ≡ true) }
+    ensures opens { IfOk result (λ r. OpensTo r.0 (D.seen r.1.disk)) }
+{
+    match is_blank(&mut disk) {
+        Ok(true) => create_node(alloc, shape, own, disk),
+        Ok(false) => read_node(alloc, shape, own, disk),
+        Err(_) => Err(OpenFault::Refused(Refusal::Disk)),
+    }
+}
+
+/// The nodes of a space, in order, each on its shelf: new ones where nothing was ever created on a
+/// disk, else those that the disks hold.
+///
+/// `Disks` where there are fewer or more disks than nodes, or where a disk holds a node of another
+/// shape or number; `Refused` as `Node::new`, `Shelf::create` and `Shelf::open`. All disks are then
+/// given up.
+pub(crate) fn gather<D: Disk + Drop>(
+    alloc: Global,
+    shape: Shape,
+    mut disks: Vec<D>,
+) -> Result<(Vec<Node>, Vec<Shelf<D>>), OpenFault>
+    ensures count { IfOk result (λ r. length r.0.items ≡ shape.nodes) }
+    ensures found { IfOk result (λ r.
+        AreFound (λ n s. (s.ready ≡ true) × OpensTo n (D.seen s.disk))
+        shape r.0.items r.1.items) }
+{
+    if disks.len() != usize::from(shape.nodes()) {
+        return Err(OpenFault::Disks);
+    }
+    let mut nodes = Vec::new(alloc);
+    let mut shelves = Vec::new(alloc);
+    for number in 0..shape.nodes() {
+        let (node, shelf) = node_of(alloc, shape, NodeId { number }, disks.remove(0))?;
+        keep(&mut nodes, node)?;
+        keep(&mut shelves, shelf)?;
+    }
+    Ok((nodes, shelves))
+}

@@ -1,0 +1,169 @@
+//! A space of nodes on their disks, and its workers.
+ghost use Rattle.std.specs.Prelude.{◌≡◌, ◌≤◌, ◌<◌, ◌↔◌, ◌⊎◌, false, true, IfErr, IfOk, IfSome};
+ghost use Rattle.std.specs.Prelude.{IsSome, OnErr, OnOk, is_some, max, vec_len};
+ghost use Rattle.std.specs.Arc.{arc_value};
+ghost use Rattle.std.specs.List.Sorted.{IsNonDecreasingBy};
+ghost use Rattle.ids.specs.declared.refusal.Refusal.TheVariants as refusal;
+ghost use Rattle.wire.specs.Plays.{HasEnded};
+ghost use Rattle.wire.specs.Readers.{heard, loaded, watch_opening, IsSameWatch, IsWatchOf};
+ghost use Rattle.supervisor.specs.Opened.{AreWatches};
+
+use crate::cells::open_cells;
+use crate::config::Config;
+use crate::fault::OpenFault;
+use crate::nodes::gather;
+use crate::team::{Plan, Team};
+use cell::Shared;
+use disk::Disk;
+use ids::{Cycle, Refusal};
+use model::{Answer, Event};
+use std::alloc::Global;
+use std::sync::{Arc, Wait};
+use std::thread::Threads;
+use wire::{Watch, Wire};
+use workers::{Gate, Report};
+
+/// A space whose nodes lie on disks, and its workers, once they are started. Where it is let go,
+/// the workers are asked to stop; [`Space::close`] also waits for their end.
+#[derive(Drop)]
+pub struct Space<D: Disk> {
+    alloc: Global,
+    plan: Plan,
+    wire: Arc<Wire>,
+    cells: Vec<Arc<Shared<D>>>,
+    watches: Vec<Watch>,
+    team: Option<Team>,
+    ghost each: { vec_len cells ≡ plan.nodes },
+    ghost of: { AreWatches (arc_value wire) watches.items },
+}
+
+impl<D: Disk + Drop> Space<D> {
+    /// Opens a space of this configuration on these disks, the first for node 0. Where nothing was
+    /// ever created on a disk, its node is a new one; else it goes on as it was saved last. Disks
+    /// that hold nodes are those of one space that was closed or stopped earlier.
+    ///
+    /// `Disks` where there are fewer or more disks than nodes, or where a disk holds a node of
+    /// another shape or number; `Refused` Disk where a device failed, BadImage where a disk holds
+    /// no node, Memory. All disks are then given up.
+    pub fn open(alloc: Global, config: &Config, disks: Vec<D>) -> Result<Space<D>, OpenFault>
+        ensures nodes { IfOk result (λ s. s.plan.nodes ≡ config.now.shape.nodes) }
+        ensures turns { IfOk result (λ s. s.plan.turns ≡ config.now.turns) }
+        ensures fresh { IfOk result (λ s. is_some s.team ≡ false) }
+    {
+        let shape = config.shape;
+        let (nodes, shelves) = gather(alloc, shape, disks)?;
+        let (wire, cells, watches) = match open_cells(alloc, shape, nodes, shelves) {
+            Ok(opened) => opened,
+            Err(refusal) => return Err(OpenFault::Refused(refusal)),
+        };
+        Ok(Space {
+            alloc,
+            plan: Plan {
+                nodes: shape.nodes(),
+                turns: config.turns,
+            },
+            wire,
+            cells,
+            watches,
+            team: None,
+        })
+    }
+
+    /// Begins a collection cycle: an event of node 0, refused as [`Event::Begin`] is.
+    pub fn begin<R: Wait>(&self, rt: &R) -> Result<Answer, Refusal> {
+        match self.program(0) {
+            Some(program) => program.act(rt, Event::Begin),
+            None => Err(Refusal::NoNode),
+        }
+    }
+
+    /// Restarts a node: it goes on as its disk holds it. NoNode where there is no node of that
+    /// number; Disk where the device failed, Memory: the node's cell is then closed, until a
+    /// restart is Ok.
+    pub fn restart<R: Wait>(&self, rt: &R, node: u8) -> Result<(), Refusal>
+        ensures no_node { self.now.plan.nodes ≤ node → IfErr result (λ e. e ≡ refusal.NoNode) }
+        ensures others { node < self.now.plan.nodes
+            → IfErr result (λ e. (e ≡ refusal.Memory) ⊎ (e ≡ refusal.Disk)) }
+    {
+        match self.program(node) {
+            Some(program) => program.reopen(rt),
+            None => Err(Refusal::NoNode),
+        }
+    }
+
+    /// What a node's program calls, if there is a node of that number.
+    pub fn program(&self, node: u8) -> Option<&Shared<D>>
+        ensures { IsSome result ↔ (node < self.now.plan.nodes) }
+    {
+        match self.cells.get(usize::from(node)) {
+            Some(cell) => Some(&**cell),
+            None => None,
+        }
+    }
+
+    /// A right to look at the space's board; none after the sixteenth.
+    pub fn watch(&mut self) -> Option<Watch>
+        ensures of { IfSome result (λ x. IsWatchOf (arc_value self.new.wire) x) }
+        ensures wire { arc_value self.new.wire ≡ arc_value self.old.wire }
+        ensures plan { self.new.plan ≡ self.old.plan }
+        ensures team { self.new.team ≡ self.old.team }
+    {
+        self.watches.pop()
+    }
+
+    /// The last cycle that the watch knows node 0 to have ended: the one on the board, or a later
+    /// one that the watch was told. It is never earlier than what the watch saw before.
+    pub fn look(&self, watch: &mut Watch) -> Cycle
+        requires { IsWatchOf (arc_value self.now.wire) watch.old }
+        ensures same { IsSameWatch watch.old watch.new }
+        ensures number { result.number ≡ max (loaded watch.new) (heard watch.old) }
+        ensures heard { heard watch.new ≡ heard watch.old }
+        ensures later { loaded watch.old ≤ loaded watch.new }
+        ensures ended { HasEnded (watch_opening watch.old) (loaded watch.new) }
+    {
+        self.wire.look(watch)
+    }
+
+    /// Whether no worker is left that could take a turn: all have ended, or none was started.
+    pub fn all_ended(&self) -> bool {
+        match &self.team {
+            Some(team) => team.ended() >= u64::from(self.plan.nodes),
+            None => true,
+        }
+    }
+
+    /// Stops the workers, waits for their end, and answers all their reports, sorted by node; none
+    /// where none was started.
+    pub fn close<R: Threads>(self, rt: &R) -> Vec<Report>
+        ensures { IsNonDecreasingBy (λ r. r.node) result.items }
+    {
+        let Space { alloc, team, .. } = self;
+        match team {
+            Some(team) => team.close(rt),
+            None => Vec::new(alloc),
+        }
+    }
+}
+
+impl<D: Disk + Send + Drop + 'static> Space<D> {
+    /// Starts a worker for each node, which asks the gate at each point of its turns. It is started
+    /// once.
+    ///
+    /// Memory where a growth or a thread was refused: the workers that were started are then
+    /// stopped and joined, and it may be started again.
+    pub fn start<R, G>(&mut self, rt: &R, gate: Arc<G>) -> Result<(), Refusal>
+    where
+        R: Threads + Wait + Clone + Send + Drop + 'static,
+        G: Gate + Send + Sync + Drop + 'static,
+        requires { is_some self.old.team ≡ false }
+        ensures started { OnOk result (is_some self.new.team ≡ true) }
+        ensures stopped { OnErr result (is_some self.new.team ≡ false) }
+        ensures refused { IfErr result (λ e. e ≡ refusal.Memory) }
+        ensures wire { arc_value self.new.wire ≡ arc_value self.old.wire }
+        ensures plan { self.new.plan ≡ self.old.plan }
+    {
+        let team = Team::start(rt, self.alloc, self.cells.as_slice(), &gate, self.plan)?;
+        self.team = Some(team);
+        Ok(())
+    }
+}

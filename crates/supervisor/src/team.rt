@@ -1,0 +1,199 @@
+//! The threads of a space's workers.
+ghost use Rattle.std.specs.Prelude.{◌≡◌, ◌≤◌, ◌<◌, ◌+◌, IfErr, IfOk, length, vec_capacity, vec_len};
+ghost use Rattle.std.specs.List.Sorted.{IsNonDecreasingBy};
+ghost use Rattle.ids.specs.declared.refusal.Refusal.TheVariants.{Memory};
+
+use crossbeam_channel::{Receiver, bounded};
+use ids::Refusal;
+use std::alloc::Global;
+use std::sync::{Arc, Wait};
+use std::thread;
+use std::thread::{JoinHandle, Threads};
+use workers::{Gate, Report, Site, Stop, run_node};
+
+/// How many workers there are, and how many turns each takes at most.
+#[derive(Clone, Copy, Debug, PartialEq, Eq)]
+pub struct Plan {
+    pub nodes: u8,
+    pub turns: u32,
+}
+
+// What a worker is told first: its node, and how many turns it takes at most.
+#[derive(Drop)]
+struct Order {
+    node: u8,
+    turns: u32,
+}
+
+// Asks the workers to stop where it is let go.
+struct Halt {
+    stop: Arc<Stop>,
+}
+
+impl Drop for Halt {
+    fn drop(self) {
+        let Halt { stop } = self;
+        stop.ask();
+    }
+}
+
+/// Workers in threads of their own, one a node. Where it is let go they are asked to stop, and
+/// [`Team::close`] also waits for their end.
+#[derive(Drop)]
+pub struct Team {
+    halt: Halt,
+    workers: Vec<JoinHandle<Report>>,
+    reports: Vec<Report>,
+    ghost room: { vec_len workers + vec_len reports ≤ vec_capacity reports },
+}
+
+// What a worker's thread does: it receives its order, and takes its turns.
+fn work<R: Wait, S: Site, G: Gate>(
+    rt: &R,
+    orders: &Receiver<Order>,
+    site: &S,
+    gate: &G,
+    plan: Plan,
+    stop: &Stop,
+) -> Report {
+    let Order { node, turns } = match orders.recv(rt) {
+        Ok(order) => order,
+        Err(_) => Order { node: 0, turns: 0 },
+    };
+    run_node(rt, site, gate, node, plan.nodes, turns, stop).report
+}
+
+// Starts the worker of a node: its order waits in a channel before the thread is made.
+fn start_worker<R, S, G>(
+    rt: &R,
+    alloc: Global,
+    site: &Arc<S>,
+    gate: &Arc<G>,
+    stop: &Arc<Stop>,
+    node: u8,
+    plan: Plan,
+) -> Result<JoinHandle<Report>, Refusal>
+where
+    R: Threads + Wait + Clone + Send + Drop + 'static,
+    S: Site + Send + Sync + Drop + 'static,
+    G: Gate + Send + Sync + Drop + 'static,
+    ensures { IfErr result (λ e. e ≡ Memory) }
+{
+    let site = site.clone()?;
+    let gate = gate.clone()?;
+    let stop = stop.clone()?;
+    let theirs = rt.clone()?;
+    let (sender, orders) = bounded(alloc, 1)?;
+    let order = Order {
+        node,
+        turns: plan.turns,
+    };
+    if sender.send(rt, order).is_err() {
+        return Err(Refusal::Memory);
+    }
+    let task = move || work(&theirs, &orders, &*site, &*gate, plan, &*stop);
+    match thread::spawn(rt, task) {
+        Ok(handle) => Ok(handle),
+        Err(_) => Err(Refusal::Memory),
+    }
+}
+
+// Sorts reports by their nodes.
+fn sort(reports: &mut Vec<Report>)
+    ensures count { vec_len reports.new ≡ vec_len reports.old }
+    ensures sorted { IsNonDecreasingBy (λ r. r.node) reports.new.items }
+{
+    reports.sort_unstable_by_key(|report| report.node);
+}
+
+impl Team {
+    // No worker yet, with room for those of this plan and for their reports.
+    fn empty(alloc: Global, plan: Plan) -> Result<Team, Refusal>
+        ensures room { IfOk result (λ t. plan.nodes ≤ vec_capacity t.workers) }
+        ensures reports { IfOk result (λ t. plan.nodes ≤ vec_capacity t.reports) }
+        ensures no_worker { IfOk result (λ t. vec_len t.workers ≡ 0) }
+        ensures no_report { IfOk result (λ t. vec_len t.reports ≡ 0) }
+        ensures refused { IfErr result (λ e. e ≡ Memory) }
+    {
+        let count = usize::from(plan.nodes);
+        let stop = Arc::new(alloc, Stop::new())?;
+        let workers = Vec::with_capacity(alloc, count)?;
+        let reports = Vec::with_capacity(alloc, count)?;
+        Ok(Team {
+            halt: Halt { stop },
+            workers,
+            reports,
+        })
+    }
+
+    // Adds a worker, for whom there is room.
+    fn add(&mut self, worker: JoinHandle<Report>)
+        requires room { vec_len self.old.workers < vec_capacity self.old.workers }
+        requires reports { vec_len self.old.workers + vec_len self.old.reports
+            < vec_capacity self.old.reports }
+        ensures count { vec_len self.new.workers ≡ vec_len self.old.workers + 1 }
+        ensures room { vec_capacity self.new.workers ≡ vec_capacity self.old.workers }
+        ensures reports { self.new.reports ≡ self.old.reports }
+    {
+        self.workers.push_reserved(worker);
+    }
+
+    /// Starts a worker for each site, the first for node 0. Each receives its order, its node and
+    /// the greatest number of its turns, through a channel of its own.
+    ///
+    /// Memory where a growth or a thread was refused: the workers that were started are then
+    /// stopped and joined.
+    pub fn start<R, S, G>(
+        rt: &R,
+        alloc: Global,
+        sites: &[Arc<S>],
+        gate: &Arc<G>,
+        plan: Plan,
+    ) -> Result<Team, Refusal>
+    where
+        R: Threads + Wait + Clone + Send + Drop + 'static,
+        S: Site + Send + Sync + Drop + 'static,
+        G: Gate + Send + Sync + Drop + 'static,
+        requires { length sites.now ≡ plan.nodes }
+        ensures count { IfOk result (λ t. vec_len t.workers ≡ plan.nodes) }
+        ensures none_ended { IfOk result (λ t. vec_len t.reports ≡ 0) }
+        ensures refused { IfErr result (λ e. e ≡ Memory) }
+    {
+        let mut team = Team::empty(alloc, plan)?;
+        for node in 0..plan.nodes {
+            let site = &sites[usize::from(node)];
+            match start_worker(rt, alloc, site, gate, &team.halt.stop, node, plan) {
+                Ok(worker) => team.add(worker),
+                Err(refusal) => {
+                    let _ = team.close(rt);
+                    return Err(refusal);
+                }
+            }
+        }
+        Ok(team)
+    }
+
+    /// How many workers have ended.
+    pub fn ended(&self) -> u64 {
+        self.halt.stop.ended()
+    }
+
+    /// Stops the workers, waits for their end, and answers all their reports, sorted by node. It
+    /// takes no memory.
+    pub fn close<R: Threads>(self, rt: &R) -> Vec<Report>
+        ensures count { vec_len result ≡ vec_len self.workers + vec_len self.reports }
+        ensures sorted { IsNonDecreasingBy (λ r. r.node) result.items }
+    {
+        let Team {
+            halt,
+            mut workers,
+            mut reports,
+        } = self;
+        halt.stop.ask();
+        while let Some(worker) = workers.pop() {
+            reports.push_reserved(worker.join(rt));
+        }
+        sort(&mut reports);
+        reports
+    }
+}

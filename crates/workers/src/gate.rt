@@ -1,0 +1,31 @@
+//! The points of a turn at which a gate is asked.
+
+/// How far a turn is.
+#[derive(Clone, Copy, Debug, PartialEq, Eq)]
+pub enum Stage {
+    /// Nothing was done yet.
+    Start,
+    /// One frame of each other node was taken in, where there was one.
+    TakenIn,
+    /// The collector did its part.
+    Collected,
+    /// The node was saved, where an event came since the last save.
+    Saved,
+    /// One frame was sent to each other node, where there was room.
+    Sent,
+}
+
+/// A point of a worker's run: a node, one of its turns, counted from 1, and how far it is.
+#[derive(Clone, Copy, Debug, PartialEq, Eq)]
+pub struct Point {
+    pub node: u8,
+    pub turn: u32,
+    pub stage: Stage,
+}
+
+/// What a worker asks at each point of its turns, while it holds no lock: it may pause there, or
+/// look at the space.
+pub trait Gate {
+    /// The worker is at this point, and goes on once the call returns.
+    fn at(&self, point: Point);
+}

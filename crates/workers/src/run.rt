@@ -1,0 +1,149 @@
+//! The turns of a worker, one after another.
+ghost use Rattle.std.specs.Prelude.{◌≡◌, ◌≤◌};
+ghost use Rattle.workers.specs.Turns.{count, freed_over, received_over, AddsTurn, AreTurns};
+
+use crate::calls::Past;
+use crate::gate::Gate;
+use crate::site::Site;
+use crate::turn::turn_node;
+use std::mem;
+use std::snapshot::Snapshot;
+use std::sync::Wait;
+use std::sync::atomic::{AtomicBool, AtomicU64, Ordering};
+
+/// What the workers of a space share: whether they are to stop, and how many have ended.
+#[derive(Drop)]
+pub struct Stop {
+    asked: AtomicBool,
+    ended: AtomicU64,
+}
+
+impl Stop {
+    /// Nobody asked yet, and no worker has ended.
+    pub fn new() -> Stop {
+        Stop {
+            asked: AtomicBool::new(false),
+            ended: AtomicU64::new(0),
+        }
+    }
+
+    /// Asks all workers to end before their next turn.
+    pub fn ask(&self) {
+        self.asked.store(true, Ordering::SeqCst);
+    }
+
+    /// Whether the workers were asked to end.
+    pub fn is_asked(&self) -> bool {
+        self.asked.load(Ordering::SeqCst)
+    }
+
+    /// A worker has ended.
+    pub(crate) fn note_end(&self) {
+        self.ended.fetch_add(1, Ordering::SeqCst);
+    }
+
+    /// How many workers have ended.
+    pub fn ended(&self) -> u64 {
+        self.ended.load(Ordering::SeqCst)
+    }
+}
+
+/// What a worker did: its node, its whole turns, the new messages that it took in and the objects
+/// that it freed.
+#[derive(Clone, Copy, Debug, PartialEq, Eq)]
+pub struct Report {
+    pub node: u8,
+    pub turns: u32,
+    pub received: u64,
+    pub freed: u64,
+}
+
+/// The turns that are over. Proofs alone read it: a snapshot of it has no bytes.
+#[derive(Drop)]
+pub enum Turns {
+    Start,
+    Then {
+        before: Snapshot<Turns>,
+        turn: Snapshot<Past>,
+    },
+}
+
+/// A worker's run: its report, and its turns for proofs alone.
+#[derive(Drop)]
+pub struct Run {
+    pub report: Report,
+    pub turns: Snapshot<Turns>,
+}
+
+// Adds a turn.
+fn add(turns: &mut Snapshot<Turns>, turn: Snapshot<Past>)
+    ensures { AddsTurn turn.value turns.old.value turns.new.value }
+{
+    let before = mem::replace(turns, Snapshot::of(&Turns::Start));
+    *turns = Snapshot::of(&Turns::Then { before, turn });
+}
+
+// Takes turns until the workers are asked to stop, but at most this many.
+fn take_turns<R: Wait, S: Site, G: Gate>(
+    rt: &R,
+    site: &S,
+    gate: &G,
+    node: u8,
+    nodes: u8,
+    turns: u32,
+    stop: &Stop,
+) -> Run
+    ensures node { result.report.node ≡ node }
+    ensures turns { AreTurns node nodes result.turns.value }
+    ensures counted { result.report.turns ≡ count result.turns.value }
+    ensures most { result.report.turns ≤ turns }
+    ensures received { result.report.received ≡ received_over result.turns.value }
+    ensures freed { result.report.freed ≡ freed_over result.turns.value }
+{
+    let mut past = Snapshot::of(&Turns::Start);
+    let mut over = 0;
+    let mut received = 0;
+    let mut freed = 0;
+    for turn in 0..turns {
+        if stop.is_asked() {
+            break;
+        }
+        let taken = turn_node(rt, site, gate, node, nodes, turn + 1);
+        over += 1;
+        received += u64::from(taken.received);
+        freed += u64::from(taken.freed);
+        add(&mut past, taken.past);
+    }
+    Run {
+        report: Report {
+            node,
+            turns: over,
+            received,
+            freed,
+        },
+        turns: past,
+    }
+}
+
+/// Takes turns for a node among so many until the workers are asked to stop, but at most this many;
+/// then notes that a worker has ended. The report counts what the turns came to.
+pub fn run_node<R: Wait, S: Site, G: Gate>(
+    rt: &R,
+    site: &S,
+    gate: &G,
+    node: u8,
+    nodes: u8,
+    turns: u32,
+    stop: &Stop,
+) -> Run
+    ensures node { result.report.node ≡ node }
+    ensures turns { AreTurns node nodes result.turns.value }
+    ensures counted { result.report.turns ≡ count result.turns.value }
+    ensures most { result.report.turns ≤ turns }
+    ensures received { result.report.received ≡ received_over result.turns.value }
+    ensures freed { result.report.freed ≡ freed_over result.turns.value }
+{
+    let run = take_turns(rt, site, gate, node, nodes, turns, stop);
+    stop.note_end();
+    run
+}

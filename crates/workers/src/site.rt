@@ -1,0 +1,59 @@
+//! What a worker's turn calls.
+ghost use Rattle.std.specs.Prelude.{◌≡◌, true};
+ghost use Rattle.model.specs.Steps.{is_own};
+
+use cell::{Inbound, Naming, Outbound, SharedOn};
+use disk::Disk;
+use ids::Refusal;
+use model::{Answer, Event};
+use std::sync::Wait;
+use wire::Raised;
+
+/// A node with its disk, as several threads share it: each call is one event of it, or none, and
+/// each may wait for another thread's.
+pub trait Site {
+    /// Takes in what is there from another node.
+    fn pump_in<R: Wait>(&self, rt: &R, from: u8) -> Result<Inbound, Refusal>;
+
+    /// Gives the node an event of its own.
+    fn act<R: Wait>(&self, rt: &R, event: Event) -> Result<Answer, Refusal>
+        requires { is_own event ≡ true };
+
+    /// Whether an event came since the last save or reopening.
+    fn unsaved<R: Wait>(&self, rt: &R) -> bool;
+
+    /// Saves the node.
+    fn save<R: Wait>(&self, rt: &R) -> Result<(), Refusal>;
+
+    /// Sends a frame to another node, where there is room.
+    fn pump_out<R: Wait>(&self, rt: &R, to: u8) -> Result<Outbound, Refusal>;
+
+    /// Shows on the board what the node, as saved, counts as ended.
+    fn raise<R: Wait>(&self, rt: &R) -> Result<Raised, Refusal>;
+}
+
+impl<D: Disk, W: Naming> Site for SharedOn<D, W> {
+    fn pump_in<R: Wait>(&self, rt: &R, from: u8) -> Result<Inbound, Refusal> {
+        SharedOn::pump_in(self, rt, from)
+    }
+
+    fn act<R: Wait>(&self, rt: &R, event: Event) -> Result<Answer, Refusal> {
+        SharedOn::act(self, rt, event)
+    }
+
+    fn unsaved<R: Wait>(&self, rt: &R) -> bool {
+        SharedOn::unsaved(self, rt)
+    }
+
+    fn save<R: Wait>(&self, rt: &R) -> Result<(), Refusal> {
+        SharedOn::save(self, rt)
+    }
+
+    fn pump_out<R: Wait>(&self, rt: &R, to: u8) -> Result<Outbound, Refusal> {
+        SharedOn::pump_out(self, rt, to)
+    }
+
+    fn raise<R: Wait>(&self, rt: &R) -> Result<Raised, Refusal> {
+        SharedOn::raise(self, rt)
+    }
+}

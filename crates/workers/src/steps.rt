@@ -1,0 +1,188 @@
+// The steps of a turn. Each of the small functions makes one call and notes it.
+ghost use Rattle.std.specs.Prelude.{◌≡◌, ◌≤◌, ◌+◌, ◌++◌, ◌∷◌, [], ℕ, Bool};
+ghost use Rattle.workers.specs.Calls.{asked, freed_in, received_in, Adds};
+ghost use Rattle.workers.specs.Turns.{at, collects, raises, saves, scans, sends, takes};
+ghost use Rattle.workers.specs.declared.calls.Call.TheVariants as call;
+
+use crate::calls::{Call, Past, note};
+use crate::gate::{Gate, Point, Stage};
+use crate::site::Site;
+use cell::Inbound;
+use model::{Answer, Event};
+use std::snapshot::Snapshot;
+use std::sync::Wait;
+
+// How many objects a turn scans at most.
+const SCANS: u8 = 8;
+
+// How many slots a turn sweeps.
+const SWEPT: u32 = 64;
+
+// Asks the gate.
+pub(crate) fn ask<G: Gate>(gate: &G, past: &mut Snapshot<Past>, node: u8, turn: u32, stage: Stage)
+    ensures { Adds (at node turn stage) past.old.value past.new.value }
+{
+    let point = Point { node, turn, stage };
+    gate.at(point);
+    note(past, Call::At(point));
+}
+
+// Takes in what is there from another node, and says whether it was a new message.
+fn take<R: Wait, S: Site>(rt: &R, site: &S, past: &mut Snapshot<Past>, from: u8) -> bool
+    ensures { Adds (call.PumpIn from result) past.old.value past.new.value }
+{
+    let received = match site.pump_in(rt, from) {
+        Ok(Inbound::Event(Answer::Received)) => true,
+        Ok(_) | Err(_) => false,
+    };
+    note(past, Call::PumpIn { from, received });
+    received
+}
+
+// Scans an object, and says whether there was one.
+fn scan<R: Wait, S: Site>(rt: &R, site: &S, past: &mut Snapshot<Past>) -> bool
+    ensures { Adds (call.Scan result) past.old.value past.new.value }
+{
+    let scanned = site.act(rt, Event::Scan).is_ok();
+    note(past, Call::Scan { scanned });
+    scanned
+}
+
+// Passes the token on, if it may be.
+fn pass<R: Wait, S: Site>(rt: &R, site: &S, past: &mut Snapshot<Past>)
+    ensures { Adds call.Pass past.old.value past.new.value }
+{
+    let _ = site.act(rt, Event::Pass);
+    note(past, Call::Pass);
+}
+
+// Sweeps slots, if it is time, and says how many objects it freed.
+fn sweep<R: Wait, S: Site>(rt: &R, site: &S, past: &mut Snapshot<Past>, count: u32) -> u32
+    ensures { Adds (call.Sweep count result) past.old.value past.new.value }
+{
+    let freed = match site.act(rt, Event::Sweep { count }) {
+        Ok(Answer::Freed { count, .. }) => count,
+        Ok(_) | Err(_) => 0,
+    };
+    note(past, Call::Sweep { count, freed });
+    freed
+}
+
+// Asks whether something is unsaved.
+fn ask_unsaved<R: Wait, S: Site>(rt: &R, site: &S, past: &mut Snapshot<Past>) -> bool
+    ensures { Adds (call.Unsaved result) past.old.value past.new.value }
+{
+    let unsaved = site.unsaved(rt);
+    note(past, Call::Unsaved { unsaved });
+    unsaved
+}
+
+fn save<R: Wait, S: Site>(rt: &R, site: &S, past: &mut Snapshot<Past>)
+    ensures { Adds call.Save past.old.value past.new.value }
+{
+    let _ = site.save(rt);
+    note(past, Call::Save);
+}
+
+// Sends a frame to another node, if there is room.
+fn send<R: Wait, S: Site>(rt: &R, site: &S, past: &mut Snapshot<Past>, to: u8)
+    ensures { Adds (call.PumpOut to) past.old.value past.new.value }
+{
+    let _ = site.pump_out(rt, to);
+    note(past, Call::PumpOut { to });
+}
+
+fn show<R: Wait, S: Site>(rt: &R, site: &S, past: &mut Snapshot<Past>)
+    ensures { Adds call.Raise past.old.value past.new.value }
+{
+    let _ = site.raise(rt);
+    note(past, Call::Raise);
+}
+
+// Takes in a frame of each other node, ascending, and says how many were new messages.
+pub(crate) fn take_in<R: Wait, S: Site>(
+    rt: &R,
+    site: &S,
+    past: &mut Snapshot<Past>,
+    node: u8,
+    nodes: u8,
+) -> u8
+    ensures asked { asked past.new.value ≡ asked past.old.value ++ takes node nodes }
+    ensures received { received_in past.new.value ≡ received_in past.old.value + result }
+    ensures freed { freed_in past.new.value ≡ freed_in past.old.value }
+{
+    let mut received = 0;
+    for from in 0..nodes {
+        if from != node && take(rt, site, past, from) {
+            received += 1;
+        }
+    }
+    received
+}
+
+// Scans objects until that is refused, but at most 8.
+fn scan_some<R: Wait, S: Site>(rt: &R, site: &S, past: &mut Snapshot<Past>)
+    ensures asked { (n : ℕ) × (n ≤ 8)
+        × (asked past.new.value ≡ asked past.old.value ++ scans n) }
+    ensures received { received_in past.new.value ≡ received_in past.old.value }
+    ensures freed { freed_in past.new.value ≡ freed_in past.old.value }
+{
+    for _place in 0..SCANS {
+        if !scan(rt, site, past) {
+            return;
+        }
+    }
+}
+
+// Scans, passes the token on and sweeps, and says how many objects were freed.
+pub(crate) fn collect<R: Wait, S: Site>(rt: &R, site: &S, past: &mut Snapshot<Past>) -> u32
+    ensures asked { (n : ℕ) × (n ≤ 8)
+        × (asked past.new.value ≡ asked past.old.value ++ collects n) }
+    ensures received { received_in past.new.value ≡ received_in past.old.value }
+    ensures freed { freed_in past.new.value ≡ freed_in past.old.value + result }
+{
+    scan_some(rt, site, past);
+    pass(rt, site, past);
+    sweep(rt, site, past, SWEPT)
+}
+
+// Saves the node, where something is unsaved.
+pub(crate) fn save_unsaved<R: Wait, S: Site>(rt: &R, site: &S, past: &mut Snapshot<Past>)
+    ensures asked { (b : Bool) × (asked past.new.value ≡ asked past.old.value ++ saves b) }
+    ensures received { received_in past.new.value ≡ received_in past.old.value }
+    ensures freed { freed_in past.new.value ≡ freed_in past.old.value }
+{
+    if ask_unsaved(rt, site, past) {
+        save(rt, site, past);
+    }
+}
+
+// Sends a frame to each other node, ascending.
+pub(crate) fn send_out<R: Wait, S: Site>(
+    rt: &R,
+    site: &S,
+    past: &mut Snapshot<Past>,
+    node: u8,
+    nodes: u8,
+)
+    ensures asked { asked past.new.value ≡ asked past.old.value ++ sends node nodes }
+    ensures received { received_in past.new.value ≡ received_in past.old.value }
+    ensures freed { freed_in past.new.value ≡ freed_in past.old.value }
+{
+    for to in 0..nodes {
+        if to != node {
+            send(rt, site, past, to);
+        }
+    }
+}
+
+// Shows what ended on the board, at node 0.
+pub(crate) fn raise<R: Wait, S: Site>(rt: &R, site: &S, past: &mut Snapshot<Past>, node: u8)
+    ensures asked { asked past.new.value ≡ asked past.old.value ++ raises node }
+    ensures received { received_in past.new.value ≡ received_in past.old.value }
+    ensures freed { freed_in past.new.value ≡ freed_in past.old.value }
+{
+    if node == 0 {
+        show(rt, site, past);
+    }
+}
