@@ -1,5 +1,6 @@
 -- The theorems on lists of steps, of what cells do.
-use Rattle.std.proofs.Common.{◌≡◌, ◌⊎◌, ℕ, ◌+◌, ◌<◌, Bool, true, false, List, ◌++◌, map, length, Ok, Err, refl, sym, ap, ◌∙◌, subst}
+use Rattle.std.proofs.Common.{◌≡◌, ◌⊎◌, ℕ, ◌+◌, ◌<◌, Bool, true, false, List, [], ◌++◌, map, length, Ok, Err, refl, sym, ap, ◌∙◌, subst}
+use Rattle.ids.specs.Limits.{IsShape, Shaped}
 use Rattle.ids.specs.declared.names.Ref.{Ref}
 use Rattle.ids.specs.declared.refusal.Refusal.{Refusal}
 use Rattle.ids.specs.declared.refusal.Refusal.TheVariants.{LinkSpent, OutOfOrder}
@@ -31,6 +32,10 @@ onward : (w : World) (log : List Step) (r : IsReached w)
     → run (new_world r.shape) (r.steps ++ log) ≡ run w log
 onward w log r =
     run-append (new_world r.shape) r.steps log ∙ ap (λ (x : World). run x log) (sym r.by)
+
+pub new-reached : (shape : Shaped) → IsShape shape → IsReached (new_world shape)
+new-reached shape limits =
+    record { shape = shape; limits = limits; steps = []; by = refl }
 
 -- ---- Sweeps
 

@@ -24,6 +24,7 @@ ghost use Rattle.wire.specs.Readers.{
   inbox,
   outbox,
   raised_cycle,
+  raised_opening,
   IsRaisedOf,
   seat_node,
   width,
@@ -138,6 +139,7 @@ impl Desk {
         ensures cycle { raised_cycle result
             ≡ (known self.old.seat).pair.saved.local.phases.ended }
         ensures of { IsRaisedOf wire.now result }
+        ensures opening { raised_opening result ≡ (known self.old.seat).opening }
         ensures known { known self.new.seat
             ≡ raises (known self.old.seat).pair.saved.local.phases.ended (known self.old.seat) }
         ensures node { self.new.node ≡ self.old.node }

@@ -72,7 +72,11 @@ module _ {S : Type 0} (bytes : S → List ℕ) (opening : World) where
               });
           no_dealer = λ d. (let never : ◌≡◌ {A = Role} node dealer = sym role ∙ d in absurd cc);
         }),
-        (refl, refl),
+        (
+          refl,
+          refl,
+          subst (λ (o : World). HasEnded o k) (sym ok.opening_is) (h.log, h.events, saved),
+        ),
       )
 
   look-at : (slots id : ℕ) (me : Sat) → me.0.role ≡ watch

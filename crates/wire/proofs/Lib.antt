@@ -11,6 +11,7 @@ pub mod CountSteps
 pub mod BoardSteps
 pub mod DealSteps
 pub mod Sitting
+pub mod Ended
 pub mod Numbers
 pub mod Rows
 pub mod NewWires

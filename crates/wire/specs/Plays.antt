@@ -86,6 +86,9 @@ abbrev pub HasEnded : World → ℕ → Type 0
 HasEnded opening number =
     (log : List model.Step) × AreEvents opening log × (number ≤ ended_of (run opening log))
 
+abbrev pub WasEnded : World → ℕ → Type 0
+WasEnded opening number = ∥ HasEnded opening number ∥₁
+
 -- ---- What a step tells
 
 -- the seat neither fills nor empties the mailbox
@@ -128,7 +131,8 @@ module _ {S : Type 0} where
   ticked e q st m r m' = (m'.0 ≡ ticks e q m.0) × (m'.1 ≡ m.1) × Enters e m.0 r m'.0
 
   abbrev pub raised : Step S → Me S Known → ℕ → Me S Known → Type 0
-  raised st m r m' = (m'.0 ≡ raises st.first m.0) × (m'.1 ≡ m.1)
+  raised st m r m' =
+      (m'.0 ≡ raises st.first m.0) × (m'.1 ≡ m.1) × HasEnded m.0.opening st.first
 
   abbrev pub looked : Step S → Me S Known → ℕ → Me S Known → Type 0
   looked st m r m' =

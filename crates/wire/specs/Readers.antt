@@ -67,6 +67,10 @@ IsTakenOf s t = (t.of.value.table_id ≡ s.seat.table_id) × (t.of.value.id ≡ 
 abbrev pub raised_cycle : Raised → ℕ
 raised_cycle r = r.cycle.number
 
+-- the world with which the wire was made on whose board it was raised
+abbrev pub raised_opening : Raised → World
+raised_opening r = r.of.value.me.0.opening
+
 abbrev pub IsRaisedOf : Wire → Raised → Type 0
 IsRaisedOf w r = r.of.value.table_id ≡ w.table.shared.table_id
 

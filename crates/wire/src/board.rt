@@ -1,12 +1,13 @@
 ghost use Rattle.std.specs.Prelude.{◌≡◌, ◌≤◌, max};
 ghost use Rattle.wire.specs.Views.{raises};
-ghost use Rattle.wire.specs.Plays.{HasEnded};
+ghost use Rattle.wire.specs.Plays.{HasEnded, WasEnded};
 ghost use Rattle.wire.specs.Readers.{
   known,
   seat_node,
   IsSeatOf,
   IsSame,
   raised_cycle,
+  raised_opening,
   IsRaisedOf,
   IsWatchOf,
   IsSameWatch,
@@ -31,6 +32,8 @@ impl Wire {
         ensures same { IsSame seat.old seat.new }
         ensures raised { known seat.new ≡ raises cycle.number (known seat.old) }
         ensures cycle { (raised_cycle result ≡ cycle.number) × IsRaisedOf self.now result }
+        ensures opening { raised_opening result ≡ (known seat.old).opening }
+        ensures was_ended { WasEnded (known seat.old).opening cycle.number }
     {
         let board = self.nodes * self.nodes + 1;
         self.table
@@ -44,6 +47,7 @@ impl Wire {
 
     /// The last cycle that the watch knows node 0 to have ended: the one on the board, or a later
     /// one that the watch was told; one load. It is never earlier than what the watch saw before.
+    /// Node 0 had ended it, and was saved so, where that is so of what the watch was told.
     pub fn look(&self, watch: &mut Watch) -> Cycle
         requires wire { IsWatchOf self.now watch.old }
         ensures same { IsSameWatch watch.old watch.new }
@@ -51,6 +55,9 @@ impl Wire {
         ensures heard { heard watch.new ≡ heard watch.old }
         ensures later { loaded watch.old ≤ loaded watch.new }
         ensures ended { HasEnded (watch_opening watch.old) (loaded watch.new) }
+        ensures opening { watch_opening watch.new ≡ watch_opening watch.old }
+        ensures told { WasEnded (watch_opening watch.old) (heard watch.old)
+            → WasEnded (watch_opening watch.old) result.number }
     {
         let board = self.nodes * self.nodes + 1;
         let number = self.table.shared.load::<Looks>(&mut watch.seat, board);
@@ -69,6 +76,10 @@ impl Watch {
         ensures same { IsSameWatch self.old self.new }
         ensures loaded { loaded self.new ≡ loaded self.old }
         ensures heard { heard self.new ≡ max (heard self.old) (raised_cycle raised.now) }
+        ensures opening { watch_opening self.new ≡ watch_opening self.old }
+        ensures told { raised_opening raised.now ≡ watch_opening self.old
+            → WasEnded (watch_opening self.old) (heard self.old)
+            → WasEnded (watch_opening self.old) (heard self.new) }
     {
         self.heard = self.heard.max(raised.cycle);
     }

@@ -1,6 +1,7 @@
 // What threads hold of a wire.
 ghost use Rattle.std.specs.Prelude.{◌≡◌, ◌+◌, ◌*◌, ◌≤◌, length, vec_capacity};
 ghost use Rattle.ids.specs.declared.limits.TheConstants.{GREATEST_NODES};
+ghost use Rattle.wire.specs.Plays.{WasEnded};
 ghost use Rattle.wire.specs.Rule.{nodes_of};
 ghost use Rattle.wire.specs.Seated.{Sits, IsWatching};
 
@@ -62,9 +63,11 @@ pub struct Taken {
     pub(crate) of: Snapshot<Seat<Vec<u8>, View>>,
 }
 
-/// A cycle that was raised on a wire's board, which a [`Watch`] may hear of.
+/// A cycle that was raised on a wire's board, which a [`Watch`] may hear of. Node 0 had ended it, and
+/// was saved so.
 #[derive(Drop)]
 pub struct Raised {
     pub(crate) cycle: Cycle,
     pub(crate) of: Snapshot<Seat<Vec<u8>, View>>,
+    ghost ended: { WasEnded of.value.me.0.opening cycle.number },
 }

@@ -28,6 +28,7 @@ ghost use Rattle.wire.specs.Views.{raises};
 ghost use Rattle.wire.specs.Readers.{
   known,
   raised_cycle,
+  raised_opening,
   seat_node,
   IsRaisedOf,
   IsSame,
@@ -125,6 +126,8 @@ impl<D: Disk> Cell<D> {
             × (known self.new.desk.seat
             ≡ raises (known self.old.desk.seat).pair.saved.local.phases.ended
             (known self.old.desk.seat))) }
+        ensures opening { IfOk result (λ r.
+            raised_opening r ≡ (known self.old.desk.seat).opening) }
         ensures closed { IsErrOf result Refusal.Closed ↔ (self.old.shelf.ready ≡ false) }
         ensures director { IfErr result (λ e. e ≢ Refusal.Closed
             → (e ≡ Refusal.NotDirector) × (seat_node self.old.desk.seat ≢ 0)) }

@@ -1,5 +1,8 @@
-use Rattle.cell.proofs.Composed.{none-refused-in-turn, sweeps-free-none-reachable}
+use Rattle.cell.proofs.Composed.{new-reached, none-refused-in-turn, sweeps-free-none-reachable}
 use Rattle.cell.proofs.headline.laws.Goals as goal
+
+pub returns-clause-new : goal.returns-clause-new
+returns-clause-new c = new-reached
 
 pub returns-clause-frees_none_reachable : goal.returns-clause-frees_none_reachable
 returns-clause-frees_none_reachable c = sweeps-free-none-reachable
