@@ -1,8 +1,10 @@
 //! Nodes as their disks hold them.
-ghost use Rattle.std.specs.Prelude.{◌≡◌, ◌++◌, [], ◌∷◌, true, IfOk, IsTrue, OnOk, length};
+ghost use Rattle.std.specs.Prelude.{◌≡◌, ◌≢◌, ◌++◌, [], ◌∷◌, true, IfOk, IsErrOf, IsTrue, OnOk};
+ghost use Rattle.std.specs.Prelude.{length, vec_len};
 ghost use Rattle.disk.specs.Areas.{Areas};
 ghost use Rattle.cell.specs.Disks.{OpensTo};
 ghost use Rattle.supervisor.specs.Opened.{AreFound, IsNodeOf};
+ghost use Rattle.supervisor.specs.declared.fault.OpenFault.TheVariants as fault;
 
 use crate::fault::OpenFault;
 use disk::{Disk, Shelf, is_blank};
@@ -106,6 +108,7 @@ pub(crate) fn gather<D: Disk + Drop>(
     shape: Shape,
     mut disks: Vec<D>,
 ) -> Result<(Vec<Node>, Vec<Shelf<D>>), OpenFault>
+    ensures disks { vec_len disks ≢ shape.nodes → IsErrOf result fault.Disks }
     ensures count { IfOk result (λ r. length r.0.items ≡ shape.nodes) }
     ensures found { IfOk result (λ r.
         AreFound (λ n s. (s.ready ≡ true) × OpensTo n (D.seen s.disk))

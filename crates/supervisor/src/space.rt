@@ -1,12 +1,13 @@
 //! A space of nodes on their disks, and its workers.
-ghost use Rattle.std.specs.Prelude.{◌≡◌, ◌≤◌, ◌<◌, ◌↔◌, ◌⊎◌, false, true, IfErr, IfOk, IfSome};
-ghost use Rattle.std.specs.Prelude.{IsSome, OnErr, OnOk, is_some, max, vec_len};
+ghost use Rattle.std.specs.Prelude.{◌≡◌, ◌≤◌, ◌<◌, ◌≢◌, ◌↔◌, ◌⊎◌, false, true, IfErr, IfOk, IfSome};
+ghost use Rattle.std.specs.Prelude.{IsErrOf, IsSome, OnErr, OnOk, is_some, max, vec_len};
 ghost use Rattle.std.specs.Arc.{arc_value};
 ghost use Rattle.std.specs.List.Sorted.{IsNonDecreasingBy};
 ghost use Rattle.ids.specs.declared.refusal.Refusal.TheVariants as refusal;
 ghost use Rattle.wire.specs.Plays.{HasEnded};
 ghost use Rattle.wire.specs.Readers.{heard, loaded, watch_opening, IsSameWatch, IsWatchOf};
 ghost use Rattle.supervisor.specs.Opened.{AreWatches};
+ghost use Rattle.supervisor.specs.declared.fault.OpenFault.TheVariants as fault;
 
 use crate::cells::open_cells;
 use crate::config::Config;
@@ -46,6 +47,7 @@ impl<D: Disk + Drop> Space<D> {
     /// another shape or number; `Refused` Disk where a device failed, BadImage where a disk holds
     /// no node, Memory. All disks are then given up.
     pub fn open(alloc: Global, config: &Config, disks: Vec<D>) -> Result<Space<D>, OpenFault>
+        ensures disks { vec_len disks ≢ config.now.shape.nodes → IsErrOf result fault.Disks }
         ensures nodes { IfOk result (λ s. s.plan.nodes ≡ config.now.shape.nodes) }
         ensures turns { IfOk result (λ s. s.plan.turns ≡ config.now.turns) }
         ensures fresh { IfOk result (λ s. is_some s.team ≡ false) }
