@@ -7,7 +7,6 @@ use Rattle.model.specs.declared.step.Step.{Step}
 use Rattle.model.specs.declared.step.Step.TheVariants as step
 use Rattle.model.specs.Steps.{is_own}
 use Rattle.model.specs.World.{is_own_step}
-use Rattle.markring.specs.declared.line.Line.{Line}
 use Rattle.markring.specs.declared.line.Line.TheVariants as line
 use Rattle.markring.specs.Grammar.{Number, acted, alone, command_of, delivery_of, hand_of, is_own_line, line_of, node_line_of, of_three, of_two, space_of, stepped, u16_of, u32_of, u64_of, u8_of, with_none, with_one, with_three, with_two}
 

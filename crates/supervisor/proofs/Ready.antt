@@ -1,5 +1,5 @@
 -- A wire between nodes that lie on shelves, and their seats.
-use Rattle.std.proofs.Common.{◌≡◌, ◌<◌, ◌≤◌, ◌+◌, ℕ, List, ◌++◌, Some, length, length-append, map, drop, get_or, replicate, slice_get, refl, sym, ap, ◌∙◌, subst, arith}
+use Rattle.std.proofs.Common.{◌≡◌, ◌<◌, ◌+◌, ℕ, List, Some, length, length-append, drop, get_or, replicate, slice_get, refl, sym, ap, ◌∙◌, subst, arith}
 use Rattle.std.proofs.lemmas.List.{length-drop, length-map, length-replicate, get_or-map}
 use Rattle.std.proofs.Math.ListN.{get_or-map as get_or-mapped}
 use Rattle.std.proofs.Math.Seq.{drop-append_seam}
@@ -10,7 +10,7 @@ use Rattle.model.specs.State.{NodeState, no_node, node_at, sent_to}
 use Rattle.model.specs.View.{Link, NodeView, Shows, ShowsSent, all_kept, kept_view, link_to, no_link, used}
 use Rattle.model.proofs.Lookups.{slice_get-drop}
 use Rattle.wire.specs.Views.{Known, Pair, pair_at}
-use Rattle.wire.specs.Readers.{known, opened_with, seat_node, AreOpened, IsMade, IsSavedAs, IsSeated}
+use Rattle.wire.specs.Readers.{known, opened_with, AreOpened, IsMade, IsSavedAs, IsSeated}
 use Rattle.wire.specs.declared.seats.Wire.{Wire}
 use Rattle.wire.specs.declared.seats.NodeSeat.{NodeSeat}
 use Rattle.wire.specs.declared.seats.Watch.{Watch}

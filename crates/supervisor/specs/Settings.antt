@@ -1,5 +1,5 @@
 -- What a TOML document says of a space.
-use Rattle.std.specs.Prelude.{ℕ, ℤ, pos, ◌+◌, ◌==◌, ◌&&◌, nat_le, suc, zero, cond, List, Option, Some, None, codes, is_some, option_and_then, option_map, string_bytes}
+use Rattle.std.specs.Prelude.{ℕ, ℤ, pos, ◌==◌, ◌&&◌, nat_le, suc, cond, List, Option, Some, None, codes, is_some, option_and_then, option_map, string_bytes}
 use Rattle.ids.specs.Limits.{Shaped}
 use Rattle.ids.specs.declared.limits.TheConstants.{LEAST_NODES, GREATEST_NODES}
 use Rattle.ids.specs.declared.limits.TheConstants.{GREATEST_REGISTERS, GREATEST_SLOTS}
