@@ -18,6 +18,7 @@ mod reaching;
 mod shelves;
 mod threads;
 mod traces;
+mod turns;
 
 use case::{Line, Stop, read, read_lines};
 use nodes::shape_of;
@@ -27,6 +28,7 @@ use std::fs::File;
 use std::io;
 use std::process::ExitCode;
 use std::rt::Files;
+use std::sync::Wait;
 use std::thread::Threads;
 
 /// Output or memory was refused.
@@ -43,7 +45,7 @@ fn main(rt: HostRuntime) -> ExitCode {
 }
 
 // Runs the case on standard input, and prints what it answers.
-fn run<R: Files<File = File> + Input + Print + Threads + Sync + AllocGlobal>(
+fn run<R: Files<File = File> + Input + Print + Threads + Wait + Sync + AllocGlobal>(
     rt: &R,
 ) -> io::Result<u8> {
     let alloc = rt.alloc();
@@ -66,7 +68,7 @@ fn run<R: Files<File = File> + Input + Print + Threads + Sync + AllocGlobal>(
 }
 
 // Does what the lines of a case say.
-fn take_case<R: Files<File = File> + Threads + Sync + AllocGlobal>(
+fn take_case<R: Files<File = File> + Threads + Wait + Sync + AllocGlobal>(
     rt: &R,
     alloc: Global,
     lines: &[Line<'_>],
@@ -78,6 +80,7 @@ fn take_case<R: Files<File = File> + Threads + Sync + AllocGlobal>(
     match out.at(first) {
         ["files"] => files::run(rt, lines, out),
         ["threads"] => threads::run(rt, alloc, lines, out),
+        ["turns"] => turns::run(rt, alloc, lines, out),
         ["cells", nodes, registers, slots] => {
             cells::run(alloc, shape_of(nodes, registers, slots)?, lines, out)
         }
