@@ -144,7 +144,8 @@ module _ (s : Space) (i : ℕ) where
   checks nodes (event.Clear object place) =
       own_tests i (s.desk i) object (has_that (object_in object) place)
   checks nodes (event.Word object) = own_tests i (s.desk i) object (is_some (object_in object))
-  checks nodes (event.SetWord object word) = own_tests i (s.desk i) object (is_some (object_in object))
+  checks nodes (event.SetWord object word) =
+      own_tests i (s.desk i) object (is_some (object_in object))
   checks nodes (event.Give to label register) =
       (nat_lt to nodes, NoNode) ∷ (not (to == i), SelfSend) ∷ register_tests (s.desk i) register
   checks nodes (event.Accept register) = accept_tests (s.desk i) register
