@@ -6,3 +6,4 @@ pub mod Own
 pub mod Printing
 pub mod Replies
 pub mod Shapes
+pub mod Files

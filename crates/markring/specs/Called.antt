@@ -1,5 +1,5 @@
 -- The words with which the program is called: what they say, and why they are no command.
-use Rattle.std.specs.Prelude.{◌≡◌, ◌≢◌, ⊤, Bool, true, false, ◌==◌, not, ◌&&◌, if◌then◌else◌, ℕ, List, [], ◌∷◌, Option, Some, None, Result, Ok, Err, option_map, codes}
+use Rattle.std.specs.Prelude.{◌≡◌, ◌≢◌, ⊤, Bool, true, false, ◌==◌, not, ◌&&◌, if◌then◌else◌, ℕ, List, [], ◌∷◌, Option, Some, None, Result, Ok, Err, option_and_then, option_map, codes}
 use Rattle.std.specs.List.{list_all}
 use Rattle.std.specs.Option.{option_map_or}
 use Rattle.std.specs.Str.{bytes_eq}
@@ -47,12 +47,38 @@ is_dashed (b ∷ bs) = b == 45
 abbrev pub has_no_dash : List (List ℕ) → Bool
 has_no_dash words = list_all (λ word. not (is_dashed word)) words
 
+-- What stands where options may, but for the first `--`, which ends them; none where a word before
+-- that begins with a dash.
+abbrev pub operands : List (List ℕ) → Option (List (List ℕ))
+operands [] = Some []
+operands (word ∷ words) =
+    if bytes_eq word (codes "--") then Some words
+    else (if is_dashed word then None else option_map (λ more. word ∷ more) (operands words))
+
+-- none, one and two of them
+abbrev pub none_of : List (List ℕ) → Option (List (List ℕ))
+none_of [] = Some []
+none_of words = None
+
+abbrev pub one_of : List (List ℕ) → Option (List ℕ)
+one_of [] = None
+one_of (file ∷ words) = option_map (λ none. file) (none_of words)
+
+abbrev pub run_from : List (List ℕ) → Option Called
+run_from [] = None
+run_from (config ∷ words) = option_map (λ script. run config script) (one_of words)
+
 -- `run` and its two files
 abbrev pub run_of : List (List ℕ) → Option Called
-run_of (name ∷ config ∷ script ∷ []) =
-    if bytes_eq name (codes "run") && (not (is_dashed config) && not (is_dashed script))
-    then Some (run config script) else None
-run_of words = None
+run_of [] = None
+run_of (name ∷ words) =
+    if bytes_eq name (codes "run") then option_and_then run_from (operands words) else None
+
+-- what is said is read
+abbrev pub IsRead : Option Called → Result Command WordsError → Type 0
+IsRead None result = ⊤
+IsRead (Some c) (Ok command) = c ≡ call_of command
+IsRead (Some c) (Err e) = ⊥
 
 -- what the words after the program's name say, where none begins with a dash
 abbrev pub asked_of : List (List ℕ) → Option Called

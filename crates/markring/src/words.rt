@@ -1,12 +1,13 @@
 //! The words with which the program is called.
-ghost use Rattle.std.specs.Prelude.{◌≡◌, ◌<◌, ◌≤◌, ◌++◌, ◌∷◌, [], false, None, Ok, IfOk, OnOk, IsTrue, codes, drop, length, map, option_map, string_bytes};
+ghost use Rattle.std.specs.Prelude.{◌≡◌, ◌<◌, ◌≤◌, ◌++◌, ◌∷◌, [], false, None, Ok, IfOk, OnOk, IsTrue, codes, drop, is_some, length, map, option_and_then, option_map, string_bytes};
 ghost use Rattle.std.specs.Io.KnownBytes.{Appends};
+ghost use Rattle.std.specs.Str.{bytes_eq};
 ghost use Rattle.std.specs.IoError.{error_kind};
 ghost use Rattle.clap.specs.Words.{app_of, kind_of, rule_of, subcommand_rows_of, with_subcommand};
 ghost use Rattle.clap.specs.declared.error.ErrorKind.TheVariants as parse;
 ghost use Rattle.std.specs.declared.io.ErrorKind.TheVariants as io;
 ghost use Rattle.markring.specs.declared.words.WordsError.TheVariants.{OutOfMemory};
-ghost use Rattle.markring.specs.Called.{Reads, TellsMemory, asked_of, call_in, call_of, called_of, has_no_dash, is_dashed, program, run_of, with_one_word};
+ghost use Rattle.markring.specs.Called.{IsRead, Reads, TellsMemory, asked_of, call_in, call_of, called_of, has_no_dash, is_dashed, none_of, one_of, operands, program, run, run_from, run_of, with_one_word};
 
 use crate::script::{REFUSED, UNREADABLE};
 use clap::error::ErrorKind;
@@ -67,10 +68,11 @@ impl From<AllocError> for WordsError {
 
 impl<'a> Command<'a> {
     /// The command that the words say, of which the first is the program's name. No words beside it
-    /// say `sim`. A word that begins with a dash is read as `clap` reads it; with one, no words say
-    /// `run`.
+    /// say `sim`. After `run` a `--` ends options, and no word before it may begin with a dash; after
+    /// other words such a word is read as `clap` reads it.
     pub fn read(alloc: Global, words: &'a [String]) -> Result<Command<'a>, WordsError>
         ensures alone { length words.now ≤ 1 → result ≡ Ok (Command.Sim None) }
+        ensures run { IsRead (run_of (drop 1 (map string_bytes words.now))) result }
         ensures reads { let said = drop 1 (map string_bytes words.now) in
             IsTrue (has_no_dash said) → Reads (asked_of said) result }
     {
@@ -94,19 +96,80 @@ impl<'a> Command<'a> {
     }
 }
 
-/// The command `run`, if words say it and none of them begins with a dash.
+/// The command `run`, if words say it.
 fn run_in<'a>(words: &'a [String]) -> Option<Command<'a>>
     ensures { option_map call_of result ≡ run_of (drop 1 (map string_bytes words.now)) }
 {
-    let [_, name, config, script] = words else {
+    let [_, name, words @ ..] = words else {
         return None;
     };
-    let (config, script) = (config.as_str(), script.as_str());
-    if name.as_str() == "run" && !is_dashed(config) && !is_dashed(script) {
-        Some(Command::Run { config, script })
-    } else {
-        None
+    if name.as_str() != "run" {
+        return None;
     }
+    let (config, script) = files_in(words)?;
+    Some(Command::Run { config, script })
+}
+
+/// The two files that words say. A `--` ends options, and is none of them.
+#[tactic(auto, using(crate::proofs::Files::two_more))]
+fn files_in<'a>(words: &'a [String]) -> Option<(&'a str, &'a str)>
+    ensures { option_map (λ files. run files.0.now files.1.now) result
+        ≡ option_and_then run_from (operands (map string_bytes words.now)) }
+{
+    let [first, words @ ..] = words else {
+        return None;
+    };
+    let first = first.as_str();
+    if is_end(first) {
+        return match words {
+            [config, script] => Some((config.as_str(), script.as_str())),
+            _ => None,
+        };
+    }
+    if is_dashed(first) {
+        return None;
+    }
+    Some((first, file_in(words)?))
+}
+
+/// The file that words say, if it is one alone.
+#[tactic(auto, using(crate::proofs::Files::one_more))]
+fn file_in<'a>(words: &'a [String]) -> Option<&'a str>
+    ensures { option_map (λ file. file.now) result
+        ≡ option_and_then one_of (operands (map string_bytes words.now)) }
+{
+    let [first, words @ ..] = words else {
+        return None;
+    };
+    let first = first.as_str();
+    if is_end(first) {
+        return match words {
+            [file] => Some(file.as_str()),
+            _ => None,
+        };
+    }
+    if is_dashed(first) || !is_over(words) {
+        return None;
+    }
+    Some(first)
+}
+
+/// Whether words say no file.
+#[tactic(auto, using(crate::proofs::Files::none_more))]
+fn is_over(words: &[String]) -> bool
+    ensures { result ≡ is_some (option_and_then none_of (operands (map string_bytes words.now))) }
+{
+    let [first, words @ ..] = words else {
+        return true;
+    };
+    is_end(first.as_str()) && words.is_empty()
+}
+
+/// Whether a word ends options.
+fn is_end(word: &str) -> bool
+    ensures { result ≡ bytes_eq word.now (codes "--") }
+{
+    word == "--"
 }
 
 /// Whether a word begins with a dash.
