@@ -7,3 +7,6 @@ pub mod Refusing
 pub mod NewCells
 pub mod Sent
 pub mod Composed
+pub mod Places
+pub mod OnShelves
+pub mod Ready

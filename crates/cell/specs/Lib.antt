@@ -5,3 +5,4 @@ pub mod Sending
 pub mod Pumping
 pub mod Names
 pub mod Laws
+pub mod Opened

@@ -1,4 +1,2 @@
 pub mod Keys
-pub mod Places
-pub mod Found
-pub mod Ready
+pub mod Seats

@@ -1,58 +1,39 @@
-//! Cells of nodes that lie on shelves, and the wire between them.
-ghost use Rattle.std.specs.Prelude.{◌≡◌, [], true, IfOk, length, vec_len};
+//! The cells of a space, shared by its threads.
+ghost use Rattle.std.specs.Prelude.{◌≡◌, ◌≢◌, IfErr, IfOk, IsErrOf, map, vec_len};
 ghost use Rattle.std.specs.Arc.{arc_value};
-ghost use Rattle.cell.specs.Desks.{IsAtSeat};
-ghost use Rattle.cell.specs.Disks.{OpensTo};
-ghost use Rattle.wire.specs.Readers.{IsMade, IsSeatOf};
-ghost use Rattle.model.specs.View.{NodeView, kept_view};
-ghost use Rattle.std.specs.Prelude.{ℕ, slice_get, Some};
-ghost use Rattle.supervisor.specs.Opened.{world_of, AreFound, AreReady, AreWatches};
+ghost use Rattle.ids.specs.declared.refusal.Refusal.TheVariants.{Memory};
+ghost use Rattle.wire.specs.Readers.{IsSeatOf};
+ghost use Rattle.supervisor.specs.Opened.{AreSeats, AreWatches};
+ghost use Rattle.supervisor.specs.declared.fault.OpenFault.TheVariants as fault;
 
-use cell::{Cell, Shared};
-use disk::{Disk, Shelf};
+use crate::fault::OpenFault;
+use cell::{Cell, Shared, Unopened};
+use disk::Disk;
 use ids::{Refusal, Shape};
-use node::Node;
 use std::alloc::Global;
 use std::sync::Arc;
-use wire::{NodeSeat, Watch, Wire};
+use wire::{Watch, Wire};
 
 /// How many watches a space hands out.
 pub const WATCHES: u8 = 16;
 
-// A wire between nodes all of whose messages count as saved.
-fn join_nodes(
-    alloc: Global,
-    shape: Shape,
-    nodes: &[Node],
-) -> Result<(Wire, Vec<NodeSeat>, Vec<Watch>), Refusal>
-    requires count { length nodes.now ≡ shape.nodes }
-    requires saved { (k : ℕ) (n : NodeView) → slice_get nodes.now k ≡ Some n → kept_view n ≡ n }
-    ensures { IfOk result (λ r. IsMade (world_of nodes.now) WATCHES r.0 r.1.items r.2.items) }
-{
-    Wire::new(alloc, shape, nodes, WATCHES)
-}
-
-// The shared cell of a node, with its seat and the shelf on which it lies.
+// A cell that threads share, with its wire.
 fn share<D: Disk + Drop>(
     alloc: Global,
     wire: &Arc<Wire>,
-    node: Node,
-    shelf: Shelf<D>,
-    seat: NodeSeat,
+    cell: Cell<D>,
 ) -> Result<Arc<Shared<D>>, Refusal>
-    requires sits { IsSeatOf (arc_value wire.now) seat }
-    requires stands { IsAtSeat node seat }
-    requires ready { shelf.ready ≡ true }
-    requires opens { OpensTo node (D.seen shelf.disk) }
+    requires { IsSeatOf (arc_value wire.now) cell.desk.seat }
+    ensures { IfErr result (λ e. e ≡ Memory) }
 {
-    let cell = Cell::new(alloc, node, shelf, seat)?;
     let shared = Shared::new(cell, same_wire(wire)?);
     Ok(Arc::new(alloc, shared)?)
 }
 
 // One more holder of the wire.
 fn same_wire(wire: &Arc<Wire>) -> Result<Arc<Wire>, Refusal>
-    ensures { IfOk result (λ w. arc_value w ≡ arc_value wire.now) }
+    ensures same { IfOk result (λ w. arc_value w ≡ arc_value wire.now) }
+    ensures refused { IfErr result (λ e. e ≡ Memory) }
 {
     match wire.clone() {
         Ok(wire) => Ok(wire),
@@ -60,43 +41,72 @@ fn same_wire(wire: &Arc<Wire>) -> Result<Arc<Wire>, Refusal>
     }
 }
 
-// The shared cells of nodes, in order, each with its seat and shelf.
+// The cells of a wire, in order, as threads share them.
 fn share_all<D: Disk + Drop>(
     alloc: Global,
     wire: &Arc<Wire>,
-    mut nodes: Vec<Node>,
-    mut shelves: Vec<Shelf<D>>,
-    mut seats: Vec<NodeSeat>,
+    mut cells: Vec<Cell<D>>,
 ) -> Result<Vec<Arc<Shared<D>>>, Refusal>
-    requires { AreReady (λ n s. (s.ready ≡ true) × OpensTo n (D.seen s.disk))
-        (arc_value wire.now) nodes.items shelves.items seats.items }
-    ensures { IfOk result (λ v. vec_len v ≡ vec_len nodes) }
+    requires { AreSeats (arc_value wire.now) (map (λ c. c.desk.seat) cells.items) }
+    ensures count { IfOk result (λ v. vec_len v ≡ vec_len cells) }
+    ensures refused { IfErr result (λ e. e ≡ Memory) }
 {
-    let mut cells = Vec::new(alloc);
-    for _ in 0..nodes.len() {
-        let node = nodes.remove(0);
-        let shelf = shelves.remove(0);
-        let seat = seats.remove(0);
-        cells.push(share(alloc, wire, node, shelf, seat)?)?;
+    let mut shared = Vec::new(alloc);
+    for _ in 0..cells.len() {
+        let cell = cells.remove(0);
+        shared.push(share(alloc, wire, cell)?)?;
     }
-    Ok(cells)
+    Ok(shared)
 }
 
-/// The wire between nodes that lie on their shelves, their cells in order, and the wire's watches.
+// The cells of a space on these disks, the wire between them, and the wire's watches.
+fn open_alone<D: Disk + Drop>(
+    alloc: Global,
+    shape: Shape,
+    disks: Vec<D>,
+) -> Result<(Wire, Vec<Cell<D>>, Vec<Watch>), OpenFault>
+    ensures disks { vec_len disks ≢ shape.nodes → IsErrOf result fault.Disks }
+    ensures count { IfOk result (λ r. vec_len r.1 ≡ shape.nodes) }
+    ensures seats { IfOk result (λ r. AreSeats r.0 (map (λ c. c.desk.seat) r.1.items)) }
+    ensures watches { IfOk result (λ r. AreWatches r.0 r.2.items) }
+{
+    match cell::open(alloc, shape, disks, WATCHES) {
+        Ok(opened) => Ok(opened),
+        Err(Unopened::Disks) => Err(OpenFault::Disks),
+        Err(Unopened::Refused(refusal)) => Err(OpenFault::Refused(refusal)),
+    }
+}
+
+/// The wire of a space on these disks, its cells in order, as threads share them, and the wire's
+/// watches. Refused as [`cell::open`]; all disks are then given up.
 pub(crate) fn open_cells<D: Disk + Drop>(
     alloc: Global,
     shape: Shape,
-    nodes: Vec<Node>,
-    shelves: Vec<Shelf<D>>,
-) -> Result<(Arc<Wire>, Vec<Arc<Shared<D>>>, Vec<Watch>), Refusal>
-    requires count { length nodes.items ≡ shape.nodes }
-    requires found { AreFound (λ n s. (s.ready ≡ true) × OpensTo n (D.seen s.disk))
-        shape nodes.items shelves.items }
+    disks: Vec<D>,
+) -> Result<(Arc<Wire>, Vec<Arc<Shared<D>>>, Vec<Watch>), OpenFault>
+    ensures disks { vec_len disks ≢ shape.nodes → IsErrOf result fault.Disks }
     ensures count { IfOk result (λ r. vec_len r.1 ≡ shape.nodes) }
     ensures watches { IfOk result (λ r. AreWatches (arc_value r.0) r.2.items) }
 {
-    let (wire, seats, watches) = join_nodes(alloc, shape, nodes.as_slice())?;
+    let (wire, cells, watches) = open_alone(alloc, shape, disks)?;
+    match share_on(alloc, wire, cells) {
+        Ok((wire, cells)) => Ok((wire, cells, watches)),
+        Err(refusal) => Err(OpenFault::Refused(refusal)),
+    }
+}
+
+// The same wire and cells, as threads share them.
+fn share_on<D: Disk + Drop>(
+    alloc: Global,
+    wire: Wire,
+    cells: Vec<Cell<D>>,
+) -> Result<(Arc<Wire>, Vec<Arc<Shared<D>>>), Refusal>
+    requires { AreSeats wire (map (λ c. c.desk.seat) cells.items) }
+    ensures wire { IfOk result (λ r. arc_value r.0 ≡ wire) }
+    ensures count { IfOk result (λ r. vec_len r.1 ≡ vec_len cells) }
+    ensures refused { IfErr result (λ e. e ≡ Memory) }
+{
     let wire = Arc::new(alloc, wire)?;
-    let cells = share_all(alloc, &wire, nodes, shelves, seats)?;
-    Ok((wire, cells, watches))
+    let shared = share_all(alloc, &wire, cells)?;
+    Ok((wire, shared))
 }

@@ -5,7 +5,6 @@
 mod cells;
 mod config;
 mod fault;
-mod nodes;
 mod space;
 mod team;
 

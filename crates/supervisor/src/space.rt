@@ -12,7 +12,6 @@ ghost use Rattle.supervisor.specs.declared.fault.OpenFault.TheVariants as fault;
 use crate::cells::open_cells;
 use crate::config::Config;
 use crate::fault::OpenFault;
-use crate::nodes::gather;
 use crate::team::{Plan, Team};
 use cell::Shared;
 use disk::Disk;
@@ -53,11 +52,7 @@ impl<D: Disk + Drop> Space<D> {
         ensures fresh { IfOk result (λ s. is_some s.team ≡ false) }
     {
         let shape = config.shape;
-        let (nodes, shelves) = gather(alloc, shape, disks)?;
-        let (wire, cells, watches) = match open_cells(alloc, shape, nodes, shelves) {
-            Ok(opened) => opened,
-            Err(refusal) => return Err(OpenFault::Refused(refusal)),
-        };
+        let (wire, cells, watches) = open_cells(alloc, shape, disks)?;
         Ok(Space {
             alloc,
             plan: Plan {

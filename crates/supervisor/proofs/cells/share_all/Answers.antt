@@ -1,20 +1,18 @@
 use Rattle.std.proofs.Common.{◌<◌, length, arith}
-use Rattle.supervisor.proofs.Ready.{first-ready, later-ready}
+use Rattle.std.specs.Arc.{arc_value}
+use Rattle.supervisor.proofs.Seats.{first-seat, later-seats}
 use Rattle.supervisor.proofs.cells.share_all.Goals as goal
 
 pub share-requires : goal.share-requires
 share-requires g c =
-    let some : 0 < length c.loop.nodes.items = omega arith in
-    let h = first-ready c.remove-node.result c.remove-shelf.result c.remove-seat.result
-    c.loop.invariant.ready some
-    (c.remove-node.ensures.value, c.remove-shelf.ensures.value, c.remove-seat.ensures.value) in
-    record { sits = h.sits; stands = h.stands; ready = h.lies.0; opens = h.lies.1 }
+    let some : 0 < length c.loop.cells.items = omega arith in
+    first-seat (λ y. y.desk.seat) (arc_value c.args.wire.now) _ c.remove-cell.result c.loop.invariant.seats some
+    c.remove-cell.ensures.value
 
 pub loop-preserved : goal.loop-preserved
 loop-preserved g c = record {
-  ready = later-ready _ _ _ c.loop.invariant.ready
-      (c.remove-node.ensures.items, c.remove-shelf.ensures.items, c.remove-seat.ensures.items);
-  left = omega (arith, c.loop.invariant.left, c.remove-node.ensures.len);
+  seats = later-seats (λ y. y.desk.seat) (arc_value c.args.wire.now) _ _ c.loop.invariant.seats c.remove-cell.ensures.items;
+  left = omega (arith, c.loop.invariant.left, c.remove-cell.ensures.len);
   all = c.loop.invariant.all;
   made = omega (arith, c.loop.invariant.made, c.in_ok-push.ensures.len);
 }

@@ -1,5 +1,5 @@
 use Rattle.cell.proofs.NewCells.{opens-new}
-use Rattle.supervisor.proofs.nodes.create_node.Goals as goal
+use Rattle.cell.proofs.finding.create_node.Goals as goal
 
 pub returns-in-Ok-create-clause-opens : goal.returns-in-Ok-create-clause-opens
 returns-in-Ok-create-clause-opens g c =

@@ -1,12 +1,15 @@
-use Rattle.std.proofs.Common.{◌≡◌, ◌+◌, vec_len, true, length}
+use Rattle.std.proofs.Common.{◌≡◌, ◌+◌, vec_len, true, length, drop}
 use Rattle.cell.specs.Disks.{OpensTo}
-use Rattle.supervisor.specs.Opened.{AreFound}
-use Rattle.supervisor.proofs.nodes.gather.Given as goal
+use Rattle.cell.specs.Opened.{AreBeside, AreFound, IsReadFrom}
+use Rattle.cell.proofs.finding.find.Given as goal
 
 abbrev pub invariant-loop-number : goal.invariant-loop-number
 invariant-loop-number g l = record {
   found : AreFound (λ n s. (s.ready ≡ true) × OpensTo n (g.D.Disk.seen s.disk)) l.shape
       l.nodes.items l.shelves.items;
   count : length l.nodes.items ≡ l.number;
+  rest : l.disks.items ≡ drop l.number l.fn.disks.items;
+  read : AreBeside (λ k d n. IsReadFrom l.shape k (g.D.Disk.seen d) n) l.fn.disks.items
+      l.nodes.items;
   left : vec_len l.disks + l.number ≡ l.shape.nodes;
 }

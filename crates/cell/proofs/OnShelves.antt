@@ -1,10 +1,14 @@
 -- Nodes as they lie on shelves, one after another.
-use Rattle.std.proofs.Common.{◌≡◌, ◌<◌, ℕ, List, [], ◌∷◌, ◌++◌, Some, length, length-append, slice_get, sym, subst, arith, ⊎_elim}
-use Rattle.std.proofs.lemmas.Option.{slice_get_within}
+use Rattle.std.proofs.Common.{◌≡◌, ◌<◌, ◌+◌, ◌↔◌, Bool, true, false, Result, Ok, Err, IfOk, IsTrue, ℕ, List, [], ◌∷◌, ◌++◌, Some, length, length-append, drop, get_or, slice_get, ap, ◌∙◌, sym, subst, arith, ⊎_elim}
+use Rattle.std.proofs.lemmas.List.{get_or-drop}
+use Rattle.std.proofs.lemmas.Option.{slice_get_within, get_or_from_slice_get}
 use Rattle.ids.specs.Limits.{Shaped}
 use Rattle.model.specs.View.{NodeView, kept_view}
-use Rattle.supervisor.specs.Opened.{IsNodeOf, AreFound}
-use Rattle.supervisor.proofs.Places.{some_at, pushed-at}
+use Rattle.cell.specs.Opened.{AreBeside, AreFound, IsNodeOf, IsReadFrom}
+use Rattle.disk.specs.Areas.{Areas}
+use Rattle.cell.specs.Disks.{OpensTo}
+use Rattle.cell.specs.declared.fault.Unopened.{Unopened}
+use Rattle.cell.proofs.Places.{some_at, pushed-at}
 
 module _ {S : Type 0} (Lies : NodeView → S → Type 0) (shape : Shaped) where
   -- one more node on its shelf
@@ -51,3 +55,31 @@ more-found {Lies = Lies} {shape = shape} {nodes = nodes} {shelves = shelves} ns 
     (subst (λ l. AreFound Lies shape l (shelves ++ s ∷ [])) (sym is.0)
     (next-found Lies shape nodes shelves n s h
     (subst (λ (i : ℕ). IsNodeOf shape i n) (sym count) it.0) it.1))
+
+-- one more node beside what it was read from, which is the first of the rest
+pub next-beside : {X : Type 0} (Is : ℕ → X → NodeView → Type 0) (xs : List X)
+    (nodes : List NodeView) (number : ℕ) (ns : List NodeView) (x : X) (n : NodeView)
+    → AreBeside Is xs nodes → length nodes ≡ number → x ≡ get_or (drop number xs) 0 x
+    → Is number x n → ns ≡ nodes ++ n ∷ [] → AreBeside Is xs ns
+next-beside Is xs nodes number ns x n h count first it is k y m there stands =
+    ⊎_elim (λ old. h k y m there old)
+    (λ new.
+    let at : number + 0 ≡ k = omega (arith, new.0, count) in
+    let same : x ≡ y =
+    first ∙ get_or-drop number xs 0 x ∙ ap (λ (i : ℕ). get_or xs i x) at
+    ∙ get_or_from_slice_get xs k y x there in
+    let last : number ≡ k = omega (arith, at) in
+    subst (λ (i : ℕ). Is i y m) last
+    (subst (λ z. Is number z m) same (subst (λ (v : NodeView). Is number x v) (sym new.1) it)))
+    (pushed-at nodes n k m (ap (λ (l : List NodeView). slice_get l k) (sym is) ∙ stands))
+
+-- what a disk holds that isn't blank
+pub read-held : {T : Type 0} (shape : Shaped) (own : ℕ) (seen now : Areas)
+    (result : Result (NodeView × T) Unopened) (blank : Bool) → blank ≡ false
+    → (IsTrue blank ↔ (seen.select ≡ [])) → now ≡ seen → IfOk result (λ r. OpensTo r.0 now)
+    → IfOk result (λ r. IsReadFrom shape own seen r.0)
+read-held shape own seen now (Ok r) blank is exact same opens = record {
+  blank = λ empty. (let never : ◌≡◌ {A = Bool} false true = sym is ∙ exact.1 empty in absurd cc);
+  held = λ _. subst (OpensTo r.0) same opens;
+}
+read-held shape own seen now (Err e) blank is exact same opens = opens

@@ -1,12 +1,13 @@
 -- A wire between nodes that lie on shelves, and their seats.
-use Rattle.std.proofs.Common.{◌≡◌, ◌<◌, ◌+◌, ℕ, List, Some, length, length-append, drop, get_or, replicate, slice_get, refl, sym, ap, ◌∙◌, subst, arith}
-use Rattle.std.proofs.lemmas.List.{length-drop, length-map, length-replicate, get_or-map}
+use Rattle.std.proofs.Common.{◌≡◌, ◌<◌, ◌+◌, ◌++◌, ◌∷◌, [], append_assoc, map, ℕ, List, Some, length, length-append, drop, get_or, replicate, slice_get, refl, sym, ap, ◌∙◌, subst, arith}
+use Rattle.std.proofs.lemmas.List.{length-drop, length-map, length-replicate, get_or-map, map-append}
 use Rattle.std.proofs.Math.ListN.{get_or-map as get_or-mapped}
 use Rattle.std.proofs.Math.Seq.{drop-append_seam}
 use Rattle.std.proofs.lemmas.Option.{slice_get_within, get_or_from_slice_get}
 use Rattle.ids.specs.Limits.{Shaped}
 use Rattle.msg.specs.declared.body.Message.{Message}
 use Rattle.model.specs.State.{NodeState, no_node, node_at, sent_to}
+use Rattle.model.specs.World.{World}
 use Rattle.model.specs.View.{Link, NodeView, Shows, ShowsSent, all_kept, kept_view, link_to, no_link, used}
 use Rattle.model.proofs.Lookups.{slice_get-drop}
 use Rattle.wire.specs.Views.{Known, Pair, pair_at}
@@ -16,7 +17,7 @@ use Rattle.wire.specs.declared.seats.NodeSeat.{NodeSeat}
 use Rattle.wire.specs.declared.seats.Watch.{Watch}
 use Rattle.wire.proofs.NewWires.{there}
 use Rattle.cell.specs.Desks.{IsAtSeat}
-use Rattle.supervisor.specs.Opened.{AreFound, AreReady, IsNodeOf, IsReady, no_message, sent_of, state_of, world_of}
+use Rattle.cell.specs.Opened.{AreFound, AreReady, IsNodeOf, IsReady, no_message, sent_of, state_of, world_of}
 
 -- ---- The states of nodes whose messages all are saved
 
@@ -75,60 +76,57 @@ opened shape nodes count kept = record {
 
 -- ---- Their seats
 
-at-seat : (shape : Shaped) (nodes : List NodeView) (k : ℕ) (n : NodeView) (wire : Wire)
-    (seat : NodeSeat) → length nodes ≡ shape.nodes → slice_get nodes k ≡ Some n
-    → IsNodeOf shape k n
-    → (opened_with wire ≡ world_of nodes) × (wire.nodes ≡ length (world_of nodes).current)
-    → IsSeated wire k seat → IsAtSeat n seat
-at-seat shape nodes k n wire seat count there is made seated =
-    let pair : (known seat).pair ≡ pair_at (world_of nodes) k =
-    ap (λ (v : Known). v.pair) seated.known
-    ∙ ap (λ o. pair_at o k) made.0 in
-    let current : (known seat).pair.current ≡ state_of n =
-    ap (λ (p : Pair). p.current) pair ∙ state-at nodes k n there in
+at-seat : {shape : Shaped} {nodes : List NodeView} {w : World} (k : ℕ) (n : NodeView) (wire : Wire)
+    (seat : NodeSeat) → AreOpened shape nodes w → slice_get nodes k ≡ Some n → IsNodeOf shape k n
+    → (opened_with wire ≡ w) × (wire.nodes ≡ length w.current) → IsSeated wire k seat
+    → IsAtSeat n seat
+at-seat {w = w} k n wire seat opens there is made seated =
+    let pair : (known seat).pair ≡ pair_at w k =
+    ap (λ (v : Known). v.pair) seated.known ∙ ap (λ (o : World). pair_at o k) made.0 in
+    let current : (known seat).pair.current ≡ node_at w.current k =
+    ap (λ (p : Pair). p.current) pair in
     record {
       own = is.numbered ∙ sym seated.node;
       nodes = ap (λ (s : Shaped). s.nodes) is.shaped
-          ∙ sym (seated.of.1 ∙ made.1 ∙ length-map nodes state_of ∙ count);
-      shows = subst (Shows n) (sym current) (shown n);
-      saved = ap (λ (p : Pair). p.saved) pair ∙ sym (ap (λ (p : Pair). p.current) pair);
+          ∙ sym (seated.of.1 ∙ made.1 ∙ opens.width);
+      shows = subst (Shows n) (sym current) (opens.each k n there).shows;
+      saved = ap (λ (p : Pair). p.saved) pair
+          ∙ ap (λ (l : List NodeState). node_at l k) opens.saved ∙ sym current;
     }
 
 pub made-ready : {S : Type 0} {Lies : NodeView → S → Type 0} {shape : Shaped}
-    {nodes : List NodeView} {shelves : List S} {count : ℕ} {wire : Wire} {seats : List NodeSeat}
-    {watches : List Watch} → length nodes ≡ shape.nodes → AreFound Lies shape nodes shelves
-    → IsMade (world_of nodes) count wire seats watches
-    → AreReady Lies wire nodes shelves seats
-made-ready {shape = shape} {nodes = nodes} {wire = wire} many h made = record {
+    {nodes : List NodeView} {shelves : List S} {count : ℕ} {w : World} {wire : Wire}
+    {seats : List NodeSeat} {watches : List Watch} → AreOpened shape nodes w
+    → AreFound Lies shape nodes shelves → IsMade w count wire seats watches
+    → AreReady Lies nodes shelves seats
+made-ready {wire = wire} opens h made = record {
   shelved = h.same;
-  seated = made.seat_count ∙ made.nodes ∙ length-map nodes state_of;
+  seated = made.seat_count ∙ made.nodes ∙ opens.width ∙ sym opens.count;
   each = λ k n s seat there shelf sat.
       let found = h.each k n s there shelf in
-      let seated = made.each_seat k seat sat in
       record {
-        sits = seated.of;
-        stands = at-seat shape nodes k n wire seat many there found.0 (made.opening, made.nodes)
-            seated;
+        stands = at-seat k n wire seat opens there found.0 (made.opening, made.nodes)
+            (made.each_seat k seat sat);
         lies = found.1;
       };
 }
 
 -- ---- One after another
 
-pub first-ready : {S : Type 0} {Lies : NodeView → S → Type 0} {wire : Wire}
+pub first-ready : {S : Type 0} {Lies : NodeView → S → Type 0}
     {nodes : List NodeView} {shelves : List S} {seats : List NodeSeat} (n : NodeView) (s : S)
-    (seat : NodeSeat) → AreReady Lies wire nodes shelves seats → 0 < length nodes
+    (seat : NodeSeat) → AreReady Lies nodes shelves seats → 0 < length nodes
     → (n ≡ get_or nodes 0 n) × (s ≡ get_or shelves 0 s) × (seat ≡ get_or seats 0 seat)
-    → IsReady Lies wire n s seat
+    → IsReady Lies n s seat
 first-ready {nodes = nodes} {shelves = shelves} {seats = seats} n s seat h some is =
     h.each 0 n s seat (there nodes 0 n some is.0)
     (there shelves 0 s (omega (arith, some, h.shelved)) is.1)
     (there seats 0 seat (omega (arith, some, h.seated)) is.2)
 
-later : {S : Type 0} {Lies : NodeView → S → Type 0} {wire : Wire}
+later : {S : Type 0} {Lies : NodeView → S → Type 0}
     {nodes : List NodeView} {shelves : List S} {seats : List NodeSeat}
-    → AreReady Lies wire nodes shelves seats
-    → AreReady Lies wire (drop 1 nodes) (drop 1 shelves) (drop 1 seats)
+    → AreReady Lies nodes shelves seats
+    → AreReady Lies (drop 1 nodes) (drop 1 shelves) (drop 1 seats)
 later {nodes = nodes} {shelves = shelves} {seats = seats} h = record {
   shelved = omega (arith, h.shelved, length-drop 1 nodes, length-drop 1 shelves);
   seated = omega (arith, h.seated, length-drop 1 nodes, length-drop 1 seats);
@@ -137,25 +135,25 @@ later {nodes = nodes} {shelves = shelves} {seats = seats} h = record {
       (sym (slice_get-drop shelves 1 k) ∙ at_shelf) (sym (slice_get-drop seats 1 k) ∙ at_place);
 }
 
-pub later-ready : {S : Type 0} {Lies : NodeView → S → Type 0} {wire : Wire}
+pub later-ready : {S : Type 0} {Lies : NodeView → S → Type 0}
     {nodes : List NodeView} {shelves : List S} {seats : List NodeSeat} (ns : List NodeView)
-    (ss : List S) (ts : List NodeSeat) → AreReady Lies wire nodes shelves seats
+    (ss : List S) (ts : List NodeSeat) → AreReady Lies nodes shelves seats
     → (ns ≡ drop 1 nodes) × (ss ≡ drop 1 shelves) × (ts ≡ drop 1 seats)
-    → AreReady Lies wire ns ss ts
-later-ready {Lies = Lies} {wire = wire} {shelves = shelves} {seats = seats} ns ss ts h is =
-    subst (λ l. AreReady Lies wire ns ss l) (sym is.2)
-    (subst (λ l. AreReady Lies wire ns l (drop 1 seats)) (sym is.1)
-    (subst (λ l. AreReady Lies wire l (drop 1 shelves) (drop 1 seats)) (sym is.0) (later h)))
+    → AreReady Lies ns ss ts
+later-ready {Lies = Lies} {shelves = shelves} {seats = seats} ns ss ts h is =
+    subst (λ l. AreReady Lies ns ss l) (sym is.2)
+    (subst (λ l. AreReady Lies ns l (drop 1 seats)) (sym is.1)
+    (subst (λ l. AreReady Lies l (drop 1 shelves) (drop 1 seats)) (sym is.0) (later h)))
 
--- The same where a slice shows the nodes, and an `Arc` holds the wire.
-pub opened-ready : {S : Type 0} {Lies : NodeView → S → Type 0} {shape : Shaped}
-    {nodes slice : List NodeView} {shelves : List S} {count : ℕ} {wire shared : Wire}
-    {seats : List NodeSeat} {watches : List Watch}
-    → (length nodes ≡ shape.nodes) × AreFound Lies shape nodes shelves
-    → (slice ≡ nodes) × (shared ≡ wire) → IsMade (world_of slice) count wire seats watches
-    → AreReady Lies shared nodes shelves seats
-opened-ready {Lies = Lies} {nodes = nodes} {shelves = shelves} {count = count} {wire = wire}
-    {seats = seats} {watches = watches} found is made =
-    subst (λ w. AreReady Lies w nodes shelves seats) (sym is.1)
-    (made-ready found.0 found.1
-    (subst (λ l. IsMade (world_of l) count wire seats watches) is.0 made))
+-- what was handed on, and what is left
+pub shifted : {A B : Type 0} (f : A → B) (done : List A) (left : List B) (all : List B)
+    (now : List A) (last : A) (first : B) (rest : List B) → map f done ++ left ≡ all
+    → now ≡ done ++ last ∷ [] → f last ≡ first → first ≡ get_or left 0 first → 0 < length left
+    → rest ≡ drop 1 left → map f now ++ rest ≡ all
+shifted f done [] all now last first rest were is same front some left = absurd (omega arith)
+shifted f done (b ∷ bs) all now last first rest were is same front some left =
+    ap (λ l. map f l ++ rest) is
+    ∙ ap (λ l. l ++ rest) (map-append f done (last ∷ []))
+    ∙ append_assoc (map f done) (f last ∷ []) rest
+    ∙ (λ i. map f done ++ (same ∙ front) i ∷ left i)
+    ∙ were

@@ -3,10 +3,11 @@ ghost use Rattle.std.specs.Prelude.{◌≡◌, ◌≢◌, ◌++◌, [], ◌∷�
 ghost use Rattle.std.specs.Prelude.{length, vec_len};
 ghost use Rattle.disk.specs.Areas.{Areas};
 ghost use Rattle.cell.specs.Disks.{OpensTo};
-ghost use Rattle.supervisor.specs.Opened.{AreFound, IsNodeOf};
-ghost use Rattle.supervisor.specs.declared.fault.OpenFault.TheVariants as fault;
+ghost use Rattle.cell.specs.Opened.{AreBeside, AreFound, IsNodeOf, IsReadFrom};
+ghost use Rattle.cell.specs.declared.fault.Unopened.TheVariants as fault;
+ghost use Rattle.model.specs.View.{new_view};
 
-use crate::fault::OpenFault;
+use crate::fault::Unopened;
 use disk::{Disk, Shelf, is_blank};
 use ids::{NodeId, Refusal, Shape};
 use node::Node;
@@ -18,20 +19,20 @@ fn create_node<D: Disk + Drop>(
     shape: Shape,
     own: NodeId,
     disk: D,
-) -> Result<(Node, Shelf<D>), OpenFault>
+) -> Result<(Node, Shelf<D>), Unopened>
     requires { (c : Areas) → D.may_leave disk c → c.select ≡ [] }
 
-    ensures node { IfOk result (λ r. IsNodeOf shape own.number r.0) }
+    ensures node { IfOk result (λ r. r.0 ≡ new_view shape own.number) }
     ensures ready { IfOk result (λ r. r.1.ready ≡ true) }
     ensures opens { IfOk result (λ r. OpensTo r.0 (D.seen r.1.disk)) }
 {
     let node = match Node::new(alloc, shape, own) {
         Ok(node) => node,
-        Err(refusal) => return Err(OpenFault::Refused(refusal)),
+        Err(refusal) => return Err(Unopened::Refused(refusal)),
     };
     match Shelf::create(alloc, disk, &node) {
         Ok(shelf) => Ok((node, shelf)),
-        Err((_disk, refusal)) => Err(OpenFault::Refused(refusal)),
+        Err((_disk, refusal)) => Err(Unopened::Refused(refusal)),
     }
 }
 
@@ -47,12 +48,12 @@ fn is_node_of(node: &Node, shape: Shape, own: NodeId) -> bool
 }
 
 // Adds a value to a list.
-fn keep<T: Drop>(values: &mut Vec<T>, value: T) -> Result<(), OpenFault>
+fn keep<T: Drop>(values: &mut Vec<T>, value: T) -> Result<(), Unopened>
     ensures { OnOk result (values.new.items ≡ values.old.items ++ value ∷ []) }
 {
     match values.push(value) {
         Ok(()) => Ok(()),
-        Err(_) => Err(OpenFault::Refused(Refusal::Memory)),
+        Err(_) => Err(Unopened::Refused(Refusal::Memory)),
     }
 }
 
@@ -62,19 +63,20 @@ fn read_node<D: Disk + Drop>(
     shape: Shape,
     own: NodeId,
     disk: D,
-) -> Result<(Node, Shelf<D>), OpenFault>
+) -> Result<(Node, Shelf<D>), Unopened>
     ensures node { IfOk result (λ r. IsNodeOf shape own.number r.0) }
     ensures ready { IfOk result (λ r. r.1.ready ≡ true) }
     ensures opens { IfOk result (λ r. OpensTo r.0 (D.seen r.1.disk)) }
+    ensures read { IfOk result (λ r. OpensTo r.0 (D.seen disk)) }
 {
     let (shelf, node) = match Shelf::open::<Node>(alloc, disk) {
         Ok(found) => found,
-        Err(refusal) => return Err(OpenFault::Refused(refusal)),
+        Err(refusal) => return Err(Unopened::Refused(refusal)),
     };
     if is_node_of(&node, shape, own) {
         Ok((node, shelf))
     } else {
-        Err(OpenFault::Disks)
+        Err(Unopened::Disks)
     }
 }
 
@@ -85,15 +87,16 @@ fn node_of<D: Disk + Drop>(
     shape: Shape,
     own: NodeId,
     mut disk: D,
-) -> Result<(Node, Shelf<D>), OpenFault>
+) -> Result<(Node, Shelf<D>), Unopened>
     ensures node { IfOk result (λ r. IsNodeOf shape own.number r.0) }
     ensures ready { IfOk result (λ r. r.1.ready ≡ true) }
     ensures opens { IfOk result (λ r. OpensTo r.0 (D.seen r.1.disk)) }
+    ensures read { IfOk result (λ r. IsReadFrom shape own.number (D.seen disk) r.0) }
 {
     match is_blank(&mut disk) {
         Ok(true) => create_node(alloc, shape, own, disk),
         Ok(false) => read_node(alloc, shape, own, disk),
-        Err(_) => Err(OpenFault::Refused(Refusal::Disk)),
+        Err(_) => Err(Unopened::Refused(Refusal::Disk)),
     }
 }
 
@@ -103,19 +106,21 @@ fn node_of<D: Disk + Drop>(
 /// `Disks` where there are fewer or more disks than nodes, or where a disk holds a node of another
 /// shape or number; `Refused` as `Node::new`, `Shelf::create` and `Shelf::open`. All disks are then
 /// given up.
-pub(crate) fn gather<D: Disk + Drop>(
+pub fn find<D: Disk + Drop>(
     alloc: Global,
     shape: Shape,
     mut disks: Vec<D>,
-) -> Result<(Vec<Node>, Vec<Shelf<D>>), OpenFault>
+) -> Result<(Vec<Node>, Vec<Shelf<D>>), Unopened>
     ensures disks { vec_len disks ≢ shape.nodes → IsErrOf result fault.Disks }
     ensures count { IfOk result (λ r. length r.0.items ≡ shape.nodes) }
     ensures found { IfOk result (λ r.
         AreFound (λ n s. (s.ready ≡ true) × OpensTo n (D.seen s.disk))
         shape r.0.items r.1.items) }
+    ensures read { IfOk result (λ r.
+        AreBeside (λ k d n. IsReadFrom shape k (D.seen d) n) disks.items r.0.items) }
 {
     if disks.len() != usize::from(shape.nodes()) {
-        return Err(OpenFault::Disks);
+        return Err(Unopened::Disks);
     }
     let mut nodes = Vec::new(alloc);
     let mut shelves = Vec::new(alloc);

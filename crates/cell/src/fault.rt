@@ -1,0 +1,11 @@
+use ids::Refusal;
+
+/// Why the cells of a space aren't opened.
+#[derive(Clone, Copy, Debug, PartialEq, Eq)]
+pub enum Unopened {
+    /// There are fewer or more disks than nodes, or a disk holds a node of another space, or one
+    /// of another number.
+    Disks,
+    /// A node, its disk or the wire was refused.
+    Refused(Refusal),
+}

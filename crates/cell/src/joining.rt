@@ -1,0 +1,95 @@
+//! The cells of nodes that lie on shelves, and the wire between them.
+ghost use Rattle.std.specs.Prelude.{◌≡◌, ◌≢◌, true, IfErr, IfOk, IsErrOf, map, vec_len};
+ghost use Rattle.ids.specs.declared.refusal.Refusal.TheVariants.{Memory};
+ghost use Rattle.model.specs.World.{World};
+ghost use Rattle.wire.specs.Readers.{AreOpened, IsMade};
+ghost use Rattle.cell.specs.Disks.{OpensTo};
+ghost use Rattle.cell.specs.Opened.{world_of, AreBeside, AreFound, AreReady, IsReadFrom};
+ghost use Rattle.cell.specs.declared.fault.Unopened.TheVariants as fault;
+
+use crate::cell::Cell;
+use crate::fault::Unopened;
+use crate::finding::find;
+use disk::{Disk, Shelf};
+use ids::{Refusal, Shape};
+use node::Node;
+use std::alloc::Global;
+use wire::{NodeSeat, Watch, Wire};
+
+// The cells of nodes, in order, each with its shelf and its seat.
+fn seat_all<D: Disk + Drop>(
+    alloc: Global,
+    mut nodes: Vec<Node>,
+    mut shelves: Vec<Shelf<D>>,
+    mut seats: Vec<NodeSeat>,
+) -> Result<Vec<Cell<D>>, Refusal>
+    requires { AreReady (λ n s. (s.ready ≡ true) × OpensTo n (D.seen s.disk))
+        nodes.items shelves.items seats.items }
+    ensures nodes { IfOk result (λ v. map (λ c. c.desk.node) v.items ≡ nodes.items) }
+    ensures shelves { IfOk result (λ v. map (λ c. c.shelf) v.items ≡ shelves.items) }
+    ensures seats { IfOk result (λ v. map (λ c. c.desk.seat) v.items ≡ seats.items) }
+    ensures refused { IfErr result (λ e. e ≡ Memory) }
+{
+    let mut cells = Vec::new(alloc);
+    for _ in 0..nodes.len() {
+        let node = nodes.remove(0);
+        let shelf = shelves.remove(0);
+        let seat = seats.remove(0);
+        cells.push(Cell::new(alloc, node, shelf, seat)?)?;
+    }
+    Ok(cells)
+}
+
+/// The wire between nodes that lie on their shelves, their cells in order, and so many watches. The
+/// wire begins in a world that the caller names, in which all is saved: the nodes stand as it says.
+/// So what a run reaches is told of the cells by [`laws`](crate::laws), where the world is one that
+/// a run left on the disks.
+///
+/// `Memory` where a growth was refused; what was handed in is then given up.
+pub fn join<D: Disk + Drop>(
+    alloc: Global,
+    shape: Shape,
+    nodes: Vec<Node>,
+    shelves: Vec<Shelf<D>>,
+    watches: u8,
+) -> Result<(Wire, Vec<Cell<D>>, Vec<Watch>), Refusal>
+    ghost opening: { World }
+    requires opened { AreOpened shape nodes.items opening }
+    requires found { AreFound (λ n s. (s.ready ≡ true) × OpensTo n (D.seen s.disk))
+        shape nodes.items shelves.items }
+    ensures nodes { IfOk result (λ r. map (λ c. c.desk.node) r.1.items ≡ nodes.items) }
+    ensures shelves { IfOk result (λ r. map (λ c. c.shelf) r.1.items ≡ shelves.items) }
+    ensures made { IfOk result (λ r. IsMade opening watches r.0
+        (map (λ c. c.desk.seat) r.1.items) r.2.items) }
+    ensures refused { IfErr result (λ e. e ≡ Memory) }
+{
+    let (wire, seats, watching) = Wire::new(alloc, shape, nodes.as_slice(), watches)?;
+    let cells = seat_all(alloc, nodes, shelves, seats)?;
+    Ok((wire, cells, watching))
+}
+
+/// The cells of a space, in order, the wire between them, and so many watches. Each node is a new
+/// one where nothing was ever created on its disk, else the one that the disk holds. The wire
+/// begins in the world of those nodes, in which all is saved, and what was acknowledged before is
+/// unknown; [`find`] and [`join`] are for who knows more of it.
+///
+/// Refused as [`find`] and [`join`]; all disks are then given up.
+pub fn open<D: Disk + Drop>(
+    alloc: Global,
+    shape: Shape,
+    disks: Vec<D>,
+    watches: u8,
+) -> Result<(Wire, Vec<Cell<D>>, Vec<Watch>), Unopened>
+    ensures disks { vec_len disks ≢ shape.nodes → IsErrOf result fault.Disks }
+    ensures read { IfOk result (λ r. AreBeside (λ k d n. IsReadFrom shape k (D.seen d) n)
+        disks.items (map (λ c. c.desk.node) r.1.items)) }
+    ensures count { IfOk result (λ r. vec_len r.1 ≡ shape.nodes) }
+    ensures made { IfOk result (λ r. IsMade (world_of (map (λ c. c.desk.node) r.1.items)) watches
+        r.0 (map (λ c. c.desk.seat) r.1.items) r.2.items) }
+{
+    let (nodes, shelves) = find(alloc, shape, disks)?;
+    match join(alloc, shape, nodes, shelves, watches) {
+        Ok(opened) => Ok(opened),
+        Err(refusal) => Err(Unopened::Refused(refusal)),
+    }
+}

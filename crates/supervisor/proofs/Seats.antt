@@ -1,0 +1,20 @@
+-- The seats of cells that are handed on one after another.
+use Rattle.std.proofs.Common.{◌≡◌, ◌<◌, ℕ, suc, List, [], ◌∷◌, drop, get_or, length, map, refl, subst, sym, arith}
+use Rattle.wire.specs.Readers.{IsSeatOf}
+use Rattle.wire.specs.declared.seats.NodeSeat.{NodeSeat}
+use Rattle.wire.specs.declared.seats.Wire.{Wire}
+use Rattle.supervisor.specs.Opened.{AreSeats}
+
+pub first-seat : {C : Type 0} (seat : C → NodeSeat) (wire : Wire) (cells : List C) (c : C)
+    → AreSeats wire (map seat cells) → 0 < length cells → c ≡ get_or cells 0 c
+    → IsSeatOf wire (seat c)
+first-seat seat wire [] c h some is = absurd (omega arith)
+first-seat seat wire (x ∷ xs) c h some is =
+    subst (λ y. IsSeatOf wire (seat y)) (sym is) (h 0 (seat x) refl)
+
+pub later-seats : {C : Type 0} (seat : C → NodeSeat) (wire : Wire) (cells rest : List C)
+    → AreSeats wire (map seat cells) → rest ≡ drop 1 cells → AreSeats wire (map seat rest)
+later-seats seat wire [] rest h is =
+    subst (λ l. AreSeats wire (map seat l)) (sym is) h
+later-seats seat wire (x ∷ xs) rest h is =
+    subst (λ l. AreSeats wire (map seat l)) (sym is) (λ k s there. h (suc k) s there)
