@@ -10,3 +10,4 @@ pub mod Composed
 pub mod Places
 pub mod OnShelves
 pub mod Ready
+pub mod Left

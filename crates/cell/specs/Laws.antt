@@ -1,7 +1,7 @@
 -- What the theorems on lists of steps say of cells. The premises are what the calls of a cell
 -- ensure, that the node shows the seat's state, as each cell keeps, and that a run reaches the world
 -- in which the wire was made: its nodes were new then, or as a run had saved them.
-use Rattle.std.specs.Prelude.{◌≡◌, ◌≢◌, ◌⊎◌, ℕ, ◌+◌, ◌<◌, Bool, false, List, [], ◌∷◌, ◌++◌, Ok, Err}
+use Rattle.std.specs.Prelude.{◌≡◌, ◌≢◌, ◌⊎◌, ℕ, ◌+◌, ◌<◌, Bool, false, List, [], ◌∷◌, ◌++◌, length, slice_get, Some, Ok, Err}
 use Rattle.ids.specs.Limits.{Shaped, IsShape}
 use Rattle.ids.specs.declared.names.Ref.{Ref}
 use Rattle.ids.specs.declared.refusal.Refusal.{Refusal}
@@ -12,14 +12,19 @@ use Rattle.model.specs.declared.event.Event.TheVariants as event
 use Rattle.model.specs.declared.event.Answer.{Answer}
 use Rattle.model.specs.declared.step.Step.{Step}
 use Rattle.model.specs.declared.step.Step.TheVariants as step
-use Rattle.model.specs.State.{Object, Occupied, got_from, slot_at}
+use Rattle.model.specs.State.{NodeState, Object, Occupied, got_from, node_at, slot_at}
 use Rattle.model.specs.View.{NodeView, Shows}
 use Rattle.model.specs.World.{World, new_world, run}
 use Rattle.model.specs.Cuts.{cut, Reachable}
 use Rattle.trace.specs.declared.trace.Line.{Line}
+use Rattle.disk.specs.Areas.{Areas}
+use Rattle.wire.specs.Readers.{AreOpened}
 use Rattle.wire.specs.Rule.{AreEvents}
 use Rattle.wire.specs.Views.{Known, pair_at}
+use Rattle.cell.specs.Desks.{IsSavedNode}
+use Rattle.cell.specs.Disks.{OpensTo}
 use Rattle.cell.specs.Events.{Acted}
+use Rattle.cell.specs.Opened.{IsReadFrom}
 use Rattle.cell.specs.Pumping.{TookIn}
 
 -- a run of a space of this shape reaches the world
@@ -28,6 +33,27 @@ pub record IsReached (w : World) : Type 0 where
   pub limits : IsShape shape
   pub steps : List Step
   pub by : w ≡ run (new_world shape) steps
+
+-- all nodes go on as they were saved
+abbrev pub restarted : World → World
+restarted w = record { current = w.saved; saved = w.saved }
+
+-- What a cell left on its disk, as its type says, also after a crash: the disk opens to a node that
+-- shows this state, the one that was saved last.
+pub record IsLeft (me width : ℕ) (s : NodeState) (c : Areas) : Type 0 where
+  pub node : NodeView
+  pub saved : IsSavedNode me width s node
+  pub opens : ∥ OpensTo node c ∥₁
+
+-- Nodes that are read from what the cells of a space left stand in the world in which all go on as
+-- they were saved, so that world can be the one in which a wire begins.
+abbrev pub LeftIsOpened : Type 0
+LeftIsOpened =
+    (shape : Shaped) (w : World) (nodes : List NodeView) → length w.saved ≡ shape.nodes
+    → length nodes ≡ shape.nodes
+    → ((k : ℕ) (n : NodeView) → slice_get nodes k ≡ Some n → (c : Areas)
+    × IsLeft k shape.nodes (node_at w.saved k) c × IsReadFrom shape k c n)
+    → AreOpened shape nodes (restarted w)
 
 -- what the sweep of the node i leaves where it was
 abbrev pub KeepsReachable : World → ℕ → NodeView → NodeView → Type 0

@@ -16,8 +16,8 @@ pub record IsNodeOf (shape : Shaped) (own : ℕ) (n : NodeView) : Type 0 where
   pub shaped : n.local.shape ≡ shape
   pub numbered : n.local.own ≡ own
 
--- the node of this number, from a disk that reads so: a new one where nothing was ever created, else
--- the one to which the disk opens
+-- the node of this number, from a disk that reads so: a new one where nothing was ever created,
+-- else the one to which the disk opens
 pub record IsReadFrom (shape : Shaped) (own : ℕ) (seen : Areas) (n : NodeView) : Type 0 where
   pub blank : seen.select ≡ [] → n ≡ new_view shape own
   pub held : seen.select ≢ [] → OpensTo n seen

@@ -1,6 +1,12 @@
 ghost use Rattle.ids.specs.Limits.{IsShape, Shaped};
-ghost use Rattle.model.specs.World.{new_world};
-ghost use Rattle.cell.specs.Laws.{IsReached, NoneRefusedInTurn, SweepsFreeNoneReachable};
+ghost use Rattle.model.specs.World.{new_world, World};
+ghost use Rattle.cell.specs.Laws.{
+  restarted,
+  IsReached,
+  LeftIsOpened,
+  NoneRefusedInTurn,
+  SweepsFreeNoneReachable,
+};
 
 /// What cells do is what the theorems speak of: their premises here are what [`act`](crate::Cell::act)
 /// and [`pump_in`](crate::Cell::pump_in) ensure, whatever other threads do meanwhile, where the wire
@@ -8,8 +14,12 @@ ghost use Rattle.cell.specs.Laws.{IsReached, NoneRefusedInTurn, SweepsFreeNoneRe
 ///
 /// This does nothing: its contract is the theorems.
 pub fn laws()
-    // New nodes stand in such a world.
+    // A run reaches the world of new nodes.
     ensures new { (shape : Shaped) → IsShape shape → IsReached (new_world shape) }
+    // So does the world in which all nodes go on as a run saved them,
+    ensures restarted { (w : World) → IsReached w → IsReached (restarted w) }
+    // and that is a world in which nodes stand that are read from what cells left on their disks.
+    ensures left { LeftIsOpened }
     // What is reachable and the sweeping node's own is there before the sweep, and the same after.
     ensures frees_none_reachable { SweepsFreeNoneReachable }
     // No message that came over the wire is refused as one for another node or space, but only

@@ -68,8 +68,8 @@ impl From<AllocError> for WordsError {
 
 impl<'a> Command<'a> {
     /// The command that the words say, of which the first is the program's name. No words beside it
-    /// say `sim`. After `run` a `--` ends options, and no word before it may begin with a dash; after
-    /// other words such a word is read as `clap` reads it.
+    /// say `sim`. After `run` a `--` ends options, and no word before it may begin with a dash;
+    /// after other words such a word is read as `clap` reads it.
     pub fn read(alloc: Global, words: &'a [String]) -> Result<Command<'a>, WordsError>
         ensures alone { length words.now ≤ 1 → result ≡ Ok (Command.Sim None) }
         ensures run { IsRead (run_of (drop 1 (map string_bytes words.now))) result }

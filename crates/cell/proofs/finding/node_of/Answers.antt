@@ -1,6 +1,3 @@
-use Rattle.std.proofs.Common.{◌≡◌, true, false, Ok, Bool, sym, ◌∙◌, subst}
-use Rattle.std.specs.Prelude.{IfOk}
-use Rattle.cell.specs.Opened.{IsReadFrom}
 use Rattle.cell.proofs.OnShelves.{read-held}
 use Rattle.cell.proofs.finding.node_of.Goals as goal
 

@@ -7,12 +7,14 @@ use Rattle.cell.proofs.Ready.{opened}
 use Rattle.cell.proofs.joining.open.Goals as goal
 
 pub join-requires : goal.join-requires
-join-requires g c = λ κs within.
-    (within, (
-      opened c.args.shape _ c.in_ok-nodes.ensures.count
-          (found-kept (λ m s lies. kept_is lies.1.0 m lies.1.2) c.in_ok-nodes.ensures.found),
-      c.in_ok-nodes.ensures.found,
-    ))
+join-requires g c = λ κs within. (
+  within,
+  (
+    opened c.args.shape _ c.in_ok-nodes.ensures.count
+        (found-kept (λ m s lies. kept_is lies.1.0 m lies.1.2) c.in_ok-nodes.ensures.found),
+    c.in_ok-nodes.ensures.found,
+  ),
+)
 
 pub returns-in-Ok-clause-read : goal.returns-in-Ok-clause-read
 returns-in-Ok-clause-read g c =

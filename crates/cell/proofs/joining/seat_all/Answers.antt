@@ -1,4 +1,4 @@
-use Rattle.std.proofs.Common.{◌<◌, length, arith, ap, sym, ◌∙◌}
+use Rattle.std.proofs.Common.{◌<◌, length, arith}
 use Rattle.cell.proofs.Ready.{first-ready, later-ready, shifted}
 use Rattle.cell.proofs.joining.seat_all.Goals as goal
 

@@ -1,0 +1,128 @@
+-- What a space left on its disks is the world in which it goes on.
+use Rattle.std.proofs.Common.{◌≡◌, ◌≢◌, ℕ, zero, suc, true, Bool, List, [], ◌∷◌, ◌++◌, Option, Some, None, Ok, Err, append_assoc, length, length-append, set, refl, sym, ap, ◌∙◌, subst, arith}
+use Rattle.std.specs.Prelude.{cond}
+use Rattle.std.proofs.Math.Logic.{∥∥₁_elim}
+use Rattle.std.proofs.Math.Seq.{get_or-append_seam, set-append_seam}
+use Rattle.std.proofs.Props.{props}
+use Rattle.std.proofs.lemmas.Bool.{lt-ltb}
+use Rattle.ids.specs.Limits.{Shaped}
+use Rattle.ids.specs.declared.refusal.Refusal.TheVariants.{NoNode}
+use Rattle.model.specs.State.{NodeState, no_node, node_at}
+use Rattle.model.specs.View.{NodeView, Shows}
+use Rattle.model.specs.World.{World, happens, is_node, new_world, run, take_step, world_after}
+use Rattle.model.specs.declared.step.Outcome.TheVariants as outcome
+use Rattle.model.specs.declared.step.Step.{Step}
+use Rattle.model.specs.declared.step.Step.TheVariants as step
+use Rattle.model.proofs.Runs.{run-append}
+use Rattle.laws.proofs.Cuts.{run-keeps-sent}
+use Rattle.laws.proofs.KeepsSent.{new-keeps-sent}
+use Rattle.disk.specs.Areas.{Areas}
+use Rattle.disk.specs.Shelf.{image_at, side}
+use Rattle.wire.specs.Readers.{IsSavedAs}
+use Rattle.cell.specs.Disks.{OpensTo}
+use Rattle.cell.specs.Laws.{restarted, IsLeft, IsReached, LeftIsOpened}
+use Rattle.cell.specs.Opened.{IsReadFrom}
+use Rattle.cell.proofs.Found.{stands-read}
+use Rattle.cell.proofs.Opening.{image-found, same-found}
+
+-- ---- All nodes go on as they were saved
+
+-- so many nodes, from this one on
+abbrev restarts : ℕ → ℕ → List Step
+restarts k zero = []
+restarts k (suc n) = step.Restart k ∷ restarts (suc k) n
+
+restarted-at : (before xs ys : List NodeState) (x y : NodeState)
+    → happens (record { current = before ++ x ∷ xs; saved = before ++ y ∷ ys })
+    (step.Restart (length before))
+    ≡ record { current = before ++ y ∷ xs; saved = before ++ y ∷ ys }
+unfolding take_step
+restarted-at before xs ys x y =
+    let w : World = record { current = before ++ x ∷ xs; saved = before ++ y ∷ ys } in
+    let inside : is_node w (length before) ≡ true =
+    lt-ltb (length before) (length (before ++ x ∷ xs))
+    (omega (arith, length-append before (x ∷ xs))) in
+    ap (λ (b : Bool). world_after w (cond b
+    (Ok (
+      record w {
+        current = set w.current (length before) (node_at w.saved (length before));
+      },
+      outcome.Done,
+    ))
+    (Err NoNode))) inside
+    ∙ ap (λ (l : List NodeState). record { current = l; saved = w.saved })
+    (ap (λ (s : NodeState). set (before ++ x ∷ xs) (length before) s)
+    (get_or-append_seam before y ys no_node)
+    ∙ set-append_seam before x xs y)
+
+run-restarts : (before xs ys : List NodeState) → length xs ≡ length ys
+    → run (record { current = before ++ xs; saved = before ++ ys })
+    (restarts (length before) (length xs))
+    ≡ record { current = before ++ ys; saved = before ++ ys }
+run-restarts before [] [] same = refl
+run-restarts before [] (y ∷ ys) same = absurd (omega (arith, same))
+run-restarts before (x ∷ xs) [] same = absurd (omega (arith, same))
+run-restarts before (x ∷ xs) (y ∷ ys) same =
+    let first = append_assoc before (y ∷ []) xs in
+    let second = append_assoc before (y ∷ []) ys in
+    let count : suc (length before) ≡ length (before ++ y ∷ []) =
+    omega (arith, length-append before (y ∷ [])) in
+    ap (λ (w : World). run w (restarts (suc (length before)) (length xs)))
+    (restarted-at before xs ys x y)
+    ∙ (λ i. run (record { current = sym first i; saved = sym second i })
+    (restarts (count i) (length xs)))
+    ∙ run-restarts (before ++ y ∷ []) xs ys (omega (arith, same))
+    ∙ (λ i. record { current = second i; saved = second i })
+
+pub restarted-reached : (w : World) → IsReached w → IsReached (restarted w)
+restarted-reached w r =
+    let width : length w.saved ≡ length w.current =
+    subst (λ (x : World). length x.saved ≡ length x.current) (sym r.by)
+    (run-keeps-sent (new_world r.shape) r.steps (new-keeps-sent r.shape)).width in
+    let all = restarts 0 (length w.current) in
+    record {
+      shape = r.shape;
+      limits = r.limits;
+      steps = r.steps ++ all;
+      by = sym (run-append (new_world r.shape) r.steps all
+          ∙ ap (λ (x : World). run x all) (sym r.by)
+          ∙ run-restarts [] w.current w.saved (sym width));
+    }
+
+-- ---- What is read from what was left
+
+not-blank : (n : NodeView) (c : Areas) → OpensTo n c → c.select ≢ []
+not-blank n c opens empty =
+    let both : ◌≡◌ {A = Option (List ℕ)} None (Some opens.0) =
+    sym (ap (λ (bytes : List ℕ). image_at (side bytes) c) empty) ∙ opens.1 in
+    absurd cc
+
+-- the node that is read is the one that was left
+left-is : (shape : Shaped) (k width : ℕ) (s : NodeState) (c : Areas) (n : NodeView)
+    (left : IsLeft k width s c) → OpensTo n c → n ≡ left.node
+left-is shape k width s c n left found =
+    ∥∥₁_elim left.opens (hlevel props) (λ opens. same-found n left.node c found opens)
+
+left-stands : (shape : Shaped) (k width : ℕ) (s : NodeState) (c : Areas) (n : NodeView)
+    → IsLeft k width s c → IsReadFrom shape k c n → IsSavedAs n s
+left-stands shape k width s c n left read =
+    let found : OpensTo n c =
+    read.held (λ empty. ∥∥₁_elim left.opens (hlevel props)
+    (λ opens. not-blank left.node c opens empty)) in
+    let is = left-is shape k width s c n left found in
+    let stands = stands-read k width s n
+    (ap (λ (m : NodeView). m.local.own) is ∙ left.saved.own)
+    (ap (λ (m : NodeView). m.local.shape.nodes) is ∙ left.saved.nodes)
+    (subst (λ (m : NodeView). Shows m s) (sym is) left.saved.shows)
+    (image-found n c found) in
+    record { shows = stands.shows; counted = stands.counted; acks = stands.acks }
+
+pub left-opened : LeftIsOpened
+left-opened shape w nodes width count read = record {
+  saved = refl;
+  width = width;
+  count = count;
+  each = λ k n there.
+      (let from = read k n there in
+      left-stands shape k shape.nodes (node_at w.saved k) from.0 n from.1 from.2);
+}
