@@ -1,6 +1,1 @@
-pub mod Called
-pub mod Frames
-pub mod Grammar
-pub mod Script
-pub mod Text
 pub mod Running

@@ -3,16 +3,10 @@
 
 ghost use Rattle.std.specs.Prelude.{◌≤◌, IfOk};
 
-mod frames;
-mod line;
 mod run_line;
 mod running;
-mod script;
-mod text;
-mod words;
 
-use frames::decode;
-use script::{REFUSED, print_unread, sim};
+use commands::{Command, REFUSED, WordsError, decode, print_refused_words, print_unread, sim};
 use std::fs::File;
 use std::io::{BufWriter, Read};
 use std::process::ExitCode;
@@ -21,7 +15,6 @@ use std::sync::Wait;
 use std::thread::Threads;
 use std::time::Clock;
 use std::{env, fs, io};
-use words::{Command, WordsError, print_refused_words};
 
 fn main(rt: HostRuntime) -> ExitCode {
     let status = match run(&rt) {

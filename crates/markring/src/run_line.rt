@@ -1,9 +1,9 @@
 //! One line of a script that runs over node threads.
 ghost use Rattle.std.specs.Prelude.{◌≡◌, IfSome, IsTrue};
-ghost use Rattle.markring.specs.Grammar.{is_own_line, line_of, words_of};
+ghost use Rattle.commands.specs.Grammar.{is_own_line, line_of, words_of};
 ghost use Rattle.markring.specs.Running.{is_collecting, is_own_said, is_waiting, shared_of, IsSaid};
 
-use crate::line::{Line, read_u8, read_u16};
+use commands::{Line, read_u8, read_u16};
 use model::{Event, Step};
 
 /// What one line of such a script says.

@@ -5,8 +5,7 @@ ghost use Rattle.model.specs.Steps.{is_own};
 ghost use Rattle.wire.specs.Readers.{IsWatchOf};
 
 use crate::run_line::RunLine;
-use crate::script::{DONE, REFUSED, UNREADABLE, print_unread};
-use crate::text::OutcomeText;
+use commands::{DONE, OutcomeText, REFUSED, UNREADABLE, print_unread};
 use disk::{Disk, FileDisk, MemoryDisk};
 use ids::Refusal;
 use model::{Answer, Event, Outcome};

@@ -1,0 +1,215 @@
+-- What was printed before a turn of the loop over a script's lines.
+use Rattle.std.proofs.Common.{inl, inr, ◌≡◌, ◌≢◌, ℕ, ◌+◌, ◌≤◌, max, List, [], ◌∷◌, ◌++◌, length, Option, Some, None, Bor, refl, sym, ap, ◌∙◌, subst, arith, append_assoc, append-nil, length-append}
+use Rattle.std.specs.Io.KnownBytes.{Appends, Keeps}
+use Rattle.std.specs.Iterator.Adapters.{enumerate_steps}
+use Rattle.std.specs.Str.Iter.{lines_rest, lines_steps}
+use Rattle.std.specs.Str.Lines.{lines}
+use Rattle.std.specs.declared.iter.Enumerate.{Enumerate}
+use Rattle.std.specs.declared.str.Lines.{Lines}
+use Rattle.std.proofs.KnownBytes.{Appends-nil, Appends-trans, Appends-kept}
+use Rattle.std.proofs.lemmas.Iterator.{YieldsList}
+use Rattle.std.proofs.lemmas.Iterator.Consumers.{YieldsList-end}
+use Rattle.std.proofs.lemmas.Iterator.Splits.{YieldsList-from_lines}
+use Rattle.model.specs.World.{World}
+use Rattle.commands.specs.declared.script.Reply.{Reply}
+use Rattle.commands.specs.declared.script.Reply.TheVariants as reply
+use Rattle.commands.specs.declared.script.State.{State}
+use Rattle.commands.specs.declared.script.State.TheVariants as state
+use Rattle.commands.specs.Grammar.{line_of, words_of}
+use Rattle.commands.specs.Script.{Held, awaited, ShowsHeld, Moves, TakesLine, GoesOn, Replies, PrintsNoScript, PrintsReplies, RunsScript, replied, unread, printed, reply_text, status_after, status_of}
+use Rattle.commands.proofs.Chains.{first_and_rest}
+
+-- a reply after others
+printed_push : (n : ℕ) (rs : List Reply) (r : Reply)
+    → printed n (rs ++ r ∷ []) ≡ printed n rs ++ reply_text (n + length rs) r
+printed_push n [] r = append-nil (reply_text n r) ∙ ap (λ k. reply_text k r) (omega arith)
+printed_push n (x ∷ rs) r =
+    let place : n + 1 + length rs ≡ n + length (x ∷ rs) = omega arith in
+    ap (λ bs. reply_text n x ++ bs)
+    (printed_push (n + 1) rs r ∙ ap (λ k. printed (n + 1) rs ++ reply_text k r) place)
+    ∙ sym (append_assoc (reply_text n x) (printed (n + 1) rs) _)
+
+status_of_push : (rs : List Reply) (r : Reply)
+    → status_of (rs ++ r ∷ []) ≡ max (status_of rs) (status_after r)
+status_of_push [] r = omega arith
+status_of_push (x ∷ rs) r = omega (arith, status_of_push rs r)
+
+-- no status is above 2
+status_after_le : (r : Reply) → status_after r ≤ 2
+status_after_le reply.Nothing = omega arith
+status_after_le (reply.Outcome o) = omega arith
+status_after_le (reply.Summary s) = omega arith
+status_after_le (reply.Refused e) = omega arith
+status_after_le reply.NoCommand = omega arith
+
+status_of_le : (rs : List Reply) → status_of rs ≤ 2
+status_of_le [] = omega arith
+status_of_le (r ∷ rs) = omega (arith, status_after_le r, status_of_le rs)
+
+no_script_le : (status : ℕ) (old new : Option (List ℕ)) → PrintsNoScript status old new → status ≤ 2
+no_script_le status old new (inl prints) = omega (arith, prints.0)
+no_script_le status old new (inr prints) = omega (arith, prints.0)
+
+pub small_status : (remaining : Option (List ℕ)) (status : ℕ) (old new : Option (List ℕ))
+    → RunsScript remaining status old new → status ≤ 2
+small_status remaining status old new (replied script all prints) =
+    omega (arith, prints.worst, status_of_le prints.replies)
+small_status remaining status old new (unread prints) = no_script_le status old new prints
+
+-- where the loop over a script's lines stands: the lines that are left, the space, the status so
+-- far and what the output holds, where that is known
+pub record Point (S : Type 0) : Type 0 where
+  pub left : Enumerate Lines
+  pub state : State S
+  pub status : ℕ
+  pub output : Option (List ℕ)
+
+-- before a turn: the replies to the lines that were passed, and what is left
+pub record PrintedBefore {S : Type 0} (shows : S → World → Type 0) (script : List ℕ)
+    (start : Option (List ℕ)) (p : Point S) : Type 0 where
+  pub replies : List Reply
+  pub counted : length replies ≡ p.left.count
+  pub held : Held
+  pub shown : ShowsHeld shows p.state held
+  pub texts : List (List ℕ)
+  pub yields : YieldsList lines_steps (λ x. x.now) p.left.iter texts
+  pub follow : (more : List Reply) → Replies held texts more
+      → Replies awaited (lines script) (replies ++ more)
+  pub worst : p.status ≡ status_of replies
+  pub appended : Appends start p.output (printed 1 replies)
+
+-- before the first line
+pub printed_nothing : {S : Type 0} (shows : S → World → Type 0) (script : List ℕ)
+    (it : Enumerate Lines) (known : Option (List ℕ)) → lines_rest it.iter ≡ script → it.count ≡ 0
+    → PrintedBefore shows script known
+    (record { left = it; state = state.Unopened; status = 0; output = known })
+printed_nothing shows script it known all none =
+    record {
+      replies = [];
+      counted = sym none;
+      held = awaited;
+      shown = tt;
+      texts = lines script;
+      yields = YieldsList-from_lines script all;
+      follow = λ more follows. follows;
+      worst = refl;
+      appended = Appends-nil known;
+    }
+
+-- a line that does not end the program
+goes_on : (r : Reply) (rs : List Reply) (P : Type 0) → r ≢ reply.NoCommand → P → GoesOn r rs P
+goes_on reply.NoCommand rs P goes p = absurd (goes refl)
+goes_on reply.Nothing rs P goes p = p
+goes_on (reply.Outcome o) rs P goes p = p
+goes_on (reply.Summary s) rs P goes p = p
+goes_on (reply.Refused e) rs P goes p = p
+
+ends_here : (r : Reply) → r ≡ reply.NoCommand → (P : Type 0) → GoesOn r [] P
+ends_here r last P = subst (λ z. GoesOn z [] P) (sym last) refl
+
+-- a turn: the line, its reply, and what was printed for it
+pub record Turn {S : Type 0} (shows : S → World → Type 0) (p q : Point S) : Type 0 where
+  pub index : ℕ
+  pub text : Bor (List ℕ)
+  pub reply : Reply
+  pub step : enumerate_steps lines_steps p.left (Some (index, text)) q.left
+  pub answers : Moves shows (λ h later. TakesLine h (line_of (words_of text.now)) reply later)
+      p.state q.state
+  pub prints : Appends p.output q.output (reply_text (index + 1) reply)
+  pub worse : q.status ≡ max p.status (status_after reply)
+
+module _ {S : Type 0} (shows : S → World → Type 0) (script : List ℕ) (start : Option (List ℕ))
+    (p q : Point S) (before : PrintedBefore shows script start p) (turn : Turn shows p q) where
+  abbrev replies_so_far : List Reply
+  replies_so_far = before.replies ++ turn.reply ∷ []
+
+  appended_push : Appends start q.output (printed 1 replies_so_far)
+  appended_push =
+      let place : turn.index + 1 ≡ 1 + length before.replies =
+      omega (arith, before.counted, turn.step.1) in
+      let more : printed 1 before.replies ++ reply_text (turn.index + 1) turn.reply
+      ≡ printed 1 replies_so_far =
+      ap (λ k. printed 1 before.replies ++ reply_text k turn.reply) place
+      ∙ sym (printed_push 1 before.replies turn.reply) in
+      subst (Appends start q.output) more
+      (Appends-trans start p.output q.output (printed 1 before.replies)
+      (reply_text (turn.index + 1) turn.reply) before.appended turn.prints)
+
+  worst_push : q.status ≡ status_of replies_so_far
+  worst_push =
+      turn.worse ∙ ap (λ k. max k (status_after turn.reply)) before.worst
+      ∙ sym (status_of_push before.replies turn.reply)
+
+  -- it does not end the program
+  pub printed_more : turn.reply ≢ reply.NoCommand → PrintedBefore shows script start q
+  printed_more goes =
+      let next = first_and_rest {t = q.left.iter} before.yields turn.text turn.step.0 in
+      let taken = turn.answers before.held before.shown in
+      record {
+        replies = replies_so_far;
+        counted =
+            let more = length-append before.replies (turn.reply ∷ []) in
+            omega (arith, before.counted, turn.step.2, more);
+        held = taken.0;
+        shown = taken.2;
+        texts = next.0;
+        yields = next.2;
+        follow = λ rs follows.
+            subst (Replies awaited (lines script))
+            (sym (append_assoc before.replies (turn.reply ∷ []) rs))
+            (before.follow (turn.reply ∷ rs)
+            (subst (λ ls. Replies before.held ls (turn.reply ∷ rs)) (sym next.1)
+            (taken.0, taken.1, goes_on turn.reply rs _ goes follows)));
+        worst = worst_push;
+        appended = appended_push;
+      }
+
+  -- it ends the program
+  pub printed_last : turn.reply ≡ reply.NoCommand → PrintsReplies script q.status start q.output
+  printed_last last =
+      let next = first_and_rest {t = q.left.iter} before.yields turn.text turn.step.0 in
+      let taken = turn.answers before.held before.shown in
+      record {
+        replies = replies_so_far;
+        follow = before.follow (turn.reply ∷ [])
+            (subst (λ ls. Replies before.held ls (turn.reply ∷ [])) (sym next.1)
+            (taken.0, taken.1, ends_here turn.reply last (Replies taken.0 next.0 [])));
+        worst = worst_push;
+        appended = appended_push;
+      }
+
+-- no line is left
+pub printed_all : {S : Type 0} (shows : S → World → Type 0) (script : List ℕ)
+    (start : Option (List ℕ)) (p : Point S) (later : Enumerate Lines)
+    → PrintedBefore shows script start p → enumerate_steps lines_steps p.left None later
+    → PrintsReplies script p.status start p.output
+printed_all shows script start p later before step =
+    let none : [] ≡ before.texts =
+    (YieldsList-end before.yields [] p.left.iter refl None later.iter refl step.0).0 in
+    record {
+      replies = before.replies;
+      follow = subst (Replies awaited (lines script)) (append-nil before.replies)
+          (before.follow [] (subst (λ ls. Replies before.held ls []) none refl));
+      worst = before.worst;
+      appended = before.appended;
+    }
+
+-- a flush at the end
+flushed_no_script : (status : ℕ) (old mid new : Option (List ℕ)) → PrintsNoScript status old mid
+    → Keeps mid new → PrintsNoScript status old new
+flushed_no_script status old mid new (inl prints) kept =
+    inl (prints.0, Appends-kept old mid new _ prints.1 kept)
+flushed_no_script status old mid new (inr prints) kept =
+    inr (prints.0, Appends-kept old mid new _ prints.1 kept)
+
+pub flushed : (remaining : Option (List ℕ)) (status : ℕ) (old mid new : Option (List ℕ))
+    → RunsScript remaining status old mid → Keeps mid new → RunsScript remaining status old new
+flushed remaining status old mid new (replied script all prints) kept =
+    replied script all (record {
+      replies = prints.replies;
+      follow = prints.follow;
+      worst = prints.worst;
+      appended = Appends-kept old mid new (printed 1 prints.replies) prints.appended kept;
+    })
+flushed remaining status old mid new (unread prints) kept =
+    unread (flushed_no_script status old mid new prints kept)

@@ -1,0 +1,10 @@
+use Rattle.std.proofs.Common.{subst}
+use Rattle.commands.specs.Script.{ShowsHeld}
+use Rattle.commands.proofs.Replies.{made_shows}
+use Rattle.commands.proofs.script.open.Goals as goal
+
+pub returns-in-Ok : goal.returns-in-Ok
+returns-in-Ok g c =
+    let shows = g.S.Space.shows in
+    λ h shown. made_shows shows h c.args.shape c.in-Ok.space
+    (subst (λ s. ShowsHeld shows s h) c.in-Unopened.is shown) c.in-Ok.ensures.made

@@ -1,0 +1,32 @@
+-- What is printed for a word that is to spell a frame, and the status; what the output held before
+-- and afterwards is said where it is known.
+use Rattle.std.specs.Prelude.{◌≡◌, ℕ, List, [], ◌∷◌, ◌++◌, ◌⊎◌, Option, Result, Ok, Err, codes}
+use Rattle.std.specs.Io.KnownBytes.{Appends}
+use Rattle.hex.specs.Hex.{decode_of}
+use Rattle.hex.specs.declared.error.FromHexError.{FromHexError}
+use Rattle.ids.specs.declared.refusal.Refusal.TheVariants.{Memory, BadFrame}
+use Rattle.msg.specs.Grammar.{Plain, Fits, spelling}
+use Rattle.msg.specs.Texts.{frame_text}
+use Rattle.commands.specs.Text.{refused_text}
+
+-- for bytes
+pub data PrintsSpelled (bytes : List ℕ) (status : ℕ) (old new : Option (List ℕ)) : Type 0 where
+  -- they spell this frame
+  frame : (f : Plain) → Fits f → bytes ≡ spelling f → status ≡ 0
+      → Appends old new (frame_text f ++ (10 ∷ [])) → PrintsSpelled bytes status old new
+  -- they spell none
+  no_frame : ((f : Plain) → Fits f → bytes ≡ spelling f → ⊥) → status ≡ 1
+      → Appends old new (refused_text BadFrame ++ (10 ∷ [])) → PrintsSpelled bytes status old new
+
+-- for bytes, or a word that is no hexadecimal digits or an odd number of them
+abbrev pub PrintsBytes : Result (List ℕ) FromHexError → ℕ → Option (List ℕ) → Option (List ℕ)
+    → Type 0
+PrintsBytes (Ok bytes) status old new = PrintsSpelled bytes status old new
+PrintsBytes (Err e) status old new = (status ≡ 2)
+    × Appends old new (codes "words refused" ++ (10 ∷ []))
+
+-- for a word, where memory may be refused
+abbrev pub PrintsDecoded : List ℕ → ℕ → Option (List ℕ) → Option (List ℕ) → Type 0
+PrintsDecoded word status old new =
+    PrintsBytes (decode_of word) status old new
+    ⊎ ((status ≡ 1) × Appends old new (refused_text Memory ++ (10 ∷ [])))

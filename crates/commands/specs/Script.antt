@@ -1,0 +1,155 @@
+-- What a script prints, and the status that it ends with.
+use Rattle.std.specs.Prelude.{◌≡◌, ◌≢◌, ℕ, ◌+◌, true, max, List, [], ◌∷◌, ◌++◌, ◌⊎◌, Option, Some, None, IfSome, Ok, codes, decimal}
+use Rattle.std.specs.Io.KnownBytes.{Appends}
+use Rattle.std.specs.Str.Lines.{lines}
+use Rattle.ids.specs.Limits.{Shaped, IsShape}
+use Rattle.ids.specs.declared.refusal.Refusal.TheVariants.{Memory, NoNode, ImageTooLarge}
+use Rattle.model.specs.World.{World, IsStepRefusal, new_world, is_step_memory_free, take_step}
+use Rattle.model.specs.declared.step.Outcome.TheVariants as outcome
+use Rattle.model.specs.declared.step.Step.{Step}
+use Rattle.commands.specs.declared.line.Line.{Line}
+use Rattle.commands.specs.declared.line.Line.TheVariants as line
+use Rattle.commands.specs.declared.script.Reply.{Reply}
+use Rattle.commands.specs.declared.script.Reply.TheVariants as reply
+use Rattle.commands.specs.declared.script.State.{State}
+use Rattle.commands.specs.declared.script.State.TheVariants as state
+use Rattle.commands.specs.Grammar.{line_of, words_of}
+use Rattle.world.specs.Shows.{IsSmall, summary_at}
+use Rattle.commands.specs.Text.{outcome_text, refused_text, summary_text}
+use Rattle.node.specs.declared.summary.Summary.{Summary}
+
+-- the space of a script: not asked for yet, refused for want of memory, or there
+pub data Held : Type 0 where
+  awaited : Held
+  denied : Held
+  there : World → Held
+
+-- the program's space shows that of the definitions
+abbrev pub ShowsHeld : {S : Type 0} → (S → World → Type 0) → State S → Held → Type 0
+ShowsHeld shows state.Unopened awaited = Unit {0}
+ShowsHeld shows (state.Refused e) denied = e ≡ Memory
+ShowsHeld shows (state.Open s) (there w) = shows s w
+ShowsHeld shows s h = ⊥
+
+-- whatever the old state shows, the new one shows what comes of it
+abbrev pub Moves : {S : Type 0} → (S → World → Type 0) → (Held → Held → Type 0) → State S → State S
+    → Type 0
+Moves shows becomes old new =
+    (h : Held) → ShowsHeld shows old h
+    → (later : Held) × becomes h later × ShowsHeld shows new later
+
+-- What is printed for a step of a space that is there, and the space afterwards. A step that takes
+-- no memory is not refused for want of it, and no save of a small image because it is too large.
+abbrev pub IsStepReply : World → Step → Reply → Held → Type 0
+IsStepReply w step (reply.Outcome o) later =
+    (v : World) × (take_step w step ≡ Ok (v, o)) × (later ≡ there v)
+IsStepReply w step (reply.Refused e) later =
+    IsStepRefusal w step e
+    × (is_step_memory_free w step ≡ true → e ≢ Memory)
+    × (IsSmall w step → e ≢ ImageTooLarge)
+    × (later ≡ there w)
+IsStepReply w step reply.Nothing later = ⊥
+IsStepReply w step (reply.Summary s) later = ⊥
+IsStepReply w step reply.NoCommand later = ⊥
+
+abbrev pub TakesStep : Held → Step → Reply → Held → Type 0
+TakesStep awaited step r later = (r ≡ reply.NoCommand) × (later ≡ awaited)
+TakesStep denied step r later = (r ≡ reply.Refused Memory) × (later ≡ denied)
+TakesStep (there w) step r later = IsStepReply w step r later
+
+-- what is printed for a node in numbers, where there is such a node
+abbrev pub state_reply : Option Summary → Reply
+state_reply (Some s) = reply.Summary s
+state_reply None = reply.Refused NoNode
+
+abbrev pub TakesState : Held → ℕ → Reply → Held → Type 0
+TakesState awaited node r later = (r ≡ reply.NoCommand) × (later ≡ awaited)
+TakesState denied node r later = (r ≡ reply.Refused Memory) × (later ≡ denied)
+TakesState (there w) node r later = (r ≡ state_reply (summary_at w node)) × (later ≡ there w)
+
+-- a space of these sizes is made, or refused for want of memory
+abbrev pub IsNewReply : Shaped → Reply → Held → Type 0
+IsNewReply sizes r later =
+    ((r ≡ reply.Outcome outcome.Done) × (later ≡ there (new_world sizes)))
+    ⊎ ((r ≡ reply.Refused Memory) × (later ≡ denied))
+
+abbrev pub TakesSpace : Held → Shaped → Reply → Held → Type 0
+TakesSpace awaited sizes r later = IsNewReply sizes r later
+TakesSpace denied sizes r later = (r ≡ reply.NoCommand) × (later ≡ denied)
+TakesSpace (there w) sizes r later = (r ≡ reply.NoCommand) × (later ≡ there w)
+
+-- `space` stands once and first, and its sizes are within the limits
+pub record AsksSpace (h : Held) (sizes : Shaped) (r : Reply) (later : Held) : Type 0 where
+  pub within : IsShape sizes → TakesSpace h sizes r later
+  pub outside : (IsShape sizes → ⊥) → (r ≡ reply.NoCommand) × (later ≡ h)
+
+-- what is printed for a line that says this, and the space afterwards
+abbrev pub TakesLine : Held → Option Line → Reply → Held → Type 0
+TakesLine h None r later = (r ≡ reply.NoCommand) × (later ≡ h)
+TakesLine h (Some line.Blank) r later = (r ≡ reply.Nothing) × (later ≡ h)
+TakesLine h (Some (line.Space nodes registers slots)) r later =
+    AsksSpace h (record { nodes = nodes; registers = registers; slots = slots }) r later
+TakesLine h (Some (line.Step step)) r later = TakesStep h step r later
+TakesLine h (Some (line.State node)) r later = TakesState h node r later
+
+-- what is printed for the reply to the line of this number
+abbrev pub reply_text : ℕ → Reply → List ℕ
+reply_text number reply.Nothing = []
+reply_text number (reply.Outcome o) = outcome_text o ++ (10 ∷ [])
+reply_text number (reply.Summary s) = summary_text s ++ (10 ∷ [])
+reply_text number (reply.Refused e) = refused_text e ++ (10 ∷ [])
+reply_text number reply.NoCommand =
+    codes "line " ++ (decimal number ++ (codes ": not a command" ++ (10 ∷ [])))
+
+-- what is printed for replies, of which the first is to the line of this number
+abbrev pub printed : ℕ → List Reply → List ℕ
+printed number [] = []
+printed number (r ∷ rs) = reply_text number r ++ printed (number + 1) rs
+
+abbrev pub status_after : Reply → ℕ
+status_after reply.Nothing = 0
+status_after (reply.Outcome o) = 0
+status_after (reply.Summary s) = 0
+status_after (reply.Refused e) = 1
+status_after reply.NoCommand = 2
+
+-- the status is that of the worst reply
+abbrev pub status_of : List Reply → ℕ
+status_of [] = 0
+status_of (r ∷ rs) = max (status_after r) (status_of rs)
+
+-- a line outside the grammar is the last
+abbrev pub GoesOn : Reply → List Reply → Type 0 → Type 0
+GoesOn reply.NoCommand rs rest = rs ≡ []
+GoesOn r rs rest = rest
+
+-- the replies to the lines, one by one
+abbrev pub Replies : Held → List (List ℕ) → List Reply → Type 0
+Replies h [] rs = rs ≡ []
+Replies h (l ∷ ls) [] = ⊥
+Replies h (l ∷ ls) (r ∷ rs) =
+    (later : Held) × TakesLine h (line_of (words_of l)) r later × GoesOn r rs (Replies later ls rs)
+
+-- the program printed the replies to the script's lines, and ends with the status of the worst;
+-- what the output held before and afterwards is said where it is known
+pub record PrintsReplies (script : List ℕ) (status : ℕ) (old new : Option (List ℕ)) : Type 0 where
+  pub replies : List Reply
+  pub follow : Replies awaited (lines script) replies
+  pub worst : status ≡ status_of replies
+  pub appended : Appends old new (printed 1 replies)
+
+-- the program printed why it could not read the script
+abbrev pub PrintsNoScript : ℕ → Option (List ℕ) → Option (List ℕ) → Type 0
+PrintsNoScript status old new =
+    ((status ≡ 2) × Appends old new (codes "file refused" ++ (10 ∷ [])))
+    ⊎ ((status ≡ 1) × Appends old new (refused_text Memory ++ (10 ∷ [])))
+
+-- what a run of a script prints, and the status that it ends with; what was read is all that the
+-- reader had, where that is known
+pub data RunsScript (remaining : Option (List ℕ)) (status : ℕ) (old new : Option (List ℕ)) : Type 0
+  where
+    -- the replies to the lines
+    replied : (script : List ℕ) → IfSome remaining (λ bytes. script ≡ bytes)
+        → PrintsReplies script status old new → RunsScript remaining status old new
+    -- that the script can't be read
+    unread : PrintsNoScript status old new → RunsScript remaining status old new

@@ -1,0 +1,256 @@
+//! Runs a script over a space of nodes.
+ghost use Rattle.std.specs.Prelude.{◌≡◌, ◌≤◌, ◌⊎◌, IfOk, IfErr, OnOk, IsTrue, ◌≢◌};
+ghost use Rattle.std.specs.Io.KnownBytes.{Appends};
+ghost use Rattle.ids.specs.declared.refusal.Refusal.TheVariants.{Memory, ImageTooLarge};
+ghost use Rattle.model.specs.World.{World, FollowsStep, new_world, is_own_step, is_step_memory_free};
+ghost use Rattle.world.specs.Shows.{ShowsWorld, IsSmall, summary_at};
+ghost use Rattle.commands.specs.Grammar.{line_of, words_of};
+ghost use Rattle.commands.specs.Script.{Moves, PrintsNoScript, PrintsReplies, RunsScript, TakesLine, TakesSpace, TakesState, TakesStep, reply_text, status_after};
+
+use crate::line::Line;
+use crate::text::{OutcomeText, SummaryText};
+use ids::{Refusal, Shape};
+use model::{Outcome, Step};
+use node::Summary;
+use std::alloc::Global;
+use std::io;
+use std::io::{ErrorKind, Read, Write};
+use world::Sim;
+
+/// The status where all is done.
+pub const DONE: u8 = 0;
+
+/// The status where some line was refused, memory was refused, or output failed.
+pub const REFUSED: u8 = 1;
+
+/// The status where words, a file or a script's line can't be read.
+pub const UNREADABLE: u8 = 2;
+
+/// What a script runs over.
+trait Space: Drop + Sized {
+    /// A space of the definitions that this one shows.
+    ghost shows: { Self → World → Type 0 };
+
+    /// A new space of this shape. `Memory` where a growth was refused.
+    fn new(alloc: Global, shape: Shape) -> Result<Self, Refusal>
+        ensures made { IfOk result (λ s. shows s (new_world shape)) }
+        ensures refused { IfErr result (λ e. e ≡ Memory) };
+
+    /// Takes a step, or refuses it and changes nothing. A step that takes no memory is not refused
+    /// for want of it, and no save of a small image because it is too large.
+    fn step(&mut self, step: Step) -> Result<Outcome, Refusal>
+        requires own { IsTrue (is_own_step step) }
+        ensures follows { (w : World) → shows self.old w
+            → FollowsStep shows w step result self.new }
+        ensures memory_free { (w : World) → shows self.old w → IsTrue (is_step_memory_free w step)
+            → IfErr result (λ e. e ≢ Memory) }
+        ensures small { (w : World) → shows self.old w → IsSmall w step
+            → IfErr result (λ e. e ≢ ImageTooLarge) };
+
+    /// The node of this number in numbers, if there is one.
+    fn state(&self, number: u8) -> Option<Summary>
+        ensures shown { (w : World) → shows self.now w → result ≡ summary_at w number };
+}
+
+impl Space for Sim {
+    ghost shows = { ShowsWorld };
+
+    fn new(alloc: Global, shape: Shape) -> Result<Sim, Refusal> {
+        Sim::new(alloc, shape)
+    }
+
+    fn step(&mut self, step: Step) -> Result<Outcome, Refusal> {
+        Sim::step(self, step)
+    }
+
+    fn state(&self, number: u8) -> Option<Summary> {
+        Sim::state(self, number)
+    }
+}
+
+/// The space of a script.
+#[derive(Drop)]
+enum State<S> {
+    /// No line asked for it yet.
+    Unopened,
+    Open(S),
+    /// It was refused, and so is each step of it.
+    Refused(Refusal),
+}
+
+/// What a line of a script comes to.
+#[derive(Clone, Copy)]
+enum Reply {
+    /// Nothing is printed.
+    Nothing,
+    Outcome(Outcome),
+    Summary(Summary),
+    Refused(Refusal),
+    /// It is outside the grammar.
+    NoCommand,
+}
+
+/// Runs a script in one thread, prints what its lines come to, and answers the program's status: 0
+/// where no line was refused; 1 where some was, memory was refused or output failed; 2 where the
+/// script can't be read, or a line is outside the grammar. The script is read to its end before its
+/// first line is run, and a line outside the grammar is the last one that is looked at.
+///
+/// Each line is written in several calls, so a writer whose calls cost much is passed in a buffer;
+/// the output is flushed at the end. Where output failed, some of the text may have been written.
+pub fn sim<R: Read + Drop, W: Write>(alloc: Global, script: R, out: &mut W) -> u8
+    ensures status { RunsScript (R.remaining script) result
+        (W.contents out.old) (W.contents out.new) ⊎ (result ≡ 1) }
+    ensures small { result ≤ 2 }
+{
+    match run::<Sim, R, W>(alloc, script, out) {
+        Ok(status) => status,
+        Err(_) => REFUSED,
+    }
+}
+
+/// Runs a script, and answers the status; the error is that output failed.
+fn run<S: Space, R: Read + Drop, W: Write>(alloc: Global, script: R, out: &mut W) -> io::Result<u8>
+    ensures { IfOk result (λ status.
+        RunsScript (R.remaining script) status (W.contents out.old) (W.contents out.new)) }
+{
+    let status = match io::read_to_string(alloc, script) {
+        Ok(text) => run_lines::<S, W>(alloc, text.as_str(), out)?,
+        Err(error) => print_unread(out, error.kind())?,
+    };
+    out.flush()?;
+    Ok(status)
+}
+
+/// Prints that a script can't be read, for an error of this kind, and answers the status: 1 for
+/// want of memory, else 2. The error is that output failed.
+pub fn print_unread<W: Write>(out: &mut W, kind: ErrorKind) -> io::Result<u8>
+    ensures printed { IfOk result (λ status.
+        PrintsNoScript status (W.contents out.old) (W.contents out.new)) }
+    ensures memory { kind ≡ ErrorKind.OutOfMemory → IfOk result (λ status. status ≡ 1) }
+    ensures other { kind ≢ ErrorKind.OutOfMemory → IfOk result (λ status. status ≡ 2) }
+{
+    match kind {
+        ErrorKind::OutOfMemory => {
+            writeln!(out, "refused {}", Refusal::Memory)?;
+            Ok(REFUSED)
+        }
+        _ => {
+            writeln!(out, "file refused")?;
+            Ok(UNREADABLE)
+        }
+    }
+}
+
+/// Runs a script's lines, and answers the status; the error is that output failed.
+fn run_lines<S: Space, W: Write>(alloc: Global, script: &str, out: &mut W) -> io::Result<u8>
+    ensures { IfOk result (λ status.
+        PrintsReplies script.now status (W.contents out.old) (W.contents out.new)) }
+{
+    let mut state = State::<S>::Unopened;
+    let mut status = DONE;
+    for (index, text) in script.lines().enumerate() {
+        let reply = take_line(alloc, &mut state, text);
+        print_reply(out, index + 1, &reply)?;
+        status = status.max(status_after(&reply));
+        if let Reply::NoCommand = reply {
+            return Ok(status);
+        }
+    }
+    Ok(status)
+}
+
+/// Prints what the line of this number comes to.
+fn print_reply<W: Write>(out: &mut W, number: usize, reply: &Reply) -> io::Result<()>
+    ensures { OnOk result
+        (Appends (W.contents out.old) (W.contents out.new) (reply_text number reply.now)) }
+{
+    match reply {
+        Reply::Nothing => Ok(()),
+        Reply::Outcome(outcome) => writeln!(out, "{}", OutcomeText(*outcome)),
+        Reply::Summary(summary) => writeln!(out, "{}", SummaryText(*summary)),
+        Reply::Refused(refusal) => writeln!(out, "refused {refusal}"),
+        Reply::NoCommand => writeln!(out, "line {number}: not a command"),
+    }
+}
+
+/// The status that a script has at least where a line comes to this.
+fn status_after(reply: &Reply) -> u8
+    ensures { result ≡ status_after reply.now }
+{
+    match reply {
+        Reply::Nothing | Reply::Outcome(_) | Reply::Summary(_) => DONE,
+        Reply::Refused(_) => REFUSED,
+        Reply::NoCommand => UNREADABLE,
+    }
+}
+
+/// Does what the line says.
+fn take_line<S: Space>(alloc: Global, state: &mut State<S>, text: &str) -> Reply
+    ensures { Moves S.shows (λ h later. TakesLine h (line_of (words_of text.now)) result later)
+        state.old state.new }
+{
+    match Line::parse(text) {
+        Some(Line::Blank) => Reply::Nothing,
+        Some(
+            Line::Space {
+                nodes,
+                registers,
+                slots,
+            },
+        ) => match Shape::new(nodes, registers, slots) {
+            Some(shape) => open(alloc, state, shape),
+            None => Reply::NoCommand,
+        },
+        Some(Line::Step(step)) => take_step(state, step),
+        Some(Line::State(node)) => show_state(state, node),
+        None => Reply::NoCommand,
+    }
+}
+
+/// Makes the space, where no line asked for it before.
+fn open<S: Space>(alloc: Global, state: &mut State<S>, shape: Shape) -> Reply
+    ensures { Moves S.shows (λ h later. TakesSpace h shape result later) state.old state.new }
+{
+    let State::Unopened = state else {
+        return Reply::NoCommand;
+    };
+    match S::new(alloc, shape) {
+        Ok(space) => {
+            *state = State::Open(space);
+            Reply::Outcome(Outcome::Done)
+        }
+        Err(refusal) => {
+            *state = State::Refused(refusal);
+            Reply::Refused(refusal)
+        }
+    }
+}
+
+/// Takes a step of the space, where it was asked for.
+fn take_step<S: Space>(state: &mut State<S>, step: Step) -> Reply
+    requires { IsTrue (is_own_step step) }
+    ensures { Moves S.shows (λ h later. TakesStep h step result later) state.old state.new }
+{
+    match state {
+        State::Unopened => Reply::NoCommand,
+        State::Refused(refusal) => Reply::Refused(*refusal),
+        State::Open(space) => match space.step(step) {
+            Ok(outcome) => Reply::Outcome(outcome),
+            Err(refusal) => Reply::Refused(refusal),
+        },
+    }
+}
+
+/// Looks at a node, where the space was asked for. `NoNode` where it has none of that number.
+fn show_state<S: Space>(state: &State<S>, node: u8) -> Reply
+    ensures { Moves S.shows (λ h later. TakesState h node result later) state.now state.now }
+{
+    match state {
+        State::Unopened => Reply::NoCommand,
+        State::Refused(refusal) => Reply::Refused(*refusal),
+        State::Open(space) => match space.state(node) {
+            Some(summary) => Reply::Summary(summary),
+            None => Reply::Refused(Refusal::NoNode),
+        },
+    }
+}

@@ -1,0 +1,237 @@
+//! The words with which the program is called.
+ghost use Rattle.std.specs.Prelude.{◌≡◌, ◌<◌, ◌≤◌, ◌++◌, ◌∷◌, [], false, None, Ok, IfOk, OnOk, IsTrue, codes, drop, is_some, length, map, option_and_then, option_map, string_bytes};
+ghost use Rattle.std.specs.Io.KnownBytes.{Appends};
+ghost use Rattle.std.specs.Str.{bytes_eq};
+ghost use Rattle.std.specs.IoError.{error_kind};
+ghost use Rattle.clap.specs.Words.{app_of, kind_of, rule_of, subcommand_rows_of, with_subcommand};
+ghost use Rattle.clap.specs.declared.error.ErrorKind.TheVariants as parse;
+ghost use Rattle.std.specs.declared.io.ErrorKind.TheVariants as io;
+ghost use Rattle.commands.specs.declared.words.WordsError.TheVariants.{OutOfMemory};
+ghost use Rattle.commands.specs.Called.{IsRead, Reads, TellsMemory, asked_of, call_in, call_of, called_of, has_no_dash, is_dashed, none_of, one_of, operands, program, run, run_from, run_of, with_one_word};
+
+use crate::script::{REFUSED, UNREADABLE};
+use clap::error::ErrorKind;
+use clap::{Arg, ArgMatches, Error};
+use std::alloc::{AllocError, Global};
+use std::io;
+use std::io::Write;
+
+/// What the program is asked to do.
+#[derive(Clone, Copy, Debug, PartialEq, Eq)]
+pub enum Command<'a> {
+    /// Runs the script of this file, or of standard input.
+    Sim { script: Option<&'a str> },
+    /// Prints the frame whose bytes this word spells in hexadecimal digits.
+    Decode { hex: &'a str },
+    /// Runs the script of a file over node threads, which the configuration of a file describes.
+    Run { config: &'a str, script: &'a str },
+}
+
+/// Why words are no command.
+#[derive(Clone, Copy, Debug, PartialEq, Eq)]
+pub enum WordsError {
+    /// Memory was wanted and refused.
+    OutOfMemory,
+    /// They are none that the program knows, or ask for help.
+    Unknown,
+}
+
+impl From<Error> for WordsError {
+    ghost from_gives = { λ e fault. TellsMemory parse.OutOfMemory (kind_of e) fault };
+
+    fn from(error: Error) -> WordsError {
+        match error.kind() {
+            ErrorKind::OutOfMemory => WordsError::OutOfMemory,
+            _ => WordsError::Unknown,
+        }
+    }
+}
+
+impl From<io::Error> for WordsError {
+    ghost from_gives = { λ e fault. TellsMemory io.OutOfMemory (error_kind e) fault };
+
+    fn from(error: io::Error) -> WordsError {
+        match error.kind() {
+            io::ErrorKind::OutOfMemory => WordsError::OutOfMemory,
+            _ => WordsError::Unknown,
+        }
+    }
+}
+
+impl From<AllocError> for WordsError {
+    ghost from_gives = { λ _ fault. fault ≡ OutOfMemory };
+
+    fn from(_error: AllocError) -> WordsError {
+        WordsError::OutOfMemory
+    }
+}
+
+impl<'a> Command<'a> {
+    /// The command that the words say, of which the first is the program's name. No words beside it
+    /// say `sim`. After `run` a `--` ends options, and no word before it may begin with a dash;
+    /// after other words such a word is read as `clap` reads it.
+    pub fn read(alloc: Global, words: &'a [String]) -> Result<Command<'a>, WordsError>
+        ensures alone { length words.now ≤ 1 → result ≡ Ok (Command.Sim None) }
+        ensures run { IsRead (run_of (drop 1 (map string_bytes words.now))) result }
+        ensures reads { let said = drop 1 (map string_bytes words.now) in
+            IsTrue (has_no_dash said) → Reads (asked_of said) result }
+    {
+        if words.len() <= 1 {
+            return Ok(Command::Sim { script: None });
+        }
+        match run_in(words) {
+            Some(run) => Ok(run),
+            None => Command::known_in(alloc, words),
+        }
+    }
+
+    // The command that the words say to `clap`, of which the first is the program's name.
+    fn known_in(alloc: Global, words: &'a [String]) -> Result<Command<'a>, WordsError>
+        requires { 1 < length words.now }
+        ensures { let said = drop 1 (map string_bytes words.now) in
+            IsTrue (has_no_dash said) → Reads (called_of said) result }
+    {
+        let matches = known(alloc)?.try_get_matches_from(words)?;
+        command_in(&matches).ok_or(WordsError::Unknown)
+    }
+}
+
+/// The command `run`, if words say it.
+fn run_in<'a>(words: &'a [String]) -> Option<Command<'a>>
+    ensures { option_map call_of result ≡ run_of (drop 1 (map string_bytes words.now)) }
+{
+    let [_, name, words @ ..] = words else {
+        return None;
+    };
+    if name.as_str() != "run" {
+        return None;
+    }
+    let (config, script) = files_in(words)?;
+    Some(Command::Run { config, script })
+}
+
+/// The two files that words say. A `--` ends options, and is none of them.
+#[tactic(auto, using(crate::proofs::Files::two_more))]
+fn files_in<'a>(words: &'a [String]) -> Option<(&'a str, &'a str)>
+    ensures { option_map (λ files. run files.0.now files.1.now) result
+        ≡ option_and_then run_from (operands (map string_bytes words.now)) }
+{
+    let [first, words @ ..] = words else {
+        return None;
+    };
+    let first = first.as_str();
+    if is_end(first) {
+        return match words {
+            [config, script] => Some((config.as_str(), script.as_str())),
+            _ => None,
+        };
+    }
+    if is_dashed(first) {
+        return None;
+    }
+    Some((first, file_in(words)?))
+}
+
+/// The file that words say, if it is one alone.
+#[tactic(auto, using(crate::proofs::Files::one_more))]
+fn file_in<'a>(words: &'a [String]) -> Option<&'a str>
+    ensures { option_map (λ file. file.now) result
+        ≡ option_and_then one_of (operands (map string_bytes words.now)) }
+{
+    let [first, words @ ..] = words else {
+        return None;
+    };
+    let first = first.as_str();
+    if is_end(first) {
+        return match words {
+            [file] => Some(file.as_str()),
+            _ => None,
+        };
+    }
+    if is_dashed(first) || !is_over(words) {
+        return None;
+    }
+    Some(first)
+}
+
+/// Whether words say no file.
+#[tactic(auto, using(crate::proofs::Files::none_more))]
+fn is_over(words: &[String]) -> bool
+    ensures { result ≡ is_some (option_and_then none_of (operands (map string_bytes words.now))) }
+{
+    let [first, words @ ..] = words else {
+        return true;
+    };
+    is_end(first.as_str()) && words.is_empty()
+}
+
+/// Whether a word ends options.
+fn is_end(word: &str) -> bool
+    ensures { result ≡ bytes_eq word.now (codes "--") }
+{
+    word == "--"
+}
+
+/// Whether a word begins with a dash.
+fn is_dashed(word: &str) -> bool
+    ensures { result ≡ is_dashed word.now }
+{
+    match word.as_bytes() {
+        [first, ..] => *first == b'-',
+        [] => false,
+    }
+}
+
+/// The command that matches say, which the words of [`known`] have.
+fn command_in<'a>(matches: &ArgMatches<'a>) -> Option<Command<'a>>
+    ensures { option_map call_of result ≡ call_in (subcommand_rows_of matches.now) }
+{
+    match matches.subcommand()? {
+        ("sim", sim) => Some(Command::Sim {
+            script: sim.get_str("script"),
+        }),
+        ("decode", decode) => Some(Command::Decode {
+            hex: decode.get_str("hex")?,
+        }),
+        _ => None,
+    }
+}
+
+/// The words that the program knows.
+fn known<'a>(alloc: Global) -> Result<clap::Command<'a>, AllocError>
+    ensures { IfOk result (λ c. app_of c ≡ program) }
+{
+    let app = clap::Command::new(alloc, "markring").subcommand_required(true);
+    let app = with_command(alloc, app, "sim", Arg::new(alloc, "script"))?;
+    with_command(alloc, app, "decode", Arg::new(alloc, "hex").required(true))
+}
+
+/// Adds a command after which one word may stand.
+fn with_command<'a>(
+    alloc: Global,
+    app: clap::Command<'a>,
+    name: &'a str,
+    word: Arg<'a>,
+) -> Result<clap::Command<'a>, AllocError>
+    requires { word.global ≡ false }
+    ensures { IfOk result (λ c. app_of c ≡ with_subcommand (app_of app.entry)
+        (with_one_word name.now (rule_of word.entry))) }
+{
+    let command = clap::Command::new(alloc, name).arg(word)?;
+    app.subcommand(command)
+}
+
+/// Prints that the words are no command, and answers the status: 1 for want of memory, else 2. The
+/// error is that output failed.
+pub fn print_refused_words<W: Write>(out: &mut W, error: WordsError) -> io::Result<u8>
+    ensures printed { OnOk result
+        (Appends (W.contents out.old) (W.contents out.new) (codes "words refused" ++ 10 ∷ [])) }
+    ensures memory { error ≡ WordsError.OutOfMemory → IfOk result (λ status. status ≡ 1) }
+    ensures unknown { error ≡ WordsError.Unknown → IfOk result (λ status. status ≡ 2) }
+{
+    writeln!(out, "words refused")?;
+    Ok(match error {
+        WordsError::OutOfMemory => REFUSED,
+        WordsError::Unknown => UNREADABLE,
+    })
+}
