@@ -26,11 +26,10 @@ returns-in_err-write_at-clause-any_moment g c =
 pub returns-clause-crash : goal.returns-clause-crash
 returns-clause-crash g c =
     let leaves = g.D.Disk.may_leave in
-    let step = Torn 0 (length c.args.bytes.now) in
-    still_blank true step (leaves c.write_at.new.self) (leaves c.write_at-2.new.self)
+    still_blank true (Torn 0 _) (leaves c.write_at.new.self) (leaves c.write_at-2.new.self)
     c.write_at-2.ensures.crash
-    (still_blank false step (leaves c.args.disk.now) (leaves c.write_at.new.self)
-    c.write_at.ensures.crash c.requires)
+    (still_blank false (Torn 0 (length c.args.bytes.now)) (leaves c.args.disk.now)
+    (leaves c.write_at.new.self) c.write_at.ensures.crash c.requires)
 
 pub returns-clause-any_moment : goal.returns-clause-any_moment
 returns-clause-any_moment g c =
