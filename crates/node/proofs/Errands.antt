@@ -2,8 +2,6 @@
 use Rattle.std.proofs.Common.{◌≡◌, ℕ, Bool, true, false, not, List, [], ◌∷◌, ◌++◌, map, Option, Some, None, refl, ap, sym, ◌∙◌, subst, append-nil}
 use Rattle.std.proofs.lemmas.Bool.{cond-true}
 use Rattle.ids.specs.declared.names.Ref.{Ref}
-use Rattle.msg.specs.declared.body.Body.{Body}
-use Rattle.msg.specs.declared.body.Body.TheVariants as body
 use Rattle.msg.specs.declared.body.Message.{Message}
 use Rattle.model.specs.Shading.{marks_for}
 use Rattle.model.specs.Steps.{fits}
@@ -14,7 +12,7 @@ use Rattle.barrier.specs.Asked as appended
 use Rattle.barrier.specs.Asked.{IsAsked}
 use Rattle.barrier.proofs.Sent.{sent-then, fits-then}
 use Rattle.node.specs.declared.node.settling.Met.{Met}
-use Rattle.node.specs.Taking.{AreSent, met_by, reply_of, sought, marks_due, due}
+use Rattle.node.specs.Taking.{AreSent, sought, marks_due, due}
 
 pub none-from : {A : Type 0} (o : Option A) → ((x : A) → o ≡ Some x → ⊥) → o ≡ None
 none-from None never = refl
@@ -118,16 +116,3 @@ module _ (own cycle to : ℕ) (m : Met) (reply : Option Message) (was mid : Link
         → IsAsked [] first cycle was asked after
     asked-kept asked after keys same =
         record { keys = keys ∙ is.keys; fits = is.fits; sent = same ∙ is.sent }
-
--- only a Get is answered, and what it brings is asked for
-pub unanswered : (marking : Bool) (cycle stamp : ℕ) (v : Option Ref) (b : Body)
-    → (met_by marking cycle stamp v b).asks ≡ false → reply_of cycle v b ≡ None
-unanswered false cycle stamp v b asks = absurd cc
-unanswered true cycle stamp v body.Begin asks = refl
-unanswered true cycle stamp v (body.Token token) asks = refl
-unanswered true cycle stamp v (body.Mark target) asks = refl
-unanswered true cycle stamp v (body.Give label reference) asks = refl
-unanswered true cycle stamp v (body.Put target place reference) asks = refl
-unanswered true cycle stamp v (body.Get target place label) asks = absurd cc
-unanswered true cycle stamp v body.Ended asks = refl
-unanswered true cycle stamp v body.Swept asks = refl

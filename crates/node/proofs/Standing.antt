@@ -256,19 +256,6 @@ comes n from stamp b old t = record {
   brought = brought-any (IsWithin n.local.shape) n.local.heap b old.references t.within;
 }
 
--- what is asked for when it does names nodes of the space
-pub brought-inside : (n : NodeView) (from stamp : ℕ) (b : Body) (marking : Bool) (cycle : ℕ)
-    → IsNode n → IsTakable n.local from stamp b
-    → AllByRecursion (λ (r : Ref). r.node < length n.links)
-    (filled ((met_by marking cycle stamp (brought_by n.local.heap b) b).brought ∷ []))
-brought-inside n from stamp b marking cycle old t =
-    let v : Option Ref = brought_by n.local.heap b in
-    let m : Met = met_by marking cycle stamp v b in
-    let P = IsWithin n.local.shape in
-    within-inside n (filled (m.brought ∷ [])) old
-    (any-filled P m.brought
-    (met-any P marking cycle stamp v b (comes n from stamp b old t).brought))
-
 -- the node with these parts
 abbrev pub reached_local : LocalState → Heap → List Ref → Phases → Ring → LocalState
 reached_local q h asked p r = record q { heap = h; asked = asked; phases = p; ring = r }

@@ -1,4 +1,4 @@
-use Rattle.std.proofs.Common.{◌≡◌, ◌<◌, ◌^◌, true, false, length, map, ap, sym, ◌∙◌, refl, subst, arith, ℕ, Option, [], ◌∷◌, Ok, Err}
+use Rattle.std.proofs.Common.{◌≡◌, ◌<◌, ◌^◌, true, false, length, map, sym, ◌∙◌, refl, subst, Ok, Err}
 use Rattle.std.specs.List.{AllByRecursion}
 use Rattle.std.proofs.lemmas.Result.{err_from_is_err_and}
 use Rattle.ids.specs.declared.names.Ref.{Ref}
@@ -12,11 +12,9 @@ use Rattle.safra.specs.Rings.{counted_marks}
 use Rattle.safra.proofs.Bounds.{bounded_entered}
 use Rattle.node.specs.Invariant.{links_of}
 use Rattle.node.specs.Inside.{view_of}
-use Rattle.node.specs.Taking.{IsTakable, assembled, joined_parts, met_by}
-use Rattle.node.specs.declared.node.settling.Met.{Met}
-use Rattle.node.proofs.Errands.{unanswered}
+use Rattle.node.specs.Taking.{IsTakable, assembled, joined_parts}
 use Rattle.node.proofs.Balances.{balance-small}
-use Rattle.node.proofs.Standing.{assembled-same, brought-inside, roots-inside}
+use Rattle.node.proofs.Standing.{assembled-same, roots-inside}
 use Rattle.node.proofs.Outcomes.{ReadJoining, Left, joined_met, joined_reply, roots_of, due-joining, left-joining, joined-small, joined-refused, joined-stands, joined-performed}
 use Rattle.node.proofs.node.Node.take_joining.Goals as goal
 use Rattle.node.proofs.node.Node.take_joining.Goals.{After-make_room, After-follow}
@@ -102,42 +100,6 @@ left c is counted rooted =
     })
 
 -- ---- the goals
-
-pub send_joining-requires-clause-nodes : goal.send_joining-requires-clause-nodes
-send_joining-requires-clause-nodes c =
-    let n : NodeView = view_of c.self.inside in
-    let stamp = c.args.stamp in
-    let body = c.args.body in
-    let met = c.met_by-met.ensures
-    ∙ ap (λ (v : Option Ref). met_by true stamp stamp v body) c.brought_by-brought.ensures in
-    subst
-    (λ (m : Met).
-    AllByRecursion (λ (r : Ref). r.node < length n.links) (filled (m.brought ∷ [])))
-    (sym met)
-    (brought-inside n c.args.from stamp body true stamp c.self.invariant.node
-    (takable (goal.at.send_joining-requires-clause-nodes c).After-make_room))
-
-pub send_joining-requires-clause-there : goal.send_joining-requires-clause-there
-send_joining-requires-clause-there c =
-    subst (λ (k : ℕ). c.args.from < k) (sym c.self.invariant.node.links.width)
-    (takable (goal.at.send_joining-requires-clause-there c).After-make_room).there
-
-pub send_joining-requires-clause-answered : goal.send_joining-requires-clause-answered
-send_joining-requires-clause-answered c =
-    λ asks. c.reply_of-reply.ensures
-    ∙ unanswered true c.args.stamp c.args.stamp c.brought_by-brought.result c.args.body
-    (sym (ap (λ (m : Met). m.asks) c.met_by-met.ensures) ∙ asks)
-
-pub send_joining-requires-clause-sound : goal.send_joining-requires-clause-sound
-send_joining-requires-clause-sound c = c.self.invariant.node.links.links
-
-pub send_joining-requires-clause-many : goal.send_joining-requires-clause-many
-send_joining-requires-clause-many c =
-    omega (
-      arith,
-      c.self.invariant.node.links.width,
-      c.self.invariant.node.shape.most_nodes,
-    )
 
 pub returns-in_err-asked : goal.returns-in_err-asked
 returns-in_err-asked c =
