@@ -1,11 +1,14 @@
 -- What a step on one area makes of what a disk opens to.
 use Rattle.std.proofs.Common.{◌≡◌, ◌⊎◌, inl, inr, ⊎_elim, ℕ, ◌≤◌, ◌%◌, ◌==◌, Bool, true, false, not}
-use Rattle.std.proofs.Common.{List, [], ◌∷◌, length, Option, Some, refl, sym, ◌∙◌, ap, subst, arith}
+use Rattle.std.proofs.Common.{List, [], ◌∷◌, length, Option, Some, Result, Ok, Err, OnOk, is_some}
+use Rattle.std.proofs.Common.{refl, sym, ◌∙◌, ap, subst, arith}
 use Rattle.disk.specs.Areas.{Areas, part, Changes, Holds, Torn}
+use Rattle.disk.specs.Crashes.{Follows, Only}
 use Rattle.ids.specs.declared.limits.TheConstants.{GREATEST_IMAGE}
 use Rattle.disk.proofs.Records.{recorded_holds}
 use Rattle.disk.specs.declared.device.Area.{Area}
 use Rattle.disk.specs.Shelf.{record_of, recorded, side, half, image_at, opened, OldOrNew, NoneOrNew}
+use Rattle.disk.specs.Shelf.{IsSettled}
 use Rattle.disk.specs.declared.device.Area.TheVariants.{Select, A, B}
 
 -- the area that isn't selected: the disk opens to what it did
@@ -22,6 +25,15 @@ kept_aside step false s c is ch = (
   ap (λ (o : Option Bool). image_at o c) (ap side ch.1 ∙ is) ∙ ap recorded ch.2
       ∙ sym (ap (λ (o : Option Bool). image_at o s) is),
 )
+
+-- a step on a side leaves an empty selector empty
+pub still_blank : (in_b : Bool) (step : List ℕ → List ℕ → Type 0) (old new : Areas → Type 0) →
+    Follows (Changes (half in_b) step) old new → ((c : Areas) → old c → c.select ≡ []) →
+    (c : Areas) → new c → c.select ≡ []
+still_blank true step old new crash blank c left =
+    let from = crash c left in from.2.1 ∙ blank from.0 from.1
+still_blank false step old new crash blank c left =
+    let from = crash c left in from.2.1 ∙ blank from.0 from.1
 
 -- the image on a side
 pub image_on : (in_b : Bool) (d : Areas) → image_at (Some in_b) d ≡ recorded (part (half in_b) d)
@@ -91,6 +103,16 @@ written_selector in_b v s c says ch =
     same : (b : Bool) → part (half b) c ≡ part (half b) s
     same true = ch.2
     same false = ch.1
+
+-- the selector was written and synced, over a disk with an image on that side
+pub settled_by : {D T E : Type 0} (seen : D → Areas)
+    (may_leave : D → Areas → Type 0) (in_b : Bool) (v : ℕ) (image : List ℕ) (s : Areas) (new : D)
+    (r : Result T E) → (v % 2 == 1) ≡ in_b → OnOk r (Only (seen new) (may_leave new)) →
+    OnOk r (Changes Select (Holds 0 (v ∷ [])) s (seen new)) →
+    OnOk r (opened (seen new) ≡ Some image) → OnOk r (IsSettled seen may_leave new in_b)
+settled_by seen may_leave in_b v image s new (Ok done) says durable written is =
+    (durable, (written_selector in_b v s (seen new) says written).0, ap is_some is)
+settled_by seen may_leave in_b v image s new (Err e) says durable written is = tt
 
 changed_part : (area : Area) (step : List ℕ → List ℕ → Type 0) (s c : Areas) →
     Changes area step s c → step (part area s) (part area c)

@@ -61,8 +61,7 @@ fn put<D: Disk>(disk: &mut D, area: Area, bytes: &[u8]) -> Result<(), DiskFault>
     ensures cause { HasCause (D.faults disk.old) (D.faults disk.new) (IsErr result) }
 {
     disk.write_at(area, 0, bytes)?;
-    disk.sync()?;
-    Ok(())
+    disk.sync()
 }
 
 /// Writes A and B from their starts on.
@@ -76,8 +75,7 @@ fn write_both<D: Disk>(disk: &mut D, bytes: &[u8]) -> Result<(), DiskFault>
     ensures cause { HasCause (D.faults disk.old) (D.faults disk.new) (IsErr result) }
 {
     disk.write_at(Area::A, 0, bytes)?;
-    disk.write_at(Area::B, 0, bytes)?;
-    Ok(())
+    disk.write_at(Area::B, 0, bytes)
 }
 
 /// Writes A and B from their starts on, and syncs.
@@ -91,8 +89,7 @@ fn put_both<D: Disk>(disk: &mut D, bytes: &[u8]) -> Result<(), DiskFault>
     ensures cause { HasCause (D.faults disk.old) (D.faults disk.new) (IsErr result) }
 {
     write_both(disk, bytes)?;
-    disk.sync()?;
-    Ok(())
+    disk.sync()
 }
 
 /// Lays the first image of a disk, by these bytes: into both areas, so that a torn selector opens
@@ -109,8 +106,7 @@ pub(crate) fn lay<D: Disk>(disk: &mut D, image: &[u8], bytes: &[u8]) -> Result<(
 {
     let choice = mark(false);
     put_both(disk, bytes)?;
-    put(disk, Area::Select, &[choice])?;
-    Ok(())
+    put(disk, Area::Select, &[choice])
 }
 
 /// Writes an image, by these bytes, into the area that isn't selected, and then selects it.
@@ -132,8 +128,7 @@ pub(crate) fn swap<D: Disk>(
 {
     let choice = mark(!in_b);
     put(disk, half(!in_b), bytes)?;
-    put(disk, Area::Select, &[choice])?;
-    Ok(())
+    put(disk, Area::Select, &[choice])
 }
 
 /// Reads the image that an area holds. Refused BadImage where there is none.

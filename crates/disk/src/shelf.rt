@@ -37,8 +37,7 @@ fn synced_side<D: Disk>(disk: &mut D) -> Result<Option<bool>, DiskFault>
     ensures cause { HasCause (D.faults disk.old) (D.faults disk.new) (IsErr result) }
 {
     disk.sync()?;
-    let side = chosen(disk)?;
-    Ok(side)
+    chosen(disk)
 }
 
 /// Whether nothing was ever created on a disk, once it is synced.

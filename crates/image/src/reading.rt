@@ -29,6 +29,10 @@ ghost use Rattle.image.specs.Reading.{
   letter_at,
   message_at,
   link_at,
+  front_at,
+  told_at,
+  slots_at,
+  others_at,
   image_at,
   whole,
 };
@@ -326,21 +330,69 @@ fn reports_told(head: Head) -> usize
     }
 }
 
-#[tactic(auto, unfolding(crate::specs::Reading::image_at, crate::specs::Reading::front_at, crate::specs::Reading::lists_at, crate::specs::Reading::told_at, crate::specs::Reading::slots_at, crate::specs::Reading::others_at))]
+#[tactic(auto, unfolding(crate::specs::Reading::front_at))]
+fn front_at(bytes: &[u8]) -> Option<((Head, (PhasesParts, RingParts)), &[u8])>
+    ensures { front_at bytes.now ≡ option_map (λ x. (x.0, x.1.now)) result }
+{
+    let (head, rest) = head_at(bytes)?;
+    let (phases, rest) = phases_at(rest)?;
+    let (ring, rest) = ring_at(rest)?;
+    Some(((head, (phases, ring)), rest))
+}
+
+/// What the other nodes reported, and the registers.
+#[tactic(auto, unfolding(crate::specs::Reading::told_at))]
+fn told_at(
+    alloc: Global,
+    head: Head,
+    bytes: &[u8],
+) -> Result<((Vec<u64>, Vec<Option<Ref>>), &[u8]), Refusal>
+    ensures { Gives (λ x. ((x.0.0.items, x.0.1.items), x.1.now)) result (told_at head bytes.now) }
+{
+    let (reports, rest) = many(alloc, reports_told(head), bytes)?;
+    let (registers, rest) = many(alloc, usize::from(head.registers), rest)?;
+    Ok(((reports, registers), rest))
+}
+
+/// The slots, and which of them are free and which grey.
+#[tactic(auto, unfolding(crate::specs::Reading::slots_at))]
+fn slots_at(
+    alloc: Global,
+    bytes: &[u8],
+) -> Result<((Vec<Slot<Object>>, (Vec<u32>, Vec<u32>)), &[u8]), Refusal>
+    ensures { Gives (λ x. ((x.0.0.items, (x.0.1.0.items, x.0.1.1.items)), x.1.now))
+        result (slots_at bytes.now) }
+{
+    let (slots, rest) = counted(alloc, bytes)?;
+    let (free, rest) = counted(alloc, rest)?;
+    let (grey, rest) = counted(alloc, rest)?;
+    Ok(((slots, (free, grey)), rest))
+}
+
+/// The references that were asked for, the letters and the links.
+#[tactic(auto, unfolding(crate::specs::Reading::others_at))]
+fn others_at(
+    alloc: Global,
+    head: Head,
+    bytes: &[u8],
+) -> Result<((Vec<Ref>, (Vec<Letter>, Vec<StoredLink>)), &[u8]), Refusal>
+    ensures { Gives (λ x. ((x.0.0.items, (x.0.1.0.items, x.0.1.1.items)), x.1.now))
+        result (others_at head bytes.now) }
+{
+    let (asked, rest) = counted(alloc, bytes)?;
+    let (letters, rest) = counted(alloc, rest)?;
+    let (links, rest) = many(alloc, usize::from(head.nodes.saturating_sub(1)), rest)?;
+    Ok(((asked, (letters, links)), rest))
+}
+
+#[tactic(auto, unfolding(crate::specs::Reading::image_at, crate::specs::Reading::lists_at))]
 fn image_at(alloc: Global, bytes: &[u8]) -> Result<(NodeParts, &[u8]), Refusal>
     ensures { Gives (λ x. (stored_of x.0, x.1.now)) result (image_at bytes.now) }
 {
-    let (head, rest) = head_at(bytes).ok_or(Refusal::BadImage)?;
-    let (phases, rest) = phases_at(rest).ok_or(Refusal::BadImage)?;
-    let (ring, rest) = ring_at(rest).ok_or(Refusal::BadImage)?;
-    let (reports, rest) = many(alloc, reports_told(head), rest)?;
-    let (registers, rest) = many(alloc, usize::from(head.registers), rest)?;
-    let (slots, rest) = counted(alloc, rest)?;
-    let (free, rest) = counted(alloc, rest)?;
-    let (grey, rest) = counted(alloc, rest)?;
-    let (asked, rest) = counted(alloc, rest)?;
-    let (letters, rest) = counted(alloc, rest)?;
-    let (links, rest) = many(alloc, usize::from(head.nodes.saturating_sub(1)), rest)?;
+    let ((head, (phases, ring)), rest) = front_at(bytes).ok_or(Refusal::BadImage)?;
+    let ((reports, registers), rest) = told_at(alloc, head, rest)?;
+    let ((slots, (free, grey)), rest) = slots_at(alloc, rest)?;
+    let ((asked, (letters, links)), rest) = others_at(alloc, head, rest)?;
     let parts = NodeParts {
         head,
         phases,

@@ -1,20 +1,10 @@
-use Rattle.std.proofs.Common.{◌∙◌, ap, subst, List, ℕ, is_some}
+use Rattle.std.proofs.Common.{◌∙◌, subst, List, ℕ}
+use Rattle.std.proofs.lemmas.Result.{on_ok_weaker}
 use Rattle.disk.specs.Areas.{Holds}
 use Rattle.disk.proofs.Moments.{laid}
 use Rattle.disk.proofs.Records.{recorded_holds}
-use Rattle.disk.proofs.Sides.{written_selector}
+use Rattle.disk.proofs.Sides.{settled_by, written_selector}
 use Rattle.disk.proofs.save.lay.Goals as goal
-
-pub returns-in_err-put-clause-any_moment : goal.returns-in_err-put-clause-any_moment
-returns-in_err-put-clause-any_moment g c =
-    let s = g.D.Disk.seen c.put_both.new.disk in
-    let image = c.args.image.now in
-    let written = c.in_ok-put_both.ensures in
-    let on = λ (old new : List ℕ). λ (h : Holds 0 c.args.bytes.now old new).
-    recorded_holds image old new c.requires.fits
-    (subst (λ l. Holds 0 l old new) c.requires.spelled h) in
-    laid g.D.Disk.moment g.D.Disk.left_since c.args.disk.now c.put_both.new.disk c.put.new.disk s
-    image written.any_moment (on _ s.a written.a, on _ s.b written.b) c.put.ensures.any_moment
 
 pub returns-clause-any_moment : goal.returns-clause-any_moment
 returns-clause-any_moment g c =
@@ -30,15 +20,14 @@ returns-clause-any_moment g c =
 pub returns-clause-opened : goal.returns-clause-opened
 returns-clause-opened g c =
     let s = g.D.Disk.seen c.put_both.new.disk in
-    let spelled = subst (λ l. Holds 0 l (g.D.Disk.seen c.args.disk.now).a s.a) c.requires.spelled
-    c.in_ok-put_both.ensures.a in
-    let selected = written_selector _ c.mark-choice.result s (g.D.Disk.seen c.put.new.disk)
-    c.mark-choice.ensures c.in_ok-put.ensures.written in
-    selected.1
-    ∙ recorded_holds c.args.image.now (g.D.Disk.seen c.args.disk.now).a s.a c.requires.fits spelled
+    let old = (g.D.Disk.seen c.args.disk.now).a in
+    let spelled = subst (λ l. Holds 0 l old s.a) c.requires.spelled c.in_ok-put_both.ensures.a in
+    on_ok_weaker c.put.result (λ written. (written_selector _ c.mark-choice.result s
+    (g.D.Disk.seen c.put.new.disk) c.mark-choice.ensures written).1
+    ∙ recorded_holds c.args.image.now old s.a c.requires.fits spelled) c.put.ensures.written
 
 pub returns-clause-settled : goal.returns-clause-settled
 returns-clause-settled g c =
-    let selected = written_selector _ c.mark-choice.result (g.D.Disk.seen c.put_both.new.disk)
-    (g.D.Disk.seen c.put.new.disk) c.mark-choice.ensures c.in_ok-put.ensures.written in
-    (c.in_ok-put.ensures.durable, selected.0, ap is_some (returns-clause-opened g c))
+    settled_by g.D.Disk.seen g.D.Disk.may_leave _ c.mark-choice.result
+    c.args.image.now (g.D.Disk.seen c.put_both.new.disk) c.put.new.disk c.put.result c.mark-choice.ensures
+    c.put.ensures.durable c.put.ensures.written (returns-clause-opened g c)
