@@ -35,28 +35,24 @@ pub(crate) struct Line<'a> {
 pub(crate) fn read_lines<'a>(alloc: Global, text: &'a str) -> Result<Vec<Line<'a>>, AllocError> {
     let mut lines = Vec::new(alloc);
     for (index, line) in text.lines().enumerate() {
-        let words = words_of(alloc, line)?;
-        if !is_silent(&words) {
-            lines.push(Line {
-                number: index + 1,
-                words,
-            })?;
+        if !is_silent(line) {
+            lines.push(line_of(alloc, index + 1, line)?)?;
         }
     }
     Ok(lines)
 }
 
-fn words_of<'a>(alloc: Global, line: &'a str) -> Result<Vec<&'a str>, AllocError> {
-    line.split(' ')
+fn line_of<'a>(alloc: Global, number: usize, line: &'a str) -> Result<Line<'a>, AllocError> {
+    let words = line
+        .split(' ')
         .filter(|word| !word.is_empty())
-        .collect(alloc)
+        .collect(alloc)?;
+    Ok(Line { number, words })
 }
 
-fn is_silent(words: &[&str]) -> bool {
-    match words {
-        [] => true,
-        [first, ..] => first.starts_with('#'),
-    }
+fn is_silent(line: &str) -> bool {
+    let line = line.trim_start_matches(' ');
+    line.is_empty() || line.starts_with('#')
 }
 
 /// The number that the word spells.

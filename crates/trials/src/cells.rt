@@ -11,10 +11,10 @@ ghost use Rattle.cell.specs.Desks.{IsAtSeat};
 ghost use Rattle.trials.specs.Cells.{AreSeated};
 
 use crate::case::{Line, Stop, read};
-use crate::events::{event_of, is_own};
+use crate::events::own_event_of;
 use crate::nodes::{InNumbers, put_frame, put_image};
 use crate::out::Out;
-use crate::traces::put_texts;
+use crate::shelves::node_on;
 use cell::{Cell, Inbound, Outbound};
 use disk::{MemoryDisk, Shelf};
 use ids::{NodeId, Refusal, Shape};
@@ -36,6 +36,17 @@ impl Seated<'_> {
         requires { is_own event ≡ true }
     {
         self.cell.act(self.wire, event)
+    }
+
+    // The event, so often, up to the first refusal; the last answer.
+    fn repeat(&mut self, event: Event, count: u64) -> Result<Answer, Refusal>
+        requires { is_own event ≡ true }
+    {
+        let mut last = Answer::Done;
+        for _ in 0..count {
+            last = self.act(event)?;
+        }
+        Ok(last)
     }
 
     pub(crate) fn save(&mut self) -> Result<(), Refusal> {
@@ -108,8 +119,8 @@ fn shelf_of(alloc: Global, node: &Node) -> Result<Shelf<MemoryDisk>, Refusal>
     }
 }
 
-// The cell of a new node.
-fn new_cell(
+/// The cell of a new node.
+pub(crate) fn new_cell(
     alloc: Global,
     shape: Shape,
     own: NodeId,
@@ -168,7 +179,9 @@ fn on_wire(
         watch,
         cells,
     };
-    Ok(subject.take_all(lines, out))
+    let done = subject.take_all(lines, out);
+    drop(subject);
+    Ok(done)
 }
 
 // The cells of a case, and a watch that hears nothing.
@@ -234,10 +247,7 @@ fn on_cell(
 // A question to a cell, or an event of its node.
 fn ask(alloc: Global, seated: &mut Seated<'_>, words: &[&str], out: &mut Out) -> Result<(), Stop> {
     match words {
-        ["unsaved"] => out.debug(&seated.is_unsaved()),
-        ["state"] => out.show(&InNumbers(seated.cell.node().state())),
-        ["bytes"] => put_image(alloc, seated.cell.node(), out),
-        ["trace"] => put_trace(seated, out),
+        [verb] => return ask_word(alloc, seated, verb, words, out),
         ["crash", fill] => put_crashed(alloc, seated, read(fill)?, out),
         ["frame-at", to, place] => {
             put_frame(
@@ -246,16 +256,35 @@ fn ask(alloc: Global, seated: &mut Seated<'_>, words: &[&str], out: &mut Out) ->
                 out,
             );
         }
-        words => return act(seated, event_of(words)?, out),
+        words => return act(seated, words, out),
     }
     Ok(())
 }
 
-fn act(seated: &mut Seated<'_>, event: Event, out: &mut Out) -> Result<(), Stop> {
-    if !is_own(&event) {
-        return Err(Stop::Unknown);
+fn ask_word(
+    alloc: Global,
+    seated: &mut Seated<'_>,
+    verb: &str,
+    words: &[&str],
+    out: &mut Out,
+) -> Result<(), Stop> {
+    match verb {
+        "unsaved" => out.debug(&seated.is_unsaved()),
+        "state" => out.show(&InNumbers(seated.cell.node().state())),
+        "bytes" => put_image(alloc, seated.cell.node(), out),
+        "trace" => put_trace(seated, out),
+        _ => return act(seated, words, out),
     }
-    out.answer(seated.act(event));
+    Ok(())
+}
+
+fn act(seated: &mut Seated<'_>, words: &[&str], out: &mut Out) -> Result<(), Stop> {
+    match words {
+        ["repeat", count, words @ ..] => {
+            out.answer(seated.repeat(own_event_of(words)?, read(count)?));
+        }
+        words => out.answer(seated.act(own_event_of(words)?)),
+    }
     Ok(())
 }
 
@@ -266,16 +295,23 @@ fn put_trace(seated: &Seated<'_>, out: &mut Out) {
     }
 }
 
+fn put_texts(lines: &[String], out: &mut Out) {
+    for line in lines {
+        out.text(line.as_str());
+    }
+}
+
 // The node that a crash now leaves on the cell's disk, in numbers.
 fn put_crashed(alloc: Global, seated: &Seated<'_>, fill: u8, out: &mut Out) {
     match crashed(alloc, seated, fill) {
-        Ok(node) => out.show(&InNumbers(node.state())),
+        Ok(node) => {
+            out.show(&InNumbers(node.state()));
+            drop(node);
+        }
         Err(refusal) => out.refused(refusal),
     }
 }
 
 fn crashed(alloc: Global, seated: &Seated<'_>, fill: u8) -> Result<Node, Refusal> {
-    let disk = seated.cell.after_crash(fill)?;
-    let (_shelf, node) = Shelf::open::<Node>(alloc, disk)?;
-    Ok(node)
+    node_on(alloc, seated.cell.after_crash(fill)?)
 }

@@ -1,10 +1,9 @@
 //! A disk in memory, which can be told to fail and to crash.
 use crate::case::{Line, Stop, read};
 use crate::out::{Out, Tally};
-use crate::shelves::{Bench, Held};
-use disk::{MemoryDisk, Shelf, is_blank};
+use crate::shelves::{Bench, Held, node_on};
+use disk::{MemoryDisk, is_blank};
 use ids::Refusal;
-use node::Node;
 use std::alloc::Global;
 
 #[derive(Drop)]
@@ -18,7 +17,9 @@ struct Disks {
 /// A case over a disk in memory.
 pub(crate) fn run(alloc: Global, lines: &[Line<'_>], out: &mut Out) -> Result<(), Stop> {
     let mut disks = Disks::new(alloc);
-    disks.take_all(lines, out)
+    let done = disks.take_all(lines, out);
+    drop(disks);
+    done
 }
 
 impl Disks {
@@ -82,16 +83,22 @@ impl Disks {
 
     fn take(&mut self, words: &[&str], out: &mut Out) -> Result<(), Stop> {
         match words {
-            ["fresh"] => {
-                self.bench.hold(Ok(MemoryDisk::new(self.alloc)), out);
-                Ok(())
-            }
+            [verb] => self.take_word(verb, words, out),
             ["fail", k] => fail(&mut self.bench.held, read(k)?, out),
             ["crash", fill] => self.crash(read(fill)?, out),
-            ["crashes"] => self.crashes(out),
-            ["note"] => self.note(out),
             words => self.bench.take(words, out),
         }
+    }
+
+    // A command of one word.
+    fn take_word(&mut self, verb: &str, words: &[&str], out: &mut Out) -> Result<(), Stop> {
+        match verb {
+            "fresh" => self.bench.hold(Ok(MemoryDisk::new(self.alloc)), out),
+            "crashes" => return self.crashes(out),
+            "note" => return self.note(out),
+            _ => return self.bench.take(words, out),
+        }
+        Ok(())
     }
 }
 
@@ -138,8 +145,10 @@ fn opens_to(alloc: Global, left: Result<MemoryDisk, Refusal>, old: &[u8], new: &
 
 // The image of the node that a disk opens to.
 fn image_on(alloc: Global, disk: MemoryDisk) -> Result<Vec<u8>, Refusal> {
-    let (_shelf, node) = Shelf::open::<Node>(alloc, disk)?;
-    image::to_bytes(alloc, &node)
+    let node = node_on(alloc, disk)?;
+    let image = image::to_bytes(alloc, &node);
+    drop(node);
+    image
 }
 
 fn which(found: Result<Vec<u8>, Refusal>, old: &[u8], new: &[u8]) -> Opening {

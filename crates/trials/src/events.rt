@@ -1,12 +1,12 @@
 //! Events of a node, read from the words that scripts have for them.
-ghost use Rattle.std.specs.Prelude.{◌≡◌};
+ghost use Rattle.std.specs.Prelude.{◌≡◌, true, IfOk};
 ghost use Rattle.model.specs.Steps.{is_own};
 
 use crate::case::{Stop, read};
 use model::Event;
 
-/// Whether the event comes from no other node.
-pub(crate) fn is_own(event: &Event) -> bool
+// Whether the event comes from no other node.
+fn is_own(event: &Event) -> bool
     ensures { result ≡ is_own event.now }
 {
     !matches!(event, Event::Data(_) | Event::Ack(_))
@@ -20,6 +20,18 @@ pub(crate) fn event_of(words: &[&str]) -> Result<Event, Stop> {
         [verb, a, b] => with_two(verb, a, b),
         [verb, a, b, c] => with_three(verb, a, b, c),
         _ => Err(Stop::Unknown),
+    }
+}
+
+/// The event that the words say, which comes from no other node.
+pub(crate) fn own_event_of(words: &[&str]) -> Result<Event, Stop>
+    ensures { IfOk result (λ e. is_own e ≡ true) }
+{
+    let event = event_of(words)?;
+    if is_own(&event) {
+        Ok(event)
+    } else {
+        Err(Stop::Unknown)
     }
 }
 

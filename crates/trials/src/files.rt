@@ -10,15 +10,18 @@ use std::fs::{self, File, Files, Metadata, OpenFile, OpenOptions};
 use std::io::{self, ErrorKind};
 use std::os::unix::fs::FileExt;
 
-/// A case over two disks in files, of which one's fail as they are told to.
-pub(crate) fn run<R: Files<File = File> + AllocGlobal>(
+/// A case over two disks in files, of which one's fail as they are told to. Each answer is printed
+/// before the next line is taken.
+pub(crate) fn run<R: Files<File = File> + Print + AllocGlobal>(
     rt: &R,
     lines: &[Line<'_>],
     out: &mut Out,
 ) -> Result<(), Stop> {
     let plans = Plans::new();
     let mut folders = Folders::new(rt, &plans);
-    folders.take_all(lines, out)
+    let done = folders.take_all(lines, out);
+    drop(folders);
+    done
 }
 
 #[derive(Drop)]
@@ -30,7 +33,7 @@ struct Folders<'a, R> {
     flaky: Bench<FileDisk<Flaky<'a>>>,
 }
 
-impl<'a, R: Files<File = File> + AllocGlobal> Folders<'a, R> {
+impl<'a, R: Files<File = File> + Print + AllocGlobal> Folders<'a, R> {
     fn new(rt: &'a R, plans: &'a Plans) -> Folders<'a, R> {
         let alloc = rt.alloc();
         Folders {
@@ -42,16 +45,17 @@ impl<'a, R: Files<File = File> + AllocGlobal> Folders<'a, R> {
         }
     }
 
+    fn hold_flaky(&mut self, path: &str, out: &mut Out) {
+        let disk = flaky_disk(self.rt, self.alloc, self.plans, path);
+        self.flaky.hold(disk.map_err(refusal_of), out);
+    }
+
     // A command to the disk whose files fail.
     fn take_flaky(&mut self, words: &[&str], out: &mut Out) -> Result<(), Stop> {
         match words {
-            ["at", path] => {
-                let disk = flaky_disk(self.rt, self.alloc, self.plans, below(path)?);
-                self.flaky.hold(disk.map_err(refusal_of), out);
-            }
+            ["at", path] => self.hold_flaky(below(path)?, out),
             ["next", area, word] => {
-                let next = next_of(word)?;
-                self.plans.of(area_of(area)?).next.set(next);
+                self.plans.of(area_of(area)?).next.set(next_of(word)?);
                 out.text("ok");
             }
             ["writes", area] => out.show(&self.plans.of(area_of(area)?).writes.get()),
@@ -63,6 +67,7 @@ impl<'a, R: Files<File = File> + AllocGlobal> Folders<'a, R> {
     fn take_all(&mut self, lines: &[Line<'_>], out: &mut Out) -> Result<(), Stop> {
         for line in lines {
             self.take(out.at(line), out)?;
+            out.flush(self.rt);
         }
         Ok(())
     }
@@ -70,8 +75,9 @@ impl<'a, R: Files<File = File> + AllocGlobal> Folders<'a, R> {
     fn take(&mut self, words: &[&str], out: &mut Out) -> Result<(), Stop> {
         match words {
             ["at", path] => {
-                let disk = FileDisk::at(self.rt, self.alloc, below(path)?);
-                self.bench.hold(disk, out);
+                let path = below(path)?;
+                self.bench
+                    .hold(FileDisk::at(self.rt, self.alloc, path), out);
                 Ok(())
             }
             ["file", words @ ..] => on_files(self.rt, words, out),
@@ -92,22 +98,39 @@ fn on_files<R: Files<File = File> + AllocGlobal>(
     out: &mut Out,
 ) -> Result<(), Stop> {
     match words {
-        ["bytes", path] => match fs::read(rt, below(path)?) {
-            Ok(bytes) => out.bytes(&bytes),
-            Err(_) => out.text("none"),
-        },
+        [verb, path] => on_path(rt, verb, below(path)?, out),
         ["put", path, digits] => {
             let bytes = bytes_of(rt.alloc(), digits)?;
             put_done(fs::write(rt, below(path)?, bytes.as_slice()), out);
+            Ok(())
         }
-        ["folder", path] => put_done(fs::create_dir_all(rt, below(path)?), out),
-        ["clean", path] => {
-            let _ = fs::remove_dir_all(rt, below(path)?);
+        _ => Err(Stop::Unknown),
+    }
+}
+
+fn on_path<R: Files<File = File> + AllocGlobal>(
+    rt: &R,
+    verb: &str,
+    path: &str,
+    out: &mut Out,
+) -> Result<(), Stop> {
+    match verb {
+        "bytes" => put_bytes(rt, path, out),
+        "folder" => put_done(fs::create_dir_all(rt, path), out),
+        "clean" => {
+            let _ = fs::remove_dir_all(rt, path);
             out.text("ok");
         }
         _ => return Err(Stop::Unknown),
     }
     Ok(())
+}
+
+fn put_bytes<R: Files<File = File> + AllocGlobal>(rt: &R, path: &str, out: &mut Out) {
+    match fs::read(rt, path) {
+        Ok(bytes) => out.bytes(&bytes),
+        Err(_) => out.text("none"),
+    }
 }
 
 // Cases touch nothing outside the current folder.

@@ -24,36 +24,33 @@ enum Kind {
     Image,
 }
 
-// What becomes of bytes that may spell a frame.
-fn meet_frame(alloc: Global, bytes: &[u8]) -> Met {
-    match decode(bytes) {
-        Ok(frame) => match encode(alloc, &frame) {
-            Ok(again) if again.as_slice() == bytes => Met::Read,
-            _ => Met::Other,
-        },
-        Err(Refusal::BadFrame) => Met::Refused,
-        Err(_) => Met::Other,
-    }
+// The bytes that the frame has which these spell.
+fn frame_again(alloc: Global, bytes: &[u8]) -> Result<Vec<u8>, Refusal> {
+    encode(alloc, &decode(bytes)?)
 }
 
-// What becomes of bytes that may spell a node.
-fn meet_image(alloc: Global, bytes: &[u8]) -> Met {
-    match image::from_bytes(alloc, bytes) {
-        Ok(node) => match image::to_bytes(alloc, &node) {
-            Ok(again) if again.as_slice() == bytes => Met::Read,
-            _ => Met::Other,
-        },
-        Err(Refusal::BadImage) => Met::Refused,
-        Err(_) => Met::Other,
+// The bytes that the node has which these spell.
+fn image_again(alloc: Global, bytes: &[u8]) -> Result<Vec<u8>, Refusal> {
+    let node = image::from_bytes(alloc, bytes)?;
+    let again = image::to_bytes(alloc, &node);
+    drop(node);
+    again
+}
+
+fn became(again: Result<Vec<u8>, Refusal>, bytes: &[u8]) -> Met {
+    match again {
+        Ok(again) if again.as_slice() == bytes => Met::Read,
+        Err(Refusal::BadFrame | Refusal::BadImage) => Met::Refused,
+        _ => Met::Other,
     }
 }
 
 fn meet(alloc: Global, kind: Kind, bytes: &[u8]) -> usize {
-    let met = match kind {
-        Kind::Frame => meet_frame(alloc, bytes),
-        Kind::Image => meet_image(alloc, bytes),
+    let again = match kind {
+        Kind::Frame => frame_again(alloc, bytes),
+        Kind::Image => image_again(alloc, bytes),
     };
-    met as usize
+    became(again, bytes) as usize
 }
 
 fn read_once(alloc: Global, kind: Kind, bytes: &[u8]) -> Tally<3> {

@@ -11,7 +11,7 @@ ghost use Rattle.wire.specs.Readers.{
   IsRaisedOf,
 };
 
-use crate::case::{Line, Stop};
+use crate::case::{Line, Stop, read};
 use crate::cells::new_wire;
 use crate::out::Out;
 use ids::{Cycle, Refusal, Shape};
@@ -53,10 +53,22 @@ impl Joined {
     }
 
     // A save of node 0, whose ended cycle goes onto the board, and is heard of.
-    fn raise(&mut self) {
+    fn raise(&mut self, out: &mut Out) {
         save(&self.wire, &mut self.first);
         let raised = raise(&self.wire, &mut self.first);
         self.watch.hear(&raised);
+        out.text("ok");
+    }
+
+    // So many frames, each sent and then taken; whether none was missing.
+    fn repeat(&mut self, count: u64) -> Result<bool, Refusal> {
+        for _ in 0..count {
+            let sent = send(&self.wire, self.alloc, &mut self.first)?;
+            if !sent || receive(&self.wire, &mut self.second).is_none() {
+                return Ok(false);
+            }
+        }
+        Ok(true)
     }
 
     fn fill(&mut self, out: &mut Out) {
@@ -70,6 +82,16 @@ impl Joined {
         if let Err(refusal) = done {
             out.refused(refusal);
         }
+    }
+
+    fn empty(&mut self, out: &mut Out) {
+        empty(
+            &self.wire,
+            self.alloc,
+            &mut self.first,
+            &mut self.second,
+            out,
+        );
     }
 
     fn look(&mut self, out: &mut Out) {
@@ -86,23 +108,23 @@ impl Joined {
 
     fn take(&mut self, words: &[&str], out: &mut Out) -> Result<(), Stop> {
         match words {
-            ["send"] => out.answer(send(&self.wire, self.alloc, &mut self.first)),
-            ["receive"] => put_received(receive(&self.wire, &mut self.second), out),
-            ["fill"] => self.fill(out),
-            ["empty"] => {
-                empty(
-                    &self.wire,
-                    self.alloc,
-                    &mut self.first,
-                    &mut self.second,
-                    out,
-                );
+            [verb] => self.take_word(verb, out),
+            ["repeat", count] => {
+                out.answer(self.repeat(read(count)?));
+                Ok(())
             }
-            ["raise"] => {
-                self.raise();
-                out.text("ok");
-            }
-            ["look"] => self.look(out),
+            _ => Err(Stop::Unknown),
+        }
+    }
+
+    fn take_word(&mut self, verb: &str, out: &mut Out) -> Result<(), Stop> {
+        match verb {
+            "send" => out.answer(send(&self.wire, self.alloc, &mut self.first)),
+            "receive" => put_received(receive(&self.wire, &mut self.second), out),
+            "fill" => self.fill(out),
+            "empty" => self.empty(out),
+            "raise" => self.raise(out),
+            "look" => self.look(out),
             _ => return Err(Stop::Unknown),
         }
         Ok(())
@@ -114,7 +136,9 @@ pub(crate) fn run(alloc: Global, lines: &[Line<'_>], out: &mut Out) -> Result<()
     let Ok(mut joined) = Joined::new(alloc) else {
         return Err(Stop::Memory);
     };
-    joined.take_all(lines, out)
+    let done = joined.take_all(lines, out);
+    drop(joined);
+    done
 }
 
 // The bytes of node 0's acknowledgement of nothing.

@@ -15,12 +15,14 @@ mod nodes;
 mod out;
 mod random;
 mod reaching;
+mod shared;
 mod shelves;
+mod space;
+mod spaces;
 mod threads;
-mod traces;
 mod turns;
 
-use case::{Line, Stop, read, read_lines};
+use case::{Line, Stop, read_lines};
 use nodes::shape_of;
 use out::Out;
 use std::alloc::Global;
@@ -30,6 +32,7 @@ use std::process::ExitCode;
 use std::rt::Files;
 use std::sync::Wait;
 use std::thread::Threads;
+use std::time::Clock;
 
 /// Output or memory was refused.
 const FAILED: u8 = 1;
@@ -45,9 +48,21 @@ fn main(rt: HostRuntime) -> ExitCode {
 }
 
 // Runs the case on standard input, and prints what it answers.
-fn run<R: Files<File = File> + Input + Print + Threads + Wait + Sync + AllocGlobal>(
-    rt: &R,
-) -> io::Result<u8> {
+fn run<R>(rt: &R) -> io::Result<u8>
+where
+    R: Files<File = File>
+        + Input
+        + Print
+        + Clock
+        + Threads
+        + Wait
+        + Clone
+        + Send
+        + Sync
+        + Drop
+        + AllocGlobal
+        + 'static,
+{
     let alloc = rt.alloc();
     let text = io::read_to_string(alloc, rt.reader())?;
     let lines = read_lines(alloc, text.as_str())?;
@@ -63,30 +78,69 @@ fn run<R: Files<File = File> + Input + Print + Threads + Wait + Sync + AllocGlob
             FAILED
         }
     };
-    rt.print(out.text.as_str())?;
+    out.flush(rt);
     Ok(if out.failed { FAILED } else { status })
 }
 
 // Does what the lines of a case say.
-fn take_case<R: Files<File = File> + Threads + Wait + Sync + AllocGlobal>(
-    rt: &R,
-    alloc: Global,
-    lines: &[Line<'_>],
-    out: &mut Out,
-) -> Result<(), Stop> {
+fn take_case<R>(rt: &R, alloc: Global, lines: &[Line<'_>], out: &mut Out) -> Result<(), Stop>
+where
+    R: Files<File = File>
+        + Print
+        + Clock
+        + Threads
+        + Wait
+        + Clone
+        + Send
+        + Sync
+        + Drop
+        + AllocGlobal
+        + 'static,
+{
     let [first, lines @ ..] = lines else {
         return Ok(());
     };
     match out.at(first) {
-        ["files"] => files::run(rt, lines, out),
-        ["threads"] => threads::run(rt, alloc, lines, out),
-        ["turns"] => turns::run(rt, alloc, lines, out),
-        ["cells", nodes, registers, slots] => {
-            cells::run(alloc, shape_of(nodes, registers, slots)?, lines, out)
+        [subject] => take_subject(rt, alloc, subject, lines, out),
+        [subject, nodes, registers, slots] => {
+            let shape = shape_of(nodes, registers, slots)?;
+            match *subject {
+                "cells" => cells::run(alloc, shape, lines, out),
+                "shared" => shared::run(rt, alloc, shape, lines, out),
+                _ => Err(Stop::Unknown),
+            }
         }
-        ["arena", limit] => arenas::run(alloc, read(limit)?, lines, out),
-        [word] => take_simple(alloc, word, lines, out),
         _ => Err(Stop::Unknown),
+    }
+}
+
+// The subjects of one word.
+fn take_subject<R>(
+    rt: &R,
+    alloc: Global,
+    subject: &str,
+    lines: &[Line<'_>],
+    out: &mut Out,
+) -> Result<(), Stop>
+where
+    R: Files<File = File>
+        + Print
+        + Clock
+        + Threads
+        + Wait
+        + Clone
+        + Send
+        + Sync
+        + Drop
+        + AllocGlobal
+        + 'static,
+{
+    match subject {
+        "files" => files::run(rt, lines, out),
+        "space" => spaces::run(rt, alloc, lines, out),
+        "threads" => threads::run(rt, alloc, lines, out),
+        "turns" => turns::run(rt, alloc, lines, out),
+        _ => take_simple(alloc, subject, lines, out),
     }
 }
 
@@ -103,8 +157,8 @@ fn take_simple(
         "bytes" => frames::run(alloc, lines, out),
         "names" => names::run(lines, out),
         "lists" => reaching::run(alloc, lines, out),
-        "trace" => traces::run(alloc, lines, out),
         "wire" => mailboxes::run(alloc, lines, out),
+        "arena" => arenas::run(alloc, lines, out),
         _ => Err(Stop::Unknown),
     }
 }

@@ -19,7 +19,9 @@ pub(crate) struct Nodes {
 /// A case over one node.
 pub(crate) fn run(alloc: Global, lines: &[Line<'_>], out: &mut Out) -> Result<(), Stop> {
     let mut nodes = Nodes::new(alloc);
-    nodes.take_all(lines, out)
+    let done = nodes.take_all(lines, out);
+    drop(nodes);
+    done
 }
 
 impl Nodes {
@@ -29,13 +31,13 @@ impl Nodes {
 
     /// The node takes the place of the one that was there, unless it was refused.
     pub(crate) fn set(&mut self, made: Result<Node, Refusal>, out: &mut Out) {
-        match made {
-            Ok(node) => {
-                self.node = Some(node);
-                out.text("ok");
-            }
-            Err(refusal) => out.refused(refusal),
-        }
+        let done = self.replace(made);
+        out.done(done);
+    }
+
+    fn replace(&mut self, made: Result<Node, Refusal>) -> Result<(), Refusal> {
+        drop(self.node.replace(made?));
+        Ok(())
     }
 
     fn take_all(&mut self, lines: &[Line<'_>], out: &mut Out) -> Result<(), Stop> {
@@ -45,19 +47,26 @@ impl Nodes {
         Ok(())
     }
 
+    fn make(&mut self, shape: Shape, own: u8, out: &mut Out) -> Result<(), Stop> {
+        let Some(own) = NodeId::new(own) else {
+            return Err(Stop::Unknown);
+        };
+        self.set(Node::new(self.alloc, shape, own), out);
+        Ok(())
+    }
+
+    fn read(&mut self, digits: &str, out: &mut Out) -> Result<(), Stop> {
+        let bytes = bytes_of(self.alloc, digits)?;
+        self.set(image::from_bytes(self.alloc, &bytes), out);
+        Ok(())
+    }
+
     pub(crate) fn take(&mut self, words: &[&str], out: &mut Out) -> Result<(), Stop> {
         match words {
             ["new", nodes, registers, slots, own] => {
-                let shape = shape_of(nodes, registers, slots)?;
-                let made = new_node(self.alloc, shape, read(own)?)?;
-                self.set(made, out);
-                Ok(())
+                self.make(shape_of(nodes, registers, slots)?, read(own)?, out)
             }
-            ["image", digits] => {
-                let bytes = bytes_of(self.alloc, digits)?;
-                self.set(image::from_bytes(self.alloc, &bytes), out);
-                Ok(())
-            }
+            ["image", digits] => self.read(digits, out),
             words => match &mut self.node {
                 Some(node) => on_node(self.alloc, node, words, out),
                 None => Err(Stop::Unknown),
@@ -70,13 +79,6 @@ impl Nodes {
 pub(crate) fn shape_of(nodes: &str, registers: &str, slots: &str) -> Result<Shape, Stop> {
     match Shape::new(read(nodes)?, read(registers)?, read(slots)?) {
         Some(shape) => Ok(shape),
-        None => Err(Stop::Unknown),
-    }
-}
-
-fn new_node(alloc: Global, shape: Shape, own: u8) -> Result<Result<Node, Refusal>, Stop> {
-    match NodeId::new(own) {
-        Some(own) => Ok(Node::new(alloc, shape, own)),
         None => Err(Stop::Unknown),
     }
 }
@@ -94,9 +96,14 @@ fn on_node(alloc: Global, node: &mut Node, words: &[&str], out: &mut Out) -> Res
             let bytes = bytes_of(alloc, digits)?;
             out.answer(take_frame(node, &bytes));
         }
-        ["repeat", count, words @ ..] => {
-            out.answer(repeat(node, event_of(words)?, read(count)?));
-        }
+        words => return ask_frame(alloc, node, words, out),
+    }
+    Ok(())
+}
+
+// Asks a node for a frame, or gives it an event.
+fn ask_frame(alloc: Global, node: &mut Node, words: &[&str], out: &mut Out) -> Result<(), Stop> {
+    match words {
         ["frame-at", to, place] => {
             put_frame(alloc, node.frame_at(read(to)?, read(place)?), out);
         }
@@ -104,6 +111,16 @@ fn on_node(alloc: Global, node: &mut Node, words: &[&str], out: &mut Out) -> Res
             put_frame(alloc, node.numbered_frame(read(to)?, read(number)?), out);
         }
         ["ack-for", from] => put_frame(alloc, node.ack_for(read(from)?), out),
+        words => return act(node, words, out),
+    }
+    Ok(())
+}
+
+fn act(node: &mut Node, words: &[&str], out: &mut Out) -> Result<(), Stop> {
+    match words {
+        ["repeat", count, words @ ..] => {
+            out.answer(repeat(node, event_of(words)?, read(count)?));
+        }
         words => out.answer(node.act(event_of(words)?)),
     }
     Ok(())
@@ -152,14 +169,22 @@ pub(crate) struct InNumbers(pub(crate) Summary);
 impl fmt::Display for InNumbers {
     fn fmt<W: fmt::Write>(&self, f: &mut fmt::Formatter<W>) -> fmt::Result {
         let state = self.0;
-        write!(
-            f,
-            "cycle {} ended {} swept {} colour {} ",
-            state.cycle, state.ended, state.swept, state.colour
-        )?;
+        put_cycle(f, &state)?;
         write!(f, "old {} cur {} ", state.earlier, state.recent)?;
-        write!(f, "grey {} live {} ", state.grey, state.live)?;
-        let token = if state.has_token { "yes" } else { "no" };
-        write!(f, "token {token} letters {}", state.letters)
+        put_heap(f, &state)
     }
+}
+
+fn put_cycle<W: fmt::Write>(f: &mut fmt::Formatter<W>, state: &Summary) -> fmt::Result {
+    write!(
+        f,
+        "cycle {} ended {} swept {} colour {} ",
+        state.cycle, state.ended, state.swept, state.colour
+    )
+}
+
+fn put_heap<W: fmt::Write>(f: &mut fmt::Formatter<W>, state: &Summary) -> fmt::Result {
+    write!(f, "grey {} live {} ", state.grey, state.live)?;
+    let token = if state.has_token { "yes" } else { "no" };
+    write!(f, "token {token} letters {}", state.letters)
 }

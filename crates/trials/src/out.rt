@@ -30,6 +30,14 @@ impl Out {
         line.words.as_slice()
     }
 
+    /// Prints what there is, and keeps none of it.
+    pub(crate) fn flush<R: Print>(&mut self, rt: &R) {
+        if rt.print(self.text.as_str()).is_err() {
+            self.failed = true;
+        }
+        self.text.clear();
+    }
+
     pub(crate) fn text(&mut self, text: &str) {
         if writeln!(self.text, "{text}").is_err() {
             self.failed = true;

@@ -9,6 +9,7 @@ use ids::{Ref, Refusal};
 use model::{Answer, Event, Outcome, Step};
 use node::Node;
 use std::alloc::Global;
+use std::mem;
 use world::{Sim, reach};
 
 /// A case over lists of steps.
@@ -70,18 +71,20 @@ fn run_list(alloc: Global, mut dice: Dice, turns: u32, found: &mut Found) -> Res
     let sim = new_space(alloc)?;
     let saved = all_saved(alloc, &sim)?;
     let mut walk = Walk { alloc, sim, saved };
-    for _turn in 0..turns {
-        for step in next_turn(&mut dice, &walk.sim).iter() {
-            walk.take_step(*step, found)?;
-        }
-    }
-    Ok(())
+    let done = walk.take_turns(&mut dice, turns, found);
+    drop(walk);
+    done
 }
 
 // A node as it is after a save.
 fn copy_of(alloc: Global, node: &Node) -> Result<Node, Refusal> {
     let bytes = image::to_bytes(alloc, node)?;
     image::from_bytes(alloc, &bytes)
+}
+
+fn renew(alloc: Global, node: &Node, saved: &mut Node) -> Result<(), Refusal> {
+    drop(mem::replace(saved, copy_of(alloc, node)?));
+    Ok(())
 }
 
 // The nodes of a space as they stand.
@@ -111,6 +114,20 @@ struct Walk {
 }
 
 impl Walk {
+    fn take_turns(
+        &mut self,
+        dice: &mut Dice,
+        turns: u32,
+        found: &mut Found,
+    ) -> Result<(), Refusal> {
+        for _turn in 0..turns {
+            for step in next_turn(dice, &self.sim).iter() {
+                self.take_step(*step, found)?;
+            }
+        }
+        Ok(())
+    }
+
     // Takes a step, if there is one, and looks at all cuts after a sweep.
     fn take_step(&mut self, step: Option<Step>, found: &mut Found) -> Result<(), Refusal> {
         let Some(step) = step else {
@@ -133,11 +150,10 @@ impl Walk {
         let Some(node) = self.sim.node(number) else {
             return Ok(());
         };
-        let copy = copy_of(self.alloc, node)?;
-        if let Some(saved) = self.saved.get_mut(usize::from(number)) {
-            *saved = copy;
+        match self.saved.get_mut(usize::from(number)) {
+            Some(saved) => renew(self.alloc, node, saved),
+            None => Ok(()),
         }
-        Ok(())
     }
 
     fn look_at_cuts(&self, found: &mut Found) -> Result<(), Refusal> {

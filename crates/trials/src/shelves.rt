@@ -2,7 +2,7 @@
 use crate::case::{Stop, bytes_of, read};
 use crate::nodes::Nodes;
 use crate::out::Out;
-use disk::{Area, Disk, DiskFault, Shelf, is_blank};
+use disk::{Area, Disk, DiskFault, MemoryDisk, Shelf, is_blank};
 use ids::Refusal;
 use node::Node;
 use std::alloc::Global;
@@ -75,15 +75,15 @@ impl<D: Disk + Drop> Bench<D> {
         Ok(())
     }
 
-    // Saves the node.
-    fn save(&mut self, out: &mut Out) -> Result<(), Stop> {
+    // Saves the node so often, up to the first refusal.
+    fn save(&mut self, count: u64, out: &mut Out) -> Result<(), Stop> {
         let Held::Shelved(shelf) = &mut self.held else {
             return Err(Stop::Unknown);
         };
         let Some(node) = &self.nodes.node else {
             return Err(Stop::Unknown);
         };
-        out.done(shelf.save(node));
+        out.done(save_often(shelf, node, count));
         Ok(())
     }
 
@@ -96,23 +96,44 @@ impl<D: Disk + Drop> Bench<D> {
         Ok(())
     }
 
-    pub(crate) fn take(&mut self, words: &[&str], out: &mut Out) -> Result<(), Stop> {
-        match words {
-            ["create"] => self.create(out),
-            ["open"] => self.open(out),
-            ["save"] => self.save(out),
-            ["reopen"] => self.reopen(out),
-            ["leave"] => {
-                self.held = Held::Nothing;
-                out.text("ok");
+    fn leave(&mut self, out: &mut Out) {
+        drop(mem::replace(&mut self.held, Held::Nothing));
+        out.text("ok");
+    }
+
+    // A command of one word.
+    fn take_word(&mut self, verb: &str, words: &[&str], out: &mut Out) -> Result<(), Stop> {
+        match verb {
+            "create" => self.create(out),
+            "open" => self.open(out),
+            "save" => self.save(1, out),
+            "reopen" => self.reopen(out),
+            "leave" => {
+                self.leave(out);
                 Ok(())
             }
+            _ => self.nodes.take(words, out),
+        }
+    }
+
+    pub(crate) fn take(&mut self, words: &[&str], out: &mut Out) -> Result<(), Stop> {
+        match words {
+            ["repeat", count, "save"] => self.save(read(count)?, out),
             ["disk", words @ ..] => match &mut self.held {
                 Held::Loose(disk) => on_disk(self.nodes.alloc, disk, words, out),
                 Held::Nothing | Held::Shelved(_) => Err(Stop::Unknown),
             },
+            [verb] => self.take_word(verb, words, out),
             words => self.nodes.take(words, out),
         }
+    }
+}
+
+/// The node that a disk opens to.
+pub(crate) fn node_on(alloc: Global, disk: MemoryDisk) -> Result<Node, Refusal> {
+    match Shelf::open::<Node>(alloc, disk) {
+        Ok((_shelf, node)) => Ok(node),
+        Err(refusal) => Err(refusal),
     }
 }
 
@@ -133,6 +154,13 @@ fn created<D: Disk + Drop>(
     }
 }
 
+fn save_often<D: Disk>(shelf: &mut Shelf<D>, node: &Node, count: u64) -> Result<(), Refusal> {
+    for _ in 0..count {
+        shelf.save(node)?;
+    }
+    Ok(())
+}
+
 fn refusal_of(_fault: DiskFault) -> Refusal {
     Refusal::Disk
 }
@@ -148,13 +176,32 @@ fn on_disk<D: Disk>(
         ["sync"] => out.done(disk.sync().map_err(refusal_of)),
         ["blank"] => out.answer(is_blank(disk).map_err(refusal_of)),
         ["failures"] => out.show(&disk.failures()),
-        ["read", area, at, count] => {
-            let mut into = vec![in alloc; 0; read(count)?]?;
-            put_read(disk, area_of(area)?, read(at)?, &mut into, out);
+        [verb, area, at, word] => {
+            return on_area(alloc, disk, verb, area_of(area)?, read(at)?, word, out);
         }
-        ["write", area, at, digits] => {
-            let bytes = bytes_of(alloc, digits)?;
-            let done = write(disk, area_of(area)?, read(at)?, &bytes)?;
+        _ => return Err(Stop::Unknown),
+    }
+    Ok(())
+}
+
+// A read or a write of an area from an offset on.
+fn on_area<D: Disk>(
+    alloc: Global,
+    disk: &mut D,
+    verb: &str,
+    area: Area,
+    at: usize,
+    word: &str,
+    out: &mut Out,
+) -> Result<(), Stop> {
+    match verb {
+        "read" => {
+            let mut into = vec![in alloc; 0; read(word)?]?;
+            put_read(disk, area, at, &mut into, out);
+        }
+        "write" => {
+            let bytes = bytes_of(alloc, word)?;
+            let done = write(disk, area, at, &bytes)?;
             out.done(done.map_err(refusal_of));
         }
         _ => return Err(Stop::Unknown),

@@ -2,6 +2,7 @@
 use crate::case::{Line, Stop, read};
 use crate::cells::{Seated, new_cells, new_wire};
 use crate::mailboxes::exchange_frames;
+use crate::nodes::shape_of;
 use crate::out::Out;
 use ids::{GREATEST_NODES, Refusal, Shape};
 use model::Event;
@@ -25,19 +26,15 @@ struct Member<'a> {
 impl<'a> Member<'a> {
     // The member of a cell, which gets an object of its own.
     fn new(mut seated: Seated<'a>, letters: u32) -> Result<Member<'a>, Refusal> {
-        let object = Event::Alloc {
-            register: 0,
-            places: 0,
-        };
-        let _ = seated.act(object)?;
-        let state = seated.cell.node().state();
-        let (previous, next) = beside(state.own, state.shape.nodes());
-        Ok(Member {
-            seated,
-            next,
-            previous,
-            left: letters,
-        })
+        match make_object(&mut seated) {
+            Ok((previous, next)) => Ok(Member {
+                seated,
+                next,
+                previous,
+                left: letters,
+            }),
+            Err(refusal) => Err(refusal),
+        }
     }
 
     // Gives a letter, where it is to and may.
@@ -74,6 +71,17 @@ impl<'a> Member<'a> {
     fn has_taken(&self, letters: u32) -> bool {
         self.seated.cell.node().taken_from(self.previous) == u64::from(letters)
     }
+}
+
+// Makes an object in register 0, and answers the numbers before and after the cell's own.
+fn make_object(seated: &mut Seated<'_>) -> Result<(u8, u8), Refusal> {
+    let object = Event::Alloc {
+        register: 0,
+        places: 0,
+    };
+    let _ = seated.act(object)?;
+    let state = seated.cell.node().state();
+    Ok(beside(state.own, state.shape.nodes()))
 }
 
 // The numbers before and after this one in a ring of so many.
@@ -142,7 +150,9 @@ fn exchange<R: Threads + Sync>(
     let cells = new_cells(alloc, shape, &wire, seats)?;
     let mut members = ring(alloc, cells, letters)?;
     take_turns(rt, &mut members, turns);
-    Ok(finish(&mut members, letters))
+    let done = finish(&mut members, letters);
+    drop(members);
+    Ok(done)
 }
 
 /// A case of threads.
@@ -166,9 +176,7 @@ fn take<R: Threads + Sync>(
 ) -> Result<(), Stop> {
     match words {
         ["ring", nodes, letters, turns] => {
-            let Some(shape) = Shape::new(read(nodes)?, 1, 2) else {
-                return Err(Stop::Unknown);
-            };
+            let shape = shape_of(nodes, "1", "2")?;
             let (letters, turns) = (read(letters)?, read(turns)?);
             out.answer(exchange(rt, alloc, shape, letters, turns));
         }

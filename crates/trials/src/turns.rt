@@ -119,8 +119,10 @@ fn take<R: Wait>(rt: &R, alloc: Global, words: &[&str], out: &mut Out) -> Result
     let ["turn", node, nodes, scanned, unsaved] = words else {
         return Err(Stop::Unknown);
     };
+    let (node, nodes) = (read(node)?, read(nodes)?);
     let recorder = Recorder::new(alloc, read(scanned)?, read(unsaved)?);
-    let _turn = turn_node(rt, &recorder, &recorder, read(node)?, read(nodes)?, 1);
+    drop(turn_node(rt, &recorder, &recorder, node, nodes, 1));
     recorder.put(out);
+    drop(recorder);
     Ok(())
 }
