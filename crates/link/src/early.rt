@@ -54,21 +54,21 @@ impl EarlyFrames {
 
     /// The frame in this place; none past the last one.
     #[tactic(auto, using(crate::proofs::Places::flat_read))]
-    pub fn at(&self, place: u8) -> Option<Data>
+    pub fn at(&self, place: usize) -> Option<Data>
         ensures { result ≡ place_at self.now place }
     {
-        self.places.get(usize::from(place)).copied().flatten()
+        self.places.get(place).copied().flatten()
     }
 
     /// Puts a frame into its place. One that stands there already stays.
     #[tactic(auto, using(crate::proofs::Places::set_none))]
-    pub fn put(&mut self, place: u8, frame: Data)
+    pub fn put(&mut self, place: usize, frame: Data)
         ensures { self.new ≡ placed self.old place frame }
     {
         if self.at(place).is_some() {
             return;
         }
-        if let Some(free) = self.places.get_mut(usize::from(place)) {
+        if let Some(free) = self.places.get_mut(place) {
             *free = Some(frame);
         }
     }

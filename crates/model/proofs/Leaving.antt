@@ -299,7 +299,7 @@ act-got n new e (Ok a) p =
 -- A message that was answered was taken in before; or it is ahead of its turn, but within the
 -- window; or its turn has come.
 pub data Turned (p : LocalState) (d : Data) (a : Answer) : Type 0 where
-  again : a ≡ answer.Repeat → Turned p d a
+  again : d.number ≤ got_from p d.from → a ≡ answer.Repeat → Turned p d a
   ahead : got_from p d.from + 1 < d.number → d.number ≤ got_from p d.from + WINDOW
       → a ≡ answer.Early
       → Turned p d a
@@ -311,7 +311,7 @@ unfolding taken_in
 turned-cases p d a within =
     cond_both (is_repeat p d.from d.number) (unchanged p answer.Repeat) _
     (λ (x : Effect). a ≡ x.answer → Turned p d a)
-    (λ _ says. again says)
+    (λ old says. again (leb-true d.number _ old) says)
     (λ first.
     cond_both (is_early p d.from d.number) (unchanged p answer.Early)
     (taken_in p d.from d.number d.stamp d.body)

@@ -21,3 +21,4 @@ mod Receipts
 mod Lists
 mod Listed
 pub mod Restorable
+pub mod Held
