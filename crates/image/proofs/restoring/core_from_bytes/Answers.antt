@@ -1,6 +1,6 @@
 use Rattle.image.specs.Parts.{stored_of}
 use Rattle.image.proofs.Made.{is_image, is_none}
-use Rattle.image.proofs.restoring.from_bytes.Goals as goal
+use Rattle.image.proofs.restoring.core_from_bytes.Goals as goal
 
 pub restored-requires : goal.restored-requires
 restored-requires c = c.in_ok-image.ensures.found.fits
