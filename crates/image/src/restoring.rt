@@ -45,7 +45,8 @@ pub fn from_bytes(alloc: Global, bytes: &[u8]) -> Result<Node, Refusal>
     Node::of(alloc, core)
 }
 
-fn core_from_bytes(alloc: Global, bytes: &[u8]) -> Result<Core, Refusal>
+/// The core of that node alone, for who only reads what was saved; with the same refusals.
+pub fn core_from_bytes(alloc: Global, bytes: &[u8]) -> Result<Core, Refusal>
     ensures read { IfOk result (λ n. IsImageOf bytes.now n) }
     ensures refused { IfErr result (λ e. e ≢ Memory
         → (e ≡ BadImage) × ((n : NodeView) → IsImageOf bytes.now n → ⊥)) }

@@ -16,7 +16,7 @@ use crate::sim::Sim;
 use ids::{Ref, Refusal};
 use indexmap::IndexSet;
 use msg::{Body, Message};
-use node::Node;
+use node::Core;
 use std::alloc::Global;
 
 /// The references that can be reached where of each node the saved state is taken for which `saved`
@@ -49,7 +49,7 @@ pub(crate) fn read_saved(
     alloc: Global,
     sim: &Sim,
     saved: &[bool],
-) -> Result<Vec<Option<Node>>, Refusal>
+) -> Result<Vec<Option<Core>>, Refusal>
     requires width { length saved.now ≡ length sim.now }
     ensures read { IfOk result (λ v. AreRead sim.now saved.now v.items) }
     ensures width { IfOk result (λ v. length v.items ≡ length sim.now) }
@@ -68,19 +68,19 @@ pub(crate) fn read_saved(
 }
 
 /// The node of this number that was read, or else the current one.
-pub(crate) fn chosen<'a>(sim: &'a Sim, read: &'a [Option<Node>], number: u8) -> &'a Node
+pub(crate) fn chosen<'a>(sim: &'a Sim, read: &'a [Option<Core>], number: u8) -> &'a Core
     requires width { length read.now ≡ length sim.now }
     requires there { number < length sim.now }
     ensures { result.now ≡ chosen sim.now read.now number }
 {
     match &read[usize::from(number)] {
         Some(node) => node,
-        None => sim.site(number).node(),
+        None => sim.site(number).node().core(),
     }
 }
 
 /// Adds what all registers and letters hold, and what messages in flight carry.
-fn add_roots(found: &mut IndexSet<Ref>, sim: &Sim, read: &[Option<Node>]) -> Result<(), Refusal>
+fn add_roots(found: &mut IndexSet<Ref>, sim: &Sim, read: &[Option<Core>]) -> Result<(), Refusal>
     requires width { length read.now ≡ length sim.now }
     ensures done { OnOk result (Adds found.old.keys found.new.keys (IsRoot sim.now read.now)) }
     ensures refused { IfErr result (λ e. e ≡ Memory) }
@@ -93,7 +93,7 @@ fn add_roots(found: &mut IndexSet<Ref>, sim: &Sim, read: &[Option<Node>]) -> Res
 }
 
 /// Adds what the node's registers and letters hold.
-fn add_held(found: &mut IndexSet<Ref>, node: &Node) -> Result<(), Refusal>
+fn add_held(found: &mut IndexSet<Ref>, node: &Core) -> Result<(), Refusal>
     ensures done { OnOk result (Adds found.old.keys found.new.keys (IsHeld node.now)) }
     ensures refused { IfErr result (λ e. e ≡ Memory) }
 {
@@ -107,7 +107,7 @@ fn add_held(found: &mut IndexSet<Ref>, node: &Node) -> Result<(), Refusal>
 fn add_links(
     found: &mut IndexSet<Ref>,
     sim: &Sim,
-    read: &[Option<Node>],
+    read: &[Option<Core>],
     from: u8,
 ) -> Result<(), Refusal>
     requires width { length read.now ≡ length sim.now }
@@ -124,7 +124,7 @@ fn add_links(
 }
 
 /// Adds what the messages of one node carry that the other hasn't taken in.
-fn add_carried(found: &mut IndexSet<Ref>, from: &Node, to: &Node) -> Result<(), Refusal>
+fn add_carried(found: &mut IndexSet<Ref>, from: &Core, to: &Core) -> Result<(), Refusal>
     ensures done { OnOk result (Adds found.old.keys found.new.keys (IsCarried from.now to.now)) }
     ensures refused { IfErr result (λ e. e ≡ Memory) }
 {
@@ -165,7 +165,7 @@ fn carried(body: Body) -> [Option<Ref>; 2]
 }
 
 /// Adds all that stands in the places of what was found, and of what is added so.
-fn follow(found: &mut IndexSet<Ref>, sim: &Sim, read: &[Option<Node>]) -> Result<(), Refusal>
+fn follow(found: &mut IndexSet<Ref>, sim: &Sim, read: &[Option<Core>]) -> Result<(), Refusal>
     requires width { length read.now ≡ length sim.now }
     ensures done { OnOk result
         (Follows (chosen sim.now read.now) found.old.keys found.new.keys) }
@@ -184,7 +184,7 @@ fn follow(found: &mut IndexSet<Ref>, sim: &Sim, read: &[Option<Node>]) -> Result
 }
 
 /// Adds what stands in the places of the node's object, while it is live.
-fn add_standing(found: &mut IndexSet<Ref>, node: &Node, reference: Ref) -> Result<(), Refusal>
+fn add_standing(found: &mut IndexSet<Ref>, node: &Core, reference: Ref) -> Result<(), Refusal>
     ensures done { OnOk result (Adds found.old.keys found.new.keys (Standing node.now reference)) }
     ensures refused { IfErr result (λ e. e ≡ Memory) }
 {
