@@ -7,3 +7,4 @@ pub mod InsideSite
 pub mod Shows
 pub mod Reach
 pub mod Answered
+pub mod Spaces
