@@ -384,6 +384,6 @@ none-refused-in-turn shape within steps from to number stamp b e there refused =
           early
           refused,
       (let past : got_from s.local from + WINDOW < number = leb-false number _ early in
-      omega (arith, past)),
+          omega (arith, past)),
     ))
     (cases_Bool (leb number (got_from s.local from + WINDOW)))

@@ -1,5 +1,5 @@
 -- An answered event, and a step of a space, taken apart once for all.
-use Rattle.std.proofs.Common.{◌≡◌, ℕ, ◌<◌, Bool, true, false, ◌==◌, ◌&&◌, ◌||◌, ltb-true, List, [], ◌∷◌, ◌++◌, length, map, get_or, set, Option, None, Some, Result, Ok, Err, refl, sym, ap, ◌∙◌, ◌+◌, subst, leb, leb-true, leb-false, inl, inr, ◌⊎◌, ⊎_elim, ◌≤◌, length-set, arith}
+use Rattle.std.proofs.Common.{◌≡◌, ℕ, ◌<◌, Bool, true, false, ◌==◌, ◌&&◌, ◌||◌, ltb-true, List, [], ◌∷◌, ◌++◌, length, map, get_or, set, Option, None, Some, Result, Ok, Err, refl, sym, ap, ◌∙◌, ◌+◌, subst, leb, leb-false, inl, inr, ◌⊎◌, ◌≤◌, length-set, arith}
 use Rattle.std.proofs.lemmas.Bool.{cond_both, and_parts, cases_Bool, cond-true, cond-false, ltb-false}
 use Rattle.ids.specs.declared.limits.TheConstants.{WINDOW}
 use Rattle.ids.specs.declared.refusal.Refusal.{Refusal}
@@ -116,20 +116,20 @@ receipt-cases s m t a h =
           (cond-true (is_repeat s.local m.from m.number) _ _ again) in repeated same.state
           (inl same.answer)
       | inr first ↦ elim (cases_Bool (is_early s.local m.from m.number)) as (λ _. Receipt s m t a) [
-          | inl ahead ↦ let same =
-              as_found (unchanged s.local answer.Early)
-              (cond-false (is_repeat s.local m.from m.number) _ _ first
-              ∙ cond-true (is_early s.local m.from m.number) _ _ ahead) in repeated same.state
-              (inr same.answer)
-          | inr due ↦ next
-              (let later : got_from s.local m.from < m.number = leb-false m.number _ first in
-              let last : m.number ≤ got_from s.local m.from + 1 = ltb-false _ m.number due in
-              omega (arith, later, last))
-              (may-next _ _ _ first due found.passed.1.1.0)
-              (as_found (taken_in s.local m.from m.number x.stamp x.body)
-              (cond-false (is_repeat s.local m.from m.number) _ _ first
-              ∙ cond-false (is_early s.local m.from m.number) _ _ due))
-        ]
+        | inl ahead ↦ let same =
+            as_found (unchanged s.local answer.Early)
+            (cond-false (is_repeat s.local m.from m.number) _ _ first
+            ∙ cond-true (is_early s.local m.from m.number) _ _ ahead) in repeated same.state
+            (inr same.answer)
+        | inr due ↦ next
+            (let later : got_from s.local m.from < m.number = leb-false m.number _ first in
+            let last : m.number ≤ got_from s.local m.from + 1 = ltb-false _ m.number due in
+            omega (arith, later, last))
+            (may-next _ _ _ first due found.passed.1.1.0)
+            (as_found (taken_in s.local m.from m.number x.stamp x.body)
+            (cond-false (is_repeat s.local m.from m.number) _ _ first
+            ∙ cond-false (is_early s.local m.from m.number) _ _ due))
+      ]
     ]
 
 -- messages come last in what was sent
