@@ -1,6 +1,6 @@
 -- What the theorems on lists of steps say of cells. The premises are what the calls of a cell
--- ensure, that the node shows the seat's state, as each cell keeps, and that a run reaches the world
--- in which the wire was made: its nodes were new then, or as a run had saved them.
+-- ensure, that the node shows the seat's state, as each cell keeps, and that a run reaches the
+-- world in which the wire was made: its nodes were new then, or as a run had saved them.
 use Rattle.std.specs.Prelude.{◌≡◌, ◌≢◌, ◌⊎◌, ℕ, ◌+◌, ◌<◌, Bool, false, List, [], ◌∷◌, ◌++◌, length, slice_get, Some, Ok, Err}
 use Rattle.ids.specs.Limits.{Shaped, IsShape}
 use Rattle.ids.specs.declared.names.Ref.{Ref}
@@ -68,9 +68,9 @@ pub record HasSwept (count : ℕ) (old new : NodeView) (v w : Known) : Type 0 wh
   pub answer : Answer
   pub acted : Acted (event.Sweep count) (step.Act v.me (event.Sweep count)) (Ok answer) old new v w
 
--- A cell's sweep frees nothing that is reachable: some list of events, the sweep its last, leads to
--- what the seat knows; and what can be reached just before the sweep, in a cut that takes the node's
--- current state, is in its slot before and after.
+-- A cell's sweep frees nothing that is reachable: some list of events, the sweep its last, leads
+-- to what the seat knows; and what can be reached just before the sweep, in a cut that takes the
+-- node's current state, is in its slot before and after.
 abbrev pub SweepsFreeNoneReachable : Type 0
 SweepsFreeNoneReachable =
     (count : ℕ) (old new : NodeView) (v w : Known) → IsReached v.opening

@@ -8,9 +8,9 @@ ghost use Rattle.cell.specs.Laws.{
   SweepsFreeNoneReachable,
 };
 
-/// What cells do is what the theorems speak of: their premises here are what [`act`](crate::Cell::act)
-/// and [`pump_in`](crate::Cell::pump_in) ensure, whatever other threads do meanwhile, where the wire
-/// was made for nodes as a run leaves them, new or saved.
+/// What cells do is what the theorems speak of: their premises here are what
+/// [`act`](crate::Cell::act) and [`pump_in`](crate::Cell::pump_in) ensure, whatever other threads
+/// do meanwhile, where the wire was made for nodes as a run leaves them, new or saved.
 ///
 /// This does nothing: its contract is the theorems.
 pub fn laws()

@@ -29,5 +29,5 @@ returns-clause-opened g c =
 pub returns-clause-settled : goal.returns-clause-settled
 returns-clause-settled g c =
     settled_by g.D.Disk.seen g.D.Disk.may_leave _ c.mark-choice.result
-    c.args.image.now (g.D.Disk.seen c.put_both.new.disk) c.put.new.disk c.put.result c.mark-choice.ensures
-    c.put.ensures.durable c.put.ensures.written (returns-clause-opened g c)
+    c.args.image.now (g.D.Disk.seen c.put_both.new.disk) c.put.new.disk c.put.result
+    c.mark-choice.ensures c.put.ensures.durable c.put.ensures.written (returns-clause-opened g c)

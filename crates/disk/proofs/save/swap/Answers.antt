@@ -35,5 +35,5 @@ returns-clause-opened g c =
 pub returns-clause-settled : goal.returns-clause-settled
 returns-clause-settled g c =
     settled_by g.D.Disk.seen g.D.Disk.may_leave _ c.mark-choice.result
-    c.args.image.now (g.D.Disk.seen c.put.new.disk) c.put-2.new.disk c.put-2.result c.mark-choice.ensures
-    c.put-2.ensures.durable c.put-2.ensures.written (returns-clause-opened g c)
+    c.args.image.now (g.D.Disk.seen c.put.new.disk) c.put-2.new.disk c.put-2.result
+    c.mark-choice.ensures c.put-2.ensures.durable c.put-2.ensures.written (returns-clause-opened g c)
