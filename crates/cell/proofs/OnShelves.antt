@@ -83,3 +83,14 @@ read-held shape own seen now (Ok r) blank is exact same opens = record {
   held = λ _. subst (OpensTo r.0) same opens;
 }
 read-held shape own seen now (Err e) blank is exact same opens = opens
+
+-- what stands first in the rest of a list stands there in the whole
+pub first-there : {X : Type 0} (xs : List X) (number : ℕ) (x : X) → number < length xs
+    → x ≡ get_or (drop number xs) 0 x → slice_get xs number ≡ Some x
+first-there xs number x inside first =
+    let found = some_at xs number inside in
+    let at : number + 0 ≡ number = omega arith in
+    let same : x ≡ found.0 =
+    first ∙ get_or-drop number xs 0 x ∙ ap (λ (i : ℕ). get_or xs i x) at
+    ∙ get_or_from_slice_get xs number found.0 x found.1 in
+    subst (λ z. slice_get xs number ≡ Some z) (sym same) found.1

@@ -22,6 +22,19 @@ pub record IsReadFrom (shape : Shaped) (own : ℕ) (seen : Areas) (n : NodeView)
   pub blank : seen.select ≡ [] → n ≡ new_view shape own
   pub held : seen.select ≢ [] → OpensTo n seen
 
+-- a disk that reads so holds the node of another space, or one of another number
+pub record HoldsAnother (shape : Shaped) (own : ℕ) (seen : Areas) : Type 0 where
+  pub node : NodeView
+  pub opens : OpensTo node seen
+  pub is_other : IsNodeOf shape own node → ⊥
+
+-- a place of a list of which something is so
+pub record HasPlace {X : Type 0} (Is : ℕ → X → Type 0) (xs : List X) : Type 0 where
+  pub place : ℕ
+  pub value : X
+  pub there : slice_get xs place ≡ Some value
+  pub is : Is place value
+
 -- what is so of each place of two lists
 abbrev pub AreBeside : {X : Type 0} → (ℕ → X → NodeView → Type 0) → List X → List NodeView → Type 0
 AreBeside {X} Is xs nodes =

@@ -1,9 +1,9 @@
 //! Nodes as their disks hold them.
-ghost use Rattle.std.specs.Prelude.{◌≡◌, ◌≢◌, ◌++◌, [], ◌∷◌, true, IfOk, IsErrOf, IsTrue, OnOk};
+ghost use Rattle.std.specs.Prelude.{◌≡◌, ◌≢◌, ◌++◌, [], ◌∷◌, false, true, IfErr, IfOk, IsErrOf, IsTrue, OnOk};
 ghost use Rattle.std.specs.Prelude.{length, vec_len};
 ghost use Rattle.disk.specs.Areas.{Areas};
 ghost use Rattle.cell.specs.Disks.{OpensTo};
-ghost use Rattle.cell.specs.Opened.{AreBeside, AreFound, IsNodeOf, IsReadFrom};
+ghost use Rattle.cell.specs.Opened.{AreBeside, AreFound, HasPlace, HoldsAnother, IsNodeOf, IsReadFrom};
 ghost use Rattle.cell.specs.declared.fault.Unopened.TheVariants as fault;
 ghost use Rattle.model.specs.View.{new_view};
 
@@ -25,6 +25,7 @@ fn create_node<D: Disk + Drop>(
     ensures node { IfOk result (λ r. r.0 ≡ new_view shape own.number) }
     ensures ready { IfOk result (λ r. r.1.ready ≡ true) }
     ensures opens { IfOk result (λ r. OpensTo r.0 (D.seen r.1.disk)) }
+    ensures refused { IfErr result (λ e. e ≢ fault.Disks) }
 {
     let node = match Node::new(alloc, shape, own) {
         Ok(node) => node,
@@ -38,7 +39,8 @@ fn create_node<D: Disk + Drop>(
 
 // Whether a node is the one of this number in a space of this shape.
 fn is_node_of(node: &Node, shape: Shape, own: NodeId) -> bool
-    ensures { IsTrue result → IsNodeOf shape own.number node.now }
+    ensures is { IsTrue result → IsNodeOf shape own.number node.now }
+    ensures other { result ≡ false → IsNodeOf shape own.number node.now → ⊥ }
 {
     let state = node.state();
     let is_sized = state.shape.nodes() == shape.nodes()
@@ -49,7 +51,8 @@ fn is_node_of(node: &Node, shape: Shape, own: NodeId) -> bool
 
 // Adds a value to a list.
 fn keep<T: Drop>(values: &mut Vec<T>, value: T) -> Result<(), Unopened>
-    ensures { OnOk result (values.new.items ≡ values.old.items ++ value ∷ []) }
+    ensures kept { OnOk result (values.new.items ≡ values.old.items ++ value ∷ []) }
+    ensures refused { IfErr result (λ e. e ≢ fault.Disks) }
 {
     match values.push(value) {
         Ok(()) => Ok(()),
@@ -68,6 +71,7 @@ fn read_node<D: Disk + Drop>(
     ensures ready { IfOk result (λ r. r.1.ready ≡ true) }
     ensures opens { IfOk result (λ r. OpensTo r.0 (D.seen r.1.disk)) }
     ensures read { IfOk result (λ r. OpensTo r.0 (D.seen disk)) }
+    ensures other { IsErrOf result fault.Disks → HoldsAnother shape own.number (D.seen disk) }
 {
     let (shelf, node) = match Shelf::open::<Node>(alloc, disk) {
         Ok(found) => found,
@@ -92,6 +96,7 @@ fn node_of<D: Disk + Drop>(
     ensures ready { IfOk result (λ r. r.1.ready ≡ true) }
     ensures opens { IfOk result (λ r. OpensTo r.0 (D.seen r.1.disk)) }
     ensures read { IfOk result (λ r. IsReadFrom shape own.number (D.seen disk) r.0) }
+    ensures other { IsErrOf result fault.Disks → HoldsAnother shape own.number (D.seen disk) }
 {
     match is_blank(&mut disk) {
         Ok(true) => create_node(alloc, shape, own, disk),
@@ -112,6 +117,8 @@ pub fn find<D: Disk + Drop>(
     mut disks: Vec<D>,
 ) -> Result<(Vec<Node>, Vec<Shelf<D>>), Unopened>
     ensures disks { vec_len disks ≢ shape.nodes → IsErrOf result fault.Disks }
+    ensures other { IsErrOf result fault.Disks → vec_len disks ≡ shape.nodes →
+        HasPlace (λ k d. HoldsAnother shape k (D.seen d)) disks.items }
     ensures count { IfOk result (λ r. length r.0.items ≡ shape.nodes) }
     ensures found { IfOk result (λ r.
         AreFound (λ n s. (s.ready ≡ true) × OpensTo n (D.seen s.disk))

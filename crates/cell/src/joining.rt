@@ -4,7 +4,7 @@ ghost use Rattle.ids.specs.declared.refusal.Refusal.TheVariants.{Memory};
 ghost use Rattle.model.specs.World.{World};
 ghost use Rattle.wire.specs.Readers.{AreOpened, IsMade};
 ghost use Rattle.cell.specs.Disks.{OpensTo};
-ghost use Rattle.cell.specs.Opened.{world_of, AreBeside, AreFound, AreReady, IsReadFrom};
+ghost use Rattle.cell.specs.Opened.{world_of, AreBeside, AreFound, AreReady, HasPlace, HoldsAnother, IsReadFrom};
 ghost use Rattle.cell.specs.declared.fault.Unopened.TheVariants as fault;
 
 use crate::cell::Cell;
@@ -81,6 +81,8 @@ pub fn open<D: Disk + Drop>(
     watches: u8,
 ) -> Result<(Wire, Vec<Cell<D>>, Vec<Watch>), Unopened>
     ensures disks { vec_len disks ≢ shape.nodes → IsErrOf result fault.Disks }
+    ensures other { IsErrOf result fault.Disks → vec_len disks ≡ shape.nodes →
+        HasPlace (λ k d. HoldsAnother shape k (D.seen d)) disks.items }
     ensures read { IfOk result (λ r. AreBeside (λ k d n. IsReadFrom shape k (D.seen d) n)
         disks.items (map (λ c. c.desk.node) r.1.items)) }
     ensures count { IfOk result (λ r. vec_len r.1 ≡ shape.nodes) }

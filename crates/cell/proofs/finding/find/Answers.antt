@@ -1,14 +1,16 @@
-use Rattle.std.proofs.Common.{◌≡◌, arith, ap, ◌∙◌, ◌+◌, drop, get_or, length, length-append, subst}
+use Rattle.std.proofs.Common.{Err, IfErr, refl, ◌≡◌, ◌<◌, arith, ap, sym, ◌∙◌, ◌+◌, drop, get_or, length, length-append, subst}
+use Rattle.std.proofs.lemmas.Result.{err_from_is_err_and, IfErr-at_err}
 use Rattle.std.proofs.lemmas.List.{drop-drop}
-use Rattle.cell.proofs.OnShelves.{more-found, next-beside}
+use Rattle.cell.specs.declared.fault.Unopened.TheVariants as fault
+use Rattle.cell.proofs.OnShelves.{first-there, more-found, next-beside}
 use Rattle.cell.proofs.finding.find.Goals as goal
 
 pub loop-number-preserved : goal.loop-number-preserved
 loop-number-preserved g c = record {
   found = more-found _ _ _ _ c.loop-number.invariant.found c.loop-number.invariant.count
       (c.in_ok-node.ensures.node, (c.in_ok-node.ensures.ready, c.in_ok-node.ensures.opens))
-      (c.in_ok-keep.ensures, c.in_ok-keep-2.ensures);
-  count = ap length c.in_ok-keep.ensures ∙ length-append c.loop-number.nodes.items _
+      (c.in_ok-keep.ensures.kept, c.in_ok-keep-2.ensures.kept);
+  count = ap length c.in_ok-keep.ensures.kept ∙ length-append c.loop-number.nodes.items _
       ∙ ap (λ i. i + 1) c.loop-number.invariant.count;
   rest = c.remove.ensures.items ∙ ap (drop 1) c.loop-number.invariant.rest
       ∙ drop-drop 1 c.loop-number.number c.args.disks.items;
@@ -16,6 +18,22 @@ loop-number-preserved g c = record {
       c.loop-number.invariant.count
       (subst (λ l. c.remove.result ≡ get_or l 0 c.remove.result) c.loop-number.invariant.rest
       c.remove.ensures.value)
-      c.in_ok-node.ensures.read c.in_ok-keep.ensures;
+      c.in_ok-node.ensures.read c.in_ok-keep.ensures.kept;
   left = omega (arith, c.loop-number.invariant.left, c.remove.ensures.len);
 }
+
+pub returns-in_err-node-clause-other : goal.returns-in_err-node-clause-other
+returns-in_err-node-clause-other g c = λ failed same.
+    let inside : c.loop-number.number < length c.args.disks.items =
+    omega (arith, c.loop-number.invariant.left, c.remove.ensures.len, same, c.args.disks.ok) in
+    let p = err_from_is_err_and c.from_residual.result c.from_residual.ensures.1 in
+    let is : fault.Disks ≡ p.0 =
+    IfErr-at_err (λ e. e ≡ p.0) failed (subst (λ r. IfErr r (λ e. e ≡ p.0)) (sym p.1) refl) in
+    record {
+      place = c.loop-number.number;
+      value = c.remove.result;
+      there = first-there c.args.disks.items c.loop-number.number c.remove.result inside
+          (subst (λ l. c.remove.result ≡ get_or l 0 c.remove.result) c.loop-number.invariant.rest
+          c.remove.ensures.value);
+      is = c.in_err-node.ensures.other (ap Err (sym (is ∙ p.2)));
+    }
