@@ -6,6 +6,7 @@ ghost use Rattle.std.specs.List.Sorted.{IsNonDecreasingBy};
 ghost use Rattle.ids.specs.declared.refusal.Refusal.TheVariants as refusal;
 ghost use Rattle.wire.specs.Plays.{HasEnded};
 ghost use Rattle.wire.specs.Readers.{heard, loaded, watch_opening, IsSameWatch, IsWatchOf};
+ghost use Rattle.cell.specs.Opened.{HasPlace, HoldsAnother};
 ghost use Rattle.supervisor.specs.Opened.{AreWatches};
 ghost use Rattle.supervisor.specs.declared.fault.OpenFault.TheVariants as fault;
 
@@ -47,6 +48,8 @@ impl<D: Disk + Drop> Space<D> {
     /// no node, Memory. All disks are then given up.
     pub fn open(alloc: Global, config: &Config, disks: Vec<D>) -> Result<Space<D>, OpenFault>
         ensures disks { vec_len disks ≢ config.now.shape.nodes → IsErrOf result fault.Disks }
+        ensures other { IsErrOf result fault.Disks → vec_len disks ≡ config.now.shape.nodes →
+            HasPlace (λ k d. HoldsAnother config.now.shape k (D.seen d)) disks.items }
         ensures nodes { IfOk result (λ s. s.plan.nodes ≡ config.now.shape.nodes) }
         ensures turns { IfOk result (λ s. s.plan.turns ≡ config.now.turns) }
         ensures fresh { IfOk result (λ s. is_some s.team ≡ false) }
