@@ -1,18 +1,20 @@
 -- A space of the code with what its nodes keep until its turn, against a space of the definitions.
-use Rattle.std.specs.Prelude.{◌≡◌, ◌≢◌, ℕ, ◌++◌, List, [], ◌∷◌, length, map, IsTrue, IfOk, IfErr, OnErr, ◌↔◌, slice_index_or, Option, Some, None, Result, Err}
+use Rattle.std.specs.Prelude.{◌≡◌, ◌≢◌, ℕ, ◌++◌, List, [], ◌∷◌, length, map, IsTrue, IfOk, IfErr, OnErr, ◌↔◌, slice_index_or, Option, Some, None, Result, Err, ◌<◌, slice_set}
 use Rattle.ids.specs.Limits.{Shaped}
 use Rattle.ids.specs.declared.refusal.Refusal.{Refusal}
 use Rattle.ids.specs.declared.refusal.Refusal.TheVariants.{Memory, ImageTooLarge}
 use Rattle.msg.specs.declared.frame.Data.{Data}
+use Rattle.model.specs.declared.event.Event.{Event}
 use Rattle.model.specs.declared.event.Event.TheVariants as event
+use Rattle.model.specs.declared.event.Answer.{Answer}
 use Rattle.model.specs.declared.step.Step.{Step}
 use Rattle.model.specs.declared.step.Step.TheVariants as step
 use Rattle.model.specs.declared.step.Outcome.{Outcome}
 use Rattle.model.specs.World.{World, FollowsStep, new_world, released, run, is_step_memory_free}
 use Rattle.link.specs.Early.{place_at}
 use Rattle.node.specs.Keeping.{Rings, ring_of, waiting}
-use Rattle.world.specs.Sites.{SiteView, KeepingSite}
-use Rattle.world.specs.Shows.{ShowsWorld, SavesTooLarge, bases_of, bases_after}
+use Rattle.world.specs.Sites.{SiteView, KeepingSite, ActedKeeping}
+use Rattle.world.specs.Shows.{ShowsWorld, SavesTooLarge, bases_of, bases_after, site_at}
 
 -- the sites, and for each of them what its current node keeps
 pub record SpaceView : Type 0 where
@@ -31,6 +33,19 @@ space_of qs = record { sites = map site_of qs; early = map early_of qs }
 -- what a node keeps; one that isn't there keeps nothing
 abbrev pub kept_at : SpaceView → ℕ → Rings
 kept_at n i = slice_index_or n.early i []
+
+-- one site of the space
+abbrev pub keeping_at : SpaceView → ℕ → KeepingSite
+keeping_at n i = record { site = site_at n.sites i; early = kept_at n i }
+
+-- what the current node of a number answered to an event, and the space after it
+pub record GivenSpace (result : Result Answer Refusal) (old new : SpaceView) (i : ℕ)
+    (e : Event) : Type 0 where
+  pub within : i < length old.sites
+  pub site : KeepingSite
+  pub acted : ActedKeeping result (keeping_at old i) site e
+  pub sites : new.sites ≡ slice_set old.sites i site.site
+  pub early : new.early ≡ slice_set old.early i site.early
 
 abbrev pub next_step : ℕ → ℕ → Option Data → Step
 next_step i from None = step.Act i (event.Next from)

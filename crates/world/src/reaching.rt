@@ -26,9 +26,9 @@ use std::alloc::Global;
 /// tests: it makes the saved nodes from their images, looks at all nodes, and at every message that
 /// they keep, and takes time in proportion to these and to the objects that it finds.
 pub fn reach(alloc: Global, sim: &Sim, saved: &[bool]) -> Result<Vec<Ref>, Refusal>
-    requires width { length saved.now ≡ length sim.now }
+    requires width { length saved.now ≡ length sim.now.sites }
     ensures reached { (shape : Shaped) (steps : List Step) → IsShape shape
-        → ShowsWorld sim.now (run (new_world shape) steps)
+        → ShowsWorld sim.now.sites (run (new_world shape) steps)
         → IfOk result (λ rs. (r : Ref) → Among r rs.items ↔ Reachable
         (cut (run (new_world shape) steps) (λ i. slice_index_or saved.now i false)) r) }
     ensures sorted { IfOk result (λ rs. IsSorted in_order rs.items) }
@@ -50,9 +50,9 @@ pub(crate) fn read_saved(
     sim: &Sim,
     saved: &[bool],
 ) -> Result<Vec<Option<Core>>, Refusal>
-    requires width { length saved.now ≡ length sim.now }
-    ensures read { IfOk result (λ v. AreRead sim.now saved.now v.items) }
-    ensures width { IfOk result (λ v. length v.items ≡ length sim.now) }
+    requires width { length saved.now ≡ length sim.now.sites }
+    ensures read { IfOk result (λ v. AreRead sim.now.sites saved.now v.items) }
+    ensures width { IfOk result (λ v. length v.items ≡ length sim.now.sites) }
     ensures refused { IfErr result (λ e. e ≡ Memory) }
 {
     let mut read = Vec::new(alloc);
@@ -69,9 +69,9 @@ pub(crate) fn read_saved(
 
 /// The node of this number that was read, or else the current one.
 pub(crate) fn chosen<'a>(sim: &'a Sim, read: &'a [Option<Core>], number: u8) -> &'a Core
-    requires width { length read.now ≡ length sim.now }
-    requires there { number < length sim.now }
-    ensures { result.now ≡ chosen sim.now read.now number }
+    requires width { length read.now ≡ length sim.now.sites }
+    requires there { number < length sim.now.sites }
+    ensures { result.now ≡ chosen sim.now.sites read.now number }
 {
     match &read[usize::from(number)] {
         Some(node) => node,
@@ -81,8 +81,8 @@ pub(crate) fn chosen<'a>(sim: &'a Sim, read: &'a [Option<Core>], number: u8) -> 
 
 /// Adds what all registers and letters hold, and what messages in flight carry.
 fn add_roots(found: &mut IndexSet<Ref>, sim: &Sim, read: &[Option<Core>]) -> Result<(), Refusal>
-    requires width { length read.now ≡ length sim.now }
-    ensures done { OnOk result (Adds found.old.keys found.new.keys (IsRoot sim.now read.now)) }
+    requires width { length read.now ≡ length sim.now.sites }
+    ensures done { OnOk result (Adds found.old.keys found.new.keys (IsRoot sim.now.sites read.now)) }
     ensures refused { IfErr result (λ e. e ≡ Memory) }
 {
     for number in 0..sim.count() {
@@ -110,10 +110,10 @@ fn add_links(
     read: &[Option<Core>],
     from: u8,
 ) -> Result<(), Refusal>
-    requires width { length read.now ≡ length sim.now }
-    requires there { from < length sim.now }
+    requires width { length read.now ≡ length sim.now.sites }
+    requires there { from < length sim.now.sites }
     ensures done { OnOk result
-        (Adds found.old.keys found.new.keys (IsLinked sim.now read.now from)) }
+        (Adds found.old.keys found.new.keys (IsLinked sim.now.sites read.now from)) }
     ensures refused { IfErr result (λ e. e ≡ Memory) }
 {
     let sender = chosen(sim, read, from);
@@ -166,9 +166,9 @@ fn carried(body: Body) -> [Option<Ref>; 2]
 
 /// Adds all that stands in the places of what was found, and of what is added so.
 fn follow(found: &mut IndexSet<Ref>, sim: &Sim, read: &[Option<Core>]) -> Result<(), Refusal>
-    requires width { length read.now ≡ length sim.now }
+    requires width { length read.now ≡ length sim.now.sites }
     ensures done { OnOk result
-        (Follows (chosen sim.now read.now) found.old.keys found.new.keys) }
+        (Follows (chosen sim.now.sites read.now) found.old.keys found.new.keys) }
     ensures refused { IfErr result (λ e. e ≡ Memory) }
 {
     for next in 0..usize::MAX {
