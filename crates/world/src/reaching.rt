@@ -82,7 +82,8 @@ pub(crate) fn chosen<'a>(sim: &'a Sim, read: &'a [Option<Core>], number: u8) -> 
 /// Adds what all registers and letters hold, and what messages in flight carry.
 fn add_roots(found: &mut IndexSet<Ref>, sim: &Sim, read: &[Option<Core>]) -> Result<(), Refusal>
     requires width { length read.now ≡ length sim.now.sites }
-    ensures done { OnOk result (Adds found.old.keys found.new.keys (IsRoot sim.now.sites read.now)) }
+    ensures done { OnOk result
+        (Adds found.old.keys found.new.keys (IsRoot sim.now.sites read.now)) }
     ensures refused { IfErr result (λ e. e ≡ Memory) }
 {
     for number in 0..sim.count() {
