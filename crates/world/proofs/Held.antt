@@ -130,7 +130,8 @@ space-changes {n = n} {i = i} {place = place} {q = q} {p = p} seen view named le
     subst (λ (z : SpaceView). SpaceChanges z (space_of (set seen place p)) i q p) view
     (subst (λ (z : ℕ). SpaceChanges (space_of seen) (space_of (set seen place p)) z q p) named
     (changed seen place q p
-    (omega (arith, named, less, ap (λ (z : SpaceView). length z.sites) view, length-map seen site_of))
+    (omega
+    (arith, named, less, ap (λ (z : SpaceView). length z.sites) view, length-map seen site_of))
     read))
 
 pub site-read-in : {n : SpaceView} {i place : ℕ} {q : KeepingSite} (seen : List KeepingSite)

@@ -59,7 +59,8 @@ OfAll P es = (from : ℕ) → OfRing (P from) (ring_of es from)
 
 pub of-none : (P : ℕ → Data → Type 0) (nodes : ℕ) → OfAll P (no_rings nodes)
 of-none P nodes from =
-    subst (OfRing (P from)) (sym (get_or-replicate_any {A = List (Option Data)} nodes from no_early))
+    subst (OfRing (P from))
+    (sym (get_or-replicate_any {A = List (Option Data)} nodes from no_early))
     (none-early (P from))
 
 of-set : (P : ℕ → Data → Type 0) (es : Rings) (from : ℕ) (ring : List (Option Data)) → OfAll P es

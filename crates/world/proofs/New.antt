@@ -104,7 +104,8 @@ pub new-space-shows : (shape : Shaped)
 new-space-shows shape =
     let all : List KeepingSite = new_sites_keeping shape in
     record {
-      world = subst (λ (z : List SiteView). ShowsWorld z (new_world shape)) (sym (sites-alone shape))
+      world =
+          subst (λ (z : List SiteView). ShowsWorld z (new_world shape)) (sym (sites-alone shape))
           (new-shows shape);
       width = length-map all early_of ∙ sym (length-map all site_of);
       held = λ i. nothing-kept (IsOfNet (new_world shape) i) shape (range_with_len 0 shape.nodes) i;
