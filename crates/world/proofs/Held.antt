@@ -1,5 +1,5 @@
 -- What the nodes of a space keep is of messages that were released, after each step.
-use Rattle.std.proofs.Common.{◌≡◌, ◌≢◌, ℕ, ◌-◌, ◌<◌, ◌≤◌, ◌==◌, ltb, ap₂, true, false, List, [], ◌∷◌, length, map, get_or, set, Option, Some, None, Result, Ok, Err, refl, ap, sym, ◌∙◌, subst, ⊎_elim, arith}
+use Rattle.std.proofs.Common.{◌≡◌, ◌≢◌, ℕ, ◌-◌, ◌<◌, ◌≤◌, ◌==◌, ltb, ap₂, true, List, [], ◌∷◌, length, get_or, set, Option, Some, None, Result, Ok, Err, refl, ap, sym, ◌∙◌, subst, ⊎_elim, arith}
 use Rattle.std.specs.Prelude.{OnErr, OnOk, slice_get}
 use Rattle.std.proofs.lemmas.Bool.{cases_lt, cond_both}
 use Rattle.std.proofs.lemmas.List.{length-set, length-map, get_or_read, get_or_past, set-get_or, map-set}
@@ -28,13 +28,13 @@ use Rattle.laws.proofs.Onward.{run-saved}
 use Rattle.laws.proofs.KeepsSent.{SentMore, sent-onward}
 use Rattle.laws.proofs.Cuts.{released-numbered}
 use Rattle.laws.proofs.Net.{released-grows}
-use Rattle.node.specs.Keeping.{Rings, no_rings, next_event, met, early_after, waiting}
+use Rattle.node.specs.Keeping.{Rings, no_rings, next_event, met, waiting}
 use Rattle.world.specs.Sites.{SiteView, KeepingSite, Acted, ActedKeeping, Saves, restarted}
 use Rattle.world.specs.Shows.{ShowsWorld, Stepped, Given, IsAckOf, IsSim, IsPlaced, frame_at, no_site, site_at}
 use Rattle.world.specs.Spaces.{SpaceView, GivenSpace, IsOfNet, ShowsSpace, SteppedSpace, early_of, kept_at, keeping_at, next_step, site_of, space_of, step_met}
 use Rattle.world.proofs.Kept.{OfAll, of-none, after-all}
 use Rattle.world.proofs.Shows.{Changes}
-use Rattle.world.proofs.Steps.{Gives, NamesNoNode, outcome_by, acted, given-follows, given-free, given-lets-go, given-small, given-unchanged, no-node}
+use Rattle.world.proofs.Steps.{Gives, outcome_by, acted, given-follows, given-free, given-lets-go, given-small, given-unchanged, no-node}
 use Rattle.world.proofs.Acks.{hands}
 use Rattle.world.proofs.Deliveries.{IsReleased, delivered, delivery-gives, delivery-lets-go, found}
 
@@ -144,11 +144,11 @@ module _ {n m : SpaceView} {i : ℕ} {q p : KeepingSite} (c : SpaceChanges n m i
   pub keeps-changed : ((w : World) → ShowsSpace n w → OfAll (IsOfNet w i) p.early) → KeepsNet n m
   keeps-changed here w h = (
     ap length c.early ∙ length-set n.early i p.early ∙ h.width
-    ∙ sym (ap length c.sites.new ∙ length-set n.sites i p.site),
+        ∙ sym (ap length c.sites.new ∙ length-set n.sites i p.site),
     λ k.
-    subst (λ (z : List Rings). OfAll (IsOfNet w k) (get_or z k [])) (sym c.early)
-    (at_set_if (OfAll (IsOfNet w k)) n.early i k p.early []
-    (λ same. subst (λ (z : ℕ). OfAll (IsOfNet w z) p.early) same (here w h)) (h.held k)),
+        subst (λ (z : List Rings). OfAll (IsOfNet w k) (get_or z k [])) (sym c.early)
+        (at_set_if (OfAll (IsOfNet w k)) n.early i k p.early []
+        (λ same. subst (λ (z : ℕ). OfAll (IsOfNet w z) p.early) same (here w h)) (h.held k)),
   )
 
   -- the node keeps what it kept
