@@ -1,7 +1,7 @@
 //! Values in an arena, which count how often one of them is dropped.
 use crate::case::{Line, Stop, read};
 use crate::out::Out;
-use arena::{Arena, Key};
+use arena::{Arena, Fault, Key, Slot};
 use std::alloc::Global;
 use std::cell::Cell;
 
@@ -26,16 +26,80 @@ struct Plan {
     again: u32,
 }
 
-/// A case over arenas.
+/// A case over arenas: one of words, which commands name slots of, and those whose drops count.
 pub(crate) fn run(alloc: Global, lines: &[Line<'_>], out: &mut Out) -> Result<(), Stop> {
+    let mut arena = Arena::with_limit(alloc, 0);
     for line in lines {
-        take(alloc, out.at(line), out)?;
+        match out.at(line) {
+            ["limit", limit] => {
+                arena = Arena::with_limit(alloc, read(limit)?);
+                out.text("ok");
+            }
+            ["last", word] => {
+                arena = at_last(alloc, read(word)?)?;
+                out.text("ok");
+            }
+            ["drops", words @ ..] => take(alloc, words, out)?,
+            words => on_words(&mut arena, words, out)?,
+        }
     }
     Ok(())
 }
 
+// An arena of one slot that holds the word under the last generation.
+fn at_last(alloc: Global, word: u64) -> Result<Arena<u64>, Stop> {
+    let mut slots = Vec::new(alloc);
+    slots.push(Slot::Occupied(u32::MAX, word))?;
+    match Arena::from_slots(alloc, 1, slots, &[]) {
+        Ok(arena) => Ok(arena),
+        Err(_) => Err(Stop::Memory),
+    }
+}
+
+// A command to the arena of words.
+fn on_words(arena: &mut Arena<u64>, words: &[&str], out: &mut Out) -> Result<(), Stop> {
+    match words {
+        ["high"] => out.show(&arena.high()),
+        ["insert", word] => put_inserted(arena.insert(read(word)?), out),
+        ["key-at", slot] => put_key(arena.key_at(read(slot)?), out),
+        ["remove", slot, generation] => put_word(arena.remove(key_of(slot, generation)?), out),
+        ["get", slot, generation] => put_word(arena.get(key_of(slot, generation)?).copied(), out),
+        _ => return Err(Stop::Unknown),
+    }
+    Ok(())
+}
+
+fn key_of(slot: &str, generation: &str) -> Result<Key, Stop> {
+    Ok(Key {
+        slot: read(slot)?,
+        generation: read(generation)?,
+    })
+}
+
+fn put_inserted(inserted: Result<Key, (u64, Fault)>, out: &mut Out) {
+    match inserted {
+        Ok(key) => put_key(Some(key), out),
+        Err((word, fault)) => out.show(&format_args!("{word} {fault:?}")),
+    }
+}
+
+fn put_key(key: Option<Key>, out: &mut Out) {
+    match key {
+        Some(Key { slot, generation }) => out.show(&format_args!("{slot}.{generation}")),
+        None => out.text("-"),
+    }
+}
+
+fn put_word(word: Option<u64>, out: &mut Out) {
+    match word {
+        Some(word) => out.show(&word),
+        None => out.text("-"),
+    }
+}
+
+// Counts the drops of an arena in which so many values are stored, taken out, and stored again.
 fn take(alloc: Global, words: &[&str], out: &mut Out) -> Result<(), Stop> {
-    let ["drops", limit, stored, taken, again] = words else {
+    let [limit, stored, taken, again] = words else {
         return Err(Stop::Unknown);
     };
     let plan = Plan {
