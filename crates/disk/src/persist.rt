@@ -36,17 +36,16 @@ pub trait Persist: Sized {
             → (e ≡ Refusal.BadImage) × ((v : Self) → reads bytes.now v → ⊥)) };
 }
 
-/// A node is saved as its image, in which all that it sent and took in counts as saved.
+/// A node is saved as its image, in which all that it sent and took in counts as saved. What it
+/// keeps until its turn isn't in it.
 impl Persist for Node {
-    ghost use Rattle.model.specs.View.{kept_view};
-    ghost use Rattle.image.specs.Images.{image_of};
-    ghost use Rattle.image.specs.Nodes.{IsImageOf};
+    ghost use Rattle.image.specs.Wholes.{whole_image, IsWholeOf, saved_whole};
 
-    ghost image = { image_of };
+    ghost image = { whole_image };
 
-    ghost reads = { IsImageOf };
+    ghost reads = { IsWholeOf };
 
-    ghost saved = { kept_view };
+    ghost saved = { saved_whole };
 
     fn to_bytes(&self, alloc: Global) -> Result<Vec<u8>, Refusal> {
         image::to_bytes(alloc, self)

@@ -6,3 +6,4 @@ pub mod Nodes
 pub mod Conditions
 pub mod Images
 pub mod Widths
+pub mod Wholes

@@ -19,5 +19,5 @@ mod tags;
 mod writing;
 
 pub use law::{grammar, nodes_saved, nodes_spelled};
-pub use restoring::from_bytes;
+pub use restoring::{core_from_bytes, from_bytes};
 pub use saving::to_bytes;

@@ -11,7 +11,7 @@ use crate::saying::reports_of;
 use crate::slots::{room_after_free, room_after_letters, room_after_slots};
 use ids::GREATEST_IMAGE;
 use msg::Token;
-use node::Node;
+use node::Core;
 
 fn held_size(token: Option<Token>) -> usize
     ensures { result ≡ length (held_bytes token) }
@@ -22,14 +22,14 @@ fn held_size(token: Option<Token>) -> usize
     }
 }
 
-fn front_size(node: &Node) -> usize
+fn front_size(node: &Core) -> usize
     ensures { result ≡ length (front_bytes (stored_by node.now)) }
 {
     56 + held_size(node.ring().token())
 }
 
 #[tactic(auto, using(crate::proofs::Sizes::told_length))]
-fn room_after_told(room: usize, node: &Node) -> Option<usize>
+fn room_after_told(room: usize, node: &Core) -> Option<usize>
     ensures left { IfSome result (λ left. left + length (told_bytes (stored_by node.now)) ≡ room) }
     ensures over { IfNone result (room < length (told_bytes (stored_by node.now))) }
 {
@@ -39,7 +39,7 @@ fn room_after_told(room: usize, node: &Node) -> Option<usize>
 }
 
 #[tactic(auto, using(crate::proofs::Sizes::slots_length))]
-fn room_after_slot_lists(room: usize, node: &Node) -> Option<usize>
+fn room_after_slot_lists(room: usize, node: &Core) -> Option<usize>
     ensures left { IfSome result (λ left. left + length (slots_bytes (stored_by node.now)) ≡ room) }
     ensures over { IfNone result (room < length (slots_bytes (stored_by node.now))) }
 {
@@ -52,7 +52,7 @@ fn room_after_slot_lists(room: usize, node: &Node) -> Option<usize>
 }
 
 #[tactic(auto, using(crate::proofs::Sizes::others_length))]
-fn room_after_others(room: usize, node: &Node) -> Option<usize>
+fn room_after_others(room: usize, node: &Core) -> Option<usize>
     ensures left { IfSome result
         (λ left. left + length (others_bytes (stored_by node.now)) ≡ room) }
     ensures over { IfNone result (room < length (others_bytes (stored_by node.now))) }
@@ -67,7 +67,7 @@ fn room_after_others(room: usize, node: &Node) -> Option<usize>
 /// The bytes that are left of [`GREATEST_IMAGE`] once the node's image is written. None where it
 /// takes more.
 #[tactic(auto, using(crate::proofs::Sizes::spelling_length))]
-pub(crate) fn room_after_node(node: &Node) -> Option<usize>
+pub(crate) fn room_after_node(node: &Core) -> Option<usize>
     ensures left { IfSome result (λ left. left + length (image_of node.now) ≡ GREATEST_IMAGE) }
     ensures over { IfNone result (GREATEST_IMAGE < length (image_of node.now)) }
 {

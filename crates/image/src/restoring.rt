@@ -3,6 +3,7 @@ ghost use Rattle.std.specs.Prelude.{◌≡◌, ◌≢◌, ◌≤◌, length, map
 ghost use Rattle.ids.specs.declared.refusal.Refusal.TheVariants.{BadImage, Memory};
 ghost use Rattle.model.specs.View.{NodeView, no_link};
 ghost use Rattle.link.specs.Parts.{link_given, taken_given, links_given};
+ghost use Rattle.node.specs.Keeping.{alone};
 ghost use Rattle.image.specs.Grammar.{Fits};
 ghost use Rattle.image.specs.Nodes.{
   link_of,
@@ -20,14 +21,14 @@ use control::Phases;
 use heap::HeapParts;
 use ids::{Refusal, Shape};
 use link::LinkParts;
-use node::Node;
+use node::{Core, Node};
 use safra::Ring;
 use std::alloc::Global;
 use std::collections::VecDeque;
 
 /// The node whose image the bytes are, all of the bytes. All of its messages count as held by a
-/// saved node, and so does all that it took in. It takes memory in proportion to the bytes, and
-/// time likewise.
+/// saved node, and so does all that it took in; it keeps no message before its turn. It takes
+/// memory in proportion to the bytes, and time likewise.
 ///
 /// # Errors
 ///
@@ -35,6 +36,17 @@ use std::collections::VecDeque;
 /// itself, or are more than [`GREATEST_IMAGE`](ids::GREATEST_IMAGE). [`Refusal::Memory`] where a
 /// growth was refused.
 pub fn from_bytes(alloc: Global, bytes: &[u8]) -> Result<Node, Refusal>
+    ensures read { IfOk result (λ n. IsImageOf bytes.now n.core) }
+    ensures alone { IfOk result (λ n. n ≡ alone n.core) }
+    ensures refused { IfErr result (λ e. e ≢ Memory
+        → (e ≡ BadImage) × ((n : NodeView) → IsImageOf bytes.now n → ⊥)) }
+{
+    let core = core_from_bytes(alloc, bytes)?;
+    Node::of(alloc, core)
+}
+
+/// The core of that node alone, for who only reads what was saved; with the same refusals.
+pub fn core_from_bytes(alloc: Global, bytes: &[u8]) -> Result<Core, Refusal>
     ensures read { IfOk result (λ n. IsImageOf bytes.now n) }
     ensures refused { IfErr result (λ e. e ≢ Memory
         → (e ≡ BadImage) × ((n : NodeView) → IsImageOf bytes.now n → ⊥)) }
@@ -44,7 +56,7 @@ pub fn from_bytes(alloc: Global, bytes: &[u8]) -> Result<Node, Refusal>
 }
 
 // The node that is said.
-fn restored(alloc: Global, image: NodeParts) -> Result<Node, Refusal>
+fn restored(alloc: Global, image: NodeParts) -> Result<Core, Refusal>
     requires { Fits (stored_of image) }
     ensures made { IfOk result (λ n. n ≡ node_of (stored_of image)) }
     ensures stands { OnOk result (IsStanding (node_of (stored_of image))) }
@@ -88,7 +100,7 @@ fn restored(alloc: Global, image: NodeParts) -> Result<Node, Refusal>
         ring: given_ring(ring),
         links,
     };
-    Node::from_parts(alloc, parts)
+    Core::from_parts(alloc, parts)
 }
 
 // For each node of the space the report that is told of it, or 0.

@@ -9,28 +9,40 @@ ghost use Rattle.image.specs.Nodes.{IsImageOf};
 use crate::measuring::room_after_node;
 use crate::writing::put_node;
 use ids::{GREATEST_IMAGE, Refusal};
-use node::Node;
+use node::{Core, Node};
 use std::alloc::Global;
 
 /// The bytes of the node's image: that of the node as it is after a save, all of whose messages
-/// count as held by a saved node. It takes the memory for them at once, and time likewise.
+/// count as held by a saved node. What the node keeps besides its core isn't in it. It takes the
+/// memory for them at once, and time likewise.
 ///
 /// # Errors
 ///
 /// [`Refusal::ImageTooLarge`] where there are more than [`GREATEST_IMAGE`](ids::GREATEST_IMAGE).
 /// Where there are not, [`Refusal::Memory`] where memory is refused.
 pub fn to_bytes(alloc: Global, node: &Node) -> Result<Vec<u8>, Refusal>
-    ensures written { IfOk result (λ v. v.items ≡ image_of node.now) }
-    ensures image { OnOk result (IsImageOf (image_of node.now) (kept_view node.now)) }
+    ensures written { IfOk result (λ v. v.items ≡ image_of node.now.core) }
+    ensures image { OnOk result (IsImageOf (image_of node.now.core) (kept_view node.now.core)) }
     ensures refused { IfErr result (λ e. e ≢ Memory
-        → (e ≡ ImageTooLarge) × (GREATEST_IMAGE < length (image_of node.now))) }
+        → (e ≡ ImageTooLarge) × (GREATEST_IMAGE < length (image_of node.now.core))) }
     ensures last { IfErr result (λ e. e ≡ Memory
-        → length (image_of node.now) ≤ GREATEST_IMAGE) }
+        → length (image_of node.now.core) ≤ GREATEST_IMAGE) }
 {
-    let Some(left) = room_after_node(node) else {
+    core_to_bytes(alloc, node.core())
+}
+
+fn core_to_bytes(alloc: Global, core: &Core) -> Result<Vec<u8>, Refusal>
+    ensures written { IfOk result (λ v. v.items ≡ image_of core.now) }
+    ensures image { OnOk result (IsImageOf (image_of core.now) (kept_view core.now)) }
+    ensures refused { IfErr result (λ e. e ≢ Memory
+        → (e ≡ ImageTooLarge) × (GREATEST_IMAGE < length (image_of core.now))) }
+    ensures last { IfErr result (λ e. e ≡ Memory
+        → length (image_of core.now) ≤ GREATEST_IMAGE) }
+{
+    let Some(left) = room_after_node(core) else {
         return Err(Refusal::ImageTooLarge);
     };
     let mut out = Vec::with_capacity(alloc, GREATEST_IMAGE as usize - left)?;
-    put_node(&mut out, node)?;
+    put_node(&mut out, core)?;
     Ok(out)
 }

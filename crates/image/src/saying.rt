@@ -3,10 +3,10 @@ ghost use Rattle.std.specs.Prelude.{◌≡◌};
 ghost use Rattle.image.specs.Images.{stored_by};
 
 use crate::parts::{Head, PhasesParts, RingParts};
-use node::Node;
+use node::Core;
 
 /// The sizes of the node's space, and its own number.
-pub(crate) fn head_of(node: &Node) -> Head
+pub(crate) fn head_of(node: &Core) -> Head
     ensures { result ≡ (stored_by node.now).head }
 {
     let state = node.state();
@@ -19,7 +19,7 @@ pub(crate) fn head_of(node: &Node) -> Head
 }
 
 /// How far the node's collection cycle is.
-pub(crate) fn phases_of(node: &Node) -> PhasesParts
+pub(crate) fn phases_of(node: &Core) -> PhasesParts
     ensures { result ≡ (stored_by node.now).phases }
 {
     let phases = node.phases();
@@ -32,7 +32,7 @@ pub(crate) fn phases_of(node: &Node) -> PhasesParts
 }
 
 /// The node's part of the ring.
-pub(crate) fn ring_of(node: &Node) -> RingParts
+pub(crate) fn ring_of(node: &Core) -> RingParts
     ensures { result ≡ (stored_by node.now).ring }
 {
     let ring = node.ring();
@@ -45,7 +45,7 @@ pub(crate) fn ring_of(node: &Node) -> RingParts
 }
 
 /// The reports of the other nodes in ascending order, at node 0; at another node none.
-pub(crate) fn reports_of(node: &Node) -> &[u64]
+pub(crate) fn reports_of(node: &Core) -> &[u64]
     ensures { result.now ≡ (stored_by node.now).reports }
 {
     let reports = node.phases().reports();

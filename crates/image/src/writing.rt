@@ -23,7 +23,7 @@ use byteorder::{BigEndian, WriteBytesExt};
 use ids::Refusal;
 use msg::Token;
 use msg::writing::{put_colour, put_i64, put_token, put_u8, put_u32, put_u64};
-use node::Node;
+use node::Core;
 
 fn put_u16(out: &mut Vec<u8>, number: u16) -> Result<(), Refusal>
     ensures done { OnOk result (out.new.items ≡ out.old.items ++ to_be_bytes w16 number) }
@@ -103,7 +103,7 @@ fn put_ring(out: &mut Vec<u8>, ring: RingParts) -> Result<(), Refusal>
     put_held(out, ring.token)
 }
 
-fn put_front(out: &mut Vec<u8>, node: &Node) -> Result<(), Refusal>
+fn put_front(out: &mut Vec<u8>, node: &Core) -> Result<(), Refusal>
     ensures done { OnOk result (out.new.items ≡ out.old.items ++ front_bytes (stored_by node.now)) }
     ensures width { OnOk result (IsFrontOfWidth (stored_by node.now)) }
     ensures refused { IfErr result (λ e. e ≡ Memory) }
@@ -113,7 +113,7 @@ fn put_front(out: &mut Vec<u8>, node: &Node) -> Result<(), Refusal>
     put_ring(out, ring_of(node))
 }
 
-fn put_told(out: &mut Vec<u8>, node: &Node) -> Result<(), Refusal>
+fn put_told(out: &mut Vec<u8>, node: &Core) -> Result<(), Refusal>
     ensures done { OnOk result (out.new.items ≡ out.old.items ++ told_bytes (stored_by node.now)) }
     ensures width { OnOk result (AreToldOfWidth (stored_by node.now)) }
     ensures refused { IfErr result (λ e. e ≡ Memory) }
@@ -122,7 +122,7 @@ fn put_told(out: &mut Vec<u8>, node: &Node) -> Result<(), Refusal>
     put_all(out, node.heap().registers())
 }
 
-fn put_slots(out: &mut Vec<u8>, node: &Node) -> Result<(), Refusal>
+fn put_slots(out: &mut Vec<u8>, node: &Core) -> Result<(), Refusal>
     requires { AreShort (stored_by node.now) }
     ensures done { OnOk result (out.new.items ≡ out.old.items ++ slots_bytes (stored_by node.now)) }
     ensures width { OnOk result (AreSlotsOfWidth (stored_by node.now)) }
@@ -134,7 +134,7 @@ fn put_slots(out: &mut Vec<u8>, node: &Node) -> Result<(), Refusal>
     put_counted(out, heap.grey_slots())
 }
 
-fn put_others(out: &mut Vec<u8>, node: &Node, own: u8) -> Result<(), Refusal>
+fn put_others(out: &mut Vec<u8>, node: &Core, own: u8) -> Result<(), Refusal>
     requires own { own ≡ node.now.local.own }
     requires sound { IsNode node.now }
     requires short { AreShort (stored_by node.now) }
@@ -149,7 +149,7 @@ fn put_others(out: &mut Vec<u8>, node: &Node, own: u8) -> Result<(), Refusal>
 }
 
 /// Appends the image of the node. `Memory` where a growth was refused.
-pub(crate) fn put_node(out: &mut Vec<u8>, node: &Node) -> Result<(), Refusal>
+pub(crate) fn put_node(out: &mut Vec<u8>, node: &Core) -> Result<(), Refusal>
     requires { length (image_of node.now) ≤ GREATEST_IMAGE }
     ensures done { OnOk result (out.new.items ≡ out.old.items ++ image_of node.now) }
     ensures image { OnOk result (IsImageOf (image_of node.now) (kept_view node.now)) }

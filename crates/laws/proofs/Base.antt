@@ -41,6 +41,7 @@ no-node-refuses event.Scan own passed = let never = passed.0 in absurd cc
 no-node-refuses event.Pass own passed = let never = passed.0 in absurd cc
 no-node-refuses (event.Sweep count) own passed =
     nothing-below-zero 0 passed.0
+no-node-refuses (event.Next from) own passed = nothing-below-zero from passed.0
 no-node-refuses (event.Data d) own passed = absurd cc
 no-node-refuses (event.Ack a) own passed = absurd cc
 no-node-refuses (event.Alloc register places) own passed = nothing-below-zero register passed.0

@@ -1,10 +1,11 @@
 -- What is delivered in its turn is for its receiver, may be taken in, and finds its target live.
-use Rattle.std.proofs.Common.{◌≡◌, ◌≢◌, ℕ, ◌+◌, ◌%◌, ◌<◌, ◌≤◌, true, false, not, ◌==◌, ◌&&◌, ltb, ◌||◌, eq-eqb, ne_eqb, lt-ltb, le-leb, leb, leb-true, leb-false, List, [], ◌∷◌, length, Option, None, Some, refl, sym, ap, ◌∙◌, subst, inl, inr, ⊎_elim, arith}
+use Rattle.std.proofs.Common.{◌≡◌, ◌≢◌, ℕ, ◌+◌, ◌%◌, ◌<◌, ◌≤◌, Bool, true, false, not, ◌==◌, ◌&&◌, ltb, ◌||◌, eq-eqb, ne_eqb, lt-ltb, le-leb, leb, leb-true, leb-false, List, [], ◌∷◌, length, Option, None, Some, refl, sym, ap, ◌∙◌, subst, inl, inr, ⊎_elim, arith}
 use Rattle.std.specs.Prelude.{is_none}
 use Rattle.std.specs.List.{AllByRecursion}
-use Rattle.std.proofs.lemmas.Bool.{eqb-false, le-ltb, and_from, or_left, or_right, cases_Bool, cases_lt, cond_both, cond-true, cond-false, not_from_false}
+use Rattle.std.proofs.lemmas.Bool.{eqb-false, ltb-false, le-ltb, and_from, or_left, or_right, cases_Bool, cases_lt, cond_both, cond-true, cond-false, not_from_false}
 use Rattle.std.proofs.lemmas.List.{get_or_past}
 use Rattle.ids.specs.Limits.{Shaped}
+use Rattle.ids.specs.declared.limits.TheConstants.{WINDOW}
 use Rattle.ids.specs.declared.names.Ref.{Ref}
 use Rattle.msg.specs.declared.body.Body.{Body}
 use Rattle.msg.specs.declared.body.Body.TheVariants as body
@@ -17,7 +18,7 @@ use Rattle.model.specs.Effects.{Work, at_rest}
 use Rattle.model.specs.Shading.{is_calm, join, joined}
 use Rattle.model.specs.Collecting.{token_sender}
 use Rattle.model.specs.References.{IfAny}
-use Rattle.model.specs.Steps.{mentioned, target_of, may_reach, may_follow, is_marking, may_settle, may_take, is_within, are_within, is_repeat}
+use Rattle.model.specs.Steps.{mentioned, target_of, may_reach, may_follow, is_marking, may_settle, may_take, is_within, are_within, is_repeat, is_early}
 use Rattle.model.specs.World.{World, KeepsSent, new_world, run, numbered}
 use Rattle.model.specs.Cuts.{Cut, cut, taken, IsInFlight, IsLive}
 use Rattle.model.proofs.Joining.{join-phases, join-token}
@@ -65,7 +66,8 @@ received-target : {shape : Shaped} {t : NodeState} (w : World) (m : Delivery) (r
     → Inv shape (cut w (λ _. false)) → IsReleased w m → target_of m.message.body ≡ Some r
     → Receipt (node_at w.current m.to) m t answer.Received
     → (r.node ≡ m.to) × IsLive (cut w (λ _. false)) r
-received-target w m r h inv there about (repeated same says) = absurd cc
+received-target w m r h inv there about (repeated same says) =
+    ⊎_elim (λ again. absurd cc) (λ ahead. absurd cc) says
 received-target {shape = shape} w m r h inv there about (next turn may found) =
     let c : Cut = cut w (λ _. false) in
     let place : ℕ = got_from (node_at w.current m.to).local m.from in
@@ -334,23 +336,29 @@ module _ {shape : Shaped} {c : Cut} {from to place : ℕ} {x : Message}
 turn-passes : (shape : Shaped) (w : World) (m : Delivery) → KeepsSent w
     → Inv shape (cut w (λ _. false))
     → (m.from < shape.nodes) × (m.to < shape.nodes) × (m.from ≢ m.to) → IsReleased w m
-    → m.number ≤ got_from (node_at w.current m.to).local m.from + 1
+    → m.number ≤ got_from (node_at w.current m.to).local m.from + WINDOW
     → AllPass (tests_of (node_at w.current m.to) m)
 turn-passes shape w m h inv between there turn =
     let c : Cut = cut w (λ _. false) in
     let p : LocalState = (node_at w.current m.to).local in
     let x : Message = m.message in
-    let may : (is_repeat p m.from m.number || may_take p m.from x.stamp x.body) ≡ true =
-    ⊎_elim {C = (is_repeat p m.from m.number || may_take p m.from x.stamp x.body) ≡ true}
+    let due : Bool = is_early p m.from m.number || may_take p m.from x.stamp x.body in
+    let may : (is_repeat p m.from m.number || due) ≡ true =
+    ⊎_elim {C = (is_repeat p m.from m.number || due) ≡ true}
     (λ again. or_left _ _ again)
-    (λ first.
+    (λ first. or_right _ _
+    (⊎_elim {C = due ≡ true}
+    (λ ahead. or_left _ _ ahead)
+    (λ next.
     let later : got_from p m.from < m.number = leb-false m.number (got_from p m.from) first in
+    let last : m.number ≤ got_from p m.from + 1 = ltb-false _ m.number next in
     let arrival : Arrival shape c m.from m.to (taken c m.from m.to) x = record {
       inv = inv;
       inside = between.1;
-      flight = cut-in_flight w (λ _. false) m h refl there (omega (arith, later, turn));
+      flight = cut-in_flight w (λ _. false) m h refl there (omega (arith, later, last));
     } in
     or_right _ _ (taken-whole arrival))
+    (cases_Bool (is_early p m.from m.number))))
     (cases_Bool (is_repeat p m.from m.number)) in (
       between-nodes inv.base m.from m.to between.0 between.1 between.2,
       (le-leb m.number _ turn, (may, tt)),
@@ -375,6 +383,7 @@ none-refused-in-turn shape within steps from to number stamp b e there refused =
           (between-nodes inv.base from to between.0 between.1 between.2)
           early
           refused,
-      leb-false number _ early,
+      (let past : got_from s.local from + WINDOW < number = leb-false number _ early in
+          omega (arith, past)),
     ))
-    (cases_Bool (leb number (got_from s.local from + 1)))
+    (cases_Bool (leb number (got_from s.local from + WINDOW)))

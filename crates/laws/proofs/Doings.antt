@@ -396,6 +396,7 @@ own-answers p counts event.Begin never d = absurd cc
 own-answers p counts event.Scan never d = absurd cc
 own-answers p counts event.Pass never d = absurd cc
 own-answers p counts (event.Sweep count) never d = absurd cc
+own-answers p counts (event.Next from) never d = absurd cc
 own-answers p counts (event.Data m) never d = absurd cc
 own-answers p counts (event.Ack m) never d = absurd cc
 own-answers p counts e is d = refl

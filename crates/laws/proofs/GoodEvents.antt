@@ -269,6 +269,7 @@ own-good p counts event.Scan own passes r good = scan-good p (not-true _ passes.
 own-good p counts event.Pass own passes r good = passed-good p good
 own-good p counts (event.Sweep count) own passes r good =
     swept-good p count (ltb-true p.phases.swept p.phases.ended passes.0) r good
+own-good p counts (event.Next from) own passes r good = done-quiet good
 own-good p counts (event.Data d) own passes r good = absurd cc
 own-good p counts (event.Ack a) own passes r good = absurd cc
 

@@ -31,7 +31,7 @@ numbered-grows xs ys number x more =
     (λ first there. cond-true _ _ _ first ∙ slice_get-grows xs ys (number - 1) x more there)
     (λ _ never. absurd cc)
 
-released-grows : (w v : World) (from to number : ℕ) (x : Message)
+pub released-grows : (w v : World) (from to number : ℕ) (x : Message)
     → Grows (sent_to (node_at w.saved from) to) (sent_to (node_at v.saved from) to)
     → released w from to number ≡ Some x → released v from to number ≡ Some x
 released-grows w v from to number x more there =

@@ -344,6 +344,7 @@ program-moves i counts event.Begin plain step = absurd cc
 program-moves i counts event.Scan plain step = absurd cc
 program-moves i counts event.Pass plain step = absurd cc
 program-moves i counts (event.Sweep count) plain step = absurd cc
+program-moves i counts (event.Next from) plain step = let never = step.passed.1.0 in absurd cc
 program-moves i counts (event.Data d) plain step =
     let own : is_own (event.Data d) ≡ true = step.own in absurd cc
 program-moves i counts (event.Ack a) plain step =

@@ -1,6 +1,7 @@
 -- An answered event, and a step of a space, taken apart once for all.
-use Rattle.std.proofs.Common.{◌≡◌, ℕ, ◌<◌, Bool, true, false, ◌==◌, ◌&&◌, ltb-true, List, [], ◌∷◌, ◌++◌, length, map, get_or, set, Option, None, Some, Result, Ok, Err, refl, sym, ap, ◌∙◌, ◌+◌, subst, leb, leb-true, leb-false, inl, inr, ⊎_elim, ◌≤◌, length-set, arith}
-use Rattle.std.proofs.lemmas.Bool.{cond_both, and_parts, cases_Bool, cond-true, cond-false, or_cases, both_ways}
+use Rattle.std.proofs.Common.{◌≡◌, ℕ, ◌<◌, Bool, true, false, ◌==◌, ◌&&◌, ◌||◌, ltb-true, List, [], ◌∷◌, ◌++◌, length, map, get_or, set, Option, None, Some, Result, Ok, Err, refl, sym, ap, ◌∙◌, ◌+◌, subst, leb, leb-false, inl, inr, ◌⊎◌, ◌≤◌, length-set, arith}
+use Rattle.std.proofs.lemmas.Bool.{cond_both, and_parts, cases_Bool, cond-true, cond-false, ltb-false}
+use Rattle.ids.specs.declared.limits.TheConstants.{WINDOW}
 use Rattle.ids.specs.declared.refusal.Refusal.{Refusal}
 use Rattle.ids.specs.declared.refusal.Refusal.TheVariants.{LinkSpent, NoNode, OutOfOrder, AckBeyond, WrongNode}
 use Rattle.msg.specs.declared.body.Message.{Message}
@@ -14,7 +15,7 @@ use Rattle.model.specs.declared.step.Outcome.TheVariants as outcome
 use Rattle.model.specs.Checks.{guarded, AllPass}
 use Rattle.model.specs.State.{NodeState, node_at, sent_to, got_from}
 use Rattle.model.specs.Effects.{Effect, unchanged}
-use Rattle.model.specs.Steps.{tests, made, receipt_tests, receipt, is_addressed, is_repeat, may_take, taken_in, fits, all_tests, checked, after, act, receive, append_all, is_own}
+use Rattle.model.specs.Steps.{tests, made, receipt_tests, receipt, is_addressed, is_repeat, is_early, may_take, taken_in, fits, all_tests, checked, after, act, receive, append_all, is_own}
 use Rattle.model.specs.World.{World, released, acknowledged, release_count, moved, delivery, is_node, take_step, outcome_of, world_after, happens}
 use Rattle.model.proofs.Checks.{guarded-ok, guarded-passes, passed-parts}
 use Rattle.model.proofs.Lookups.{at_set_if}
@@ -78,28 +79,34 @@ tests_of s m = receipt_tests s.local m.from m.to m.number m.message.stamp m.mess
 abbrev pub IsTurnOf : NodeState → Delivery → Type 0
 IsTurnOf s m = m.number ≡ got_from s.local m.from + 1
 
--- a message that was taken in, or was a repeat
+-- a message that was taken in, was a repeat, or came before its turn
 receive-ok : (s : NodeState) (m : Delivery) (t : NodeState) (a : Answer) → given_to s m ≡ Ok (t, a)
     → Stepped s (tests_of s m) (receipt s.local m.from m.number m.message.stamp m.message.body) t a
 unfolding receive
 receive-ok s m t a h =
     stepped s (tests_of s m) (receipt s.local m.from m.number m.message.stamp m.message.body) t a h
 
--- A message that was answered was taken in before, and changes nothing; or it is the next one,
--- which the node may take in, and is taken in.
+-- A message that was answered was taken in before or comes before its turn, and changes nothing; or
+-- it is the next one, which the node may take in, and is taken in.
 pub data Receipt (s : NodeState) (m : Delivery) (t : NodeState) (a : Answer) : Type 0 where
-  repeated : t ≡ s → a ≡ answer.Repeat → Receipt s m t a
+  repeated : t ≡ s → (a ≡ answer.Repeat) ⊎ (a ≡ answer.Early) → Receipt s m t a
   next : IsTurnOf s m → may_take s.local m.from m.message.stamp m.message.body ≡ true
       → Stepped s (tests_of s m) (taken_in s.local m.from m.number m.message.stamp m.message.body) t
       a
       → Receipt s m t a
+
+-- of three tests, of which one passed, the last one did where the others failed
+may-next : (again early may : Bool) → again ≡ false → early ≡ false
+    → (again || (early || may)) ≡ true → may ≡ true
+may-next false false may first due h = h
+may-next true early may first due h = absurd cc
+may-next false true may first due h = absurd cc
 
 pub receipt-cases : (s : NodeState) (m : Delivery) (t : NodeState) (a : Answer)
     → given_to s m ≡ Ok (t, a) → Receipt s m t a
 receipt-cases s m t a h =
     let x : Message = m.message in
     let found = receive-ok s m t a h in
-    let turn : m.number ≤ got_from s.local m.from + 1 = leb-true m.number _ found.passed.1.0 in
     let as_found : (y : Effect) → receipt s.local m.from m.number x.stamp x.body ≡ y
     → Stepped s (tests_of s m) y t a =
     λ y e. subst (λ (z : Effect). Stepped s (tests_of s m) z t a) e found in
@@ -107,14 +114,22 @@ receipt-cases s m t a h =
       | inl again ↦ let same =
           as_found (unchanged s.local answer.Repeat)
           (cond-true (is_repeat s.local m.from m.number) _ _ again) in repeated same.state
-          same.answer
-      | inr first ↦ next
-          (let later : got_from s.local m.from < m.number = leb-false m.number _ first in
-          omega arith)
-          (⊎_elim (λ again. absurd (both_ways _ first again)) (λ may. may)
-          (or_cases _ _ found.passed.1.1.0))
-          (as_found (taken_in s.local m.from m.number x.stamp x.body)
-          (cond-false (is_repeat s.local m.from m.number) _ _ first))
+          (inl same.answer)
+      | inr first ↦ elim (cases_Bool (is_early s.local m.from m.number)) as (λ _. Receipt s m t a) [
+        | inl ahead ↦ let same =
+            as_found (unchanged s.local answer.Early)
+            (cond-false (is_repeat s.local m.from m.number) _ _ first
+            ∙ cond-true (is_early s.local m.from m.number) _ _ ahead) in repeated same.state
+            (inr same.answer)
+        | inr due ↦ next
+            (let later : got_from s.local m.from < m.number = leb-false m.number _ first in
+            let last : m.number ≤ got_from s.local m.from + 1 = ltb-false _ m.number due in
+            omega (arith, later, last))
+            (may-next _ _ _ first due found.passed.1.1.0)
+            (as_found (taken_in s.local m.from m.number x.stamp x.body)
+            (cond-false (is_repeat s.local m.from m.number) _ _ first
+            ∙ cond-false (is_early s.local m.from m.number) _ _ due))
+      ]
     ]
 
 -- messages come last in what was sent
@@ -278,9 +293,10 @@ receive-passed s m e passed h =
     sym (last-refusal (tests_of s m) (fits (map length s.sent) x.sends, LinkSpent) x e passed
     (after-err s (checked (tests_of s m) (map length s.sent) x) e h))
 
--- and one that comes before its turn, for that
+-- and one that comes too early, for that
 pub receive-early : (s : NodeState) (m : Delivery) (e : Refusal)
-    → is_addressed s.local m.from m.to ≡ true → leb m.number (got_from s.local m.from + 1) ≡ false
+    → is_addressed s.local m.from m.to ≡ true
+    → leb m.number (got_from s.local m.from + WINDOW) ≡ false
     → given_to s m ≡ Err e → e ≡ OutOfOrder
 unfolding receive
 receive-early s m e addressed early refused =

@@ -202,6 +202,7 @@ limit-refused p counts event.Begin r never h = absurd cc
 limit-refused p counts event.Scan r never h = absurd cc
 limit-refused p counts event.Pass r never h = absurd cc
 limit-refused p counts (event.Sweep count) r never h = absurd cc
+limit-refused p counts (event.Next from) r never h = absurd cc
 limit-refused p counts (event.Data m) r never h = absurd cc
 limit-refused p counts (event.Ack m) r never h = absurd cc
 limit-refused p counts e r is h = never-refused _ r h

@@ -365,8 +365,14 @@ deliver-seen {shape = shape} {s = s} w choice from to number h same =
         (sym states) same in
         seen-shown (choice to) (came_of from to (Ok (outcome.Answer a)) was) (λ _. later)
         (λ _.
+        ⊎_elim
+        (λ again.
         subst (λ (z : Answer). Seen shape.nodes s (came_of from to (Ok (outcome.Answer z)) was)
-        (after_change w to t choice)) (sym says) (seen-nothing later))
+        (after_change w to t choice)) (sym again) (seen-nothing later))
+        (λ ahead.
+        subst (λ (z : Answer). Seen shape.nodes s (came_of from to (Ok (outcome.Answer z)) was)
+        (after_change w to t choice)) (sym ahead) (seen-nothing later))
+        says)
     given both x there t a (next turn may found) =
         let m : Delivery = record { from = from; to = to; number = number; message = x } in
         seen-shown (choice to) (came_of from to (Ok (outcome.Answer a)) was)

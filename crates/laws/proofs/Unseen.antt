@@ -187,6 +187,8 @@ unseen-own p counts (event.Sweep count) own none =
       quiet = cond_both (reports_sweep p count) _ [] IsQuiet (λ _. one-quiet 0 _ refl)
           (λ _. none-quiet);
     }
+unseen-own p counts (event.Next from) own none =
+    record { kept = kept-same refl refl refl; quiet = none-quiet }
 unseen-own p counts (event.Data d) own none = absurd cc
 unseen-own p counts (event.Ack a) own none = absurd cc
 unseen-own p counts e own none = absurd cc

@@ -83,12 +83,13 @@ posted s from to b = with_messages s from to (s.under_way from to ++ b ∷ [])
 
 -- ---- what programs do
 
--- an event of a program; the others are the collector's, or come from other nodes
+-- an event of a program; the others are the collector's, or bring what other nodes sent
 abbrev pub is_program : Event → Bool
 is_program event.Begin = false
 is_program event.Scan = false
 is_program event.Pass = false
 is_program (event.Sweep count) = false
+is_program (event.Next from) = false
 is_program (event.Data d) = false
 is_program (event.Ack a) = false
 is_program e = true

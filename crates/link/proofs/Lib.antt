@@ -3,3 +3,4 @@ pub mod EveryLink
 mod Given
 pub mod Announcing
 mod Ends
+mod Places

@@ -1,4 +1,5 @@
 pub mod Receivers
+pub mod Early
 pub mod Senders
 pub mod Links
 pub mod Ends

@@ -1,10 +1,10 @@
 -- What a contract sees of a `Receiver`.
 use Rattle.std.specs.Prelude.{ℕ, ◌+◌, ◌≤◌, nat_le, cond, Result, Ok, Err}
-use Rattle.ids.specs.declared.limits.TheConstants.{GREATEST_NUMBER}
+use Rattle.ids.specs.declared.limits.TheConstants.{GREATEST_NUMBER, WINDOW}
 use Rattle.ids.specs.declared.refusal.Refusal.{Refusal}
 use Rattle.ids.specs.declared.refusal.Refusal.TheVariants.{OutOfOrder}
 use Rattle.link.specs.declared.receiver.Offer.{Offer}
-use Rattle.link.specs.declared.receiver.Offer.TheVariants.{Next, Repeat}
+use Rattle.link.specs.declared.receiver.Offer.TheVariants.{Next, Repeat, Early}
 
 -- the number of the last message that was taken in, and of the last one that a saved node has taken
 -- in
@@ -19,12 +19,14 @@ pub record IsReceived (r : Received) : Type 0 where
 abbrev pub new_received : Received
 new_received = record { taken = 0; saved = 0 }
 
--- a message is a repeat up to the last number that was taken in, then the next one, then too early
+-- A message is a repeat up to the last number that was taken in, then the next one, then early up
+-- to the last number of the window, then out of order.
 abbrev pub offered : ℕ → ℕ → Result Offer Refusal
 offered taken number =
     cond (nat_le number taken)
     (Ok Repeat)
-    (cond (nat_le number (taken + 1)) (Ok Next) (Err OutOfOrder))
+    (cond (nat_le number (taken + 1)) (Ok Next)
+    (cond (nat_le number (taken + WINDOW)) (Ok Early) (Err OutOfOrder)))
 
 abbrev pub taken_next : Received → Received
 taken_next r = record r { taken = r.taken + 1 }

@@ -1,13 +1,16 @@
 //! The two ends of a link, the messages from one node to another: its [`Sender`] numbers messages
 //! from 1 and keeps those that aren't acknowledged, its [`Receiver`] takes them in strictly in
-//! order and each once. [`Links`] has the ends that one node holds.
+//! order and each once. [`Links`] has the ends that one node holds. [`EarlyFrames`] keeps what came
+//! before its turn.
 #![tactic(auto)]
 
+mod early;
 mod links;
 mod parts;
 mod receiver;
 mod sender;
 
+pub use early::EarlyFrames;
 pub use links::Links;
 pub use parts::LinkParts;
 pub use receiver::{Offer, Receiver};

@@ -222,8 +222,9 @@ impl Links {
         self.by_node[usize::from(from)].sender.trim(number)
     }
 
-    /// What the message of this number from the node `from` is: the next one, or a repeat, which is
-    /// one that was taken in before. [`Refusal::OutOfOrder`] where it is a later one than the next.
+    /// What the message of this number from the node `from` is: the next one, a repeat, which is
+    /// one that was taken in before, or an early one. [`Refusal::OutOfOrder`] where it is ahead of
+    /// the next one by the window or more.
     pub fn offer(&self, from: u8, number: u64) -> Result<Offer, Refusal>
         requires { from < length self.now.links }
         ensures { result ≡ offered (got_at self.now from) number }

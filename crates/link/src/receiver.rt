@@ -3,7 +3,7 @@ ghost use Rattle.ids.specs.declared.limits.TheConstants.{GREATEST_NUMBER};
 ghost use Rattle.link.specs.Receivers.{IsReceived, new_received, offered, taken_next, all_saved};
 ghost use Rattle.link.specs.Parts.{received};
 
-use ids::{GREATEST_NUMBER, Refusal};
+use ids::{GREATEST_NUMBER, Refusal, WINDOW};
 use std::marker::Model;
 
 /// What a message that is offered is to its receiver.
@@ -13,6 +13,8 @@ pub enum Offer {
     Next,
     /// One that was taken in before.
     Repeat,
+    /// One that comes before its turn, by less than the window.
+    Early,
 }
 
 /// How much a node has taken in of the messages of another one, and how much of that a saved node
@@ -58,9 +60,9 @@ impl Receiver {
         })
     }
 
-    /// What the message of this number is: the next one, or a repeat, which is one that was taken
-    /// in before. [`Refusal::OutOfOrder`] where it is a later one than the next. It takes no
-    /// memory, and changes nothing.
+    /// What the message of this number is: the next one; a repeat, which is one that was taken in
+    /// before; or an early one, which is one of the [`WINDOW`] next, but not the first of them.
+    /// [`Refusal::OutOfOrder`] where it is a later one. It takes no memory, and changes nothing.
     pub fn offer(&self, number: u64) -> Result<Offer, Refusal>
         ensures { result ≡ offered self.now.taken number }
     {
@@ -68,6 +70,8 @@ impl Receiver {
             Ok(Offer::Repeat)
         } else if number - self.taken == 1 {
             Ok(Offer::Next)
+        } else if number - self.taken <= u64::from(WINDOW) {
+            Ok(Offer::Early)
         } else {
             Err(Refusal::OutOfOrder)
         }

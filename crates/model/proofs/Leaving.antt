@@ -1,42 +1,59 @@
--- What every event leaves as it was, on the node as it stands: proved once, from
--- what the event does.
-use Rattle.std.proofs.Common.{◌≡◌, ℕ, ◌+◌, ◌==◌, Bool, List, [], ◌∷◌, ◌++◌, map, get_or, set, Option, Some, None, option_to_list, Result, Ok, Err, refl, ap, sym, ◌∙◌, subst, ⊎_elim}
+-- What every event leaves as it was, on the node as it stands, and what it leaves of the numbers
+-- taken in: proved once, from what the event does.
+use Rattle.std.proofs.Common.{◌≡◌, ℕ, ◌+◌, ◌<◌, ◌≤◌, ◌==◌, Bool, true, List, [], ◌∷◌, ◌++◌, map, get_or, set, Option, Some, None, option_to_list, Result, Ok, Err, refl, ap, sym, ◌∙◌, subst, ⊎_elim, arith}
 use Rattle.std.specs.Prelude.{nat_lt}
-use Rattle.std.proofs.lemmas.Bool.{cases_Bool, cond_both}
+use Rattle.std.proofs.lemmas.Bool.{cases_Bool, cond_both, leb-true, leb-false, ltb-true, ltb-false}
 use Rattle.ids.specs.declared.names.Ref.{Ref}
+use Rattle.ids.specs.declared.limits.TheConstants.{WINDOW}
 use Rattle.ids.specs.declared.refusal.Refusal.{Refusal}
+use Rattle.ids.specs.declared.refusal.Refusal.TheVariants.{LinkSpent}
 use Rattle.msg.specs.declared.body.Body.{Body}
 use Rattle.msg.specs.declared.body.Body.TheVariants as body
 use Rattle.msg.specs.declared.body.Message.{Message}
 use Rattle.msg.specs.declared.frame.Ack.{Ack}
+use Rattle.msg.specs.declared.frame.Data.{Data}
 use Rattle.model.specs.declared.event.Event.{Event}
 use Rattle.model.specs.declared.event.Event.TheVariants as event
 use Rattle.model.specs.declared.event.Answer.{Answer}
 use Rattle.model.specs.declared.event.Answer.TheVariants as answer
-use Rattle.model.specs.State.{LocalState, slot_at}
+use Rattle.model.specs.Checks.{AllPass}
+use Rattle.model.specs.State.{LocalState, slot_at, got_from}
 use Rattle.model.specs.Heaps.{object_at, place_of, place_loaded}
 use Rattle.model.specs.Effects.{Work, at_rest, Effect, answers, unchanged}
 use Rattle.model.specs.Counting.{append, announce}
 use Rattle.model.specs.Shading.{is_open, shade_all, vouch_all, filled, roots, enter, join, joined, last_grey, without_last_grey}
 use Rattle.model.specs.Collecting.{without_token, is_concluded, probe, begun, places_in, scan, scanned, conclude, judged, handed_on, passed, swept_slots}
-use Rattle.model.specs.Steps.{tests, made, ack_of, is_shading, is_repeat, carried, taken_in, settled, take_carried, all_tests, allocated, copied, dropped, loaded, stored, cleared, word_read, word_set, given, accepted, put_asked, get_asked, count_in, take_body}
+use Rattle.model.specs.Steps.{tests, made, fits, ack_of, is_addressed, is_shading, is_repeat, is_early, receipt, carried, taken_in, settled, take_carried, allocated, copied, dropped, loaded, stored, cleared, word_read, word_set, given, accepted, put_asked, get_asked, count_in, take_body}
 use Rattle.model.specs.View.{Link, NodeView, Performed, Leaves, no_link, used, appended, append_to, ack_tests, let_go, view_act, base_of, kept_of}
-use Rattle.model.proofs.Checks.{guarded-ok}
+use Rattle.model.proofs.Checks.{guarded-ok, guarded-passes, passed-parts}
 use Rattle.model.proofs.Lookups.{map-set_same}
 use Rattle.model.proofs.ShadingParts.{shade_all-closed, shade_all-open, vouch_all-closed, vouch_all-open}
 use Rattle.model.proofs.Shown.{view-ok}
 
--- where a node stands, and in what space
+-- where a node stands, and in what space, and the numbers that it took in
 record StandsAs (p q : LocalState) : Type 0 where
   shape : q.shape ≡ p.shape
   own : q.own ≡ p.own
+  got : q.got ≡ p.got
 
 same-stands : (p : LocalState) → StandsAs p p
-same-stands p = record { shape = refl; own = refl }
+same-stands p = record { shape = refl; own = refl; got = refl }
 
 stands-through : {p q r : LocalState} → StandsAs p q → StandsAs q r → StandsAs p r
-stands-through first second =
-    record { shape = second.shape ∙ first.shape; own = second.own ∙ first.own }
+stands-through first second = record {
+  shape = second.shape ∙ first.shape;
+  own = second.own ∙ first.own;
+  got = second.got ∙ first.got;
+}
+
+-- the node, with a message counted as taken in
+abbrev counted_in : LocalState → ℕ → ℕ → LocalState
+counted_in p from number = record p { got = set p.got from number }
+
+-- the numbers taken in after an event: a message that was taken in is the last one of its sender
+abbrev pub got_after : List ℕ → Event → Result Answer Refusal → List ℕ
+got_after got (event.Data d) (Ok answer.Received) = set got d.from d.number
+got_after got e r = got
 
 shaded-stands : (w : Work) (rs : List Ref) → StandsAs w.local (shade_all w rs).local
 shaded-stands w rs =
@@ -45,7 +62,7 @@ shaded-stands w rs =
     subst
     (λ (x : Work). StandsAs w.local x.local)
     (sym (shade_all-open w.local w.sends rs opened))
-    (record { shape = refl; own = refl }))
+    (record { shape = refl; own = refl; got = refl }))
     (λ shut.
     subst
     (λ (x : Work). StandsAs w.local x.local)
@@ -60,7 +77,7 @@ vouched-stands w rs =
     subst
     (λ (x : Work). StandsAs w.local x.local)
     (sym (vouch_all-open w.local w.sends rs opened))
-    (record { shape = refl; own = refl }))
+    (record { shape = refl; own = refl; got = refl }))
     (λ shut.
     subst
     (λ (x : Work). StandsAs w.local x.local)
@@ -72,7 +89,7 @@ join-stands : (p : LocalState) (cycle : ℕ) → StandsAs p (join p cycle).local
 unfolding join enter
 join-stands p cycle =
     stands-through
-    (record { shape = refl; own = refl })
+    (record { shape = refl; own = refl; got = refl })
     (shaded-stands (at_rest (enter p cycle)) (filled (roots p.heap)))
 
 joined-stands : (p : LocalState) (stamp : ℕ) → StandsAs p (joined p stamp).local
@@ -95,33 +112,38 @@ body-stands : (from stamp : ℕ) (b : Body) (p : LocalState)
     → StandsAs p (take_body from stamp b p).local
 unfolding take_body append
 body-stands from stamp body.Begin p = same-stands p
-body-stands from stamp (body.Token token) p = record { shape = refl; own = refl }
+body-stands from stamp (body.Token token) p = record { shape = refl; own = refl; got = refl }
 body-stands from stamp (body.Mark target) p = shaded-stands (at_rest p) (target ∷ [])
-body-stands from stamp (body.Give label reference) p = record { shape = refl; own = refl }
-body-stands from stamp (body.Put target place reference) p = record { shape = refl; own = refl }
+body-stands from stamp (body.Give label reference) p = record { shape = refl; own = refl; got = refl }
+body-stands from stamp (body.Put target place reference) p = record { shape = refl; own = refl; got = refl }
 body-stands from stamp (body.Get target place label) p =
     stands-through
     (shaded-stands (at_rest p) (option_to_list (place_of (object_at p.heap target) place)))
-    (record { shape = refl; own = refl })
-body-stands from stamp body.Ended p = record { shape = refl; own = refl }
-body-stands from stamp body.Swept p = record { shape = refl; own = refl }
+    (record { shape = refl; own = refl; got = refl })
+body-stands from stamp body.Ended p = record { shape = refl; own = refl; got = refl }
+body-stands from stamp body.Swept p = record { shape = refl; own = refl; got = refl }
 
 settled-stands : (from number stamp : ℕ) (b : Body) (p : LocalState)
-    → StandsAs p (settled from number stamp b p).local
+    → StandsAs (counted_in p from number) (settled from number stamp b p).local
 unfolding settled count_in
 settled-stands from number stamp b p =
     stands-through
     (stands-through
-    (record { shape = refl; own = refl })
+    (record { shape = refl; own = refl; got = refl })
     (carried-stands stamp b (count_in from number stamp b p)))
     (body-stands from stamp b (take_carried stamp b (count_in from number stamp b p)).local)
 
 taken-stands : (p : LocalState) (from number stamp : ℕ) (b : Body)
-    → StandsAs p (taken_in p from number stamp b).local
+    → StandsAs (counted_in p from number) (taken_in p from number stamp b).local
 unfolding taken_in
 taken-stands p from number stamp b =
+    let joins = joined-stands p stamp in
     stands-through
-    (joined-stands p stamp)
+    (record {
+      shape = joins.shape;
+      own = joins.own;
+      got = ap (λ (z : List ℕ). set z from number) joins.got;
+    })
     (settled-stands from number stamp b (joined p stamp).local)
 
 passed-stands : (p : LocalState) → StandsAs p (passed p).local
@@ -134,45 +156,56 @@ passed-stands p =
     (answers (conclude p) (answer.Ended p.phases.cycle))
     (answers (probe (record p { ring = without_token p.ring })) answer.ProbeAgain)
     (λ (x : Effect). StandsAs p x.local)
-    (λ _. record { shape = refl; own = refl })
-    (λ _. record { shape = refl; own = refl }))
-    (λ _. record { shape = refl; own = refl })
+    (λ _. record { shape = refl; own = refl; got = refl })
+    (λ _. record { shape = refl; own = refl; got = refl }))
+    (λ _. record { shape = refl; own = refl; got = refl })
 
-made-stands : (p : LocalState) (counts : List ℕ) (e : Event) → StandsAs p (made p counts e).local
+abbrev StandsTaken : LocalState → Data → Effect → Type 0
+StandsTaken p d x =
+    StandsAs (record p { got = got_after p.got (event.Data d) (Ok x.answer) }) x.local
+
+made-stands : (p : LocalState) (counts : List ℕ) (e : Event)
+    → StandsAs (record p { got = got_after p.got e (Ok (made p counts e).answer) })
+    (made p counts e).local
 unfolding append announce allocated copied dropped loaded stored cleared word_read word_set given
-    accepted put_asked get_asked begun probe scanned scan swept_slots
-made-stands p counts (event.Alloc register places) = record { shape = refl; own = refl }
-made-stands p counts (event.Copy register source) = record { shape = refl; own = refl }
-made-stands p counts (event.Drop register) = record { shape = refl; own = refl }
+    accepted put_asked get_asked begun probe scanned scan swept_slots taken_in
+made-stands p counts (event.Alloc register places) = record { shape = refl; own = refl; got = refl }
+made-stands p counts (event.Copy register source) = record { shape = refl; own = refl; got = refl }
+made-stands p counts (event.Drop register) = record { shape = refl; own = refl; got = refl }
 made-stands p counts (event.Load register object place) =
     stands-through
     (shaded-stands (at_rest p) (option_to_list (place_loaded p.heap object place)))
-    (record { shape = refl; own = refl })
-made-stands p counts (event.Store object place register) = record { shape = refl; own = refl }
-made-stands p counts (event.Clear object place) = record { shape = refl; own = refl }
-made-stands p counts (event.Word object) = record { shape = refl; own = refl }
-made-stands p counts (event.SetWord object word) = record { shape = refl; own = refl }
-made-stands p counts (event.Give to label register) = record { shape = refl; own = refl }
-made-stands p counts (event.Accept register) = record { shape = refl; own = refl }
-made-stands p counts (event.Put object place register) = record { shape = refl; own = refl }
-made-stands p counts (event.Get object place label) = record { shape = refl; own = refl }
+    (record { shape = refl; own = refl; got = refl })
+made-stands p counts (event.Store object place register) = record { shape = refl; own = refl; got = refl }
+made-stands p counts (event.Clear object place) = record { shape = refl; own = refl; got = refl }
+made-stands p counts (event.Word object) = record { shape = refl; own = refl; got = refl }
+made-stands p counts (event.SetWord object word) = record { shape = refl; own = refl; got = refl }
+made-stands p counts (event.Give to label register) = record { shape = refl; own = refl; got = refl }
+made-stands p counts (event.Accept register) = record { shape = refl; own = refl; got = refl }
+made-stands p counts (event.Put object place register) = record { shape = refl; own = refl; got = refl }
+made-stands p counts (event.Get object place label) = record { shape = refl; own = refl; got = refl }
 made-stands p counts event.Begin =
-    stands-through (join-stands p (p.phases.cycle + 1)) (record { shape = refl; own = refl })
+    stands-through (join-stands p (p.phases.cycle + 1)) (record { shape = refl; own = refl; got = refl })
 made-stands p counts event.Scan =
     stands-through
-    (record { shape = refl; own = refl })
+    (record { shape = refl; own = refl; got = refl })
     (shaded-stands
     (at_rest (record p { heap = without_last_grey p.heap }))
     (filled (places_in (slot_at p.heap (last_grey p.heap)))))
 made-stands p counts event.Pass = passed-stands p
-made-stands p counts (event.Sweep count) = record { shape = refl; own = refl }
+made-stands p counts (event.Sweep count) = record { shape = refl; own = refl; got = refl }
+made-stands p counts (event.Next from) = same-stands p
 made-stands p counts (event.Data d) =
-    cond_both (is_repeat p d.from d.number) (unchanged p answer.Repeat)
-    (taken_in p d.from d.number d.stamp d.body)
-    (λ (x : Effect). StandsAs p x.local)
+    cond_both (is_repeat p d.from d.number) (unchanged p answer.Repeat) _
+    (StandsTaken p d)
     (λ _. same-stands p)
-    (λ _. taken-stands p d.from d.number d.stamp d.body)
-made-stands p counts (event.Ack a) = record { shape = refl; own = refl }
+    (λ _.
+    cond_both (is_early p d.from d.number) (unchanged p answer.Early)
+    (taken_in p d.from d.number d.stamp d.body)
+    (StandsTaken p d)
+    (λ _. same-stands p)
+    (λ _. taken-stands p d.from d.number d.stamp d.body))
+made-stands p counts (event.Ack a) = record { shape = refl; own = refl; got = refl }
 
 -- what appending a message doesn't change
 appended-keeps : (f : Link → ℕ) → ((l : Link) (x : Message) → f (appended l x) ≡ f l)
@@ -190,6 +223,34 @@ let_go-kept links (Some a) = map-set_same kept_of links a.from _ no_link refl
 let_go-none : (links : List Link) (o : Option Ack) → o ≡ None → let_go links o ≡ links
 let_go-none links o none = ap (let_go links) none
 
+-- an answered event: the effect that the node has afterwards, of which every test passed
+record Answered (n new : NodeView) (e : Event) (a : Answer) : Type 0 where
+  passed : AllPass (tests n.local e)
+  now : new ≡ record n {
+    local = (made n.local (map used n.links) e).local;
+    links = append_to (let_go n.links (ack_of e)) (made n.local (map used n.links) e).sends;
+  }
+  answer : a ≡ (made n.local (map used n.links) e).answer
+
+answered : (n new : NodeView) (e : Event) (a : Answer) → view_act n e ≡ Ok (new, a)
+    → Answered n new e a
+unfolding view_act
+answered n new e a h =
+    let x : Effect = made n.local (map used n.links) e in
+    let links : List Link = let_go n.links (ack_of e) in
+    let heard : List (Bool × Refusal) = tests n.local e ++ ack_tests n (ack_of e) in
+    let last : List (Bool × Refusal) = (fits (map used n.links) x.sends, LinkSpent) ∷ [] in
+    let found = view-ok n new links _ a h in
+    let same : x ≡ found.0 = guarded-ok (heard ++ last) x found.0 found.1 in
+    let parts = passed-parts heard last (guarded-passes (heard ++ last) x found.0 found.1) in
+    record {
+      passed = (passed-parts (tests n.local e) (ack_tests n (ack_of e)) parts.0).0;
+      now = found.2
+          ∙ ap (λ (z : Effect). record n { local = z.local; links = append_to links z.sends })
+          (sym same);
+      answer = found.3 ∙ ap (λ (z : Effect). z.answer) (sym same);
+    }
+
 -- what a call made of an event left as every event leaves it
 pub act-leaves : (n new : NodeView) (e : Event) (r : Result Answer Refusal)
     → Performed (is_shading e) r n new (view_act n e) → Leaves n new e
@@ -205,24 +266,68 @@ act-leaves n new e (Err f) p =
     }
 act-leaves n new e (Ok a) p =
     let x : Effect = made n.local (map used n.links) e in
-    let links : List Link = let_go n.links (ack_of e) in
-    let ts : List (Bool × Refusal) =
-    all_tests (tests n.local e ++ ack_tests n (ack_of e)) (map used n.links) x in
-    let found = view-ok n new links _ a p.performs in
-    let same : x ≡ found.0 = guarded-ok ts x found.0 found.1 in
-    let now : new ≡ record n { local = x.local; links = append_to links x.sends } =
-    found.2
-    ∙ ap (λ (z : Effect). record n { local = z.local; links = append_to links z.sends })
-    (sym same) in
+    let now = (answered n new e a p.performs).now in
     let stands = made-stands n.local (map used n.links) e in
     record {
       shape = ap (λ (v : NodeView). v.local.shape) now ∙ stands.shape;
       own = ap (λ (v : NodeView). v.local.own) now ∙ stands.own;
       acks = ap (λ (v : NodeView). v.acks) now;
       kept = ap (λ (v : NodeView). map kept_of v.links) now
-          ∙ appended-keeps kept_of (λ l m. refl) links x.sends ∙ let_go-kept n.links (ack_of e);
+          ∙ appended-keeps kept_of (λ l m. refl) (let_go n.links (ack_of e)) x.sends
+          ∙ let_go-kept n.links (ack_of e);
       bases = λ none.
           ap (λ (v : NodeView). map base_of v.links) now
-          ∙ appended-keeps base_of (λ l m. refl) links x.sends
+          ∙ appended-keeps base_of (λ l m. refl) (let_go n.links (ack_of e)) x.sends
           ∙ ap (map base_of) (let_go-none n.links (ack_of e) none);
     }
+
+got-refused : (got : List ℕ) (e : Event) (f : Refusal) → got_after got e (Err f) ≡ got
+got-refused got (event.Data d) f = refl
+got-refused got e f = refl
+
+-- what a call made of an event, and the numbers taken in
+pub act-got : (n new : NodeView) (e : Event) (r : Result Answer Refusal)
+    → Performed (is_shading e) r n new (view_act n e)
+    → new.local.got ≡ got_after n.local.got e r
+act-got n new e (Err f) p =
+    ap (λ (v : NodeView). v.local.got) p.unchanged ∙ sym (got-refused n.local.got e f)
+act-got n new e (Ok a) p =
+    let h = answered n new e a p.performs in
+    ap (λ (v : NodeView). v.local.got) h.now ∙ (made-stands n.local (map used n.links) e).got
+    ∙ ap (λ (z : Answer). got_after n.local.got e (Ok z)) (sym h.answer)
+
+-- A message that was answered was taken in before; or it is ahead of its turn, but within the
+-- window; or its turn has come.
+pub data Turned (p : LocalState) (d : Data) (a : Answer) : Type 0 where
+  again : d.number ≤ got_from p d.from → a ≡ answer.Repeat → Turned p d a
+  ahead : got_from p d.from + 1 < d.number → d.number ≤ got_from p d.from + WINDOW
+      → a ≡ answer.Early
+      → Turned p d a
+  due : d.number ≡ got_from p d.from + 1 → a ≡ answer.Received → Turned p d a
+
+turned-cases : (p : LocalState) (d : Data) (a : Answer) → d.number ≤ got_from p d.from + WINDOW
+    → a ≡ (receipt p d.from d.number d.stamp d.body).answer → Turned p d a
+unfolding taken_in
+turned-cases p d a within =
+    cond_both (is_repeat p d.from d.number) (unchanged p answer.Repeat) _
+    (λ (x : Effect). a ≡ x.answer → Turned p d a)
+    (λ old says. again (leb-true d.number _ old) says)
+    (λ first.
+    cond_both (is_early p d.from d.number) (unchanged p answer.Early)
+    (taken_in p d.from d.number d.stamp d.body)
+    (λ (x : Effect). a ≡ x.answer → Turned p d a)
+    (λ early says. ahead (ltb-true _ _ early) within says)
+    (λ turn says.
+    due
+    (let later : got_from p d.from < d.number = leb-false d.number _ first in
+    let next : d.number ≤ got_from p d.from + 1 = ltb-false _ d.number turn in
+    omega (arith, later, next))
+    says))
+
+-- an answered message is addressed to the node
+pub data-turned : (n new : NodeView) (d : Data) (a : Answer)
+    → view_act n (event.Data d) ≡ Ok (new, a)
+    → (is_addressed n.local d.from d.to ≡ true) × Turned n.local d a
+data-turned n new d a h =
+    let found = answered n new (event.Data d) a h in
+    (found.passed.0, turned-cases n.local d a (leb-true _ _ found.passed.1.0) found.answer)

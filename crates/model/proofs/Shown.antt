@@ -4,7 +4,8 @@ use Rattle.std.proofs.Common.{◌≡◌, ℕ, ◌+◌, ◌-◌, ◌<◌, ◌≤�
 use Rattle.std.specs.Prelude.{nat_le, IsOk}
 use Rattle.std.proofs.Math.Nat.{min-le_right, min-eq_left, min-eq_right}
 use Rattle.std.proofs.Math.ListN.{drop_of_length-le}
-use Rattle.std.proofs.lemmas.Bool.{cases_lt, cases_Bool, lt-leb, le-leb, leb-true, leb-false, or_right, cond-true, cond-false}
+use Rattle.std.proofs.lemmas.Bool.{cases_lt, cases_Bool, lt-leb, le-leb, leb-true, leb-false, le-ltb, or_right, cond-true, cond-false}
+use Rattle.ids.specs.declared.limits.TheConstants.{WINDOW}
 use Rattle.ids.specs.declared.refusal.Refusal.{Refusal}
 use Rattle.ids.specs.declared.refusal.Refusal.TheVariants.{AckBeyond, WrongNode, LinkSpent}
 use Rattle.msg.specs.declared.frame.Ack.{Ack}
@@ -17,7 +18,7 @@ use Rattle.msg.specs.declared.frame.Data.{Data}
 use Rattle.model.specs.State.{LocalState, NodeState, got_from}
 use Rattle.model.specs.Checks.{guarded, AllPass, IsOkOrSpent, IsReplaced}
 use Rattle.model.specs.Effects.{Effect, unchanged}
-use Rattle.model.specs.Steps.{checked, tests, made, fits, ack_of, is_addressed, is_repeat, may_take, receipt_tests, receipt, taken_in, act, after, is_shading, append_all}
+use Rattle.model.specs.Steps.{checked, tests, made, fits, ack_of, is_addressed, is_repeat, is_early, may_take, receipt_tests, receipt, taken_in, act, after, is_shading, append_all}
 use Rattle.model.specs.View.{Link, NodeView, ShowsSent, Shows, link_to, IsTold, Follows, Performs, no_link, used, appended, append_to, ack_tests, trimmed, let_go, view_act, view_after, view_done}
 use Rattle.model.proofs.Checks.{guarded-ok, guarded-passes, guarded-pass, guarded-without, passed-parts, passed-both, guarded-passed}
 use Rattle.model.proofs.Lookups.{both_set, maps_agree}
@@ -251,18 +252,23 @@ pub view-taken_in : (n : NodeView) (d : Data) → is_addressed n.local d.from d.
 unfolding view_act
 view-taken_in n d addressed turn may =
     let later : got_from n.local d.from < d.number = omega (arith, turn) in
-    let inside : d.number ≤ got_from n.local d.from + 1 = omega (arith, turn) in
+    let inside : d.number ≤ got_from n.local d.from + WINDOW = omega (arith, turn) in
     let new : is_repeat n.local d.from d.number ≡ false =
     lt-leb d.number (got_from n.local d.from) later in
+    let due : is_early n.local d.from d.number ≡ false =
+    le-ltb (got_from n.local d.from + 1) d.number
+    (let h : d.number ≤ got_from n.local d.from + 1 = omega (arith, turn) in h) in
+    let taken = or_right (is_early n.local d.from d.number) _ may in
     let passed : AllPass (receipt_tests n.local d.from d.to d.number d.stamp d.body) =
-    (addressed, (le-leb _ _ inside, (or_right (is_repeat n.local d.from d.number) _ may, tt))) in
+    (addressed, (le-leb _ _ inside, (or_right (is_repeat n.local d.from d.number) _ taken, tt))) in
     ap (view_after n n.links)
     (guarded-passed (receipt_tests n.local d.from d.to d.number d.stamp d.body)
     ((fits (map used n.links) (receipt n.local d.from d.number d.stamp d.body).sends, LinkSpent)
     ∷ []) (receipt n.local d.from d.number d.stamp d.body) passed)
     ∙ ap (view_done n)
-    (cond-false (is_repeat n.local d.from d.number) (unchanged n.local answer.Repeat)
-    (taken_in n.local d.from d.number d.stamp d.body) new
+    (cond-false (is_repeat n.local d.from d.number) (unchanged n.local answer.Repeat) _ new
+    ∙ cond-false (is_early n.local d.from d.number) (unchanged n.local answer.Early)
+    (taken_in n.local d.from d.number d.stamp d.body) due
     ∙ ap (λ (k : ℕ). taken_in n.local d.from k d.stamp d.body) turn)
 
 -- ---- acknowledgements

@@ -3,9 +3,9 @@
 use Rattle.std.specs.Prelude.{ℕ, ◌+◌, Bool, true, false, ◌&&◌, ◌||◌, not, cond, nat_lt, nat_le, ◌==◌, List, [], ◌∷◌, ◌++◌, length, map, Option, Some, None, is_none, option_to_list, Result, Ok, Err, slice_index_or, slice_set}
 use Rattle.ids.specs.Limits.{Shaped}
 use Rattle.ids.specs.declared.names.Ref.{Ref}
-use Rattle.ids.specs.declared.limits.TheConstants.{GREATEST_NUMBER}
+use Rattle.ids.specs.declared.limits.TheConstants.{GREATEST_NUMBER, WINDOW}
 use Rattle.ids.specs.declared.refusal.Refusal.{Refusal}
-use Rattle.ids.specs.declared.refusal.Refusal.TheVariants.{NoNode, SelfSend, LinkSpent, OutOfOrder, WrongNode}
+use Rattle.ids.specs.declared.refusal.Refusal.TheVariants.{NoNode, SelfSend, LinkSpent, OutOfOrder, NothingToDo, WrongNode}
 use Rattle.msg.specs.declared.body.Body.{Body}
 use Rattle.msg.specs.declared.body.Body.TheVariants as body
 use Rattle.msg.specs.declared.body.Message.{Message}
@@ -103,6 +103,10 @@ is_repeat p from number = nat_le number (got_from p from)
 
 abbrev pub is_next : LocalState → ℕ → ℕ → Bool
 is_next p from number = number == got_from p from + 1
+
+-- beyond the next one
+abbrev pub is_early : LocalState → ℕ → ℕ → Bool
+is_early p from number = nat_lt (got_from p from + 1) number
 
 -- every reference that stands in a message
 abbrev pub mentioned : Body → List Ref
@@ -233,18 +237,21 @@ unfoldable pub taken_in : LocalState → ℕ → ℕ → ℕ → Body → Effect
 taken_in p from number stamp b =
     answers (then (joined p stamp) (settled from number stamp b)) answer.Received
 
+-- What may come of a message is tested in its turn alone.
 abbrev pub receipt_tests : LocalState → ℕ → ℕ → ℕ → ℕ → Body → List (Bool × Refusal)
 receipt_tests p from to number stamp b =
     (is_addressed p from to, WrongNode)
-    ∷ (nat_le number (got_from p from + 1), OutOfOrder)
-    ∷ (is_repeat p from number || may_take p from stamp b, WrongNode)
+    ∷ (nat_le number (got_from p from + WINDOW), OutOfOrder)
+    ∷ (is_repeat p from number || (is_early p from number || may_take p from stamp b), WrongNode)
     ∷ []
 
 abbrev pub receipt : LocalState → ℕ → ℕ → ℕ → Body → Effect
 receipt p from number stamp b =
-    cond (is_repeat p from number) (unchanged p answer.Repeat) (taken_in p from number stamp b)
+    cond (is_repeat p from number) (unchanged p answer.Repeat)
+    (cond (is_early p from number) (unchanged p answer.Early) (taken_in p from number stamp b))
 
--- the tests of an event, in the order of its refusals
+-- The tests of an event, in the order of its refusals. A state keeps no messages before their turn,
+-- so it has none for Next: of a node that keeps them, the next one comes as Data.
 abbrev pub tests : LocalState → Event → List (Bool × Refusal)
 tests p (event.Alloc register places) = alloc_tests p.shape.slots p.heap register places
 tests p (event.Copy register source) = copy_tests p.heap register source
@@ -264,6 +271,7 @@ tests p event.Begin = begin_tests p
 tests p event.Scan = scan_tests p
 tests p event.Pass = pass_tests p
 tests p (event.Sweep count) = sweep_tests p
+tests p (event.Next from) = (nat_lt from p.shape.nodes, NoNode) ∷ (false, NothingToDo) ∷ []
 tests p (event.Data d) = receipt_tests p d.from d.to d.number d.stamp d.body
 tests p (event.Ack a) = (is_addressed p a.from a.to, WrongNode) ∷ []
 
@@ -285,6 +293,7 @@ made p counts event.Begin = begun p
 made p counts event.Scan = scanned p
 made p counts event.Pass = passed p
 made p counts (event.Sweep count) = swept_slots p count
+made p counts (event.Next from) = unchanged p answer.Received
 made p counts (event.Data d) = receipt p d.from d.number d.stamp d.body
 made p counts (event.Ack a) = unchanged p answer.Done
 
@@ -359,6 +368,7 @@ is_memory_free p (event.Word object) = true
 is_memory_free p (event.SetWord object word) = true
 is_memory_free p (event.Accept register) = true
 is_memory_free p (event.Sweep count) = not (reports_sweep p count)
+is_memory_free p (event.Next from) = true
 is_memory_free p (event.Data d) = not (is_next p d.from d.number)
 is_memory_free p (event.Ack a) = true
 is_memory_free p e = false

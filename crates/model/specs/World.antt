@@ -159,11 +159,13 @@ FollowsStep shows w s (Ok o) new = (v : World) × (take_step w s ≡ Ok (v, o)) 
 FollowsStep shows w s (Err e) new = IsStepRefusal w s e × shows new w
 
 -- Whether what became of a step is an event of the space. Reading a word is none, nor is a message
--- that was taken in before, one that isn't there, an acknowledgement handed over, and what was
--- refused. Of the code's own result it says the same, where memory may have been refused too.
+-- that was taken in before or comes before its turn, one that isn't there, an acknowledgement handed
+-- over, and what was refused. Of the code's own result it says the same, where memory may have been
+-- refused too.
 abbrev pub is_eventful : Result Outcome Refusal → Bool
 is_eventful (Ok (outcome.Answer (answer.Word word))) = false
 is_eventful (Ok (outcome.Answer answer.Repeat)) = false
+is_eventful (Ok (outcome.Answer answer.Early)) = false
 is_eventful (Ok (outcome.Answer a)) = true
 is_eventful (Ok outcome.Done) = true
 is_eventful (Ok (outcome.Handed number)) = false

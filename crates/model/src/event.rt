@@ -90,6 +90,11 @@ pub enum Event {
     Sweep {
         count: u32,
     },
+    /// The message that waits for its turn, as the next one from this node, is taken in. A node
+    /// that keeps no messages before their turn has none that waits.
+    Next {
+        from: u8,
+    },
     /// A message from another node.
     Data(Data),
     /// Another node acknowledges the messages that it has taken in and saved.
@@ -127,4 +132,7 @@ pub enum Answer {
     Received,
     /// The message was taken in before, and changes nothing.
     Repeat,
+    /// The message came before its turn. It changes nothing; a node that keeps such messages
+    /// takes it in when its turn has come.
+    Early,
 }

@@ -21,3 +21,5 @@ mod Receipts
 mod Lists
 mod Listed
 pub mod Restorable
+pub mod Held
+pub mod Kept

@@ -1,6 +1,6 @@
 -- How a node shows what it is.
 use Rattle.std.specs.Prelude.{◌≡◌}
-use Rattle.node.specs.declared.node.Node.TheInside.{Inside}
+use Rattle.node.specs.declared.node.Core.TheInside.{Inside}
 use Rattle.model.specs.View.{NodeView}
 use Rattle.node.specs.Invariant.{IsNode}
 

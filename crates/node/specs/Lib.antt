@@ -6,3 +6,5 @@ pub mod Sending
 pub mod Cycles
 pub mod Taking
 pub mod Parts
+pub mod Keeping
+pub mod Whole

@@ -22,7 +22,7 @@ use Rattle.link.specs.Links.{LinksView, IsLinks, link_at, got_at}
 use Rattle.link.specs.Parts.{links_given}
 use Rattle.node.specs.Inside.{view_of}
 use Rattle.node.specs.Invariant.{IsBalanced, links_of}
-use Rattle.node.specs.declared.node.Node.TheInside.{Inside}
+use Rattle.node.specs.declared.node.Core.TheInside.{Inside}
 use Rattle.node.specs.declared.node.parts.NodeParts.{NodeParts}
 
 -- all of the node but its links

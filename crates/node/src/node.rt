@@ -1,18 +1,7 @@
-ghost use Rattle.std.specs.Prelude.{◌≡◌, ◌≢◌, ◌<◌, ◌≤◌, IsTrue, IfOk, IfErr, OnErr};
+ghost use Rattle.std.specs.Prelude.{◌≡◌, ◌≢◌, ◌<◌, ◌≤◌, IsTrue, IfOk, IfErr};
 ghost use Rattle.ids.specs.declared.refusal.Refusal.TheVariants.{Memory, NoNode};
-ghost use Rattle.model.specs.State.{NodeState};
-ghost use Rattle.model.specs.Steps.{act, is_addressed, is_memory_free, is_shading};
-ghost use Rattle.model.specs.View.{
-  is_other,
-  Shows,
-  Follows,
-  Performs,
-  Performed,
-  Leaves,
-  view_act,
-  new_view,
-  kept_view,
-};
+ghost use Rattle.model.specs.Steps.{is_addressed, is_memory_free, is_shading};
+ghost use Rattle.model.specs.View.{is_other, Performed, view_act, new_view, kept_view};
 
 mod asking;
 mod collecting;
@@ -36,10 +25,11 @@ use safra::Ring;
 use std::alloc::Global;
 use std::marker::Model;
 
-/// One node: its heap, its part in the collection cycles and in the ring, and for each other node
-/// its messages to there that aren't acknowledged and how much it took in from there.
+/// What is saved of a node: its heap, its part in the collection cycles and in the ring, and for
+/// each other node its messages to there that aren't acknowledged and how much it took in from
+/// there. It keeps no messages before their turn.
 #[derive(Drop)]
-pub struct Node {
+pub struct Core {
     shape: Shape,
     own: u8,
     heap: Heap,
@@ -50,7 +40,7 @@ pub struct Node {
     links: Links,
 }
 
-impl Model for Node {
+impl Model for Core {
     ghost use Rattle.model.specs.View.{NodeView};
 
     ghost Value = { NodeView };
@@ -62,7 +52,7 @@ impl Model for Node {
     ghost invariant = { IsSound };
 }
 
-impl Node {
+impl Core {
     ghost use Rattle.node.specs.Summaries.{summary_of};
     ghost use Rattle.heap.specs.Heap.{IsSlotted};
     ghost use Rattle.node.specs.Invariant.{IsNode};
@@ -70,7 +60,7 @@ impl Node {
 
     /// A new node of the shape: nothing allocated, nothing sent, nothing received. `NoNode` where
     /// the shape has no such node, `Memory` where a growth was refused.
-    pub fn new(alloc: Global, shape: Shape, own: NodeId) -> Result<Node, Refusal>
+    pub fn new(alloc: Global, shape: Shape, own: NodeId) -> Result<Core, Refusal>
         ensures made { IfOk result (λ n. n ≡ new_view shape own.number) }
         ensures there { IfOk result (λ _. own.number < shape.nodes) }
         ensures refused { IfErr result
@@ -80,7 +70,7 @@ impl Node {
         if own.number >= shape.nodes() {
             return Err(Refusal::NoNode);
         }
-        Ok(Node {
+        Ok(Core {
             shape,
             own: own.number,
             heap: Heap::new(alloc, shape)?,
@@ -91,25 +81,8 @@ impl Node {
         })
     }
 
-    /// Performs one event. The refusals come in the order in which docs/RULES.md lists them for
-    /// each event, and `Memory` after all of them, where a growth was refused; `Load`, `Begin`,
-    /// `Scan` and a message may be refused memory in place of `LinkSpent` too. A refused event
-    /// changes nothing. `Copy`, `Drop`, `Store`, `Clear`, `Word`, `SetWord`, `Accept`, a `Sweep`
-    /// that leaves slots or is node 0's, `Ack` and a message that isn't the next one are never
-    /// refused memory. `Word` and a message that was taken in before change nothing.
-    pub fn act(&mut self, event: Event) -> Result<Answer, Refusal>
-        ensures performs { Performs (is_shading event) result self.new (view_act self.old event) }
-        ensures states { (s : NodeState) → Shows self.old s
-            → Follows event result self.new (act s event) }
-        ensures unchanged { OnErr result (self.new ≡ self.old) }
-        ensures leaves { Leaves self.old self.new event }
-        ensures memory_free { IsTrue (is_memory_free self.old.local event)
-            → IfErr result (λ e. e ≢ Memory) }
-    {
-        self.perform(event)
-    }
-
-    fn perform(&mut self, event: Event) -> Result<Answer, Refusal>
+    /// Performs one event, which may shade (`is_shading`). A refused one changes nothing.
+    pub(crate) fn perform(&mut self, event: Event) -> Result<Answer, Refusal>
         ensures performed { Performed (is_shading event) result self.old self.new
             (view_act self.old event) }
         ensures memory_free { IsTrue (is_memory_free self.old.local event)
@@ -152,6 +125,7 @@ impl Node {
             Event::Scan => self.scan(),
             Event::Pass => self.pass(),
             Event::Sweep { count } => self.sweep(count),
+            Event::Next { from } => self.next(from),
             Event::Data(frame) => self.take_in(frame),
             Event::Ack(ack) => self.acknowledge(ack),
         }
@@ -165,7 +139,7 @@ impl Node {
     }
 
     /// The node in numbers. Its contract says besides what is true of every node, and of its slots,
-    /// and that a node can be made from the parts of this one ([`Node::from_parts`]).
+    /// and that a node can be made from the parts of this one ([`Core::from_parts`]).
     pub fn state(&self) -> Summary
         ensures value { result ≡ summary_of self.now.local }
         ensures sound { IsNode self.now }

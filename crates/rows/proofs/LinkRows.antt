@@ -3,7 +3,7 @@
 use Rattle.std.proofs.Common.{◌≡◌, ℕ, ℤ, negsuc, true, false, List, [], ◌∷◌, ◌++◌, map, replicate, Option, Some, None, Result, Ok, Err, refl}
 use Rattle.ids.specs.Limits.{Shaped}
 use Rattle.ids.specs.declared.refusal.Refusal.{Refusal}
-use Rattle.ids.specs.declared.refusal.Refusal.TheVariants.{NoNode, WrongNode, OutOfOrder, AckBeyond}
+use Rattle.ids.specs.declared.refusal.Refusal.TheVariants.{NoNode, NothingToDo, WrongNode, AckBeyond}
 use Rattle.msg.specs.declared.body.Body.TheVariants as body
 use Rattle.msg.specs.declared.body.Message.{Message}
 use Rattle.msg.specs.declared.frame.Ack.{Ack}
@@ -20,7 +20,7 @@ use Rattle.model.specs.Steps.{settled, act, receive, allocated, word_read, given
 use Rattle.model.specs.View.{Link, NodeView, new_view, no_link, link_to, released_at, view_act}
 use Rattle.model.specs.World.{World, take_step, new_world, run, is_eventful}
 use Rattle.rows.proofs.ObjectRows.{word, reads}
-use Rattle.rows.proofs.Rows.{Table, steps_of, outcomes_of, object, space, alloc, give, made, sent, received, repeat, done, no_frame, refused, Holds}
+use Rattle.rows.proofs.Rows.{Table, steps_of, outcomes_of, object, space, alloc, give, made, sent, received, repeat, early, done, no_frame, refused, Holds}
 
 abbrev handed : ℕ → Result Outcome Refusal
 handed number = Ok (outcome.Handed number)
@@ -44,14 +44,14 @@ pub acknowledged-saved : Holds (space 2 4 16) (
 unfolding take_step act receive given taken_in count_in take_body append shade vouch settled
 acknowledged-saved = refl
 
--- messages are taken in in order and once
+-- Messages are taken in in order and once. One that comes before its turn changes nothing.
 abbrev in_turn : Table
 in_turn =
     (alloc 0 0 0, made (object 0 0 1))
     ∷ (give 0 1 4 0, sent 1)
     ∷ (give 0 1 5 0, sent 2)
     ∷ (step.Save 0, done)
-    ∷ (step.Deliver 0 1 2, refused OutOfOrder)
+    ∷ (step.Deliver 0 1 2, early)
     ∷ (step.Deliver 0 1 1, received)
     ∷ (step.Deliver 0 1 1, repeat)
     ∷ (step.Deliver 0 1 1, repeat)
@@ -85,6 +85,13 @@ mixed =
     ∷ (step.Save 0, done)
     ∷ (step.Deliver 0 1 1, received)
     ∷ (step.Deliver 0 1 1, repeat)
+    ∷ (give 0 1 5 0, sent 2)
+    ∷ (give 0 1 6 0, sent 3)
+    ∷ (step.Save 0, done)
+    ∷ (step.Deliver 0 1 3, early)
+    ∷ (step.Act 1 (event.Next 0), refused NothingToDo)
+    ∷ (step.Act 1 (event.Next 1), refused NothingToDo)
+    ∷ (step.Act 1 (event.Next 2), refused NoNode)
     ∷ (step.Hand 0 1, handed 0)
     ∷ (step.Restart 1, done)
     ∷ (step.Restart 2, refused NoNode)
@@ -92,7 +99,8 @@ mixed =
 
 pub events : Holds (space 2 4 16) mixed
     × (map is_eventful (outcomes_of mixed)
-    ≡ true ∷ false ∷ true ∷ false ∷ true ∷ true ∷ false ∷ false ∷ true ∷ false ∷ [])
+    ≡ true ∷ false ∷ true ∷ false ∷ true ∷ true ∷ false ∷ true ∷ true ∷ true ∷ false ∷ false
+    ∷ false ∷ false ∷ false ∷ true ∷ false ∷ [])
 unfolding take_step act receive allocated word_read given taken_in count_in take_body append shade
     vouch settled
 events = (refl, refl)

@@ -60,6 +60,9 @@ received = Ok (outcome.Answer answer.Received)
 abbrev pub repeat : Result Outcome Refusal
 repeat = Ok (outcome.Answer answer.Repeat)
 
+abbrev pub early : Result Outcome Refusal
+early = Ok (outcome.Answer answer.Early)
+
 abbrev pub letter : ℕ → ℕ → Ref → Result Outcome Refusal
 letter from label r =
     Ok (outcome.Answer (answer.Letter (record { from = from; label = label; reference = Some r })))
@@ -128,7 +131,7 @@ pub in-order : Holds (space 3 4 16) (
     (give 0 2 4 0, sent 1)
     ∷ (give 0 2 5 0, sent 2)
     ∷ (step.Save 0, done)
-    ∷ (step.Deliver 0 2 2, refused OutOfOrder)
+    ∷ (step.Deliver 0 2 2, early)
     ∷ (step.Deliver 0 2 1, received)
     ∷ (step.Deliver 0 2 2, received)
     ∷ (step.Deliver 0 2 1, repeat)
@@ -234,7 +237,9 @@ offered from to number stamp reference =
 -- messages that a node may not take in
 pub wrong-messages : Answers (
     (offered 0 1 1 0 (Some (object 1 15 1)), Ok answer.Received)
-    ∷ (offered 0 1 2 0 None, Err OutOfOrder)
+    ∷ (offered 0 1 2 0 None, Ok answer.Early)
+    ∷ (offered 0 1 32 0 None, Ok answer.Early)
+    ∷ (offered 0 1 33 0 None, Err OutOfOrder)
     ∷ (offered 0 0 1 0 None, Err WrongNode)
     ∷ (offered 0 2 1 0 None, Err WrongNode)
     ∷ (offered 1 1 1 0 None, Err WrongNode)
@@ -243,7 +248,7 @@ pub wrong-messages : Answers (
     ∷ (offered 0 1 1 2 None, Err WrongNode)
     ∷ (offered 0 1 1 0 (Some (object 2 0 1)), Err WrongNode)
     ∷ (offered 0 1 1 0 (Some (object 1 16 1)), Err WrongNode)
-    ∷ (offered 0 1 2 1 None, Err OutOfOrder)
+    ∷ (offered 0 1 2 1 None, Ok answer.Early)
     ∷ (offered 0 1 0 1 (Some (object 2 0 1)), Ok answer.Repeat)
     ∷ [])
 unfolding receive taken_in count_in take_body append shade vouch settled

@@ -4,9 +4,9 @@ use Rattle.ids.specs.Refusals.{number_of}
 use Rattle.model.specs.declared.event.Event.{Event}
 use Rattle.model.specs.declared.event.Event.TheVariants as event
 use Rattle.trace.specs.declared.call.Call.{Call}
-use Rattle.trace.specs.declared.call.Call.TheVariants.{Alloc, Copy, Drop, Load, Store, Clear, Word, SetWord, Give, Accept, Put, Get, Begin, Scan, Pass, Sweep, Data, Ack, Save, Reopen}
+use Rattle.trace.specs.declared.call.Call.TheVariants.{Alloc, Copy, Drop, Load, Store, Clear, Word, SetWord, Give, Accept, Put, Get, Begin, Scan, Pass, Sweep, Next, Data, Ack, Save, Reopen}
 use Rattle.trace.specs.declared.call.Outcome.{Outcome}
-use Rattle.trace.specs.declared.call.Outcome.TheVariants.{Done, Repeat, Refused}
+use Rattle.trace.specs.declared.call.Outcome.TheVariants.{Done, Repeat, Early, Refused}
 use Rattle.trace.specs.declared.trace.Line.{Line}
 
 abbrev pub call_of : Event → Call
@@ -26,6 +26,7 @@ call_of event.Begin = Begin
 call_of event.Scan = Scan
 call_of event.Pass = Pass
 call_of (event.Sweep count) = Sweep
+call_of (event.Next from) = Next
 call_of (event.Data d) = Data
 call_of (event.Ack a) = Ack
 
@@ -46,6 +47,7 @@ word_of Begin = codes "begin"
 word_of Scan = codes "scan"
 word_of Pass = codes "pass"
 word_of Sweep = codes "sweep"
+word_of Next = codes "next"
 word_of Data = codes "data"
 word_of Ack = codes "ack"
 word_of Save = codes "save"
@@ -55,6 +57,7 @@ word_of Reopen = codes "reopen"
 abbrev pub outcome_text : Outcome → List ℕ
 outcome_text Done = codes "ok"
 outcome_text Repeat = codes "repeat"
+outcome_text Early = codes "early"
 outcome_text (Refused e) = decimal (number_of e)
 
 abbrev pub line_text : Line → List ℕ

@@ -24,6 +24,7 @@ pub enum Call {
     Scan,
     Pass,
     Sweep,
+    Next,
     Data,
     Ack,
     Save,
@@ -52,6 +53,7 @@ impl Call {
             Event::Scan => Call::Scan,
             Event::Pass => Call::Pass,
             Event::Sweep { .. } => Call::Sweep,
+            Event::Next { .. } => Call::Next,
             Event::Data(_) => Call::Data,
             Event::Ack(_) => Call::Ack,
         }
@@ -78,6 +80,7 @@ impl Call {
             Call::Scan => "scan",
             Call::Pass => "pass",
             Call::Sweep => "sweep",
+            Call::Next => "next",
             Call::Data => "data",
             Call::Ack => "ack",
             Call::Save => "save",
@@ -93,6 +96,8 @@ pub enum Outcome {
     Done,
     /// The message was taken in before.
     Repeat,
+    /// The message came before its turn.
+    Early,
     /// It was refused.
     Refused(Refusal),
 }
@@ -104,6 +109,7 @@ impl fmt::Display for Outcome {
         match self {
             Outcome::Done => write!(f, "ok"),
             Outcome::Repeat => write!(f, "repeat"),
+            Outcome::Early => write!(f, "early"),
             Outcome::Refused(refusal) => write!(f, "{}", refusal.number()),
         }
     }

@@ -11,8 +11,8 @@ use std::alloc::Global;
 use std::fmt;
 use std::marker::Model;
 
-/// A call and what came of it. Its text is the call's word, and `ok`, `repeat` or the number of the
-/// refusal.
+/// A call and what came of it. Its text is the call's word, and `ok`, `repeat`, `early` or the
+/// number of the refusal.
 #[derive(Clone, Copy, Debug, PartialEq, Eq)]
 pub struct Line {
     pub call: Call,

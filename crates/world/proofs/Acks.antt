@@ -1,7 +1,7 @@
 -- An acknowledgement that the code's space hands over is that of the definitions.
-use Rattle.std.proofs.Common.{◌≡◌, ◌≢◌, ℕ, ◌<◌, ◌≤◌, true, false, List, [], ◌∷◌, length, get_or, Result, Ok, Err, refl, ap, sym, ◌∙◌, le_refl, arith, eq-eqb}
+use Rattle.std.proofs.Common.{◌≡◌, ◌≢◌, ℕ, ◌<◌, ◌≤◌, true, false, List, [], ◌∷◌, length, get_or, Result, Ok, Err, refl, ap, sym, ◌∙◌, subst, le_refl, arith, eq-eqb}
 use Rattle.std.specs.Prelude.{nat_le}
-use Rattle.std.proofs.lemmas.Bool.{ne_eqb, le-leb, lt-leb, cond-true, cond-false}
+use Rattle.std.proofs.lemmas.Bool.{ne_eqb, le-leb, lt-leb, lt-ltb, and_from, not_from_false, cond-true, cond-false}
 use Rattle.std.proofs.lemmas.List.{set-get_or}
 use Rattle.ids.specs.declared.refusal.Refusal.{Refusal}
 use Rattle.ids.specs.declared.refusal.Refusal.TheVariants.{AckBeyond}
@@ -13,13 +13,13 @@ use Rattle.model.specs.declared.step.Step.TheVariants as step
 use Rattle.model.specs.declared.step.Outcome.TheVariants as outcome
 use Rattle.model.specs.State.{NodeState, node_at, no_node}
 use Rattle.model.specs.Steps.{is_addressed}
-use Rattle.model.specs.View.{NodeView, link_to, view_act}
+use Rattle.model.specs.View.{NodeView, is_other, link_to, view_act}
 use Rattle.model.specs.World.{World, take_step, acknowledged, release_count}
 use Rattle.model.proofs.Shown.{ack-done, ack-refused}
 use Rattle.laws.proofs.StepFacts.{act-ok}
 use Rattle.laws.proofs.Base.{addressed-between}
 use Rattle.world.specs.Sites.{SiteView}
-use Rattle.world.specs.Shows.{ShowsWorld, Stepped, Given, IsSim, IsAckOf, site_at}
+use Rattle.world.specs.Shows.{ShowsWorld, Stepped, Given, IsPlaced, IsSim, IsAckOf, site_at}
 use Rattle.world.proofs.Refusals.{first-by}
 use Rattle.world.proofs.Steps.{Gives, outcome_by, given, nothing, are-nodes}
 
@@ -38,6 +38,15 @@ addressed-to {n = n} {from = from} {to = to} sim less below apart =
     let placed = sim.current from less in
     addressed-between (site_at n from).current.local to from (length n) placed.own placed.nodes
     below (λ e. apart (sym e))
+
+-- what stands at the number of one node is told of another
+pub is-another : {n : List SiteView} {from to : ℕ} {q : SiteView} → IsSim n → from < length n
+    → to < length n → from ≢ to → q ≡ site_at n to → is_other q.current.local from ≡ true
+is-another {n = n} {from = from} {to = to} {q = q} sim less below apart there =
+    let placed : IsPlaced (length n) to q.current =
+    subst (λ (z : SiteView). IsPlaced (length n) to z.current) (sym there) (sim.current to below) in
+    and_from _ _ (lt-ltb from q.current.local.shape.nodes (omega (arith, less, placed.nodes)))
+    (not_from_false _ (ne_eqb from q.current.local.own (λ e. apart (e ∙ placed.own))))
 
 -- an acknowledgement from one node to another, in the space that is shown
 module _ {n : List SiteView} {w : World} {from to : ℕ} {a : Ack} (h : ShowsWorld n w)

@@ -11,53 +11,56 @@ use Rattle.model.specs.Cuts.{cut}
 use Rattle.laws.specs.Objects.{new_space, Sight, IsRun, after}
 use Rattle.laws.specs.Sights.{seen, at_first, kept, LooksLike}
 use Rattle.laws.proofs.Transparent.{collector-is-unseen}
-use Rattle.world.specs.Sites.{SiteView}
-use Rattle.world.specs.Shows.{ShowsWorld}
-use Rattle.world.specs.Answered.{Call, AreCalls, sites_after, is_taken, steps_of, sights, AnswersAreUnseen}
+use Rattle.world.specs.Spaces.{SpaceView, ShowsSpace, step_met}
+use Rattle.world.specs.Answered.{Call, AreCalls, space_after, is_taken, steps_of, sights, AnswersAreUnseen}
 use Rattle.world.proofs.Refusals.{refused-as, step-first}
 
 -- what the calls answered is what the definitions answer, and what they lead to is shown
-record Answered (w : World) (old : List SiteView) (ks : List Call) (choice : ℕ → Bool) : Type 0
+record Answered (w : World) (old : SpaceView) (ks : List Call) (choice : ℕ → Bool) : Type 0
   where
-    seen : sights w ks choice ≡ kept w (steps_of ks) choice
-    shown : ShowsWorld (sites_after old ks) (run w (steps_of ks))
+    seen : sights w old ks choice ≡ kept w (steps_of old ks) choice
+    shown : ShowsSpace (space_after old ks) (run w (steps_of old ks))
 
--- a step that was taken
-taken-call : (w : World) (old : List SiteView) (k : Call) (ks : List Call) (choice : ℕ → Bool)
-    → is_taken k.result ≡ true → outcome_of (take_step w k.step) ≡ k.result
-    → Answered (happens w k.step) k.sites ks choice → Answered w old (k ∷ ks) choice
-taken-call w old k ks choice is same rest = record {
-  seen =
-      cond-true (is_taken k.result)
-      (seen w (at_first (steps_of ks) choice) k.step k.result
-      ++ sights (happens w k.step) ks choice)
-      (sights w ks choice) is
-      ∙ ap (λ (z : List Sight).
-      seen w (at_first (steps_of ks) choice) k.step k.result ++ z) rest.seen
-      ∙ ap (λ (z : Result Outcome Refusal).
-      seen w (at_first (steps_of ks) choice) k.step z
-      ++ kept (happens w k.step) (steps_of ks) choice) (sym same)
-      ∙ ap (λ (z : List Step). kept w z choice)
-      (sym (cond-true (is_taken k.result) (k.step ∷ steps_of ks) (steps_of ks) is));
-  shown = subst (λ (z : List Step). ShowsWorld (sites_after k.sites ks) (run w z))
-      (sym (cond-true (is_taken k.result) (k.step ∷ steps_of ks) (steps_of ks) is)) rest.shown;
-}
+-- one call more, which is this step
+module _ (w : World) (old : SpaceView) (k : Call) (ks : List Call) (choice : ℕ → Bool) where
+  abbrev met : Step
+  met = step_met old k.step
 
--- one that the code alone refused
-lost-call : (w : World) (old : List SiteView) (k : Call) (ks : List Call) (choice : ℕ → Bool)
-    → is_taken k.result ≡ false → Answered w k.sites ks choice → Answered w old (k ∷ ks) choice
-lost-call w old k ks choice lost rest = record {
-  seen =
-      cond-false (is_taken k.result)
-      (seen w (at_first (steps_of ks) choice) k.step k.result
-      ++ sights (happens w k.step) ks choice)
-      (sights w ks choice) lost
-      ∙ rest.seen
-      ∙ ap (λ (z : List Step). kept w z choice)
-      (sym (cond-false (is_taken k.result) (k.step ∷ steps_of ks) (steps_of ks) lost));
-  shown = subst (λ (z : List Step). ShowsWorld (sites_after k.sites ks) (run w z))
-      (sym (cond-false (is_taken k.result) (k.step ∷ steps_of ks) (steps_of ks) lost)) rest.shown;
-}
+  abbrev later : List Step
+  later = steps_of k.space ks
+
+  abbrev here : Result Outcome Refusal → List Sight
+  here r = seen w (at_first later choice) met r
+
+  -- a step that was taken
+  taken-call : is_taken k.result ≡ true → outcome_of (take_step w met) ≡ k.result
+      → Answered (happens w met) k.space ks choice → Answered w old (k ∷ ks) choice
+  taken-call is same rest = record {
+    seen =
+        cond-true (is_taken k.result) (here k.result ++ sights (happens w met) k.space ks choice)
+        (sights w k.space ks choice) is
+        ∙ ap (λ (z : List Sight). here k.result ++ z) rest.seen
+        ∙ ap (λ (z : Result Outcome Refusal). here z ++ kept (happens w met) later choice)
+        (sym same)
+        ∙ ap (λ (z : List Step). kept w z choice)
+        (sym (cond-true (is_taken k.result) (met ∷ later) later is));
+    shown = subst (λ (z : List Step). ShowsSpace (space_after k.space ks) (run w z))
+        (sym (cond-true (is_taken k.result) (met ∷ later) later is)) rest.shown;
+  }
+
+  -- one that the code alone refused
+  lost-call : is_taken k.result ≡ false → Answered w k.space ks choice
+      → Answered w old (k ∷ ks) choice
+  lost-call lost rest = record {
+    seen =
+        cond-false (is_taken k.result) (here k.result ++ sights (happens w met) k.space ks choice)
+        (sights w k.space ks choice) lost
+        ∙ rest.seen
+        ∙ ap (λ (z : List Step). kept w z choice)
+        (sym (cond-false (is_taken k.result) (met ∷ later) later lost));
+    shown = subst (λ (z : List Step). ShowsSpace (space_after k.space ks) (run w z))
+        (sym (cond-false (is_taken k.result) (met ∷ later) later lost)) rest.shown;
+  }
 
 not-memory : (e : Refusal) → is_taken (Err e) ≡ true → e ≢ Memory
 not-memory e is same =
@@ -69,44 +72,47 @@ not-large e is same =
     absurd (let never : is_taken (Err ImageTooLarge) ≡ true =
     subst (λ (z : Refusal). is_taken (Err z) ≡ true) same is in cc)
 
-one-call : (w : World) (old : List SiteView) (k : Call) (ks : List Call) (choice : ℕ → Bool)
-    → FollowsStep ShowsWorld w k.step k.result k.sites
-    → ((v : World) → ShowsWorld k.sites v → Answered v k.sites ks choice)
+one-call : (w : World) (old : SpaceView) (k : Call) (ks : List Call) (choice : ℕ → Bool)
+    → FollowsStep ShowsSpace w (step_met old k.step) k.result k.space
+    → ((v : World) → ShowsSpace k.space v → Answered v k.space ks choice)
     → Answered w old (k ∷ ks) choice
 one-call w old k ks choice follows rest = by k.result refl follows
   where
-    by : (r : Result Outcome Refusal) → k.result ≡ r → FollowsStep ShowsWorld w k.step r k.sites
+    t : Step
+    t = step_met old k.step
+
+    by : (r : Result Outcome Refusal) → k.result ≡ r → FollowsStep ShowsSpace w t r k.space
         → Answered w old (k ∷ ks) choice
     by (Ok o) is f =
         taken-call w old k ks choice (ap is_taken is) (ap outcome_of f.1 ∙ sym is)
-        (subst (λ (z : World). Answered z k.sites ks choice) (sym (ap (world_after w) f.1))
+        (subst (λ (z : World). Answered z k.space ks choice) (sym (ap (world_after w) f.1))
         (rest f.0 f.2))
     by (Err e) is f = ⊎_elim {C = Answered w old (k ∷ ks) choice}
         (λ (taken : is_taken (Err e) ≡ true).
-        let refused : take_step w k.step ≡ Err e =
-        refused-as (is_shading_step k.step) (take_step w k.step) e
-        (step-first w e (not-large e taken) k.step f.0) (not-memory e taken) in
+        let refused : take_step w t ≡ Err e =
+        refused-as (is_shading_step t) (take_step w t) e
+        (step-first w e (not-large e taken) t f.0) (not-memory e taken) in
         taken-call w old k ks choice (ap is_taken is ∙ taken) (ap outcome_of refused ∙ sym is)
-        (subst (λ (z : World). Answered z k.sites ks choice)
+        (subst (λ (z : World). Answered z k.space ks choice)
         (sym (ap (world_after w) refused)) (rest w f.1)))
         (λ (lost : is_taken (Err e) ≡ false).
         lost-call w old k ks choice (ap is_taken is ∙ lost) (rest w f.1))
         (cases_Bool (is_taken (Err e)))
 
-answered : (old : List SiteView) (ks : List Call) (choice : ℕ → Bool) → AreCalls old ks
-    → (w : World) → ShowsWorld old w → Answered w old ks choice
+answered : (old : SpaceView) (ks : List Call) (choice : ℕ → Bool) → AreCalls old ks
+    → (w : World) → ShowsSpace old w → Answered w old ks choice
 answered old [] choice calls w shown = record { seen = refl; shown = shown }
 answered old (k ∷ ks) choice calls w shown =
-    one-call w old k ks choice (calls.0 w shown) (answered k.sites ks choice calls.1)
+    one-call w old k ks choice (calls.0 w shown) (answered k.space ks choice calls.1)
 
 pub answers-are-unseen : AnswersAreUnseen
 answers-are-unseen shape limits old calls choice shown are =
     let w : World = new_world shape in
     let all = answered old calls choice are w shown in
-    let unseen = collector-is-unseen shape limits (steps_of calls) choice in (
+    let unseen = collector-is-unseen shape limits (steps_of old calls) choice in (
       subst (IsRun shape.nodes (new_space shape)) (sym all.seen) unseen.0,
       all.shown,
       subst (λ (z : List Sight).
-          LooksLike (after (new_space shape) z) (cut (run w (steps_of calls)) choice))
+          LooksLike (after (new_space shape) z) (cut (run w (steps_of old calls)) choice))
           (sym all.seen) unseen.1,
     )

@@ -19,7 +19,7 @@ use Rattle.model.specs.World.{World, take_step, moved, released, delivery}
 use Rattle.world.specs.Outboxes.{IsFrameOf}
 use Rattle.world.specs.Sites.{SiteView}
 use Rattle.world.specs.Shows.{ShowsWorld, Stepped, Given, frame_at}
-use Rattle.world.proofs.Steps.{outcome_by, given, moves, lets-nothing-go, never, nothing, are-nodes}
+use Rattle.world.proofs.Steps.{Gives, LetsGo, outcome_by, given, moves, lets-nothing-go, never, nothing, are-nodes}
 
 -- a number has a message and its frame, or neither
 both-numbered : (from to place : ℕ) (b : Bool) (sent : Option Message) (frame : Option (List ℕ))
@@ -100,9 +100,30 @@ next-free : (nodes free : Bool) (sent : Option Message) (x : Message) → nodes 
     → (not nodes || (not (is_some sent) || free)) ≡ true → free ≡ true
 next-free nodes free sent x are is h = rw (are, is) at h
 
+-- where the message was released whose frame the node is given, that is its delivery
+pub delivery-gives : {n : List SiteView} {w : World} {from to number : ℕ} {d : Data} (x : Message)
+    → ShowsWorld n w → from < length n → to < length n → released w from to number ≡ Some x
+    → plain_data d ≡ data_frame from to number x.stamp x.body
+    → Gives n w to (event.Data d) (step.Deliver from to number) outcome.Answer
+unfolding take_step
+delivery-gives {w = w} {from = from} {to = to} {number = number} {d = d} x shown less below there
+    same =
+    let are = are-nodes shown from to less below in
+    let received = act-receives (node_at w.current to) d from to number x same in
+    let sender : d.from ≡ from = cc in
+    let place : d.number ≡ number = cc in
+    moves shown refl refl
+    (cond-true _ _ _ are ∙ ap (delivery w from to number) there ∙ ap (moved w to) (sym received))
+    (λ free. rw (sender, place) (next-free _ _ _ x are there free))
+
+pub delivery-lets-go : (from to number : ℕ) (d : Data)
+    → LetsGo to (event.Data d) (step.Deliver from to number) outcome.Answer
+delivery-lets-go from to number d =
+    lets-nothing-go to (event.Data d) (step.Deliver from to number) refl (λ all x. refl)
+
 module _ {n : List SiteView} {from to number : ℕ} {bytes : List ℕ} (apart : from ≢ to)
     (there : frame_at n from to number ≡ Some bytes) where
-  found : (w : World) → ShowsWorld n w → IsReleased w from to number bytes
+  pub found : (w : World) → ShowsWorld n w → IsReleased w from to number bytes
   found w h =
       released-as w from to number (released w from to number) refl
       (above-zero n from to number bytes there)
@@ -121,19 +142,8 @@ module _ {n : List SiteView} {from to number : ℕ} {bytes : List ℕ} (apart : 
       → Given r n m to (event.Data d)
       → ((x : Plain) → Fits x → bytes ≡ spelling x → plain_data d ≡ x)
       → Stepped (outcome_by outcome.Answer r) n m (step.Deliver from to number)
-  unfolding take_step
   delivered {d = d} less h reads =
-      given h (lets-nothing-go to (event.Data d) (step.Deliver from to number) refl (λ all x. refl))
-      (λ saves. saves)
+      given h (delivery-lets-go from to number d) (λ saves. saves)
       (λ w shown.
       let x = found w shown in
-      let are = are-nodes shown from to less h.within in
-      let same : plain_data d ≡ data_frame from to number x.message.stamp x.message.body =
-      reads _ x.fits x.spelled in
-      let received = act-receives (node_at w.current to) d from to number x.message same in
-      let sender : d.from ≡ from = cc in
-      let place : d.number ≡ number = cc in
-      moves shown refl refl
-      (cond-true _ _ _ are ∙ ap (delivery w from to number) x.there
-      ∙ ap (moved w to) (sym received))
-      (λ free. rw (sender, place) (next-free _ _ _ x.message are x.there free)))
+      delivery-gives x.message shown less h.within x.there (reads _ x.fits x.spelled))

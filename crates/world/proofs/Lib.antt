@@ -9,6 +9,7 @@ pub mod Shows
 pub mod Steps
 pub mod Deliveries
 pub mod Acks
+pub mod Held
 pub mod New
 pub mod Runs
 pub mod Finding

@@ -67,6 +67,7 @@ event-tests p event.Begin = refl
 event-tests p event.Scan = refl
 event-tests p event.Pass = refl
 event-tests p (event.Sweep count) = refl
+event-tests p (event.Next from) = refl
 event-tests p (event.Data d) = refl
 event-tests p (event.Ack a) = refl
 

@@ -3,6 +3,8 @@ use Rattle.std.proofs.Common.{◌≡◌, ℕ, zero, suc, ◌<◌, List, [], ◌�
 use Rattle.std.specs.List.{range_with_len}
 use Rattle.std.proofs.lemmas.List.{length-map}
 use Rattle.std.proofs.lemmas.List.FromFn.{get_or-map-range_with_len, length-map-range_with_len}
+use Rattle.std.proofs.lemmas.Simd.{map-map}
+use Rattle.msg.specs.declared.frame.Data.{Data}
 use Rattle.ids.specs.Limits.{Shaped, IsShape}
 use Rattle.model.specs.State.{NodeState, new_node, no_node, sent_to}
 use Rattle.model.specs.View.{Link, new_view}
@@ -11,8 +13,10 @@ use Rattle.model.proofs.Lookups.{get_or-replicate_any}
 use Rattle.model.proofs.NewNodes.{new-link, nothing-sent, new-shown, new-counted}
 use Rattle.laws.proofs.KeepsSent.{new-keeps-sent}
 use Rattle.world.specs.Outboxes.{IsFrameOf}
-use Rattle.world.specs.Sites.{SiteView, frames_to, new_site}
+use Rattle.world.specs.Sites.{SiteView, KeepingSite, frames_to, new_site, new_keeping}
+use Rattle.world.specs.Spaces.{IsOfNet, ShowsSpace, early_of, site_of, space_of}
 use Rattle.world.specs.Shows.{ShowsNode, ShowsWorld, IsPlaced, IsSim, no_site}
+use Rattle.node.proofs.Kept.{of-none}
 
 abbrev pub new_sites : Shaped → List SiteView
 new_sites shape = map (new_site shape) (range_with_len 0 shape.nodes)
@@ -79,3 +83,34 @@ new-sim shape h =
       saved = λ i less. subst (λ (q : SiteView). IsPlaced (length (new_sites shape)) i q.saved)
           (sym (there i less)) (record { own = refl; nodes = sym width });
     }
+
+-- ---- with what the nodes keep
+
+abbrev pub new_sites_keeping : Shaped → List KeepingSite
+new_sites_keeping shape = map (new_keeping shape) (range_with_len 0 shape.nodes)
+
+sites-alone : (shape : Shaped) → map site_of (new_sites_keeping shape) ≡ new_sites shape
+sites-alone shape = map-map site_of (new_keeping shape) (range_with_len 0 shape.nodes)
+
+-- no node keeps anything
+nothing-kept : (P : ℕ → Data → Type 0) (shape : Shaped) (xs : List ℕ) (k : ℕ)
+    → OfAll P (get_or (map early_of (map (new_keeping shape) xs)) k [])
+nothing-kept P shape [] k = of-none P 0
+nothing-kept P shape (x ∷ xs) zero = of-none P shape.nodes
+nothing-kept P shape (x ∷ xs) (suc k) = nothing-kept P shape xs k
+
+pub new-space-shows : (shape : Shaped)
+    → ShowsSpace (space_of (new_sites_keeping shape)) (new_world shape)
+new-space-shows shape =
+    let all : List KeepingSite = new_sites_keeping shape in
+    record {
+      world =
+          subst (λ (z : List SiteView). ShowsWorld z (new_world shape)) (sym (sites-alone shape))
+          (new-shows shape);
+      width = length-map all early_of ∙ sym (length-map all site_of);
+      held = λ i. nothing-kept (IsOfNet (new_world shape) i) shape (range_with_len 0 shape.nodes) i;
+    }
+
+pub new-space-sim : (shape : Shaped) → IsShape shape
+    → IsSim (map site_of (new_sites_keeping shape))
+new-space-sim shape h = subst IsSim (sym (sites-alone shape)) (new-sim shape h)

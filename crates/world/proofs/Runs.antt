@@ -3,9 +3,8 @@ use Rattle.std.proofs.Common.{◌≡◌, List, [], ◌∷◌, ◌++◌, Result, 
 use Rattle.ids.specs.declared.refusal.Refusal.{Refusal}
 use Rattle.model.specs.declared.step.Step.{Step}
 use Rattle.model.specs.declared.step.Outcome.{Outcome}
-use Rattle.model.specs.World.{World, FollowsStep, new_world, take_step, is_shading_step, world_after, happens, run}
-use Rattle.world.specs.Sites.{SiteView}
-use Rattle.world.specs.Shows.{ShowsWorld, ExtendsRun}
+use Rattle.model.specs.World.{World, new_world, take_step, is_shading_step, world_after, happens, run}
+use Rattle.world.specs.Spaces.{SpaceView, ShowsSpace, FollowsSpace, ExtendsSpace, step_met}
 use Rattle.world.proofs.Refusals.{refused-as, step-first}
 
 run-push : (w : World) (steps : List Step) (s : Step)
@@ -13,19 +12,20 @@ run-push : (w : World) (steps : List Step) (s : Step)
 run-push w [] s = refl
 run-push w (t ∷ ts) s = run-push (happens w t) ts s
 
-pub extends_run : (r : Result Outcome Refusal) (n m : List SiteView) (s : Step)
-    → ((w : World) → ShowsWorld n w → FollowsStep ShowsWorld w s r m)
-    → ExtendsRun r n m s
-extends_run (Ok o) n m s follows shape steps h taken short =
+pub extends_space : (r : Result Outcome Refusal) (n m : SpaceView) (s : Step)
+    → FollowsSpace r n m s → ExtendsSpace r n m s
+extends_space (Ok o) n m s follows shape steps h taken short =
     let w : World = run (new_world shape) steps in
     let after = follows w h in
-    subst (ShowsWorld m) (sym (run-push (new_world shape) steps s ∙ ap (world_after w) after.1))
+    subst (ShowsSpace m)
+    (sym (run-push (new_world shape) steps (step_met n s) ∙ ap (world_after w) after.1))
     after.2
-extends_run (Err e) n m s follows shape steps h taken short =
+extends_space (Err e) n m s follows shape steps h taken short =
     let w : World = run (new_world shape) steps in
+    let t : Step = step_met n s in
     let after = follows w h in
-    let first = step-first w e (λ size. short (ap (λ z. Err z) size)) s after.0 in
-    let stepped = refused-as (is_shading_step s) (take_step w s) e first
+    let first = step-first w e (λ size. short (ap (λ z. Err z) size)) t after.0 in
+    let stepped = refused-as (is_shading_step t) (take_step w t) e first
     (λ memory. taken (ap (λ z. Err z) memory)) in
-    subst (ShowsWorld m) (sym (run-push (new_world shape) steps s ∙ ap (world_after w) stepped))
+    subst (ShowsSpace m) (sym (run-push (new_world shape) steps t ∙ ap (world_after w) stepped))
     after.1

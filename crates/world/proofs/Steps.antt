@@ -1,6 +1,6 @@
 -- Each step of the code's space is the step of the definitions.
 use Rattle.std.proofs.Common.{◌≡◌, ◌≢◌, ℕ, ◌<◌, ◌≤◌, subst, true, false, ◌&&◌, List, length, set, slice_get, ⊎_elim, Some, None, Result, Ok, Err, ◌⊎◌, inl, inr, refl, ap, sym, ◌∙◌, arith}
-use Rattle.std.specs.Prelude.{IsOk, IfErr, ◌↔◌}
+use Rattle.std.specs.Prelude.{IsOk, IfOk, IfErr, OnErr, ◌↔◌}
 use Rattle.std.specs.Option.{option_map}
 use Rattle.std.proofs.Math.ListN.{get_or-map}
 use Rattle.std.proofs.lemmas.Option.{same_Some, none-some, slice_get-get_or, slice_get_past}
@@ -180,37 +180,74 @@ bases-changed {n = n} {i = i} {p = p} f c is =
     ∙ ap (set (bases_of n) i)
     (is ∙ ap f (ap site_bases c.old ∙ sym (get_or-map site_bases n i no_site)))
 
-pub given : {n m : List SiteView} {i : ℕ} {e : Event} {s : Step} {o : Answer → Outcome}
-    {r : Result Answer Refusal} → Given r n m i e → LetsGo i e s o → (SavesTooLarge n s → ⊥)
-    → ((w : World) → ShowsWorld n w → Gives n w i e s o) → Stepped (outcome_by o r) n m s
-given {n = n} {m = m} {i = i} {e = e} {s = s} {r = Err f} h lets_go short gives =
+-- what becomes of it in one space that is shown
+pub given-follows : {n m : List SiteView} {i : ℕ} {e : Event} {s : Step} {o : Answer → Outcome}
+    {w : World} (r : Result Answer Refusal) → Given r n m i e → ShowsWorld n w → Gives n w i e s o
+    → FollowsStep ShowsWorld w s (outcome_by o r) m
+given-follows {n = n} {m = m} {i = i} {e = e} {s = s} {w = w} (Err f) h shown gives =
     let c : Changes n m i (site_at n i) h.site =
     record { within = h.within; old = refl; new = h.others } in
-    refusing-other s f (unchanged-sites c h.acted.unchanged)
-    (λ w shown. (gives w shown).refuses f h.acted.performs)
-    (event-other _ (site_at n i).current e f h.acted.performs) short
-    (λ w shown free. h.acted.memory_free ((gives w shown).free free))
-given {n = n} {m = m} {i = i} {e = e} {s = s} {o = o} {r = Ok x} h lets_go short gives =
+    let other : f ≢ ImageTooLarge = event-other _ (site_at n i).current e f h.acted.performs in (
+      step-refused w f other s (gives.refuses f h.acted.performs),
+      rw (unchanged-sites c h.acted.unchanged) shown,
+    )
+given-follows {n = n} {m = m} {i = i} {e = e} {s = s} {o = o} {w = w} (Ok x) h shown gives =
     let q : SiteView = site_at n i in
     let acted = h.acted in
     let c : Changes n m i q h.site = record { within = h.within; old = refl; new = h.others } in
-    let u : NodeView = q.current in
-    let v : NodeView = h.site.current in
-    let row : site_bases h.site ≡ record (site_bases q)
-    { current = bases_acked (bases u) (ack_of e) } =
-    ap site_bases acted.others ∙ ap (λ z. record (site_bases q) { current = z }) acted.lets_go in
-    answering s (o x)
-    (λ w shown.
     let was = (shown.each i).current in
-    let after = act-shown u v e (Ok x) acted.performs (node_at w.current i) was.shows in
-    let stepped = (gives w shown).answers v after.0 x acted.performs after.1 in
-    let node = node-moved (ack_of e) was acted.leaves after.2 acted.lets_go
-    (gives w shown).within in
+    let after = act-shown q.current h.site.current e (Ok x) acted.performs (node_at w.current i)
+    was.shows in
+    let stepped = gives.answers h.site.current after.0 x acted.performs after.1 in
+    let node = node-moved (ack_of e) was acted.leaves after.2 acted.lets_go gives.within in
     let space = shows-moved c s (o x) shown stepped acted.others node in
-    (record w { current = set w.current i after.0 }, stepped, space))
-    short
-    (bases-changed (λ b. record b { current = bases_acked b.current (ack_of e) }) c row
-    ∙ sym (lets_go (bases_of n) x))
+    (record w { current = set w.current i after.0 }, stepped, space)
+
+pub given-free : {n m : List SiteView} {i : ℕ} {e : Event} {s : Step} {o : Answer → Outcome}
+    {w : World} (r : Result Answer Refusal) → Given r n m i e → Gives n w i e s o
+    → is_step_memory_free w s ≡ true → IfErr (outcome_by o r) (λ f. f ≢ Memory)
+given-free (Err f) h gives free = h.acted.memory_free (gives.free free)
+given-free (Ok x) h gives free = tt
+
+pub given-unchanged : {n m : List SiteView} {i : ℕ} {e : Event} (o : Answer → Outcome)
+    (r : Result Answer Refusal) → Given r n m i e → OnErr (outcome_by o r) (m ≡ n)
+given-unchanged {n = n} {m = m} {i = i} o (Err f) h =
+    let c : Changes n m i (site_at n i) h.site =
+    record { within = h.within; old = refl; new = h.others } in
+    unchanged-sites c h.acted.unchanged
+given-unchanged o (Ok x) h = tt
+
+pub given-small : {n m : List SiteView} {i : ℕ} {e : Event} (o : Answer → Outcome)
+    (r : Result Answer Refusal) → Given r n m i e → outcome_by o r ≢ Err ImageTooLarge
+given-small {n = n} {i = i} {e = e} o (Err f) h is =
+    event-other _ (site_at n i).current e f h.acted.performs
+    (let size : f ≡ ImageTooLarge = cc in size)
+given-small o (Ok x) h is = absurd cc
+
+pub given-lets-go : {n m : List SiteView} {i : ℕ} {e : Event} (s : Step) (o : Answer → Outcome)
+    (r : Result Answer Refusal) → Given r n m i e → LetsGo i e s o
+    → IfOk (outcome_by o r) (λ x. bases_of m ≡ bases_after (bases_of n) s x)
+given-lets-go s o (Err f) h lets_go = tt
+given-lets-go {n = n} {m = m} {i = i} {e = e} s o (Ok x) h lets_go =
+    let q : SiteView = site_at n i in
+    let acted = h.acted in
+    let c : Changes n m i q h.site = record { within = h.within; old = refl; new = h.others } in
+    let row : site_bases h.site ≡ record (site_bases q)
+    { current = bases_acked (bases q.current) (ack_of e) } =
+    ap site_bases acted.others ∙ ap (λ z. record (site_bases q) { current = z }) acted.lets_go in
+    bases-changed (λ b. record b { current = bases_acked b.current (ack_of e) }) c row
+    ∙ sym (lets_go (bases_of n) x)
+
+pub given : {n m : List SiteView} {i : ℕ} {e : Event} {s : Step} {o : Answer → Outcome}
+    {r : Result Answer Refusal} → Given r n m i e → LetsGo i e s o → (SavesTooLarge n s → ⊥)
+    → ((w : World) → ShowsWorld n w → Gives n w i e s o) → Stepped (outcome_by o r) n m s
+given {s = s} {o = o} {r = r} h lets_go short gives = record {
+  follows = λ w shown. given-follows r h shown (gives w shown);
+  too_large = (λ is. absurd (given-small o r h is), λ saves. absurd (short saves));
+  unchanged = given-unchanged o r h;
+  lets_go = given-lets-go s o r h lets_go;
+  memory_free = λ w shown free. given-free r h (gives w shown) free;
+}
 
 -- a step that moves a node by an event that is no acknowledgement
 pub moves : {n : List SiteView} {w : World} {i : ℕ} {e : Event} {s : Step} → ShowsWorld n w

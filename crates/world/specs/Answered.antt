@@ -9,25 +9,24 @@ use Rattle.model.specs.World.{World, new_world, happens, run}
 use Rattle.model.specs.Cuts.{cut}
 use Rattle.laws.specs.Objects.{new_space, Sight, IsRun, after}
 use Rattle.laws.specs.Sights.{seen, at_first, LooksLike}
-use Rattle.world.specs.Sites.{SiteView}
-use Rattle.world.specs.Shows.{ShowsWorld, FollowsShown}
+use Rattle.world.specs.Spaces.{SpaceView, ShowsSpace, FollowsSpace, step_met}
 
 -- a call of `Sim::step`: the step, what was answered, and the space of the code then
 pub record Call : Type 0 where
   pub step : Step
   pub result : Result Outcome Refusal
-  pub sites : List SiteView
+  pub space : SpaceView
 
 -- calls one after another, of each of which the contract of `Sim::step` says so much (`follows`)
-abbrev pub AreCalls : List SiteView → List Call → Type 0
+abbrev pub AreCalls : SpaceView → List Call → Type 0
 AreCalls old [] = Unit {0}
 AreCalls old (k ∷ ks) =
-    FollowsShown k.result old k.sites k.step × AreCalls k.sites ks
+    FollowsSpace k.result old k.space k.step × AreCalls k.space ks
 
 -- the space of the code after them
-abbrev pub sites_after : List SiteView → List Call → List SiteView
-sites_after old [] = old
-sites_after old (k ∷ ks) = sites_after k.sites ks
+abbrev pub space_after : SpaceView → List Call → SpaceView
+space_after old [] = old
+space_after old (k ∷ ks) = space_after k.space ks
 
 -- Whether a call took a step of the definitions. What is refused for memory, or of an image that is
 -- too large, is refused by the code alone.
@@ -36,18 +35,22 @@ is_taken (Err Memory) = false
 is_taken (Err ImageTooLarge) = false
 is_taken r = true
 
-abbrev pub steps_of : List Call → List Step
-steps_of [] = []
-steps_of (k ∷ ks) = cond (is_taken k.result) (k.step ∷ steps_of ks) (steps_of ks)
+-- The steps that were taken, as the definitions have them: Next of a frame that waits is its
+-- delivery.
+abbrev pub steps_of : SpaceView → List Call → List Step
+steps_of old [] = []
+steps_of old (k ∷ ks) =
+    cond (is_taken k.result) (step_met old k.step ∷ steps_of k.space ks) (steps_of k.space ks)
 
 -- What was seen, by what the calls answered, as far as the cut has it that the choice picks at the
 -- end. Which message a delivery is of, the space of the definitions says.
-abbrev pub sights : World → List Call → (ℕ → Bool) → List Sight
-sights w [] choice = []
-sights w (k ∷ ks) choice =
+abbrev pub sights : World → SpaceView → List Call → (ℕ → Bool) → List Sight
+sights w old [] choice = []
+sights w old (k ∷ ks) choice =
     cond (is_taken k.result)
-    (seen w (at_first (steps_of ks) choice) k.step k.result ++ sights (happens w k.step) ks choice)
-    (sights w ks choice)
+    (seen w (at_first (steps_of k.space ks) choice) (step_met old k.step) k.result
+    ++ sights (happens w (step_met old k.step)) k.space ks choice)
+    (sights w k.space ks choice)
 
 -- What programs see of the code: what the calls answered, seen so, is a run of a space without a
 -- collector, in each choice of current and saved states; the space of the code then shows what the
@@ -55,9 +58,9 @@ sights w (k ∷ ks) choice =
 abbrev pub AnswersAreUnseen : Type 0
 AnswersAreUnseen =
     (shape : Shaped) → IsShape shape
-    → (old : List SiteView) (calls : List Call) (choice : ℕ → Bool)
-    → ShowsWorld old (new_world shape) → AreCalls old calls
-    → IsRun shape.nodes (new_space shape) (sights (new_world shape) calls choice)
-    × ShowsWorld (sites_after old calls) (run (new_world shape) (steps_of calls))
-    × LooksLike (after (new_space shape) (sights (new_world shape) calls choice))
-    (cut (run (new_world shape) (steps_of calls)) choice)
+    → (old : SpaceView) (calls : List Call) (choice : ℕ → Bool)
+    → ShowsSpace old (new_world shape) → AreCalls old calls
+    → IsRun shape.nodes (new_space shape) (sights (new_world shape) old calls choice)
+    × ShowsSpace (space_after old calls) (run (new_world shape) (steps_of old calls))
+    × LooksLike (after (new_space shape) (sights (new_world shape) old calls choice))
+    (cut (run (new_world shape) (steps_of old calls)) choice)

@@ -6,4 +6,5 @@ pub mod Sites
 pub mod InsideSite
 pub mod Shows
 pub mod Reach
+pub mod Spaces
 pub mod Answered

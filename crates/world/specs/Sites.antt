@@ -6,8 +6,10 @@ use Rattle.ids.specs.declared.refusal.Refusal.TheVariants.{Memory}
 use Rattle.msg.specs.declared.frame.Ack.{Ack}
 use Rattle.model.specs.declared.event.Event.{Event}
 use Rattle.model.specs.declared.event.Answer.{Answer}
+use Rattle.model.specs.declared.event.Answer.TheVariants as answer
 use Rattle.model.specs.Steps.{ack_of, is_memory_free, is_shading}
 use Rattle.model.specs.View.{NodeView, Performs, Leaves, view_act, new_view, kept_view, link_to, used, base_of}
+use Rattle.node.specs.Keeping.{Rings, WholeNode, AreKeptIn, no_rings, met, early_after}
 use Rattle.world.specs.Outboxes.{Releases}
 
 pub record SiteView : Type 0 where
@@ -73,3 +75,32 @@ pub record Saves (old new : SiteView) : Type 0 where
   pub current : new.current ≡ kept_view old.current
   pub saved : new.saved ≡ kept_view old.current
   pub frames : Releases old.current old.released new.released
+
+-- ---- what the current node keeps until its turn
+
+-- A site, and beside it what its current node keeps. That is in no saved node.
+pub record KeepingSite : Type 0 where
+  pub site : SiteView
+  pub early : Rings
+
+abbrev pub new_keeping : Shaped → ℕ → KeepingSite
+new_keeping shape own = record { site = new_site shape own; early = no_rings shape.nodes }
+
+abbrev pub whole_at : KeepingSite → WholeNode
+whole_at q = record { core = q.site.current; early = q.early }
+
+-- the saved node is the current one again, and keeps nothing
+abbrev pub restarted : KeepingSite → KeepingSite
+restarted q = record {
+  site = record q.site { current = q.site.saved };
+  early = no_rings q.site.saved.local.shape.nodes;
+}
+
+-- What the current node answered to an event, and the site after it: what is done to the core, and
+-- what is kept then.
+pub record ActedKeeping (result : Result Answer Refusal) (old new : KeepingSite) (e : Event) : Type 0
+  where
+    pub acted : Acted result old.site new.site (met old.early e)
+    pub early : new.early ≡ early_after old.site.current.local old.early e result
+    pub turn : met old.early e ≢ e → IfOk result (λ a. a ≡ answer.Received)
+    pub kept : AreKeptIn (whole_at new)

@@ -8,7 +8,7 @@ ghost use Rattle.world.specs.Outboxes.{no_outbox, released_frames, all_released,
 use crate::frames::Frames;
 use ids::Refusal;
 use msg::encode;
-use node::Node;
+use node::Core;
 use std::alloc::Global;
 use std::marker::Model;
 
@@ -58,7 +58,7 @@ impl Outbox {
 
     /// Makes the frames of all messages to the node `to` that follow the released ones, and
     /// releases none. `Memory` where a growth was refused.
-    pub fn stage(&mut self, alloc: Global, node: &Node, to: u8) -> Result<(), Refusal>
+    pub fn stage(&mut self, alloc: Global, node: &Core, to: u8) -> Result<(), Refusal>
         requires other { IsTrue (is_other node.now.local to) }
         requires kept { (link_to node.now to).base ≤ length (released_frames self.old) }
         ensures released { released_frames self.new ≡ released_frames self.old }
@@ -78,7 +78,7 @@ impl Outbox {
     }
 }
 
-fn stage_frames(alloc: Global, frames: &mut Frames, node: &Node, to: u8) -> Result<(), Refusal>
+fn stage_frames(alloc: Global, frames: &mut Frames, node: &Core, to: u8) -> Result<(), Refusal>
     requires other { IsTrue (is_other node.now.local to) }
     requires kept { (link_to node.now to).base ≤ length frames.old }
     ensures kept { take (length frames.old) frames.new ≡ frames.old }
@@ -109,7 +109,7 @@ pub fn new_outboxes(alloc: Global, count: u8) -> Result<Vec<Outbox>, Refusal>
 
 /// Makes and releases the frames of all messages that the node has appended since the released
 /// ones, to each other node. `Memory` where a growth was refused; then none is released.
-pub fn release_all(alloc: Global, row: &mut [Outbox], node: &Node) -> Result<(), Refusal>
+pub fn release_all(alloc: Global, row: &mut [Outbox], node: &Core) -> Result<(), Refusal>
     requires row { length row.old ≡ node.now.local.shape.nodes }
     requires kept { HasFrames node.now (map released_frames row.old) }
     ensures done { OnOk result
@@ -124,7 +124,7 @@ pub fn release_all(alloc: Global, row: &mut [Outbox], node: &Node) -> Result<(),
 }
 
 /// Makes these frames, and releases none.
-fn stage_all(alloc: Global, row: &mut [Outbox], node: &Node) -> Result<(), Refusal>
+fn stage_all(alloc: Global, row: &mut [Outbox], node: &Core) -> Result<(), Refusal>
     requires row { length row.old ≡ node.now.local.shape.nodes }
     requires kept { HasFrames node.now (map released_frames row.old) }
     ensures released { map released_frames row.new ≡ map released_frames row.old }

@@ -16,7 +16,7 @@ use crate::sim::Sim;
 use ids::{Ref, Refusal};
 use indexmap::IndexSet;
 use msg::{Body, Message};
-use node::Node;
+use node::Core;
 use std::alloc::Global;
 
 /// The references that can be reached where of each node the saved state is taken for which `saved`
@@ -26,9 +26,9 @@ use std::alloc::Global;
 /// tests: it makes the saved nodes from their images, looks at all nodes, and at every message that
 /// they keep, and takes time in proportion to these and to the objects that it finds.
 pub fn reach(alloc: Global, sim: &Sim, saved: &[bool]) -> Result<Vec<Ref>, Refusal>
-    requires width { length saved.now ≡ length sim.now }
+    requires width { length saved.now ≡ length sim.now.sites }
     ensures reached { (shape : Shaped) (steps : List Step) → IsShape shape
-        → ShowsWorld sim.now (run (new_world shape) steps)
+        → ShowsWorld sim.now.sites (run (new_world shape) steps)
         → IfOk result (λ rs. (r : Ref) → Among r rs.items ↔ Reachable
         (cut (run (new_world shape) steps) (λ i. slice_index_or saved.now i false)) r) }
     ensures sorted { IfOk result (λ rs. IsSorted in_order rs.items) }
@@ -49,10 +49,10 @@ pub(crate) fn read_saved(
     alloc: Global,
     sim: &Sim,
     saved: &[bool],
-) -> Result<Vec<Option<Node>>, Refusal>
-    requires width { length saved.now ≡ length sim.now }
-    ensures read { IfOk result (λ v. AreRead sim.now saved.now v.items) }
-    ensures width { IfOk result (λ v. length v.items ≡ length sim.now) }
+) -> Result<Vec<Option<Core>>, Refusal>
+    requires width { length saved.now ≡ length sim.now.sites }
+    ensures read { IfOk result (λ v. AreRead sim.now.sites saved.now v.items) }
+    ensures width { IfOk result (λ v. length v.items ≡ length sim.now.sites) }
     ensures refused { IfErr result (λ e. e ≡ Memory) }
 {
     let mut read = Vec::new(alloc);
@@ -68,21 +68,22 @@ pub(crate) fn read_saved(
 }
 
 /// The node of this number that was read, or else the current one.
-pub(crate) fn chosen<'a>(sim: &'a Sim, read: &'a [Option<Node>], number: u8) -> &'a Node
-    requires width { length read.now ≡ length sim.now }
-    requires there { number < length sim.now }
-    ensures { result.now ≡ chosen sim.now read.now number }
+pub(crate) fn chosen<'a>(sim: &'a Sim, read: &'a [Option<Core>], number: u8) -> &'a Core
+    requires width { length read.now ≡ length sim.now.sites }
+    requires there { number < length sim.now.sites }
+    ensures { result.now ≡ chosen sim.now.sites read.now number }
 {
     match &read[usize::from(number)] {
         Some(node) => node,
-        None => sim.site(number).node(),
+        None => sim.site(number).node().core(),
     }
 }
 
 /// Adds what all registers and letters hold, and what messages in flight carry.
-fn add_roots(found: &mut IndexSet<Ref>, sim: &Sim, read: &[Option<Node>]) -> Result<(), Refusal>
-    requires width { length read.now ≡ length sim.now }
-    ensures done { OnOk result (Adds found.old.keys found.new.keys (IsRoot sim.now read.now)) }
+fn add_roots(found: &mut IndexSet<Ref>, sim: &Sim, read: &[Option<Core>]) -> Result<(), Refusal>
+    requires width { length read.now ≡ length sim.now.sites }
+    ensures done { OnOk result
+        (Adds found.old.keys found.new.keys (IsRoot sim.now.sites read.now)) }
     ensures refused { IfErr result (λ e. e ≡ Memory) }
 {
     for number in 0..sim.count() {
@@ -93,7 +94,7 @@ fn add_roots(found: &mut IndexSet<Ref>, sim: &Sim, read: &[Option<Node>]) -> Res
 }
 
 /// Adds what the node's registers and letters hold.
-fn add_held(found: &mut IndexSet<Ref>, node: &Node) -> Result<(), Refusal>
+fn add_held(found: &mut IndexSet<Ref>, node: &Core) -> Result<(), Refusal>
     ensures done { OnOk result (Adds found.old.keys found.new.keys (IsHeld node.now)) }
     ensures refused { IfErr result (λ e. e ≡ Memory) }
 {
@@ -107,13 +108,13 @@ fn add_held(found: &mut IndexSet<Ref>, node: &Node) -> Result<(), Refusal>
 fn add_links(
     found: &mut IndexSet<Ref>,
     sim: &Sim,
-    read: &[Option<Node>],
+    read: &[Option<Core>],
     from: u8,
 ) -> Result<(), Refusal>
-    requires width { length read.now ≡ length sim.now }
-    requires there { from < length sim.now }
+    requires width { length read.now ≡ length sim.now.sites }
+    requires there { from < length sim.now.sites }
     ensures done { OnOk result
-        (Adds found.old.keys found.new.keys (IsLinked sim.now read.now from)) }
+        (Adds found.old.keys found.new.keys (IsLinked sim.now.sites read.now from)) }
     ensures refused { IfErr result (λ e. e ≡ Memory) }
 {
     let sender = chosen(sim, read, from);
@@ -124,7 +125,7 @@ fn add_links(
 }
 
 /// Adds what the messages of one node carry that the other hasn't taken in.
-fn add_carried(found: &mut IndexSet<Ref>, from: &Node, to: &Node) -> Result<(), Refusal>
+fn add_carried(found: &mut IndexSet<Ref>, from: &Core, to: &Core) -> Result<(), Refusal>
     ensures done { OnOk result (Adds found.old.keys found.new.keys (IsCarried from.now to.now)) }
     ensures refused { IfErr result (λ e. e ≡ Memory) }
 {
@@ -165,10 +166,10 @@ fn carried(body: Body) -> [Option<Ref>; 2]
 }
 
 /// Adds all that stands in the places of what was found, and of what is added so.
-fn follow(found: &mut IndexSet<Ref>, sim: &Sim, read: &[Option<Node>]) -> Result<(), Refusal>
-    requires width { length read.now ≡ length sim.now }
+fn follow(found: &mut IndexSet<Ref>, sim: &Sim, read: &[Option<Core>]) -> Result<(), Refusal>
+    requires width { length read.now ≡ length sim.now.sites }
     ensures done { OnOk result
-        (Follows (chosen sim.now read.now) found.old.keys found.new.keys) }
+        (Follows (chosen sim.now.sites read.now) found.old.keys found.new.keys) }
     ensures refused { IfErr result (λ e. e ≡ Memory) }
 {
     for next in 0..usize::MAX {
@@ -184,7 +185,7 @@ fn follow(found: &mut IndexSet<Ref>, sim: &Sim, read: &[Option<Node>]) -> Result
 }
 
 /// Adds what stands in the places of the node's object, while it is live.
-fn add_standing(found: &mut IndexSet<Ref>, node: &Node, reference: Ref) -> Result<(), Refusal>
+fn add_standing(found: &mut IndexSet<Ref>, node: &Core, reference: Ref) -> Result<(), Refusal>
     ensures done { OnOk result (Adds found.old.keys found.new.keys (Standing node.now reference)) }
     ensures refused { IfErr result (λ e. e ≡ Memory) }
 {

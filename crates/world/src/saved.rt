@@ -3,8 +3,8 @@ ghost use Rattle.ids.specs.declared.refusal.Refusal.TheVariants.{Memory};
 ghost use Rattle.image.specs.Nodes.{IsImageOf};
 
 use ids::Refusal;
-use image::from_bytes;
-use node::Node;
+use image::core_from_bytes;
+use node::Core;
 use std::alloc::Global;
 use std::marker::Model;
 use std::snapshot::Snapshot;
@@ -14,7 +14,7 @@ use std::snapshot::Snapshot;
 pub struct SavedNode {
     image: Vec<u8>,
     // The node that the image says, for proofs alone: it has no bytes.
-    says: Snapshot<Node>,
+    says: Snapshot<Core>,
 }
 
 impl Model for SavedNode {
@@ -31,7 +31,7 @@ impl Model for SavedNode {
 
 impl SavedNode {
     /// This node, which was saved as this image.
-    pub fn new(image: Vec<u8>, node: &Node) -> SavedNode
+    pub fn new(image: Vec<u8>, node: &Core) -> SavedNode
         requires { IsImageOf image.items node.now }
         ensures { result ≡ node.now }
     {
@@ -42,10 +42,10 @@ impl SavedNode {
     }
 
     /// The node that was saved, made from its image. `Memory` where a growth was refused.
-    pub fn read(&self, alloc: Global) -> Result<Node, Refusal>
+    pub fn read(&self, alloc: Global) -> Result<Core, Refusal>
         ensures same { IfOk result (λ n. n ≡ self.now) }
         ensures refused { IfErr result (λ e. e ≡ Memory) }
     {
-        from_bytes(alloc, &self.image)
+        core_from_bytes(alloc, &self.image)
     }
 }

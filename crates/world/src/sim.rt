@@ -1,11 +1,31 @@
-ghost use Rattle.std.specs.Prelude.{◌≡◌, ◌<◌, length, slice_get, Err, IsTrue, IfOk, IfErr, OnErr, ◌≢◌, ◌↔◌};
+ghost use Rattle.std.specs.Prelude.{◌≡◌, ◌<◌, length, slice_get, Err, IsTrue, IfOk, IfErr, OnErr, ◌≢◌, ◌↔◌, replicate};
 ghost use Rattle.std.specs.Option.{option_copied, option_map};
 ghost use Rattle.ids.specs.declared.refusal.Refusal.TheVariants.{Memory, ImageTooLarge};
 ghost use Rattle.model.specs.Steps.{is_own};
+ghost use Rattle.node.specs.Keeping.{no_rings};
 ghost use Rattle.node.specs.Summaries.{summary_of};
 ghost use Rattle.model.specs.World.{World, new_world, is_own_step, is_step_memory_free};
 ghost use Rattle.model.specs.declared.step.Step.TheVariants as step;
-ghost use Rattle.world.specs.Shows.{ShowsWorld, SavesTooLarge, IsSmall, FollowsShown, Stepped, ExtendsRun, Given, IsAckOf, bases_of, bases_after, frame_at, site_at, summary_at};
+ghost use Rattle.world.specs.Shows.{
+  ShowsWorld,
+  SavesTooLarge,
+  IsSmall,
+  IsAckOf,
+  bases_of,
+  bases_after,
+  frame_at,
+  site_at,
+  summary_at,
+};
+ghost use Rattle.world.specs.Spaces.{
+  ShowsSpace,
+  FollowsSpace,
+  SteppedSpace,
+  ExtendsSpace,
+  GivenSpace,
+  KeepsAfter,
+  step_met,
+};
 
 use crate::site::Site;
 use ids::{NodeId, Refusal, Shape};
@@ -17,6 +37,7 @@ use std::marker::Model;
 
 /// A space of nodes in one thread. It keeps for each node the current one and the image of the one
 /// last saved, and for each ordered pair of nodes the bytes of all frames that were ever released.
+/// The current ones keep messages that came before their turn, each of which was released.
 #[derive(Drop)]
 pub struct Sim {
     alloc: Global,
@@ -24,22 +45,25 @@ pub struct Sim {
 }
 
 impl Model for Sim {
-    ghost use Rattle.std.specs.Prelude.{List};
-    ghost use Rattle.world.specs.Sites.{SiteView};
+    ghost use Rattle.world.specs.Spaces.{SpaceView};
 
-    ghost Value = { List SiteView };
+    ghost Value = { SpaceView };
 
+    ghost use Rattle.std.specs.Prelude.{map};
     ghost use Rattle.world.specs.Shows.{IsSim};
+    ghost use Rattle.world.specs.Spaces.{site_of, space_of};
 
-    ghost view = { λ s. s.sites.items };
+    ghost view = { λ s. space_of s.sites.items };
 
-    ghost invariant = { λ s. IsSim s.sites.items };
+    ghost invariant = { λ s. IsSim (map site_of s.sites.items) };
 }
 
 impl Sim {
     /// A space of new nodes. `Memory` where a growth was refused.
     pub fn new(alloc: Global, shape: Shape) -> Result<Sim, Refusal>
-        ensures made { IfOk result (λ s. ShowsWorld s (new_world shape)) }
+        ensures made { IfOk result (λ s. ShowsSpace s (new_world shape)) }
+        ensures early { IfOk result (λ s.
+            s.early ≡ replicate shape.nodes (no_rings shape.nodes)) }
         ensures refused { IfErr result (λ e. e ≡ Memory) }
     {
         let mut sites = Vec::new(alloc);
@@ -52,31 +76,34 @@ impl Sim {
     /// Takes one step. `NoNode` where the step names a node that the space doesn't have, before
     /// anything else; else what the node refuses; `ImageTooLarge` where a node is to be saved whose
     /// image would be too large; and `Memory` where a growth was refused. A refused step changes
-    /// nothing. Never refused memory are the events that a node never refuses it, the delivery of
-    /// nothing or of a message that isn't the next one, an acknowledgement, and a save whose image
-    /// is too large. No image is too large that would not be with all that its node ever sent. An
-    /// acknowledgement alone lets go of messages: those up to its number. Steps one after another
-    /// are a run of the definitions, without those that are refused memory or whose image is too
-    /// large.
+    /// nothing, but that a message that waited for its turn may have left its place. Never refused
+    /// memory are the events that a node never refuses it, the delivery of nothing or of a message
+    /// that isn't the next one, an acknowledgement, and a save whose image is too large. No image
+    /// is too large that would not be with all that its node ever sent. An acknowledgement alone
+    /// lets go of messages: those up to its number. Steps one after another are a run of the
+    /// definitions, without those that are refused memory or whose image is too large; there `Next`
+    /// of a message that waits is its delivery.
     pub fn step(&mut self, step: Step) -> Result<Outcome, Refusal>
         requires own { IsTrue (is_own_step step) }
-        ensures follows { FollowsShown result self.old self.new step }
-        ensures runs { ExtendsRun result self.old self.new step }
+        ensures follows { FollowsSpace result self.old self.new step }
+        ensures runs { ExtendsSpace result self.old self.new step }
         ensures lets_go { IfOk result (λ o.
-            bases_of self.new ≡ bases_after (bases_of self.old) step o) }
-        ensures too_large { result ≡ Err ImageTooLarge ↔ SavesTooLarge self.old step }
-        ensures small { (w : World) → ShowsWorld self.old w → IsSmall w step
+            bases_of self.new.sites ≡ bases_after (bases_of self.old.sites) step o) }
+        ensures too_large { result ≡ Err ImageTooLarge ↔ SavesTooLarge self.old.sites step }
+        ensures small { (w : World) → ShowsWorld self.old.sites w → IsSmall w step
             → IfErr result (λ e. e ≢ ImageTooLarge) }
-        ensures unchanged { OnErr result (self.new ≡ self.old) }
-        ensures memory_free { (w : World) → ShowsWorld self.old w
-            → IsTrue (is_step_memory_free w step) → IfErr result (λ e. e ≢ Memory) }
+        ensures unchanged { OnErr result (self.new.sites ≡ self.old.sites) }
+        ensures early { KeepsAfter self.old step result self.new.early }
+        ensures memory_free { (w : World) → ShowsSpace self.old w
+            → IsTrue (is_step_memory_free w (step_met self.old step))
+            → IfErr result (λ e. e ≢ Memory) }
     {
         self.take(step)
     }
 
     fn take(&mut self, step: Step) -> Result<Outcome, Refusal>
         requires own { IsTrue (is_own_step step) }
-        ensures { Stepped result self.old self.new step }
+        ensures { SteppedSpace result self.old self.new step }
     {
         match step {
             Step::Act(node, event) => self.act(node, event),
@@ -89,7 +116,10 @@ impl Sim {
 
     /// The current node of this number.
     pub fn node(&self, number: u8) -> Option<&Node>
-        ensures { option_copied result ≡ option_map (λ q. q.current) (slice_get self.now number) }
+        ensures core { option_map (λ n. n.core) (option_copied result)
+            ≡ option_map (λ q. q.current) (slice_get self.now.sites number) }
+        ensures early { option_map (λ n. n.early) (option_copied result)
+            ≡ slice_get self.now.early number }
     {
         Some(self.sites.get(usize::from(number))?.node())
     }
@@ -98,30 +128,31 @@ impl Sim {
     #[tactic(auto, using(crate::proofs::Steps::state_shown))]
     pub fn state(&self, number: u8) -> Option<Summary>
         ensures here { result
-            ≡ option_map (λ q. summary_of q.current.local) (slice_get self.now number) }
-        ensures shown { (w : World) → ShowsWorld self.now w → result ≡ summary_at w number }
+            ≡ option_map (λ q. summary_of q.current.local) (slice_get self.now.sites number) }
+        ensures shown { (w : World) → ShowsWorld self.now.sites w → result ≡ summary_at w number }
     {
         Some(self.node(number)?.state())
     }
 
     /// The site of the node of this number.
     pub(crate) fn site(&self, number: u8) -> &Site
-        requires { number < length self.now }
-        ensures { result.now ≡ site_at self.now number }
+        requires { number < length self.now.sites }
+        ensures { result.now.site ≡ site_at self.now.sites number }
     {
         &self.sites[usize::from(number)]
     }
 
     /// How many nodes there are.
     pub fn count(&self) -> u8
-        ensures { result ≡ length self.now }
+        ensures value { result ≡ length self.now.sites }
+        ensures early { length self.now.early ≡ length self.now.sites }
     {
         self.sites.len() as u8
     }
 
     fn act(&mut self, node: u8, event: Event) -> Result<Outcome, Refusal>
         requires own { IsTrue (is_own event) }
-        ensures { Stepped result self.old self.new (step.Act node event) }
+        ensures { SteppedSpace result self.old self.new (step.Act node event) }
     {
         if node >= self.count() {
             return Err(Refusal::NoNode);
@@ -131,7 +162,7 @@ impl Sim {
     }
 
     fn save(&mut self, node: u8) -> Result<Outcome, Refusal>
-        ensures { Stepped result self.old self.new (step.Save node) }
+        ensures { SteppedSpace result self.old self.new (step.Save node) }
     {
         if node >= self.count() {
             return Err(Refusal::NoNode);
@@ -143,7 +174,7 @@ impl Sim {
     }
 
     fn restart(&mut self, node: u8) -> Result<Outcome, Refusal>
-        ensures { Stepped result self.old self.new (step.Restart node) }
+        ensures { SteppedSpace result self.old self.new (step.Restart node) }
     {
         if node >= self.count() {
             return Err(Refusal::NoNode);
@@ -155,7 +186,7 @@ impl Sim {
     }
 
     fn deliver(&mut self, from: u8, to: u8, number: u64) -> Result<Outcome, Refusal>
-        ensures { Stepped result self.old self.new (step.Deliver from to number) }
+        ensures { SteppedSpace result self.old self.new (step.Deliver from to number) }
     {
         let count = self.count();
         if from >= count || to >= count {
@@ -176,7 +207,7 @@ impl Sim {
     }
 
     fn hand(&mut self, from: u8, to: u8) -> Result<Outcome, Refusal>
-        ensures { Stepped result self.old self.new (step.Hand from to) }
+        ensures { SteppedSpace result self.old self.new (step.Hand from to) }
     {
         let count = self.count();
         if from >= count || to >= count {
@@ -191,10 +222,10 @@ impl Sim {
     }
 
     /// Gives the current node of this number an event. It refuses what the node refuses; then
-    /// nothing changes.
+    /// nothing changes, but that a message that waited may have left its place.
     fn give(&mut self, node: u8, event: Event) -> Result<Answer, Refusal>
-        requires { node < length self.old }
-        ensures { Given result self.old self.new node event }
+        requires { node < length self.old.sites }
+        ensures { GivenSpace result self.old self.new node event }
     {
         let site = &mut self.sites[usize::from(node)];
         site.act(event)
@@ -202,18 +233,18 @@ impl Sim {
 
     /// The bytes of the frame of this number from one node to another, if it was released.
     fn released(&self, from: u8, to: u8, number: u64) -> Option<&[u8]>
-        requires { from < length self.now }
-        ensures { option_map (λ b. b.now) result ≡ frame_at self.now from to number }
+        requires { from < length self.now.sites }
+        ensures { option_map (λ b. b.now) result ≡ frame_at self.now.sites from to number }
     {
         self.sites[usize::from(from)].frame(to, number)
     }
 
     /// What the saved node `to` acknowledges to the node `from`.
     fn acknowledgement(&self, from: u8, to: u8) -> Ack
-        requires from { from < length self.now }
-        requires to { to < length self.now }
+        requires from { from < length self.now.sites }
+        requires to { to < length self.now.sites }
         requires apart { from ≢ to }
-        ensures { IsAckOf self.now from to result }
+        ensures { IsAckOf self.now.sites from to result }
     {
         self.sites[usize::from(to)].acknowledgement(from)
     }

@@ -6,7 +6,14 @@ ghost use Rattle.image.specs.Images.{image_of};
 ghost use Rattle.model.specs.View.{is_other};
 ghost use Rattle.node.specs.Invariant.{IsNode};
 ghost use Rattle.world.specs.Outboxes.{numbered_bytes};
-ghost use Rattle.world.specs.Sites.{Acted, Saves, new_site, frames_to};
+ghost use Rattle.world.specs.Sites.{
+  ActedKeeping,
+  Saves,
+  frames_to,
+  new_keeping,
+  restarted,
+  whole_at,
+};
 
 use crate::outbox::{Outbox, new_outboxes, release_all};
 use crate::saved::SavedNode;
@@ -14,7 +21,7 @@ use ids::{NodeId, Refusal, Shape};
 use image::to_bytes;
 use model::{Answer, Event};
 use msg::{Ack, Frame};
-use node::Node;
+use node::{Core, Node};
 use std::alloc::Global;
 use std::marker::Model;
 
@@ -28,9 +35,9 @@ pub struct Site {
 }
 
 impl Model for Site {
-    ghost use Rattle.world.specs.Sites.{SiteView};
+    ghost use Rattle.world.specs.Sites.{KeepingSite};
 
-    ghost Value = { SiteView };
+    ghost Value = { KeepingSite };
 
     ghost use Rattle.world.specs.InsideSite.{view_of, IsSound};
 
@@ -43,12 +50,12 @@ impl Site {
     /// The site of a new node, which counts as saved. `Memory` where a growth was refused.
     pub fn new(alloc: Global, shape: Shape, own: NodeId) -> Result<Site, Refusal>
         requires { own.number < shape.nodes }
-        ensures made { IfOk result (λ s. s ≡ new_site shape own.number) }
+        ensures made { IfOk result (λ s. s ≡ new_keeping shape own.number) }
         ensures refused { IfErr result (λ e. e ≡ Memory) }
     {
         let outboxes = new_outboxes(alloc, shape.nodes())?;
         let current = Node::new(alloc, shape, own)?;
-        let saved = SavedNode::new(to_bytes(alloc, &current)?, &current);
+        let saved = SavedNode::new(to_bytes(alloc, &current)?, current.core());
         Ok(Site {
             current,
             saved,
@@ -58,23 +65,24 @@ impl Site {
 
     /// The current node.
     pub fn node(&self) -> &Node
-        ensures { result.now ≡ self.now.current }
+        ensures { result.now ≡ whole_at self.now }
     {
         &self.current
     }
 
-    /// The saved node, made from its image. `Memory` where a growth was refused.
-    pub fn saved(&self, alloc: Global) -> Result<Node, Refusal>
-        ensures same { IfOk result (λ n. n ≡ self.now.saved) }
+    /// What was saved of the node, made from its image. `Memory` where a growth was refused.
+    pub fn saved(&self, alloc: Global) -> Result<Core, Refusal>
+        ensures same { IfOk result (λ n. n ≡ self.now.site.saved) }
         ensures refused { IfErr result (λ e. e ≡ Memory) }
     {
         self.saved.read(alloc)
     }
 
-    /// Gives the current node an event. It refuses what the node refuses; then nothing changes.
+    /// Gives the current node an event. It refuses what the node refuses; then the site is as
+    /// before, but that a message that waited for its turn may have left its place.
     #[tactic(auto, using(crate::proofs::SiteLemmas::site_acted, crate::proofs::SiteLemmas::acts))]
     pub fn act(&mut self, event: Event) -> Result<Answer, Refusal>
-        ensures { Acted result self.old self.new event }
+        ensures { ActedKeeping result self.old self.new event }
     {
         self.current.act(event)
     }
@@ -83,45 +91,47 @@ impl Site {
     /// `ImageTooLarge` where the image is too large, and else `Memory` where a growth was refused;
     /// then nothing changes.
     pub fn save(&mut self, alloc: Global) -> Result<(), Refusal>
-        ensures done { OnOk result (Saves self.old self.new) }
-        ensures node { OnOk result (IsNode self.old.current) }
+        ensures done { OnOk result (Saves self.old.site self.new.site) }
+        ensures early { self.new.early ≡ self.old.early }
+        ensures node { OnOk result (IsNode self.old.site.current) }
         ensures unchanged { OnErr result (self.new ≡ self.old) }
         ensures refused { IfErr result (λ e. e ≢ Memory → e ≡ ImageTooLarge) }
         ensures too_large { result ≡ Err ImageTooLarge
-            ↔ GREATEST_IMAGE < length (image_of self.old.current) }
+            ↔ GREATEST_IMAGE < length (image_of self.old.site.current) }
     {
         let image = to_bytes(alloc, &self.current)?;
-        release_all(alloc, &mut self.outboxes, &self.current)?;
+        release_all(alloc, &mut self.outboxes, self.current.core())?;
         self.current.kept();
-        self.saved = SavedNode::new(image, &self.current);
+        self.saved = SavedNode::new(image, self.current.core());
         Ok(())
     }
 
-    /// Makes the saved node the current one, from its image. `Memory` where a growth was refused;
-    /// then nothing changes.
+    /// Makes the saved node the current one, from its image; what was kept until its turn is lost.
+    /// `Memory` where a growth was refused; then nothing changes.
     #[tactic(auto, using(crate::proofs::SiteLemmas::site_restarted))]
     pub fn restart(&mut self, alloc: Global) -> Result<(), Refusal>
-        ensures done { OnOk result (self.new ≡ record self.old { current = self.old.saved }) }
+        ensures done { OnOk result (self.new ≡ restarted self.old) }
         ensures unchanged { OnErr result (self.new ≡ self.old) }
         ensures refused { IfErr result (λ e. e ≡ Memory) }
     {
-        self.current = self.saved.read(alloc)?;
+        let core = self.saved.read(alloc)?;
+        self.current = Node::of(alloc, core)?;
         Ok(())
     }
 
     /// The bytes of the frame of this number to another node, if it was released.
     pub fn frame(&self, to: u8, number: u64) -> Option<&[u8]>
-        ensures { option_map (λ b. b.now) result ≡ numbered_bytes (frames_to self.now to) number }
+        ensures { option_map (λ b. b.now) result ≡ numbered_bytes (frames_to self.now.site to) number }
     {
         self.outboxes.get(usize::from(to))?.frame(number)
     }
 
     /// What the saved node acknowledges to another node of its space. The current one knows it.
     pub fn acknowledgement(&self, from: u8) -> Ack
-        requires { IsTrue (is_other self.now.current.local from) }
-        ensures from { result.from ≡ self.now.current.local.own }
+        requires { IsTrue (is_other self.now.site.current.local from) }
+        ensures from { result.from ≡ self.now.site.current.local.own }
         ensures to { result.to ≡ from }
-        ensures number { result.number ≡ slice_index_or self.now.saved.acks from 0 }
+        ensures number { result.number ≡ slice_index_or self.now.site.saved.acks from 0 }
     {
         match self.current.ack_for(from) {
             Some(Frame::Ack(ack)) => ack,

@@ -8,13 +8,13 @@ ghost use Rattle.model.specs.declared.event.Event.TheVariants as event;
 ghost use Rattle.model.specs.Counting.{stamped};
 ghost use Rattle.node.specs.Sending.{with_sent};
 
-use super::Node;
+use super::Core;
 use ids::{GREATEST_PLACES, Refusal};
 use model::Answer;
 use msg::{Body, Message};
 use safra::balance_of;
 
-impl Node {
+impl Core {
     #[tactic(auto, unfolding(model::specs::View::view_act, model::specs::Steps::given, model::specs::Counting::append, model::specs::Heaps::heap_register))]
     pub(crate) fn give(&mut self, to: u8, label: u32, register: u16) -> Result<Answer, Refusal>
         ensures { Performed false result self.old self.new

@@ -12,7 +12,7 @@ ghost use Rattle.link.specs.Links.{IsLinks};
 ghost use Rattle.barrier.specs.Asked.{all_appended, IsRefused};
 ghost use Rattle.node.specs.Cycles.{begins, reports, with_token_sent};
 
-use super::Node;
+use super::Core;
 use barrier::{ask_for_roots, scan, unask};
 use ids::Refusal;
 use link::Links;
@@ -20,7 +20,7 @@ use model::Answer;
 use msg::{Body, Message, Token};
 use safra::{Ring, Verdict};
 
-impl Node {
+impl Core {
     /// Node 0 begins the next cycle: it joins it, sends the token to the last node, and tells all
     /// others. `NotDirector` at another node; `CycleRunning` while the last cycle isn't swept
     /// everywhere; `CyclesSpent` after the greatest one; then `LinkSpent` where a message gets no

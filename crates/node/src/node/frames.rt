@@ -7,10 +7,10 @@ ghost use Rattle.model.specs.References.{IsSendable};
 ghost use Rattle.model.specs.View.{is_other, link_to, used};
 ghost use Rattle.node.specs.Frames.{acknowledgement, frame_of, numbered_frame, released_frame};
 
-use super::Node;
+use super::Core;
 use msg::{Ack, Data, Frame, Message};
 
-impl Node {
+impl Core {
     /// The frame in this place of the window to another node, if a saved node holds its message:
     /// the first place has the message after the last acknowledged one. None where `to` is no other
     /// node of the space, or the place, of [`WINDOW`](ids::WINDOW), holds no released message.

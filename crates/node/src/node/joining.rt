@@ -15,7 +15,7 @@ ghost use Rattle.node.specs.Taking.{
   joining_due,
 };
 
-use super::Node;
+use super::Core;
 use super::settling::{Errand, brought_by, follow, follow_on_heap, met_by, reply_of, send_for};
 use barrier::{ask_for_roots, unask};
 use heap::Heap;
@@ -76,7 +76,7 @@ fn send_joining(
     }
 }
 
-impl Node {
+impl Core {
     /// Takes in a message of the next cycle, which the node joins.
     pub(super) fn take_joining(
         &mut self,

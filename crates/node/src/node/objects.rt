@@ -4,12 +4,12 @@ ghost use Rattle.ids.specs.declared.refusal.Refusal.TheVariants.{Memory};
 ghost use Rattle.model.specs.View.{Performed, Performs, view_act};
 ghost use Rattle.model.specs.declared.event.Event.TheVariants as event;
 
-use super::Node;
+use super::Core;
 use barrier::shade_all;
 use ids::Refusal;
 use model::Answer;
 
-impl Node {
+impl Core {
     #[tactic(auto, unfolding(model::specs::View::view_act, model::specs::Steps::allocated, model::specs::Heaps::heap_alloc))]
     pub(crate) fn allocate(&mut self, register: u16, places: u8) -> Result<Answer, Refusal>
         ensures { Performed false result self.old self.new

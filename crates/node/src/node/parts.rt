@@ -8,7 +8,7 @@ mod ends;
 mod home;
 mod lists;
 
-use super::Node;
+use super::Core;
 use control::Phases;
 use ends::{are_at_ends, is_bounded, number_sum};
 use heap::{Heap, HeapParts};
@@ -56,14 +56,14 @@ fn tested(alloc: Global, parts: &NodeParts) -> Result<IndexSet<Ref>, Refusal>
     asked_once(alloc, parts.shape, parts.own, &parts.asked)
 }
 
-impl Node {
+impl Core {
     /// The node of these parts. All of its messages count as held by a saved node, and so does all
     /// that it took in. It takes time for each part.
     ///
     /// It answers [`Refusal::BadImage`] where no node that is saved has these parts, as
     /// "Saved nodes" in docs/RULES.md says; and [`Refusal::Memory`] where a growth was refused,
     /// whatever the parts are. Parts that are refused are dropped.
-    pub fn from_parts(alloc: Global, parts: NodeParts) -> Result<Node, Refusal>
+    pub fn from_parts(alloc: Global, parts: NodeParts) -> Result<Core, Refusal>
         ensures made { IfOk result (λ n. n ≡ node_given parts) }
         ensures right { OnOk result (IsRestorable (node_given parts)) }
         ensures refused { IfErr result (λ e.
@@ -84,7 +84,7 @@ impl Node {
             return Err(Refusal::BadImage);
         }
         let heap = Heap::from_parts(alloc, shape, heap)?;
-        Ok(Node::of_tested(shape, own, heap, asked, phases, ring, links))
+        Ok(Core::of_tested(shape, own, heap, asked, phases, ring, links))
     }
 
     fn of_tested(
@@ -95,7 +95,7 @@ impl Node {
         phases: Phases,
         ring: Ring,
         links: Links,
-    ) -> Node
+    ) -> Core
         requires { IsTested (record {
           shape = shape;
           own = own;
@@ -116,7 +116,7 @@ impl Node {
         }) }
         ensures right { IsRestorable result }
     {
-        Node {
+        Core {
             shape,
             own,
             heap,

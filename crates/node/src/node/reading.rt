@@ -8,7 +8,7 @@ ghost use Rattle.model.specs.Collecting.{places_in};
 ghost use Rattle.model.specs.View.{link_to, message_of};
 ghost use Rattle.node.specs.Invariant.{links_of};
 
-use super::Node;
+use super::Core;
 use control::Phases;
 use heap::Heap;
 use ids::Ref;
@@ -16,7 +16,7 @@ use link::Links;
 use msg::Message;
 use safra::Ring;
 
-impl Node {
+impl Core {
     /// How many roots there are, which are what the program holds: its registers, and the letters
     /// that wait, also those that hold no reference.
     pub fn root_count(&self) -> usize

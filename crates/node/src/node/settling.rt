@@ -26,7 +26,7 @@ ghost use Rattle.node.specs.Taking.{
   sought,
 };
 
-use super::Node;
+use super::Core;
 use barrier::{ask, unask, vouch};
 use control::Phases;
 use heap::Heap;
@@ -213,7 +213,7 @@ pub(super) fn follow(phases: &mut Phases, ring: &mut Ring, from: u8, stamp: u64,
     }
 }
 
-impl Node {
+impl Core {
     /// Takes in a message of the node's own cycle, or of one before it.
     pub(super) fn take_settled(
         &mut self,

@@ -14,17 +14,17 @@ ghost use Rattle.model.specs.Steps.{
   may_take,
   mentioned,
 };
-ghost use Rattle.model.specs.View.{Performed, view_act, view_taken};
+ghost use Rattle.model.specs.View.{Performed, Performs, view_act, view_taken};
 ghost use Rattle.model.specs.declared.event.Event.TheVariants as event;
 ghost use Rattle.node.specs.Taking.{IsTakable};
 
-use super::Node;
+use super::Core;
 use ids::{Ref, Refusal};
 use link::Offer;
 use model::Answer;
 use msg::{Ack, Body, Data};
 
-impl Node {
+impl Core {
     #[tactic(auto, unfolding(model::specs::View::view_act, model::specs::Steps::taken_in))]
     pub(crate) fn take_in(&mut self, frame: Data) -> Result<Answer, Refusal>
         ensures performed { Performed true result self.old self.new
@@ -37,12 +37,25 @@ impl Node {
         }
         match self.links.offer(frame.from, frame.number)? {
             Offer::Repeat => return Ok(Answer::Repeat),
+            Offer::Early => return Ok(Answer::Early),
             Offer::Next => {}
         }
         if !self.may_take(frame.from, frame.stamp, frame.body) {
             return Err(Refusal::WrongNode);
         }
         self.take(frame.from, frame.stamp, frame.body)
+    }
+
+    /// No message waits for its turn here.
+    #[tactic(auto, unfolding(model::specs::View::view_act))]
+    pub(crate) fn next(&self, from: u8) -> Result<Answer, Refusal>
+        ensures performs { Performs false result self.now (view_act self.now (event.Next from)) }
+        ensures memory_free { IfErr result (λ e. e ≢ Memory) }
+    {
+        if from >= self.shape.nodes() {
+            return Err(Refusal::NoNode);
+        }
+        Err(Refusal::NothingToDo)
     }
 
     /// Takes in a message that the node may take in, in its turn.

@@ -5,4 +5,5 @@ use Rattle.world.proofs.reaching.add_links.Given as goal
 abbrev pub invariant-loop-to : goal.invariant-loop-to
 invariant-loop-to l =
     Adds l.fn.found.keys l.found.keys
-    (Below (λ j r. IsCarried (chosen l.sim l.read l.from) (chosen l.sim l.read j) r) l.to)
+    (Below
+    (λ j r. IsCarried (chosen l.sim.sites l.read l.from) (chosen l.sim.sites l.read j) r) l.to)

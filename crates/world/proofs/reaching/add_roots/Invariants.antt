@@ -6,4 +6,5 @@ use Rattle.world.proofs.reaching.add_roots.Given as goal
 abbrev pub invariant-loop-number : goal.invariant-loop-number
 invariant-loop-number l =
     Adds l.fn.found.keys l.found.keys
-    (Below (λ i r. IsHeld (chosen l.sim l.read i) r ⊎ IsLinked l.sim l.read i r) l.number)
+    (Below
+    (λ i r. IsHeld (chosen l.sim.sites l.read i) r ⊎ IsLinked l.sim.sites l.read i r) l.number)

@@ -27,11 +27,11 @@ loop-next-preserved c =
           (following-more c.in-Some.reference read c.loop-next.invariant
           (adds-none _ _
           (λ r there.
-          none-stands c.args.sim.now c.args.read.now c.in-Some.reference r c.requires.width
+          none-stands c.args.sim.now.sites c.args.read.now c.in-Some.reference r c.requires.width
           (omega (
             arith,
             w.if-reference-count.false,
-            c.count.ensures,
+            c.count.ensures.value,
             ap (λ (r : Ref). r.node) c.in-Some.reference-is,
           ))
           there)))

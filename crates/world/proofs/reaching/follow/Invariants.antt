@@ -4,4 +4,4 @@ use Rattle.world.proofs.reaching.follow.Given as goal
 
 abbrev pub invariant-loop-next : goal.invariant-loop-next
 invariant-loop-next l =
-    Following (chosen l.sim l.read) l.fn.found.keys l.found.keys l.next
+    Following (chosen l.sim.sites l.read) l.fn.found.keys l.found.keys l.next

@@ -6,7 +6,7 @@ use Rattle.world.proofs.reaching.read_saved.Goals as goal
 
 pub loop-number-preserved : goal.loop-number-preserved
 loop-number-preserved c =
-    let f = read_at c.args.sim.now c.args.saved.now in
+    let f = read_at c.args.sim.now.sites c.args.saved.now in
     let node : c.if-saved-from.node ≡ f c.loop-number.number = elim c.if-saved-from.branch [
       | then-saved-from+in_ok-saved w ↦
           let chosen = rw c.from.ensures at w.if-saved-from.true in
@@ -21,23 +21,23 @@ loop-number-preserved c =
 
 pub returns-clause-read : goal.returns-clause-read
 returns-clause-read c =
-    let sites = c.args.sim.now in
+    let sites = c.args.sim.now.sites in
     let all : c.loop-number.number ≡ length sites = omega (
       arith,
       c.loop-number.auto.number-end,
       c.loop-number-test.false,
-      c.count-number-end.ensures,
+      c.count-number-end.ensures.value,
     ) in
     rw (c.loop-number.invariant, all) (all-read sites c.args.saved.now c.requires.width)
 
 pub returns-clause-width : goal.returns-clause-width
 returns-clause-width c =
-    let sites = c.args.sim.now in
+    let sites = c.args.sim.now.sites in
     let all : c.loop-number.number ≡ length sites = omega (
       arith,
       c.loop-number.auto.number-end,
       c.loop-number-test.false,
-      c.count-number-end.ensures,
+      c.count-number-end.ensures.value,
     ) in
     rw (c.loop-number.invariant, all)
     (length-map-range_with_len (read_at sites c.args.saved.now) 0 (length sites))

@@ -4,4 +4,5 @@ use Rattle.world.proofs.Reading.{read_at}
 use Rattle.world.proofs.reaching.read_saved.Given as goal
 
 abbrev pub invariant-loop-number : goal.invariant-loop-number
-invariant-loop-number l = l.read.items ≡ map (read_at l.sim l.saved) (range_with_len 0 l.number)
+invariant-loop-number l =
+    l.read.items ≡ map (read_at l.sim.sites l.saved) (range_with_len 0 l.number)

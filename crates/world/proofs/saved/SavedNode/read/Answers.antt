@@ -9,9 +9,9 @@ use Rattle.world.proofs.saved.SavedNode.read.Goals as goal
 pub returns-clause-same : goal.returns-clause-same
 returns-clause-same c =
     let bytes = c.deref.result.now in
-    IfOk-weaker c.from_bytes.result (λ (n : NodeView). IsImageOf bytes n)
+    IfOk-weaker c.core_from_bytes.result (λ (n : NodeView). IsImageOf bytes n)
     (λ (n : NodeView). n ≡ c.args.self.now)
     (λ n is.
     one_node bytes n c.self.inside.says.value is.spelled
     (rw c.deref.ensures.value c.self.invariant.spelled) ∙ c.self.view_is)
-    c.from_bytes.ensures.read
+    c.core_from_bytes.ensures.read

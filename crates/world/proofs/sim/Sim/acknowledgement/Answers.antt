@@ -1,14 +1,23 @@
 use Rattle.std.proofs.Common.{get_or, ap, ◌∙◌, subst}
 use Rattle.world.specs.Sites.{SiteView}
 use Rattle.world.specs.Shows.{IsSim}
-use Rattle.world.proofs.Acks.{addressed-to}
-use Rattle.world.proofs.Shows.{site-read}
+use Rattle.world.proofs.Acks.{addressed-to, is-another}
+use Rattle.world.specs.Spaces.{SpaceView}
+use Rattle.world.proofs.Held.{site-read-in}
 use Rattle.world.proofs.sim.Sim.acknowledgement.Goals as goal
+
+pub acknowledgement-requires : goal.acknowledgement-requires
+acknowledgement-requires c =
+    is-another (subst (λ (n : SpaceView). IsSim n.sites) c.self.view_is c.self.invariant)
+    c.requires.from c.requires.to c.requires.apart
+    (site-read-in c.self.inside.sites.items c.self.view_is c.from.ensures c.requires.to
+    c.index.ensures)
 
 pub returns : goal.returns
 returns c =
-    let there = site-read c.self.view_is c.from.ensures c.requires.to c.index.ensures in
-    let sim = subst IsSim c.self.view_is c.self.invariant in
+    let there = site-read-in c.self.inside.sites.items c.self.view_is c.from.ensures c.requires.to
+    c.index.ensures in
+    let sim = subst (λ (n : SpaceView). IsSim n.sites) c.self.view_is c.self.invariant in
     let sender = c.acknowledgement.ensures.from ∙ ap (λ (q : SiteView). q.current.local.own) there
     ∙ (sim.current c.args.to c.requires.to).own in
     record {

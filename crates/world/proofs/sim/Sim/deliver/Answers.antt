@@ -1,54 +1,60 @@
 use Rattle.std.proofs.Common.{◌≡◌, inl, inr, refl, sym, arith}
 use Rattle.std.proofs.lemmas.Result.{err_from_is_err_and}
 use Rattle.msg.specs.Frames.{plain_ack}
-use Rattle.world.proofs.Deliveries.{deliver-to-itself, deliver-missing, deliver-never, delivered}
+use Rattle.world.proofs.Deliveries.{deliver-to-itself, deliver-missing, deliver-never}
+use Rattle.world.proofs.Held.{delivered-space, same-space}
 use Rattle.world.proofs.Steps.{no-node}
 use Rattle.world.proofs.sim.Sim.deliver.Goals as goal
 
 pub returns-then-from-count : goal.returns-then-from-count
 returns-then-from-count c =
-    no-node _ _
+    same-space refl
+    (no-node _ _
     (elim c.then-from-count.either [
-      | inl e ↦ inl (omega (arith, c.count-count.ensures))
+      | inl e ↦ inl (omega (arith, c.count-count.ensures.value))
       | inr e ↦ inr
-          (omega (arith, c.count-count.ensures))
-    ])
+          (omega (arith, c.count-count.ensures.value))
+    ]))
 
 pub returns-then-from-to : goal.returns-then-from-to
 returns-then-from-to c =
-    deliver-to-itself _ _ _ _ (omega (arith, c.count-count.ensures))
-    (omega (arith, c.count-count.ensures)) c.if-from-to.true
+    same-space refl
+    (deliver-to-itself _ _ _ _ (omega (arith, c.count-count.ensures.value))
+    (omega (arith, c.count-count.ensures.value)) c.if-from-to.true)
 
 pub returns-in_default : goal.returns-in_default
 returns-in_default c =
-    deliver-missing _ _ _ _ (omega (arith, c.count-count.ensures))
-    (omega (arith, c.count-count.ensures)) c.if-from-to.false (sym c.in_default.ensures)
+    same-space refl
+    (deliver-missing _ _ _ _ (omega (arith, c.count-count.ensures.value))
+    (omega (arith, c.count-count.ensures.value)) c.if-from-to.false (sym c.in_default.ensures))
 
 pub returns-in_err-message : goal.returns-in_err-message
 returns-in_err-message c =
     let p = err_from_is_err_and c.from_residual.result c.from_residual.ensures.1 in
     rw (p.1, p.2)
+    (same-space refl
     (deliver-never c.if-from-to.false (sym c.in-Some.ensures) _ c.in_err-message.ensures.refused
-    (λ x fits spelled stamp b is. c.in_err-message.ensures.only x fits spelled))
+    (λ x fits spelled stamp b is. c.in_err-message.ensures.only x fits spelled)))
 
 pub returns-in_default-2 : goal.returns-in_default-2
 returns-in_default-2 c =
-    deliver-never c.if-from-to.false (sym c.in-Some.ensures) _ refl
+    same-space refl
+    (deliver-never c.if-from-to.false (sym c.in-Some.ensures) _ refl
     (λ x fits spelled stamp b is.
     let wrong : plain_ack c.in_default-2.field-0 ≡ x = rw c.in_default-2.is at
-    (c.in_ok-message.ensures.only x fits spelled) in absurd cc)
+    (c.in_ok-message.ensures.only x fits spelled) in absurd cc))
 
 pub returns-in_err-answer : goal.returns-in_err-answer
 returns-in_err-answer c =
     let p = err_from_is_err_and c.from_residual-in_err-answer.result
     c.from_residual-in_err-answer.ensures.1 in
     rw (p.1, p.2)
-    (delivered c.if-from-to.false (sym c.in-Some.ensures) (omega (arith, c.count-count.ensures))
-    c.in_err-answer.ensures
+    (delivered-space c.if-from-to.false (sym c.in-Some.ensures)
+    (omega (arith, c.count-count.ensures.value)) c.in_err-answer.ensures
     (λ x fits spelled. rw c.in-Data.is at (c.in_ok-message.ensures.only x fits spelled)))
 
 pub returns : goal.returns
 returns c =
-    delivered c.if-from-to.false (sym c.in-Some.ensures) (omega (arith, c.count-count.ensures))
-    c.in_ok-answer.ensures
+    delivered-space c.if-from-to.false (sym c.in-Some.ensures)
+    (omega (arith, c.count-count.ensures.value)) c.in_ok-answer.ensures
     (λ x fits spelled. rw c.in-Data.is at (c.in_ok-message.ensures.only x fits spelled))

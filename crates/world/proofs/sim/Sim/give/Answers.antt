@@ -1,12 +1,20 @@
-use Rattle.world.proofs.Shows.{changes}
+use Rattle.std.proofs.Common.{subst}
+use Rattle.world.specs.Shows.{IsSim}
+use Rattle.world.specs.Spaces.{SpaceView}
+use Rattle.world.proofs.Held.{given-space, sim-acted, space-changes}
 use Rattle.world.proofs.sim.Sim.give.Goals as goal
+
+pub invariant_of-self : goal.invariant_of-self
+invariant_of-self c =
+    sim-acted
+    (space-changes c.self.inside.sites.items c.self.view_is c.from.ensures c.requires
+    c.index_mut-site.ensures.value)
+    (subst (λ (n : SpaceView). IsSim n.sites) c.self.view_is c.self.invariant)
+    c.act.ensures.acted
 
 pub returns : goal.returns
 returns c =
-    let change = changes c.self.view_is c.from.ensures c.requires c.index_mut-site.ensures.value in
-    record {
-      within = c.requires;
-      site = c.act.new.self;
-      acted = rw change.old at c.act.ensures;
-      others = change.new;
-    }
+    given-space
+    (space-changes c.self.inside.sites.items c.self.view_is c.from.ensures c.requires
+    c.index_mut-site.ensures.value)
+    c.act.ensures

@@ -1,22 +1,37 @@
-use Rattle.std.proofs.Common.{arith}
+use Rattle.std.proofs.Common.{refl, ap, subst, arith}
 use Rattle.std.proofs.lemmas.Result.{err_from_is_err_and}
-use Rattle.world.proofs.Shows.{changes}
+use Rattle.world.specs.Shows.{IsSim}
+use Rattle.world.specs.Spaces.{SpaceView, early_of, site_of}
+use Rattle.world.proofs.Held.{keeps-early, keeps-none, lifted, same-space, sim-after-restart, space-changes}
 use Rattle.world.proofs.Steps.{no-node, restart-starved, restarted}
 use Rattle.world.proofs.sim.Sim.restart.Goals as goal
 
 pub returns-then-node-count : goal.returns-then-node-count
-returns-then-node-count c = no-node _ _ (omega (arith, c.count.ensures))
+returns-then-node-count c =
+    same-space refl (no-node _ _ (omega (arith, c.count.ensures.value)))
 
 pub returns-in_err-restart : goal.returns-in_err-restart
 returns-in_err-restart c =
     let p = err_from_is_err_and c.from_residual.result c.from_residual.ensures.1 in
-    let change = changes c.self.view_is c.from.ensures (omega (arith, c.count.ensures))
-    c.index_mut-site.ensures.value in
-    rw (p.1, p.2) (restart-starved change _ c.in_err-restart.ensures.unchanged
-    c.in_err-restart.ensures.refused)
+    let change = space-changes c.self.inside.sites.items c.self.view_is c.from.ensures
+    (omega (arith, c.count.ensures.value)) c.index_mut-site.ensures.value in
+    rw (p.1, p.2)
+    (lifted refl (keeps-early change (ap early_of c.in_err-restart.ensures.unchanged))
+    (restart-starved change.sites _ (ap site_of c.in_err-restart.ensures.unchanged)
+    c.in_err-restart.ensures.refused))
+
+pub invariant_of-self-2 : goal.invariant_of-self-2
+invariant_of-self-2 c =
+    sim-after-restart
+    (space-changes c.self.inside.sites.items c.self.view_is c.from.ensures
+    (omega (arith, c.count.ensures.value)) c.index_mut-site.ensures.value)
+    c.restart.result
+    (subst (λ (n : SpaceView). IsSim n.sites) c.self.view_is c.self.invariant)
+    c.restart.ensures.done c.restart.ensures.unchanged
 
 pub returns : goal.returns
 returns c =
-    let change = changes c.self.view_is c.from.ensures (omega (arith, c.count.ensures))
-    c.index_mut-site.ensures.value in
-    restarted change c.in_ok-restart.ensures.done
+    let change = space-changes c.self.inside.sites.items c.self.view_is c.from.ensures
+    (omega (arith, c.count.ensures.value)) c.index_mut-site.ensures.value in
+    lifted refl (keeps-none change _ (ap early_of c.in_ok-restart.ensures.done))
+    (restarted change.sites (ap site_of c.in_ok-restart.ensures.done))

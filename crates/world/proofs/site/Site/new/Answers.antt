@@ -1,6 +1,7 @@
 use Rattle.std.proofs.Common.{ap, sym, subst, ◌∙◌}
 use Rattle.std.proofs.lemmas.Result.{err_from_is_err_and}
 use Rattle.model.specs.View.{NodeView, kept_view}
+use Rattle.node.specs.Keeping.{WholeNode}
 use Rattle.image.specs.Images.{image_of}
 use Rattle.image.specs.Nodes.{IsImageOf}
 use Rattle.model.proofs.NewNodes.{new-kept}
@@ -11,10 +12,10 @@ use Rattle.world.proofs.site.Site.new.Goals as goal
 -- a new node's image says it, since nothing was sent
 pub new-saved-requires : goal.new-saved-requires
 new-saved-requires c =
-    let made = c.in_ok-current.ensures.made in
+    let made = ap (λ (w : WholeNode). w.core) c.in_ok-current.ensures.made in
     let kept = ap kept_view made ∙ new-kept c.args.shape c.args.own.number ∙ sym made in
-    rw c.in_ok-to_bytes.ensures.written
-    (subst (λ (n : NodeView). IsImageOf (image_of c.in_ok-current.current) n) kept
+    rw (c.in_ok-to_bytes.ensures.written, c.core.ensures.value)
+    (subst (λ (n : NodeView). IsImageOf (image_of c.in_ok-current.current.core) n) kept
     c.in_ok-to_bytes.ensures.image)
 
 pub returns-in_err-to_bytes-clause-refused : goal.returns-in_err-to_bytes-clause-refused
@@ -29,6 +30,7 @@ pub invariant_of-result : goal.invariant_of-result
 invariant_of-result c =
     rw (
       c.new-saved.ensures,
+      c.core.ensures.value,
       c.in_ok-current.ensures.made,
       c.in_ok-outboxes.ensures.made,
       no-frames,
@@ -40,6 +42,7 @@ pub returns-clause-made : goal.returns-clause-made
 returns-clause-made c =
     rw (
       c.new-saved.ensures,
+      c.core.ensures.value,
       c.in_ok-current.ensures.made,
       c.in_ok-outboxes.ensures.made,
       no-frames,

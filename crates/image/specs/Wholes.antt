@@ -1,0 +1,17 @@
+-- The image of a node with all that it keeps: that of its core. What it keeps is lost.
+use Rattle.std.specs.Prelude.{◌≡◌, ℕ, List}
+use Rattle.model.specs.View.{kept_view}
+use Rattle.node.specs.Keeping.{WholeNode, alone}
+use Rattle.image.specs.Images.{image_of}
+use Rattle.image.specs.Nodes.{IsImageOf}
+
+abbrev pub whole_image : WholeNode → List ℕ
+whole_image n = image_of n.core
+
+-- the bytes are read as the node
+abbrev pub IsWholeOf : List ℕ → WholeNode → Type 0
+IsWholeOf bytes n = IsImageOf bytes n.core × (n ≡ alone n.core)
+
+-- the node as it is read once it was saved
+abbrev pub saved_whole : WholeNode → WholeNode
+saved_whole n = alone (kept_view n.core)

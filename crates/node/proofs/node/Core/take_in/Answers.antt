@@ -1,0 +1,50 @@
+use Rattle.std.proofs.Common.{◌≡◌, ◌+◌, Ok, subst, sym, ap, ◌∙◌, true, arith}
+use Rattle.model.specs.State.{got_from}
+use Rattle.model.specs.Steps.{is_addressed}
+use Rattle.model.specs.View.{NodeView, Performed}
+use Rattle.model.proofs.Shown.{view-taken_in}
+use Rattle.link.specs.declared.receiver.Offer.{Offer}
+use Rattle.link.specs.Receivers.{offered}
+use Rattle.node.specs.Inside.{view_of}
+use Rattle.link.proofs.OneLink.{offered-next}
+use Rattle.node.proofs.Receipts.{takable}
+use Rattle.node.proofs.node.Core.take_in.Goals as goal
+use Rattle.node.proofs.node.Core.take_in.Goals.{In-Next}
+
+-- ---- what both goals need
+
+addressed : (c : In-Next)
+    → is_addressed c.args.self.now.local c.args.frame.from c.args.frame.to ≡ true
+addressed c = sym c.is_addressed.ensures ∙ c.if-not-is_addressed.false
+
+-- it is the message that comes next, if the links were asked for its number
+comes-next : (c : In-Next)
+    → c.offer.result
+    ≡ offered (got_from (view_of c.self.inside).local c.args.frame.from) c.args.frame.number
+    → c.args.frame.number ≡ got_from c.args.self.now.local c.args.frame.from + 1
+comes-next c asked =
+    let n : NodeView = view_of c.self.inside in
+    let next =
+    offered-next (got_from n.local c.args.frame.from) _
+    (sym asked ∙ c.in_ok-offer.was ∙ ap (λ (o : Offer). Ok o) c.in-Next.is) in
+    let turn =
+    next ∙ ap (λ (v : NodeView). got_from v.local c.args.frame.from + 1) c.self.view_is in
+    omega (arith, turn)
+
+-- ---- the goals
+
+pub take-requires : goal.take-requires
+take-requires c =
+    let m : NodeView = c.args.self.now in
+    let at = (goal.at.take-requires c).In-Next in
+    takable m.local c.args.frame (addressed at) (comes-next at c.offer.ensures)
+    (sym c.may_take.ensures ∙ c.if-not-may_take.false)
+
+pub returns-clause-performed : goal.returns-clause-performed
+returns-clause-performed c =
+    let m : NodeView = c.args.self.now in
+    let at = (goal.at.returns-clause-performed c).In-Next in
+    subst (Performed true c.take.result m c.take.new.self)
+    (sym (view-taken_in m c.args.frame (addressed at) (comes-next at c.offer.ensures)
+    (sym c.may_take.ensures ∙ c.if-not-may_take.false)))
+    c.take.ensures

@@ -1,0 +1,134 @@
+-- What a node keeps besides its core: the messages of other nodes that came before their turn.
+use Rattle.std.specs.Prelude.{◌≡◌, ℕ, ◌+◌, ◌-◌, List, length, replicate, Option, Some, None, Result, Ok, Err, IfErr, IsTrue, ◌≢◌, slice_index_or, slice_set}
+use Rattle.ids.specs.Limits.{Shaped}
+use Rattle.ids.specs.declared.refusal.Refusal.{Refusal}
+use Rattle.ids.specs.declared.refusal.Refusal.TheVariants.{Memory}
+use Rattle.msg.specs.declared.frame.Data.{Data}
+use Rattle.model.specs.declared.event.Event.{Event}
+use Rattle.model.specs.declared.event.Event.TheVariants as event
+use Rattle.model.specs.declared.event.Answer.{Answer}
+use Rattle.model.specs.declared.event.Answer.TheVariants as answer
+use Rattle.model.specs.declared.step.Step.{Step}
+use Rattle.model.specs.declared.step.Step.TheVariants as step
+use Rattle.model.specs.State.{LocalState, got_from}
+use Rattle.model.specs.Steps.{is_memory_free, is_shading}
+use Rattle.model.specs.View.{NodeView, Performed, new_view, kept_view, view_act}
+use Rattle.link.specs.Early.{no_early, place_at, placed, shifted, emptied}
+
+-- for each node of the space the places of its next messages, each with a frame or none
+abbrev pub Rings : Type 0
+Rings = List (List (Option Data))
+
+-- a node: what is saved of it, and what it keeps until its turn
+pub record WholeNode : Type 0 where
+  pub core : NodeView
+  pub early : Rings
+
+abbrev pub no_rings : ℕ → Rings
+no_rings nodes = replicate nodes no_early
+
+-- a node that keeps no frame
+abbrev pub alone : NodeView → WholeNode
+alone n = record { core = n; early = no_rings n.local.shape.nodes }
+
+abbrev pub new_whole : Shaped → ℕ → WholeNode
+new_whole shape own = alone (new_view shape own)
+
+-- all messages count as saved
+abbrev pub kept_whole : WholeNode → WholeNode
+kept_whole n = record n { core = kept_view n.core }
+
+abbrev pub ring_of : Rings → ℕ → List (Option Data)
+ring_of es from = slice_index_or es from no_early
+
+-- the frame of the message that is to be taken in next, where it is kept
+abbrev pub waiting : Rings → ℕ → Option Data
+waiting es from = place_at (ring_of es from) 0
+
+abbrev pub next_event : ℕ → Option Data → Event
+next_event from None = event.Next from
+next_event from (Some d) = event.Data d
+
+-- What an event is to the core: Next is the frame that waits, where one does.
+abbrev pub met : Rings → Event → Event
+met es (event.Next from) = next_event from (waiting es from)
+met es e = e
+
+-- the step of the space that an event of the node's own is: Next of a frame that waits delivers it
+abbrev pub next_step : ℕ → ℕ → Option Data → Step
+next_step own from None = step.Act own (event.Next from)
+next_step own from (Some d) = step.Deliver from own d.number
+
+abbrev pub own_step : Rings → ℕ → Event → Step
+own_step es own (event.Next from) = next_step own from (waiting es from)
+own_step es own e = step.Act own e
+
+-- ---- what is kept afterwards
+
+abbrev pub shifted_at : Rings → ℕ → Rings
+shifted_at es from = slice_set es from (shifted (ring_of es from))
+
+abbrev pub emptied_at : Rings → ℕ → Rings
+emptied_at es from = slice_set es from (emptied (ring_of es from))
+
+abbrev pub placed_at : Rings → ℕ → ℕ → Data → Rings
+placed_at es from place d = slice_set es from (placed (ring_of es from) place d)
+
+-- After a message, of whose sender so many were taken in: one that was taken in makes each place
+-- that of the number before; an early one is put into its place.
+abbrev pub after_data : ℕ → Rings → Data → Result Answer Refusal → Rings
+after_data taken es d (Ok answer.Received) = shifted_at es d.from
+after_data taken es d (Ok answer.Early) = placed_at es d.from (d.number - taken - 1) d
+after_data taken es d r = es
+
+-- After Next: a frame that was refused leaves its place, but for want of memory. It comes again,
+-- since its sender has it until it is acknowledged.
+abbrev pub after_next : Rings → ℕ → Option Data → Result Answer Refusal → Rings
+after_next es from None r = es
+after_next es from (Some d) (Ok a) = shifted_at es from
+after_next es from (Some d) (Err Memory) = es
+after_next es from (Some d) (Err e) = emptied_at es from
+
+abbrev pub early_after : LocalState → Rings → Event → Result Answer Refusal → Rings
+early_after p es (event.Data d) r = after_data (got_from p d.from) es d r
+early_after p es (event.Next from) r = after_next es from (waiting es from) r
+early_after p es e r = es
+
+-- ---- what is true of all that is kept
+
+-- what holds of every frame of a ring
+abbrev pub OfRing : (Data → Type 0) → List (Option Data) → Type 0
+OfRing Q ring = (place : ℕ) (d : Data) → place_at ring place ≡ Some d → Q d
+
+-- what holds of every frame that a node keeps, and of the node that sent it
+abbrev pub OfAll : (ℕ → Data → Type 0) → Rings → Type 0
+OfAll P es = (from : ℕ) → OfRing (P from) (ring_of es from)
+
+-- the frame of the place of a node's ring, after so many of that node's messages
+pub record IsInPlace (own got from place : ℕ) (d : Data) : Type 0 where
+  pub sender : d.from ≡ from
+  pub receiver : d.to ≡ own
+  pub number : d.number ≡ got + 1 + place
+
+abbrev pub RingStands : ℕ → ℕ → ℕ → List (Option Data) → Type 0
+RingStands own got from ring =
+    (place : ℕ) (d : Data) → place_at ring place ≡ Some d → IsInPlace own got from place d
+
+-- each node has its ring, and each frame stands in the place of its number
+pub record AreKept (nodes own : ℕ) (got : List ℕ) (es : Rings) : Type 0 where
+  pub width : length es ≡ nodes
+  pub counted : length got ≡ nodes
+  pub named : (from : ℕ) → RingStands own (slice_index_or got from 0) from (ring_of es from)
+
+abbrev pub AreKeptIn : WholeNode → Type 0
+AreKeptIn n =
+    AreKept n.core.local.shape.nodes n.core.local.own n.core.local.got n.early
+
+-- What a call made of an event: what the definitions say of the core, and what is kept.
+pub record Handled (old new : WholeNode) (e : Event) (r : Result Answer Refusal) : Type 0 where
+  pub before : AreKeptIn old
+  pub performed : Performed (is_shading (met old.early e)) r old.core new.core
+      (view_act old.core (met old.early e))
+  pub memory_free : IsTrue (is_memory_free old.core.local (met old.early e))
+      → IfErr r (λ f. f ≢ Memory)
+  pub early : new.early ≡ early_after old.core.local old.early e r

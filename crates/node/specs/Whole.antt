@@ -1,0 +1,9 @@
+-- How a node with what it keeps shows what it is.
+use Rattle.node.specs.declared.keeping.Node.TheInside.{Inside}
+use Rattle.node.specs.Keeping.{WholeNode, AreKeptIn}
+
+abbrev pub whole_of : Inside → WholeNode
+whole_of n = record { core = n.core; early = n.early.items }
+
+abbrev pub IsWhole : Inside → Type 0
+IsWhole n = AreKeptIn (whole_of n)

@@ -1,0 +1,240 @@
+//! A node with the messages that it keeps until their turn.
+ghost use Rattle.std.specs.Prelude.{◌≡◌, ◌≢◌, ◌<◌, ◌≤◌, IsTrue, Ok, Some, IfOk, IfErr, OnErr};
+ghost use Rattle.std.specs.Option.{option_map};
+ghost use Rattle.ids.specs.declared.refusal.Refusal.TheVariants.{Memory, NoNode};
+ghost use Rattle.msg.specs.Frames.{plain};
+ghost use Rattle.model.specs.State.{NodeState};
+ghost use Rattle.model.specs.Steps.{act, is_memory_free, is_shading};
+ghost use Rattle.model.specs.View.{Shows, Follows, Performs, Leaves, view_act};
+ghost use Rattle.model.specs.declared.event.Answer.TheVariants as answer;
+ghost use Rattle.model.specs.declared.event.Event.TheVariants as event;
+ghost use Rattle.node.specs.Frames.{acknowledgement, released_frame};
+ghost use Rattle.node.specs.Invariant.{IsNode};
+ghost use Rattle.node.specs.Summaries.{summary_of};
+ghost use Rattle.node.specs.Keeping.{
+  AreKeptIn,
+  Handled,
+  after_data,
+  alone,
+  early_after,
+  emptied_at,
+  kept_whole,
+  met,
+  new_whole,
+  placed_at,
+  shifted_at,
+  waiting,
+};
+
+use crate::node::Core;
+use crate::summary::Summary;
+use ids::{NodeId, Refusal, Shape};
+use link::EarlyFrames;
+use model::{Answer, Event};
+use msg::{Data, Frame};
+use std::alloc::Global;
+use std::marker::Model;
+
+/// One node: its core, which is what is saved of it, and for each other node a ring of
+/// [`WINDOW`](ids::WINDOW) places with the messages from there that came before their turn. What
+/// the rings hold is in no state and in no image, and a restart loses it.
+#[derive(Drop)]
+pub struct Node {
+    core: Core,
+    // For each node of the space, itself among them, in order of their numbers.
+    early: Vec<EarlyFrames>,
+}
+
+impl Model for Node {
+    ghost use Rattle.node.specs.Keeping.{WholeNode};
+
+    ghost Value = { WholeNode };
+
+    ghost use Rattle.node.specs.Whole.{whole_of, IsWhole};
+
+    ghost view = { whole_of };
+
+    ghost invariant = { IsWhole };
+}
+
+impl Node {
+    /// A new node of the shape: nothing allocated, nothing sent, nothing received. `NoNode` where
+    /// the shape has no such node, `Memory` where a growth was refused.
+    pub fn new(alloc: Global, shape: Shape, own: NodeId) -> Result<Node, Refusal>
+        ensures made { IfOk result (λ n. n ≡ new_whole shape own.number) }
+        ensures there { IfOk result (λ _. own.number < shape.nodes) }
+        ensures refused { IfErr result
+            (λ e. e ≢ Memory → (e ≡ NoNode) × (shape.nodes ≤ own.number)) }
+        ensures last { IfErr result (λ e. e ≡ Memory → own.number < shape.nodes) }
+    {
+        let core = Core::new(alloc, shape, own)?;
+        Node::of(alloc, core)
+    }
+
+    /// The node of this core, which keeps no message. `Memory` where the rings were refused.
+    pub fn of(alloc: Global, core: Core) -> Result<Node, Refusal>
+        ensures made { IfOk result (λ n. n ≡ alone core) }
+        ensures refused { IfErr result (λ e. e ≡ Memory) }
+    {
+        let width = core.state().shape.nodes();
+        let early = EarlyFrames::for_nodes(alloc, width)?;
+        Ok(Node { core, early })
+    }
+
+    /// Performs one event. The refusals come in the order in which docs/RULES.md lists them for
+    /// each event, and `Memory` after all of them, where a growth was refused; `Load`, `Begin`,
+    /// `Scan` and a message may be refused memory in place of `LinkSpent` too. A refused event
+    /// leaves the core as it was. `Copy`, `Drop`, `Store`, `Clear`, `Word`, `SetWord`, `Accept`, a
+    /// `Sweep` that leaves slots or is node 0's, `Ack` and a message that isn't the next one are
+    /// never refused memory. `Word`, and a message that was taken in before or comes before its
+    /// turn, leave the core as it was too.
+    ///
+    /// A message that comes before its turn is kept, unless one stands in its place already. `Next`
+    /// takes in the message that waits, as if it came now, and is refused `NothingToDo` where none
+    /// does. One that is refused has left its place then, but for want of memory.
+    pub fn act(&mut self, event: Event) -> Result<Answer, Refusal>
+        ensures performs { Performs (is_shading (met self.old.early event)) result self.new.core
+            (view_act self.old.core (met self.old.early event)) }
+        ensures states { (s : NodeState) → Shows self.old.core s
+            → Follows (met self.old.early event) result self.new.core
+            (act s (met self.old.early event)) }
+        ensures unchanged { OnErr result (self.new.core ≡ self.old.core) }
+        ensures leaves { Leaves self.old.core self.new.core (met self.old.early event) }
+        ensures memory_free { IsTrue (is_memory_free self.old.core.local (met self.old.early event))
+            → IfErr result (λ e. e ≢ Memory) }
+        ensures early { self.new.early
+            ≡ early_after self.old.core.local self.old.early event result }
+        ensures turn { met self.old.early event ≢ event
+            → IfOk result (λ a. a ≡ answer.Received) }
+        ensures kept { AreKeptIn self.new }
+    {
+        self.handle(event)
+    }
+
+    fn handle(&mut self, event: Event) -> Result<Answer, Refusal>
+        ensures { Handled self.old self.new event result }
+    {
+        match event {
+            Event::Data(frame) => self.take(frame),
+            Event::Next { from } => self.next(from),
+            _ => self.core.perform(event),
+        }
+    }
+
+    fn take(&mut self, frame: Data) -> Result<Answer, Refusal>
+        ensures { Handled self.old self.new (event.Data frame) result }
+    {
+        let taken = self.core.taken_from(frame.from);
+        let answer = self.core.perform(Event::Data(frame))?;
+        keep(&mut self.early, taken, frame, answer);
+        Ok(answer)
+    }
+
+    fn next(&mut self, from: u8) -> Result<Answer, Refusal>
+        ensures { Handled self.old self.new (event.Next from) result }
+    {
+        let Some(frame) = front(&self.early, from) else {
+            return self.core.perform(Event::Next { from });
+        };
+        match self.core.perform(Event::Data(frame)) {
+            Ok(answer) => {
+                shift(&mut self.early, from);
+                Ok(answer)
+            }
+            Err(Refusal::Memory) => Err(Refusal::Memory),
+            Err(refusal) => {
+                drop_front(&mut self.early, from);
+                Err(refusal)
+            }
+        }
+    }
+
+    /// The frame from this node that waits for [`Event::Next`], if one does.
+    pub fn waiting(&self, from: u8) -> Option<Data>
+        ensures value { result ≡ waiting self.now.early from }
+        ensures kept { AreKeptIn self.now }
+    {
+        front(&self.early, from)
+    }
+
+    /// Counts all messages as held by a saved node. It is called after a save, and releases them.
+    pub fn kept(&mut self)
+        ensures { self.new ≡ kept_whole self.old }
+    {
+        self.core.kept();
+    }
+
+    /// What is saved of the node.
+    pub fn core(&self) -> &Core
+        ensures value { result.now ≡ self.now.core }
+        ensures kept { AreKeptIn self.now }
+    {
+        &self.core
+    }
+
+    /// The node in numbers.
+    pub fn state(&self) -> Summary
+        ensures value { result ≡ summary_of self.now.core.local }
+        ensures sound { IsNode self.now.core }
+    {
+        self.core.state()
+    }
+
+    /// The frame in this place of the window to another node, as [`Core::frame_at`] says.
+    pub fn frame_at(&self, to: u8, place: u8) -> Option<Frame>
+        ensures { option_map plain result ≡ released_frame self.now.core to place }
+    {
+        self.core.frame_at(to, place)
+    }
+
+    /// The acknowledgement to another node, as [`Core::ack_for`] says.
+    pub fn ack_for(&self, from: u8) -> Option<Frame>
+        ensures { option_map plain result ≡ acknowledgement self.now.core from }
+    {
+        self.core.ack_for(from)
+    }
+}
+
+fn front(early: &[EarlyFrames], from: u8) -> Option<Data>
+    ensures { result ≡ waiting early.now from }
+{
+    early.get(usize::from(from))?.at(0)
+}
+
+fn shift(early: &mut Vec<EarlyFrames>, from: u8)
+    ensures { early.new.items ≡ shifted_at early.old.items from }
+{
+    if usize::from(from) < early.len() {
+        early[usize::from(from)].shift();
+    }
+}
+
+fn drop_front(early: &mut Vec<EarlyFrames>, from: u8)
+    ensures { early.new.items ≡ emptied_at early.old.items from }
+{
+    if usize::from(from) < early.len() {
+        early[usize::from(from)].drop_front();
+    }
+}
+
+fn put(early: &mut Vec<EarlyFrames>, from: u8, place: usize, frame: Data)
+    ensures { early.new.items ≡ placed_at early.old.items from place frame }
+{
+    if usize::from(from) < early.len() {
+        early[usize::from(from)].put(place, frame);
+    }
+}
+
+/// What becomes of what is kept when the message, after so many, was answered so.
+fn keep(early: &mut Vec<EarlyFrames>, taken: u64, frame: Data, answer: Answer)
+    ensures { early.new.items ≡ after_data taken early.old.items frame (Ok answer) }
+{
+    match answer {
+        Answer::Received => shift(early, frame.from),
+        Answer::Early => {
+            let place = frame.number.saturating_sub(taken).saturating_sub(1);
+            put(early, frame.from, place as usize, frame);
+        }
+        _ => {}
+    }
+}

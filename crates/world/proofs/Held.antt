@@ -1,0 +1,416 @@
+-- What the nodes of a space keep is of messages that were released, after each step.
+use Rattle.std.proofs.Common.{◌≡◌, ◌≢◌, ℕ, ◌-◌, ◌<◌, ◌≤◌, ◌==◌, ltb, ap₂, true, List, [], ◌∷◌, length, get_or, set, Option, Some, None, Result, Ok, Err, refl, ap, sym, ◌∙◌, subst, ⊎_elim, arith}
+use Rattle.std.specs.Prelude.{OnErr, OnOk, slice_get}
+use Rattle.std.proofs.lemmas.Bool.{cases_lt, cond_both}
+use Rattle.std.proofs.lemmas.List.{length-set, length-map, get_or_read, get_or_past, set-get_or, map-set}
+use Rattle.std.proofs.Math.ListN.{get_or-map}
+use Rattle.ids.specs.Limits.{Shaped}
+use Rattle.ids.specs.declared.refusal.Refusal.{Refusal}
+use Rattle.ids.specs.declared.refusal.Refusal.TheVariants.{NoNode}
+use Rattle.msg.specs.Frames.{plain_data}
+use Rattle.msg.specs.Grammar.{Plain, Fits, spelling, data_frame}
+use Rattle.msg.specs.declared.body.Message.{Message}
+use Rattle.msg.specs.declared.frame.Ack.{Ack}
+use Rattle.msg.specs.declared.frame.Data.{Data}
+use Rattle.model.specs.declared.event.Event.{Event}
+use Rattle.model.specs.declared.event.Event.TheVariants as event
+use Rattle.model.specs.declared.event.Answer.{Answer}
+use Rattle.model.specs.declared.step.Step.{Step}
+use Rattle.model.specs.declared.step.Step.TheVariants as step
+use Rattle.model.specs.declared.step.Outcome.{Outcome}
+use Rattle.model.specs.declared.step.Outcome.TheVariants as outcome
+use Rattle.model.specs.State.{NodeState, node_at, no_node, sent_to}
+use Rattle.model.specs.Steps.{is_own}
+use Rattle.model.specs.View.{NodeView, kept_view}
+use Rattle.model.specs.World.{World, FollowsStep, released, numbered, happens, world_after, is_step_memory_free}
+use Rattle.model.proofs.Lookups.{at_set_if}
+use Rattle.laws.proofs.Onward.{run-saved}
+use Rattle.laws.proofs.KeepsSent.{SentMore, sent-onward}
+use Rattle.laws.proofs.Cuts.{released-numbered}
+use Rattle.laws.proofs.Net.{released-grows}
+use Rattle.node.specs.Keeping.{OfAll, Rings, no_rings, next_event, next_step, met, waiting}
+use Rattle.world.specs.Sites.{SiteView, KeepingSite, Acted, ActedKeeping, Saves, restarted}
+use Rattle.world.specs.Shows.{ShowsWorld, Stepped, Given, IsAckOf, IsSim, IsPlaced, frame_at, no_site, site_at}
+use Rattle.world.specs.Spaces.{SpaceView, GivenSpace, IsOfNet, ShowsSpace, SteppedSpace, early_of, kept_at, keeping_at, site_of, space_of, step_met}
+use Rattle.node.proofs.Kept.{of-none, after-all}
+use Rattle.world.proofs.Shows.{Changes}
+use Rattle.world.proofs.Steps.{Gives, outcome_by, acted, given-follows, given-free, given-lets-go, given-small, given-unchanged, no-node}
+use Rattle.world.proofs.Acks.{hands}
+use Rattle.world.proofs.Deliveries.{IsReleased, delivered, delivery-gives, delivery-lets-go, found}
+
+-- ---- what was released stays so
+
+grown-net : (w v : World) (i from : ℕ) (d : Data)
+    → ((k : ℕ) → SentMore (node_at w.saved k) (node_at v.saved k)) → IsOfNet w i from d
+    → IsOfNet v i from d
+grown-net w v i from d more h = record {
+  from = h.from;
+  to = h.to;
+  there =
+      released-grows w v from i d.number (record { stamp = d.stamp; body = d.body }) (more from i)
+      h.there;
+}
+
+-- each frame that is kept is of a message that was released
+abbrev pub AreOfNet : World → List Rings → Type 0
+AreOfNet w all = (i : ℕ) → OfAll (IsOfNet w i) (get_or all i [])
+
+-- so it is after a step where it is before it
+follows-space : {n : SpaceView} {w : World} (m : SpaceView) (s : Step) (r : Result Outcome Refusal)
+    → ShowsSpace n w → length m.early ≡ length m.sites → AreOfNet w m.early
+    → FollowsStep ShowsWorld w s r m.sites → FollowsStep ShowsSpace w s r m
+follows-space m s (Err e) h width held f =
+    (f.0, record { world = f.1; width = width; held = held })
+follows-space {w = w} m s (Ok o) h width held f =
+    let v : World = f.0 in
+    let same : happens w s ≡ v = ap (world_after w) f.1 in
+    let more : (k : ℕ) → SentMore (node_at w.saved k) (node_at v.saved k) = λ k.
+    subst (λ (z : World). SentMore (node_at w.saved k) (node_at z.saved k)) same
+    (run-saved sent-onward w (s ∷ []) h.world.grown.sent k) in (
+      v,
+      f.1,
+      record {
+        world = f.2;
+        width = width;
+        held = λ i from place d there. grown-net w v i from d more (held i from place d there);
+      },
+    )
+
+-- what is kept afterwards is of the space before
+abbrev pub KeepsNet : SpaceView → SpaceView → Type 0
+KeepsNet n m =
+    (w : World) → ShowsSpace n w → (length m.early ≡ length m.sites) × AreOfNet w m.early
+
+pub keeps-same : (n : SpaceView) → KeepsNet n n
+keeps-same n w h = (h.width, h.held)
+
+-- a step of the sites is one of the space
+pub lifted : {n m : SpaceView} {s : Step} {r : Result Outcome Refusal} → step_met n s ≡ s
+    → KeepsNet n m → Stepped r n.sites m.sites s → SteppedSpace r n m s
+lifted {n = n} {m = m} {s = s} {r = r} is keeps h = record {
+  follows = λ w shown.
+      let kept = keeps w shown in
+      subst (λ (z : Step). FollowsStep ShowsSpace w z r m) (sym is)
+      (follows-space m s r shown kept.0 kept.1 (h.follows w shown.world));
+  too_large = h.too_large;
+  unchanged = h.unchanged;
+  lets_go = h.lets_go;
+  memory_free = λ w shown free.
+      h.memory_free w shown.world
+      (subst (λ (z : Step). is_step_memory_free w z ≡ true) is free);
+}
+
+-- ---- one site changes
+
+pub record SpaceChanges (n m : SpaceView) (i : ℕ) (q p : KeepingSite) : Type 0 where
+  pub sites : Changes n.sites m.sites i q.site p.site
+  pub early : m.early ≡ set n.early i p.early
+  pub was : q.early ≡ kept_at n i
+
+changed : (qs : List KeepingSite) (i : ℕ) (q p : KeepingSite) → i < length qs
+    → q ≡ get_or qs i q → SpaceChanges (space_of qs) (space_of (set qs i p)) i q p
+changed qs i q p less read =
+    let none : KeepingSite = record { site = no_site; early = [] } in
+    let there : q ≡ get_or qs i none = get_or_read qs i q less read none in
+    record {
+      sites = record {
+        within = omega (arith, less, length-map qs site_of);
+        old = ap site_of there ∙ sym (get_or-map site_of qs i none);
+        new = map-set site_of qs i p;
+      };
+      early = map-set early_of qs i p;
+      was = ap early_of there ∙ sym (get_or-map early_of qs i none);
+    }
+
+-- as the code has it, which reads the site at a place of what it sees of the space
+pub space-changes : {n : SpaceView} {i place : ℕ} {q p : KeepingSite} (seen : List KeepingSite)
+    → space_of seen ≡ n → place ≡ i → i < length n.sites → q ≡ get_or seen place q
+    → SpaceChanges n (space_of (set seen place p)) i q p
+space-changes {n = n} {i = i} {place = place} {q = q} {p = p} seen view named less read =
+    subst (λ (z : SpaceView). SpaceChanges z (space_of (set seen place p)) i q p) view
+    (subst (λ (z : ℕ). SpaceChanges (space_of seen) (space_of (set seen place p)) z q p) named
+    (changed seen place q p
+    (omega
+    (arith, named, less, ap (λ (z : SpaceView). length z.sites) view, length-map seen site_of))
+    read))
+
+pub site-read-in : {n : SpaceView} {i place : ℕ} {q : KeepingSite} (seen : List KeepingSite)
+    → space_of seen ≡ n → place ≡ i → i < length n.sites → q ≡ get_or seen place q
+    → q.site ≡ site_at n.sites i
+site-read-in {q = q} seen view named less read =
+    (space-changes {p = q} seen view named less read).sites.old
+
+module _ {n m : SpaceView} {i : ℕ} {q p : KeepingSite} (c : SpaceChanges n m i q p) where
+  pub keeps-changed : ((w : World) → ShowsSpace n w → OfAll (IsOfNet w i) p.early) → KeepsNet n m
+  keeps-changed here w h = (
+    ap length c.early ∙ length-set n.early i p.early ∙ h.width
+        ∙ sym (ap length c.sites.new ∙ length-set n.sites i p.site),
+    λ k.
+        subst (λ (z : List Rings). OfAll (IsOfNet w k) (get_or z k [])) (sym c.early)
+        (at_set_if (OfAll (IsOfNet w k)) n.early i k p.early []
+        (λ same. subst (λ (z : ℕ). OfAll (IsOfNet w z) p.early) same (here w h)) (h.held k)),
+  )
+
+  -- the node keeps what it kept
+  pub keeps-early : p.early ≡ q.early → KeepsNet n m
+  keeps-early same =
+      keeps-changed (λ w h. subst (OfAll (IsOfNet w i)) (sym (same ∙ c.was)) (h.held i))
+
+  -- it keeps nothing
+  pub keeps-none : (nodes : ℕ) → p.early ≡ no_rings nodes → KeepsNet n m
+  keeps-none nodes same =
+      keeps-changed (λ w h. subst (OfAll (IsOfNet w i)) (sym same) (of-none (IsOfNet w i) nodes))
+
+  -- every node stands at its number
+  stands : (f : SiteView → NodeView) → IsPlaced (length n.sites) i (f p.site)
+      → ((k : ℕ) → k < length n.sites → IsPlaced (length n.sites) k (f (site_at n.sites k)))
+      → (k : ℕ) → k < length n.sites
+      → IsPlaced (length n.sites) k (f (site_at (set n.sites i p.site) k))
+  stands f here all k less =
+      at_set_if (λ (z : SiteView). IsPlaced (length n.sites) k (f z)) n.sites i k p.site no_site
+      (λ same. subst (λ (z : ℕ). IsPlaced (length n.sites) z (f p.site)) same here) (all k less)
+
+  sim-changed : IsSim n.sites → IsPlaced (length n.sites) i p.site.current
+      → IsPlaced (length n.sites) i p.site.saved → IsSim m.sites
+  sim-changed h current saved =
+      let width : length (set n.sites i p.site) ≡ length n.sites =
+      length-set n.sites i p.site in
+      let after : List SiteView = set n.sites i p.site in
+      let sim : IsSim after = record {
+        small = omega (arith, width, h.small);
+        current = λ k less.
+            subst (λ (z : ℕ). IsPlaced z k (site_at after k).current) (sym width)
+            (stands (λ z. z.current) current h.current k (omega (arith, less, width)));
+        saved = λ k less.
+            subst (λ (z : ℕ). IsPlaced z k (site_at after k).saved) (sym width)
+            (stands (λ z. z.saved) saved h.saved k (omega (arith, less, width)));
+      } in
+      subst IsSim (sym c.sites.new) sim
+
+  current-was : IsSim n.sites → IsPlaced (length n.sites) i q.site.current
+  current-was h =
+      subst (λ (z : SiteView). IsPlaced (length n.sites) i z.current) (sym c.sites.old)
+      (h.current i c.sites.within)
+
+  saved-was : IsSim n.sites → IsPlaced (length n.sites) i q.site.saved
+  saved-was h =
+      subst (λ (z : SiteView). IsPlaced (length n.sites) i z.saved) (sym c.sites.old)
+      (h.saved i c.sites.within)
+
+  pub sim-acted : {r : Result Answer Refusal} {e : Event} → IsSim n.sites
+      → Acted r q.site p.site e → IsSim m.sites
+  sim-acted h a =
+      let was = current-was h in
+      sim-changed h
+      (record {
+        own = a.leaves.own ∙ was.own;
+        nodes = ap (λ (x : Shaped). x.nodes) a.leaves.shape ∙ was.nodes;
+      })
+      (subst (λ (z : SiteView). IsPlaced (length n.sites) i z.saved) (sym a.others) (saved-was h))
+
+  sim-saved : IsSim n.sites → Saves q.site p.site → IsSim m.sites
+  sim-saved h saves =
+      let was = current-was h in
+      let kept : IsPlaced (length n.sites) i (kept_view q.site.current) =
+      record { own = was.own; nodes = was.nodes } in
+      sim-changed h (subst (IsPlaced (length n.sites) i) (sym saves.current) kept)
+      (subst (IsPlaced (length n.sites) i) (sym saves.saved) kept)
+
+  sim-restarted : IsSim n.sites → p ≡ restarted q → IsSim m.sites
+  sim-restarted h is =
+      sim-changed h
+      (subst (λ (z : KeepingSite). IsPlaced (length n.sites) i z.site.current) (sym is)
+      (saved-was h))
+      (subst (λ (z : KeepingSite). IsPlaced (length n.sites) i z.site.saved) (sym is) (saved-was h))
+
+  sim-same : IsSim n.sites → p ≡ q → IsSim m.sites
+  sim-same h same =
+      subst IsSim
+      (sym (c.sites.new ∙ ap (set n.sites i) (ap site_of same ∙ c.sites.old)
+      ∙ set-get_or n.sites i no_site))
+      h
+
+  -- whatever became of the call
+  pub sim-after-save : {A : Type 0} (r : Result A Refusal) → IsSim n.sites
+      → OnOk r (Saves q.site p.site) → OnErr r (p ≡ q) → IsSim m.sites
+  sim-after-save (Ok x) h done same = sim-saved h done
+  sim-after-save (Err e) h done same = sim-same h same
+
+  pub sim-after-restart : {A : Type 0} (r : Result A Refusal) → IsSim n.sites
+      → OnOk r (p ≡ restarted q) → OnErr r (p ≡ q) → IsSim m.sites
+  sim-after-restart (Ok x) h done same = sim-restarted h done
+  sim-after-restart (Err e) h done same = sim-same h same
+
+-- ---- a node is given an event
+
+pub given-space : {n m : SpaceView} {i : ℕ} {q p : KeepingSite} {e : Event}
+    {r : Result Answer Refusal} → SpaceChanges n m i q p → ActedKeeping r q p e
+    → GivenSpace r n m i e
+given-space {n = n} {i = i} {q = q} {p = p} {e = e} {r = r} c acted =
+    let same : q ≡ keeping_at n i =
+    ap₂ (λ (a : SiteView) (b : Rings). record { site = a; early = b }) c.sites.old c.was in
+    record {
+      within = c.sites.within;
+      site = p;
+      acted = subst (λ (z : KeepingSite). ActedKeeping r z p e) same acted;
+      sites = c.sites.new;
+      early = c.early;
+    }
+
+sites-given : {n m : SpaceView} {i : ℕ} {e : Event} {r : Result Answer Refusal}
+    → GivenSpace r n m i e → Given r n.sites m.sites i (met (kept_at n i) e)
+sites-given h = record {
+  within = h.within;
+  site = h.site.site;
+  acted = h.acted.acted;
+  others = h.sites;
+}
+
+given-changes : {n m : SpaceView} {i : ℕ} {e : Event} {r : Result Answer Refusal}
+    (h : GivenSpace r n m i e) → SpaceChanges n m i (keeping_at n i) h.site
+given-changes h = record {
+  sites = record { within = h.within; old = refl; new = h.sites };
+  early = h.early;
+  was = refl;
+}
+
+keeps-given : {n m : SpaceView} {i : ℕ} {e : Event} {r : Result Answer Refusal}
+    → GivenSpace r n m i e
+    → ((w : World) → ShowsSpace n w → (d : Data) → e ≡ event.Data d → IsOfNet w i d.from d)
+    → KeepsNet n m
+keeps-given {n = n} {i = i} {e = e} {r = r} h new =
+    keeps-changed (given-changes h)
+    (λ w shown.
+    subst (OfAll (IsOfNet w i)) (sym h.acted.early)
+    (after-all (IsOfNet w i) (site_at n.sites i).current.local (kept_at n i) e r (shown.held i)
+    (new w shown)))
+
+-- what was released was released by a node that is there
+released-within : (w : World) (from to number : ℕ) (x : Message)
+    → released w from to number ≡ Some x → from < length w.saved
+released-within w from to number x there =
+    ⊎_elim {C = from < length w.saved} (λ less. less)
+    (λ (past : length w.saved ≤ from).
+    let none : node_at w.saved from ≡ no_node = get_or_past w.saved from no_node past in
+    let sent : List Message = sent_to (node_at w.saved from) to in
+    let empty : sent ≡ [] = ap (λ (s : NodeState). sent_to s to) none in
+    let found : numbered sent number ≡ Some x =
+    (released-numbered (from == to) (numbered sent number) x there).1 in
+    absurd
+    (never number (subst (λ (z : List Message). numbered z number ≡ Some x) empty found)))
+    (cases_lt from (length w.saved))
+  where
+    never : (k : ℕ) → numbered [] k ≡ Some x → ⊥
+    never k =
+        cond_both (ltb 0 k) (slice_get [] (k - 1)) None (λ z. z ≡ Some x → ⊥)
+        (λ _ is. absurd cc) (λ _ is. absurd cc)
+
+-- Next of a frame that waits is its delivery
+waiting-gives : {n : SpaceView} {w : World} {i from : ℕ} {d : Data} → ShowsSpace n w
+    → i < length n.sites → waiting (kept_at n i) from ≡ Some d
+    → Gives n.sites w i (event.Data d) (step.Deliver from i d.number) outcome.Answer
+waiting-gives {n = n} {w = w} {i = i} {from = from} {d = d} shown below waits =
+    let net : IsOfNet w i from d = shown.held i from 0 d waits in
+    let x : Message = record { stamp = d.stamp; body = d.body } in
+    let less = released-within w from i d.number x net.there in
+    let same : plain_data d ≡ data_frame from i d.number d.stamp d.body =
+    ap₂ (λ (a b : ℕ). data_frame a b d.number d.stamp d.body) net.from net.to in
+    delivery-gives x shown.world
+    (omega (arith, less, shown.world.grown.width, shown.world.width)) below net.there same
+
+waiting-taken : {n m : SpaceView} {i : ℕ} {r : Result Answer Refusal} (from : ℕ) (d : Data)
+    → waiting (kept_at n i) from ≡ Some d → Given r n.sites m.sites i (event.Data d)
+    → KeepsNet n m → SteppedSpace (outcome_by outcome.Answer r) n m (step.Act i (event.Next from))
+waiting-taken {n = n} {m = m} {i = i} {r = r} from d waits h keeps =
+    let is : step.Deliver from i d.number ≡ step_met n (step.Act i (event.Next from)) =
+    sym (ap (next_step i from) waits) in
+    record {
+      follows = λ w shown.
+          let kept = keeps w shown in
+          subst (λ (z : Step). FollowsStep ShowsSpace w z (outcome_by outcome.Answer r) m) is
+          (follows-space m (step.Deliver from i d.number) (outcome_by outcome.Answer r) shown
+          kept.0 kept.1
+          (given-follows r h shown.world (waiting-gives shown h.within waits)));
+      too_large = (λ large. absurd (given-small outcome.Answer r h large), λ saves. absurd saves);
+      unchanged = given-unchanged outcome.Answer r h;
+      lets_go = given-lets-go (step.Deliver from i d.number) outcome.Answer r h
+          (delivery-lets-go from i d.number d);
+      memory_free = λ w shown free.
+          given-free r h (waiting-gives shown h.within waits)
+          (subst (λ (z : Step). is_step_memory_free w z ≡ true) (sym is) free);
+    }
+
+-- Next, by what waits
+next-taken : {n m : SpaceView} {i : ℕ} {r : Result Answer Refusal} (from : ℕ) (o : Option Data)
+    → waiting (kept_at n i) from ≡ o → Given r n.sites m.sites i (next_event from o)
+    → KeepsNet n m → SteppedSpace (outcome_by outcome.Answer r) n m (step.Act i (event.Next from))
+next-taken {i = i} from None none h keeps =
+    lifted (ap (next_step i from) none) keeps (acted h refl)
+next-taken from (Some d) waits h keeps = waiting-taken from d waits h keeps
+
+pub acted-space : {n m : SpaceView} {i : ℕ} {r : Result Answer Refusal} (e : Event)
+    → GivenSpace r n m i e → is_own e ≡ true
+    → SteppedSpace (outcome_by outcome.Answer r) n m (step.Act i e)
+acted-space (event.Data d) h own = absurd cc
+acted-space {n = n} {i = i} (event.Next from) h own =
+    next-taken from (waiting (kept_at n i) from) refl (sites-given h)
+    (keeps-given h (λ w shown d is. absurd cc))
+acted-space e h own =
+    lifted refl (keeps-given h (λ w shown d is. absurd cc)) (acted (sites-given h) own)
+
+-- the acknowledgement that is handed over
+pub handed-space : {n m : SpaceView} {from to : ℕ} {a : Ack} {r : Result Answer Refusal}
+    → to < length n.sites → from ≢ to → IsAckOf n.sites from to a
+    → GivenSpace r n m from (event.Ack a)
+    → SteppedSpace (outcome_by (λ _. outcome.Handed a.number) r) n m (step.Hand from to)
+handed-space below apart ack h =
+    lifted refl (keeps-given h (λ w shown d is. absurd cc)) (hands below apart ack (sites-given h))
+
+-- the message that is delivered
+of-net : {w : World} {from to number : ℕ} {bytes : List ℕ} (d : Data)
+    (x : IsReleased w from to number bytes)
+    → plain_data d ≡ data_frame from to number x.message.stamp x.message.body
+    → IsOfNet w to d.from d
+of-net {w = w} {from = from} {to = to} {number = number} d x same =
+    let sender : d.from ≡ from = cc in
+    let receiver : d.to ≡ to = cc in
+    let place : d.number ≡ number = cc in
+    let stamp : d.stamp ≡ x.message.stamp = cc in
+    let body : d.body ≡ x.message.body = cc in
+    record { from = refl; to = receiver; there = rw (sender, place, stamp, body) x.there }
+
+pub delivered-space : {n m : SpaceView} {from to number : ℕ} {bytes : List ℕ} {d : Data}
+    {r : Result Answer Refusal} → from ≢ to → frame_at n.sites from to number ≡ Some bytes
+    → from < length n.sites → GivenSpace r n m to (event.Data d)
+    → ((x : Plain) → Fits x → bytes ≡ spelling x → plain_data d ≡ x)
+    → SteppedSpace (outcome_by outcome.Answer r) n m (step.Deliver from to number)
+delivered-space {to = to} {d = d} apart there less h reads =
+    lifted refl
+    (keeps-given h
+    (λ w shown e is.
+    let same : d ≡ e = cc in
+    let x = found apart there w shown.world in
+    subst (λ (z : Data). IsOfNet w to z.from z) same
+    (of-net d x (reads _ x.fits x.spelled))))
+    (delivered apart there less (sites-given h) reads)
+
+-- ---- a node that isn't there
+
+not-met : (n : SpaceView) (i : ℕ) (e : Event) → length n.early ≡ length n.sites
+    → length n.sites ≤ i → step_met n (step.Act i e) ≡ step.Act i e
+not-met n i (event.Next from) width past =
+    let none : kept_at n i ≡ [] =
+    get_or_past n.early i [] (omega (arith, width, past)) in
+    let waits : waiting (kept_at n i) from ≡ None = ap (λ (es : Rings). waiting es from) none in
+    ap (next_step i from) waits
+not-met n i e width past = refl
+
+pub no-node-acts : (n : SpaceView) (i : ℕ) (e : Event) → length n.early ≡ length n.sites
+    → length n.sites ≤ i → SteppedSpace (Err NoNode) n n (step.Act i e)
+no-node-acts n i e width past =
+    lifted (not-met n i e width past) (keeps-same n) (no-node n.sites (step.Act i e) past)
+
+-- a step that changes nothing
+pub same-space : {n : SpaceView} {s : Step} {r : Result Outcome Refusal} → step_met n s ≡ s
+    → Stepped r n.sites n.sites s → SteppedSpace r n n s
+same-space {n = n} is h = lifted is (keeps-same n) h
