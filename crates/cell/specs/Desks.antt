@@ -1,9 +1,13 @@
 -- What is kept of a node and its seat between two calls.
-use Rattle.std.specs.Prelude.{◌≡◌, ℕ, Bool, false, length, take}
+use Rattle.std.specs.Prelude.{◌≡◌, ℕ, Bool, false, List, Some, length, slice_get, take}
+use Rattle.msg.specs.Frames.{plain_data}
+use Rattle.msg.specs.Grammar.{Plain}
+use Rattle.msg.specs.declared.frame.Data.{Data}
 use Rattle.model.specs.State.{NodeState, sent_to}
 use Rattle.model.specs.View.{NodeView, Shows, link_to}
 use Rattle.image.specs.Images.{image_of}
 use Rattle.image.specs.Nodes.{IsImageOf}
+use Rattle.node.specs.Keeping.{OfAll, Rings}
 use Rattle.wire.specs.Views.{Pair}
 use Rattle.wire.specs.Readers.{known, seat_node}
 use Rattle.wire.specs.declared.seats.NodeSeat.{NodeSeat}
@@ -38,6 +42,14 @@ pub record IsSavedNode (me width : ℕ) (s : NodeState) (n : NodeView) : Type 0 
 -- where this is false, the current state is the saved one
 abbrev pub IsUnsaved : Bool → Pair → Type 0
 IsUnsaved unsaved p = unsaved ≡ false → p.current ≡ p.saved
+
+-- the seat took the frame of this message from the wire
+abbrev pub IsTaken : List Plain → Data → Type 0
+IsTaken taken d = ∥ (k : ℕ) × (slice_get taken k ≡ Some (plain_data d)) ∥₁
+
+-- each message that a node keeps is one whose frame its seat took
+pub record AreTaken (taken : List Plain) (es : Rings) : Type 0 where
+  pub each : OfAll (λ from d. IsTaken taken d) es
 
 -- the node stands where its own seat says, with all saved
 pub record IsAtSeat (n : NodeView) (s : NodeSeat) : Type 0 where

@@ -4,11 +4,17 @@ use Rattle.std.specs.Str.{bytes_eq}
 use Rattle.model.specs.View.{NodeView, kept_view}
 use Rattle.image.specs.Images.{image_of}
 use Rattle.image.specs.Nodes.{IsImageOf}
+use Rattle.image.specs.Wholes.{IsWholeOf}
+use Rattle.node.specs.Keeping.{WholeNode}
 use Rattle.disk.specs.Areas.{Areas}
 use Rattle.disk.specs.Shelf.{IsReadAs, opened}
 
 abbrev pub OpensTo : NodeView → Areas → Type 0
 OpensTo n c = IsReadAs IsImageOf (opened c) n
+
+-- the disk opens to this node, which keeps no message
+abbrev pub OpensToNode : WholeNode → Areas → Type 0
+OpensToNode n c = IsReadAs IsWholeOf (opened c) n
 
 -- the disk opens to the node that was saved last, or to the one that stands now, as it is once it
 -- is saved

@@ -16,6 +16,7 @@ use Rattle.model.specs.State.{NodeState}
 use Rattle.model.specs.Steps.{act, is_shading}
 use Rattle.model.specs.View.{NodeView, Follows, Performs, view_act}
 use Rattle.model.specs.World.{is_eventful}
+use Rattle.node.specs.Keeping.{WholeNode, early_after}
 use Rattle.wire.specs.Views.{Known, Pair, ticks, clears, takes_in}
 use Rattle.wire.specs.Plays.{Enters, Happens, IsEventful}
 use Rattle.trace.specs.declared.call.Outcome as trace
@@ -56,8 +57,8 @@ Entered s v w = (count : ℕ) × Enters s v count w
 
 -- The node was given an event, which is this step of the space: what it answered, and how it stands
 -- afterwards, is what the definitions say of the state that it showed; and what it was refused is
--- the first refusal that applies. What is refused, reads a word or repeats a message is no event;
--- all else entered the history.
+-- the first refusal that applies. What is refused, reads a word, repeats a message or comes before
+-- its turn is no event; all else entered the history.
 pub record Acted (e : Event) (s : Step) (result : Result Answer Refusal) (old new : NodeView)
     (v w : Known) : Type 0 where
   pub performs : Performs (is_shading e) result new (view_act old e)
@@ -66,12 +67,21 @@ pub record Acted (e : Event) (s : Step) (result : Result Answer Refusal) (old ne
   pub known : w ≡ known_after e s result v
   pub entered : IfOk result (λ a. is_counted a ≡ true → Entered s v w)
 
--- the same of an acknowledgement, which is no event
-pub record Acknowledged (a : Ack) (result : Result Answer Refusal) (old new : NodeView)
+-- The same of a node with the messages that it keeps until their turn, where this is what the
+-- event was to its core: Next of a message that waits takes that in, or refuses it.
+pub record Given (e met : Event) (s : Step) (result : Result Answer Refusal) (old new : WholeNode)
     (v w : Known) : Type 0 where
-  pub performs : Performs false result new (view_act old (event.Ack a))
-  pub states : Follows (event.Ack a) result new (act v.pair.current (event.Ack a))
-  pub unchanged : OnErr result (new ≡ old)
+  pub acted : Acted met s result old.core new.core v w
+  pub early : new.early ≡ early_after old.core.local old.early e result
+  pub turn : met ≢ e → IfOk result (λ a. a ≡ answer.Received)
+
+-- the same of an acknowledgement, which is no event
+pub record Acknowledged (a : Ack) (result : Result Answer Refusal) (old new : WholeNode)
+    (v w : Known) : Type 0 where
+  pub performs : Performs false result new.core (view_act old.core (event.Ack a))
+  pub states : Follows (event.Ack a) result new.core (act v.pair.current (event.Ack a))
+  pub unchanged : OnErr result (new.core ≡ old.core)
+  pub early : new.early ≡ old.early
   pub known : w ≡ v
 
 -- What is asked of who gives a node an event that is this step: where it counts, it happens to the
@@ -95,9 +105,9 @@ emptied box f v = clears box (takes_in box f v)
 
 -- What became of a frame: a message is given to the node as this delivery, and an acknowledgement
 -- as what it is.
-abbrev pub Handled : Frame → Result Answer Refusal → NodeView → NodeView → Known → Known → Type 0
+abbrev pub Handled : Frame → Result Answer Refusal → WholeNode → WholeNode → Known → Known → Type 0
 Handled (frame.Data d) result old new v w =
-    Acted (event.Data d) (step.Deliver d.from v.me d.number) result old new v w
+    Given (event.Data d) (event.Data d) (step.Deliver d.from v.me d.number) result old new v w
 Handled (frame.Ack a) result old new v w = Acknowledged a result old new v w
 
 -- ---- saves and reopenings
@@ -127,6 +137,7 @@ restarted_by v = reopened_by true v
 -- what the trace says of an answer
 abbrev pub outcome_of_answer : Answer → trace.Outcome
 outcome_of_answer answer.Repeat = traced.Repeat
+outcome_of_answer answer.Early = traced.Early
 outcome_of_answer a = traced.Done
 
 abbrev pub outcome_of : Result Answer Refusal → trace.Outcome

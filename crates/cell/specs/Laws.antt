@@ -4,6 +4,7 @@
 use Rattle.std.specs.Prelude.{◌≡◌, ◌≢◌, ◌⊎◌, ℕ, ◌+◌, ◌<◌, Bool, false, List, [], ◌∷◌, ◌++◌, length, slice_get, Some, Ok, Err}
 use Rattle.ids.specs.Limits.{Shaped, IsShape}
 use Rattle.ids.specs.declared.names.Ref.{Ref}
+use Rattle.ids.specs.declared.limits.TheConstants.{WINDOW}
 use Rattle.ids.specs.declared.refusal.Refusal.{Refusal}
 use Rattle.ids.specs.declared.refusal.Refusal.TheVariants.{LinkSpent, Memory, OutOfOrder}
 use Rattle.msg.specs.declared.frame.Data.{Data}
@@ -17,14 +18,15 @@ use Rattle.model.specs.View.{NodeView, Shows}
 use Rattle.model.specs.World.{World, new_world, run}
 use Rattle.model.specs.Cuts.{cut, Reachable}
 use Rattle.trace.specs.declared.trace.Line.{Line}
+use Rattle.node.specs.Keeping.{WholeNode}
 use Rattle.disk.specs.Areas.{Areas}
 use Rattle.wire.specs.Readers.{AreOpened}
 use Rattle.wire.specs.Rule.{AreEvents}
 use Rattle.wire.specs.Views.{Known, pair_at}
 use Rattle.cell.specs.Desks.{IsSavedNode}
 use Rattle.cell.specs.Disks.{OpensTo}
-use Rattle.cell.specs.Events.{Acted}
-use Rattle.cell.specs.Opened.{IsReadFrom}
+use Rattle.cell.specs.Events.{Given}
+use Rattle.cell.specs.Opened.{cores, IsReadFrom}
 use Rattle.cell.specs.Pumping.{TookIn}
 
 -- a run of a space of this shape reaches the world
@@ -49,11 +51,11 @@ pub record IsLeft (me width : ℕ) (s : NodeState) (c : Areas) : Type 0 where
 -- they were saved, so that world can be the one in which a wire begins.
 abbrev pub LeftIsOpened : Type 0
 LeftIsOpened =
-    (shape : Shaped) (w : World) (nodes : List NodeView) → length w.saved ≡ shape.nodes
+    (shape : Shaped) (w : World) (nodes : List WholeNode) → length w.saved ≡ shape.nodes
     → length nodes ≡ shape.nodes
-    → ((k : ℕ) (n : NodeView) → slice_get nodes k ≡ Some n → (c : Areas)
+    → ((k : ℕ) (n : WholeNode) → slice_get nodes k ≡ Some n → (c : Areas)
     × IsLeft k shape.nodes (node_at w.saved k) c × IsReadFrom shape k c n)
-    → AreOpened shape nodes (restarted w)
+    → AreOpened shape (cores nodes) (restarted w)
 
 -- what the sweep of the node i leaves where it was
 abbrev pub KeepsReachable : World → ℕ → NodeView → NodeView → Type 0
@@ -64,28 +66,29 @@ KeepsReachable w i old new =
     × (slot_at new.local.heap r.slot ≡ Occupied r.generation o)
 
 -- a cell's call by which its node swept
-pub record HasSwept (count : ℕ) (old new : NodeView) (v w : Known) : Type 0 where
+pub record HasSwept (count : ℕ) (old new : WholeNode) (v w : Known) : Type 0 where
   pub answer : Answer
-  pub acted : Acted (event.Sweep count) (step.Act v.me (event.Sweep count)) (Ok answer) old new v w
+  pub given : Given (event.Sweep count) (event.Sweep count) (step.Act v.me (event.Sweep count))
+      (Ok answer) old new v w
 
 -- A cell's sweep frees nothing that is reachable: some list of events, the sweep its last, leads
 -- to what the seat knows; and what can be reached just before the sweep, in a cut that takes the
 -- node's current state, is in its slot before and after.
 abbrev pub SweepsFreeNoneReachable : Type 0
 SweepsFreeNoneReachable =
-    (count : ℕ) (old new : NodeView) (v w : Known) → IsReached v.opening
-    → Shows old v.pair.current → HasSwept count old new v w
+    (count : ℕ) (old new : WholeNode) (v w : Known) → IsReached v.opening
+    → Shows old.core v.pair.current → HasSwept count old new v w
     → (log : List Step)
     × AreEvents v.opening (log ++ step.Act v.me (event.Sweep count) ∷ [])
     × (pair_at (run v.opening log) v.me ≡ v.pair)
     × (pair_at (run v.opening (log ++ step.Act v.me (event.Sweep count) ∷ [])) v.me ≡ w.pair)
-    × KeepsReachable (run v.opening log) v.me old new
+    × KeepsReachable (run v.opening log) v.me old.core new.core
 
 -- a cell's call in which a message that it took from the wire was refused
-pub record HasRefused (d : Data) (e : Refusal) (old : NodeView) (v : Known) : Type 0 where
+pub record HasRefused (d : Data) (e : Refusal) (old : WholeNode) (v : Known) : Type 0 where
   pub box : ℕ
   pub from : ℕ
-  pub new : NodeView
+  pub new : WholeNode
   pub w : Known
   pub before : List Line
   pub after : List Line
@@ -94,9 +97,9 @@ pub record HasRefused (d : Data) (e : Refusal) (old : NodeView) (v : Known) : Ty
 
 -- A message that a cell took from the wire is refused in three cases alone: for want of memory,
 -- where one that it makes the node send would need a number above the greatest, and where it comes
--- before its turn.
+-- so long before its turn that the node has no place for it.
 abbrev pub NoneRefusedInTurn : Type 0
 NoneRefusedInTurn =
-    (d : Data) (e : Refusal) (old : NodeView) (v : Known) → IsReached v.opening
-    → Shows old v.pair.current → HasRefused d e old v → e ≢ Memory
-    → (e ≡ LinkSpent) ⊎ ((e ≡ OutOfOrder) × (got_from old.local d.from + 1 < d.number))
+    (d : Data) (e : Refusal) (old : WholeNode) (v : Known) → IsReached v.opening
+    → Shows old.core v.pair.current → HasRefused d e old v → e ≢ Memory
+    → (e ≡ LinkSpent) ⊎ ((e ≡ OutOfOrder) × (got_from old.core.local d.from + WINDOW < d.number))

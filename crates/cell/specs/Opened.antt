@@ -4,12 +4,17 @@ use Rattle.ids.specs.Limits.{Shaped}
 use Rattle.msg.specs.declared.body.Body.TheVariants as body
 use Rattle.msg.specs.declared.body.Message.{Message}
 use Rattle.model.specs.State.{NodeState}
-use Rattle.model.specs.View.{Link, NodeView, new_view}
+use Rattle.model.specs.View.{Link, NodeView}
 use Rattle.model.specs.World.{World}
 use Rattle.wire.specs.declared.seats.NodeSeat.{NodeSeat}
 use Rattle.disk.specs.Areas.{Areas}
+use Rattle.node.specs.Keeping.{WholeNode, new_whole}
 use Rattle.cell.specs.Desks.{IsAtSeat}
-use Rattle.cell.specs.Disks.{OpensTo}
+use Rattle.cell.specs.Disks.{OpensTo, OpensToNode}
+
+-- what is saved of nodes
+abbrev pub cores : List WholeNode → List NodeView
+cores ns = map (λ n. n.core) ns
 
 -- the node of this number in a space of this shape
 pub record IsNodeOf (shape : Shaped) (own : ℕ) (n : NodeView) : Type 0 where
@@ -18,9 +23,9 @@ pub record IsNodeOf (shape : Shaped) (own : ℕ) (n : NodeView) : Type 0 where
 
 -- the node of this number, from a disk that reads so: a new one where nothing was ever created,
 -- else the one to which the disk opens
-pub record IsReadFrom (shape : Shaped) (own : ℕ) (seen : Areas) (n : NodeView) : Type 0 where
-  pub blank : seen.select ≡ [] → n ≡ new_view shape own
-  pub held : seen.select ≢ [] → OpensTo n seen
+pub record IsReadFrom (shape : Shaped) (own : ℕ) (seen : Areas) (n : WholeNode) : Type 0 where
+  pub blank : seen.select ≡ [] → n ≡ new_whole shape own
+  pub held : seen.select ≢ [] → OpensToNode n seen
 
 -- a disk that reads so holds the node of another space, or one of another number
 pub record HoldsAnother (shape : Shaped) (own : ℕ) (seen : Areas) : Type 0 where
@@ -36,17 +41,18 @@ pub record HasPlace {X : Type 0} (Is : ℕ → X → Type 0) (xs : List X) : Typ
   pub is : Is place value
 
 -- what is so of each place of two lists
-abbrev pub AreBeside : {X : Type 0} → (ℕ → X → NodeView → Type 0) → List X → List NodeView → Type 0
+abbrev pub AreBeside : {X : Type 0} → (ℕ → X → WholeNode → Type 0) → List X → List WholeNode
+    → Type 0
 AreBeside {X} Is xs nodes =
-    (k : ℕ) (x : X) (n : NodeView) → slice_get xs k ≡ Some x → slice_get nodes k ≡ Some n → Is k x n
+    (k : ℕ) (x : X) (n : WholeNode) → slice_get xs k ≡ Some x → slice_get nodes k ≡ Some n → Is k x n
 
 -- In whatever way a node lies on a shelf: the nodes of a shape in order, each on the shelf in its
 -- place.
-pub record AreFound {S : Type 0} (Lies : NodeView → S → Type 0) (shape : Shaped)
-    (nodes : List NodeView) (shelves : List S) : Type 0 where
+pub record AreFound {S : Type 0} (Lies : WholeNode → S → Type 0) (shape : Shaped)
+    (nodes : List WholeNode) (shelves : List S) : Type 0 where
   pub same : length shelves ≡ length nodes
-  pub each : (k : ℕ) (n : NodeView) (s : S) → slice_get nodes k ≡ Some n
-      → slice_get shelves k ≡ Some s → IsNodeOf shape k n × Lies n s
+  pub each : (k : ℕ) (n : WholeNode) (s : S) → slice_get nodes k ≡ Some n
+      → slice_get shelves k ≡ Some s → IsNodeOf shape k n.core × Lies n s
 
 -- A world in which nodes stand whose messages all are saved. What was acknowledged is nowhere kept:
 -- any message may stand there.
@@ -63,15 +69,15 @@ abbrev pub world_of : List NodeView → World
 world_of nodes = record { current = map state_of nodes; saved = map state_of nodes }
 
 -- a node that lies on its shelf, at its own seat
-pub record IsReady {S : Type 0} (Lies : NodeView → S → Type 0) (n : NodeView) (s : S)
+pub record IsReady {S : Type 0} (Lies : WholeNode → S → Type 0) (n : WholeNode) (s : S)
     (seat : NodeSeat) : Type 0 where
-  pub stands : IsAtSeat n seat
+  pub stands : IsAtSeat n.core seat
   pub lies : Lies n s
 
 -- nodes, each with its shelf and its seat in the same place
-pub record AreReady {S : Type 0} (Lies : NodeView → S → Type 0) (nodes : List NodeView)
+pub record AreReady {S : Type 0} (Lies : WholeNode → S → Type 0) (nodes : List WholeNode)
     (shelves : List S) (seats : List NodeSeat) : Type 0 where
   pub shelved : length shelves ≡ length nodes
   pub seated : length seats ≡ length nodes
-  pub each : (k : ℕ) (n : NodeView) (s : S) (seat : NodeSeat) → slice_get nodes k ≡ Some n
+  pub each : (k : ℕ) (n : WholeNode) (s : S) (seat : NodeSeat) → slice_get nodes k ≡ Some n
       → slice_get shelves k ≡ Some s → slice_get seats k ≡ Some seat → IsReady Lies n s seat

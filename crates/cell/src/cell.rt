@@ -23,7 +23,10 @@ use trace::Trace;
 ///
 /// Every event enters the history of the space once: one of the node's own, a message that is taken
 /// in, a save, a reopening. What is refused enters nothing, nor does reading a word, a message that
-/// was taken in before, an acknowledgement, and moving a frame.
+/// was taken in before or comes before its turn, an acknowledgement, and moving a frame.
+///
+/// Each message that the node keeps until its turn is one that the seat took from the wire. No save
+/// holds it, and a reopening loses it.
 #[derive(Drop)]
 pub struct Cell<D: Disk> {
     pub(crate) alloc: Global,
@@ -32,5 +35,5 @@ pub struct Cell<D: Disk> {
     pub(crate) trace: Trace,
     ghost while_open: { IsTrue shelf.ready → ∥ OpensTo desk.saved.value (D.seen shelf.disk) ∥₁ },
     ghost left: { (c : Areas) → D.may_leave shelf.disk c
-        → ∥ OpensToEither desk.saved.value desk.node c ∥₁ },
+        → ∥ OpensToEither desk.saved.value desk.node.core c ∥₁ },
 }

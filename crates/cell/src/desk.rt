@@ -1,20 +1,21 @@
 // A node at its seat, without its disk.
 ghost use Rattle.std.specs.Prelude.{◌≡◌};
 ghost use Rattle.wire.specs.Readers.{known};
-ghost use Rattle.cell.specs.Desks.{IsSeatAt, IsSavedNode, IsUnsaved, StandsAt};
+ghost use Rattle.cell.specs.Desks.{AreTaken, IsSeatAt, IsSavedNode, IsUnsaved, StandsAt};
 
 use ids::Cycle;
-use node::Node;
+use node::{Core, Node};
 use std::snapshot::Snapshot;
 use wire::NodeSeat;
 
-// A node as it stands and as it was saved last, and its seat.
+// A node as it stands, with the messages that it keeps until their turn, and as it was saved last,
+// and its seat.
 #[derive(Drop)]
 pub(crate) struct Desk {
     pub(crate) own: u8,
     pub(crate) nodes: u8,
     pub(crate) node: Node,
-    pub(crate) saved: Snapshot<Node>,
+    pub(crate) saved: Snapshot<Core>,
     // The last cycle that the saved state knows to have ended.
     pub(crate) ended: Cycle,
     pub(crate) seat: NodeSeat,
@@ -23,8 +24,9 @@ pub(crate) struct Desk {
     // Whether an event came since the last save or reopening.
     pub(crate) is_unsaved: bool,
     ghost at: { IsSeatAt own nodes seat },
-    ghost stands: { StandsAt own nodes (known seat).pair node },
+    ghost stands: { StandsAt own nodes (known seat).pair node.core },
     ghost was: { IsSavedNode own nodes (known seat).pair.saved saved.value },
     ghost ended_is: { ended.number ≡ (known seat).pair.saved.local.phases.ended },
     ghost unsaved: { IsUnsaved is_unsaved (known seat).pair },
+    ghost taken: { AreTaken (known seat).taken node.early },
 }

@@ -1,6 +1,7 @@
 // What a disk does for the node at a desk.
 ghost use Rattle.std.specs.Prelude.{◌≡◌, false, replicate};
 ghost use Rattle.model.specs.View.{kept_view};
+ghost use Rattle.node.specs.Keeping.{alone, kept_whole};
 ghost use Rattle.image.specs.Images.{image_of};
 ghost use Rattle.image.specs.Nodes.{IsImageOf};
 ghost use Rattle.wire.specs.Readers.{known, IsSeatOf, IsSame};
@@ -18,7 +19,7 @@ use wire::{NodeSeat, Wire};
 
 // The last cycle that a node knows to have ended.
 fn ended_by(node: &Node) -> Cycle
-    ensures { result.number ≡ node.now.local.phases.ended }
+    ensures { result.number ≡ node.now.core.local.phases.ended }
 {
     Cycle {
         number: node.state().ended,
@@ -28,11 +29,12 @@ fn ended_by(node: &Node) -> Cycle
 impl Desk {
     // A node that is read from the bytes of its image, at its seat.
     pub(crate) fn new(node: Node, seat: NodeSeat) -> Desk
-        requires seat { IsAtSeat node seat }
-        requires image { IsImageOf (image_of node) node }
+        requires seat { IsAtSeat node.core seat }
+        requires image { IsImageOf (image_of node.core) node.core }
+        requires alone { node ≡ alone node.core }
         ensures node { result.node ≡ node }
         ensures seat { result.seat ≡ seat }
-        ensures saved { result.saved.value ≡ node }
+        ensures saved { result.saved.value ≡ node.core }
         ensures places { result.places ≡ replicate 16 0 }
         ensures unsaved { result.is_unsaved ≡ false }
     {
@@ -40,7 +42,7 @@ impl Desk {
         Desk {
             own: state.own,
             nodes: state.shape.nodes(),
-            saved: Snapshot::of(&node),
+            saved: Snapshot::of(node.core()),
             ended: ended_by(&node),
             node,
             seat,
@@ -52,18 +54,19 @@ impl Desk {
     // Its node was saved, and its image is read.
     pub(crate) fn save(&mut self, wire: &Wire)
         requires wire { IsSeatOf wire.now self.old.seat }
-        requires image { IsImageOf (image_of self.old.node) (kept_view self.old.node) }
+        requires image { IsImageOf (image_of self.old.node.core)
+            (kept_view self.old.node.core) }
         ensures same { IsSame self.old.seat self.new.seat }
         ensures known { known self.new.seat ≡ saved_by (known self.old.seat) }
         ensures entered { Entered (step.Save (known self.old.seat).me)
             (known self.old.seat) (known self.new.seat) }
-        ensures node { self.new.node ≡ kept_view self.old.node }
-        ensures saved { self.new.saved.value ≡ kept_view self.old.node }
+        ensures node { self.new.node ≡ kept_whole self.old.node }
+        ensures saved { self.new.saved.value ≡ kept_view self.old.node.core }
         ensures places { self.new.places ≡ self.old.places }
         ensures unsaved { self.new.is_unsaved ≡ false }
     {
         self.node.kept();
-        self.saved = Snapshot::of(&self.node);
+        self.saved = Snapshot::of(self.node.core());
         self.ended = ended_by(&self.node);
         enter_save(wire, &mut self.seat);
         self.is_unsaved = false;
@@ -72,22 +75,23 @@ impl Desk {
     // This node was found on its disk: the one that was saved last, or its own as it stands.
     pub(crate) fn reopen(&mut self, wire: &Wire, found: Node)
         requires wire { IsSeatOf wire.now self.old.seat }
-        requires image { IsImageOf (image_of found) found }
-        requires which { is_same_image found self.old.saved.value ≡ false
-            → found ≡ kept_view self.old.node }
+        requires image { IsImageOf (image_of found.core) found.core }
+        requires alone { found ≡ alone found.core }
+        requires which { is_same_image found.core self.old.saved.value ≡ false
+            → found.core ≡ kept_view self.old.node.core }
         ensures same { IsSame self.old.seat self.new.seat }
         ensures known { known self.new.seat
-            ≡ reopened_by (is_same_image found self.old.saved.value) (known self.old.seat) }
+            ≡ reopened_by (is_same_image found.core self.old.saved.value) (known self.old.seat) }
         ensures entered { Entered
-            (found_step (is_same_image found self.old.saved.value) (known self.old.seat).me)
+            (found_step (is_same_image found.core self.old.saved.value) (known self.old.seat).me)
             (known self.old.seat) (known self.new.seat) }
         ensures node { self.new.node ≡ found }
-        ensures saved { self.new.saved.value ≡ found }
+        ensures saved { self.new.saved.value ≡ found.core }
         ensures places { self.new.places ≡ replicate 16 0 }
         ensures unsaved { self.new.is_unsaved ≡ false }
     {
-        enter_found(wire, &mut self.seat, &found, &self.saved);
-        self.saved = Snapshot::of(&found);
+        enter_found(wire, &mut self.seat, found.core(), &self.saved);
+        self.saved = Snapshot::of(found.core());
         self.ended = ended_by(&found);
         self.node = found;
         self.places = [0; 16];

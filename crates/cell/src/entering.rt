@@ -8,7 +8,7 @@ ghost use Rattle.wire.specs.Readers.{known, IsSeatOf, IsSame};
 ghost use Rattle.cell.specs.Events.{saved_by, Entered};
 
 use model::{Event, Step};
-use node::Node;
+use node::Core;
 use std::snapshot::Snapshot;
 use wire::{NodeSeat, Wire};
 
@@ -36,7 +36,7 @@ pub(crate) fn enter_save(wire: &Wire, seat: &mut NodeSeat)
 
 // Enters the restart, or the save, of the seat's node by which this node was found on its disk.
 // Proofs alone read the two nodes.
-pub(crate) fn enter_found(wire: &Wire, seat: &mut NodeSeat, _found: &Node, _saved: &Snapshot<Node>)
+pub(crate) fn enter_found(wire: &Wire, seat: &mut NodeSeat, _found: &Core, _saved: &Snapshot<Core>)
     ghost happened: { StepOf × Pair }
     requires wire { IsSeatOf wire.now seat.old }
     requires event { Happens (known seat.old) happened.0 happened.1 }

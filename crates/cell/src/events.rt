@@ -2,10 +2,12 @@
 ghost use Rattle.std.specs.Prelude.{◌≡◌, ◌≢◌, true, IfErr, IsTrue};
 ghost use Rattle.ids.specs.declared.refusal.Refusal.TheVariants.{Memory};
 ghost use Rattle.model.specs.Steps.{is_memory_free, is_own};
-ghost use Rattle.model.specs.declared.step.Step.TheVariants as step;
-ghost use Rattle.wire.specs.Plays.{HasTaken};
+ghost use Rattle.model.specs.declared.event.Event.TheVariants as event;
+ghost use Rattle.msg.specs.declared.frame.Data.{Data};
+ghost use Rattle.node.specs.Keeping.{met, own_step};
 ghost use Rattle.wire.specs.Readers.{known, IsSeatOf, IsSame};
-ghost use Rattle.cell.specs.Events.{is_counted, unsaved_after, Acted, Acknowledged, MayAct};
+ghost use Rattle.cell.specs.Desks.{IsTaken};
+ghost use Rattle.cell.specs.Events.{is_counted, unsaved_after, Acknowledged, Given, MayAct};
 
 use crate::desk::Desk;
 use crate::entering::enter;
@@ -15,12 +17,12 @@ use msg::Ack;
 use wire::Wire;
 
 // Whether an answer is that of an event that counts. Reading a word doesn't, nor does a message
-// that was taken in before.
+// that was taken in before or comes before its turn.
 fn is_counted_answer(answer: &Answer) -> bool
     ensures { result ≡ is_counted answer.now }
 {
     match answer {
-        Answer::Word(_) | Answer::Repeat => false,
+        Answer::Word(_) | Answer::Repeat | Answer::Early => false,
         Answer::New(_)
         | Answer::Done
         | Answer::Value(_)
@@ -37,35 +39,61 @@ fn is_counted_answer(answer: &Answer) -> bool
 }
 
 impl Desk {
+    // What an event of the node's own is to its core, and as a step of the space: Next of a message
+    // that waits delivers it.
+    fn meant(&self, event: Event) -> (Event, Step)
+        ensures event { result.0 ≡ met self.now.node.early event }
+        ensures step { result.1 ≡ own_step self.now.node.early self.now.own event }
+    {
+        let own = Step::Act(self.own, event);
+        let Event::Next { from } = event else {
+            return (event, own);
+        };
+        let Some(frame) = self.node.waiting(from) else {
+            return (event, own);
+        };
+        let delivery = Step::Deliver {
+            from,
+            to: self.own,
+            number: frame.number,
+        };
+        (Event::Data(frame), delivery)
+    }
+
     // Gives the node an event of its own.
     pub(crate) fn act(&mut self, wire: &Wire, event: Event) -> Result<Answer, Refusal>
         requires wire { IsSeatOf wire.now self.old.seat }
         requires own { is_own event ≡ true }
-        ensures acted { Acted event (step.Act (known self.old.seat).me event) result
+        ensures given { Given event (met self.old.node.early event)
+            (own_step self.old.node.early (known self.old.seat).me event) result
             self.old.node self.new.node (known self.old.seat) (known self.new.seat) }
-        ensures memory_free { IsTrue (is_memory_free self.old.node.local event)
+        ensures memory_free {
+            IsTrue (is_memory_free self.old.node.core.local (met self.old.node.early event))
             → IfErr result (λ e. e ≢ Memory) }
         ensures unsaved { self.new.is_unsaved ≡ unsaved_after result self.old.is_unsaved }
         ensures same { IsSame self.old.seat self.new.seat }
         ensures saved { self.new.saved.value ≡ self.old.saved.value }
         ensures places { self.new.places ≡ self.old.places }
     {
-        let own = self.own;
-        self.perform(wire, event, Step::Act(own, event))
+        let (meant, step) = self.meant(event);
+        self.perform(wire, event, &meant, step)
     }
 
-    // Gives the node an event that is this step of the space.
+    // Gives the node an event that is this to its core, and this step of the space.
     pub(crate) fn perform(
         &mut self,
         wire: &Wire,
         event: Event,
+        meant: &Event,
         step: Step,
     ) -> Result<Answer, Refusal>
         requires wire { IsSeatOf wire.now self.old.seat }
-        requires may { MayAct (known self.old.seat) event step }
-        ensures acted { Acted event step result
+        requires met { meant.now ≡ met self.old.node.early event }
+        requires taken { (d : Data) → event ≡ event.Data d → IsTaken (known self.old.seat).taken d }
+        requires may { MayAct (known self.old.seat) meant.now step }
+        ensures given { Given event meant.now step result
             self.old.node self.new.node (known self.old.seat) (known self.new.seat) }
-        ensures memory_free { IsTrue (is_memory_free self.old.node.local event)
+        ensures memory_free { IsTrue (is_memory_free self.old.node.core.local meant.now)
             → IfErr result (λ e. e ≢ Memory) }
         ensures unsaved { self.new.is_unsaved ≡ unsaved_after result self.old.is_unsaved }
         ensures same { IsSame self.old.seat self.new.seat }
@@ -74,7 +102,7 @@ impl Desk {
     {
         let answer = self.node.act(event)?;
         if is_counted_answer(&answer) {
-            enter(wire, &mut self.seat, step, &event);
+            enter(wire, &mut self.seat, step, meant);
             self.is_unsaved = true;
         }
         Ok(answer)

@@ -2,10 +2,10 @@
 ghost use Rattle.std.specs.Prelude.{◌≡◌, ◌≢◌, ◌++◌, [], ◌∷◌, false, true, IfErr, IfOk, IsErrOf, IsTrue, OnOk};
 ghost use Rattle.std.specs.Prelude.{length, vec_len};
 ghost use Rattle.disk.specs.Areas.{Areas};
-ghost use Rattle.cell.specs.Disks.{OpensTo};
+ghost use Rattle.cell.specs.Disks.{OpensToNode};
 ghost use Rattle.cell.specs.Opened.{AreBeside, AreFound, HasPlace, HoldsAnother, IsNodeOf, IsReadFrom};
 ghost use Rattle.cell.specs.declared.fault.Unopened.TheVariants as fault;
-ghost use Rattle.model.specs.View.{new_view};
+ghost use Rattle.node.specs.Keeping.{new_whole};
 
 use crate::fault::Unopened;
 use disk::{Disk, Shelf, is_blank};
@@ -22,9 +22,9 @@ fn create_node<D: Disk + Drop>(
 ) -> Result<(Node, Shelf<D>), Unopened>
     requires { (c : Areas) → D.may_leave disk c → c.select ≡ [] }
 
-    ensures node { IfOk result (λ r. r.0 ≡ new_view shape own.number) }
+    ensures node { IfOk result (λ r. r.0 ≡ new_whole shape own.number) }
     ensures ready { IfOk result (λ r. r.1.ready ≡ true) }
-    ensures opens { IfOk result (λ r. OpensTo r.0 (D.seen r.1.disk)) }
+    ensures opens { IfOk result (λ r. OpensToNode r.0 (D.seen r.1.disk)) }
     ensures refused { IfErr result (λ e. e ≢ fault.Disks) }
 {
     let node = match Node::new(alloc, shape, own) {
@@ -39,8 +39,8 @@ fn create_node<D: Disk + Drop>(
 
 // Whether a node is the one of this number in a space of this shape.
 fn is_node_of(node: &Node, shape: Shape, own: NodeId) -> bool
-    ensures is { IsTrue result → IsNodeOf shape own.number node.now }
-    ensures other { result ≡ false → IsNodeOf shape own.number node.now → ⊥ }
+    ensures is { IsTrue result → IsNodeOf shape own.number node.now.core }
+    ensures other { result ≡ false → IsNodeOf shape own.number node.now.core → ⊥ }
 {
     let state = node.state();
     let is_sized = state.shape.nodes() == shape.nodes()
@@ -67,10 +67,10 @@ fn read_node<D: Disk + Drop>(
     own: NodeId,
     disk: D,
 ) -> Result<(Node, Shelf<D>), Unopened>
-    ensures node { IfOk result (λ r. IsNodeOf shape own.number r.0) }
+    ensures node { IfOk result (λ r. IsNodeOf shape own.number r.0.core) }
     ensures ready { IfOk result (λ r. r.1.ready ≡ true) }
-    ensures opens { IfOk result (λ r. OpensTo r.0 (D.seen r.1.disk)) }
-    ensures read { IfOk result (λ r. OpensTo r.0 (D.seen disk)) }
+    ensures opens { IfOk result (λ r. OpensToNode r.0 (D.seen r.1.disk)) }
+    ensures read { IfOk result (λ r. OpensToNode r.0 (D.seen disk)) }
     ensures other { IsErrOf result fault.Disks → HoldsAnother shape own.number (D.seen disk) }
 {
     let (shelf, node) = match Shelf::open::<Node>(alloc, disk) {
@@ -92,9 +92,9 @@ fn node_of<D: Disk + Drop>(
     own: NodeId,
     mut disk: D,
 ) -> Result<(Node, Shelf<D>), Unopened>
-    ensures node { IfOk result (λ r. IsNodeOf shape own.number r.0) }
+    ensures node { IfOk result (λ r. IsNodeOf shape own.number r.0.core) }
     ensures ready { IfOk result (λ r. r.1.ready ≡ true) }
-    ensures opens { IfOk result (λ r. OpensTo r.0 (D.seen r.1.disk)) }
+    ensures opens { IfOk result (λ r. OpensToNode r.0 (D.seen r.1.disk)) }
     ensures read { IfOk result (λ r. IsReadFrom shape own.number (D.seen disk) r.0) }
     ensures other { IsErrOf result fault.Disks → HoldsAnother shape own.number (D.seen disk) }
 {
@@ -121,7 +121,7 @@ pub fn find<D: Disk + Drop>(
         HasPlace (λ k d. HoldsAnother shape k (D.seen d)) disks.items }
     ensures count { IfOk result (λ r. length r.0.items ≡ shape.nodes) }
     ensures found { IfOk result (λ r.
-        AreFound (λ n s. (s.ready ≡ true) × OpensTo n (D.seen s.disk))
+        AreFound (λ n s. (s.ready ≡ true) × OpensToNode n (D.seen s.disk))
         shape r.0.items r.1.items) }
     ensures read { IfOk result (λ r.
         AreBeside (λ k d n. IsReadFrom shape k (D.seen d) n) disks.items r.0.items) }

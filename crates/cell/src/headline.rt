@@ -23,7 +23,7 @@ pub fn laws()
     // What is reachable and the sweeping node's own is there before the sweep, and the same after.
     ensures frees_none_reachable { SweepsFreeNoneReachable }
     // No message that came over the wire is refused as one for another node or space, but only
-    // before its turn, where a message that it makes the node send would need a number above the
-    // greatest, and for want of memory.
+    // where the node has no place for it before its turn, where a message that it makes the node
+    // send would need a number above the greatest, and for want of memory.
     ensures in_turn { NoneRefusedInTurn }
 {}

@@ -3,8 +3,17 @@ ghost use Rattle.std.specs.Prelude.{◌≡◌, ◌≢◌, true, IfErr, IfOk, IsE
 ghost use Rattle.ids.specs.declared.refusal.Refusal.TheVariants.{Memory};
 ghost use Rattle.model.specs.World.{World};
 ghost use Rattle.wire.specs.Readers.{AreOpened, IsMade};
-ghost use Rattle.cell.specs.Disks.{OpensTo};
-ghost use Rattle.cell.specs.Opened.{world_of, AreBeside, AreFound, AreReady, HasPlace, HoldsAnother, IsReadFrom};
+ghost use Rattle.cell.specs.Disks.{OpensToNode};
+ghost use Rattle.cell.specs.Opened.{
+  cores,
+  world_of,
+  AreBeside,
+  AreFound,
+  AreReady,
+  HasPlace,
+  HoldsAnother,
+  IsReadFrom,
+};
 ghost use Rattle.cell.specs.declared.fault.Unopened.TheVariants as fault;
 
 use crate::cell::Cell;
@@ -23,7 +32,7 @@ fn seat_all<D: Disk + Drop>(
     mut shelves: Vec<Shelf<D>>,
     mut seats: Vec<NodeSeat>,
 ) -> Result<Vec<Cell<D>>, Refusal>
-    requires { AreReady (λ n s. (s.ready ≡ true) × OpensTo n (D.seen s.disk))
+    requires { AreReady (λ n s. (s.ready ≡ true) × OpensToNode n (D.seen s.disk))
         nodes.items shelves.items seats.items }
     ensures nodes { IfOk result (λ v. map (λ c. c.desk.node) v.items ≡ nodes.items) }
     ensures shelves { IfOk result (λ v. map (λ c. c.shelf) v.items ≡ shelves.items) }
@@ -54,8 +63,8 @@ pub fn join<D: Disk + Drop>(
     watches: u8,
 ) -> Result<(Wire, Vec<Cell<D>>, Vec<Watch>), Refusal>
     ghost opening: { World }
-    requires opened { AreOpened shape nodes.items opening }
-    requires found { AreFound (λ n s. (s.ready ≡ true) × OpensTo n (D.seen s.disk))
+    requires opened { AreOpened shape (cores nodes.items) opening }
+    requires found { AreFound (λ n s. (s.ready ≡ true) × OpensToNode n (D.seen s.disk))
         shape nodes.items shelves.items }
     ensures nodes { IfOk result (λ r. map (λ c. c.desk.node) r.1.items ≡ nodes.items) }
     ensures shelves { IfOk result (λ r. map (λ c. c.shelf) r.1.items ≡ shelves.items) }
@@ -86,8 +95,9 @@ pub fn open<D: Disk + Drop>(
     ensures read { IfOk result (λ r. AreBeside (λ k d n. IsReadFrom shape k (D.seen d) n)
         disks.items (map (λ c. c.desk.node) r.1.items)) }
     ensures count { IfOk result (λ r. vec_len r.1 ≡ shape.nodes) }
-    ensures made { IfOk result (λ r. IsMade (world_of (map (λ c. c.desk.node) r.1.items)) watches
-        r.0 (map (λ c. c.desk.seat) r.1.items) r.2.items) }
+    ensures made { IfOk result (λ r. IsMade
+        (world_of (cores (map (λ c. c.desk.node) r.1.items))) watches r.0
+        (map (λ c. c.desk.seat) r.1.items) r.2.items) }
 {
     let (nodes, shelves) = find(alloc, shape, disks)?;
     match join(alloc, shape, nodes, shelves, watches) {

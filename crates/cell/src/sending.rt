@@ -45,9 +45,9 @@ use wire::{NodeSeat, Raised, Wire};
 // The frame that a node sends next to another one, where this is the place in the window; and the
 // place after it.
 fn due(node: &Node, to: u8, place: u8) -> (Frame, u8)
-    requires { IsTrue (is_other node.now.local to) }
-    ensures frame { plain result.0 ≡ frame_due node.now to place }
-    ensures next { result.1 ≡ next_place node.now to place }
+    requires { IsTrue (is_other node.now.core.local to) }
+    ensures frame { plain result.0 ≡ frame_due node.now.core to place }
+    ensures next { result.1 ≡ next_place node.now.core to place }
 {
     if let Some(frame) = node.frame_at(to, place) {
         return (frame, place + 1);
@@ -63,12 +63,12 @@ fn due(node: &Node, to: u8, place: u8) -> (Frame, u8)
 fn send(wire: &Wire, seat: &mut NodeSeat, _node: &Node, to: u8, _place: u8, bytes: Vec<u8>) -> bool
     requires wire { IsSeatOf wire.now seat.old }
     requires to { (to < width wire.now) × (to ≢ seat_node seat.old) }
-    requires spelled { Spells (frame_due _node.now to _place) bytes.items }
+    requires spelled { Spells (frame_due _node.now.core to _place) bytes.items }
     requires released { Releases (known seat.old).me (known seat.old).pair.saved
-        (frame_due _node.now to _place) }
-    requires receiver { receiver (frame_due _node.now to _place) ≡ to }
+        (frame_due _node.now.core to _place) }
+    requires receiver { receiver (frame_due _node.now.core to _place) ≡ to }
     ensures same { IsSame seat.old seat.new }
-    ensures sent { IsSent (outbox seat.old to) (frame_due _node.now to _place) result
+    ensures sent { IsSent (outbox seat.old to) (frame_due _node.now.core to _place) result
         (known seat.old) (known seat.new) }
 {
     let Some(claim) = wire.claim(seat, to) else {
@@ -82,13 +82,13 @@ impl Desk {
     // Sends the frame that is next to another node, and says whether the mailbox was empty.
     pub(crate) fn send(&mut self, wire: &Wire, alloc: Global, to: u8) -> Result<bool, Refusal>
         requires wire { IsSeatOf wire.now self.old.seat }
-        requires other { IsTrue (is_other self.old.node.local to) }
+        requires other { IsTrue (is_other self.old.node.core.local to) }
         ensures same { IsSame self.old.seat self.new.seat }
         ensures sent { IfOk result (λ sent. IsSent (outbox self.old.seat to)
-            (frame_due self.old.node to (slice_index_or self.old.places to 0)) sent
+            (frame_due self.old.node.core to (slice_index_or self.old.places to 0)) sent
             (known self.old.seat) (known self.new.seat)) }
         ensures places { IfOk result (λ sent. self.new.places
-            ≡ places_after sent self.old.node to self.old.places) }
+            ≡ places_after sent self.old.node.core to self.old.places) }
         ensures refused { IfErr result (λ e. (e ≡ Memory) × (self.new.seat ≡ self.old.seat)
             × (self.new.places ≡ self.old.places)) }
         ensures node { self.new.node ≡ self.old.node }
@@ -109,7 +109,7 @@ impl Desk {
     // wasn't full.
     pub(crate) fn take(&mut self, wire: &Wire, from: u8) -> Option<Frame>
         requires wire { IsSeatOf wire.now self.old.seat }
-        requires other { IsTrue (is_other self.old.node.local from) }
+        requires other { IsTrue (is_other self.old.node.core.local from) }
         ensures same { IsSame self.old.seat self.new.seat }
         ensures taken { MatchOption result
             (((known self.new.seat).read ≢ 1)
@@ -152,7 +152,7 @@ impl Desk {
 
     // Whether this is another node of the space.
     pub(crate) fn is_other(&self, node: u8) -> bool
-        ensures { result ≡ is_other self.now.node.local node }
+        ensures { result ≡ is_other self.now.node.core.local node }
     {
         node < self.nodes && node != self.own
     }
@@ -160,13 +160,13 @@ impl Desk {
     // Gives the node a frame that was taken from another one.
     pub(crate) fn handle(&mut self, wire: &Wire, frame: Frame) -> Result<Answer, Refusal>
         requires wire { IsSeatOf wire.now self.old.seat }
-        requires taken { (k : ℕ)
-            × (slice_get (known self.old.seat).taken k ≡ Some (plain frame)) }
+        requires taken { ∥ (k : ℕ)
+            × (slice_get (known self.old.seat).taken k ≡ Some (plain frame)) ∥₁ }
         requires sender { sender (plain frame) < (known self.old.seat).nodes }
         requires receiver { receiver (plain frame) ≡ (known self.old.seat).me }
         ensures handled { Handled frame result self.old.node self.new.node
             (known self.old.seat) (known self.new.seat) }
-        ensures memory_free { IsTrue (is_memory_free self.old.node.local (event_of frame))
+        ensures memory_free { IsTrue (is_memory_free self.old.node.core.local (event_of frame))
             → IfErr result (λ e. e ≢ Memory) }
         ensures unsaved { IsMarked (known self.old.seat) (known self.new.seat)
             self.old.is_unsaved self.new.is_unsaved }
@@ -181,7 +181,8 @@ impl Desk {
                     to: data.to,
                     number: data.number,
                 };
-                self.perform(wire, Event::Data(data), step)
+                let event = Event::Data(data);
+                self.perform(wire, event, &event, step)
             }
             Frame::Ack(ack) => self.acknowledge(ack),
         }

@@ -11,6 +11,7 @@ fn answer_outcome(answer: &Answer) -> Outcome
 {
     match answer {
         Answer::Repeat => Outcome::Repeat,
+        Answer::Early => Outcome::Early,
         Answer::Word(_)
         | Answer::New(_)
         | Answer::Done

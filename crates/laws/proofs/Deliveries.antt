@@ -364,8 +364,15 @@ turn-passes shape w m h inv between there turn =
       (le-leb m.number _ turn, (may, tt)),
     )
 
-pub none-refused-in-turn : NoneRefusedInTurn
-none-refused-in-turn shape within steps from to number stamp b e there refused =
+-- refused are those that a node has no place for, but where a number would be too great
+pub refused-beyond : (shape : Shaped) → IsShape shape → (steps : List Step)
+    (from to number stamp : ℕ) (b : Body) (e : Refusal)
+    → IsInNet (run (new_world shape) steps) (data_frame from to number stamp b)
+    → receive (node_at (run (new_world shape) steps).current to) from to number stamp b ≡ Err e
+    → (e ≡ LinkSpent)
+    ⊎ ((e ≡ OutOfOrder)
+    × (got_from (node_at (run (new_world shape) steps).current to).local from + WINDOW < number))
+refused-beyond shape within steps from to number stamp b e there refused =
     let w : World = run (new_world shape) steps in
     let m : Delivery = record
     { from = from; to = to; number = number; message = record { stamp = stamp; body = b } } in
@@ -383,7 +390,11 @@ none-refused-in-turn shape within steps from to number stamp b e there refused =
           (between-nodes inv.base from to between.0 between.1 between.2)
           early
           refused,
-      (let past : got_from s.local from + WINDOW < number = leb-false number _ early in
-          omega (arith, past)),
+      leb-false number _ early,
     ))
     (cases_Bool (leb number (got_from s.local from + WINDOW)))
+
+pub none-refused-in-turn : NoneRefusedInTurn
+none-refused-in-turn shape within steps from to number stamp b e there refused =
+    ⊎_elim inl (λ early. inr (early.0, let past = early.1 in omega (arith, past)))
+    (refused-beyond shape within steps from to number stamp b e there refused)

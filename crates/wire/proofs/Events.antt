@@ -1,6 +1,8 @@
 -- Events of a space, one after another: what a list of them and one more is, and what an event of
 -- one node leaves of the others.
 use Rattle.std.proofs.Common.{◌≡◌, ◌≢◌, ℕ, ◌<◌, ◌≤◌, ◌==◌, cond, eq-eqb, ne_eqb, lt-ltb, Bool, true, false, List, [], ◌∷◌, ◌++◌, length, set, Some, Result, Ok, refl, sym, ap, ◌∙◌, subst, get_or-set_same, get_or-set_other, slice_get}
+use Rattle.std.proofs.Math.Logic.{∥∥₁_elim}
+use Rattle.std.proofs.Props.{props}
 use Rattle.std.proofs.lemmas.Bool.{and_from, cond-true, cond-false}
 use Rattle.ids.specs.declared.refusal.Refusal.{Refusal}
 use Rattle.msg.specs.Grammar.{Plain, data_frame}
@@ -230,6 +232,7 @@ happens-local w v (step.Deliver from to number) q h t =
     subst (λ (n : ℕ). IsLocal w (step.Deliver from n number) v.me q) (sym t.0)
     (delivered-local w v.me v.pair (stands-of w v h) q from number x t.3.1
     (subst (λ (n : ℕ). from < n) h.nodes t.1)
-    (h.released t.3.2.0 (data_frame from v.me number x.stamp x.body) t.3.2.1) t.2
+    (∥∥₁_elim t.3.2 (hlevel props)
+    (λ taken. h.released taken.0 (data_frame from v.me number x.stamp x.body) taken.1)) t.2
     (t.3.3, t.3.4))
 happens-local w v (step.Hand from to) q h never = absurd never

@@ -7,6 +7,7 @@ ghost use Rattle.std.specs.Prelude.{
   ◌≤◌,
   [],
   length,
+  map,
   replicate,
   IfOk,
   IfErr,
@@ -47,7 +48,7 @@ impl Wire {
         watches: u8,
     ) -> Result<(Wire, Vec<NodeSeat>, Vec<Watch>), Refusal>
         ghost opening: { World }
-        requires { AreOpened shape nodes.now opening }
+        requires { AreOpened shape (map (λ n. n.core) nodes.now) opening }
         ensures made { IfOk result (λ r. IsMade opening watches r.0 r.1.items r.2.items) }
         ensures refused { IfErr result (λ e. e ≡ Memory) }
     {

@@ -23,7 +23,7 @@ ghost use Rattle.ids.specs.declared.refusal.Refusal.TheVariants.{Memory};
 ghost use Rattle.trace.specs.Lines.{call_of, line_text};
 ghost use Rattle.model.specs.Steps.{is_memory_free, is_own};
 ghost use Rattle.model.specs.View.{Shows};
-ghost use Rattle.model.specs.declared.step.Step.TheVariants as step;
+ghost use Rattle.node.specs.Keeping.{met, own_step};
 ghost use Rattle.wire.specs.Views.{raises};
 ghost use Rattle.wire.specs.Readers.{
   known,
@@ -34,9 +34,9 @@ ghost use Rattle.wire.specs.Readers.{
   IsSame,
   IsSeatOf,
 };
-ghost use Rattle.cell.specs.Desks.{IsAtSeat, IsUnsaved};
-ghost use Rattle.cell.specs.Disks.{OpensTo};
-ghost use Rattle.cell.specs.Events.{outcome_of, Acted, IsMarked};
+ghost use Rattle.cell.specs.Desks.{AreTaken, IsAtSeat, IsUnsaved};
+ghost use Rattle.cell.specs.Disks.{OpensToNode};
+ghost use Rattle.cell.specs.Events.{outcome_of, Given, IsMarked};
 
 use super::Cell;
 use crate::desk::Desk;
@@ -61,9 +61,9 @@ impl<D: Disk> Cell<D> {
     ) -> Result<Cell<D>, Refusal>
     where
         D: Drop,
-        requires seat { IsAtSeat node seat }
+        requires seat { IsAtSeat node.core seat }
         requires ready { shelf.ready ≡ true }
-        requires disk { OpensTo node (D.seen shelf.disk) }
+        requires disk { OpensToNode node (D.seen shelf.disk) }
         ensures node { IfOk result (λ c. c.desk.node ≡ node) }
         ensures seat { IfOk result (λ c. c.desk.seat ≡ seat) }
         ensures places { IfOk result (λ c. c.desk.places ≡ replicate 16 0) }
@@ -82,17 +82,21 @@ impl<D: Disk> Cell<D> {
     }
 
     /// Gives the node an event of its own. It answers what the node answers, and the event enters
-    /// the history; `Word` enters nothing. Refused as by the node, which then changes nothing, and
-    /// Closed exactly while the cell is closed. An event that takes no memory is never refused
-    /// Memory. A line is added to the trace either way.
+    /// the history; `Word` enters nothing, and `Next` of a message that waits enters as its
+    /// delivery. Refused as by the node, whose state then stays, and Closed exactly while the cell
+    /// is closed. An event that takes no memory is never refused Memory. A line is added to the
+    /// trace either way.
     pub fn act(&mut self, wire: &Wire, event: Event) -> Result<Answer, Refusal>
         requires wire { IsSeatOf wire.now self.old.desk.seat }
         requires own { is_own event ≡ true }
-        ensures acted { IsTrue self.old.shelf.ready
-            → Acted event (step.Act (known self.old.desk.seat).me event) result
+        ensures given { IsTrue self.old.shelf.ready
+            → Given event (met self.old.desk.node.early event)
+            (own_step self.old.desk.node.early (known self.old.desk.seat).me event) result
             self.old.desk.node self.new.desk.node
             (known self.old.desk.seat) (known self.new.desk.seat) }
-        ensures memory_free { IsTrue (is_memory_free self.old.desk.node.local event)
+        ensures memory_free {
+            IsTrue (is_memory_free self.old.desk.node.core.local
+            (met self.old.desk.node.early event))
             → IfErr result (λ e. e ≢ Memory) }
         ensures closed { IsErrOf result Refusal.Closed ↔ (self.old.shelf.ready ≡ false) }
         ensures shut { self.old.shelf.ready ≡ false → self.new.desk ≡ self.old.desk }
@@ -158,10 +162,12 @@ impl<D: Disk> Cell<D> {
         self.desk.is_unsaved
     }
 
-    /// The node as it stands: it shows the state in which the seat's events leave it.
+    /// The node as it stands: it shows the state in which the seat's events leave it, and each
+    /// message that it keeps is one that the seat took.
     pub fn node(&self) -> &Node
         ensures value { result.now ≡ self.now.desk.node }
-        ensures shows { Shows result.now (known self.now.desk.seat).pair.current }
+        ensures shows { Shows result.now.core (known self.now.desk.seat).pair.current }
+        ensures taken { AreTaken (known self.now.desk.seat).taken result.now.early }
     {
         &self.desk.node
     }

@@ -25,12 +25,12 @@ ghost use Rattle.std.specs.Prelude.{
 ghost use Rattle.circular_buffer.specs.Buffer.{keep_last};
 ghost use Rattle.ids.specs.declared.limits.TheConstants.{GREATEST_IMAGE, TRACE_EVENTS};
 ghost use Rattle.trace.specs.declared.call.Call.TheVariants as call;
-ghost use Rattle.model.specs.View.{NodeView, kept_view};
+ghost use Rattle.node.specs.Keeping.{kept_whole};
 ghost use Rattle.image.specs.Images.{image_of};
 ghost use Rattle.disk.specs.Crashes.{Grew, Only};
 ghost use Rattle.disk.specs.Memory.{filled_by_crash, held_by, IsFaultless, left_by};
 ghost use Rattle.wire.specs.Readers.{known, IsSame, IsSeatOf};
-ghost use Rattle.cell.specs.Disks.{is_same_image, HoldsSaved, OpensTo};
+ghost use Rattle.cell.specs.Disks.{is_same_image, HoldsSaved, OpensToNode};
 ghost use Rattle.cell.specs.Events.{
   done_outcome,
   found_step,
@@ -60,7 +60,7 @@ impl<D: Disk> Cell<D> {
             (known self.new.desk.seat ≡ saved_by (known self.old.desk.seat)) }
         ensures entered { OnOk result (Entered (step.Save (known self.old.desk.seat).me)
             (known self.old.desk.seat) (known self.new.desk.seat)) }
-        ensures node { OnOk result (self.new.desk.node ≡ kept_view self.old.desk.node) }
+        ensures node { OnOk result (self.new.desk.node ≡ kept_whole self.old.desk.node) }
         ensures unsaved { OnOk result (self.new.desk.is_unsaved ≡ false) }
         ensures ready { OnOk result (self.new.shelf.ready ≡ true) }
         ensures places { self.new.desk.places ≡ self.old.desk.places }
@@ -74,7 +74,7 @@ impl<D: Disk> Cell<D> {
             → Grew (D.faults self.old.shelf.disk) (D.faults self.new.shelf.disk)
             × (self.new.shelf.ready ≡ false) }
         ensures too_large { IsErrOf result Refusal.ImageTooLarge ↔
-            IsTrue self.old.shelf.ready × (GREATEST_IMAGE < length (image_of self.old.desk.node)) }
+            IsTrue self.old.shelf.ready × (GREATEST_IMAGE < length (image_of self.old.desk.node.core)) }
         ensures unchanged { IfErr result (λ e. e ≢ Refusal.Disk
             → (self.new.shelf.disk ≡ self.old.shelf.disk)
             × (self.new.shelf.ready ≡ self.old.shelf.ready)) }
@@ -99,18 +99,19 @@ impl<D: Disk> Cell<D> {
     /// Syncs the disk, and takes up the node that it holds; the cell is then open. Where the cell
     /// was open this is a restart, and so it is after reopenings of an open cell that were refused;
     /// after a save that was refused Disk it is a restart or that save, by what the disk opens to.
-    /// The windows to other nodes are sent from their start.
+    /// The windows to other nodes are sent from their start, and the messages that were kept until
+    /// their turn are lost, also where it is that save.
     ///
     /// Refused Disk where the device failed, and Memory: the cell is then closed, and no event
     /// enters. A line is added to the trace either way.
     pub fn reopen(&mut self, wire: &Wire) -> Result<(), Refusal>
         requires wire { IsSeatOf wire.now self.old.desk.seat }
-        ensures opened { OnOk result (OpensTo self.new.desk.node (D.seen self.old.shelf.disk)) }
+        ensures opened { OnOk result (OpensToNode self.new.desk.node (D.seen self.old.shelf.disk)) }
         ensures reopened { OnOk result (known self.new.desk.seat
-            ≡ reopened_by (is_same_image self.new.desk.node self.old.desk.saved.value)
+            ≡ reopened_by (is_same_image self.new.desk.node.core self.old.desk.saved.value)
             (known self.old.desk.seat)) }
         ensures entered { OnOk result (Entered
-            (found_step (is_same_image self.new.desk.node self.old.desk.saved.value)
+            (found_step (is_same_image self.new.desk.node.core self.old.desk.saved.value)
             (known self.old.desk.seat).me)
             (known self.old.desk.seat) (known self.new.desk.seat)) }
         ensures restarted { OnOk result (IsTrue self.old.shelf.ready
