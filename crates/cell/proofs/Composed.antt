@@ -1,6 +1,7 @@
 -- The theorems on lists of steps, of what cells do.
 use Rattle.std.proofs.Common.{◌≡◌, ◌⊎◌, ℕ, ◌+◌, ◌<◌, Bool, true, false, List, [], ◌++◌, map, length, Ok, Err, refl, sym, ap, ◌∙◌, subst}
 use Rattle.ids.specs.Limits.{IsShape, Shaped}
+use Rattle.ids.specs.declared.limits.TheConstants.{WINDOW}
 use Rattle.ids.specs.declared.names.Ref.{Ref}
 use Rattle.ids.specs.declared.refusal.Refusal.{Refusal}
 use Rattle.ids.specs.declared.refusal.Refusal.TheVariants.{LinkSpent, OutOfOrder}
@@ -70,7 +71,7 @@ sweep-counts s t count a answered =
 pub sweeps-free-none-reachable : SweepsFreeNoneReachable
 sweeps-free-none-reachable count old new v w reached shows swept =
     let a = swept.answer in
-    let acted = swept.acted in
+    let acted = swept.given.acted in
     let s : NodeState = acted.states.0 in
     let answered : act v.pair.current (event.Sweep count) ≡ Ok (s, a) = acted.states.1 in
     let e = (acted.entered (sweep-counts v.pair.current s count a answered)).1 in
@@ -98,12 +99,12 @@ InTurnIn w =
     → IsInNet w (data_frame from to number stamp body)
     → receive (node_at w.current to) from to number stamp body ≡ Err e
     → (e ≡ LinkSpent)
-    ⊎ ((e ≡ OutOfOrder) × (got_from (node_at w.current to).local from + 1 < number))
+    ⊎ ((e ≡ OutOfOrder) × (got_from (node_at w.current to).local from + WINDOW < number))
 
 in-turn : (w : World) (log : List Step) → IsReached w → InTurnIn (run w log)
 in-turn w log r =
     subst InTurnIn (onward w log r)
-    (deliveries.none-refused-in-turn r.shape r.limits (r.steps ++ log))
+    (deliveries.refused-beyond r.shape r.limits (r.steps ++ log))
 
 received : (s : NodeState) (d : Data) (e : Refusal) → act s (event.Data d) ≡ Err e
     → receive s d.from d.to d.number d.stamp d.body ≡ Err e
@@ -121,14 +122,14 @@ none-refused-in-turn d e old v reached shows refusing plenty =
     let given : Handled (frame.Data d) (Err e) old refusing.new taken refusing.w =
     subst (λ (f : Frame). Handled f (Err e) old refusing.new taken refusing.w) is
     took.handled in
-    let refused = received v.pair.current d e ((given.states tt).0 plenty) in
+    let refused = received v.pair.current d e ((given.acted.states tt).0 plenty) in
     let to : v.me ≡ d.to =
     sym took.receiver ∙ ap (λ (f : Frame). receiver (plain f)) is in
     let here : node_at (run v.opening took.arrives.log).current d.to ≡ v.pair.current =
     ap (λ (i : ℕ). node_at (run v.opening took.arrives.log).current i) (sym to)
     ∙ ap (λ (p : Pair). p.current) took.arrives.pair in
     subst
-    (λ (k : ℕ). (e ≡ LinkSpent) ⊎ ((e ≡ OutOfOrder) × (k + 1 < d.number)))
+    (λ (k : ℕ). (e ≡ LinkSpent) ⊎ ((e ≡ OutOfOrder) × (k + WINDOW < d.number)))
     (ap (λ (s : NodeState). got_from s.local d.from) here
     ∙ ap (λ (p : LocalState). got_from p d.from) (sym shows.local))
     (in-turn v.opening took.arrives.log reached d.from d.to d.number d.stamp d.body e net

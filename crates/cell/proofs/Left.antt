@@ -5,6 +5,7 @@ use Rattle.std.proofs.Math.Logic.{∥∥₁_elim}
 use Rattle.std.proofs.Math.Seq.{get_or-append_seam, set-append_seam}
 use Rattle.std.proofs.Props.{props}
 use Rattle.std.proofs.lemmas.Bool.{lt-ltb}
+use Rattle.std.proofs.lemmas.List.{length-map}
 use Rattle.ids.specs.Limits.{Shaped}
 use Rattle.ids.specs.declared.refusal.Refusal.TheVariants.{NoNode}
 use Rattle.model.specs.State.{NodeState, no_node, node_at}
@@ -21,9 +22,11 @@ use Rattle.disk.specs.Shelf.{image_at, side}
 use Rattle.wire.specs.Readers.{IsSavedAs}
 use Rattle.cell.specs.Disks.{OpensTo}
 use Rattle.cell.specs.Laws.{restarted, IsLeft, IsReached, LeftIsOpened}
-use Rattle.cell.specs.Opened.{IsReadFrom}
+use Rattle.cell.specs.Opened.{IsReadFrom, cores}
+use Rattle.node.specs.Keeping.{WholeNode}
 use Rattle.cell.proofs.Found.{stands-read}
-use Rattle.cell.proofs.Opening.{image-found, same-found}
+use Rattle.cell.proofs.Opening.{core-found, image-found, same-found}
+use Rattle.cell.proofs.Places.{mapped-from}
 
 -- ---- All nodes go on as they were saved
 
@@ -103,12 +106,13 @@ left-is : (shape : Shaped) (k width : ℕ) (s : NodeState) (c : Areas) (n : Node
 left-is shape k width s c n left found =
     ∥∥₁_elim left.opens (hlevel props) (λ opens. same-found n left.node c found opens)
 
-left-stands : (shape : Shaped) (k width : ℕ) (s : NodeState) (c : Areas) (n : NodeView)
-    → IsLeft k width s c → IsReadFrom shape k c n → IsSavedAs n s
-left-stands shape k width s c n left read =
+left-stands : (shape : Shaped) (k width : ℕ) (s : NodeState) (c : Areas) (whole : WholeNode)
+    → IsLeft k width s c → IsReadFrom shape k c whole → IsSavedAs whole.core s
+left-stands shape k width s c whole left read =
+    let n : NodeView = whole.core in
     let found : OpensTo n c =
-    read.held (λ empty. ∥∥₁_elim left.opens (hlevel props)
-    (λ opens. not-blank left.node c opens empty)) in
+    core-found whole c (read.held (λ empty. ∥∥₁_elim left.opens (hlevel props)
+    (λ opens. not-blank left.node c opens empty))) in
     let is = left-is shape k width s c n left found in
     let stands = stands-read k width s n
     (ap (λ (m : NodeView). m.local.own) is ∙ left.saved.own)
@@ -121,8 +125,10 @@ pub left-opened : LeftIsOpened
 left-opened shape w nodes width count read = record {
   saved = refl;
   width = width;
-  count = count;
+  count = length-map nodes (λ m. m.core) ∙ count;
   each = λ k n there.
-      (let from = read k n there in
-      left-stands shape k shape.nodes (node_at w.saved k) from.0 n from.1 from.2);
+      (let of = mapped-from (λ m. m.core) nodes k n there in
+      let from = read k of.0 of.1 in
+      subst (λ (m : NodeView). IsSavedAs m (node_at w.saved k)) (sym of.2)
+      (left-stands shape k shape.nodes (node_at w.saved k) from.0 of.0 from.1 from.2));
 }

@@ -1,5 +1,6 @@
 pub mod Quiet
 pub mod Standing
+pub mod Waiting
 pub mod Found
 pub mod Releasing
 pub mod Opening

@@ -2,11 +2,11 @@
 use Rattle.std.proofs.Common.{◌≡◌, ◌<◌, ℕ, Some, sym, ap, ◌∙◌, subst}
 use Rattle.ids.specs.Limits.{Shaped}
 use Rattle.model.specs.State.{new_node}
-use Rattle.model.specs.View.{NodeView, Shows, kept_view, new_view}
+use Rattle.model.specs.View.{Shows, new_view}
 use Rattle.model.specs.World.{World, new_world}
 use Rattle.model.proofs.NewNodes.{new-kept, new-shown}
-use Rattle.image.specs.Images.{image_of}
-use Rattle.image.specs.Nodes.{IsImageOf}
+use Rattle.node.specs.Keeping.{WholeNode, alone, new_whole}
+use Rattle.image.specs.Wholes.{IsWholeOf, saved_whole, whole_image}
 use Rattle.disk.specs.Areas.{Areas}
 use Rattle.disk.specs.Shelf.{opened}
 use Rattle.wire.specs.Views.{Known, Pair, pair_at}
@@ -15,7 +15,7 @@ use Rattle.wire.specs.declared.seats.Wire.{Wire}
 use Rattle.wire.specs.declared.seats.NodeSeat.{NodeSeat}
 use Rattle.wire.proofs.NewWires.{new-at}
 use Rattle.cell.specs.Desks.{IsAtSeat}
-use Rattle.cell.specs.Disks.{OpensTo}
+use Rattle.cell.specs.Disks.{OpensToNode}
 
 -- it stands at its own seat, as the wire was made
 pub at-seat : (shape : Shaped) (own : ℕ) (wire : Wire) (s : NodeSeat)
@@ -34,8 +34,10 @@ at-seat shape own wire s opening width inside seated =
     }
 
 -- it is what the disk opens to on which it was created
-pub opens-new : (shape : Shaped) (own : ℕ) (n : NodeView) (c : Areas) → n ≡ new_view shape own
-    → opened c ≡ Some (image_of n) → IsImageOf (image_of n) (kept_view n) → OpensTo n c
+pub opens-new : (shape : Shaped) (own : ℕ) (n : WholeNode) (c : Areas) → n ≡ new_whole shape own
+    → opened c ≡ Some (whole_image n) → IsWholeOf (whole_image n) (saved_whole n)
+    → OpensToNode n c
 opens-new shape own n c is found read =
-    let kept : kept_view n ≡ n = ap kept_view is ∙ new-kept shape own ∙ sym is in
-    (image_of n, found, subst (IsImageOf (image_of n)) kept read)
+    let kept : saved_whole n ≡ n =
+    ap saved_whole is ∙ ap alone (new-kept shape own) ∙ sym is in
+    (whole_image n, found, subst (IsWholeOf (whole_image n)) kept read)

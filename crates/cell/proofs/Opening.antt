@@ -1,5 +1,5 @@
 -- Which node a cell's disk opens to.
-use Rattle.std.proofs.Common.{◌≡◌, true, false, ◌≤◌, List, ℕ, Option, Some, sym, ap, ◌∙◌, subst, inl, inr, ⊎_elim}
+use Rattle.std.proofs.Common.{◌≡◌, true, false, ◌≤◌, List, ℕ, Option, Some, refl, sym, ap, ◌∙◌, subst, inl, inr, ⊎_elim}
 use Rattle.std.proofs.Math.Logic.{∥∥₁_elim, ∥∥₁_map}
 use Rattle.std.proofs.Props.{props}
 use Rattle.std.proofs.lemmas.Slice.Eq.{bytes_eq-Decides}
@@ -10,7 +10,15 @@ use Rattle.image.proofs.Images.{image_of_one, image_is}
 use Rattle.disk.specs.Areas.{Areas}
 use Rattle.disk.specs.Crashes.{LeavesOnly}
 use Rattle.disk.specs.Shelf.{opened, OldOrNew}
-use Rattle.cell.specs.Disks.{OpensTo, OpensToEither, is_same_image}
+use Rattle.node.specs.Keeping.{WholeNode, alone}
+use Rattle.cell.specs.Disks.{OpensTo, OpensToEither, OpensToNode, is_same_image}
+
+-- what is saved of the node that was found, and the node of it
+pub core-found : (n : WholeNode) (c : Areas) → OpensToNode n c → OpensTo n.core c
+core-found n c found = (found.0, found.1, found.2.0)
+
+pub whole-found : (n : NodeView) (c : Areas) → OpensTo n c → OpensToNode (alone n) c
+whole-found n c found = (found.0, found.1, (found.2, refl))
 
 -- a disk opens to one node at most
 pub same-found : (m n : NodeView) (c : Areas) → OpensTo m c → OpensTo n c → m ≡ n
@@ -49,9 +57,11 @@ saved-found saved found c there was =
 
 -- some node is found
 pub never-bad : (saved n : NodeView) (c : Areas) → ∥ OpensToEither saved n c ∥₁
-    → ((m : NodeView) → OpensTo m c → ⊥) → ⊥
+    → ((m : WholeNode) → OpensToNode m c → ⊥) → ⊥
 never-bad saved n c left none =
-    ∥∥₁_elim left (hlevel props) (⊎_elim (λ was. none saved was) (λ now. none (kept_view n) now))
+    ∥∥₁_elim left (hlevel props)
+    (⊎_elim (λ was. none (alone saved) (whole-found saved c was))
+    (λ now. none (alone (kept_view n)) (whole-found (kept_view n) c now)))
 
 -- a crash leaves what is read, and that opens to the node saved last
 pub settled-left : (saved n : NodeView) (seen c : Areas) → c ≡ seen → ∥ OpensTo saved seen ∥₁

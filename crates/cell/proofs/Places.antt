@@ -1,5 +1,7 @@
 -- What stands in a place of a list.
-use Rattle.std.proofs.Common.{◌≡◌, ◌<◌, ◌⊎◌, inl, inr, ⊎_elim, ℕ, zero, suc, List, [], ◌∷◌, ◌++◌, Some, length, slice_get, refl, ap, arith}
+use Rattle.std.proofs.Common.{◌≡◌, ◌<◌, ◌⊎◌, inl, inr, ⊎_elim, ℕ, zero, suc, List, [], ◌∷◌, ◌++◌, Some, length, map, slice_get, refl, ap, ◌∙◌, arith}
+use Rattle.std.specs.Option.{option_map}
+use Rattle.std.proofs.lemmas.Option.{slice_get-map}
 
 -- something stands in each place of a list
 pub some_at : {A : Type 0} (xs : List A) (k : ℕ) → k < length xs
@@ -17,3 +19,14 @@ pushed-at [] y (suc k) x h = absurd cc
 pushed-at (a ∷ xs) y zero x h = inl h
 pushed-at (a ∷ xs) y (suc k) x h =
     ⊎_elim inl (λ last. inr (ap suc last.0, last.1)) (pushed-at xs y k x h)
+
+-- what stands in a place of a list that was mapped
+pub mapped-there : {A B : Type 0} (f : A → B) (xs : List A) (k : ℕ) (x : A)
+    → slice_get xs k ≡ Some x → slice_get (map f xs) k ≡ Some (f x)
+mapped-there f xs k x there = slice_get-map f xs k ∙ ap (option_map f) there
+
+pub mapped-from : {A B : Type 0} (f : A → B) (xs : List A) (k : ℕ) (y : B)
+    → slice_get (map f xs) k ≡ Some y → (x : A) × (slice_get xs k ≡ Some x) × (y ≡ f x)
+mapped-from f [] k y there = absurd cc
+mapped-from f (x ∷ xs) zero y there = (x, refl, cc)
+mapped-from f (x ∷ xs) (suc k) y there = mapped-from f xs k y there

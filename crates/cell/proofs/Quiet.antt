@@ -1,8 +1,8 @@
 -- What is no event leaves the node's state as it was, and a frame that was taken may be given to
 -- the node.
 use Rattle.std.proofs.Common.{◌≡◌, ℕ, ◌<◌, true, false, [], ◌∷◌, slice_get, Some, Result, Ok, refl, sym, ap, ◌∙◌, subst}
+use Rattle.std.proofs.Math.Logic.{∥∥₁_map}
 use Rattle.ids.specs.declared.refusal.Refusal.{Refusal}
-use Rattle.msg.specs.Frames.{plain_data}
 use Rattle.msg.specs.declared.frame.Ack.{Ack}
 use Rattle.msg.specs.declared.frame.Data.{Data}
 use Rattle.model.specs.declared.event.Event.{Event}
@@ -19,6 +19,7 @@ use Rattle.laws.proofs.StepFacts.{Delivery, given_to, act-ok, Receipt, repeated,
 use Rattle.laws.proofs.NoEvent.{only-events-change}
 use Rattle.wire.specs.Views.{Known}
 use Rattle.msg.specs.Grammar.{data_frame}
+use Rattle.cell.specs.Desks.{IsTaken}
 use Rattle.cell.specs.Events.{MayAct, is_counted}
 
 -- a space of one node
@@ -77,9 +78,9 @@ own-may v e i me own = record {
 }
 
 -- a message whose frame was taken from another node
-pub data-may : (v : Known) (d : Data) (k : ℕ) → slice_get v.taken k ≡ Some (plain_data d)
-    → d.to ≡ v.me → d.from < v.nodes → MayAct v (event.Data d) (step.Deliver d.from v.me d.number)
-data-may v d k taken to from = record {
+pub data-may : (v : Known) (d : Data) → IsTaken v.taken d → d.to ≡ v.me → d.from < v.nodes
+    → MayAct v (event.Data d) (step.Deliver d.from v.me d.number)
+data-may v d taken to from = record {
   happens = λ t a answered counts. (
     refl,
     from,
@@ -87,12 +88,14 @@ data-may v d k taken to from = record {
     (
       record { stamp = d.stamp; body = d.body },
       a,
-      (
-        k,
-        subst (λ (i : ℕ).
-            slice_get v.taken k ≡ Some (data_frame d.from i d.number d.stamp d.body)) to
-            taken,
-      ),
+      ∥∥₁_map
+          (λ at. (
+            at.0,
+            subst (λ (i : ℕ).
+                slice_get v.taken at.0 ≡ Some (data_frame d.from i d.number d.stamp d.body)) to
+                at.1,
+          ))
+          taken,
       subst (λ (i : ℕ). receive v.pair.current d.from i d.number d.stamp d.body ≡ Ok (t, a)) to
           (received v.pair.current d t a answered),
       counts,

@@ -10,6 +10,7 @@ use Rattle.model.specs.State.{NodeState, no_node, node_at, sent_to}
 use Rattle.model.specs.World.{World}
 use Rattle.model.specs.View.{Link, NodeView, Shows, ShowsSent, all_kept, kept_view, link_to, no_link, used}
 use Rattle.model.proofs.Lookups.{slice_get-drop}
+use Rattle.node.specs.Keeping.{WholeNode}
 use Rattle.wire.specs.Views.{Known, Pair, pair_at}
 use Rattle.wire.specs.Readers.{known, opened_with, AreOpened, IsMade, IsSavedAs, IsSeated}
 use Rattle.wire.specs.declared.seats.Wire.{Wire}
@@ -17,7 +18,8 @@ use Rattle.wire.specs.declared.seats.NodeSeat.{NodeSeat}
 use Rattle.wire.specs.declared.seats.Watch.{Watch}
 use Rattle.wire.proofs.NewWires.{there}
 use Rattle.cell.specs.Desks.{IsAtSeat}
-use Rattle.cell.specs.Opened.{AreFound, AreReady, IsNodeOf, IsReady, no_message, sent_of, state_of, world_of}
+use Rattle.cell.specs.Opened.{AreFound, AreReady, IsNodeOf, IsReady, cores, no_message, sent_of, state_of, world_of}
+use Rattle.cell.proofs.Places.{mapped-from, mapped-there}
 
 -- ---- The states of nodes whose messages all are saved
 
@@ -62,24 +64,27 @@ state-at nodes k n there =
     get_or-map state_of nodes k n no_node (slice_get_within nodes k n there)
     ∙ ap state_of (get_or_from_slice_get nodes k n n there)
 
-pub opened : (shape : Shaped) (nodes : List NodeView) → length nodes ≡ shape.nodes
-    → ((k : ℕ) (n : NodeView) → slice_get nodes k ≡ Some n → kept_view n ≡ n)
-    → AreOpened shape nodes (world_of nodes)
-opened shape nodes count kept = record {
-  saved = refl;
-  width = length-map nodes state_of ∙ count;
-  count = count;
-  each = λ k n there.
-      subst (λ (s : NodeState). IsSavedAs n s) (sym (state-at nodes k n there))
-      (saved-as n (kept k n there));
-}
+pub opened : (shape : Shaped) (nodes : List WholeNode) → length nodes ≡ shape.nodes
+    → ((k : ℕ) (n : WholeNode) → slice_get nodes k ≡ Some n → kept_view n.core ≡ n.core)
+    → AreOpened shape (cores nodes) (world_of (cores nodes))
+opened shape nodes count kept =
+    let width : length (cores nodes) ≡ shape.nodes = length-map nodes (λ m. m.core) ∙ count in
+    record {
+      saved = refl;
+      width = length-map (cores nodes) state_of ∙ width;
+      count = width;
+      each = λ k n there.
+          (let of = mapped-from (λ m. m.core) nodes k n there in
+          subst (λ (s : NodeState). IsSavedAs n s) (sym (state-at (cores nodes) k n there))
+          (saved-as n (subst (λ (m : NodeView). kept_view m ≡ m) (sym of.2) (kept k of.0 of.1))));
+    }
 
 -- ---- Their seats
 
-at-seat : {shape : Shaped} {nodes : List NodeView} {w : World} (k : ℕ) (n : NodeView) (wire : Wire)
-    (seat : NodeSeat) → AreOpened shape nodes w → slice_get nodes k ≡ Some n → IsNodeOf shape k n
+at-seat : {shape : Shaped} {nodes : List WholeNode} {w : World} (k : ℕ) (n : WholeNode) (wire : Wire)
+    (seat : NodeSeat) → AreOpened shape (cores nodes) w → slice_get nodes k ≡ Some n → IsNodeOf shape k n.core
     → (opened_with wire ≡ w) × (wire.nodes ≡ length w.current) → IsSeated wire k seat
-    → IsAtSeat n seat
+    → IsAtSeat n.core seat
 at-seat {w = w} k n wire seat opens there is made seated =
     let pair : (known seat).pair ≡ pair_at w k =
     ap (λ (v : Known). v.pair) seated.known ∙ ap (λ (o : World). pair_at o k) made.0 in
@@ -89,19 +94,21 @@ at-seat {w = w} k n wire seat opens there is made seated =
       own = is.numbered ∙ sym seated.node;
       nodes = ap (λ (s : Shaped). s.nodes) is.shaped
           ∙ sym (seated.of.1 ∙ made.1 ∙ opens.width);
-      shows = subst (Shows n) (sym current) (opens.each k n there).shows;
+      shows = subst (Shows n.core) (sym current)
+          (opens.each k n.core (mapped-there (λ m. m.core) nodes k n there)).shows;
       saved = ap (λ (p : Pair). p.saved) pair
           ∙ ap (λ (l : List NodeState). node_at l k) opens.saved ∙ sym current;
     }
 
-pub made-ready : {S : Type 0} {Lies : NodeView → S → Type 0} {shape : Shaped}
-    {nodes : List NodeView} {shelves : List S} {count : ℕ} {w : World} {wire : Wire}
-    {seats : List NodeSeat} {watches : List Watch} → AreOpened shape nodes w
+pub made-ready : {S : Type 0} {Lies : WholeNode → S → Type 0} {shape : Shaped}
+    {nodes : List WholeNode} {shelves : List S} {count : ℕ} {w : World} {wire : Wire}
+    {seats : List NodeSeat} {watches : List Watch} → AreOpened shape (cores nodes) w
     → AreFound Lies shape nodes shelves → IsMade w count wire seats watches
     → AreReady Lies nodes shelves seats
 made-ready {wire = wire} opens h made = record {
   shelved = h.same;
-  seated = made.seat_count ∙ made.nodes ∙ opens.width ∙ sym opens.count;
+  seated = made.seat_count ∙ made.nodes ∙ opens.width ∙ sym opens.count
+      ∙ length-map nodes (λ m. m.core);
   each = λ k n s seat there shelf sat.
       let found = h.each k n s there shelf in
       record {
@@ -113,8 +120,8 @@ made-ready {wire = wire} opens h made = record {
 
 -- ---- One after another
 
-pub first-ready : {S : Type 0} {Lies : NodeView → S → Type 0}
-    {nodes : List NodeView} {shelves : List S} {seats : List NodeSeat} (n : NodeView) (s : S)
+pub first-ready : {S : Type 0} {Lies : WholeNode → S → Type 0}
+    {nodes : List WholeNode} {shelves : List S} {seats : List NodeSeat} (n : WholeNode) (s : S)
     (seat : NodeSeat) → AreReady Lies nodes shelves seats → 0 < length nodes
     → (n ≡ get_or nodes 0 n) × (s ≡ get_or shelves 0 s) × (seat ≡ get_or seats 0 seat)
     → IsReady Lies n s seat
@@ -123,8 +130,8 @@ first-ready {nodes = nodes} {shelves = shelves} {seats = seats} n s seat h some 
     (there shelves 0 s (omega (arith, some, h.shelved)) is.1)
     (there seats 0 seat (omega (arith, some, h.seated)) is.2)
 
-later : {S : Type 0} {Lies : NodeView → S → Type 0}
-    {nodes : List NodeView} {shelves : List S} {seats : List NodeSeat}
+later : {S : Type 0} {Lies : WholeNode → S → Type 0}
+    {nodes : List WholeNode} {shelves : List S} {seats : List NodeSeat}
     → AreReady Lies nodes shelves seats
     → AreReady Lies (drop 1 nodes) (drop 1 shelves) (drop 1 seats)
 later {nodes = nodes} {shelves = shelves} {seats = seats} h = record {
@@ -135,8 +142,8 @@ later {nodes = nodes} {shelves = shelves} {seats = seats} h = record {
       (sym (slice_get-drop shelves 1 k) ∙ at_shelf) (sym (slice_get-drop seats 1 k) ∙ at_place);
 }
 
-pub later-ready : {S : Type 0} {Lies : NodeView → S → Type 0}
-    {nodes : List NodeView} {shelves : List S} {seats : List NodeSeat} (ns : List NodeView)
+pub later-ready : {S : Type 0} {Lies : WholeNode → S → Type 0}
+    {nodes : List WholeNode} {shelves : List S} {seats : List NodeSeat} (ns : List WholeNode)
     (ss : List S) (ts : List NodeSeat) → AreReady Lies nodes shelves seats
     → (ns ≡ drop 1 nodes) × (ss ≡ drop 1 shelves) × (ts ≡ drop 1 seats)
     → AreReady Lies ns ss ts

@@ -1,5 +1,5 @@
 -- No node answers an event that it is closed.
-use Rattle.std.proofs.Common.{◌≡◌, ℕ, Bool, true, false, ◌==◌, ◌&&◌, not, List, [], ◌∷◌, ◌++◌, map, Result, Ok, Err, refl, sym, ap, ◌∙◌, subst}
+use Rattle.std.proofs.Common.{◌≡◌, ℕ, Bool, true, false, ◌==◌, ◌&&◌, not, List, [], ◌∷◌, ◌++◌, map, Option, Some, None, Result, Ok, Err, refl, sym, ap, ◌∙◌, subst}
 use Rattle.std.proofs.lemmas.Bool.{and_parts}
 use Rattle.ids.specs.Refusals.{number_of}
 use Rattle.ids.specs.declared.refusal.Refusal.{Refusal}
@@ -8,15 +8,16 @@ use Rattle.model.specs.declared.event.Event.{Event}
 use Rattle.model.specs.declared.event.Event.TheVariants as event
 use Rattle.model.specs.declared.event.Answer.{Answer}
 use Rattle.msg.specs.Frames.{plain}
+use Rattle.msg.specs.declared.frame.Data.{Data}
 use Rattle.msg.specs.declared.frame.Frame.{Frame}
 use Rattle.msg.specs.declared.frame.Frame.TheVariants as frame
 use Rattle.model.specs.Checks.{guarded}
 use Rattle.trace.specs.declared.trace.Line.{Line}
+use Rattle.node.specs.Keeping.{WholeNode}
 use Rattle.wire.specs.Views.{Known}
 use Rattle.cell.specs.declared.pumped.Inbound.{Inbound}
-use Rattle.cell.specs.declared.pumped.Inbound.TheVariants as inbound
 use Rattle.cell.specs.Events.{emptied, Handled}
-use Rattle.cell.specs.Pumping.{PumpedIn}
+use Rattle.cell.specs.Pumping.{PumpedBy}
 use Rattle.model.specs.Effects.{Effect}
 use Rattle.model.specs.Steps.{tests, made, ack_of, all_tests, checked}
 use Rattle.model.specs.View.{Link, NodeView, Performs, ack_tests, let_go, used, view_act, view_after}
@@ -56,6 +57,7 @@ all-lack n (event.Accept register) counts x = refl
 all-lack n (event.Put object place register) counts x = refl
 all-lack n (event.Get object place label) counts x = refl
 all-lack n event.Begin counts x = refl
+all-lack n (event.Next from) counts x = refl
 all-lack n event.Scan counts x = refl
 all-lack n event.Pass counts x = refl
 all-lack n (event.Sweep count) counts x = refl
@@ -87,19 +89,20 @@ never-closed shading e n m (Err r) performs closed =
     (performs.0 (λ memory. (let both = sym is ∙ memory in absurd cc))
     ∙ ap (λ (s : Refusal). Err s) is)
 
-handled-not-closed : (f : Frame) (old new : NodeView) (v w : Known)
+handled-not-closed : (f : Frame) (old new : WholeNode) (v w : Known)
     → Handled f (Err Closed) old new v w → ⊥
 handled-not-closed (frame.Data d) old new v w h =
-    never-closed true (event.Data d) old new (Err Closed) h.performs refl
+    never-closed true (event.Data d) old.core new.core (Err Closed) h.acted.performs refl
 handled-not-closed (frame.Ack a) old new v w h =
-    never-closed false (event.Ack a) old new (Err Closed) h.performs refl
+    never-closed false (event.Ack a) old.core new.core (Err Closed) h.performs refl
 
-pub pumped-not-closed : (box from : ℕ) (r : Result Inbound Refusal) (old new : NodeView)
-    (v w : Known) (before after : List Line) → PumpedIn box from r old new v w before after
-    → r ≡ Err Closed → ⊥
-pumped-not-closed box from (Ok inbound.Empty) old new v w before after took closed = absurd cc
-pumped-not-closed box from (Ok (inbound.Event a)) old new v w before after took closed = absurd cc
-pumped-not-closed box from (Err e) old new v w before after took closed =
+pub pumped-not-closed : (o : Option Data) (box from : ℕ) (r : Result Inbound Refusal)
+    (old new : WholeNode) (v w : Known) (before after : List Line)
+    → PumpedBy o box from r old new v w before after → r ≡ Err Closed → ⊥
+pumped-not-closed o box from (Ok i) old new v w before after took closed = absurd cc
+pumped-not-closed (Some d) box from (Err e) old new v w before after took closed =
+    never-closed true (event.Data d) old.core new.core (Err e) took.given.acted.performs cc
+pumped-not-closed None box from (Err e) old new v w before after took closed =
     let is : e ≡ Closed = cc in
     handled-not-closed took.frame old new (emptied box (plain took.frame) v) w
     (subst (λ (r : Refusal).

@@ -5,7 +5,7 @@ use denote.Struct.Struct.{Struct}
 use denote.Param.Send.{IsSend, IsSync, recorded_send, recorded_sync, struct_send, struct_sync, sendable}
 use Rattle.std.proofs.Crossing.{crosses, Arc-send}
 use Rattle.ids.proofs.names.Cycle.TheSendSync as Cycle
-use Rattle.node.proofs.node.Node.TheSendSync as Node
+use Rattle.node.proofs.keeping.Node.TheSendSync as Node
 use Rattle.disk.proofs.shelf.Shelf.TheSendSync as Shelf
 use Rattle.trace.proofs.trace.Trace.TheSendSync as Trace
 use Rattle.wire.proofs.seats.NodeSeat.TheSendSync as Seat

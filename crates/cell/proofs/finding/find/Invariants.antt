@@ -1,11 +1,11 @@
 use Rattle.std.proofs.Common.{◌≡◌, ◌+◌, vec_len, true, length, drop}
-use Rattle.cell.specs.Disks.{OpensTo}
+use Rattle.cell.specs.Disks.{OpensToNode}
 use Rattle.cell.specs.Opened.{AreBeside, AreFound, IsReadFrom}
 use Rattle.cell.proofs.finding.find.Given as goal
 
 abbrev pub invariant-loop-number : goal.invariant-loop-number
 invariant-loop-number g l = record {
-  found : AreFound (λ n s. (s.ready ≡ true) × OpensTo n (g.D.Disk.seen s.disk)) l.shape
+  found : AreFound (λ n s. (s.ready ≡ true) × OpensToNode n (g.D.Disk.seen s.disk)) l.shape
       l.nodes.items l.shelves.items;
   count : length l.nodes.items ≡ l.number;
   rest : l.disks.items ≡ drop l.number l.fn.disks.items;

@@ -1,13 +1,14 @@
 use Rattle.std.proofs.Common.{List, subst, sym}
-use Rattle.model.specs.View.{NodeView}
+use Rattle.node.specs.Keeping.{WholeNode}
 use Rattle.wire.specs.Readers.{AreOpened, IsMade}
 use Rattle.wire.specs.declared.seats.NodeSeat.{NodeSeat}
+use Rattle.cell.specs.Opened.{cores}
 use Rattle.cell.proofs.Ready.{made-ready}
 use Rattle.cell.proofs.joining.join.Goals as goal
 
 pub new-requires : goal.new-requires
 new-requires g c =
-    subst (λ (l : List NodeView). AreOpened c.args.shape l g.opening) (sym c.as_slice.ensures.value)
+    subst (λ (l : List WholeNode). AreOpened c.args.shape (cores l) g.opening) (sym c.as_slice.ensures.value)
     c.requires.1.0
 
 pub seat_all-requires : goal.seat_all-requires

@@ -1,5 +1,5 @@
-use Rattle.cell.specs.Opened.{world_of}
+use Rattle.cell.specs.Opened.{cores, world_of}
 use Rattle.cell.proofs.joining.open.Given as goal
 
 abbrev pub ghost-join : goal.ghost-join
-ghost-join g a = world_of a.nodes.items
+ghost-join g a = world_of (cores a.nodes.items)

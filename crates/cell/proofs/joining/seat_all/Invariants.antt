@@ -1,11 +1,11 @@
 use Rattle.std.proofs.Common.{◌≡◌, ◌+◌, ◌++◌, map, vec_len, true}
-use Rattle.cell.specs.Disks.{OpensTo}
+use Rattle.cell.specs.Disks.{OpensToNode}
 use Rattle.cell.specs.Opened.{AreReady}
 use Rattle.cell.proofs.joining.seat_all.Given as goal
 
 abbrev pub invariant-loop : goal.invariant-loop
 invariant-loop g l = record {
-  ready : AreReady (λ n s. (s.ready ≡ true) × OpensTo n (g.D.Disk.seen s.disk)) l.nodes.items
+  ready : AreReady (λ n s. (s.ready ≡ true) × OpensToNode n (g.D.Disk.seen s.disk)) l.nodes.items
       l.shelves.items l.seats.items;
   left : vec_len l.nodes + l.counter ≡ l.end;
   all : l.end ≡ vec_len l.fn.nodes;

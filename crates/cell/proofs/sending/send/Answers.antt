@@ -14,7 +14,7 @@ post-requires-clause-released c =
     subst (λ (k : ℕ). c.args.to < k) (sym (c.claim.ensures.same.3 ∙ c.requires.wire.1))
     c.requires.to.0 in
     let box = is-box s.node c.args.to s.nodes s.sits.within below in
-    let frame = frame_due c.args._node.now c.args.to c.args._place in (
+    let frame = frame_due c.args._node.now.core c.args.to c.args._place in (
       frame,
       c.requires.spelled,
       c.requires.receiver ∙ box.receiver
@@ -27,7 +27,7 @@ pub returns-clause-sent : goal.returns-clause-sent
 returns-clause-sent c =
     let to = c.in-Some.ensures.claim.0 in
     let posted = c.post.ensures.posted in
-    let frame = frame_due c.args._node.now c.args.to c.args._place in
+    let frame = frame_due c.args._node.now.core c.args.to c.args._place in
     let same : posted.0 ≡ frame = one_frame posted.0 frame posted.1 c.requires.spelled in
     posted.2
     ∙ (λ i. posts

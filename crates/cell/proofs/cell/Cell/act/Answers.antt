@@ -1,6 +1,7 @@
 use Rattle.std.proofs.Common.{◌≡◌, true, false, sym, ◌∙◌, Bool}
 use Rattle.cell.proofs.Opening.{open-stays, settled-left}
 use Rattle.model.specs.Steps.{is_shading}
+use Rattle.node.specs.Keeping.{met}
 use Rattle.cell.proofs.Refusing.{never-closed}
 use Rattle.cell.proofs.cell.Cell.act.Goals as goal
 
@@ -15,13 +16,15 @@ invariant_of-self-2 g c =
     record {
       while_open = λ _. opens;
       left = λ x may.
-          settled-left desk.saved.value desk.node seen x ((cell.shelf.settled ready).0 x may) opens;
+          settled-left desk.saved.value desk.node.core seen x ((cell.shelf.settled ready).0 x may) opens;
     }
 
 pub returns-clause-closed : goal.returns-clause-closed
-returns-clause-closed g c = (
-  λ closed. absurd (never-closed (is_shading c.args.event) c.args.event c.args.self.now.desk.node
-      c.act-answered.new.self.node c.act-answered.result c.act-answered.ensures.acted.performs closed),
+returns-clause-closed g c =
+    let old = c.args.self.now.desk.node in (
+  λ closed. absurd (never-closed (is_shading (met old.early c.args.event))
+      (met old.early c.args.event) old.core c.act-answered.new.self.node.core
+      c.act-answered.result c.act-answered.ensures.given.acted.performs closed),
   λ shut. (let never : ◌≡◌ {A = Bool} true false =
       sym (c.if-not-self.false) ∙ shut in absurd cc),
 )

@@ -13,5 +13,5 @@ invariant_of-self g c =
     record {
       while_open = λ _. opens;
       left = λ x may.
-          settled-left desk.saved.value desk.node seen x ((cell.shelf.settled ready).0 x may) opens;
+          settled-left desk.saved.value desk.node.core seen x ((cell.shelf.settled ready).0 x may) opens;
     }

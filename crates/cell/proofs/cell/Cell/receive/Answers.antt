@@ -1,4 +1,4 @@
-use Rattle.std.proofs.Common.{◌≡◌, ◌≢◌, IfErr, true, [], ◌∷◌, ◌++◌, length, slice_get, Some, Result, sym, ap, ◌∙◌, subst}
+use Rattle.std.proofs.Common.{◌≡◌, ◌≢◌, IfErr, true, [], ◌∷◌, ◌++◌, length, slice_get, Option, Some, Ok, Err, Result, sym, ap, ◌∙◌, subst}
 use Rattle.cell.proofs.Opening.{open-stays, settled-left}
 use Rattle.circular_buffer.specs.Buffer.{keep_last}
 use Rattle.ids.specs.declared.limits.TheConstants.{TRACE_EVENTS}
@@ -6,13 +6,16 @@ use Rattle.ids.specs.declared.refusal.Refusal.{Refusal}
 use Rattle.ids.specs.declared.refusal.Refusal.TheVariants.{Memory}
 use Rattle.laws.proofs.Lookups.{slice_get-last}
 use Rattle.msg.specs.Frames.{plain}
+use Rattle.msg.specs.declared.frame.Data.{Data}
 use Rattle.model.specs.declared.event.Answer.{Answer}
 use Rattle.model.specs.Steps.{is_memory_free}
-use Rattle.model.specs.View.{NodeView}
+use Rattle.node.specs.Keeping.{WholeNode}
 use Rattle.trace.specs.Lines.{call_of}
 use Rattle.wire.specs.Views.{Known}
 use Rattle.wire.specs.Readers.{inbox, known}
 use Rattle.cell.specs.Events.{emptied, event_of, outcome_of, Handled}
+use Rattle.cell.specs.Pumping.{PumpedBy}
+use Rattle.cell.specs.declared.pumped.Inbound.TheVariants as inbound
 use Rattle.cell.proofs.cell.Cell.receive.Goals as goal
 
 pub invariant_of-self : goal.invariant_of-self
@@ -26,7 +29,7 @@ invariant_of-self g c =
     record {
       while_open = λ _. opens;
       left = λ x may.
-          settled-left desk.saved.value desk.node seen x ((cell.shelf.settled ready).0 x may) opens;
+          settled-left desk.saved.value desk.node.core seen x ((cell.shelf.settled ready).0 x may) opens;
     }
 
 pub invariant_of-self-2 : goal.invariant_of-self-2
@@ -40,17 +43,18 @@ invariant_of-self-2 g c =
     record {
       while_open = λ _. opens;
       left = λ x may.
-          settled-left desk.saved.value desk.node seen x ((cell.shelf.settled ready).0 x may) opens;
+          settled-left desk.saved.value desk.node.core seen x ((cell.shelf.settled ready).0 x may) opens;
     }
 
 pub handle-answered-requires-clause-taken : goal.handle-answered-requires-clause-taken
 handle-answered-requires-clause-taken g c =
     let taken = (known c.args.self.now.desk.seat).taken in
-    let f = plain c.in-Some.frame in (
+    let f = plain c.in-Some.frame in
+    ∣ (
       length taken,
       subst (λ (v : Known). slice_get v.taken (length taken) ≡ Some f)
           (sym c.in-Some.ensures.taken.3) (slice_get-last taken f),
-    )
+    ) ∣₁
 
 pub returns-in-Ok-clause-pumped : goal.returns-in-Ok-clause-pumped
 returns-in-Ok-clause-pumped g c =
@@ -63,9 +67,12 @@ returns-in-Ok-clause-pumped g c =
     (known desk.seat) =
     subst (λ (v : Known).
     Handled f c.handle-answered.result cell.desk.node desk.node v (known desk.seat)) taken.3
-    (subst (λ (n : NodeView).
+    (subst (λ (n : WholeNode).
     Handled f c.handle-answered.result n desk.node (known c.take.new.self.seat) (known desk.seat))
     c.take.ensures.node c.handle-answered.ensures.handled) in
+    subst (λ (o : Option Data).
+    PumpedBy o (inbox cell.desk.seat c.args.from) c.args.from (Ok (inbound.Event c.in-Ok.answer)) cell.desk.node desk.node
+    (known cell.desk.seat) (known desk.seat) cell.trace c.push.new.self) (sym c.requires.none)
     record {
       frame = f;
       sender = taken.0;
@@ -79,7 +86,7 @@ returns-in-Ok-clause-pumped g c =
       memory_free = λ free.
           subst (λ (r : Result Answer Refusal). IfErr r (λ e. e ≢ Memory)) c.in-Ok.is
           (c.handle-answered.ensures.memory_free
-          (subst (λ (n : NodeView). is_memory_free n.local (event_of f) ≡ true)
+          (subst (λ (n : WholeNode). is_memory_free n.core.local (event_of f) ≡ true)
           (sym c.take.ensures.node) free));
       traced = c.push.ensures
           ∙ (λ i. keep_last TRACE_EVENTS (cell.trace ++ record {
@@ -99,9 +106,12 @@ returns-in-Err-clause-pumped g c =
     (known desk.seat) =
     subst (λ (v : Known).
     Handled f c.handle-answered.result cell.desk.node desk.node v (known desk.seat)) taken.3
-    (subst (λ (n : NodeView).
+    (subst (λ (n : WholeNode).
     Handled f c.handle-answered.result n desk.node (known c.take.new.self.seat) (known desk.seat))
     c.take.ensures.node c.handle-answered.ensures.handled) in
+    subst (λ (o : Option Data).
+    PumpedBy o (inbox cell.desk.seat c.args.from) c.args.from (Err c.in-Err.refusal) cell.desk.node desk.node
+    (known cell.desk.seat) (known desk.seat) cell.trace c.push.new.self) (sym c.requires.none)
     record {
       frame = f;
       sender = taken.0;
@@ -115,7 +125,7 @@ returns-in-Err-clause-pumped g c =
       memory_free = λ free.
           subst (λ (r : Result Answer Refusal). IfErr r (λ e. e ≢ Memory)) c.in-Err.is
           (c.handle-answered.ensures.memory_free
-          (subst (λ (n : NodeView). is_memory_free n.local (event_of f) ≡ true)
+          (subst (λ (n : WholeNode). is_memory_free n.core.local (event_of f) ≡ true)
           (sym c.take.ensures.node) free));
       traced = c.push.ensures
           ∙ (λ i. keep_last TRACE_EVENTS (cell.trace ++ record {

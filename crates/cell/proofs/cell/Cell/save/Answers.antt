@@ -14,7 +14,7 @@ invariant_of-self-in-Err g c =
     let cell = c.args.self.now in
     let shelf = c.save.new.self in
     let saved = cell.desk.saved.value in
-    let n = cell.desk.node in
+    let n = cell.desk.node.core in
     let e = c.in-Err.refusal in
     let said = c.in-Err.ensures in
     let Kept : Type 0 =
@@ -37,7 +37,7 @@ invariant_of-self-in-Err g c =
           sym ready ∙ (said.disk (ap (λ (r : Refusal). Err r) is)).1 in absurd cc),
       failed-left g.D.Disk.seen g.D.Disk.may_leave g.D.Disk.moment g.D.Disk.left_since
           cell.shelf.disk shelf.disk saved n (g.met.D.Disk.counts_now shelf.disk)
-          (said.any_moment was_open) (cell.while_open was_open) (said.readable is),
+          (said.any_moment was_open) (cell.while_open was_open) (said.readable is).0,
     )) in
     let kept : Kept =
     ⊎_elim (λ is. unchanged (λ d. (let never = sym is ∙ d in absurd cc)))
@@ -48,15 +48,15 @@ invariant_of-self-in-Err g c =
 
 pub invariant_of-self-in-Ok : goal.invariant_of-self-in-Ok
 invariant_of-self-in-Ok g c =
-    let n = c.args.self.now.desk.node in
+    let n = c.args.self.now.desk.node.core in
     let shelf = c.save.new.self in
     let desk = c.save-in-Ok.new.self in
     let seen = g.D.Disk.seen shelf.disk in
     let said = c.in-Ok.ensures in
     let opens = open-stays (kept_view n) desk.saved.value seen c.save-in-Ok.ensures.saved
-    ∣ (image_of n, said.saved, said.readable) ∣₁ in
+    ∣ (image_of n, said.saved, said.readable.0) ∣₁ in
     record {
       while_open = λ _. opens;
       left = λ x may.
-          settled-left desk.saved.value desk.node seen x ((shelf.settled said.ready).0 x may) opens;
+          settled-left desk.saved.value desk.node.core seen x ((shelf.settled said.ready).0 x may) opens;
     }

@@ -1,5 +1,7 @@
 use Rattle.std.proofs.Common.{◌≡◌, ℕ, ◌<◌, sym, ap, ◌∙◌, subst, Some}
-use Rattle.msg.specs.Frames.{plain}
+use Rattle.std.proofs.Math.Logic.{∥∥₁_map}
+use Rattle.msg.specs.Frames.{plain, plain_data}
+use Rattle.msg.specs.declared.frame.Data.{Data}
 use Rattle.msg.specs.declared.frame.Frame.{Frame}
 use Rattle.model.specs.declared.event.Event.TheVariants as event
 use Rattle.model.specs.declared.step.Step.TheVariants as step
@@ -18,5 +20,16 @@ perform-requires-clause-may c =
     let from : d.from < v.nodes =
     subst (λ (f : Frame). sender (plain f) < v.nodes) c.in-Data.is c.requires.sender in
     subst (λ (i : ℕ). MayAct v (event.Data d) (step.Deliver d.from i d.number)) (sym to)
-    (data-may v d c.requires.taken.0
-    (c.requires.taken.1 ∙ ap (λ (f : Frame). Some (plain f)) c.in-Data.is) to from)
+    (data-may v d
+    (∥∥₁_map (λ at. (at.0, at.1 ∙ ap (λ (f : Frame). Some (plain f)) c.in-Data.is))
+    c.requires.taken) to from)
+
+pub perform-requires-clause-taken : goal.perform-requires-clause-taken
+perform-requires-clause-taken c d is =
+    ∥∥₁_map
+    (λ at. (
+      at.0,
+      at.1 ∙ ap (λ (f : Frame). Some (plain f)) c.in-Data.is
+          ∙ (let same : c.in-Data.data ≡ d = cc in ap (λ (x : Data). Some (plain_data x)) same),
+    ))
+    c.requires.taken

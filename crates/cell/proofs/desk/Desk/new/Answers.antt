@@ -4,14 +4,16 @@ use Rattle.model.specs.View.{NodeView}
 use Rattle.node.specs.declared.summary.Summary.{Summary}
 use Rattle.wire.specs.Readers.{known}
 use Rattle.wire.specs.Views.{Pair}
-use Rattle.cell.specs.Desks.{IsSavedNode, StandsAt}
+use Rattle.node.specs.Keeping.{WholeNode}
+use Rattle.cell.specs.Desks.{AreTaken, IsSavedNode, StandsAt}
 use Rattle.cell.specs.Events.{both_states}
 use Rattle.cell.proofs.Found.{found-read}
+use Rattle.cell.proofs.Waiting.{taken-none}
 use Rattle.cell.proofs.desk.Desk.new.Goals as goal
 
 pub invariant_of-result : goal.invariant_of-result
 invariant_of-result c =
-    let n = c.args.node in
+    let n = c.args.node.core in
     let pair = (known c.args.seat).pair in
     let own : n.local.own ≡ c.state-state.result.own =
     sym (ap (λ (s : Summary). s.own) c.state-state.ensures.value) in
@@ -31,11 +33,14 @@ invariant_of-result c =
           (sym pair_is) found.stands;
       was = subst
           (λ (m : NodeView). IsSavedNode c.state-state.result.own c.nodes.result pair.saved m)
-          (sym c.of.ensures)
+          (sym (c.of.ensures ∙ c.core.ensures.value))
           (subst (λ (p : Pair). IsSavedNode c.state-state.result.own c.nodes.result p.saved n)
           (sym pair_is) found.saved);
       ended_is = c.ended_by.ensures
           ∙ ap (λ (l : LocalState). l.phases.ended) found.saved.shows.local
           ∙ sym (ap (λ (p : Pair). p.saved.local.phases.ended) pair_is);
       unsaved = λ _. sym c.requires.seat.saved;
+      taken = subst (AreTaken (known c.args.seat).taken)
+          (sym (ap (λ (m : WholeNode). m.early) c.requires.alone))
+          (taken-none (known c.args.seat).taken n.local.shape.nodes);
     }

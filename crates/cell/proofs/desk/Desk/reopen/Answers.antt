@@ -3,44 +3,59 @@ use Rattle.model.specs.State.{LocalState}
 use Rattle.model.specs.View.{NodeView}
 use Rattle.wire.specs.Readers.{known}
 use Rattle.wire.specs.Views.{Known, Pair}
-use Rattle.cell.specs.Desks.{IsSavedNode, StandsAt}
+use Rattle.wire.specs.Plays.{Happens}
+use Rattle.node.specs.Keeping.{WholeNode}
+use Rattle.cell.specs.Desks.{AreTaken, IsSavedNode, StandsAt}
 use Rattle.cell.specs.Disks.{is_same_image}
-use Rattle.cell.specs.Events.{found_pair}
+use Rattle.cell.specs.Events.{found_pair, found_step}
+use Rattle.cell.proofs.Waiting.{taken-none}
 use Rattle.cell.proofs.Found.{found-happens, is-found}
 use Rattle.cell.proofs.desk.Desk.reopen.Goals as goal
 
 pub enter_found-requires : goal.enter_found-requires
 enter_found-requires c = (
   c.requires.wire,
-  found-happens (is_same_image c.args.found c.args.self.now.saved.value)
-      (known c.args.self.now.seat),
+  subst (λ (m : NodeView).
+      Happens (known c.args.self.now.seat)
+      (found_step (is_same_image m c.args.self.now.saved.value) (known c.args.self.now.seat).me)
+      (found_pair (is_same_image m c.args.self.now.saved.value)
+      (known c.args.self.now.seat).pair))
+      (sym c.core.ensures.value)
+      (found-happens (is_same_image c.args.found.core c.args.self.now.saved.value)
+      (known c.args.self.now.seat)),
 )
 
 pub invariant_of-self : goal.invariant_of-self
 invariant_of-self c =
     let desk = c.args.self.now in
     let pair = (known desk.seat).pair in
-    let same = is_same_image c.args.found desk.saved.value in
+    let found_core = c.args.found.core in
+    let same = is_same_image found_core desk.saved.value in
     let pair_is : (known c.enter_found.new.seat).pair ≡ found_pair same pair =
-    ap (λ (v : Known). v.pair) c.enter_found.ensures.ticked in
-    let found = is-found desk.own desk.nodes pair desk.node desk.saved.value c.args.found
+    ap (λ (v : Known). v.pair) c.enter_found.ensures.ticked
+    ∙ ap (λ (m : NodeView). found_pair (is_same_image m desk.saved.value) pair)
+    c.core.ensures.value in
+    let found = is-found desk.own desk.nodes pair desk.node.core desk.saved.value found_core
     desk.stands desk.was c.requires.image c.requires.which in
     record {
       at = record {
         own = c.enter_found.ensures.same.2 ∙ desk.at.own;
         nodes = c.enter_found.ensures.same.3 ∙ desk.at.nodes;
       };
-      stands = subst (λ (p : Pair). StandsAt desk.own desk.nodes p c.args.found) (sym pair_is)
+      stands = subst (λ (p : Pair). StandsAt desk.own desk.nodes p found_core) (sym pair_is)
           found.stands;
       was = subst
           (λ (m : NodeView).
           IsSavedNode desk.own desk.nodes (known c.enter_found.new.seat).pair.saved m)
-          (sym c.of.ensures)
-          (subst (λ (p : Pair). IsSavedNode desk.own desk.nodes p.saved c.args.found)
+          (sym (c.of.ensures ∙ c.core-2.ensures.value))
+          (subst (λ (p : Pair). IsSavedNode desk.own desk.nodes p.saved found_core)
           (sym pair_is) found.saved);
       ended_is = c.ended_by-self.ensures
           ∙ ap (λ (l : LocalState). l.phases.ended) found.saved.shows.local
           ∙ sym (ap (λ (p : Pair). p.saved.local.phases.ended) pair_is);
       unsaved = λ _. ap (λ (p : Pair). p.current) pair_is
           ∙ sym (ap (λ (p : Pair). p.saved) pair_is);
+      taken = subst (AreTaken (known c.enter_found.new.seat).taken)
+          (sym (ap (λ (m : WholeNode). m.early) c.requires.alone))
+          (taken-none (known c.enter_found.new.seat).taken found_core.local.shape.nodes);
     }

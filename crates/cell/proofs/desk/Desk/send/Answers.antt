@@ -10,7 +10,7 @@ send-is_sent-requires-clause-released c =
     let desk = c.args.self.now in
     let place = slice_index_or desk.places c.from.result 0 in
     subst (λ (i : ℕ). Releases i (known desk.seat).pair.saved
-    (frame_due desk.node c.args.to place))
+    (frame_due desk.node.core c.args.to place))
     (sym desk.at.own ∙ desk.seat.sits.me_is)
-    (due-releases desk.own desk.nodes (known desk.seat).pair desk.node c.args.to place
+    (due-releases desk.own desk.nodes (known desk.seat).pair desk.node.core c.args.to place
     desk.stands c.requires.other)

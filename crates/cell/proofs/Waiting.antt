@@ -1,0 +1,81 @@
+-- A message that waits for its turn: its frame was taken, and what it is as an event.
+use Rattle.std.proofs.Common.{◌≡◌, ℕ, zero, suc, ◌<◌, true, List, [], ◌∷◌, ◌++◌, length, Option, Some, None, Result, refl, sym, ap, ◌∙◌, subst, arith}
+use Rattle.std.proofs.Math.Logic.{∥∥₁_map}
+use Rattle.ids.specs.declared.limits.TheConstants.{WINDOW}
+use Rattle.ids.specs.declared.refusal.Refusal.{Refusal}
+use Rattle.msg.specs.Grammar.{Plain}
+use Rattle.msg.specs.declared.frame.Data.{Data}
+use Rattle.model.specs.declared.event.Event.{Event}
+use Rattle.model.specs.declared.event.Event.TheVariants as event
+use Rattle.model.specs.declared.event.Answer.{Answer}
+use Rattle.model.specs.declared.step.Step.TheVariants as step
+use Rattle.model.specs.State.{LocalState}
+use Rattle.model.specs.Steps.{is_own}
+use Rattle.model.proofs.Lookups.{get_or-replicate_any}
+use Rattle.laws.proofs.Lookups.{slice_get-append}
+use Rattle.node.specs.Keeping.{AreKeptIn, Rings, WholeNode, early_after, met, next_event, next_step, no_rings, own_step, waiting}
+use Rattle.node.proofs.Kept.{after-all, of-none}
+use Rattle.wire.specs.Views.{Known}
+use Rattle.cell.specs.Desks.{AreTaken, IsTaken}
+use Rattle.cell.specs.Events.{MayAct}
+use Rattle.cell.proofs.Quiet.{data-may, own-may}
+
+-- ---- What is kept was taken
+
+pub taken-none : (taken : List Plain) (nodes : ℕ) → AreTaken taken (no_rings nodes)
+taken-none taken nodes = record { each = of-none (λ from d. IsTaken taken d) nodes }
+
+-- more was taken
+pub taken-more : (taken more : List Plain) (es : Rings) → AreTaken taken es
+    → AreTaken (taken ++ more) es
+taken-more taken more es h = record {
+  each = λ from place d there.
+      ∥∥₁_map (λ at. (at.0, slice_get-append taken more at.0 _ at.1)) (h.each from place d there);
+}
+
+pub taken-after : (taken : List Plain) (p : LocalState) (es : Rings) (e : Event)
+    (r : Result Answer Refusal) → AreTaken taken es
+    → ((d : Data) → e ≡ event.Data d → IsTaken taken d) → AreTaken taken (early_after p es e r)
+taken-after taken p es e r h new =
+    record { each = after-all (λ from d. IsTaken taken d) p es e r h.each new }
+
+-- ---- As an event
+
+-- a node at its seat, with messages that the seat took
+pub record SitsAt (v : Known) (n : WholeNode) : Type 0 where
+  pub own : n.core.local.own ≡ v.me
+  pub nodes : n.core.local.shape.nodes ≡ v.nodes
+  pub kept : AreKeptIn n
+  pub taken : AreTaken v.taken n.early
+
+waits-within : (es : Rings) (from : ℕ) (d : Data) → waiting es from ≡ Some d → from < length es
+waits-within [] from d there =
+    let none : ◌≡◌ {A = Option Data} None (Some d) =
+    sym (get_or-replicate_any {A = Option Data} WINDOW 0 None) ∙ there in
+    absurd cc
+waits-within (x ∷ xs) zero d there = omega arith
+waits-within (x ∷ xs) (suc k) d there =
+    let inside = waits-within xs k d there in omega (arith, inside)
+
+waiting-may : (v : Known) (n : WholeNode) (from : ℕ) (o : Option Data) → SitsAt v n
+    → waiting n.early from ≡ o → MayAct v (next_event from o) (next_step v.me from o)
+waiting-may v n from None h there = own-may v (event.Next from) v.me refl refl
+waiting-may v n from (Some d) h there =
+    let at = h.kept.named from 0 d there in
+    let inside : from < v.nodes =
+    subst (λ (k : ℕ). from < k) (h.kept.width ∙ h.nodes) (waits-within n.early from d there) in
+    subst (λ (i : ℕ). MayAct v (event.Data d) (step.Deliver i v.me d.number)) at.sender
+    (data-may v d (h.taken.each from 0 d there) (at.receiver ∙ h.own)
+    (subst (λ (i : ℕ). i < v.nodes) (sym at.sender) inside))
+
+pub meant-may : (v : Known) (n : WholeNode) (e : Event) → is_own e ≡ true → SitsAt v n
+    → MayAct v (met n.early e) (own_step n.early v.me e)
+meant-may v n (event.Next from) own h = waiting-may v n from (waiting n.early from) h refl
+meant-may v n e own h = own-may v e v.me refl own
+
+-- an event of the node's own brings no frame
+pub own-brings : (taken : List Plain) (e : Event) → is_own e ≡ true
+    → (d : Data) → e ≡ event.Data d → IsTaken taken d
+own-brings taken e own d is =
+    let never : is_own (event.Data d) ≡ true = subst (λ (x : Event). is_own x ≡ true) is own in
+    absurd cc
