@@ -45,7 +45,7 @@ IsUnsaved unsaved p = unsaved ≡ false → p.current ≡ p.saved
 
 -- the seat took the frame of this message from the wire
 abbrev pub IsTaken : List Plain → Data → Type 0
-IsTaken taken d = ∥ (k : ℕ) × (slice_get taken k ≡ Some (plain_data d)) ∥₁
+IsTaken taken d = ∥ ((k : ℕ) × (slice_get taken k ≡ Some (plain_data d))) ∥₁
 
 -- each message that a node keeps is one whose frame its seat took
 pub record AreTaken (taken : List Plain) (es : Rings) : Type 0 where

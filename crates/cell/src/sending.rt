@@ -160,8 +160,8 @@ impl Desk {
     // Gives the node a frame that was taken from another one.
     pub(crate) fn handle(&mut self, wire: &Wire, frame: Frame) -> Result<Answer, Refusal>
         requires wire { IsSeatOf wire.now self.old.seat }
-        requires taken { ∥ (k : ℕ)
-            × (slice_get (known self.old.seat).taken k ≡ Some (plain frame)) ∥₁ }
+        requires taken { ∥ ((k : ℕ)
+            × (slice_get (known self.old.seat).taken k ≡ Some (plain frame))) ∥₁ }
         requires sender { sender (plain frame) < (known self.old.seat).nodes }
         requires receiver { receiver (plain frame) ≡ (known self.old.seat).me }
         ensures handled { Handled frame result self.old.node self.new.node

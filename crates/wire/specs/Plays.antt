@@ -37,7 +37,7 @@ IsEventful a = is_eventful (Ok (outcome.Answer a)) ≡ true
 -- the node took the frame of this message from the wire
 abbrev pub HasTaken : Known → ℕ → ℕ → Message → Type 0
 HasTaken v from number x =
-    ∥ (k : ℕ) × (slice_get v.taken k ≡ Some (data_frame from v.me number x.stamp x.body)) ∥₁
+    ∥ ((k : ℕ) × (slice_get v.taken k ≡ Some (data_frame from v.me number x.stamp x.body))) ∥₁
 
 -- The step is an event of the seat's node, which makes its pair q. What is delivered was taken.
 abbrev pub Happens : Known → model.Step → Pair → Type 0
