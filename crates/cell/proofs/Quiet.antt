@@ -88,14 +88,11 @@ data-may v d taken to from = record {
     (
       record { stamp = d.stamp; body = d.body },
       a,
-      ∥∥₁_map
-          (λ at. (
-            at.0,
-            subst (λ (i : ℕ).
-                slice_get v.taken at.0 ≡ Some (data_frame d.from i d.number d.stamp d.body)) to
-                at.1,
-          ))
-          taken,
+      ∥∥₁_map taken (λ at. (
+        at.0,
+        subst (λ (i : ℕ).
+            slice_get v.taken at.0 ≡ Some (data_frame d.from i d.number d.stamp d.body)) to at.1,
+      )),
       subst (λ (i : ℕ). receive v.pair.current d.from i d.number d.stamp d.body ≡ Ok (t, a)) to
           (received v.pair.current d t a answered),
       counts,

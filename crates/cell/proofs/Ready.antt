@@ -81,11 +81,11 @@ opened shape nodes count kept =
 
 -- ---- Their seats
 
-at-seat : {shape : Shaped} {nodes : List WholeNode} {w : World} (k : ℕ) (n : WholeNode) (wire : Wire)
+at-seat : {shape : Shaped} (nodes : List WholeNode) {w : World} (k : ℕ) (n : WholeNode) (wire : Wire)
     (seat : NodeSeat) → AreOpened shape (cores nodes) w → slice_get nodes k ≡ Some n → IsNodeOf shape k n.core
     → (opened_with wire ≡ w) × (wire.nodes ≡ length w.current) → IsSeated wire k seat
     → IsAtSeat n.core seat
-at-seat {w = w} k n wire seat opens there is made seated =
+at-seat nodes {w = w} k n wire seat opens there is made seated =
     let pair : (known seat).pair ≡ pair_at w k =
     ap (λ (v : Known). v.pair) seated.known ∙ ap (λ (o : World). pair_at o k) made.0 in
     let current : (known seat).pair.current ≡ node_at w.current k =
@@ -105,14 +105,14 @@ pub made-ready : {S : Type 0} {Lies : WholeNode → S → Type 0} {shape : Shape
     {seats : List NodeSeat} {watches : List Watch} → AreOpened shape (cores nodes) w
     → AreFound Lies shape nodes shelves → IsMade w count wire seats watches
     → AreReady Lies nodes shelves seats
-made-ready {wire = wire} opens h made = record {
+made-ready {nodes = nodes} {wire = wire} opens h made = record {
   shelved = h.same;
   seated = made.seat_count ∙ made.nodes ∙ opens.width ∙ sym opens.count
       ∙ length-map nodes (λ m. m.core);
   each = λ k n s seat there shelf sat.
       let found = h.each k n s there shelf in
       record {
-        stands = at-seat k n wire seat opens there found.0 (made.opening, made.nodes)
+        stands = at-seat nodes k n wire seat opens there found.0 (made.opening, made.nodes)
             (made.each_seat k seat sat);
         lies = found.1;
       };

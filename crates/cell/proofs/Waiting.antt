@@ -1,5 +1,5 @@
 -- A message that waits for its turn: its frame was taken, and what it is as an event.
-use Rattle.std.proofs.Common.{◌≡◌, ℕ, zero, suc, ◌<◌, true, List, [], ◌∷◌, ◌++◌, length, Option, Some, None, Result, refl, sym, ap, ◌∙◌, subst, arith}
+use Rattle.std.proofs.Common.{◌≡◌, ℕ, zero, suc, ◌<◌, true, List, [], ◌∷◌, ◌++◌, length, Option, Some, None, is_some, Result, refl, sym, ap, ◌∙◌, subst, arith}
 use Rattle.std.proofs.Math.Logic.{∥∥₁_map}
 use Rattle.ids.specs.declared.limits.TheConstants.{WINDOW}
 use Rattle.ids.specs.declared.refusal.Refusal.{Refusal}
@@ -13,12 +13,12 @@ use Rattle.model.specs.State.{LocalState}
 use Rattle.model.specs.Steps.{is_own}
 use Rattle.model.proofs.Lookups.{get_or-replicate_any}
 use Rattle.laws.proofs.Lookups.{slice_get-append}
-use Rattle.node.specs.Keeping.{AreKeptIn, Rings, WholeNode, early_after, met, next_event, next_step, no_rings, own_step, waiting}
+use Rattle.node.specs.Keeping.{AreKeptIn, Rings, WholeNode, early_after, met, no_rings, own_step, waiting}
 use Rattle.node.proofs.Kept.{after-all, of-none}
 use Rattle.wire.specs.Views.{Known}
 use Rattle.cell.specs.Desks.{AreTaken, IsTaken}
 use Rattle.cell.specs.Events.{MayAct}
-use Rattle.cell.proofs.Quiet.{data-may, own-may}
+use Rattle.cell.proofs.Quiet.{data-may}
 
 -- ---- What is kept was taken
 
@@ -30,7 +30,8 @@ pub taken-more : (taken more : List Plain) (es : Rings) → AreTaken taken es
     → AreTaken (taken ++ more) es
 taken-more taken more es h = record {
   each = λ from place d there.
-      ∥∥₁_map (λ at. (at.0, slice_get-append taken more at.0 _ at.1)) (h.each from place d there);
+      ∥∥₁_map (h.each from place d there)
+      (λ at. (at.0, slice_get-append taken more at.0 _ at.1));
 }
 
 pub taken-after : (taken : List Plain) (p : LocalState) (es : Rings) (e : Event)
@@ -57,10 +58,10 @@ waits-within (x ∷ xs) zero d there = omega arith
 waits-within (x ∷ xs) (suc k) d there =
     let inside = waits-within xs k d there in omega (arith, inside)
 
-waiting-may : (v : Known) (n : WholeNode) (from : ℕ) (o : Option Data) → SitsAt v n
-    → waiting n.early from ≡ o → MayAct v (next_event from o) (next_step v.me from o)
-waiting-may v n from None h there = own-may v (event.Next from) v.me refl refl
-waiting-may v n from (Some d) h there =
+-- a message that waits may be delivered to the node that sits so
+pub waiting-may : (v : Known) (n : WholeNode) (from : ℕ) (d : Data) → SitsAt v n
+    → waiting n.early from ≡ Some d → MayAct v (event.Data d) (step.Deliver from v.me d.number)
+waiting-may v n from d h there =
     let at = h.kept.named from 0 d there in
     let inside : from < v.nodes =
     subst (λ (k : ℕ). from < k) (h.kept.width ∙ h.nodes) (waits-within n.early from d there) in
@@ -68,10 +69,11 @@ waiting-may v n from (Some d) h there =
     (data-may v d (h.taken.each from 0 d there) (at.receiver ∙ h.own)
     (subst (λ (i : ℕ). i < v.nodes) (sym at.sender) inside))
 
-pub meant-may : (v : Known) (n : WholeNode) (e : Event) → is_own e ≡ true → SitsAt v n
-    → MayAct v (met n.early e) (own_step n.early v.me e)
-meant-may v n (event.Next from) own h = waiting-may v n from (waiting n.early from) h refl
-meant-may v n e own h = own-may v e v.me refl own
+-- any event but Next is the same to the core
+pub same-met : (es : Rings) (own : ℕ) (e : Event) → ((from : ℕ) → e ≡ event.Next from → ⊥)
+    → (e ≡ met es e) × (step.Act own e ≡ own_step es own e)
+same-met es own (event.Next from) never = absurd (never from refl)
+same-met es own e never = (refl, refl)
 
 -- an event of the node's own brings no frame
 pub own-brings : (taken : List Plain) (e : Event) → is_own e ≡ true
@@ -79,3 +81,8 @@ pub own-brings : (taken : List Plain) (e : Event) → is_own e ≡ true
 own-brings taken e own d is =
     let never : is_own (event.Data d) ≡ true = subst (λ (x : Event). is_own x ≡ true) is own in
     absurd cc
+
+-- what waits, where something does
+pub some-waits : (o : Option Data) → is_some o ≡ true → (d : Data) × (o ≡ Some d)
+some-waits None waits = absurd cc
+some-waits (Some d) waits = (d, refl)

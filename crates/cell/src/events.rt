@@ -2,7 +2,7 @@
 ghost use Rattle.std.specs.Prelude.{◌≡◌, ◌≢◌, true, IfErr, IsTrue};
 ghost use Rattle.ids.specs.declared.refusal.Refusal.TheVariants.{Memory};
 ghost use Rattle.model.specs.Steps.{is_memory_free, is_own};
-ghost use Rattle.model.specs.declared.event.Event.TheVariants as event;
+ghost use Rattle.model.specs.declared.event.Event.TheVariants as events;
 ghost use Rattle.msg.specs.declared.frame.Data.{Data};
 ghost use Rattle.node.specs.Keeping.{met, own_step};
 ghost use Rattle.wire.specs.Readers.{known, IsSeatOf, IsSame};
@@ -42,8 +42,10 @@ impl Desk {
     // What an event of the node's own is to its core, and as a step of the space: Next of a message
     // that waits delivers it.
     fn meant(&self, event: Event) -> (Event, Step)
+        requires own { is_own event ≡ true }
         ensures event { result.0 ≡ met self.now.node.early event }
         ensures step { result.1 ≡ own_step self.now.node.early self.now.own event }
+        ensures may { MayAct (known self.now.seat) result.0 result.1 }
     {
         let own = Step::Act(self.own, event);
         let Event::Next { from } = event else {
@@ -89,7 +91,7 @@ impl Desk {
     ) -> Result<Answer, Refusal>
         requires wire { IsSeatOf wire.now self.old.seat }
         requires met { meant.now ≡ met self.old.node.early event }
-        requires taken { (d : Data) → event ≡ event.Data d → IsTaken (known self.old.seat).taken d }
+        requires taken { (d : Data) → event ≡ events.Data d → IsTaken (known self.old.seat).taken d }
         requires may { MayAct (known self.old.seat) meant.now step }
         ensures given { Given event meant.now step result
             self.old.node self.new.node (known self.old.seat) (known self.new.seat) }

@@ -19,8 +19,8 @@ returns-in-Err-clause-others g c =
 
 pub reopen-requires-in-Ok-clause-image : goal.reopen-requires-in-Ok-clause-image
 reopen-requires-in-Ok-clause-image g c =
-    image-found c.in-Ok.found.core (g.D.Disk.seen c.args.self.now.shelf.disk)
-    (core-found c.in-Ok.found _ c.in-Ok.ensures.opened)
+    let seen = g.D.Disk.seen c.args.self.now.shelf.disk in
+    image-found c.in-Ok.found.core seen (core-found c.in-Ok.found seen c.in-Ok.ensures.opened)
 
 pub reopen-requires-in-Ok-clause-alone : goal.reopen-requires-in-Ok-clause-alone
 reopen-requires-in-Ok-clause-alone g c = c.in-Ok.ensures.opened.2.1
@@ -40,7 +40,7 @@ invariant_of-self g c =
     let found = c.in-Ok.found in
     let opens = open-stays found.core desk.saved.value seen c.reopen-in-Ok.ensures.saved
     ∣ subst (OpensTo found.core) (sym c.reopen.ensures.quiet.same)
-    (core-found found _ c.in-Ok.ensures.opened) ∣₁ in
+    (core-found found (g.D.Disk.seen c.args.self.now.shelf.disk) c.in-Ok.ensures.opened) ∣₁ in
     record {
       while_open = λ _. opens;
       left = λ x may.
@@ -51,10 +51,11 @@ invariant_of-self g c =
 pub returns-in-Ok-clause-restarted : goal.returns-in-Ok-clause-restarted
 returns-in-Ok-clause-restarted g c ready =
     let cell = c.args.self.now in
+    let seen = g.D.Disk.seen cell.shelf.disk in
     c.reopen-in-Ok.ensures.known
     ∙ ap (λ (b : Bool). reopened_by b (known cell.desk.seat))
-    (saved-found cell.desk.saved.value c.in-Ok.found.core (g.D.Disk.seen cell.shelf.disk)
-    (core-found c.in-Ok.found _ c.in-Ok.ensures.opened) (cell.while_open ready))
+    (saved-found cell.desk.saved.value c.in-Ok.found.core seen
+    (core-found c.in-Ok.found seen c.in-Ok.ensures.opened) (cell.while_open ready))
 
 pub returns-in-Ok-clause-restarted_later : goal.returns-in-Ok-clause-restarted_later
 returns-in-Ok-clause-restarted_later g c holds =

@@ -21,15 +21,13 @@ perform-requires-clause-may c =
     subst (λ (f : Frame). sender (plain f) < v.nodes) c.in-Data.is c.requires.sender in
     subst (λ (i : ℕ). MayAct v (event.Data d) (step.Deliver d.from i d.number)) (sym to)
     (data-may v d
-    (∥∥₁_map (λ at. (at.0, at.1 ∙ ap (λ (f : Frame). Some (plain f)) c.in-Data.is))
-    c.requires.taken) to from)
+    (∥∥₁_map c.requires.taken
+    (λ at. (at.0, at.1 ∙ ap (λ (f : Frame). Some (plain f)) c.in-Data.is))) to from)
 
 pub perform-requires-clause-taken : goal.perform-requires-clause-taken
 perform-requires-clause-taken c d is =
-    ∥∥₁_map
-    (λ at. (
+    ∥∥₁_map c.requires.taken (λ at. (
       at.0,
       at.1 ∙ ap (λ (f : Frame). Some (plain f)) c.in-Data.is
           ∙ (let same : c.in-Data.data ≡ d = cc in ap (λ (x : Data). Some (plain_data x)) same),
     ))
-    c.requires.taken

@@ -1,13 +1,15 @@
-use Rattle.std.proofs.Common.{◌≡◌, ◌+◌, ◌*◌, Some, sym, ap, ◌∙◌, subst}
+use Rattle.std.proofs.Common.{◌≡◌, ◌+◌, ◌*◌, List, [], ◌∷◌, Some, sym, ap, ◌∙◌, subst}
 use Rattle.msg.specs.Grammar.{Plain, spelling}
 use Rattle.msg.specs.Frames.{plain}
 use Rattle.wire.specs.Lists.{found}
 use Rattle.wire.specs.Rule.{receiver, sender}
 use Rattle.wire.specs.Plays.{Arrives}
-use Rattle.wire.specs.Views.{clears}
+use Rattle.wire.specs.Views.{Known, Pair, clears, takes_in}
 use Rattle.wire.specs.Readers.{inbox, known}
 use Rattle.wire.proofs.Lists.{found-here}
+use Rattle.cell.specs.Desks.{AreTaken, IsSavedNode, IsUnsaved, StandsAt}
 use Rattle.cell.specs.Events.{emptied}
+use Rattle.cell.proofs.Waiting.{taken-more}
 use Rattle.cell.proofs.desk.Desk.take.Goals as goal
 
 pub returns-clause-taken : goal.returns-clause-taken
@@ -31,3 +33,31 @@ returns-clause-taken c =
           ∙ (λ i. clears (box i) (told.2.5 i))
           ∙ ap (λ (g : Plain). emptied (inbox s c.args.from) g (known s)) (sym same),
     )
+
+pub invariant_of-self-2 : goal.invariant_of-self-2
+invariant_of-self-2 c =
+    let desk = c.args.self.now in
+    let v = known desk.seat in
+    let told = c.in_ok-taken.ensures.taken in
+    let known_is : known c.clear-bytes.new.seat ≡
+    clears (inbox c.take.new.seat c.in_ok-taken.taken.from)
+    (takes_in (inbox desk.seat c.args.from) told.2.0 v) =
+    c.clear-bytes.ensures.cleared
+    ∙ ap (clears (inbox c.take.new.seat c.in_ok-taken.taken.from)) told.2.5 in
+    let pair_is : (known c.clear-bytes.new.seat).pair ≡ v.pair =
+    ap (λ (w : Known). w.pair) known_is in
+    record {
+      at = record {
+        own = c.clear-bytes.ensures.same.2 ∙ c.take.ensures.same.2 ∙ desk.at.own;
+        nodes = c.clear-bytes.ensures.same.3 ∙ c.take.ensures.same.3 ∙ desk.at.nodes;
+      };
+      stands = subst (λ (p : Pair). StandsAt desk.own desk.nodes p desk.node.core) (sym pair_is)
+          desk.stands;
+      was = subst (λ (p : Pair). IsSavedNode desk.own desk.nodes p.saved desk.saved.value)
+          (sym pair_is) desk.was;
+      ended_is = desk.ended_is ∙ sym (ap (λ (p : Pair). p.saved.local.phases.ended) pair_is);
+      unsaved = subst (IsUnsaved desk.is_unsaved) (sym pair_is) desk.unsaved;
+      taken = subst (λ (ts : List Plain). AreTaken ts desk.node.early)
+          (sym (ap (λ (w : Known). w.taken) known_is))
+          (taken-more v.taken (told.2.0 ∷ []) desk.node.early desk.taken);
+    }

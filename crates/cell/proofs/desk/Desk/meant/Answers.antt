@@ -1,0 +1,43 @@
+use Rattle.std.proofs.Common.{◌≡◌, ℕ, refl, sym, ◌∙◌, subst}
+use Rattle.model.specs.declared.event.Event.{Event}
+use Rattle.model.specs.declared.event.Event.TheVariants as event
+use Rattle.model.specs.declared.step.Step.TheVariants as step
+use Rattle.wire.specs.Readers.{known}
+use Rattle.cell.specs.Events.{MayAct}
+use Rattle.cell.proofs.Quiet.{own-may}
+use Rattle.cell.proofs.Waiting.{same-met, waiting-may}
+use Rattle.cell.proofs.desk.Desk.meant.Goals as goal
+
+pub returns-in_default : goal.returns-in_default
+returns-in_default c =
+    let desk = c.args.self.now in
+    let same = same-met desk.node.early desk.own c.args.event c.in_default.not-Next in
+    record {
+      event = same.0;
+      step = same.1;
+      may = own-may (known desk.seat) c.args.event desk.own
+          (sym desk.at.own ∙ desk.seat.sits.me_is) c.requires.own;
+    }
+
+pub returns-in_default-waiting-clause-may : goal.returns-in_default-waiting-clause-may
+returns-in_default-waiting-clause-may c =
+    let desk = c.args.self.now in
+    let next = event.Next c.in-Next.from in
+    subst (λ (e : Event). MayAct (known desk.seat) next (step.Act desk.own e)) (sym c.in-Next.is)
+    (own-may (known desk.seat) next desk.own (sym desk.at.own ∙ desk.seat.sits.me_is) refl)
+
+pub returns-clause-may : goal.returns-clause-may
+returns-clause-may c =
+    let desk = c.args.self.now in
+    let v = known desk.seat in
+    let d = c.in-Some.frame in
+    let me = sym desk.at.own ∙ desk.seat.sits.me_is in
+    subst (λ (i : ℕ). MayAct v (event.Data d) (step.Deliver c.in-Next.from i d.number)) (sym me)
+    (waiting-may v desk.node c.in-Next.from d
+    record {
+      own = desk.stands.own ∙ me;
+      nodes = desk.stands.nodes ∙ sym desk.at.nodes ∙ desk.seat.sits.nodes_is;
+      kept = c.in-Some.ensures.kept;
+      taken = desk.taken;
+    }
+    (sym c.in-Some.ensures.value))
