@@ -2,7 +2,8 @@
 use Rattle.std.proofs.Common.{◌≡◌, ◌<◌, ◌+◌, ◌⊎◌, inl, inr, ⊎_elim, ℕ, zero, suc, List, [], ◌∷◌, ◌++◌, Some, length, length-append, drop, get_or, slice_get, refl, sym, ap, ◌∙◌, subst, arith}
 use Rattle.std.proofs.lemmas.List.{length-drop}
 use Rattle.ids.specs.Limits.{Shaped}
-use Rattle.model.specs.View.{NodeView, new_view}
+use Rattle.model.specs.View.{new_view}
+use Rattle.node.specs.Keeping.{WholeNode, new_whole}
 use Rattle.model.specs.World.{new_world}
 use Rattle.model.proofs.Lookups.{slice_get-drop}
 use Rattle.wire.specs.Readers.{IsMade, IsSeated, IsSeatOf}
@@ -74,18 +75,18 @@ pushed-at (a ∷ xs) y (suc k) x h =
     ⊎_elim inl (λ last. inr (ap suc last.0, last.1)) (pushed-at xs y k x h)
 
 -- one more new node
-pub next-new : (shape : Shaped) (nodes all : List NodeView) (n : NodeView) (number : ℕ)
+pub next-new : (shape : Shaped) (nodes all : List WholeNode) (n : WholeNode) (number : ℕ)
     → (length nodes ≡ number)
-    × ((k : ℕ) (m : NodeView) → slice_get nodes k ≡ Some m → m ≡ new_view shape k)
-    → n ≡ new_view shape number → all ≡ nodes ++ n ∷ []
+    × ((k : ℕ) (m : WholeNode) → slice_get nodes k ≡ Some m → m ≡ new_whole shape k)
+    → n ≡ new_whole shape number → all ≡ nodes ++ n ∷ []
     → (length all ≡ number + 1)
-    × ((k : ℕ) (m : NodeView) → slice_get all k ≡ Some m → m ≡ new_view shape k)
+    × ((k : ℕ) (m : WholeNode) → slice_get all k ≡ Some m → m ≡ new_whole shape k)
 next-new shape nodes all n number h new is = (
   ap length is ∙ length-append nodes (n ∷ []) ∙ ap (λ (i : ℕ). i + 1) h.0,
   λ k m there.
       let found : slice_get (nodes ++ n ∷ []) k ≡ Some m =
-      ap (λ (l : List NodeView). slice_get l k) (sym is) ∙ there in
+      ap (λ (l : List WholeNode). slice_get l k) (sym is) ∙ there in
       ⊎_elim (λ old. h.1 k m old)
-      (λ last. last.1 ∙ new ∙ ap (λ (i : ℕ). new_view shape i) (sym (last.0 ∙ h.0)))
+      (λ last. last.1 ∙ new ∙ ap (λ (i : ℕ). new_whole shape i) (sym (last.0 ∙ h.0)))
       (pushed-at nodes n k m found),
 )

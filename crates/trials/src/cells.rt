@@ -1,9 +1,9 @@
 //! Cells of new nodes on a wire, which are saved in memory.
 ghost use Rattle.std.specs.Prelude.{◌≡◌, ◌<◌, ℕ, length, slice_get, true, IfOk, Some};
 ghost use Rattle.model.specs.Steps.{is_own};
-ghost use Rattle.model.specs.View.{NodeView, kept_view, new_view};
-ghost use Rattle.image.specs.Images.{image_of};
-ghost use Rattle.image.specs.Nodes.{IsImageOf};
+ghost use Rattle.model.specs.View.{new_view};
+ghost use Rattle.node.specs.Keeping.{WholeNode, new_whole};
+ghost use Rattle.image.specs.Wholes.{whole_image, IsWholeOf, saved_whole};
 ghost use Rattle.disk.specs.Memory.{held_by};
 ghost use Rattle.disk.specs.Shelf.{opened};
 ghost use Rattle.wire.specs.Readers.{IsSeatOf, IsWatchOf};
@@ -85,8 +85,8 @@ impl Seated<'_> {
 // The new nodes of a shape.
 fn new_nodes(alloc: Global, shape: Shape) -> Result<Vec<Node>, Refusal>
     ensures count { IfOk result (λ v. length v.items ≡ shape.nodes) }
-    ensures new { IfOk result (λ v. (k : ℕ) (n : NodeView) → slice_get v.items k ≡ Some n
-        → n ≡ new_view shape k) }
+    ensures new { IfOk result (λ v. (k : ℕ) (n : WholeNode) → slice_get v.items k ≡ Some n
+        → n ≡ new_whole shape k) }
 {
     let mut nodes = Vec::new(alloc);
     for number in 0..shape.nodes() {
@@ -110,8 +110,8 @@ pub(crate) fn new_wire(alloc: Global, shape: Shape) -> Result<(Wire, Vec<NodeSea
 // A shelf on which a node was created.
 fn shelf_of(alloc: Global, node: &Node) -> Result<Shelf<MemoryDisk>, Refusal>
     ensures ready { IfOk result (λ s. s.ready ≡ true) }
-    ensures created { IfOk result (λ s. opened (held_by s.disk) ≡ Some (image_of node.now)) }
-    ensures read { IfOk result (λ _. IsImageOf (image_of node.now) (kept_view node.now)) }
+    ensures created { IfOk result (λ s. opened (held_by s.disk) ≡ Some (whole_image node.now)) }
+    ensures read { IfOk result (λ _. IsWholeOf (whole_image node.now) (saved_whole node.now)) }
 {
     match Shelf::create(alloc, MemoryDisk::new(alloc), node) {
         Ok(shelf) => Ok(shelf),

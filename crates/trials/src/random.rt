@@ -116,7 +116,7 @@ fn collector_events(dice: &mut Dice) -> [Event; MOST] {
 // How many messages the receiver has taken in from the sender.
 fn taken(sim: &Sim, from: u8, to: u8) -> u64 {
     match sim.node(to) {
-        Some(receiver) => receiver.taken_from(from),
+        Some(receiver) => receiver.core().taken_from(from),
         None => 0,
     }
 }

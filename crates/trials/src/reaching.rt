@@ -183,7 +183,7 @@ impl Walk {
             None => None,
         };
         match node {
-            Some(node) => node.is_live(reference),
+            Some(node) => node.core().is_live(reference),
             None => false,
         }
     }

@@ -69,7 +69,7 @@ impl<'a> Member<'a> {
 
     // Whether it took in so many letters of the one before it.
     fn has_taken(&self, letters: u32) -> bool {
-        self.seated.cell.node().taken_from(self.previous) == u64::from(letters)
+        self.seated.cell.node().core().taken_from(self.previous) == u64::from(letters)
     }
 }
 
