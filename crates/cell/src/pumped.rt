@@ -3,9 +3,10 @@ use model::Answer;
 /// What came in from another node.
 #[derive(Clone, Copy, Debug, PartialEq, Eq)]
 pub enum Inbound {
-    /// The mailbox wasn't full.
+    /// No message waited for its turn, and the mailbox wasn't full.
     Empty,
-    /// The node was given the frame that was there, and answered this.
+    /// The node was given the message that waited, or else the frame that was there, and answered
+    /// this.
     Event(Answer),
 }
 

@@ -132,7 +132,8 @@ impl<D: Disk, W: Naming> SharedOn<D, W> {
         self.held.lock(rt).act(event)
     }
 
-    /// Gives the node the frame that is there from another node, as [`Cell::pump_in`] does.
+    /// Gives the node the message from another node that waits, or else the frame that is there, as
+    /// [`Cell::pump_in`] does.
     pub fn pump_in<R: Wait>(&self, rt: &R, from: u8) -> Result<Inbound, Refusal> {
         self.held.lock(rt).pump_in(from)
     }
