@@ -10,7 +10,7 @@ use Rattle.model.specs.declared.event.Event.TheVariants as event
 use Rattle.model.specs.declared.step.Step.{Step}
 use Rattle.model.specs.declared.step.Step.TheVariants as step
 
--- an event of the collector's
+-- an event that the workers see to: one of the collector's, or of a message that waits
 abbrev pub is_for_workers : Event → Bool
 is_for_workers event.Begin = true
 is_for_workers event.Scan = true

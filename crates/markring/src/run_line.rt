@@ -54,7 +54,7 @@ fn shared(line: Line) -> Option<RunLine>
     }
 }
 
-// Whether an event is one of the collector's, which the workers see to.
+// Whether the workers see to an event: those of the collector, and messages that wait.
 fn is_for_workers(event: &Event) -> bool
     ensures { result ≡ is_for_workers event.now }
 {
