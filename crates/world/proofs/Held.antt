@@ -416,7 +416,7 @@ of-net {w = w} {from = from} {to = to} {number = number} d x same =
     let body : d.body ≡ x.message.body = cc in
     record { from = sender; to = receiver; there = rw (place, stamp, body) x.there }
 
-module _ {n m : SpaceView} {from to number : ℕ} {bytes : List ℕ} {d : Data} (apart : from ≢ to)
+module _ {n : SpaceView} (from to number : ℕ) {bytes : List ℕ} {d : Data} (apart : from ≢ to)
     (there : frame_at n.sites from to number ≡ Some bytes)
     (reads : (x : Plain) → Fits x → bytes ≡ spelling x → plain_data d ≡ x) where
   of-frame : (w : World) → ShowsSpace n w → IsOfNet w to from d × (d.number ≡ number)
@@ -428,14 +428,14 @@ module _ {n m : SpaceView} {from to number : ℕ} {bytes : List ℕ} {d : Data} 
       (of-net d x same, place)
 
   -- what was kept, and perhaps the message that is delivered
-  early-delivered : (r : Result Answer Refusal) → GivenSpace r n m to (event.Data d)
+  early-delivered : {m : SpaceView} (r : Result Answer Refusal) → GivenSpace r n m to (event.Data d)
       → KeepsSo n m (step.Deliver from to number) (outcome_by outcome.Answer r)
   early-delivered (Ok a) h w shown =
       let net = of-frame w shown in
       record { frame = d; numbered = net.1; is = net.0; early = early-given h w shown }
   early-delivered (Err f) h w shown = early-given h w shown ∙ set-get_or n.early to []
 
-  pub delivered-space : {r : Result Answer Refusal} → from < length n.sites
+  pub delivered-space : {m : SpaceView} {r : Result Answer Refusal} → from < length n.sites
       → GivenSpace r n m to (event.Data d)
       → SteppedSpace (outcome_by outcome.Answer r) n m (step.Deliver from to number)
   delivered-space {r = r} less h =

@@ -49,12 +49,12 @@ returns-in_err-answer c =
     let p = err_from_is_err_and c.from_residual-in_err-answer.result
     c.from_residual-in_err-answer.ensures.1 in
     rw (p.1, p.2)
-    (delivered-space c.if-from-to.false (sym c.in-Some.ensures)
+    (delivered-space _ _ _ c.if-from-to.false (sym c.in-Some.ensures)
     (λ x fits spelled. rw c.in-Data.is at (c.in_ok-message.ensures.only x fits spelled))
     (omega (arith, c.count-count.ensures.value)) c.in_err-answer.ensures)
 
 pub returns : goal.returns
 returns c =
-    delivered-space c.if-from-to.false (sym c.in-Some.ensures)
+    delivered-space _ _ _ c.if-from-to.false (sym c.in-Some.ensures)
     (λ x fits spelled. rw c.in-Data.is at (c.in_ok-message.ensures.only x fits spelled))
     (omega (arith, c.count-count.ensures.value)) c.in_ok-answer.ensures
