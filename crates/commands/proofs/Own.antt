@@ -60,7 +60,8 @@ own-one verb a =
     either _ (one (λ x. event.Drop x) (λ x. refl) (u16_of a))
     (either _ (one (λ x. event.Accept x) (λ x. refl) (u16_of a))
     (either _ (one (λ x. event.Word x) (λ x. refl) (u16_of a))
-    (either _ (one (λ x. event.Sweep x) (λ x. refl) (u32_of a)) none)))
+    (either _ (one (λ x. event.Sweep x) (λ x. refl) (u32_of a))
+    (either _ (one (λ x. event.Next x) (λ x. refl) (u8_of a)) none))))
 
 own-two : (verb a b : List ℕ) → Passes is_own (with_two verb a b)
 unfolding with_two

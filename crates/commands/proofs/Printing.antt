@@ -11,6 +11,7 @@ use Rattle.std.proofs.lemmas.Iterator.{YieldsList}
 use Rattle.std.proofs.lemmas.Iterator.Consumers.{YieldsList-end}
 use Rattle.std.proofs.lemmas.Iterator.Splits.{YieldsList-from_lines}
 use Rattle.model.specs.World.{World}
+use Rattle.node.specs.Keeping.{Rings}
 use Rattle.commands.specs.declared.script.Reply.{Reply}
 use Rattle.commands.specs.declared.script.Reply.TheVariants as reply
 use Rattle.commands.specs.declared.script.State.{State}
@@ -65,12 +66,12 @@ pub record Point (S : Type 0) : Type 0 where
   pub output : Option (List ℕ)
 
 -- before a turn: the replies to the lines that were passed, and what is left
-pub record PrintedBefore {S : Type 0} (shows : S → World → Type 0) (script : List ℕ)
+pub record PrintedBefore {S : Type 0} (shows : S → World → Type 0) (keeps : S → List Rings) (script : List ℕ)
     (start : Option (List ℕ)) (p : Point S) : Type 0 where
   pub replies : List Reply
   pub counted : length replies ≡ p.left.count
   pub held : Held
-  pub shown : ShowsHeld shows p.state held
+  pub shown : ShowsHeld shows keeps p.state held
   pub texts : List (List ℕ)
   pub yields : YieldsList lines_steps (λ x. x.now) p.left.iter texts
   pub follow : (more : List Reply) → Replies held texts more
@@ -79,11 +80,11 @@ pub record PrintedBefore {S : Type 0} (shows : S → World → Type 0) (script :
   pub appended : Appends start p.output (printed 1 replies)
 
 -- before the first line
-pub printed_nothing : {S : Type 0} (shows : S → World → Type 0) (script : List ℕ)
+pub printed_nothing : {S : Type 0} (shows : S → World → Type 0) (keeps : S → List Rings) (script : List ℕ)
     (it : Enumerate Lines) (known : Option (List ℕ)) → lines_rest it.iter ≡ script → it.count ≡ 0
-    → PrintedBefore shows script known
+    → PrintedBefore shows keeps script known
     (record { left = it; state = state.Unopened; status = 0; output = known })
-printed_nothing shows script it known all none =
+printed_nothing shows keeps script it known all none =
     record {
       replies = [];
       counted = sym none;
@@ -108,18 +109,18 @@ ends_here : (r : Reply) → r ≡ reply.NoCommand → (P : Type 0) → GoesOn r 
 ends_here r last P = subst (λ z. GoesOn z [] P) (sym last) refl
 
 -- a turn: the line, its reply, and what was printed for it
-pub record Turn {S : Type 0} (shows : S → World → Type 0) (p q : Point S) : Type 0 where
+pub record Turn {S : Type 0} (shows : S → World → Type 0) (keeps : S → List Rings) (p q : Point S) : Type 0 where
   pub index : ℕ
   pub text : Bor (List ℕ)
   pub reply : Reply
   pub step : enumerate_steps lines_steps p.left (Some (index, text)) q.left
-  pub answers : Moves shows (λ h later. TakesLine h (line_of (words_of text.now)) reply later)
+  pub answers : Moves shows keeps (λ h later. TakesLine h (line_of (words_of text.now)) reply later)
       p.state q.state
   pub prints : Appends p.output q.output (reply_text (index + 1) reply)
   pub worse : q.status ≡ max p.status (status_after reply)
 
-module _ {S : Type 0} (shows : S → World → Type 0) (script : List ℕ) (start : Option (List ℕ))
-    (p q : Point S) (before : PrintedBefore shows script start p) (turn : Turn shows p q) where
+module _ {S : Type 0} (shows : S → World → Type 0) (keeps : S → List Rings) (script : List ℕ) (start : Option (List ℕ))
+    (p q : Point S) (before : PrintedBefore shows keeps script start p) (turn : Turn shows keeps p q) where
   abbrev replies_so_far : List Reply
   replies_so_far = before.replies ++ turn.reply ∷ []
 
@@ -141,7 +142,7 @@ module _ {S : Type 0} (shows : S → World → Type 0) (script : List ℕ) (star
       ∙ sym (status_of_push before.replies turn.reply)
 
   -- it does not end the program
-  pub printed_more : turn.reply ≢ reply.NoCommand → PrintedBefore shows script start q
+  pub printed_more : turn.reply ≢ reply.NoCommand → PrintedBefore shows keeps script start q
   printed_more goes =
       let next = first_and_rest {t = q.left.iter} before.yields turn.text turn.step.0 in
       let taken = turn.answers before.held before.shown in
@@ -179,11 +180,11 @@ module _ {S : Type 0} (shows : S → World → Type 0) (script : List ℕ) (star
       }
 
 -- no line is left
-pub printed_all : {S : Type 0} (shows : S → World → Type 0) (script : List ℕ)
+pub printed_all : {S : Type 0} (shows : S → World → Type 0) (keeps : S → List Rings) (script : List ℕ)
     (start : Option (List ℕ)) (p : Point S) (later : Enumerate Lines)
-    → PrintedBefore shows script start p → enumerate_steps lines_steps p.left None later
+    → PrintedBefore shows keeps script start p → enumerate_steps lines_steps p.left None later
     → PrintsReplies script p.status start p.output
-printed_all shows script start p later before step =
+printed_all shows keeps script start p later before step =
     let none : [] ≡ before.texts =
     (YieldsList-end before.yields [] p.left.iter refl None later.iter refl step.0).0 in
     record {

@@ -70,7 +70,9 @@ with_one verb a =
     (cond (bytes_eq verb (codes "word"))
     (option_map (λ object. event.Word object) (u16_of a))
     (cond (bytes_eq verb (codes "sweep"))
-    (option_map (λ count. event.Sweep count) (u32_of a)) None)))
+    (option_map (λ count. event.Sweep count) (u32_of a))
+    (cond (bytes_eq verb (codes "next"))
+    (option_map (λ from. event.Next from) (u8_of a)) None))))
 
 unfoldable pub with_two : List ℕ → List ℕ → List ℕ → Option Event
 with_two verb a b =

@@ -1,8 +1,9 @@
 -- What a script prints, and the status that it ends with.
-use Rattle.std.specs.Prelude.{◌≡◌, ◌≢◌, ℕ, ◌+◌, true, max, List, [], ◌∷◌, ◌++◌, ◌⊎◌, Option, Some, None, IfSome, Ok, codes, decimal}
+use Rattle.std.specs.Prelude.{◌≡◌, ◌≢◌, ℕ, ◌+◌, true, max, List, [], ◌∷◌, ◌++◌, ◌⊎◌, Option, Some, None, IfSome, Ok, Err, codes, decimal, replicate}
 use Rattle.std.specs.Io.KnownBytes.{Appends}
 use Rattle.std.specs.Str.Lines.{lines}
 use Rattle.ids.specs.Limits.{Shaped, IsShape}
+use Rattle.ids.specs.declared.refusal.Refusal.{Refusal}
 use Rattle.ids.specs.declared.refusal.Refusal.TheVariants.{Memory, NoNode, ImageTooLarge}
 use Rattle.model.specs.World.{World, IsStepRefusal, new_world, is_step_memory_free, take_step}
 use Rattle.model.specs.declared.step.Outcome.TheVariants as outcome
@@ -15,47 +16,58 @@ use Rattle.commands.specs.declared.script.State.{State}
 use Rattle.commands.specs.declared.script.State.TheVariants as state
 use Rattle.commands.specs.Grammar.{line_of, words_of}
 use Rattle.world.specs.Shows.{IsSmall, summary_at}
+use Rattle.world.specs.Spaces.{KeepsAfter, step_met}
 use Rattle.commands.specs.Text.{outcome_text, refused_text, summary_text}
+use Rattle.node.specs.Keeping.{Rings, no_rings}
 use Rattle.node.specs.declared.summary.Summary.{Summary}
 
 -- the space of a script: not asked for yet, refused for want of memory, or there
 pub data Held : Type 0 where
   awaited : Held
   denied : Held
-  there : World → Held
+  -- with what its nodes keep until its turn
+  there : World → List Rings → Held
 
--- the program's space shows that of the definitions
-abbrev pub ShowsHeld : {S : Type 0} → (S → World → Type 0) → State S → Held → Type 0
-ShowsHeld shows state.Unopened awaited = Unit {0}
-ShowsHeld shows (state.Refused e) denied = e ≡ Memory
-ShowsHeld shows (state.Open s) (there w) = shows s w
-ShowsHeld shows s h = ⊥
+-- the program's space shows that of the definitions, and keeps what is said
+abbrev pub ShowsHeld : {S : Type 0} → (S → World → Type 0) → (S → List Rings) → State S → Held
+    → Type 0
+ShowsHeld shows keeps state.Unopened awaited = Unit {0}
+ShowsHeld shows keeps (state.Refused e) denied = e ≡ Memory
+ShowsHeld shows keeps (state.Open s) (there w all) = shows s w × (keeps s ≡ all)
+ShowsHeld shows keeps s h = ⊥
 
 -- whatever the old state shows, the new one shows what comes of it
-abbrev pub Moves : {S : Type 0} → (S → World → Type 0) → (Held → Held → Type 0) → State S → State S
-    → Type 0
-Moves shows becomes old new =
-    (h : Held) → ShowsHeld shows old h
-    → (later : Held) × becomes h later × ShowsHeld shows new later
+abbrev pub Moves : {S : Type 0} → (S → World → Type 0) → (S → List Rings)
+    → (Held → Held → Type 0) → State S → State S → Type 0
+Moves shows keeps becomes old new =
+    (h : Held) → ShowsHeld shows keeps old h
+    → (later : Held) × becomes h later × ShowsHeld shows keeps new later
 
--- What is printed for a step of a space that is there, and the space afterwards. A step that takes
--- no memory is not refused for want of it, and no save of a small image because it is too large.
-abbrev pub IsStepReply : World → Step → Reply → Held → Type 0
-IsStepReply w step (reply.Outcome o) later =
-    (v : World) × (take_step w step ≡ Ok (v, o)) × (later ≡ there v)
-IsStepReply w step (reply.Refused e) later =
-    IsStepRefusal w step e
-    × (is_step_memory_free w step ≡ true → e ≢ Memory)
-    × (IsSmall w step → e ≢ ImageTooLarge)
-    × (later ≡ there w)
-IsStepReply w step reply.Nothing later = ⊥
-IsStepReply w step (reply.Summary s) later = ⊥
-IsStepReply w step reply.NoCommand later = ⊥
+-- A step is refused so, on a space whose nodes keep this. One that takes no memory is not refused
+-- for want of it, and no save of a small image because it is too large.
+pub record RefusesStep (w : World) (all : List Rings) (step : Step) (e : Refusal) : Type 0 where
+  pub first : IsStepRefusal w (step_met all step) e
+  pub memory_free : is_step_memory_free w (step_met all step) ≡ true → e ≢ Memory
+  pub small : IsSmall w step → e ≢ ImageTooLarge
+
+-- What is printed for a step of a space that is there, and the space afterwards with what its nodes
+-- keep.
+abbrev pub IsStepReply : World → List Rings → Step → Reply → Held → Type 0
+IsStepReply w all step (reply.Outcome o) later =
+    (v : World) × (kept : List Rings) × (take_step w (step_met all step) ≡ Ok (v, o))
+    × KeepsAfter w all step (Ok o) kept
+    × (later ≡ there v kept)
+IsStepReply w all step (reply.Refused e) later =
+    (kept : List Rings) × RefusesStep w all step e × KeepsAfter w all step (Err e) kept
+    × (later ≡ there w kept)
+IsStepReply w all step reply.Nothing later = ⊥
+IsStepReply w all step (reply.Summary s) later = ⊥
+IsStepReply w all step reply.NoCommand later = ⊥
 
 abbrev pub TakesStep : Held → Step → Reply → Held → Type 0
 TakesStep awaited step r later = (r ≡ reply.NoCommand) × (later ≡ awaited)
 TakesStep denied step r later = (r ≡ reply.Refused Memory) × (later ≡ denied)
-TakesStep (there w) step r later = IsStepReply w step r later
+TakesStep (there w all) step r later = IsStepReply w all step r later
 
 -- what is printed for a node in numbers, where there is such a node
 abbrev pub state_reply : Option Summary → Reply
@@ -65,18 +77,23 @@ state_reply None = reply.Refused NoNode
 abbrev pub TakesState : Held → ℕ → Reply → Held → Type 0
 TakesState awaited node r later = (r ≡ reply.NoCommand) × (later ≡ awaited)
 TakesState denied node r later = (r ≡ reply.Refused Memory) × (later ≡ denied)
-TakesState (there w) node r later = (r ≡ state_reply (summary_at w node)) × (later ≡ there w)
+TakesState (there w all) node r later =
+    (r ≡ state_reply (summary_at w node)) × (later ≡ there w all)
+
+-- what the nodes of a new space keep
+abbrev pub none_kept : ℕ → List Rings
+none_kept nodes = replicate nodes (no_rings nodes)
 
 -- a space of these sizes is made, or refused for want of memory
 abbrev pub IsNewReply : Shaped → Reply → Held → Type 0
 IsNewReply sizes r later =
-    ((r ≡ reply.Outcome outcome.Done) × (later ≡ there (new_world sizes)))
+    ((r ≡ reply.Outcome outcome.Done) × (later ≡ there (new_world sizes) (none_kept sizes.nodes)))
     ⊎ ((r ≡ reply.Refused Memory) × (later ≡ denied))
 
 abbrev pub TakesSpace : Held → Shaped → Reply → Held → Type 0
 TakesSpace awaited sizes r later = IsNewReply sizes r later
 TakesSpace denied sizes r later = (r ≡ reply.NoCommand) × (later ≡ denied)
-TakesSpace (there w) sizes r later = (r ≡ reply.NoCommand) × (later ≡ there w)
+TakesSpace (there w all) sizes r later = (r ≡ reply.NoCommand) × (later ≡ there w all)
 
 -- `space` stands once and first, and its sizes are within the limits
 pub record AsksSpace (h : Held) (sizes : Shaped) (r : Reply) (later : Held) : Type 0 where

@@ -45,6 +45,7 @@ answer_text (answer.Ended cycle) = codes "ended " ++ decimal cycle
 answer_text (answer.Freed count done) = freed_text count done
 answer_text answer.Received = codes "received"
 answer_text answer.Repeat = codes "repeat"
+answer_text answer.Early = codes "early"
 
 -- what became of a step that was not refused
 abbrev pub outcome_text : Outcome → List ℕ

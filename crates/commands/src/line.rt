@@ -165,6 +165,7 @@ fn with_one(verb: &str, a: &str) -> Option<Event>
         "accept" => read_u16(a).map(|register| Event::Accept { register }),
         "word" => read_u16(a).map(|object| Event::Word { object }),
         "sweep" => read_u32(a).map(|count| Event::Sweep { count }),
+        "next" => read_u8(a).map(|from| Event::Next { from }),
         _ => None,
     }
 }

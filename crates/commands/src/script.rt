@@ -1,11 +1,13 @@
 //! Runs a script over a space of nodes.
-ghost use Rattle.std.specs.Prelude.{◌≡◌, ◌≤◌, ◌⊎◌, IfOk, IfErr, OnOk, IsTrue, ◌≢◌};
+ghost use Rattle.std.specs.Prelude.{◌≡◌, ◌≤◌, ◌⊎◌, List, IfOk, IfErr, OnOk, IsTrue, ◌≢◌};
 ghost use Rattle.std.specs.Io.KnownBytes.{Appends};
 ghost use Rattle.ids.specs.declared.refusal.Refusal.TheVariants.{Memory, ImageTooLarge};
 ghost use Rattle.model.specs.World.{World, FollowsStep, new_world, is_own_step, is_step_memory_free};
-ghost use Rattle.world.specs.Shows.{ShowsWorld, IsSmall, summary_at};
+ghost use Rattle.node.specs.Keeping.{Rings};
+ghost use Rattle.world.specs.Shows.{IsSmall, summary_at};
+ghost use Rattle.world.specs.Spaces.{KeepsAfter, ShowsSpace, step_met};
 ghost use Rattle.commands.specs.Grammar.{line_of, words_of};
-ghost use Rattle.commands.specs.Script.{Moves, PrintsNoScript, PrintsReplies, RunsScript, TakesLine, TakesSpace, TakesState, TakesStep, reply_text, status_after};
+ghost use Rattle.commands.specs.Script.{Moves, PrintsNoScript, PrintsReplies, RunsScript, TakesLine, TakesSpace, TakesState, TakesStep, none_kept, reply_text, status_after};
 
 use crate::line::Line;
 use crate::text::{OutcomeText, SummaryText};
@@ -31,18 +33,26 @@ trait Space: Drop + Sized {
     /// A space of the definitions that this one shows.
     ghost shows: { Self → World → Type 0 };
 
+    /// For each node what it keeps until its turn.
+    ghost keeps: { Self → List Rings };
+
     /// A new space of this shape. `Memory` where a growth was refused.
     fn new(alloc: Global, shape: Shape) -> Result<Self, Refusal>
         ensures made { IfOk result (λ s. shows s (new_world shape)) }
+        ensures early { IfOk result (λ s. keeps s ≡ none_kept shape.nodes) }
         ensures refused { IfErr result (λ e. e ≡ Memory) };
 
-    /// Takes a step, or refuses it and changes nothing. A step that takes no memory is not refused
-    /// for want of it, and no save of a small image because it is too large.
+    /// Takes a step, or refuses it and shows the same as before; a message that waited for its turn
+    /// may have left its place then. A step that takes no memory is not refused for want of it, and
+    /// no save of a small image because it is too large.
     fn step(&mut self, step: Step) -> Result<Outcome, Refusal>
         requires own { IsTrue (is_own_step step) }
         ensures follows { (w : World) → shows self.old w
-            → FollowsStep shows w step result self.new }
-        ensures memory_free { (w : World) → shows self.old w → IsTrue (is_step_memory_free w step)
+            → FollowsStep shows w (step_met (keeps self.old) step) result self.new }
+        ensures early { (w : World) → shows self.old w
+            → KeepsAfter w (keeps self.old) step result (keeps self.new) }
+        ensures memory_free { (w : World) → shows self.old w
+            → IsTrue (is_step_memory_free w (step_met (keeps self.old) step))
             → IfErr result (λ e. e ≢ Memory) }
         ensures small { (w : World) → shows self.old w → IsSmall w step
             → IfErr result (λ e. e ≢ ImageTooLarge) };
@@ -53,7 +63,9 @@ trait Space: Drop + Sized {
 }
 
 impl Space for Sim {
-    ghost shows = { ShowsWorld };
+    ghost shows = { ShowsSpace };
+
+    ghost keeps = { λ n. n.early };
 
     fn new(alloc: Global, shape: Shape) -> Result<Sim, Refusal> {
         Sim::new(alloc, shape)
@@ -186,7 +198,7 @@ fn status_after(reply: &Reply) -> u8
 
 /// Does what the line says.
 fn take_line<S: Space>(alloc: Global, state: &mut State<S>, text: &str) -> Reply
-    ensures { Moves S.shows (λ h later. TakesLine h (line_of (words_of text.now)) result later)
+    ensures { Moves S.shows S.keeps (λ h later. TakesLine h (line_of (words_of text.now)) result later)
         state.old state.new }
 {
     match Line::parse(text) {
@@ -209,7 +221,7 @@ fn take_line<S: Space>(alloc: Global, state: &mut State<S>, text: &str) -> Reply
 
 /// Makes the space, where no line asked for it before.
 fn open<S: Space>(alloc: Global, state: &mut State<S>, shape: Shape) -> Reply
-    ensures { Moves S.shows (λ h later. TakesSpace h shape result later) state.old state.new }
+    ensures { Moves S.shows S.keeps (λ h later. TakesSpace h shape result later) state.old state.new }
 {
     let State::Unopened = state else {
         return Reply::NoCommand;
@@ -229,7 +241,7 @@ fn open<S: Space>(alloc: Global, state: &mut State<S>, shape: Shape) -> Reply
 /// Takes a step of the space, where it was asked for.
 fn take_step<S: Space>(state: &mut State<S>, step: Step) -> Reply
     requires { IsTrue (is_own_step step) }
-    ensures { Moves S.shows (λ h later. TakesStep h step result later) state.old state.new }
+    ensures { Moves S.shows S.keeps (λ h later. TakesStep h step result later) state.old state.new }
 {
     match state {
         State::Unopened => Reply::NoCommand,
@@ -243,7 +255,7 @@ fn take_step<S: Space>(state: &mut State<S>, step: Step) -> Reply
 
 /// Looks at a node, where the space was asked for. `NoNode` where it has none of that number.
 fn show_state<S: Space>(state: &State<S>, node: u8) -> Reply
-    ensures { Moves S.shows (λ h later. TakesState h node result later) state.now state.now }
+    ensures { Moves S.shows S.keeps (λ h later. TakesState h node result later) state.now state.now }
 {
     match state {
         State::Unopened => Reply::NoCommand,

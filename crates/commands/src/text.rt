@@ -14,8 +14,8 @@ use std::fmt;
 /// object's word, `ok`, `sent` and the message's number, `from`, the sender, `label`, the label and
 /// the reference or `-`, `cycle` and the cycle that begins, `scanned` and the reference, `passed`,
 /// the token's sum and its colour, `probe again`, `ended` and the cycle, `freed`, the count and
-/// `done` or `more`, `received`, `repeat`, `ack` and the number acknowledged, or `no frame`. The
-/// only refusal is [`Refusal::Memory`].
+/// `done` or `more`, `received`, `repeat`, `early`, `ack` and the number acknowledged, or
+/// `no frame`. The only refusal is [`Refusal::Memory`].
 pub fn answer_text(alloc: Global, outcome: &Outcome) -> Result<String, Refusal>
     ensures text { IfOk result (λ s. string_bytes s ≡ outcome_text outcome.now) }
     ensures refused { IfErr result (λ e. e ≡ Memory) }
@@ -64,6 +64,7 @@ impl fmt::Display for AnswerText {
             Answer::Freed { count, done } => write!(f, "freed {count} {}", done_or_more(done)),
             Answer::Received => write!(f, "received"),
             Answer::Repeat => write!(f, "repeat"),
+            Answer::Early => write!(f, "early"),
         }
     }
 }

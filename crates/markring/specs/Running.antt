@@ -10,18 +10,19 @@ use Rattle.model.specs.declared.event.Event.TheVariants as event
 use Rattle.model.specs.declared.step.Step.{Step}
 use Rattle.model.specs.declared.step.Step.TheVariants as step
 
--- an event of the collector's
-abbrev pub is_collecting : Event → Bool
-is_collecting event.Begin = true
-is_collecting event.Scan = true
-is_collecting event.Pass = true
-is_collecting (event.Sweep count) = true
-is_collecting e = false
+-- an event that the workers see to: one of the collector's, or of a message that waits
+abbrev pub is_for_workers : Event → Bool
+is_for_workers event.Begin = true
+is_for_workers event.Scan = true
+is_for_workers event.Pass = true
+is_for_workers (event.Sweep count) = true
+is_for_workers (event.Next from) = true
+is_for_workers e = false
 
 -- what a step says here
 abbrev pub step_said : Step → Option RunLine
 step_said (step.Restart node) = Some (said.Restart node)
-step_said (step.Act node e) = cond (is_collecting e) None (Some (said.Act node e))
+step_said (step.Act node e) = cond (is_for_workers e) None (Some (said.Act node e))
 step_said s = None
 
 -- what a line of other scripts says here

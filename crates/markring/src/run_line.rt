@@ -1,7 +1,7 @@
 //! One line of a script that runs over node threads.
 ghost use Rattle.std.specs.Prelude.{◌≡◌, IfSome, IsTrue};
 ghost use Rattle.commands.specs.Grammar.{is_own_line, line_of, words_of};
-ghost use Rattle.markring.specs.Running.{is_collecting, is_own_said, is_waiting, shared_of, IsSaid};
+ghost use Rattle.markring.specs.Running.{is_for_workers, is_own_said, is_waiting, shared_of, IsSaid};
 
 use commands::{Line, read_u8, read_u16};
 use model::{Event, Step};
@@ -44,7 +44,7 @@ fn shared(line: Line) -> Option<RunLine>
         Line::Blank => Some(RunLine::Blank),
         Line::Step(Step::Restart(node)) => Some(RunLine::Restart(node)),
         Line::Step(Step::Act(node, event)) => {
-            if is_collecting(&event) {
+            if is_for_workers(&event) {
                 None
             } else {
                 Some(RunLine::Act(node, event))
@@ -54,12 +54,12 @@ fn shared(line: Line) -> Option<RunLine>
     }
 }
 
-// Whether an event is one of the collector's, which the workers see to.
-fn is_collecting(event: &Event) -> bool
-    ensures { result ≡ is_collecting event.now }
+// Whether the workers see to an event: those of the collector, and messages that wait.
+fn is_for_workers(event: &Event) -> bool
+    ensures { result ≡ is_for_workers event.now }
 {
     match event {
-        Event::Begin | Event::Scan | Event::Pass | Event::Sweep { .. } => true,
+        Event::Begin | Event::Scan | Event::Pass | Event::Sweep { .. } | Event::Next { .. } => true,
         _ => false,
     }
 }

@@ -50,6 +50,7 @@ fn with_one(verb: &str, a: &str) -> Result<Event, Stop> {
         "drop" => Ok(Event::Drop { register: read(a)? }),
         "accept" => Ok(Event::Accept { register: read(a)? }),
         "word" => Ok(Event::Word { object: read(a)? }),
+        "next" => Ok(Event::Next { from: read(a)? }),
         _ => Err(Stop::Unknown),
     }
 }

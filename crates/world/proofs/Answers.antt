@@ -24,7 +24,7 @@ record Answered (w : World) (old : SpaceView) (ks : List Call) (choice : ℕ →
 -- one call more, which is this step
 module _ (w : World) (old : SpaceView) (k : Call) (ks : List Call) (choice : ℕ → Bool) where
   abbrev met : Step
-  met = step_met old k.step
+  met = step_met old.early k.step
 
   abbrev later : List Step
   later = steps_of k.space ks
@@ -73,13 +73,13 @@ not-large e is same =
     subst (λ (z : Refusal). is_taken (Err z) ≡ true) same is in cc)
 
 one-call : (w : World) (old : SpaceView) (k : Call) (ks : List Call) (choice : ℕ → Bool)
-    → FollowsStep ShowsSpace w (step_met old k.step) k.result k.space
+    → FollowsStep ShowsSpace w (step_met old.early k.step) k.result k.space
     → ((v : World) → ShowsSpace k.space v → Answered v k.space ks choice)
     → Answered w old (k ∷ ks) choice
 one-call w old k ks choice follows rest = by k.result refl follows
   where
     t : Step
-    t = step_met old k.step
+    t = step_met old.early k.step
 
     by : (r : Result Outcome Refusal) → k.result ≡ r → FollowsStep ShowsSpace w t r k.space
         → Answered w old (k ∷ ks) choice

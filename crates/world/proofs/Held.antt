@@ -2,7 +2,7 @@
 use Rattle.std.proofs.Common.{◌≡◌, ◌≢◌, ℕ, ◌-◌, ◌<◌, ◌≤◌, ◌==◌, ltb, ap₂, true, List, [], ◌∷◌, length, get_or, set, Option, Some, None, Result, Ok, Err, refl, ap, sym, ◌∙◌, subst, ⊎_elim, arith}
 use Rattle.std.specs.Prelude.{OnErr, OnOk, slice_get}
 use Rattle.std.proofs.lemmas.Bool.{cases_lt, cond_both}
-use Rattle.std.proofs.lemmas.List.{length-set, length-map, get_or_read, get_or_past, set-get_or, map-set}
+use Rattle.std.proofs.lemmas.List.{length-set, length-map, get_or_read, get_or_past, set-get_or, set_past, map-set}
 use Rattle.std.proofs.Math.ListN.{get_or-map}
 use Rattle.ids.specs.Limits.{Shaped}
 use Rattle.ids.specs.declared.refusal.Refusal.{Refusal}
@@ -19,7 +19,7 @@ use Rattle.model.specs.declared.step.Step.{Step}
 use Rattle.model.specs.declared.step.Step.TheVariants as step
 use Rattle.model.specs.declared.step.Outcome.{Outcome}
 use Rattle.model.specs.declared.step.Outcome.TheVariants as outcome
-use Rattle.model.specs.State.{NodeState, node_at, no_node, sent_to}
+use Rattle.model.specs.State.{LocalState, NodeState, node_at, no_node, sent_to}
 use Rattle.model.specs.Steps.{is_own}
 use Rattle.model.specs.View.{NodeView, kept_view}
 use Rattle.model.specs.World.{World, FollowsStep, released, numbered, happens, world_after, is_step_memory_free}
@@ -28,10 +28,10 @@ use Rattle.laws.proofs.Onward.{run-saved}
 use Rattle.laws.proofs.KeepsSent.{SentMore, sent-onward}
 use Rattle.laws.proofs.Cuts.{released-numbered}
 use Rattle.laws.proofs.Net.{released-grows}
-use Rattle.node.specs.Keeping.{OfAll, Rings, no_rings, next_event, next_step, met, waiting}
+use Rattle.node.specs.Keeping.{OfAll, Rings, early_after, no_rings, next_event, next_step, met, waiting}
 use Rattle.world.specs.Sites.{SiteView, KeepingSite, Acted, ActedKeeping, Saves, restarted}
 use Rattle.world.specs.Shows.{ShowsWorld, Stepped, Given, IsAckOf, IsSim, IsPlaced, frame_at, no_site, site_at}
-use Rattle.world.specs.Spaces.{SpaceView, GivenSpace, IsOfNet, ShowsSpace, SteppedSpace, early_of, kept_at, keeping_at, site_of, space_of, step_met}
+use Rattle.world.specs.Spaces.{SpaceView, GivenSpace, IsOfNet, KeepsAfter, ShowsSpace, SteppedSpace, early_of, given_early, kept_at, keeping_at, site_of, space_of, step_met}
 use Rattle.node.proofs.Kept.{of-none, after-all}
 use Rattle.world.proofs.Shows.{Changes}
 use Rattle.world.proofs.Steps.{Gives, outcome_by, acted, given-follows, given-free, given-lets-go, given-small, given-unchanged, no-node}
@@ -84,16 +84,21 @@ KeepsNet n m =
 pub keeps-same : (n : SpaceView) → KeepsNet n n
 keeps-same n w h = (h.width, h.held)
 
+-- and what it is
+abbrev pub KeepsSo : SpaceView → SpaceView → Step → Result Outcome Refusal → Type 0
+KeepsSo n m s r = (w : World) → ShowsSpace n w → KeepsAfter w n.early s r m.early
+
 -- a step of the sites is one of the space
-pub lifted : {n m : SpaceView} {s : Step} {r : Result Outcome Refusal} → step_met n s ≡ s
-    → KeepsNet n m → Stepped r n.sites m.sites s → SteppedSpace r n m s
-lifted {n = n} {m = m} {s = s} {r = r} is keeps h = record {
+pub lifted : {n m : SpaceView} {s : Step} {r : Result Outcome Refusal} → step_met n.early s ≡ s
+    → KeepsNet n m → KeepsSo n m s r → Stepped r n.sites m.sites s → SteppedSpace r n m s
+lifted {n = n} {m = m} {s = s} {r = r} is keeps early h = record {
   follows = λ w shown.
       let kept = keeps w shown in
       subst (λ (z : Step). FollowsStep ShowsSpace w z r m) (sym is)
       (follows-space m s r shown kept.0 kept.1 (h.follows w shown.world));
   too_large = h.too_large;
   unchanged = h.unchanged;
+  early = early;
   lets_go = h.lets_go;
   memory_free = λ w shown free.
       h.memory_free w shown.world
@@ -105,7 +110,7 @@ lifted {n = n} {m = m} {s = s} {r = r} is keeps h = record {
 pub record SpaceChanges (n m : SpaceView) (i : ℕ) (q p : KeepingSite) : Type 0 where
   pub sites : Changes n.sites m.sites i q.site p.site
   pub early : m.early ≡ set n.early i p.early
-  pub was : q.early ≡ kept_at n i
+  pub was : q.early ≡ kept_at n.early i
 
 changed : (qs : List KeepingSite) (i : ℕ) (q p : KeepingSite) → i < length qs
     → q ≡ get_or qs i q → SpaceChanges (space_of qs) (space_of (set qs i p)) i q p
@@ -161,6 +166,11 @@ module _ {n m : SpaceView} {i : ℕ} {q p : KeepingSite} (c : SpaceChanges n m i
   keeps-none nodes same =
       keeps-changed (λ w h. subst (OfAll (IsOfNet w i)) (sym same) (of-none (IsOfNet w i) nodes))
 
+  -- so nothing changes of what the nodes keep
+  pub early-same : p.early ≡ q.early → m.early ≡ n.early
+  early-same same =
+      c.early ∙ ap (set n.early i) (same ∙ c.was) ∙ set-get_or n.early i []
+
   -- every node stands at its number
   stands : (f : SiteView → NodeView) → IsPlaced (length n.sites) i (f p.site)
       → ((k : ℕ) → k < length n.sites → IsPlaced (length n.sites) k (f (site_at n.sites k)))
@@ -196,6 +206,13 @@ module _ {n m : SpaceView} {i : ℕ} {q p : KeepingSite} (c : SpaceChanges n m i
   saved-was h =
       subst (λ (z : SiteView). IsPlaced (length n.sites) i z.saved) (sym c.sites.old)
       (h.saved i c.sites.within)
+
+  -- a restart loses what its node kept
+  pub early-lost : IsSim n.sites → p ≡ restarted q → (w : World) → ShowsSpace n w
+      → m.early ≡ set n.early i (no_rings (length w.current))
+  early-lost h is w shown =
+      c.early ∙ ap (λ (z : KeepingSite). set n.early i z.early) is
+      ∙ ap (λ k. set n.early i (no_rings k)) ((saved-was h).nodes ∙ shown.world.width)
 
   pub sim-acted : {r : Result Answer Refusal} {e : Event} → IsSim n.sites
       → Acted r q.site p.site e → IsSim m.sites
@@ -258,7 +275,7 @@ given-space {n = n} {i = i} {q = q} {p = p} {e = e} {r = r} c acted =
     }
 
 sites-given : {n m : SpaceView} {i : ℕ} {e : Event} {r : Result Answer Refusal}
-    → GivenSpace r n m i e → Given r n.sites m.sites i (met (kept_at n i) e)
+    → GivenSpace r n m i e → Given r n.sites m.sites i (met (kept_at n.early i) e)
 sites-given h = record {
   within = h.within;
   site = h.site.site;
@@ -282,8 +299,22 @@ keeps-given {n = n} {i = i} {e = e} {r = r} h new =
     keeps-changed (given-changes h)
     (λ w shown.
     subst (OfAll (IsOfNet w i)) (sym h.acted.early)
-    (after-all (IsOfNet w i) (site_at n.sites i).current.local (kept_at n i) e r (shown.held i)
+    (after-all (IsOfNet w i) (site_at n.sites i).current.local (kept_at n.early i) e r (shown.held i)
     (new w shown)))
+
+-- what the nodes keep then is what the answer leaves of it
+early-given : {n m : SpaceView} {i : ℕ} {e : Event} {r : Result Answer Refusal}
+    → GivenSpace r n m i e → (w : World) → ShowsSpace n w
+    → m.early ≡ given_early w n.early i e r
+early-given {n = n} {i = i} {e = e} {r = r} h w shown =
+    h.early ∙ ap (set n.early i) h.acted.early
+    ∙ ap (λ (p : LocalState). set n.early i (early_after p (kept_at n.early i) e r))
+    (shown.world.each i).current.shows.local
+
+early-acted : {n m : SpaceView} {i : ℕ} {e : Event} (r : Result Answer Refusal)
+    → GivenSpace r n m i e → KeepsSo n m (step.Act i e) (outcome_by outcome.Answer r)
+early-acted (Ok a) h w shown = early-given h w shown
+early-acted (Err f) h w shown = early-given h w shown
 
 -- what was released was released by a node that is there
 released-within : (w : World) (from to number : ℕ) (x : Message)
@@ -307,7 +338,7 @@ released-within w from to number x there =
 
 -- Next of a frame that waits is its delivery
 waiting-gives : {n : SpaceView} {w : World} {i from : ℕ} {d : Data} → ShowsSpace n w
-    → i < length n.sites → waiting (kept_at n i) from ≡ Some d
+    → i < length n.sites → waiting (kept_at n.early i) from ≡ Some d
     → Gives n.sites w i (event.Data d) (step.Deliver from i d.number) outcome.Answer
 waiting-gives {n = n} {w = w} {i = i} {from = from} {d = d} shown below waits =
     let net : IsOfNet w i from d = shown.held i from 0 d waits in
@@ -319,10 +350,11 @@ waiting-gives {n = n} {w = w} {i = i} {from = from} {d = d} shown below waits =
     (omega (arith, less, shown.world.grown.width, shown.world.width)) below net.there same
 
 waiting-taken : {n m : SpaceView} {i : ℕ} {r : Result Answer Refusal} (from : ℕ) (d : Data)
-    → waiting (kept_at n i) from ≡ Some d → Given r n.sites m.sites i (event.Data d)
-    → KeepsNet n m → SteppedSpace (outcome_by outcome.Answer r) n m (step.Act i (event.Next from))
-waiting-taken {n = n} {m = m} {i = i} {r = r} from d waits h keeps =
-    let is : step.Deliver from i d.number ≡ step_met n (step.Act i (event.Next from)) =
+    → waiting (kept_at n.early i) from ≡ Some d → Given r n.sites m.sites i (event.Data d)
+    → KeepsNet n m → KeepsSo n m (step.Act i (event.Next from)) (outcome_by outcome.Answer r)
+    → SteppedSpace (outcome_by outcome.Answer r) n m (step.Act i (event.Next from))
+waiting-taken {n = n} {m = m} {i = i} {r = r} from d waits h keeps early =
+    let is : step.Deliver from i d.number ≡ step_met n.early (step.Act i (event.Next from)) =
     sym (ap (next_step i from) waits) in
     record {
       follows = λ w shown.
@@ -333,6 +365,7 @@ waiting-taken {n = n} {m = m} {i = i} {r = r} from d waits h keeps =
           (given-follows r h shown.world (waiting-gives shown h.within waits)));
       too_large = (λ large. absurd (given-small outcome.Answer r h large), λ saves. absurd saves);
       unchanged = given-unchanged outcome.Answer r h;
+      early = early;
       lets_go = given-lets-go (step.Deliver from i d.number) outcome.Answer r h
           (delivery-lets-go from i d.number d);
       memory_free = λ w shown free.
@@ -342,75 +375,99 @@ waiting-taken {n = n} {m = m} {i = i} {r = r} from d waits h keeps =
 
 -- Next, by what waits
 next-taken : {n m : SpaceView} {i : ℕ} {r : Result Answer Refusal} (from : ℕ) (o : Option Data)
-    → waiting (kept_at n i) from ≡ o → Given r n.sites m.sites i (next_event from o)
-    → KeepsNet n m → SteppedSpace (outcome_by outcome.Answer r) n m (step.Act i (event.Next from))
-next-taken {i = i} from None none h keeps =
-    lifted (ap (next_step i from) none) keeps (acted h refl)
-next-taken from (Some d) waits h keeps = waiting-taken from d waits h keeps
+    → waiting (kept_at n.early i) from ≡ o → Given r n.sites m.sites i (next_event from o)
+    → KeepsNet n m → KeepsSo n m (step.Act i (event.Next from)) (outcome_by outcome.Answer r)
+    → SteppedSpace (outcome_by outcome.Answer r) n m (step.Act i (event.Next from))
+next-taken {i = i} from None none h keeps early =
+    lifted (ap (next_step i from) none) keeps early (acted h refl)
+next-taken from (Some d) waits h keeps early = waiting-taken from d waits h keeps early
 
 pub acted-space : {n m : SpaceView} {i : ℕ} {r : Result Answer Refusal} (e : Event)
     → GivenSpace r n m i e → is_own e ≡ true
     → SteppedSpace (outcome_by outcome.Answer r) n m (step.Act i e)
 acted-space (event.Data d) h own = absurd cc
-acted-space {n = n} {i = i} (event.Next from) h own =
-    next-taken from (waiting (kept_at n i) from) refl (sites-given h)
-    (keeps-given h (λ w shown d is. absurd cc))
-acted-space e h own =
-    lifted refl (keeps-given h (λ w shown d is. absurd cc)) (acted (sites-given h) own)
+acted-space {n = n} {i = i} {r = r} (event.Next from) h own =
+    next-taken from (waiting (kept_at n.early i) from) refl (sites-given h)
+    (keeps-given h (λ w shown d is. absurd cc)) (early-acted r h)
+acted-space {r = r} e h own =
+    lifted refl (keeps-given h (λ w shown d is. absurd cc)) (early-acted r h)
+    (acted (sites-given h) own)
 
 -- the acknowledgement that is handed over
 pub handed-space : {n m : SpaceView} {from to : ℕ} {a : Ack} {r : Result Answer Refusal}
     → to < length n.sites → from ≢ to → IsAckOf n.sites from to a
     → GivenSpace r n m from (event.Ack a)
     → SteppedSpace (outcome_by (λ _. outcome.Handed a.number) r) n m (step.Hand from to)
-handed-space below apart ack h =
-    lifted refl (keeps-given h (λ w shown d is. absurd cc)) (hands below apart ack (sites-given h))
+handed-space {n = n} {from = from} below apart ack h =
+    lifted refl (keeps-given h (λ w shown d is. absurd cc))
+    (λ w shown. early-given h w shown ∙ set-get_or n.early from [])
+    (hands below apart ack (sites-given h))
 
 -- the message that is delivered
 of-net : {w : World} {from to number : ℕ} {bytes : List ℕ} (d : Data)
     (x : IsReleased w from to number bytes)
     → plain_data d ≡ data_frame from to number x.message.stamp x.message.body
-    → IsOfNet w to d.from d
+    → IsOfNet w to from d
 of-net {w = w} {from = from} {to = to} {number = number} d x same =
     let sender : d.from ≡ from = cc in
     let receiver : d.to ≡ to = cc in
     let place : d.number ≡ number = cc in
     let stamp : d.stamp ≡ x.message.stamp = cc in
     let body : d.body ≡ x.message.body = cc in
-    record { from = refl; to = receiver; there = rw (sender, place, stamp, body) x.there }
+    record { from = sender; to = receiver; there = rw (place, stamp, body) x.there }
 
-pub delivered-space : {n m : SpaceView} {from to number : ℕ} {bytes : List ℕ} {d : Data}
-    {r : Result Answer Refusal} → from ≢ to → frame_at n.sites from to number ≡ Some bytes
-    → from < length n.sites → GivenSpace r n m to (event.Data d)
-    → ((x : Plain) → Fits x → bytes ≡ spelling x → plain_data d ≡ x)
-    → SteppedSpace (outcome_by outcome.Answer r) n m (step.Deliver from to number)
-delivered-space {to = to} {d = d} apart there less h reads =
-    lifted refl
-    (keeps-given h
-    (λ w shown e is.
-    let same : d ≡ e = cc in
-    let x = found apart there w shown.world in
-    subst (λ (z : Data). IsOfNet w to z.from z) same
-    (of-net d x (reads _ x.fits x.spelled))))
-    (delivered apart there less (sites-given h) reads)
+module _ {n : SpaceView} (from to number : ℕ) {bytes : List ℕ} {d : Data} (apart : from ≢ to)
+    (there : frame_at n.sites from to number ≡ Some bytes)
+    (reads : (x : Plain) → Fits x → bytes ≡ spelling x → plain_data d ≡ x) where
+  of-frame : (w : World) → ShowsSpace n w → IsOfNet w to from d × (d.number ≡ number)
+  of-frame w shown =
+      let x = found apart there w shown.world in
+      let same : plain_data d
+      ≡ data_frame from to number x.message.stamp x.message.body = reads _ x.fits x.spelled in
+      let place : d.number ≡ number = cc in
+      (of-net d x same, place)
+
+  -- what was kept, and perhaps the message that is delivered
+  early-delivered : {m : SpaceView} (r : Result Answer Refusal) → GivenSpace r n m to (event.Data d)
+      → KeepsSo n m (step.Deliver from to number) (outcome_by outcome.Answer r)
+  early-delivered (Ok a) h w shown =
+      let net = of-frame w shown in
+      record { frame = d; numbered = net.1; is = net.0; early = early-given h w shown }
+  early-delivered (Err f) h w shown = early-given h w shown ∙ set-get_or n.early to []
+
+  pub delivered-space : {m : SpaceView} {r : Result Answer Refusal} → from < length n.sites
+      → GivenSpace r n m to (event.Data d)
+      → SteppedSpace (outcome_by outcome.Answer r) n m (step.Deliver from to number)
+  delivered-space {r = r} less h =
+      lifted refl
+      (keeps-given h
+      (λ w shown e is.
+      let same : d ≡ e = cc in
+      let net = (of-frame w shown).0 in
+      subst (λ (z : Data). IsOfNet w to z.from z) same
+      (subst (λ k. IsOfNet w to k d) (sym net.from) net)))
+      (early-delivered r h)
+      (delivered apart there less (sites-given h) reads)
 
 -- ---- a node that isn't there
 
 not-met : (n : SpaceView) (i : ℕ) (e : Event) → length n.early ≡ length n.sites
-    → length n.sites ≤ i → step_met n (step.Act i e) ≡ step.Act i e
+    → length n.sites ≤ i → step_met n.early (step.Act i e) ≡ step.Act i e
 not-met n i (event.Next from) width past =
-    let none : kept_at n i ≡ [] =
+    let none : kept_at n.early i ≡ [] =
     get_or_past n.early i [] (omega (arith, width, past)) in
-    let waits : waiting (kept_at n i) from ≡ None = ap (λ (es : Rings). waiting es from) none in
+    let waits : waiting (kept_at n.early i) from ≡ None = ap (λ (es : Rings). waiting es from) none in
     ap (next_step i from) waits
 not-met n i e width past = refl
 
 pub no-node-acts : (n : SpaceView) (i : ℕ) (e : Event) → length n.early ≡ length n.sites
     → length n.sites ≤ i → SteppedSpace (Err NoNode) n n (step.Act i e)
 no-node-acts n i e width past =
-    lifted (not-met n i e width past) (keeps-same n) (no-node n.sites (step.Act i e) past)
+    lifted (not-met n i e width past) (keeps-same n)
+    (λ w shown. sym (set_past n.early i _ (omega (arith, width, past))))
+    (no-node n.sites (step.Act i e) past)
 
 -- a step that changes nothing
-pub same-space : {n : SpaceView} {s : Step} {r : Result Outcome Refusal} → step_met n s ≡ s
-    → Stepped r n.sites n.sites s → SteppedSpace r n n s
-same-space {n = n} is h = lifted is (keeps-same n) h
+pub same-space : {n : SpaceView} {s : Step} {r : Result Outcome Refusal} → step_met n.early s ≡ s
+    → KeepsSo n n s r → Stepped r n.sites n.sites s → SteppedSpace r n n s
+same-space {n = n} is early h = lifted is (keeps-same n) early h

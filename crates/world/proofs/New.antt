@@ -1,9 +1,9 @@
 -- A new space.
-use Rattle.std.proofs.Common.{◌≡◌, ℕ, zero, suc, ◌<◌, List, [], ◌∷◌, length, map, get_or, slice_get, refl, ap, sym, ◌∙◌, subst, arith}
+use Rattle.std.proofs.Common.{◌≡◌, ℕ, zero, suc, ◌<◌, List, [], ◌∷◌, length, map, get_or, replicate, slice_get, refl, ap, sym, ◌∙◌, subst, arith}
 use Rattle.std.specs.List.{range_with_len}
 use Rattle.std.proofs.lemmas.List.{length-map}
-use Rattle.std.proofs.lemmas.List.FromFn.{get_or-map-range_with_len, length-map-range_with_len}
-use Rattle.std.proofs.lemmas.Simd.{map-map}
+use Rattle.std.proofs.lemmas.List.FromFn.{length-range_with_len, get_or-map-range_with_len, length-map-range_with_len}
+use Rattle.std.proofs.lemmas.Simd.{map-map, splat_is_map}
 use Rattle.msg.specs.declared.frame.Data.{Data}
 use Rattle.ids.specs.Limits.{Shaped, IsShape}
 use Rattle.model.specs.State.{NodeState, new_node, no_node, sent_to}
@@ -16,6 +16,7 @@ use Rattle.world.specs.Outboxes.{IsFrameOf}
 use Rattle.world.specs.Sites.{SiteView, KeepingSite, frames_to, new_site, new_keeping}
 use Rattle.world.specs.Spaces.{IsOfNet, ShowsSpace, early_of, site_of, space_of}
 use Rattle.world.specs.Shows.{ShowsNode, ShowsWorld, IsPlaced, IsSim, no_site}
+use Rattle.node.specs.Keeping.{OfAll, no_rings}
 use Rattle.node.proofs.Kept.{of-none}
 
 abbrev pub new_sites : Shaped → List SiteView
@@ -98,6 +99,14 @@ nothing-kept : (P : ℕ → Data → Type 0) (shape : Shaped) (xs : List ℕ) (k
 nothing-kept P shape [] k = of-none P 0
 nothing-kept P shape (x ∷ xs) zero = of-none P shape.nodes
 nothing-kept P shape (x ∷ xs) (suc k) = nothing-kept P shape xs k
+
+pub new-early : (shape : Shaped)
+    → map early_of (new_sites_keeping shape) ≡ replicate shape.nodes (no_rings shape.nodes)
+new-early shape =
+    let numbers : List ℕ = range_with_len 0 shape.nodes in
+    map-map early_of (new_keeping shape) numbers
+    ∙ sym (splat_is_map numbers shape.nodes (no_rings shape.nodes)
+    (length-range_with_len 0 shape.nodes))
 
 pub new-space-shows : (shape : Shaped)
     → ShowsSpace (space_of (new_sites_keeping shape)) (new_world shape)

@@ -18,11 +18,11 @@ extends_space (Ok o) n m s follows shape steps h taken short =
     let w : World = run (new_world shape) steps in
     let after = follows w h in
     subst (ShowsSpace m)
-    (sym (run-push (new_world shape) steps (step_met n s) ∙ ap (world_after w) after.1))
+    (sym (run-push (new_world shape) steps (step_met n.early s) ∙ ap (world_after w) after.1))
     after.2
 extends_space (Err e) n m s follows shape steps h taken short =
     let w : World = run (new_world shape) steps in
-    let t : Step = step_met n s in
+    let t : Step = step_met n.early s in
     let after = follows w h in
     let first = step-first w e (λ size. short (ap (λ z. Err z) size)) t after.0 in
     let stepped = refused-as (is_shading_step t) (take_step w t) e first

@@ -40,7 +40,7 @@ is_taken r = true
 abbrev pub steps_of : SpaceView → List Call → List Step
 steps_of old [] = []
 steps_of old (k ∷ ks) =
-    cond (is_taken k.result) (step_met old k.step ∷ steps_of k.space ks) (steps_of k.space ks)
+    cond (is_taken k.result) (step_met old.early k.step ∷ steps_of k.space ks) (steps_of k.space ks)
 
 -- What was seen, by what the calls answered, as far as the cut has it that the choice picks at the
 -- end. Which message a delivery is of, the space of the definitions says.
@@ -48,8 +48,8 @@ abbrev pub sights : World → SpaceView → List Call → (ℕ → Bool) → Lis
 sights w old [] choice = []
 sights w old (k ∷ ks) choice =
     cond (is_taken k.result)
-    (seen w (at_first (steps_of k.space ks) choice) (step_met old k.step) k.result
-    ++ sights (happens w (step_met old k.step)) k.space ks choice)
+    (seen w (at_first (steps_of k.space ks) choice) (step_met old.early k.step) k.result
+    ++ sights (happens w (step_met old.early k.step)) k.space ks choice)
     (sights w k.space ks choice)
 
 -- What programs see of the code: what the calls answered, seen so, is a run of a space without a

@@ -11,6 +11,7 @@ use Rattle.model.specs.declared.step.Step.{Step}
 use Rattle.model.specs.declared.step.Step.TheVariants as step
 use Rattle.model.specs.declared.step.Outcome.{Outcome}
 use Rattle.model.specs.declared.step.Outcome.TheVariants as outcome
+use Rattle.model.specs.State.{node_at}
 use Rattle.model.specs.World.{World, FollowsStep, new_world, released, run, is_step_memory_free}
 use Rattle.link.specs.Early.{place_at}
 use Rattle.node.specs.Keeping.{Rings, early_after, no_rings, own_step, ring_of}
@@ -32,12 +33,12 @@ abbrev pub space_of : List KeepingSite → SpaceView
 space_of qs = record { sites = map site_of qs; early = map early_of qs }
 
 -- what a node keeps; one that isn't there keeps nothing
-abbrev pub kept_at : SpaceView → ℕ → Rings
-kept_at n i = slice_index_or n.early i []
+abbrev pub kept_at : List Rings → ℕ → Rings
+kept_at all i = slice_index_or all i []
 
 -- one site of the space
 abbrev pub keeping_at : SpaceView → ℕ → KeepingSite
-keeping_at n i = record { site = site_at n.sites i; early = kept_at n i }
+keeping_at n i = record { site = site_at n.sites i; early = kept_at n.early i }
 
 -- what the current node of a number answered to an event, and the space after it
 pub record GivenSpace (result : Result Answer Refusal) (old new : SpaceView) (i : ℕ)
@@ -48,10 +49,11 @@ pub record GivenSpace (result : Result Answer Refusal) (old new : SpaceView) (i 
   pub sites : new.sites ≡ slice_set old.sites i site.site
   pub early : new.early ≡ slice_set old.early i site.early
 
--- What a step is to the definitions: Next of a frame that waits is its delivery.
-abbrev pub step_met : SpaceView → Step → Step
-step_met n (step.Act i e) = own_step (kept_at n i) i e
-step_met n s = s
+-- What a step is to the definitions, by what the nodes keep: Next of a frame that waits is its
+-- delivery.
+abbrev pub step_met : List Rings → Step → Step
+step_met all (step.Act i e) = own_step (kept_at all i) i e
+step_met all s = s
 
 -- the frame is of a message to the node that was released
 pub record IsOfNet (w : World) (i sender : ℕ) (d : Data) : Type 0 where
@@ -64,32 +66,33 @@ pub record ShowsSpace (n : SpaceView) (w : World) : Type 0 where
   pub world : ShowsWorld n.sites w
   pub width : length n.early ≡ length n.sites
   pub held : (i from place : ℕ) (d : Data)
-      → place_at (ring_of (kept_at n i) from) place ≡ Some d → IsOfNet w i from d
+      → place_at (ring_of (kept_at n.early i) from) place ≡ Some d → IsOfNet w i from d
 
 -- ---- what is kept after a step
 
 -- what the nodes keep once one of them answered so to an event
-abbrev pub given_early : SpaceView → ℕ → Event → Result Answer Refusal → List Rings
-given_early n i e r =
-    slice_set n.early i (early_after (site_at n.sites i).current.local (kept_at n i) e r)
+abbrev pub given_early : World → List Rings → ℕ → Event → Result Answer Refusal → List Rings
+given_early w all i e r =
+    slice_set all i (early_after (node_at w.current i).local (kept_at all i) e r)
 
 -- the message of this number was delivered, and answered so
-pub record KeepsDelivered (n : SpaceView) (from to number : ℕ) (a : Answer) (es : List Rings)
-    : Type 0 where
+pub record KeepsDelivered (w : World) (all : List Rings) (from to number : ℕ) (a : Answer)
+    (es : List Rings) : Type 0 where
   pub frame : Data
   pub numbered : frame.number ≡ number
-  pub is : (w : World) → ShowsSpace n w → IsOfNet w to from frame
-  pub early : es ≡ given_early n to (event.Data frame) (Ok a)
+  pub is : IsOfNet w to from frame
+  pub early : es ≡ given_early w all to (event.Data frame) (Ok a)
 
--- A restart loses what its node keeps; a save, and an acknowledgement, leave it.
-abbrev pub KeepsAfter : SpaceView → Step → Result Outcome Refusal → List Rings → Type 0
-KeepsAfter n (step.Act i e) (Ok (outcome.Answer a)) es = es ≡ given_early n i e (Ok a)
-KeepsAfter n (step.Act i e) (Err r) es = es ≡ given_early n i e (Err r)
-KeepsAfter n (step.Restart i) (Ok o) es =
-    es ≡ slice_set n.early i (no_rings (length n.sites))
-KeepsAfter n (step.Deliver from to number) (Ok (outcome.Answer a)) es =
-    KeepsDelivered n from to number a es
-KeepsAfter n s r es = es ≡ n.early
+-- What the nodes of a space keep after a step, by what they kept. A restart loses what its node
+-- keeps; a save, and an acknowledgement, leave it.
+abbrev pub KeepsAfter : World → List Rings → Step → Result Outcome Refusal → List Rings → Type 0
+KeepsAfter w all (step.Act i e) (Ok (outcome.Answer a)) es = es ≡ given_early w all i e (Ok a)
+KeepsAfter w all (step.Act i e) (Err r) es = es ≡ given_early w all i e (Err r)
+KeepsAfter w all (step.Restart i) (Ok o) es =
+    es ≡ slice_set all i (no_rings (length w.current))
+KeepsAfter w all (step.Deliver from to number) (Ok (outcome.Answer a)) es =
+    KeepsDelivered w all from to number a es
+KeepsAfter w all s r es = es ≡ all
 
 -- ---- a step
 
@@ -97,7 +100,7 @@ KeepsAfter n s r es = es ≡ n.early
 -- before.
 abbrev pub FollowsSpace : Result Outcome Refusal → SpaceView → SpaceView → Step → Type 0
 FollowsSpace result old new s =
-    (w : World) → ShowsSpace old w → FollowsStep ShowsSpace w (step_met old s) result new
+    (w : World) → ShowsSpace old w → FollowsStep ShowsSpace w (step_met old.early s) result new
 
 -- What a step answered, and the space after it. A refusal leaves every site as it was; a frame that
 -- waited may have left its place.
@@ -106,9 +109,10 @@ pub record SteppedSpace (result : Result Outcome Refusal) (old new : SpaceView) 
   pub follows : FollowsSpace result old new s
   pub too_large : result ≡ Err ImageTooLarge ↔ SavesTooLarge old.sites s
   pub unchanged : OnErr result (new.sites ≡ old.sites)
-  pub early : KeepsAfter old s result new.early
+  pub early : (w : World) → ShowsSpace old w → KeepsAfter w old.early s result new.early
   pub lets_go : IfOk result (λ o. bases_of new.sites ≡ bases_after (bases_of old.sites) s o)
-  pub memory_free : (w : World) → ShowsSpace old w → IsTrue (is_step_memory_free w (step_met old s))
+  pub memory_free : (w : World) → ShowsSpace old w
+      → IsTrue (is_step_memory_free w (step_met old.early s))
       → IfErr result (λ e. e ≢ Memory)
 
 -- Steps one after another are a run of the definitions, without those that are refused memory or
@@ -117,4 +121,4 @@ abbrev pub ExtendsSpace : Result Outcome Refusal → SpaceView → SpaceView →
 ExtendsSpace result old new s =
     (shape : Shaped) (steps : List Step) → ShowsSpace old (run (new_world shape) steps)
     → result ≢ Err Memory → result ≢ Err ImageTooLarge
-    → ShowsSpace new (run (new_world shape) (steps ++ step_met old s ∷ []))
+    → ShowsSpace new (run (new_world shape) (steps ++ step_met old.early s ∷ []))

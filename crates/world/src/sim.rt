@@ -93,9 +93,10 @@ impl Sim {
         ensures small { (w : World) → ShowsWorld self.old.sites w → IsSmall w step
             → IfErr result (λ e. e ≢ ImageTooLarge) }
         ensures unchanged { OnErr result (self.new.sites ≡ self.old.sites) }
-        ensures early { KeepsAfter self.old step result self.new.early }
+        ensures early { (w : World) → ShowsSpace self.old w
+            → KeepsAfter w self.old.early step result self.new.early }
         ensures memory_free { (w : World) → ShowsSpace self.old w
-            → IsTrue (is_step_memory_free w (step_met self.old step))
+            → IsTrue (is_step_memory_free w (step_met self.old.early step))
             → IfErr result (λ e. e ≢ Memory) }
     {
         self.take(step)

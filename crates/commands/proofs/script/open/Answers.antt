@@ -6,5 +6,7 @@ use Rattle.commands.proofs.script.open.Goals as goal
 pub returns-in-Ok : goal.returns-in-Ok
 returns-in-Ok g c =
     let shows = g.S.Space.shows in
-    λ h shown. made_shows shows h c.args.shape c.in-Ok.space
-    (subst (λ s. ShowsHeld shows s h) c.in-Unopened.is shown) c.in-Ok.ensures.made
+    let keeps = g.S.Space.keeps in
+    λ h shown. made_shows shows keeps h c.args.shape c.in-Ok.space
+    (subst (λ s. ShowsHeld shows keeps s h) c.in-Unopened.is shown) c.in-Ok.ensures.made
+    c.in-Ok.ensures.early

@@ -10,14 +10,14 @@ loop-index-init g c =
     ap (λ e. e.iter) same ∙ c.enumerate-index-items.ensures.source in
     let from_zero : c.into_iter-index-iterator.result.count ≡ 0 =
     ap (λ e. e.count) same ∙ c.enumerate-index-items.ensures.count in
-    printed_nothing g.S.Space.shows c.args.script.now c.into_iter-index-iterator.result
+    printed_nothing g.S.Space.shows g.S.Space.keeps c.args.script.now c.into_iter-index-iterator.result
     (g.W.Write.contents c.args.out.now)
     (ap lines_rest source ∙ c.lines.ensures.rest) from_zero
 
 -- a line that does not end the program
 pub loop-index-preserved : goal.loop-index-preserved
 loop-index-preserved g c =
-    printed_more g.S.Space.shows c.args.script.now (g.W.Write.contents c.args.out.now) _ _
+    printed_more g.S.Space.shows g.S.Space.keeps c.args.script.now (g.W.Write.contents c.args.out.now) _ _
     c.loop-index.invariant
     (record {
       index = c.in-Some.index;
@@ -33,7 +33,7 @@ loop-index-preserved g c =
 -- one that does
 pub returns-in-NoCommand : goal.returns-in-NoCommand
 returns-in-NoCommand g c =
-    printed_last g.S.Space.shows c.args.script.now (g.W.Write.contents c.args.out.now) _
+    printed_last g.S.Space.shows g.S.Space.keeps c.args.script.now (g.W.Write.contents c.args.out.now) _
     (record {
       left = c.next.new.self;
       state = c.take_line-reply.new.state;
@@ -55,5 +55,5 @@ returns-in-NoCommand g c =
 -- the end of the script
 pub returns : goal.returns
 returns g c =
-    printed_all g.S.Space.shows c.args.script.now (g.W.Write.contents c.args.out.now) _
+    printed_all g.S.Space.shows g.S.Space.keeps c.args.script.now (g.W.Write.contents c.args.out.now) _
     c.next.new.self c.loop-index.invariant c.in-None.ensures.steps

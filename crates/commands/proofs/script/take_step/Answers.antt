@@ -6,22 +6,29 @@ use Rattle.commands.proofs.script.take_step.Goals as goal
 pub returns-in-Ok : goal.returns-in-Ok
 returns-in-Ok g c =
     let shows = g.S.Space.shows in
-    λ h shown. outcome_shows shows h c.args.step c.in-Open.space _ _
-    (subst (λ s. ShowsHeld shows s h) c.in-Open.is shown) c.in-Ok.ensures.follows
+    let keeps = g.S.Space.keeps in
+    λ h shown. outcome_shows shows keeps h c.args.step c.in-Open.space _ _
+    (subst (λ s. ShowsHeld shows keeps s h) c.in-Open.is shown) c.in-Ok.ensures.follows
+    c.in-Ok.ensures.early
 
 -- what has to hold of the refusal is searched for, so that another one fails at the fact that it
 -- breaks
 pub returns-in-Err : goal.returns-in-Err
 returns-in-Err g c =
     let shows = g.S.Space.shows in
+    let keeps = g.S.Space.keeps in
     let follows = c.in-Err.ensures.follows in
     let free = c.in-Err.ensures.memory_free in
     let small = c.in-Err.ensures.small in
-    λ h shown. refusal_shows shows h c.args.step c.in-Open.space _ _
-    (subst (λ s. ShowsHeld shows s h) c.in-Open.is shown)
+    let early = c.in-Err.ensures.early in
+    λ h shown. refusal_shows shows keeps h c.args.step c.in-Open.space _ _
+    (subst (λ s. ShowsHeld shows keeps s h) c.in-Open.is shown)
     (λ w s. (
-      search (rules, (follows w s).0),
-      search (rules, free w s),
-      search (rules, small w s),
+      record {
+        first = search (rules, (follows w s).0);
+        memory_free = search (rules, free w s);
+        small = search (rules, small w s);
+      },
+      early w s,
       (follows w s).1,
     ))

@@ -8,7 +8,7 @@ use Rattle.world.proofs.sim.Sim.deliver.Goals as goal
 
 pub returns-then-from-count : goal.returns-then-from-count
 returns-then-from-count c =
-    same-space refl
+    same-space refl (λ w shown. refl)
     (no-node _ _
     (elim c.then-from-count.either [
       | inl e ↦ inl (omega (arith, c.count-count.ensures.value))
@@ -18,13 +18,13 @@ returns-then-from-count c =
 
 pub returns-then-from-to : goal.returns-then-from-to
 returns-then-from-to c =
-    same-space refl
+    same-space refl (λ w shown. refl)
     (deliver-to-itself _ _ _ _ (omega (arith, c.count-count.ensures.value))
     (omega (arith, c.count-count.ensures.value)) c.if-from-to.true)
 
 pub returns-in_default : goal.returns-in_default
 returns-in_default c =
-    same-space refl
+    same-space refl (λ w shown. refl)
     (deliver-missing _ _ _ _ (omega (arith, c.count-count.ensures.value))
     (omega (arith, c.count-count.ensures.value)) c.if-from-to.false (sym c.in_default.ensures))
 
@@ -32,13 +32,13 @@ pub returns-in_err-message : goal.returns-in_err-message
 returns-in_err-message c =
     let p = err_from_is_err_and c.from_residual.result c.from_residual.ensures.1 in
     rw (p.1, p.2)
-    (same-space refl
+    (same-space refl (λ w shown. refl)
     (deliver-never c.if-from-to.false (sym c.in-Some.ensures) _ c.in_err-message.ensures.refused
     (λ x fits spelled stamp b is. c.in_err-message.ensures.only x fits spelled)))
 
 pub returns-in_default-2 : goal.returns-in_default-2
 returns-in_default-2 c =
-    same-space refl
+    same-space refl (λ w shown. refl)
     (deliver-never c.if-from-to.false (sym c.in-Some.ensures) _ refl
     (λ x fits spelled stamp b is.
     let wrong : plain_ack c.in_default-2.field-0 ≡ x = rw c.in_default-2.is at
@@ -49,12 +49,12 @@ returns-in_err-answer c =
     let p = err_from_is_err_and c.from_residual-in_err-answer.result
     c.from_residual-in_err-answer.ensures.1 in
     rw (p.1, p.2)
-    (delivered-space c.if-from-to.false (sym c.in-Some.ensures)
-    (omega (arith, c.count-count.ensures.value)) c.in_err-answer.ensures
-    (λ x fits spelled. rw c.in-Data.is at (c.in_ok-message.ensures.only x fits spelled)))
+    (delivered-space _ _ _ c.if-from-to.false (sym c.in-Some.ensures)
+    (λ x fits spelled. rw c.in-Data.is at (c.in_ok-message.ensures.only x fits spelled))
+    (omega (arith, c.count-count.ensures.value)) c.in_err-answer.ensures)
 
 pub returns : goal.returns
 returns c =
-    delivered-space c.if-from-to.false (sym c.in-Some.ensures)
-    (omega (arith, c.count-count.ensures.value)) c.in_ok-answer.ensures
+    delivered-space _ _ _ c.if-from-to.false (sym c.in-Some.ensures)
     (λ x fits spelled. rw c.in-Data.is at (c.in_ok-message.ensures.only x fits spelled))
+    (omega (arith, c.count-count.ensures.value)) c.in_ok-answer.ensures

@@ -7,7 +7,7 @@ use Rattle.world.proofs.sim.Sim.hand.Goals as goal
 
 pub returns-then-from-count : goal.returns-then-from-count
 returns-then-from-count c =
-    same-space refl
+    same-space refl (λ w shown. refl)
     (no-node _ _
     (elim c.then-from-count.either [
       | inl e ↦ inl (omega (arith, c.count-count.ensures.value))
@@ -17,7 +17,7 @@ returns-then-from-count c =
 
 pub returns-then-from-to : goal.returns-then-from-to
 returns-then-from-to c =
-    same-space refl
+    same-space refl (λ w shown. refl)
     (hand-to-itself _ _ _ (omega (arith, c.count-count.ensures.value))
     (omega (arith, c.count-count.ensures.value)) c.if-from-to.true)
 

@@ -1,7 +1,7 @@
 use Rattle.std.proofs.Common.{◌≡◌, sym, ◌∙◌, arith}
 use Rattle.std.proofs.lemmas.List.FromFn.{map-range_with_len_more}
 use Rattle.world.specs.Sites.{new_keeping}
-use Rattle.world.proofs.New.{new-space-shows, new-space-sim}
+use Rattle.world.proofs.New.{new-early, new-space-shows, new-space-sim}
 use Rattle.world.proofs.sim.Sim.new.Goals as goal
 
 pub loop-number-preserved : goal.loop-number-preserved
@@ -22,3 +22,9 @@ returns-clause-made c =
     let all : c.loop-number.number ≡ c.args.shape.nodes =
     search arith in
     rw (c.loop-number.invariant, all) (new-space-shows c.args.shape)
+
+pub returns-clause-early : goal.returns-clause-early
+returns-clause-early c =
+    let all : c.loop-number.number ≡ c.args.shape.nodes =
+    search arith in
+    rw (c.loop-number.invariant, all) (new-early c.args.shape)
