@@ -1,5 +1,5 @@
 -- What is kept stands in its places: no event changes that.
-use Rattle.std.proofs.Common.{◌≡◌, ◌≢◌, ℕ, suc, ◌+◌, ◌-◌, ◌==◌, true, List, [], ◌∷◌, length, drop, get_or, set, Option, Some, None, is_some, Result, Ok, Err, refl, ap, sym, ◌∙◌, subst, arith, eqb-true}
+use Rattle.std.proofs.Common.{◌≡◌, ◌≢◌, ℕ, suc, ◌+◌, ◌-◌, ◌==◌, Bool, true, not, eq-eqb, List, [], ◌∷◌, length, drop, get_or, set, Option, Some, None, is_some, Result, Ok, Err, refl, ap, sym, ◌∙◌, subst, arith, eqb-true}
 use Rattle.std.specs.Prelude.{IfOk, IfErr, IsTrue}
 use Rattle.std.proofs.lemmas.Bool.{and_parts, cond_both}
 use Rattle.std.proofs.lemmas.List.{length-set, length-replicate}
@@ -36,7 +36,12 @@ one-behind own got from [] h place d there =
     let none : ◌≡◌ {A = Option Data} None (Some d) = there in absurd cc
 one-behind own got from (x ∷ xs) h place d there =
     let was : IsInPlace own got from (suc place) d = h (suc place) d there in
-    record { sender = was.sender; receiver = was.receiver; number = omega (arith, was.number) }
+    record {
+      apart = was.apart;
+      sender = was.sender;
+      receiver = was.receiver;
+      number = omega (arith, was.number);
+    }
 
 shifted-stands : (own got from : ℕ) (ring : List (Option Data)) → RingStands own got from ring
     → RingStands own (got + 1) from (shifted ring)
@@ -137,6 +142,12 @@ data-kept n new es d (Ok a) h p =
         (kept-set _ _ n.local.got es d.from _ h
         (placed-stands n.local.own (got_from n.local d.from) d.from place d (ring_of es d.from)
         (record {
+          apart = λ same.
+              (let differs : not (d.from == n.local.own) ≡ true =
+              (and_parts _ _ (and_parts (d.to == n.local.own) _ addressed).1).1 in
+              let never : not true ≡ true =
+              subst (λ (b : Bool). not b ≡ true) (eq-eqb d.from n.local.own same) differs in
+              absurd cc);
           sender = refl;
           receiver = eqb-true d.to n.local.own (and_parts (d.to == n.local.own) _ addressed).0;
           number = omega (arith, later);

@@ -104,8 +104,9 @@ OfRing Q ring = (place : ℕ) (d : Data) → place_at ring place ≡ Some d → 
 abbrev pub OfAll : (ℕ → Data → Type 0) → Rings → Type 0
 OfAll P es = (from : ℕ) → OfRing (P from) (ring_of es from)
 
--- the frame of the place of a node's ring, after so many of that node's messages
+-- the frame of the place of another node's ring, after so many of that node's messages
 pub record IsInPlace (own got from place : ℕ) (d : Data) : Type 0 where
+  pub apart : from ≢ own
   pub sender : d.from ≡ from
   pub receiver : d.to ≡ own
   pub number : d.number ≡ got + 1 + place

@@ -85,8 +85,8 @@ impl Node {
     /// each event, and `Memory` after all of them, where a growth was refused; `Load`, `Begin`,
     /// `Scan` and a message may be refused memory in place of `LinkSpent` too. A refused event
     /// leaves the core as it was. `Copy`, `Drop`, `Store`, `Clear`, `Word`, `SetWord`, `Accept`, a
-    /// `Sweep` that leaves slots or is node 0's, `Ack` and a message that isn't the next one are
-    /// never refused memory. `Word`, and a message that was taken in before or comes before its
+    /// `Sweep` that leaves slots or is node 0's, `Ack`, `Next` for which no message waits, and a
+    /// message that isn't the next one are never refused memory. `Word`, and a message that was taken in before or comes before its
     /// turn, leave the core as it was too.
     ///
     /// A message that comes before its turn is kept, unless one stands in its place already. `Next`

@@ -1,6 +1,6 @@
 -- What the nodes of a space keep is of messages that were released, after each step.
 use Rattle.std.proofs.Common.{◌≡◌, ◌≢◌, ℕ, ◌-◌, ◌<◌, ◌≤◌, ◌==◌, ltb, ap₂, true, List, [], ◌∷◌, length, get_or, set, Option, Some, None, Result, Ok, Err, refl, ap, sym, ◌∙◌, subst, ⊎_elim, arith}
-use Rattle.std.specs.Prelude.{OnErr, OnOk, slice_get}
+use Rattle.std.specs.Prelude.{IfOk, OnErr, OnOk, slice_get}
 use Rattle.std.proofs.lemmas.Bool.{cases_lt, cond_both}
 use Rattle.std.proofs.lemmas.List.{length-set, length-map, get_or_read, get_or_past, set-get_or, set_past, map-set}
 use Rattle.std.proofs.Math.ListN.{get_or-map}
@@ -15,6 +15,7 @@ use Rattle.msg.specs.declared.frame.Data.{Data}
 use Rattle.model.specs.declared.event.Event.{Event}
 use Rattle.model.specs.declared.event.Event.TheVariants as event
 use Rattle.model.specs.declared.event.Answer.{Answer}
+use Rattle.model.specs.declared.event.Answer.TheVariants as answer
 use Rattle.model.specs.declared.step.Step.{Step}
 use Rattle.model.specs.declared.step.Step.TheVariants as step
 use Rattle.model.specs.declared.step.Outcome.{Outcome}
@@ -99,6 +100,7 @@ lifted {n = n} {m = m} {s = s} {r = r} is keeps early h = record {
   too_large = h.too_large;
   unchanged = h.unchanged;
   early = early;
+  turn = λ other. absurd (other is);
   lets_go = h.lets_go;
   memory_free = λ w shown free.
       h.memory_free w shown.world
@@ -349,11 +351,17 @@ waiting-gives {n = n} {w = w} {i = i} {from = from} {d = d} shown below waits =
     delivery-gives x shown.world
     (omega (arith, less, shown.world.grown.width, shown.world.width)) below net.there same
 
+received-outcome : (r : Result Answer Refusal) → IfOk r (λ a. a ≡ answer.Received)
+    → IfOk (outcome_by outcome.Answer r) (λ o. o ≡ outcome.Answer answer.Received)
+received-outcome (Ok a) is = ap (λ (z : Answer). outcome.Answer z) is
+received-outcome (Err f) is = is
+
 waiting-taken : {n m : SpaceView} {i : ℕ} {r : Result Answer Refusal} (from : ℕ) (d : Data)
     → waiting (kept_at n.early i) from ≡ Some d → Given r n.sites m.sites i (event.Data d)
     → KeepsNet n m → KeepsSo n m (step.Act i (event.Next from)) (outcome_by outcome.Answer r)
+    → IfOk r (λ a. a ≡ answer.Received)
     → SteppedSpace (outcome_by outcome.Answer r) n m (step.Act i (event.Next from))
-waiting-taken {n = n} {m = m} {i = i} {r = r} from d waits h keeps early =
+waiting-taken {n = n} {m = m} {i = i} {r = r} from d waits h keeps early received =
     let is : step.Deliver from i d.number ≡ step_met n.early (step.Act i (event.Next from)) =
     sym (ap (next_step i from) waits) in
     record {
@@ -366,6 +374,7 @@ waiting-taken {n = n} {m = m} {i = i} {r = r} from d waits h keeps early =
       too_large = (λ large. absurd (given-small outcome.Answer r h large), λ saves. absurd saves);
       unchanged = given-unchanged outcome.Answer r h;
       early = early;
+      turn = λ _. received-outcome r received;
       lets_go = given-lets-go (step.Deliver from i d.number) outcome.Answer r h
           (delivery-lets-go from i d.number d);
       memory_free = λ w shown free.
@@ -377,10 +386,12 @@ waiting-taken {n = n} {m = m} {i = i} {r = r} from d waits h keeps early =
 next-taken : {n m : SpaceView} {i : ℕ} {r : Result Answer Refusal} (from : ℕ) (o : Option Data)
     → waiting (kept_at n.early i) from ≡ o → Given r n.sites m.sites i (next_event from o)
     → KeepsNet n m → KeepsSo n m (step.Act i (event.Next from)) (outcome_by outcome.Answer r)
+    → (next_event from o ≢ event.Next from → IfOk r (λ a. a ≡ answer.Received))
     → SteppedSpace (outcome_by outcome.Answer r) n m (step.Act i (event.Next from))
-next-taken {i = i} from None none h keeps early =
+next-taken {i = i} from None none h keeps early turn =
     lifted (ap (next_step i from) none) keeps early (acted h refl)
-next-taken from (Some d) waits h keeps early = waiting-taken from d waits h keeps early
+next-taken from (Some d) waits h keeps early turn =
+    waiting-taken from d waits h keeps early (turn (λ same. absurd cc))
 
 pub acted-space : {n m : SpaceView} {i : ℕ} {r : Result Answer Refusal} (e : Event)
     → GivenSpace r n m i e → is_own e ≡ true
@@ -388,7 +399,7 @@ pub acted-space : {n m : SpaceView} {i : ℕ} {r : Result Answer Refusal} (e : E
 acted-space (event.Data d) h own = absurd cc
 acted-space {n = n} {i = i} {r = r} (event.Next from) h own =
     next-taken from (waiting (kept_at n.early i) from) refl (sites-given h)
-    (keeps-given h (λ w shown d is. absurd cc)) (early-acted r h)
+    (keeps-given h (λ w shown d is. absurd cc)) (early-acted r h) h.acted.turn
 acted-space {r = r} e h own =
     lifted refl (keeps-given h (λ w shown d is. absurd cc)) (early-acted r h)
     (acted (sites-given h) own)

@@ -7,6 +7,7 @@ use Rattle.msg.specs.declared.frame.Data.{Data}
 use Rattle.model.specs.declared.event.Event.{Event}
 use Rattle.model.specs.declared.event.Event.TheVariants as event
 use Rattle.model.specs.declared.event.Answer.{Answer}
+use Rattle.model.specs.declared.event.Answer.TheVariants as answer
 use Rattle.model.specs.declared.step.Step.{Step}
 use Rattle.model.specs.declared.step.Step.TheVariants as step
 use Rattle.model.specs.declared.step.Outcome.{Outcome}
@@ -110,6 +111,7 @@ pub record SteppedSpace (result : Result Outcome Refusal) (old new : SpaceView) 
   pub too_large : result ≡ Err ImageTooLarge ↔ SavesTooLarge old.sites s
   pub unchanged : OnErr result (new.sites ≡ old.sites)
   pub early : (w : World) → ShowsSpace old w → KeepsAfter w old.early s result new.early
+  pub turn : step_met old.early s ≢ s → IfOk result (λ o. o ≡ outcome.Answer answer.Received)
   pub lets_go : IfOk result (λ o. bases_of new.sites ≡ bases_after (bases_of old.sites) s o)
   pub memory_free : (w : World) → ShowsSpace old w
       → IsTrue (is_step_memory_free w (step_met old.early s))

@@ -5,6 +5,8 @@ ghost use Rattle.model.specs.Steps.{is_own};
 ghost use Rattle.node.specs.Keeping.{no_rings};
 ghost use Rattle.node.specs.Summaries.{summary_of};
 ghost use Rattle.model.specs.World.{World, new_world, is_own_step, is_step_memory_free};
+ghost use Rattle.model.specs.declared.event.Answer.TheVariants as answer;
+ghost use Rattle.model.specs.declared.step.Outcome.TheVariants as outcome;
 ghost use Rattle.model.specs.declared.step.Step.TheVariants as step;
 ghost use Rattle.world.specs.Shows.{
   ShowsWorld,
@@ -95,6 +97,8 @@ impl Sim {
         ensures unchanged { OnErr result (self.new.sites ≡ self.old.sites) }
         ensures early { (w : World) → ShowsSpace self.old w
             → KeepsAfter w self.old.early step result self.new.early }
+        ensures turn { step_met self.old.early step ≢ step
+            → IfOk result (λ o. o ≡ outcome.Answer answer.Received) }
         ensures memory_free { (w : World) → ShowsSpace self.old w
             → IsTrue (is_step_memory_free w (step_met self.old.early step))
             → IfErr result (λ e. e ≢ Memory) }
