@@ -64,6 +64,20 @@ impl<R: Clock + Wait> Gate for Held<R> {
     }
 }
 
+// A gate that pauses before each turn.
+#[derive(Drop)]
+struct Pauses<R> {
+    rt: R,
+}
+
+impl<R: Clock> Gate for Pauses<R> {
+    fn at(&self, point: Point) {
+        if point.stage == Stage::Start {
+            pause(&self.rt);
+        }
+    }
+}
+
 fn await_flag<R: Clock + Wait>(rt: &R, flag: &AtomicBool) {
     for _ in rt.forever() {
         if flag.load(Ordering::SeqCst) {
@@ -160,7 +174,8 @@ fn leave<R>(rt: &R, alloc: Global) -> Option<()>
 where
     R: Clock + Threads + Wait + Clone + Send + Sync + Drop + 'static,
 {
-    let gate = gate(rt, alloc, 0, Stage::Start).ok()?;
+    let pauses = Pauses { rt: rt.clone().ok()? };
+    let gate = Arc::new(alloc, pauses).ok()?;
     start(rt, alloc, &gate)?;
     for _ in rt.forever() {
         if Arc::strong_count(&gate) == 1 {
@@ -172,7 +187,7 @@ where
 }
 
 // Starts a space, and lets go of it.
-fn start<R>(rt: &R, alloc: Global, gate: &Arc<Held<R>>) -> Option<()>
+fn start<R>(rt: &R, alloc: Global, gate: &Arc<Pauses<R>>) -> Option<()>
 where
     R: Clock + Threads + Wait + Clone + Send + Sync + Drop + 'static,
 {
