@@ -69,8 +69,7 @@ impl Desk {
         ensures given { Given event (met self.old.node.early event)
             (own_step self.old.node.early (known self.old.seat).me event) result
             self.old.node self.new.node (known self.old.seat) (known self.new.seat) }
-        ensures memory_free {
-            IsTrue (is_memory_free self.old.node.core.local (met self.old.node.early event))
+        ensures memory_free { IsTrue (is_memory_free self.old.node.core.local (met self.old.node.early event))
             → IfErr result (λ e. e ≢ Memory) }
         ensures unsaved { self.new.is_unsaved ≡ unsaved_after result self.old.is_unsaved }
         ensures same { IsSame self.old.seat self.new.seat }
@@ -91,7 +90,8 @@ impl Desk {
     ) -> Result<Answer, Refusal>
         requires wire { IsSeatOf wire.now self.old.seat }
         requires met { meant.now ≡ met self.old.node.early event }
-        requires taken { (d : Data) → event ≡ events.Data d → IsTaken (known self.old.seat).taken d }
+        requires taken { (d : Data) → event ≡ events.Data d
+            → IsTaken (known self.old.seat).taken d }
         requires may { MayAct (known self.old.seat) meant.now step }
         ensures given { Given event meant.now step result
             self.old.node self.new.node (known self.old.seat) (known self.new.seat) }

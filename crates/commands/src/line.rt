@@ -240,7 +240,8 @@ fn with_three(verb: &str, a: &str, b: &str, c: &str) -> Option<Event>
 }
 
 fn give(to: &str, label: &str, register: &str) -> Option<Event>
-    ensures { result ≡ of_three u8_of u32_of u16_of (λ to label register. event.Give to label register)
+    ensures { result ≡ of_three u8_of u32_of u16_of
+        (λ to label register. event.Give to label register)
         to.now label.now register.now }
 {
     Some(Event::Give {
@@ -251,7 +252,8 @@ fn give(to: &str, label: &str, register: &str) -> Option<Event>
 }
 
 fn load(register: &str, object: &str, place: &str) -> Option<Event>
-    ensures { result ≡ of_three u16_of u16_of u8_of (λ register object place. event.Load register object place)
+    ensures { result ≡ of_three u16_of u16_of u8_of
+        (λ register object place. event.Load register object place)
         register.now object.now place.now }
 {
     Some(Event::Load {
@@ -262,7 +264,8 @@ fn load(register: &str, object: &str, place: &str) -> Option<Event>
 }
 
 fn store(object: &str, place: &str, register: &str) -> Option<Event>
-    ensures { result ≡ of_three u16_of u8_of u16_of (λ object place register. event.Store object place register)
+    ensures { result ≡ of_three u16_of u8_of u16_of
+        (λ object place register. event.Store object place register)
         object.now place.now register.now }
 {
     Some(Event::Store {
@@ -273,7 +276,8 @@ fn store(object: &str, place: &str, register: &str) -> Option<Event>
 }
 
 fn put(object: &str, place: &str, register: &str) -> Option<Event>
-    ensures { result ≡ of_three u16_of u8_of u16_of (λ object place register. event.Put object place register)
+    ensures { result ≡ of_three u16_of u8_of u16_of
+        (λ object place register. event.Put object place register)
         object.now place.now register.now }
 {
     Some(Event::Put {
@@ -284,7 +288,8 @@ fn put(object: &str, place: &str, register: &str) -> Option<Event>
 }
 
 fn get(object: &str, place: &str, label: &str) -> Option<Event>
-    ensures { result ≡ of_three u16_of u8_of u32_of (λ object place label. event.Get object place label)
+    ensures { result ≡ of_three u16_of u8_of u32_of
+        (λ object place label. event.Get object place label)
         object.now place.now label.now }
 {
     Some(Event::Get {

@@ -198,7 +198,8 @@ fn status_after(reply: &Reply) -> u8
 
 /// Does what the line says.
 fn take_line<S: Space>(alloc: Global, state: &mut State<S>, text: &str) -> Reply
-    ensures { Moves S.shows S.keeps (λ h later. TakesLine h (line_of (words_of text.now)) result later)
+    ensures { Moves S.shows S.keeps
+        (λ h later. TakesLine h (line_of (words_of text.now)) result later)
         state.old state.new }
 {
     match Line::parse(text) {
@@ -221,7 +222,8 @@ fn take_line<S: Space>(alloc: Global, state: &mut State<S>, text: &str) -> Reply
 
 /// Makes the space, where no line asked for it before.
 fn open<S: Space>(alloc: Global, state: &mut State<S>, shape: Shape) -> Reply
-    ensures { Moves S.shows S.keeps (λ h later. TakesSpace h shape result later) state.old state.new }
+    ensures { Moves S.shows S.keeps
+        (λ h later. TakesSpace h shape result later) state.old state.new }
 {
     let State::Unopened = state else {
         return Reply::NoCommand;
@@ -255,7 +257,8 @@ fn take_step<S: Space>(state: &mut State<S>, step: Step) -> Reply
 
 /// Looks at a node, where the space was asked for. `NoNode` where it has none of that number.
 fn show_state<S: Space>(state: &State<S>, node: u8) -> Reply
-    ensures { Moves S.shows S.keeps (λ h later. TakesState h node result later) state.now state.now }
+    ensures { Moves S.shows S.keeps
+        (λ h later. TakesState h node result later) state.now state.now }
 {
     match state {
         State::Unopened => Reply::NoCommand,

@@ -86,8 +86,8 @@ impl Node {
     /// `Scan` and a message may be refused memory in place of `LinkSpent` too. A refused event
     /// leaves the core as it was. `Copy`, `Drop`, `Store`, `Clear`, `Word`, `SetWord`, `Accept`, a
     /// `Sweep` that leaves slots or is node 0's, `Ack`, `Next` for which no message waits, and a
-    /// message that isn't the next one are never refused memory. `Word`, and a message that was taken in before or comes before its
-    /// turn, leave the core as it was too.
+    /// message that isn't the next one are never refused memory. `Word`, and a message that was
+    /// taken in before or comes before its turn, leave the core as it was too.
     ///
     /// A message that comes before its turn is kept, unless one stands in its place already. `Next`
     /// takes in the message that waits, as if it came now, and is refused `NothingToDo` where none

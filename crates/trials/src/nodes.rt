@@ -108,7 +108,11 @@ fn ask_frame(alloc: Global, node: &mut Node, words: &[&str], out: &mut Out) -> R
             put_frame(alloc, node.frame_at(read(to)?, read(place)?), out);
         }
         ["numbered", to, number] => {
-            put_frame(alloc, node.core().numbered_frame(read(to)?, read(number)?), out);
+            put_frame(
+                alloc,
+                node.core().numbered_frame(read(to)?, read(number)?),
+                out,
+            );
         }
         ["ack-for", from] => put_frame(alloc, node.ack_for(read(from)?), out),
         words => return act(node, words, out),

@@ -174,7 +174,9 @@ fn leave<R>(rt: &R, alloc: Global) -> Option<()>
 where
     R: Clock + Threads + Wait + Clone + Send + Sync + Drop + 'static,
 {
-    let pauses = Pauses { rt: rt.clone().ok()? };
+    let pauses = Pauses {
+        rt: rt.clone().ok()?,
+    };
     let gate = Arc::new(alloc, pauses).ok()?;
     start(rt, alloc, &gate)?;
     for _ in rt.forever() {

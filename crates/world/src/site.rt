@@ -121,7 +121,8 @@ impl Site {
 
     /// The bytes of the frame of this number to another node, if it was released.
     pub fn frame(&self, to: u8, number: u64) -> Option<&[u8]>
-        ensures { option_map (λ b. b.now) result ≡ numbered_bytes (frames_to self.now.site to) number }
+        ensures { option_map (λ b. b.now) result
+            ≡ numbered_bytes (frames_to self.now.site to) number }
     {
         self.outboxes.get(usize::from(to))?.frame(number)
     }

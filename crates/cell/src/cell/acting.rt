@@ -94,8 +94,7 @@ impl<D: Disk> Cell<D> {
             (own_step self.old.desk.node.early (known self.old.desk.seat).me event) result
             self.old.desk.node self.new.desk.node
             (known self.old.desk.seat) (known self.new.desk.seat) }
-        ensures memory_free {
-            IsTrue (is_memory_free self.old.desk.node.core.local
+        ensures memory_free { IsTrue (is_memory_free self.old.desk.node.core.local
             (met self.old.desk.node.early event))
             → IfErr result (λ e. e ≢ Memory) }
         ensures closed { IsErrOf result Refusal.Closed ↔ (self.old.shelf.ready ≡ false) }

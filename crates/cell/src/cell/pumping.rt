@@ -141,15 +141,16 @@ impl<D: Disk> Cell<D> {
     pub fn pump_out(&mut self, wire: &Wire, to: u8) -> Result<Outbound, Refusal>
         requires wire { IsSeatOf wire.now self.old.desk.seat }
         ensures sent { IfOk result (λ o. IsSent (outbox self.old.desk.seat to)
-            (frame_due self.old.desk.node.core to (slice_index_or self.old.desk.places to 0)) (is_out o)
-            (known self.old.desk.seat) (known self.new.desk.seat)) }
+            (frame_due self.old.desk.node.core to (slice_index_or self.old.desk.places to 0))
+            (is_out o) (known self.old.desk.seat) (known self.new.desk.seat)) }
         ensures places { IfOk result (λ o. self.new.desk.places
             ≡ places_after (is_out o) self.old.desk.node.core to self.old.desk.places) }
         ensures refused { OnErr result (self.new.desk.seat ≡ self.old.desk.seat) }
         ensures stays { OnErr result (self.new.desk.places ≡ self.old.desk.places) }
         ensures closed { IsErrOf result Refusal.Closed ↔ (self.old.shelf.ready ≡ false) }
         ensures no_node { IsTrue self.old.shelf.ready
-            → (IsErrOf result Refusal.NoNode ↔ (is_other self.old.desk.node.core.local to ≡ false)) }
+            → (IsErrOf result Refusal.NoNode
+            ↔ (is_other self.old.desk.node.core.local to ≡ false)) }
         ensures others { IfErr result (λ e. (e ≡ Refusal.Closed)
             ⊎ ((e ≡ Refusal.NoNode) ⊎ (e ≡ Refusal.Memory))) }
         ensures same { IsSame self.old.desk.seat self.new.desk.seat }

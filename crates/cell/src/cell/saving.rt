@@ -74,7 +74,8 @@ impl<D: Disk> Cell<D> {
             → Grew (D.faults self.old.shelf.disk) (D.faults self.new.shelf.disk)
             × (self.new.shelf.ready ≡ false) }
         ensures too_large { IsErrOf result Refusal.ImageTooLarge ↔
-            IsTrue self.old.shelf.ready × (GREATEST_IMAGE < length (image_of self.old.desk.node.core)) }
+            IsTrue self.old.shelf.ready
+            × (GREATEST_IMAGE < length (image_of self.old.desk.node.core)) }
         ensures unchanged { IfErr result (λ e. e ≢ Refusal.Disk
             → (self.new.shelf.disk ≡ self.old.shelf.disk)
             × (self.new.shelf.ready ≡ self.old.shelf.ready)) }

@@ -22,9 +22,9 @@ invariant_of-self-2 g c =
 pub returns-clause-closed : goal.returns-clause-closed
 returns-clause-closed g c =
     let old = c.args.self.now.desk.node in (
-  λ closed. absurd (never-closed (is_shading (met old.early c.args.event))
-      (met old.early c.args.event) old.core c.act-answered.new.self.node.core
-      c.act-answered.result c.act-answered.ensures.given.acted.performs closed),
-  λ shut. (let never : ◌≡◌ {A = Bool} true false =
-      sym (c.if-not-self.false) ∙ shut in absurd cc),
-)
+      λ closed. absurd (never-closed (is_shading (met old.early c.args.event))
+          (met old.early c.args.event) old.core c.act-answered.new.self.node.core
+          c.act-answered.result c.act-answered.ensures.given.acted.performs closed),
+      λ shut. (let never : ◌≡◌ {A = Bool} true false =
+          sym (c.if-not-self.false) ∙ shut in absurd cc),
+    )
