@@ -22,7 +22,7 @@ use Rattle.disk.specs.Shelf.{image_at, side}
 use Rattle.wire.specs.Readers.{IsSavedAs}
 use Rattle.cell.specs.Disks.{OpensTo}
 use Rattle.cell.specs.Laws.{restarted, IsLeft, IsReached, LeftIsOpened}
-use Rattle.cell.specs.Opened.{IsReadFrom, cores}
+use Rattle.cell.specs.Opened.{IsReadFrom}
 use Rattle.node.specs.Keeping.{WholeNode}
 use Rattle.cell.proofs.Found.{stands-read}
 use Rattle.cell.proofs.Opening.{core-found, image-found, same-found}

@@ -1,5 +1,5 @@
 -- A space of the code with what its nodes keep until its turn, against a space of the definitions.
-use Rattle.std.specs.Prelude.{◌≡◌, ◌≢◌, ℕ, ◌++◌, List, [], ◌∷◌, length, map, IsTrue, IfOk, IfErr, OnErr, ◌↔◌, slice_index_or, Option, Some, None, Result, Ok, Err, ◌<◌, slice_set}
+use Rattle.std.specs.Prelude.{◌≡◌, ◌≢◌, ℕ, ◌++◌, List, [], ◌∷◌, length, map, IsTrue, IfOk, IfErr, OnErr, ◌↔◌, slice_index_or, Some, Result, Ok, Err, ◌<◌, slice_set}
 use Rattle.ids.specs.Limits.{Shaped}
 use Rattle.ids.specs.declared.refusal.Refusal.{Refusal}
 use Rattle.ids.specs.declared.refusal.Refusal.TheVariants.{Memory, ImageTooLarge}

@@ -1,4 +1,3 @@
-use Rattle.cell.specs.Desks.{IsTaken}
 use Rattle.wire.specs.Readers.{known}
 use Rattle.cell.proofs.Waiting.{own-brings}
 use Rattle.cell.proofs.desk.Desk.act.Goals as goal
