@@ -118,7 +118,7 @@ none-refused-in-turn d e old v reached shows refusing plenty =
     let net : IsInNet (run v.opening took.arrives.log) (plain_data d) =
     subst (λ (f : Frame). IsInNet (run v.opening took.arrives.log) (plain f)) is
     took.arrives.net in
-    let taken = emptied refusing.box (plain took.frame) v in
+    let taken = emptied refusing.box took.taken took.cleared (plain took.frame) v in
     let given : Handled (frame.Data d) (Err e) old refusing.new taken refusing.w =
     subst (λ (f : Frame). Handled f (Err e) old refusing.new taken refusing.w) is
     took.handled in

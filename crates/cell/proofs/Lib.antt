@@ -10,5 +10,6 @@ pub mod Sent
 pub mod Composed
 pub mod Places
 pub mod OnShelves
+pub mod Causes
 pub mod Ready
 pub mod Left

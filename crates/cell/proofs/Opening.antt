@@ -1,5 +1,5 @@
 -- Which node a cell's disk opens to.
-use Rattle.std.proofs.Common.{◌≡◌, true, false, ◌≤◌, List, ℕ, Option, Some, refl, sym, ap, ◌∙◌, subst, inl, inr, ⊎_elim}
+use Rattle.std.proofs.Common.{◌≡◌, Bool, IsTrue, true, false, ◌≤◌, List, ℕ, Option, Some, refl, sym, ap, ◌∙◌, subst, inl, inr, ⊎_elim}
 use Rattle.std.proofs.Math.Logic.{∥∥₁_elim, ∥∥₁_map}
 use Rattle.std.proofs.Props.{props}
 use Rattle.std.proofs.lemmas.Slice.Eq.{bytes_eq-Decides}
@@ -8,10 +8,10 @@ use Rattle.image.specs.Images.{image_of}
 use Rattle.image.specs.Nodes.{IsImageOf}
 use Rattle.image.proofs.Images.{image_of_one, image_is}
 use Rattle.disk.specs.Areas.{Areas}
-use Rattle.disk.specs.Crashes.{LeavesOnly}
+use Rattle.disk.specs.Crashes.{LeavesOnly, Only}
 use Rattle.disk.specs.Shelf.{opened, OldOrNew}
 use Rattle.node.specs.Keeping.{WholeNode, alone}
-use Rattle.cell.specs.Disks.{OpensTo, OpensToEither, OpensToNode, is_same_image}
+use Rattle.cell.specs.Disks.{HoldsSaved, OpensTo, OpensToEither, OpensToNode, is_same_image}
 
 -- what is saved of the node that was found, and the node of it
 pub core-found : (n : WholeNode) (c : Areas) → OpensToNode n c → OpensTo n.core c
@@ -64,16 +64,31 @@ never-bad saved n c left none =
     (λ now. none (alone (kept_view n)) (whole-found (kept_view n) c now)))
 
 -- a crash leaves what is read, and that opens to the node saved last
-pub settled-left : (saved n : NodeView) (seen c : Areas) → c ≡ seen → ∥ OpensTo saved seen ∥₁
+settled-left : (saved n : NodeView) (seen c : Areas) → c ≡ seen → ∥ OpensTo saved seen ∥₁
     → ∥ OpensToEither saved n c ∥₁
 settled-left saved n seen c same was =
     ∥∥₁_map was (λ there. inl (subst (OpensTo saved) (sym same) there))
 
 -- it opens to the node saved last, under another name
-pub open-stays : (was saved : NodeView) (seen : Areas) → saved ≡ was → ∥ OpensTo was seen ∥₁
+open-stays : (was saved : NodeView) (seen : Areas) → saved ≡ was → ∥ OpensTo was seen ∥₁
     → ∥ OpensTo saved seen ∥₁
 open-stays was saved seen same opens =
     subst (λ (m : NodeView). ∥ OpensTo m seen ∥₁) (sym same) opens
+
+-- so whatever a crash leaves opens to it, where that is what is read
+pub open-holds : (saved : NodeView) (seen : Areas) (may_leave : Areas → Type 0)
+    → Only seen may_leave → ∥ OpensTo saved seen ∥₁ → HoldsSaved may_leave saved
+open-holds saved seen may_leave only opens x may =
+    subst (λ (c : Areas). ∥ OpensTo saved c ∥₁) (sym (only x may)) opens
+
+-- what an open cell keeps, where the disk stays and what was saved on it
+pub stays-open : {ready : Bool} (was saved n : NodeView) (seen : Areas) (may_leave : Areas → Type 0)
+    → saved ≡ was → Only seen may_leave → ∥ OpensTo was seen ∥₁
+    → (IsTrue ready → ∥ OpensTo saved seen ∥₁)
+    × (((x : Areas) → may_leave x → ∥ OpensToEither saved n x ∥₁) × Unit {0})
+stays-open was saved n seen may_leave same only opens =
+    let still = open-stays was saved seen same opens in
+    (λ _. still, ((λ x may. settled-left saved n seen x (only x may) still), tt))
 
 -- what a crash leaves after a save that failed on the disk
 pub failed-left : {D : Type 0} (seen : D → Areas) (may_leave : D → Areas → Type 0)

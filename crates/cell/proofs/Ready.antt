@@ -1,6 +1,6 @@
 -- A wire between nodes that lie on shelves, and their seats.
 use Rattle.std.proofs.Common.{◌≡◌, ◌<◌, ◌+◌, ◌++◌, ◌∷◌, [], append_assoc, map, ℕ, List, Some, length, length-append, drop, get_or, replicate, slice_get, refl, sym, ap, ◌∙◌, subst, arith}
-use Rattle.std.proofs.lemmas.List.{length-drop, length-map, length-replicate, get_or-map, map-append}
+use Rattle.std.proofs.lemmas.List.{length-drop, length-map, length-replicate, get_or-map, map-append, map-id}
 use Rattle.std.proofs.Math.ListN.{get_or-map as get_or-mapped}
 use Rattle.std.proofs.Math.Seq.{drop-append_seam}
 use Rattle.std.proofs.lemmas.Option.{slice_get_within, get_or_from_slice_get}
@@ -17,6 +17,7 @@ use Rattle.wire.specs.declared.seats.Wire.{Wire}
 use Rattle.wire.specs.declared.seats.NodeSeat.{NodeSeat}
 use Rattle.wire.specs.declared.seats.Watch.{Watch}
 use Rattle.wire.proofs.NewWires.{there}
+use Rattle.cell.specs.Cells.{CellView, IsNew, new_cell}
 use Rattle.cell.specs.Desks.{IsAtSeat}
 use Rattle.cell.specs.Opened.{AreFound, AreReady, IsNodeOf, IsReady, cores, no_message, sent_of, state_of, world_of}
 use Rattle.cell.proofs.Places.{mapped-from, mapped-there}
@@ -153,14 +154,29 @@ later-ready {Lies = Lies} {shelves = shelves} {seats = seats} ns ss ts h is =
     (subst (λ l. AreReady Lies l (drop 1 shelves) (drop 1 seats)) (sym is.0) (later h)))
 
 -- what was handed on, and what is left
+pub shifted-by : {A B C : Type 0} (f : A → C) (h : B → C) (done : List A) (left : List B)
+    (all : List C) (now : List A) (last : A) (first : B) (rest : List B)
+    → map f done ++ map h left ≡ all → now ≡ done ++ last ∷ [] → f last ≡ h first
+    → first ≡ get_or left 0 first → 0 < length left → rest ≡ drop 1 left
+    → map f now ++ map h rest ≡ all
+shifted-by f h done [] all now last first rest were is same front some left = absurd (omega arith)
+shifted-by f h done (b ∷ bs) all now last first rest were is same front some left =
+    ap (λ l. map f l ++ map h rest) is
+    ∙ ap (λ l. l ++ map h rest) (map-append f done (last ∷ []))
+    ∙ append_assoc (map f done) (f last ∷ []) (map h rest)
+    ∙ (λ i. map f done ++ (same ∙ ap h front) i ∷ map h (left i))
+    ∙ were
+
 pub shifted : {A B : Type 0} (f : A → B) (done : List A) (left : List B) (all : List B)
     (now : List A) (last : A) (first : B) (rest : List B) → map f done ++ left ≡ all
     → now ≡ done ++ last ∷ [] → f last ≡ first → first ≡ get_or left 0 first → 0 < length left
     → rest ≡ drop 1 left → map f now ++ rest ≡ all
-shifted f done [] all now last first rest were is same front some left = absurd (omega arith)
-shifted f done (b ∷ bs) all now last first rest were is same front some left =
-    ap (λ l. map f l ++ rest) is
-    ∙ ap (λ l. l ++ rest) (map-append f done (last ∷ []))
-    ∙ append_assoc (map f done) (f last ∷ []) rest
-    ∙ (λ i. map f done ++ (same ∙ front) i ∷ left i)
-    ∙ were
+shifted f done left all now last first rest were is same front some after =
+    ap (λ l. map f now ++ l) (sym (map-id rest))
+    ∙ shifted-by f (λ b. b) done left all now last first rest
+    (ap (λ l. map f done ++ l) (map-id left) ∙ were) is same front some after
+
+-- a cell that was made so is new
+pub made-new : {D : Type 0} (c : CellView D) (n : WholeNode) (seat : NodeSeat) (disk : D)
+    → c ≡ new_cell n seat disk → IsNew c
+made-new c n seat disk made = made ∙ sym (ap (λ v. new_cell v.node v.seat v.disk) made)

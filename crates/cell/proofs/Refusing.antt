@@ -13,11 +13,13 @@ use Rattle.msg.specs.declared.frame.Frame.{Frame}
 use Rattle.msg.specs.declared.frame.Frame.TheVariants as frame
 use Rattle.model.specs.Checks.{guarded}
 use Rattle.trace.specs.declared.trace.Line.{Line}
-use Rattle.node.specs.Keeping.{WholeNode}
+use Rattle.node.specs.Keeping.{WholeNode, waiting}
+use Rattle.wire.specs.Readers.{inbox, known}
 use Rattle.wire.specs.Views.{Known}
+use Rattle.cell.specs.Cells.{CellView}
 use Rattle.cell.specs.declared.pumped.Inbound.{Inbound}
 use Rattle.cell.specs.Events.{emptied, Handled}
-use Rattle.cell.specs.Pumping.{PumpedBy}
+use Rattle.cell.specs.Pumping.{PumpedBy, PumpedIn}
 use Rattle.model.specs.Effects.{Effect}
 use Rattle.model.specs.Steps.{tests, made, ack_of, all_tests, checked}
 use Rattle.model.specs.View.{Link, NodeView, Performs, ack_tests, let_go, used, view_act, view_after}
@@ -96,14 +98,20 @@ handled-not-closed (frame.Data d) old new v w h =
 handled-not-closed (frame.Ack a) old new v w h =
     never-closed false (event.Ack a) old.core new.core (Err Closed) h.performs refl
 
-pub pumped-not-closed : (o : Option Data) (box from : ℕ) (r : Result Inbound Refusal)
+by-not-closed : (o : Option Data) (box from : ℕ) (r : Result Inbound Refusal)
     (old new : WholeNode) (v w : Known) (before after : List Line)
     → PumpedBy o box from r old new v w before after → r ≡ Err Closed → ⊥
-pumped-not-closed o box from (Ok i) old new v w before after took closed = absurd cc
-pumped-not-closed (Some d) box from (Err e) old new v w before after took closed =
+by-not-closed o box from (Ok i) old new v w before after took closed = absurd cc
+by-not-closed (Some d) box from (Err e) old new v w before after took closed =
     never-closed true (event.Data d) old.core new.core (Err e) took.given.acted.performs cc
-pumped-not-closed None box from (Err e) old new v w before after took closed =
+by-not-closed None box from (Err e) old new v w before after took closed =
     let is : e ≡ Closed = cc in
-    handled-not-closed took.frame old new (emptied box (plain took.frame) v) w
-    (subst (λ (r : Refusal).
-    Handled took.frame (Err r) old new (emptied box (plain took.frame) v) w) is took.handled)
+    let seen : Known = emptied box took.taken took.cleared (plain took.frame) v in
+    handled-not-closed took.frame old new seen w
+    (subst (λ (r : Refusal). Handled took.frame (Err r) old new seen w) is took.handled)
+
+pub pumped-not-closed : {D : Type 0} (from : ℕ) (r : Result Inbound Refusal) (old new : CellView D)
+    → PumpedIn from r old new → r ≡ Err Closed → ⊥
+pumped-not-closed from r old new =
+    by-not-closed (waiting old.node.early from) (inbox old.seat from) from r old.node new.node
+    (known old.seat) (known new.seat) old.trace new.trace

@@ -2,7 +2,7 @@
 use denote.RattleType.{RattleType}
 use denote.Struct.Declared.{shape}
 use denote.Struct.Struct.{Struct}
-use denote.Param.Send.{IsSend, IsSync, recorded_send, recorded_sync, struct_send, struct_sync, sendable}
+use denote.Param.Send.{IsSend, IsSync, recorded_send, recorded_sync, struct_send, struct_sync, sendable, view_send}
 use Rattle.std.proofs.Crossing.{crosses, Arc-send}
 use Rattle.ids.proofs.names.Cycle.TheSendSync as Cycle
 use Rattle.node.proofs.keeping.Node.TheSendSync as Node
@@ -14,6 +14,7 @@ use Rattle.disk.specs.declared.device.Disk as disk
 use Rattle.cell.specs.declared.shared.Naming as naming
 use Rattle.cell.specs.contracts.desk.Desk as Desk
 use Rattle.cell.specs.contracts.cell.Cell as Cell
+use Rattle.cell.specs.contracts.cell.Cell.TheInside as Inside
 use Rattle.cell.specs.contracts.shared.Held as Held
 use Rattle.cell.specs.contracts.shared.SharedOn as SharedOn
 
@@ -36,8 +37,11 @@ desk-send =
 module _ (D : RattleType) (g : disk.Ghosts D.Denot) where
   cell-send : IsSend D → IsSend (Cell.the_field D g).row
   cell-send s =
-      struct_send (shape (Cell.the_type D g))
-      (search sendable, (desk-send, (Shelf.the_field_send D g s, (Trace.the_send, tt))))
+      let inside = Inside.the_type D g in
+      view_send _ _ _ _ _
+      (recorded_send (Struct (shape inside)) inside.D inside.to inside.to_one
+      (struct_send (shape inside)
+      (search sendable, (desk-send, (Shelf.the_field_send D g s, (Trace.the_send, tt))))))
 
   module _ (W : RattleType) (w : naming.Ghosts W.Denot) where
     held-send : IsSend D → IsSend (Held.the_row D W g w)

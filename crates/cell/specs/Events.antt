@@ -99,9 +99,10 @@ abbrev pub event_of : Frame → Event
 event_of (frame.Data d) = event.Data d
 event_of (frame.Ack a) = event.Ack a
 
--- what the seat knows once it has taken the frame from a mailbox, and emptied that
-abbrev pub emptied : ℕ → Plain → Known → Known
-emptied box f v = clears box (takes_in box f v)
+-- what the seat knows once it has taken the frame from a mailbox, and emptied that, by steps of these
+-- places
+abbrev pub emptied : ℕ → ℕ → ℕ → Plain → Known → Known
+emptied box taken cleared f v = clears box cleared (takes_in box taken f v)
 
 -- What became of a frame: a message is given to the node as this delivery, and an acknowledgement
 -- as what it is.

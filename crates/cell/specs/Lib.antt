@@ -1,6 +1,7 @@
 pub mod Desks
 pub mod Disks
 pub mod Events
+pub mod Cells
 pub mod Sending
 pub mod Pumping
 pub mod Names

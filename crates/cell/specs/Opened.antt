@@ -1,6 +1,9 @@
 -- Nodes as they lie on shelves, and a wire between them.
-use Rattle.std.specs.Prelude.{◌≡◌, ◌≢◌, ℕ, [], List, ◌++◌, length, map, replicate, Some, slice_get}
+use Rattle.std.specs.Prelude.{◌≡◌, ◌≢◌, ◌<◌, ℕ, [], List, ◌++◌, length, map, replicate, Some, slice_get}
 use Rattle.ids.specs.Limits.{Shaped}
+use Rattle.ids.specs.declared.limits.TheConstants.{GREATEST_IMAGE}
+use Rattle.ids.specs.declared.refusal.Refusal.{Refusal}
+use Rattle.ids.specs.declared.refusal.Refusal.TheVariants.{BadImage, Disk, ImageTooLarge, Memory}
 use Rattle.msg.specs.declared.body.Body.TheVariants as body
 use Rattle.msg.specs.declared.body.Message.{Message}
 use Rattle.model.specs.State.{NodeState}
@@ -9,8 +12,11 @@ use Rattle.model.specs.World.{World}
 use Rattle.wire.specs.declared.seats.NodeSeat.{NodeSeat}
 use Rattle.disk.specs.Areas.{Areas}
 use Rattle.node.specs.Keeping.{WholeNode, new_whole}
+use Rattle.image.specs.Wholes.{whole_image}
 use Rattle.cell.specs.Desks.{IsAtSeat}
 use Rattle.cell.specs.Disks.{OpensTo, OpensToNode}
+use Rattle.cell.specs.declared.fault.Unopened.{Unopened}
+use Rattle.cell.specs.declared.fault.Unopened.TheVariants.{Disks, Refused}
 
 -- what is saved of nodes
 abbrev pub cores : List WholeNode → List NodeView
@@ -32,6 +38,28 @@ pub record HoldsAnother (shape : Shaped) (own : ℕ) (seen : Areas) : Type 0 whe
   pub node : NodeView
   pub opens : OpensTo node seen
   pub is_other : IsNodeOf shape own node → ⊥
+
+-- something was created on a disk that reads so, and it opens to no node
+pub record HoldsNone (seen : Areas) : Type 0 where
+  pub written : seen.select ≢ []
+  pub none : (n : WholeNode) → OpensToNode n seen → ⊥
+
+-- nothing was created on a disk that reads so, and the image of the new node is too large for one
+pub record IsTooLarge (shape : Shaped) (own : ℕ) (seen : Areas) : Type 0 where
+  pub blank : seen.select ≡ []
+  pub large : GREATEST_IMAGE < length (whole_image (new_whole shape own))
+
+-- why the node of this number is refused from a disk that reads so, but for want of memory
+abbrev pub IsCause : Shaped → ℕ → Areas → Refusal → Type 0
+IsCause shape own seen Disk = Unit {0}
+IsCause shape own seen BadImage = HoldsNone seen
+IsCause shape own seen ImageTooLarge = IsTooLarge shape own seen
+IsCause shape own seen e = ⊥
+
+-- what is so of a refusal that isn't Memory
+abbrev pub IfRefused : (Refusal → Type 0) → Unopened → Type 0
+IfRefused P Disks = Unit {0}
+IfRefused P (Refused e) = e ≢ Memory → P e
 
 -- a place of a list of which something is so
 pub record HasPlace {X : Type 0} (Is : ℕ → X → Type 0) (xs : List X) : Type 0 where

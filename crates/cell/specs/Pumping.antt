@@ -16,7 +16,9 @@ use Rattle.trace.specs.Lines.{call_of}
 use Rattle.trace.specs.declared.trace.Line.{Line}
 use Rattle.wire.specs.Rule as rule
 use Rattle.wire.specs.Plays.{Arrives, IsReleased}
-use Rattle.wire.specs.Views.{Known, notes}
+use Rattle.wire.specs.Readers.{inbox, known}
+use Rattle.wire.specs.Views.{Known, FindsOther}
+use Rattle.cell.specs.Cells.{CellView}
 use Rattle.cell.specs.declared.pumped.Inbound.{Inbound}
 use Rattle.cell.specs.declared.pumped.Inbound.TheVariants as inbound
 use Rattle.cell.specs.declared.pumped.Outbound.{Outbound}
@@ -33,7 +35,10 @@ pub record TookIn (box from : ℕ) (result : Result Answer Refusal) (old new : W
   pub receiver : rule.receiver (plain frame) ≡ v.me
   pub released : IsReleased v.opening (plain frame)
   pub arrives : Arrives v (plain frame)
-  pub handled : Handled frame result old new (emptied box (plain frame) v) w
+  -- the places of the two steps on the mailbox
+  pub taken : ℕ
+  pub cleared : ℕ
+  pub handled : Handled frame result old new (emptied box taken cleared (plain frame) v) w
   pub memory_free : IsTrue (is_memory_free old.core.local (event_of frame))
       → IfErr result (λ e. e ≢ Memory)
   pub traced : after ≡ keep_last TRACE_EVENTS (before
@@ -50,8 +55,15 @@ pub record TookNext (from : ℕ) (d : Data) (result : Result Answer Refusal) (ol
   pub traced : after ≡ keep_last TRACE_EVENTS (before
       ++ record { call = call_of (event.Next from); outcome = outcome_of result } ∷ [])
 
+-- the seat took a step on the mailbox that found it not full, and nothing else came of it
+pub record SawEmpty (box : ℕ) (old new : WholeNode) (v w : Known) (before after : List Line)
+    : Type 0 where
+  pub found : FindsOther box 1 v w
+  pub node : new ≡ old
+  pub trace : after ≡ before
+
 -- What became of the message that waits, or where none does of a mailbox from another node. That is
--- called empty only where it wasn't full when the seat looked.
+-- called empty only where the seat took a step on it that found it not full.
 abbrev pub PumpedBy : Option Data → ℕ → ℕ → Result Inbound Refusal → WholeNode → WholeNode → Known
     → Known → List Line → List Line → Type 0
 PumpedBy (Some d) box from (Ok inbound.Empty) old new v w before after = ⊥
@@ -60,16 +72,30 @@ PumpedBy (Some d) box from (Ok (inbound.Event a)) old new v w before after =
 PumpedBy (Some d) box from (Err e) old new v w before after =
     TookNext from d (Err e) old new v w before after
 PumpedBy None box from (Ok inbound.Empty) old new v w before after =
-    (w.read ≢ 1) × (w ≡ notes w.read v) × (new ≡ old) × (after ≡ before)
+    SawEmpty box old new v w before after
 PumpedBy None box from (Ok (inbound.Event a)) old new v w before after =
     TookIn box from (Ok a) old new v w before after
 PumpedBy None box from (Err e) old new v w before after =
     TookIn box from (Err e) old new v w before after
 
-abbrev pub PumpedIn : ℕ → ℕ → Result Inbound Refusal → WholeNode → WholeNode → Known → Known
-    → List Line → List Line → Type 0
-PumpedIn box from result old new v w before after =
-    PumpedBy (waiting old.early from) box from result old new v w before after
+-- ---- The same of cells
+
+abbrev pub FoundEmpty : {D : Type 0} → ℕ → CellView D → CellView D → Type 0
+FoundEmpty from old new =
+    SawEmpty (inbox old.seat from) old.node new.node (known old.seat) (known new.seat) old.trace
+    new.trace
+
+abbrev pub TookFrom : {D : Type 0} → ℕ → Result Answer Refusal → CellView D → CellView D → Type 0
+TookFrom from result old new =
+    TookIn (inbox old.seat from) from result old.node new.node (known old.seat) (known new.seat)
+    old.trace new.trace
+
+abbrev pub PumpedIn : {D : Type 0} → ℕ → Result Inbound Refusal → CellView D → CellView D → Type 0
+PumpedIn from result old new =
+    PumpedBy (waiting old.node.early from) (inbox old.seat from) from result old.node new.node
+    (known old.seat) (known new.seat) old.trace new.trace
+
+-- ---- Frames that go out
 
 abbrev pub is_out : Outbound → Bool
 is_out outbound.Sent = true

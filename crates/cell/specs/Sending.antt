@@ -1,6 +1,6 @@
 -- The frame that a node sends next to another one.
-use Rattle.std.specs.Prelude.{◌≡◌, ◌≢◌, ℕ, ◌+◌, Bool, true, false, List, Option, Some, None, slice_index_or, slice_set}
-use Rattle.wire.specs.Views.{Known, claims, notes, posts}
+use Rattle.std.specs.Prelude.{◌≡◌, ℕ, ◌+◌, Bool, true, false, List, Option, Some, None, slice_index_or, slice_set}
+use Rattle.wire.specs.Views.{Known, FindsOther, claims, posts}
 use Rattle.msg.specs.Grammar.{Plain, ack_frame}
 use Rattle.model.specs.View.{NodeView}
 use Rattle.node.specs.Frames.{released_frame}
@@ -21,11 +21,12 @@ place_after place (Some f) = place + 1
 abbrev pub next_place : NodeView → ℕ → ℕ → ℕ
 next_place n to place = place_after place (released_frame n to place)
 
--- This frame went into this mailbox; or the mailbox wasn't empty when the seat looked, and nothing
--- was sent.
+-- This frame went into this mailbox, by a claim and a post; or the seat took a step on it that found
+-- it not empty, and nothing was sent.
 abbrev pub IsSent : ℕ → Plain → Bool → Known → Known → Type 0
-IsSent box f true v w = w ≡ posts box f (claims box v)
-IsSent box f false v w = (w.read ≢ 0) × (w ≡ notes w.read v)
+IsSent box f true v w =
+    (claimed : ℕ) × (posted : ℕ) × (w ≡ posts box posted f (claims box claimed v))
+IsSent box f false v w = FindsOther box 0 v w
 
 -- the places in the windows to all nodes, after something was sent to one of them or not
 abbrev pub places_after : Bool → NodeView → ℕ → List ℕ → List ℕ

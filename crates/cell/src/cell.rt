@@ -10,6 +10,7 @@ mod saving;
 use crate::desk::Desk;
 use disk::{Disk, Shelf};
 use std::alloc::Global;
+use std::marker::Model;
 use trace::Trace;
 
 /// A node at its seat on a wire, the shelf that it is saved on, and a trace of its last calls.
@@ -29,11 +30,28 @@ use trace::Trace;
 /// holds it, and a reopening loses it.
 #[derive(Drop)]
 pub struct Cell<D: Disk> {
-    pub(crate) alloc: Global,
-    pub(crate) desk: Desk,
-    pub(crate) shelf: Shelf<D>,
-    pub(crate) trace: Trace,
+    alloc: Global,
+    desk: Desk,
+    shelf: Shelf<D>,
+    trace: Trace,
     ghost while_open: { IsTrue shelf.ready → ∥ OpensTo desk.saved.value (D.seen shelf.disk) ∥₁ },
     ghost left: { (c : Areas) → D.may_leave shelf.disk c
         → ∥ OpensToEither desk.saved.value desk.node.core c ∥₁ },
+}
+
+impl<D: Disk> Model for Cell<D> {
+    ghost use Rattle.cell.specs.Cells.{CellView};
+
+    ghost Value = { CellView D };
+
+    ghost view = { λ c. record {
+      node = c.desk.node;
+      saved = c.desk.saved.value;
+      seat = c.desk.seat;
+      places = c.desk.places;
+      unsaved = c.desk.is_unsaved;
+      disk = c.shelf.disk;
+      is_open = c.shelf.ready;
+      trace = c.trace;
+    } };
 }

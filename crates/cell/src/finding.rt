@@ -1,9 +1,11 @@
 //! Nodes as their disks hold them.
 ghost use Rattle.std.specs.Prelude.{◌≡◌, ◌≢◌, ◌++◌, [], ◌∷◌, false, true, IfErr, IfOk, IsErrOf, IsTrue, OnOk};
-ghost use Rattle.std.specs.Prelude.{length, vec_len};
+ghost use Rattle.std.specs.Prelude.{◌<◌, length, vec_len};
+ghost use Rattle.ids.specs.declared.refusal.Refusal.TheVariants.{Memory};
 ghost use Rattle.disk.specs.Areas.{Areas};
 ghost use Rattle.cell.specs.Disks.{OpensToNode};
-ghost use Rattle.cell.specs.Opened.{AreBeside, AreFound, HasPlace, HoldsAnother, IsNodeOf, IsReadFrom};
+ghost use Rattle.cell.specs.Opened.{AreBeside, AreFound, HasPlace, HoldsAnother, IfRefused};
+ghost use Rattle.cell.specs.Opened.{IsCause, IsNodeOf, IsReadFrom};
 ghost use Rattle.cell.specs.declared.fault.Unopened.TheVariants as fault;
 ghost use Rattle.node.specs.Keeping.{new_whole};
 
@@ -20,12 +22,13 @@ fn create_node<D: Disk + Drop>(
     own: NodeId,
     disk: D,
 ) -> Result<(Node, Shelf<D>), Unopened>
-    requires { (c : Areas) → D.may_leave disk c → c.select ≡ [] }
-
+    requires number { own.number < shape.nodes }
+    requires blank { (c : Areas) → D.may_leave disk c → c.select ≡ [] }
     ensures node { IfOk result (λ r. r.0 ≡ new_whole shape own.number) }
     ensures ready { IfOk result (λ r. r.1.ready ≡ true) }
     ensures opens { IfOk result (λ r. OpensToNode r.0 (D.seen r.1.disk)) }
     ensures refused { IfErr result (λ e. e ≢ fault.Disks) }
+    ensures cause { IfErr result (IfRefused (IsCause shape own.number (D.seen disk))) }
 {
     let node = match Node::new(alloc, shape, own) {
         Ok(node) => node,
@@ -52,7 +55,7 @@ fn is_node_of(node: &Node, shape: Shape, own: NodeId) -> bool
 // Adds a value to a list.
 fn keep<T: Drop>(values: &mut Vec<T>, value: T) -> Result<(), Unopened>
     ensures kept { OnOk result (values.new.items ≡ values.old.items ++ value ∷ []) }
-    ensures refused { IfErr result (λ e. e ≢ fault.Disks) }
+    ensures refused { IfErr result (λ e. e ≡ fault.Refused Memory) }
 {
     match values.push(value) {
         Ok(()) => Ok(()),
@@ -67,11 +70,13 @@ fn read_node<D: Disk + Drop>(
     own: NodeId,
     disk: D,
 ) -> Result<(Node, Shelf<D>), Unopened>
+    requires { (D.seen disk).select ≢ [] }
     ensures node { IfOk result (λ r. IsNodeOf shape own.number r.0.core) }
     ensures ready { IfOk result (λ r. r.1.ready ≡ true) }
     ensures opens { IfOk result (λ r. OpensToNode r.0 (D.seen r.1.disk)) }
     ensures read { IfOk result (λ r. OpensToNode r.0 (D.seen disk)) }
     ensures other { IsErrOf result fault.Disks → HoldsAnother shape own.number (D.seen disk) }
+    ensures cause { IfErr result (IfRefused (IsCause shape own.number (D.seen disk))) }
 {
     let (shelf, node) = match Shelf::open::<Node>(alloc, disk) {
         Ok(found) => found,
@@ -92,11 +97,13 @@ fn node_of<D: Disk + Drop>(
     own: NodeId,
     mut disk: D,
 ) -> Result<(Node, Shelf<D>), Unopened>
+    requires { own.number < shape.nodes }
     ensures node { IfOk result (λ r. IsNodeOf shape own.number r.0.core) }
     ensures ready { IfOk result (λ r. r.1.ready ≡ true) }
     ensures opens { IfOk result (λ r. OpensToNode r.0 (D.seen r.1.disk)) }
     ensures read { IfOk result (λ r. IsReadFrom shape own.number (D.seen disk) r.0) }
     ensures other { IsErrOf result fault.Disks → HoldsAnother shape own.number (D.seen disk) }
+    ensures cause { IfErr result (IfRefused (IsCause shape own.number (D.seen disk))) }
 {
     match is_blank(&mut disk) {
         Ok(true) => create_node(alloc, shape, own, disk),
@@ -109,8 +116,10 @@ fn node_of<D: Disk + Drop>(
 /// disk, else those that the disks hold.
 ///
 /// `Disks` where there are fewer or more disks than nodes, or where a disk holds a node of another
-/// shape or number; `Refused` as `Node::new`, `Shelf::create` and `Shelf::open`. All disks are then
-/// given up.
+/// shape or number. `Refused` with BadImage where something was created on a disk and it opens to no
+/// node; with ImageTooLarge where a disk is blank and the image of its new node would be longer than
+/// an image may be; with Disk where a disk failed; with Memory where a growth was refused; with
+/// nothing else. All disks are then given up.
 pub fn find<D: Disk + Drop>(
     alloc: Global,
     shape: Shape,
@@ -119,6 +128,8 @@ pub fn find<D: Disk + Drop>(
     ensures disks { vec_len disks ≢ shape.nodes → IsErrOf result fault.Disks }
     ensures other { IsErrOf result fault.Disks → vec_len disks ≡ shape.nodes →
         HasPlace (λ k d. HoldsAnother shape k (D.seen d)) disks.items }
+    ensures cause { IfErr result (IfRefused (λ r.
+        HasPlace (λ k d. IsCause shape k (D.seen d) r) disks.items)) }
     ensures count { IfOk result (λ r. length r.0.items ≡ shape.nodes) }
     ensures found { IfOk result (λ r.
         AreFound (λ n s. (s.ready ≡ true) × OpensToNode n (D.seen s.disk))

@@ -1,8 +1,9 @@
 //! The cells of nodes that lie on shelves, and the wire between them.
-ghost use Rattle.std.specs.Prelude.{◌≡◌, ◌≢◌, true, IfErr, IfOk, IsErrOf, map, vec_len};
+ghost use Rattle.std.specs.Prelude.{◌≡◌, ◌≢◌, true, All, IfErr, IfOk, IsErrOf, map, vec_len};
 ghost use Rattle.ids.specs.declared.refusal.Refusal.TheVariants.{Memory};
 ghost use Rattle.model.specs.World.{World};
 ghost use Rattle.wire.specs.Readers.{AreOpened, IsMade};
+ghost use Rattle.cell.specs.Cells.{IsNew};
 ghost use Rattle.cell.specs.Disks.{OpensToNode};
 ghost use Rattle.cell.specs.Opened.{
   cores,
@@ -12,6 +13,8 @@ ghost use Rattle.cell.specs.Opened.{
   AreReady,
   HasPlace,
   HoldsAnother,
+  IfRefused,
+  IsCause,
   IsReadFrom,
 };
 ghost use Rattle.cell.specs.declared.fault.Unopened.TheVariants as fault;
@@ -34,9 +37,11 @@ fn seat_all<D: Disk + Drop>(
 ) -> Result<Vec<Cell<D>>, Refusal>
     requires { AreReady (λ n s. (s.ready ≡ true) × OpensToNode n (D.seen s.disk))
         nodes.items shelves.items seats.items }
-    ensures nodes { IfOk result (λ v. map (λ c. c.desk.node) v.items ≡ nodes.items) }
-    ensures shelves { IfOk result (λ v. map (λ c. c.shelf) v.items ≡ shelves.items) }
-    ensures seats { IfOk result (λ v. map (λ c. c.desk.seat) v.items ≡ seats.items) }
+    ensures nodes { IfOk result (λ v. map (λ c. c.node) v.items ≡ nodes.items) }
+    ensures disks { IfOk result (λ v. map (λ c. c.disk) v.items
+        ≡ map (λ s. s.disk) shelves.items) }
+    ensures seats { IfOk result (λ v. map (λ c. c.seat) v.items ≡ seats.items) }
+    ensures new { IfOk result (λ v. All IsNew v.items) }
     ensures refused { IfErr result (λ e. e ≡ Memory) }
 {
     let mut cells = Vec::new(alloc);
@@ -66,10 +71,12 @@ pub fn join<D: Disk + Drop>(
     requires opened { AreOpened shape (cores nodes.items) opening }
     requires found { AreFound (λ n s. (s.ready ≡ true) × OpensToNode n (D.seen s.disk))
         shape nodes.items shelves.items }
-    ensures nodes { IfOk result (λ r. map (λ c. c.desk.node) r.1.items ≡ nodes.items) }
-    ensures shelves { IfOk result (λ r. map (λ c. c.shelf) r.1.items ≡ shelves.items) }
+    ensures nodes { IfOk result (λ r. map (λ c. c.node) r.1.items ≡ nodes.items) }
+    ensures disks { IfOk result (λ r. map (λ c. c.disk) r.1.items
+        ≡ map (λ s. s.disk) shelves.items) }
+    ensures new { IfOk result (λ r. All IsNew r.1.items) }
     ensures made { IfOk result (λ r. IsMade opening watches r.0
-        (map (λ c. c.desk.seat) r.1.items) r.2.items) }
+        (map (λ c. c.seat) r.1.items) r.2.items) }
     ensures refused { IfErr result (λ e. e ≡ Memory) }
 {
     let (wire, seats, watching) = Wire::new(alloc, shape, nodes.as_slice(), watches)?;
@@ -92,12 +99,15 @@ pub fn open<D: Disk + Drop>(
     ensures disks { vec_len disks ≢ shape.nodes → IsErrOf result fault.Disks }
     ensures other { IsErrOf result fault.Disks → vec_len disks ≡ shape.nodes →
         HasPlace (λ k d. HoldsAnother shape k (D.seen d)) disks.items }
+    ensures cause { IfErr result (IfRefused (λ r.
+        HasPlace (λ k d. IsCause shape k (D.seen d) r) disks.items)) }
     ensures read { IfOk result (λ r. AreBeside (λ k d n. IsReadFrom shape k (D.seen d) n)
-        disks.items (map (λ c. c.desk.node) r.1.items)) }
+        disks.items (map (λ c. c.node) r.1.items)) }
     ensures count { IfOk result (λ r. vec_len r.1 ≡ shape.nodes) }
+    ensures new { IfOk result (λ r. All IsNew r.1.items) }
     ensures made { IfOk result (λ r. IsMade
-        (world_of (cores (map (λ c. c.desk.node) r.1.items))) watches r.0
-        (map (λ c. c.desk.seat) r.1.items) r.2.items) }
+        (world_of (cores (map (λ c. c.node) r.1.items))) watches r.0
+        (map (λ c. c.seat) r.1.items) r.2.items) }
 {
     let (nodes, shelves) = find(alloc, shape, disks)?;
     match join(alloc, shape, nodes, shelves, watches) {

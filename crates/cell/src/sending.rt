@@ -18,7 +18,7 @@ ghost use Rattle.model.specs.Steps.{is_memory_free};
 ghost use Rattle.model.specs.View.{is_other};
 ghost use Rattle.wire.specs.Rule.{receiver, sender, Spells};
 ghost use Rattle.wire.specs.Plays.{Arrives, Releases};
-ghost use Rattle.wire.specs.Views.{notes, raises};
+ghost use Rattle.wire.specs.Views.{FindsOther, raises};
 ghost use Rattle.wire.specs.Readers.{
   known,
   inbox,
@@ -112,12 +112,11 @@ impl Desk {
         requires other { IsTrue (is_other self.old.node.core.local from) }
         ensures same { IsSame self.old.seat self.new.seat }
         ensures taken { MatchOption result
-            (((known self.new.seat).read ≢ 1)
-            × (known self.new.seat ≡ notes (known self.new.seat).read (known self.old.seat)))
+            (FindsOther (inbox self.old.seat from) 1 (known self.old.seat) (known self.new.seat))
             (λ f. (sender (plain f) ≡ from) × (receiver (plain f) ≡ (known self.old.seat).me)
             × Arrives (known self.old.seat) (plain f)
-            × (known self.new.seat
-            ≡ emptied (inbox self.old.seat from) (plain f) (known self.old.seat))) }
+            × ((taken : ℕ) × (cleared : ℕ) × (known self.new.seat ≡ emptied
+            (inbox self.old.seat from) taken cleared (plain f) (known self.old.seat)))) }
         ensures node { self.new.node ≡ self.old.node }
         ensures saved { self.new.saved.value ≡ self.old.saved.value }
         ensures places { self.new.places ≡ self.old.places }

@@ -20,9 +20,9 @@ use wire::{Raised, Wire};
 /// of the same wire.
 pub trait Naming {
     ghost use Rattle.std.specs.Prelude.{Option};
-    ghost use Rattle.atomic_table.specs.Seated.{TableId};
+    ghost use Rattle.cell.specs.Names.{Name};
 
-    ghost wire: { Option TableId };
+    ghost wire: { Option Name };
 }
 
 /// Names no wire.
@@ -46,8 +46,8 @@ struct Held<D: Disk, W: Naming> {
     cell: Cell<D>,
     wire: Arc<Wire, Global>,
     name: PhantomData<W>,
-    ghost sits: { IsSeatOf (arc_value wire) cell.desk.seat },
-    ghost named: { IsNamed W.wire (seat_name cell.desk.seat) },
+    ghost sits: { IsSeatOf (arc_value wire) cell.seat },
+    ghost named: { IsNamed W.wire (seat_name cell.seat) },
 }
 
 /// A cell that threads share, with its wire: each call locks it for that call alone. Between two
@@ -108,12 +108,18 @@ impl<D: Disk, W: Naming> Held<D, W> {
     fn unsaved(&self) -> bool {
         self.cell.unsaved()
     }
+
+    fn trace_lines(&self) -> Result<Vec<String>, Refusal>
+        ensures refused { IfErr result (λ e. e ≡ refusal.Memory) }
+    {
+        self.cell.trace_lines()
+    }
 }
 
 impl<D: Disk, W: Naming> SharedOn<D, W> {
     /// Shares a cell whose seat is one of the wire.
     pub fn new(cell: Cell<D>, wire: Arc<Wire>) -> SharedOn<D, W>
-        requires seat { IsSeatOf (arc_value wire) cell.desk.seat }
+        requires seat { IsSeatOf (arc_value wire) cell.seat }
         requires name { IsNamed W.wire (name_of (arc_value wire)) }
     {
         SharedOn {
@@ -173,5 +179,13 @@ impl<D: Disk, W: Naming> SharedOn<D, W> {
     /// Whether an event came since the last save or reopening.
     pub fn unsaved<R: Wait>(&self, rt: &R) -> bool {
         self.held.lock(rt).unsaved()
+    }
+
+    /// The texts of the cell's last calls, the oldest first, as [`Cell::trace_lines`] gives them, also
+    /// while it is closed. `Memory` where a growth was refused.
+    pub fn trace_lines<R: Wait>(&self, rt: &R) -> Result<Vec<String>, Refusal>
+        ensures refused { IfErr result (λ e. e ≡ refusal.Memory) }
+    {
+        self.held.lock(rt).trace_lines()
     }
 }

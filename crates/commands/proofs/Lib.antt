@@ -5,5 +5,6 @@ pub mod Numbers
 pub mod Own
 pub mod Printing
 pub mod Replies
+pub mod Reports
 pub mod Shapes
 pub mod Files

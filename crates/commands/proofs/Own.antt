@@ -8,7 +8,7 @@ use Rattle.model.specs.declared.step.Step.TheVariants as step
 use Rattle.model.specs.Steps.{is_own}
 use Rattle.model.specs.World.{is_own_step}
 use Rattle.commands.specs.declared.line.Line.TheVariants as line
-use Rattle.commands.specs.Grammar.{Number, acted, alone, command_of, delivery_of, hand_of, is_own_line, line_of, node_line_of, of_three, of_two, space_of, stepped, u16_of, u32_of, u64_of, u8_of, with_none, with_one, with_three, with_two}
+use Rattle.commands.specs.Grammar.{Number, acted, alone, command_of, delivery_of, hand_of, is_own_line, line_of, node_line_of, of_three, of_two, report_of, space_of, stepped, u16_of, u32_of, u64_of, u8_of, with_none, with_one, with_three, with_two}
 
 -- what is there, if anything is, passes the test
 record Passes {X : Type 0} (test : X → Bool) (o : Option X) : Type 0 where
@@ -131,6 +131,11 @@ own-hand (a ∷ []) = none
 own-hand (a ∷ b ∷ []) = two u8_of u8_of (λ x y. step.Hand x y) (λ x y. refl) a b
 own-hand (a ∷ b ∷ c ∷ words) = none
 
+own-report : (words : List (List ℕ)) → Passes is_own_line (report_of words)
+unfolding report_of
+own-report [] = some refl
+own-report (a ∷ words) = none
+
 own-command : (first : List ℕ) (words : List (List ℕ))
     → Passes is_own_line (command_of first words)
 unfolding command_of
@@ -138,11 +143,12 @@ own-command first words =
     either _ (own-space words)
     (either _ (own-stepped (delivery_of words) (own-delivery words))
     (either _ (own-stepped (hand_of words) (own-hand words))
+    (either _ (own-report words)
     (elim (u8_of first)
     as (λ o. Passes is_own_line (option_and_then (λ node. node_line_of node words) o)) [
       | None ↦ none
       | Some node ↦ own-node node words
-    ])))
+    ]))))
 
 own-line : (words : List (List ℕ)) → Passes is_own_line (line_of words)
 unfolding line_of

@@ -40,6 +40,7 @@ status_after_le : (r : Reply) → status_after r ≤ 2
 status_after_le reply.Nothing = omega arith
 status_after_le (reply.Outcome o) = omega arith
 status_after_le (reply.Summary s) = omega arith
+status_after_le (reply.Report freed) = omega arith
 status_after_le (reply.Refused e) = omega arith
 status_after_le reply.NoCommand = omega arith
 
@@ -103,6 +104,7 @@ goes_on reply.NoCommand rs P goes p = absurd (goes refl)
 goes_on reply.Nothing rs P goes p = p
 goes_on (reply.Outcome o) rs P goes p = p
 goes_on (reply.Summary s) rs P goes p = p
+goes_on (reply.Report freed) rs P goes p = p
 goes_on (reply.Refused e) rs P goes p = p
 
 ends_here : (r : Reply) → r ≡ reply.NoCommand → (P : Type 0) → GoesOn r [] P

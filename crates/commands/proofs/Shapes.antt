@@ -7,7 +7,7 @@ use Rattle.std.proofs.lemmas.Bool.{cond-true, cond-false}
 use Rattle.commands.specs.declared.line.TheConstants.{MOST_OPERANDS}
 use Rattle.commands.specs.declared.line.Line.{Line}
 use Rattle.commands.specs.declared.line.Line.TheVariants as line
-use Rattle.commands.specs.Grammar.{u8_of, command_of, delivery_of, hand_of, line_of, node_line_of, space_of, stepped}
+use Rattle.commands.specs.Grammar.{u8_of, command_of, delivery_of, hand_of, line_of, node_line_of, report_of, space_of, stepped}
 
 space_of_many : (words : List (List ℕ)) → MOST_OPERANDS < length words → space_of words ≡ None
 unfolding space_of
@@ -32,6 +32,11 @@ hand_of_many (a ∷ []) many = refl
 hand_of_many (a ∷ b ∷ []) many = absurd (omega arith)
 hand_of_many (a ∷ b ∷ c ∷ words) many = refl
 
+report_of_many : (words : List (List ℕ)) → MOST_OPERANDS < length words → report_of words ≡ None
+unfolding report_of
+report_of_many [] many = absurd (omega arith)
+report_of_many (a ∷ words) many = refl
+
 node_line_of_many : (node : ℕ) (words : List (List ℕ)) → MOST_OPERANDS < length words
     → node_line_of node words ≡ None
 unfolding node_line_of
@@ -42,23 +47,37 @@ node_line_of_many node (verb ∷ a ∷ b ∷ []) many = absurd (omega arith)
 node_line_of_many node (verb ∷ a ∷ b ∷ c ∷ []) many = absurd (omega arith)
 node_line_of_many node (verb ∷ a ∷ b ∷ c ∷ d ∷ words) many = refl
 
--- what stands after a first word that is neither `space` nor `deliver`
-abbrev others : List ℕ → List (List ℕ) → Option Line
-others first words =
-    cond (bytes_eq first (codes "ack")) (stepped (hand_of words))
+-- what stands after a first word that is none of `space`, `deliver` and `ack`
+abbrev plain : List ℕ → List (List ℕ) → Option Line
+plain first words =
+    cond (bytes_eq first (codes "report")) (report_of words)
     (option_and_then (λ node. node_line_of node words) (u8_of first))
 
-others_many : (first : List ℕ) (words : List (List ℕ)) → MOST_OPERANDS < length words
-    → others first words ≡ None
-others_many first words many =
-    elim (bytes_eq first (codes "ack")) as (λ b. cond b (stepped (hand_of words))
+plain_many : (first : List ℕ) (words : List (List ℕ)) → MOST_OPERANDS < length words
+    → plain first words ≡ None
+plain_many first words many =
+    elim (bytes_eq first (codes "report")) as (λ b. cond b (report_of words)
     (option_and_then (λ node. node_line_of node words) (u8_of first)) ≡ None) [
-      | true ↦ ap stepped (hand_of_many words many)
+      | true ↦ report_of_many words many
       | false ↦ elim (u8_of first)
           as (λ o. option_and_then (λ node. node_line_of node words) o ≡ None) [
             | None ↦ refl
             | Some node ↦ node_line_of_many node words many
           ]
+    ]
+
+-- and after one that is neither `space` nor `deliver`
+abbrev others : List ℕ → List (List ℕ) → Option Line
+others first words =
+    cond (bytes_eq first (codes "ack")) (stepped (hand_of words)) (plain first words)
+
+others_many : (first : List ℕ) (words : List (List ℕ)) → MOST_OPERANDS < length words
+    → others first words ≡ None
+others_many first words many =
+    elim (bytes_eq first (codes "ack"))
+    as (λ b. cond b (stepped (hand_of words)) (plain first words) ≡ None) [
+      | true ↦ ap stepped (hand_of_many words many)
+      | false ↦ plain_many first words many
     ]
 
 -- no command has so many

@@ -136,6 +136,11 @@ unfoldable pub hand_of : List (List ℕ) → Option Step
 hand_of (a ∷ b ∷ []) = of_two u8_of u8_of (λ from to. step.Hand from to) a b
 hand_of words = None
 
+-- what stands after `report`
+unfoldable pub report_of : List (List ℕ) → Option Line
+report_of [] = Some line.Report
+report_of words = None
+
 abbrev pub stepped : Option Step → Option Line
 stepped step = option_map (λ s. line.Step s) step
 
@@ -144,7 +149,8 @@ command_of first words =
     cond (bytes_eq first (codes "space")) (space_of words)
     (cond (bytes_eq first (codes "deliver")) (stepped (delivery_of words))
     (cond (bytes_eq first (codes "ack")) (stepped (hand_of words))
-    (option_and_then (λ node. node_line_of node words) (u8_of first))))
+    (cond (bytes_eq first (codes "report")) (report_of words)
+    (option_and_then (λ node. node_line_of node words) (u8_of first)))))
 
 -- what a line of these words says, or none where they are outside the grammar
 unfoldable pub line_of : List (List ℕ) → Option Line
@@ -158,3 +164,4 @@ is_own_line (line.Step s) = is_own_step s
 is_own_line line.Blank = true
 is_own_line (line.Space nodes registers slots) = true
 is_own_line (line.State node) = true
+is_own_line line.Report = true

@@ -14,10 +14,11 @@ use Rattle.commands.specs.declared.script.Reply.{Reply}
 use Rattle.commands.specs.declared.script.Reply.TheVariants as reply
 use Rattle.commands.specs.declared.script.State.{State}
 use Rattle.commands.specs.declared.script.State.TheVariants as state
+use Rattle.commands.specs.Freed.{KeepsSums, freed_after}
 use Rattle.commands.specs.Grammar.{line_of, words_of}
 use Rattle.world.specs.Shows.{IsSmall, summary_at}
 use Rattle.world.specs.Spaces.{KeepsAfter, step_met}
-use Rattle.commands.specs.Text.{outcome_text, refused_text, summary_text}
+use Rattle.commands.specs.Text.{outcome_text, refused_text, report_text, summary_text}
 use Rattle.node.specs.Keeping.{Rings, no_rings}
 use Rattle.node.specs.declared.summary.Summary.{Summary}
 
@@ -25,15 +26,17 @@ use Rattle.node.specs.declared.summary.Summary.{Summary}
 pub data Held : Type 0 where
   awaited : Held
   denied : Held
-  -- with what its nodes keep until its turn
-  there : World → List Rings → Held
+  -- with what its nodes keep until its turn, and how many objects the sweeps of each cycle freed
+  there : World → List Rings → List ℕ → Held
 
--- the program's space shows that of the definitions, and keeps what is said
+-- the program's space shows that of the definitions, and keeps what is said; beside it the program
+-- keeps the sums
 abbrev pub ShowsHeld : {S : Type 0} → (S → World → Type 0) → (S → List Rings) → State S → Held
     → Type 0
 ShowsHeld shows keeps state.Unopened awaited = Unit {0}
 ShowsHeld shows keeps (state.Refused e) denied = e ≡ Memory
-ShowsHeld shows keeps (state.Open s) (there w all) = shows s w × (keeps s ≡ all)
+ShowsHeld shows keeps (state.Open s f) (there w all sums) =
+    shows s w × (keeps s ≡ all) × KeepsSums f.sums sums
 ShowsHeld shows keeps s h = ⊥
 
 -- whatever the old state shows, the new one shows what comes of it
@@ -51,23 +54,24 @@ pub record RefusesStep (w : World) (all : List Rings) (step : Step) (e : Refusal
   pub small : IsSmall w step → e ≢ ImageTooLarge
 
 -- What is printed for a step of a space that is there, and the space afterwards with what its nodes
--- keep.
-abbrev pub IsStepReply : World → List Rings → Step → Reply → Held → Type 0
-IsStepReply w all step (reply.Outcome o) later =
+-- keep and the sums.
+abbrev pub IsStepReply : World → List Rings → List ℕ → Step → Reply → Held → Type 0
+IsStepReply w all sums step (reply.Outcome o) later =
     (v : World) × (kept : List Rings) × (take_step w (step_met all step) ≡ Ok (v, o))
     × KeepsAfter w all step (Ok o) kept
-    × (later ≡ there v kept)
-IsStepReply w all step (reply.Refused e) later =
+    × (later ≡ there v kept (freed_after v step o sums))
+IsStepReply w all sums step (reply.Refused e) later =
     (kept : List Rings) × RefusesStep w all step e × KeepsAfter w all step (Err e) kept
-    × (later ≡ there w kept)
-IsStepReply w all step reply.Nothing later = ⊥
-IsStepReply w all step (reply.Summary s) later = ⊥
-IsStepReply w all step reply.NoCommand later = ⊥
+    × (later ≡ there w kept sums)
+IsStepReply w all sums step reply.Nothing later = ⊥
+IsStepReply w all sums step (reply.Summary s) later = ⊥
+IsStepReply w all sums step (reply.Report freed) later = ⊥
+IsStepReply w all sums step reply.NoCommand later = ⊥
 
 abbrev pub TakesStep : Held → Step → Reply → Held → Type 0
 TakesStep awaited step r later = (r ≡ reply.NoCommand) × (later ≡ awaited)
 TakesStep denied step r later = (r ≡ reply.Refused Memory) × (later ≡ denied)
-TakesStep (there w all) step r later = IsStepReply w all step r later
+TakesStep (there w all sums) step r later = IsStepReply w all sums step r later
 
 -- what is printed for a node in numbers, where there is such a node
 abbrev pub state_reply : Option Summary → Reply
@@ -77,8 +81,19 @@ state_reply None = reply.Refused NoNode
 abbrev pub TakesState : Held → ℕ → Reply → Held → Type 0
 TakesState awaited node r later = (r ≡ reply.NoCommand) × (later ≡ awaited)
 TakesState denied node r later = (r ≡ reply.Refused Memory) × (later ≡ denied)
-TakesState (there w all) node r later =
-    (r ≡ state_reply (summary_at w node)) × (later ≡ there w all)
+TakesState (there w all sums) node r later =
+    (r ≡ state_reply (summary_at w node)) × (later ≡ there w all sums)
+
+-- the sums are printed; memory for them is refused only where some sweep was answered
+abbrev pub IsReport : List ℕ → Reply → Type 0
+IsReport sums (reply.Report freed) = freed.items ≡ sums
+IsReport sums (reply.Refused e) = (e ≡ Memory) × (sums ≢ [])
+IsReport sums r = ⊥
+
+abbrev pub TakesReport : Held → Reply → Held → Type 0
+TakesReport awaited r later = (r ≡ reply.NoCommand) × (later ≡ awaited)
+TakesReport denied r later = (r ≡ reply.Refused Memory) × (later ≡ denied)
+TakesReport (there w all sums) r later = IsReport sums r × (later ≡ there w all sums)
 
 -- what the nodes of a new space keep
 abbrev pub none_kept : ℕ → List Rings
@@ -87,13 +102,15 @@ none_kept nodes = replicate nodes (no_rings nodes)
 -- a space of these sizes is made, or refused for want of memory
 abbrev pub IsNewReply : Shaped → Reply → Held → Type 0
 IsNewReply sizes r later =
-    ((r ≡ reply.Outcome outcome.Done) × (later ≡ there (new_world sizes) (none_kept sizes.nodes)))
+    ((r ≡ reply.Outcome outcome.Done)
+    × (later ≡ there (new_world sizes) (none_kept sizes.nodes) []))
     ⊎ ((r ≡ reply.Refused Memory) × (later ≡ denied))
 
 abbrev pub TakesSpace : Held → Shaped → Reply → Held → Type 0
 TakesSpace awaited sizes r later = IsNewReply sizes r later
 TakesSpace denied sizes r later = (r ≡ reply.NoCommand) × (later ≡ denied)
-TakesSpace (there w all) sizes r later = (r ≡ reply.NoCommand) × (later ≡ there w all)
+TakesSpace (there w all sums) sizes r later =
+    (r ≡ reply.NoCommand) × (later ≡ there w all sums)
 
 -- `space` stands once and first, and its sizes are within the limits
 pub record AsksSpace (h : Held) (sizes : Shaped) (r : Reply) (later : Held) : Type 0 where
@@ -108,12 +125,14 @@ TakesLine h (Some (line.Space nodes registers slots)) r later =
     AsksSpace h (record { nodes = nodes; registers = registers; slots = slots }) r later
 TakesLine h (Some (line.Step step)) r later = TakesStep h step r later
 TakesLine h (Some (line.State node)) r later = TakesState h node r later
+TakesLine h (Some line.Report) r later = TakesReport h r later
 
 -- what is printed for the reply to the line of this number
 abbrev pub reply_text : ℕ → Reply → List ℕ
 reply_text number reply.Nothing = []
 reply_text number (reply.Outcome o) = outcome_text o ++ (10 ∷ [])
 reply_text number (reply.Summary s) = summary_text s ++ (10 ∷ [])
+reply_text number (reply.Report freed) = report_text freed.items
 reply_text number (reply.Refused e) = refused_text e ++ (10 ∷ [])
 reply_text number reply.NoCommand =
     codes "line " ++ (decimal number ++ (codes ": not a command" ++ (10 ∷ [])))
@@ -127,6 +146,7 @@ abbrev pub status_after : Reply → ℕ
 status_after reply.Nothing = 0
 status_after (reply.Outcome o) = 0
 status_after (reply.Summary s) = 0
+status_after (reply.Report freed) = 0
 status_after (reply.Refused e) = 1
 status_after reply.NoCommand = 2
 

@@ -1,5 +1,5 @@
 -- What the program prints.
-use Rattle.std.specs.Prelude.{ℕ, Bool, true, false, List, ◌++◌, codes, decimal}
+use Rattle.std.specs.Prelude.{ℕ, ◌+◌, Bool, true, false, List, [], ◌∷◌, ◌++◌, codes, decimal}
 use Rattle.std.specs.Fmt.{signed_decimal}
 use Rattle.ids.specs.declared.refusal.Refusal.{Refusal}
 use Rattle.ids.specs.Refusals.{refusal_text}
@@ -77,6 +77,21 @@ counts_text s =
 -- a node in numbers
 abbrev pub summary_text : Summary → List ℕ
 summary_text s = cycles_text s ++ (codes " " ++ (ring_text s ++ (codes " " ++ counts_text s)))
+
+-- how many objects the sweeps of a cycle freed
+abbrev pub cycle_line : ℕ → ℕ → List ℕ
+cycle_line cycle freed =
+    codes "cycle " ++ (decimal cycle ++ (codes " freed " ++ (decimal freed ++ (10 ∷ []))))
+
+-- a line for each cycle from this one on
+abbrev pub cycle_lines : ℕ → List ℕ → List ℕ
+cycle_lines cycle [] = []
+cycle_lines cycle (freed ∷ more) = cycle_line cycle freed ++ cycle_lines (cycle + 1) more
+
+-- the lines of a report on all cycles from the first on
+abbrev pub report_text : List ℕ → List ℕ
+report_text [] = codes "no sweep" ++ (10 ∷ [])
+report_text (freed ∷ more) = cycle_lines 1 (freed ∷ more)
 
 -- a step that was refused
 abbrev pub refused_text : Refusal → List ℕ

@@ -3,6 +3,7 @@
 #![tactic(auto)]
 
 mod frames;
+mod freed;
 mod line;
 mod script;
 mod text;

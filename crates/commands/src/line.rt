@@ -3,7 +3,7 @@ ghost use Rattle.std.specs.Prelude.{◌≡◌, ◌≤◌, ◌<◌, ◌∷◌, []
 ghost use Rattle.std.specs.Char.{is_ascii_digit};
 ghost use Rattle.std.specs.List.{list_all};
 ghost use Rattle.model.specs.declared.event.Event.TheVariants as event;
-ghost use Rattle.commands.specs.Grammar.{alone, of_two, of_three, u8_of, delivery_of, hand_of, is_number, is_own_line, line_of, command_of, u64_of, u16_of, node_line_of, space_of, with_none, with_one, with_three, with_two, u32_of, words_of};
+ghost use Rattle.commands.specs.Grammar.{alone, of_two, of_three, u8_of, delivery_of, hand_of, is_number, is_own_line, line_of, command_of, report_of, u64_of, u16_of, node_line_of, space_of, with_none, with_one, with_three, with_two, u32_of, words_of};
 
 use model::{Event, Step};
 
@@ -28,6 +28,8 @@ pub enum Line {
     Step(Step),
     /// Asks for the node in numbers.
     State(u8),
+    /// Asks what the sweeps of each cycle freed.
+    Report,
 }
 
 impl Line {
@@ -71,6 +73,7 @@ fn command(first: &str, words: &[&str]) -> Option<Line>
         "space" => space(words),
         "deliver" => Some(Line::Step(delivery(words)?)),
         "ack" => Some(Line::Step(hand(words)?)),
+        "report" => report(words),
         node => node_line(read_u8(node)?, words),
     }
 }
@@ -112,6 +115,16 @@ fn hand(words: &[&str]) -> Option<Step>
     };
     let (from, to) = (read_u8(from)?, read_u8(to)?);
     Some(Step::Hand { from, to })
+}
+
+#[tactic(auto, unfolding(crate::specs::Grammar::report_of))]
+fn report(words: &[&str]) -> Option<Line>
+    ensures { result ≡ report_of (map (λ w. w.now) words.now) }
+{
+    match words {
+        [] => Some(Line::Report),
+        _ => None,
+    }
 }
 
 /// What stands after a node's number.

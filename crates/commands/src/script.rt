@@ -1,14 +1,17 @@
 //! Runs a script over a space of nodes.
-ghost use Rattle.std.specs.Prelude.{◌≡◌, ◌≤◌, ◌⊎◌, List, IfOk, IfErr, OnOk, IsTrue, ◌≢◌};
+ghost use Rattle.std.specs.Prelude.{◌≡◌, ◌≤◌, ◌⊎◌, ℕ, List, IfOk, IfErr, OnOk, IsTrue, ◌≢◌};
 ghost use Rattle.std.specs.Io.KnownBytes.{Appends};
 ghost use Rattle.ids.specs.declared.refusal.Refusal.TheVariants.{Memory, ImageTooLarge};
 ghost use Rattle.model.specs.World.{World, FollowsStep, new_world, is_own_step, is_step_memory_free};
 ghost use Rattle.node.specs.Keeping.{Rings};
 ghost use Rattle.world.specs.Shows.{IsSmall, summary_at};
 ghost use Rattle.world.specs.Spaces.{KeepsAfter, ShowsSpace, step_met};
+ghost use Rattle.commands.specs.Freed.{KeepsSums, freed_after};
 ghost use Rattle.commands.specs.Grammar.{line_of, words_of};
-ghost use Rattle.commands.specs.Script.{Moves, PrintsNoScript, PrintsReplies, RunsScript, TakesLine, TakesSpace, TakesState, TakesStep, none_kept, reply_text, status_after};
+ghost use Rattle.commands.specs.Script.{Moves, PrintsNoScript, PrintsReplies, RunsScript, TakesLine, TakesReport, TakesSpace, TakesState, TakesStep, none_kept, reply_text, status_after};
+ghost use Rattle.commands.specs.Text.{cycle_line, report_text};
 
+use crate::freed::{Freed, freed_in, sweeper};
 use crate::line::Line;
 use crate::text::{OutcomeText, SummaryText};
 use ids::{Refusal, Shape};
@@ -85,18 +88,21 @@ impl Space for Sim {
 enum State<S> {
     /// No line asked for it yet.
     Unopened,
-    Open(S),
+    /// It is there, with what its sweeps freed.
+    Open { space: S, freed: Freed },
     /// It was refused, and so is each step of it.
     Refused(Refusal),
 }
 
 /// What a line of a script comes to.
-#[derive(Clone, Copy)]
+#[derive(Drop)]
 enum Reply {
     /// Nothing is printed.
     Nothing,
     Outcome(Outcome),
     Summary(Summary),
+    /// How many objects the sweeps of each cycle freed, from the first one on.
+    Report(Vec<u64>),
     Refused(Refusal),
     /// It is outside the grammar.
     NoCommand,
@@ -180,9 +186,32 @@ fn print_reply<W: Write>(out: &mut W, number: usize, reply: &Reply) -> io::Resul
         Reply::Nothing => Ok(()),
         Reply::Outcome(outcome) => writeln!(out, "{}", OutcomeText(*outcome)),
         Reply::Summary(summary) => writeln!(out, "{}", SummaryText(*summary)),
+        Reply::Report(sums) => print_report(out, sums),
         Reply::Refused(refusal) => writeln!(out, "refused {refusal}"),
         Reply::NoCommand => writeln!(out, "line {number}: not a command"),
     }
+}
+
+/// Prints how many objects the sweeps of each cycle freed, a line for each.
+fn print_report<W: Write>(out: &mut W, sums: &[u64]) -> io::Result<()>
+    ensures { OnOk result
+        (Appends (W.contents out.old) (W.contents out.new) (report_text sums.now)) }
+{
+    if sums.is_empty() {
+        return writeln!(out, "no sweep");
+    }
+    for (place, freed) in sums.iter().enumerate() {
+        print_cycle(out, place + 1, *freed)?;
+    }
+    Ok(())
+}
+
+/// Prints how many objects the sweeps of a cycle freed.
+fn print_cycle<W: Write>(out: &mut W, cycle: usize, freed: u64) -> io::Result<()>
+    ensures { OnOk result
+        (Appends (W.contents out.old) (W.contents out.new) (cycle_line cycle freed)) }
+{
+    writeln!(out, "cycle {cycle} freed {freed}")
 }
 
 /// The status that a script has at least where a line comes to this.
@@ -190,7 +219,7 @@ fn status_after(reply: &Reply) -> u8
     ensures { result ≡ status_after reply.now }
 {
     match reply {
-        Reply::Nothing | Reply::Outcome(_) | Reply::Summary(_) => DONE,
+        Reply::Nothing | Reply::Outcome(_) | Reply::Summary(_) | Reply::Report(_) => DONE,
         Reply::Refused(_) => REFUSED,
         Reply::NoCommand => UNREADABLE,
     }
@@ -216,6 +245,7 @@ fn take_line<S: Space>(alloc: Global, state: &mut State<S>, text: &str) -> Reply
         },
         Some(Line::Step(step)) => take_step(state, step),
         Some(Line::State(node)) => show_state(state, node),
+        Some(Line::Report) => report(alloc, state),
         None => Reply::NoCommand,
     }
 }
@@ -230,7 +260,8 @@ fn open<S: Space>(alloc: Global, state: &mut State<S>, shape: Shape) -> Reply
     };
     match S::new(alloc, shape) {
         Ok(space) => {
-            *state = State::Open(space);
+            let freed = Freed::new(alloc);
+            *state = State::Open { space, freed };
             Reply::Outcome(Outcome::Done)
         }
         Err(refusal) => {
@@ -248,10 +279,26 @@ fn take_step<S: Space>(state: &mut State<S>, step: Step) -> Reply
     match state {
         State::Unopened => Reply::NoCommand,
         State::Refused(refusal) => Reply::Refused(*refusal),
-        State::Open(space) => match space.step(step) {
-            Ok(outcome) => Reply::Outcome(outcome),
+        State::Open { space, freed } => match space.step(step) {
+            Ok(outcome) => {
+                note(space, freed, step, outcome);
+                Reply::Outcome(outcome)
+            }
             Err(refusal) => Reply::Refused(refusal),
         },
+    }
+}
+
+/// Adds what a sweep freed to the sum of its node's cycle.
+fn note<S: Space>(space: &S, freed: &mut Freed, step: Step, outcome: Outcome)
+    ensures { (w : World) (sums : List ℕ) → S.shows space.now w → KeepsSums freed.old.sums sums
+        → KeepsSums freed.new.sums (freed_after w step outcome sums) }
+{
+    let (Some(node), Some(count)) = (sweeper(&step), freed_in(&outcome)) else {
+        return;
+    };
+    if let Some(summary) = space.state(node) {
+        freed.add(summary.cycle, count);
     }
 }
 
@@ -263,9 +310,25 @@ fn show_state<S: Space>(state: &State<S>, node: u8) -> Reply
     match state {
         State::Unopened => Reply::NoCommand,
         State::Refused(refusal) => Reply::Refused(*refusal),
-        State::Open(space) => match space.state(node) {
+        State::Open { space, .. } => match space.state(node) {
             Some(summary) => Reply::Summary(summary),
             None => Reply::Refused(Refusal::NoNode),
+        },
+    }
+}
+
+/// Looks at what the sweeps freed, where the space was asked for. `Memory` where that isn't known,
+/// or there is no room to say it, but never before the first sweep.
+fn report<S: Space>(alloc: Global, state: &State<S>) -> Reply
+    ensures { Moves S.shows S.keeps
+        (λ h later. TakesReport h result later) state.now state.now }
+{
+    match state {
+        State::Unopened => Reply::NoCommand,
+        State::Refused(refusal) => Reply::Refused(*refusal),
+        State::Open { freed, .. } => match freed.sums(alloc) {
+            Ok(sums) => Reply::Report(sums),
+            Err(refusal) => Reply::Refused(refusal),
         },
     }
 }

@@ -1,14 +1,14 @@
 -- What is written for an image, and what is read.
 use Rattle.std.proofs.Common.{◌≡◌, ℕ, ◌+◌, ◌≤◌, ◌<◌, List, [], ◌++◌, length, take, drop, Some, None}
-use Rattle.std.proofs.Common.{refl, ◌∙◌, ap, arith, length-append, length-drop}
+use Rattle.std.proofs.Common.{inl, inr, refl, ◌∙◌, ap, arith, length-append, length-drop}
 use Rattle.std.specs.Int.{w64, to_be_bytes, from_be_bytes}
 use Rattle.std.proofs.lemmas.Nat.{from_be_bytes-to_be_bytes_8}
 use Rattle.std.proofs.lemmas.List.{append-nil, length-take-le, drop_all, take_at, drop_at}
 use Rattle.std.proofs.lemmas.List.{append_assoc}
-use Rattle.std.proofs.lemmas.Bool.Decides.{nat_tests}
+use Rattle.std.proofs.lemmas.Bool.Decides.{leb_tells, nat_tests}
 use Rattle.ids.specs.declared.limits.TheConstants.{GREATEST_IMAGE}
 use Rattle.disk.specs.Areas.{Holds, Reads}
-use Rattle.disk.specs.Shelf.{told, recorded, record_of}
+use Rattle.disk.specs.Shelf.{told, recorded, record_of, TellsLength}
 
 -- what is read of an area that tells a length
 pub recorded_is : (held : List ℕ) (n : ℕ) → told held ≡ n → n ≤ GREATEST_IMAGE →
@@ -33,6 +33,19 @@ recorded_long held long = grind (arith, nat_tests)
 pub recorded_cut : (held : List ℕ) → length held < told held + 8 → recorded held ≡ None
 unfolding recorded
 recorded_cut held cut = grind (arith, nat_tests)
+
+-- an area that holds an image tells how long it is
+pub recorded_tells : (held image : List ℕ) → recorded held ≡ Some image → TellsLength held
+recorded_tells held image is = (
+  elim (leb_tells 8 (length held)) [
+    | inl long ↦ long.1
+    | inr short ↦ let none = recorded_short held short.1 in cc
+  ],
+  elim (leb_tells (told held) GREATEST_IMAGE) [
+    | inl fits ↦ fits.1
+    | inr past ↦ let none = recorded_long held past.1 in cc
+  ],
+)
 
 -- what was written is read
 pub recorded_holds : (image old new : List ℕ) → length image ≤ GREATEST_IMAGE →

@@ -1,17 +1,18 @@
 -- Ranges that may hold any bytes after a crash.
 use Rattle.std.specs.declared.alloc.Global.{Global}
-use Rattle.std.proofs.Common.{Vec, ◌≡◌, ◌⊎◌, inl, inr, ⊎_elim, ℕ, ◌+◌, ◌-◌, ◌≤◌, List, [], ◌∷◌}
+use Rattle.std.proofs.Common.{Vec, ◌≡◌, ◌⊎◌, ◌↔◌, inl, inr, ⊎_elim, ℕ, ◌+◌, ◌-◌, ◌≤◌, List, [], ◌∷◌}
 use Rattle.std.proofs.Common.{◌++◌, length, take, drop, replicate, refl, sym, ◌∙◌, ap, subst, arith}
 use Rattle.std.proofs.Common.{Bool, cond, length-append, length-drop, append_assoc}
 use Rattle.std.proofs.lemmas.List.{take_at, drop_at, drop-drop, drop_all, length-take-le}
 use Rattle.std.proofs.lemmas.List.{length-replicate}
 use Rattle.std.proofs.lemmas.Bool.Decides.{leb_tells}
 use Rattle.disk.specs.Areas.{Areas, part, with_part, Changes, Torn, pasted}
-use Rattle.disk.specs.Crashes.{Follows, Only}
-use Rattle.disk.specs.Record.{areas_of, synced, reads_left, range, torn_in, torn_by, leaves}
-use Rattle.disk.specs.Record.{filled_in, filled_by, filled}
+use Rattle.disk.specs.Crashes.{Follows, Only, Reaches}
+use Rattle.disk.specs.Record.{areas_of, synced, reads_left, torn_in, torn_by, at_risk, leaves}
+use Rattle.disk.specs.Record.{filled_in, filled_by, filled, IsUnsynced, Loaded}
 use Rattle.disk.specs.declared.device.Area.{Area}
 use Rattle.disk.specs.declared.device.Area.TheVariants.{Select, A, B}
+use Rattle.disk.specs.declared.state.Contents.{Contents}
 use Rattle.disk.specs.declared.state.Range.{Range}
 use Rattle.disk.specs.declared.state.State.{State}
 
@@ -64,23 +65,62 @@ torn_same at n old = record {
 
 -- a range more
 torn_push : (ranges : List Range) (r : Range) (P : Areas → Type 0) (c : Areas) →
-    torn_by (ranges ++ r ∷ []) P c → torn_in r (torn_by ranges P) c
-torn_push [] r P c torn = torn
-torn_push (x ∷ ranges) r P c torn = torn_push ranges r (torn_in x P) c torn
+    torn_by (ranges ++ r ∷ []) P c ↔ torn_in r (torn_by ranges P) c
+torn_push [] r P c = (λ torn. torn, λ torn. torn)
+torn_push (x ∷ ranges) r P c = torn_push ranges r (torn_in x P) c
 
--- a range more is noted, and what is held stays
-pub follows_risk : (area : Area) (at n : ℕ) (s s' : State) →
-    areas_of s'.held ≡ areas_of s.held → synced s' ≡ synced s →
-    s'.ranges.items ≡ s.ranges.items ++ range area at n ∷ [] →
-    Follows (Changes area (Torn at n)) (leaves s) (leaves s')
-unfolding leaves
-follows_risk area at n s s' held same noted c (inl now) =
-    (c, inl (now ∙ held), unchanged area (Torn at n) c (torn_same at n (part area c)))
-follows_risk area at n s s' held same noted c (inr torn) =
+-- what was synced and the ranges are the same
+risk_same : (s s' : State) → synced s' ≡ synced s → s'.ranges.items ≡ s.ranges.items →
+    (c : Areas) → at_risk s' c → at_risk s c
+unfolding at_risk
+risk_same s s' same ranges c torn =
     let at_old = subst (λ (d : Areas). torn_by s'.ranges.items (λ x. x ≡ d) c) same torn in
-    let pushed = subst (λ (rs : List Range). torn_by rs (λ x. x ≡ synced s) c) noted at_old in
-    let from = torn_push s.ranges.items (range area at n) (λ x. x ≡ synced s) c pushed in
-    (from.0, inr from.1, from.2)
+    subst (λ (rs : List Range). torn_by rs (λ x. x ≡ synced s) c) ranges at_old
+
+-- a crash may leave what is at risk
+pub risk_left : (s : State) (c : Areas) → at_risk s c → leaves s c
+unfolding leaves
+risk_left s c risk = inr risk
+
+-- a range is noted, before which the disk held what it does now
+pub record Noted (r : Range) (s s' : State) : Type 0 where
+  pub before : r.before.value ≡ s.held
+  pub held : s'.held ≡ s.held
+  pub synced : synced s' ≡ synced s
+  pub noted : s'.ranges.items ≡ s.ranges.items ++ r ∷ []
+
+-- what is at risk then
+risk_noted : {r : Range} {s s' : State} → Noted r s s' → (c : Areas) →
+    at_risk s' c ↔ torn_in r (at_risk s) c
+unfolding at_risk
+risk_noted {r} {s} {s'} note c =
+    let P : Areas → Type 0 = λ x. x ≡ synced s in
+    let push = torn_push s.ranges.items r P c in (
+      λ torn. push.0 (subst (λ (rs : List Range). torn_by rs P c) note.noted
+          (subst (λ (d : Areas). torn_by s'.ranges.items (λ x. x ≡ d) c) note.synced torn)),
+      λ torn. subst (λ (d : Areas). torn_by s'.ranges.items (λ x. x ≡ d) c) (sym note.synced)
+          (subst (λ (rs : List Range). torn_by rs P c) (sym note.noted) (push.1 torn)),
+    )
+
+pub follows_noted : {r : Range} {s s' : State} → Noted r s s' →
+    Follows (Changes r.area (Torn r.at r.len)) (leaves s) (leaves s')
+unfolding leaves
+follows_noted {r} {s} {s'} note c (inl now) = (
+  c,
+  inl (now ∙ ap areas_of note.held),
+  unchanged r.area (Torn r.at r.len) c (torn_same r.at r.len (part r.area c)),
+)
+follows_noted {r} {s} {s'} note c (inr torn) =
+    let from = (risk_noted note c).0 torn in
+    (from.0, ⊎_elim (λ held. inl (held ∙ ap areas_of note.before)) (λ risk. inr risk) from.1, from.2)
+
+pub reaches_noted : {r : Range} {s s' : State} → Noted r s s' →
+    Reaches (Changes r.area (Torn r.at r.len)) (leaves s) (at_risk s')
+unfolding leaves
+reaches_noted {r} {s} {s'} note d c (inl held) torn =
+    (risk_noted note c).1 (d, inl (held ∙ sym (ap areas_of note.before)), torn)
+reaches_noted {r} {s} {s'} note d c (inr risk) torn =
+    (risk_noted note c).1 (d, inr risk, torn)
 
 -- other bytes are held, and what was synced and the ranges stay
 pub set_leaves : (s s' : State) → synced s' ≡ synced s → s'.ranges ≡ s.ranges →
@@ -88,9 +128,20 @@ pub set_leaves : (s s' : State) → synced s' ≡ synced s → s'.ranges ≡ s.r
 unfolding leaves
 set_leaves s s' same ranges c (inl now) = inl now
 set_leaves s s' same ranges c (inr torn) =
-    let at_old = subst (λ (d : Areas). torn_by s'.ranges.items (λ x. x ≡ d) c) same torn in
-    inr (inr
-    (subst (λ (rs : Vec Range Global). torn_by rs.items (λ x. x ≡ synced s) c) ranges at_old))
+    inr (inr (risk_same s s' same (ap (λ (v : Vec Range Global). v.items) ranges) c torn))
+
+-- then what was at risk still is
+pub set_risk : (s s' : State) → synced s' ≡ synced s → s'.ranges ≡ s.ranges →
+    (c : Areas) → at_risk s c → at_risk s' c
+set_risk s s' same ranges =
+    risk_same s' s (sym same) (sym (ap (λ (v : Vec Range Global). v.items) ranges))
+
+pub set_reaches : (step : Areas → Areas → Type 0) (s mid s' : State) → synced s' ≡ synced mid →
+    s'.ranges ≡ mid.ranges → Reaches step (leaves s) (at_risk mid) →
+    Reaches step (leaves s) (leaves s')
+unfolding leaves
+set_reaches step s mid s' same ranges noted d c left torn =
+    inr (set_risk mid s' same ranges c (noted d c left torn))
 
 -- a range is noted, and then other bytes are held in it
 pub follows_set : (step : Areas → Areas → Type 0) (s mid s' : State) →
@@ -124,18 +175,23 @@ changed_by_write area at n d d' w =
     (changed area (Torn at n) d w.next torn)
 
 -- a state that says the same
-pub same_leaves : (s s' : State) → areas_of s'.held ≡ areas_of s.held → synced s' ≡ synced s →
+same_leaves : (s s' : State) → s'.held ≡ s.held → synced s' ≡ synced s →
     s'.ranges.items ≡ s.ranges.items → (c : Areas) → leaves s' c → leaves s c
 unfolding leaves
-same_leaves s s' held same ranges c (inl now) = inl (now ∙ held)
-same_leaves s s' held same ranges c (inr torn) =
-    let at_old = subst (λ (d : Areas). torn_by s'.ranges.items (λ x. x ≡ d) c) same torn in
-    inr (subst (λ (rs : List Range). torn_by rs (λ x. x ≡ synced s) c) ranges at_old)
+same_leaves s s' held same ranges c (inl now) = inl (now ∙ ap areas_of held)
+same_leaves s s' held same ranges c (inr torn) = inr (risk_same s s' same ranges c torn)
 
--- a write that failed, of which there was no room to note a range
-pub follows_same : (area : Area) (at n : ℕ) (s s' : State) →
-    areas_of s'.held ≡ areas_of s.held → synced s' ≡ synced s →
-    s'.ranges.items ≡ s.ranges.items → Follows (Changes area (Torn at n)) (leaves s) (leaves s')
+-- there was no room to note a range
+pub unnoted : (s s' : State) → s'.held ≡ s.held → synced s' ≡ synced s →
+    s'.ranges.items ≡ s.ranges.items → (c : Areas) → leaves s' c ↔ leaves s c
+unnoted s s' held same ranges c = (
+  same_leaves s s' held same ranges c,
+  same_leaves s' s (sym held) (sym same) (sym ranges) c,
+)
+
+pub follows_same : (area : Area) (at n : ℕ) (s s' : State) → s'.held ≡ s.held →
+    synced s' ≡ synced s → s'.ranges.items ≡ s.ranges.items →
+    Follows (Changes area (Torn at n)) (leaves s) (leaves s')
 follows_same area at n s s' held same ranges c left = (
   c,
   same_leaves s s' held same ranges c left,
@@ -145,7 +201,7 @@ follows_same area at n s s' held same ranges c left = (
 -- all is synced
 pub only_synced : (s : State) (d : Areas) → areas_of s.held ≡ d → synced s ≡ d →
     s.ranges.items ≡ [] → Only d (leaves s)
-unfolding leaves
+unfolding leaves at_risk
 only_synced s d held same none c (inl now) = now ∙ held
 only_synced s d held same none c (inr torn) =
     let here : c ≡ synced s =
@@ -156,6 +212,63 @@ pub settled_leaves : (s s' : State) → areas_of s'.held ≡ areas_of s.held →
     synced s' ≡ areas_of s.held → s'.ranges.items ≡ [] → (c : Areas) → leaves s' c → leaves s c
 settled_leaves s s' held same none c left =
     subst (leaves s) (sym (only_synced s' (areas_of s.held) held same none c left)) (reads_left s)
+
+-- any bytes may stand where the area was loaded
+any_torn : (old new : List ℕ) (n : ℕ) → old ≡ [] → length new ≤ n → Torn 0 n old new
+any_torn old new n none fits = record {
+  before = refl;
+  after = drop_all (0 + n) new (omega (arith, fits))
+      ∙ sym (drop_all (0 + n) old (omega (arith, ap length none)));
+  no_shorter = omega (arith, ap length none);
+  no_longer = omega (arith, fits);
+}
+
+-- all three areas of a blank disk were loaded
+pub all_loaded : (s0 s1 s2 s3 : State) →
+    areas_of s0.held ≡ record { select = []; a = []; b = [] } →
+    Loaded Select s0 s1 → Loaded A s1 s2 → Loaded B s2 s3 → IsUnsynced s3
+all_loaded s0 s1 s2 s3 blank select a b c fits =
+    let d0 : Areas = record { select = []; a = []; b = [] } in
+    let d1 : Areas = record { select = c.select; a = []; b = [] } in
+    let d2 : Areas = record { select = c.select; a = c.a; b = [] } in
+    let left0 = subst (leaves s0) blank (reads_left s0) in
+    let left1 = select.torn d0 d1 left0 (
+      any_torn [] c.select (length s1.held.select.items) refl
+          (omega (arith, fits.select, ap length a.others.1, ap length b.others.1)),
+      refl,
+      refl,
+    ) in
+    let left2 = a.torn d1 d2 left1 (
+      any_torn [] c.a (length s2.held.a.items) refl
+          (omega (arith, fits.a, ap length b.others.2)),
+      refl,
+      refl,
+    ) in
+    b.torn d2 c left2
+    (any_torn [] c.b (length s3.held.b.items) refl (omega (arith, fits.b)), refl, refl)
+
+part_with : (area : Area) (next : List ℕ) (d : Areas) → part area (with_part area next d) ≡ next
+part_with Select next d = refl
+part_with A next d = refl
+part_with B next d = refl
+
+-- a range from the start is noted, and then the area holds so many other bytes
+pub loaded_by : (area : Area) (n : ℕ) (next : List ℕ) (s mid s' : State) → length next ≡ n →
+    mid.held ≡ s.held → areas_of s'.held ≡ with_part area next (areas_of mid.held) →
+    Reaches (Changes area (Torn 0 n)) (leaves s) (leaves s') → Loaded area s s'
+loaded_by area n next s mid s' size held set torn =
+    let d : Areas = areas_of s.held in
+    let d' : Areas = areas_of s'.held in
+    let any : List ℕ → List ℕ → Type 0 = λ _ _. Unit {0} in
+    let whole : d' ≡ with_part area next d =
+    set ∙ ap (λ (h : Contents). with_part area next (areas_of h)) held in
+    let long : length (part area d') ≡ n =
+    ap (λ (x : Areas). length (part area x)) whole ∙ ap length (part_with area next d) ∙ size in
+    record {
+      others = subst (λ (x : Areas). Changes area any d x) (sym whole) (changed area any d next tt);
+      torn = subst (λ (k : ℕ). Reaches (Changes area (Torn 0 k)) (leaves s) (leaves s')) (sym long)
+          torn;
+    }
 
 fill_torn : (fill : ℕ) (r : Range) (m : Areas) →
     Changes r.area (Torn r.at r.len) m (filled_in fill r m)
@@ -175,11 +288,11 @@ fills_torn : (fill : ℕ) (ranges : List Range) (P : Areas → Type 0) (m : Area
     torn_by ranges P (filled_by fill ranges m)
 fills_torn fill [] P m p = p
 fills_torn fill (r ∷ ranges) P m p =
-    fills_torn fill ranges (torn_in r P) (filled_in fill r m) (m, p, fill_torn fill r m)
+    fills_torn fill ranges (torn_in r P) (filled_in fill r m) (m, inr p, fill_torn fill r m)
 
 -- what a crash leaves where each byte that was written became this one, it may leave
 pub filled_left : (fill : ℕ) (s : State) → leaves s (filled fill s)
-unfolding leaves filled
+unfolding leaves at_risk filled
 filled_left fill s = inr (fills_torn fill s.ranges.items (λ x. x ≡ synced s) (synced s) refl)
 
 -- once every range was filled

@@ -46,6 +46,12 @@ pub record Torn (at n : ℕ) (old new : List ℕ) : Type 0 where
   pub no_shorter : length old ≤ length new
   pub no_longer : length new ≤ max (length old) (at + n)
 
+-- none of these areas is longer than that of the disk
+pub record NoLonger (held c : Areas) : Type 0 where
+  pub select : length c.select ≤ length held.select
+  pub a : length c.a ≤ length held.a
+  pub b : length c.b ≤ length held.b
+
 -- n bytes are read into the front of a buffer: all that fit, or that there are from this offset on
 pub record Reads (held : List ℕ) (at n : ℕ) (old new : List ℕ) : Type 0 where
   pub count : n ≡ min (length old) (length held - at)

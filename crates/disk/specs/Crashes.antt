@@ -6,6 +6,10 @@ use Rattle.disk.specs.Areas.{Areas}
 abbrev pub Follows : (Areas → Areas → Type 0) → (Areas → Type 0) → (Areas → Type 0) → Type 0
 Follows step old new = (c : Areas) → new c → (d : Areas) × old d × step d c
 
+-- each thing that comes by a step from one that a crash could leave before, it may leave now
+abbrev pub Reaches : (Areas → Areas → Type 0) → (Areas → Type 0) → (Areas → Type 0) → Type 0
+Reaches step old new = (d c : Areas) → old d → step d c → new c
+
 -- a crash leaves this and nothing else
 abbrev pub Only : Areas → (Areas → Type 0) → Type 0
 Only here outcomes = (c : Areas) → outcomes c → c ≡ here

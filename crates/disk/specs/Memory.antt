@@ -1,8 +1,9 @@
 -- A disk in memory, as its callers see it.
-use Rattle.std.specs.Prelude.{◌≡◌, ℕ, [], None}
+use Rattle.std.specs.Prelude.{◌≡◌, ℕ, []}
 use Rattle.disk.specs.Areas.{Areas}
 use Rattle.disk.specs.Record.{areas_of, leaves, filled}
 use Rattle.disk.specs.declared.memory.MemoryDisk.{MemoryDisk}
+use Rattle.disk.specs.declared.plan.Plan.TheVariants.{Never}
 
 -- three areas with no bytes
 abbrev pub blank : Areas
@@ -22,4 +23,4 @@ filled_by_crash fill d = filled fill d.state
 
 -- no call of it has failed, and none is to
 abbrev pub IsFaultless : MemoryDisk → Type 0
-IsFaultless d = (d.good ≡ None) × (d.failures ≡ 0)
+IsFaultless d = (d.plan ≡ Never) × (d.failures ≡ 0)

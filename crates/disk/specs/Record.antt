@@ -1,11 +1,12 @@
 -- What a disk in memory tells by its record of itself: its state now, and those of the moments that
 -- are over.
 use Rattle.std.specs.Prelude.{◌≡◌, ◌⊎◌, ℕ, ◌+◌, ◌≤◌, List, [], ◌∷◌, length, replicate, Vec, Option}
-use Rattle.std.specs.Prelude.{Some, None, if◌then◌else◌, refl}
+use Rattle.std.specs.Prelude.{Some, None, if◌then◌else◌, refl, ⊤}
 use Rattle.std.proofs.Common.{inl, inr, arith}
 use Rattle.std.specs.Prelude.{leb}
 use Rattle.std.specs.declared.alloc.Global.{Global}
-use Rattle.disk.specs.Areas.{Areas, part, with_part, Changes, Torn, pasted}
+use Rattle.disk.specs.Areas.{Areas, NoLonger, part, with_part, Changes, Torn, pasted}
+use Rattle.disk.specs.Crashes.{Reaches}
 use Rattle.disk.specs.declared.device.Area.{Area}
 use Rattle.disk.specs.declared.state.Contents.{Contents}
 use Rattle.disk.specs.declared.state.Range.{Range}
@@ -29,22 +30,34 @@ synced s = record {
   b = kept_or s.kept_b s.held.b;
 }
 
-abbrev pub range : Area → ℕ → ℕ → Range
-range area at len = record { area = area; at = at; len = len }
-
--- what may come of the outcomes that have P, where a range may hold any bytes
+-- what may come of the outcomes that have P, and of what was held before a range was written, where
+-- the range may hold any bytes
 abbrev pub torn_in : Range → (Areas → Type 0) → Areas → Type 0
-torn_in r P c = (m : Areas) × P m × Changes r.area (Torn r.at r.len) m c
+torn_in r P c =
+    (m : Areas) × ((m ≡ areas_of r.before.value) ⊎ P m) × Changes r.area (Torn r.at r.len) m c
 
 -- the same for each of these ranges, one after another
 abbrev pub torn_by : List Range → (Areas → Type 0) → Areas → Type 0
 torn_by [] P c = P c
 torn_by (r ∷ ranges) P c = torn_by ranges (torn_in r P) c
 
--- What a crash may leave: what a read gives, or what was synced with any bytes in each range that
--- was written since.
+-- what was synced, or held since, with any bytes in each range that was written after that
+unfoldable pub at_risk : State → Areas → Type 0
+at_risk s c = torn_by s.ranges.items (λ x. x ≡ synced s) c
+
+-- What a crash may leave: what a read gives, or bytes that are at risk.
 unfoldable pub leaves : State → Areas → Type 0
-leaves s c = (c ≡ areas_of s.held) ⊎ torn_by s.ranges.items (λ x. x ≡ synced s) c
+leaves s c = (c ≡ areas_of s.held) ⊎ at_risk s c
+
+-- a crash may leave any bytes, as many as the areas hold or fewer
+abbrev pub IsUnsynced : State → Type 0
+IsUnsynced s = (c : Areas) → NoLonger (areas_of s.held) c → leaves s c
+
+-- an area was found, which holds any bytes after a crash
+pub record Loaded (area : Area) (s s' : State) : Type 0 where
+  pub others : Changes area (λ _ _. ⊤) (areas_of s.held) (areas_of s'.held)
+  pub torn : Reaches (Changes area (Torn 0 (length (part area (areas_of s'.held)))))
+      (leaves s) (leaves s')
 
 -- how many moments are over
 abbrev pub moments : Past → ℕ

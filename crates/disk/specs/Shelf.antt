@@ -1,10 +1,10 @@
 -- How values lie on a disk: what an area holds, and which of the two areas counts.
-use Rattle.std.specs.Prelude.{◌≡◌, ◌⊎◌, ℕ, ◌+◌, ◌%◌, ◌==◌, leb, Bool, true, false, ◌&&◌}
+use Rattle.std.specs.Prelude.{◌≡◌, ◌⊎◌, ℕ, ◌≤◌, ◌+◌, ◌%◌, ◌==◌, leb, Bool, true, false, ◌&&◌}
 use Rattle.std.specs.Prelude.{List, [], ◌∷◌, ◌++◌, length, take, drop}
 use Rattle.std.specs.Prelude.{Option, Some, None, is_some, if◌then◌else◌}
 use Rattle.std.specs.Int.{w64, to_be_bytes, from_be_bytes}
 use Rattle.ids.specs.declared.limits.TheConstants.{GREATEST_IMAGE}
-use Rattle.disk.specs.Areas.{Areas}
+use Rattle.disk.specs.Areas.{Areas, part}
 use Rattle.disk.specs.Crashes.{Only}
 use Rattle.disk.specs.declared.device.Area.{Area}
 use Rattle.disk.specs.declared.device.Area.TheVariants.{A, B}
@@ -20,6 +20,10 @@ recorded held =
     if leb 8 (length held) && leb (told held) GREATEST_IMAGE && leb (told held + 8) (length held)
     then Some (take (told held) (drop 8 held))
     else None
+
+-- an area tells how long its image is, and an image may be so long
+abbrev pub TellsLength : List ℕ → Type 0
+TellsLength held = (8 ≤ length held) × (told held ≤ GREATEST_IMAGE)
 
 -- what is written for an image
 unfoldable pub record_of : List ℕ → List ℕ
@@ -43,6 +47,11 @@ image_at (Some false) d = recorded d.a
 -- the image that a disk opens to: that of the area that is selected
 abbrev pub opened : Areas → Option (List ℕ)
 opened d = image_at (side d.select) d
+
+-- an area is selected, and it tells how long its image is
+abbrev pub SelectsLength : Areas → Type 0
+SelectsLength d =
+    (in_b : Bool) × (side d.select ≡ Some in_b) × TellsLength (part (half in_b) d)
 
 -- the disk opens to an image, and that is read as this value
 abbrev pub IsReadAs : {V : Type 0} → (List ℕ → V → Type 0) → Option (List ℕ) → V → Type 0

@@ -1,7 +1,7 @@
 // A disk as those who save on it see it: what a read gives, and what a crash may leave.
-ghost use Rattle.std.specs.Prelude.{◌≡◌, ◌≤◌, ℕ, length, IfOk, IsErr, OnOk, OnErr};
+ghost use Rattle.std.specs.Prelude.{◌≡◌, ◌≤◌, ◌↔◌, ℕ, length, IfOk, IsErr, IsErrOf, OnOk, OnErr};
 ghost use Rattle.disk.specs.Areas.{Areas, part, Changes, Holds, Torn, Reads};
-ghost use Rattle.disk.specs.Crashes.{Follows, Only, Elapses, HasCause};
+ghost use Rattle.disk.specs.Crashes.{Follows, Reaches, Only, Elapses, HasCause};
 
 /// One of the three areas of a disk. Each holds bytes, at first none.
 #[derive(Clone, Copy, Debug, PartialEq, Eq)]
@@ -12,15 +12,21 @@ pub enum Area {
     B,
 }
 
-/// The device failed, or a disk that keeps a record of itself had no memory for it.
+/// Why a call of a disk failed.
 #[derive(Clone, Copy, Debug, PartialEq, Eq)]
-pub struct DiskFault;
+pub enum DiskFault {
+    /// The device failed.
+    Device,
+    /// A disk that keeps a record of itself had no memory for it. The call did nothing.
+    Memory,
+}
 
 /// Three areas of bytes that can be read, written and synced, and what a crash may make of them.
 ///
 /// Until a sync is Ok, a crash may leave any bytes in each range that was written, also where the
-/// write failed, and what of the range lies past the area's old end may be missing from some byte
-/// on. Bytes outside those ranges stay. After a sync that is Ok a crash leaves what a read gives.
+/// device failed in the write, and what of the range lies past the area's old end may be missing
+/// from some byte on: each of these outcomes may come, and no other. Bytes outside those ranges
+/// stay. After a sync that is Ok a crash leaves what a read gives.
 pub trait Disk {
     /// What a read gives.
     ghost seen: { Self → Areas };
@@ -44,12 +50,15 @@ pub trait Disk {
             Reads (part area (seen self.old)) at n into.old into.new) }
         ensures seen { seen self.new ≡ seen self.old }
         ensures crash { (c : Areas) → may_leave self.new c → may_leave self.old c }
+        ensures kept { (c : Areas) → may_leave self.old c → may_leave self.new c }
         ensures time { Elapses (moment self.old) (moment self.new)
             (left_since self.old) (left_since self.new) (may_leave self.new) }
         ensures cause { HasCause (faults self.old) (faults self.new) (IsErr result) };
 
-    /// Writes over what is there, and past the end. After a failure a read gives some bytes in the
-    /// range, past the old end perhaps from some byte on none, and the same ones each time.
+    /// Writes over what is there, and past the end. Where the device fails, a read gives some bytes
+    /// in the range, past the old end perhaps from some byte on none, and the same ones each time;
+    /// a crash may leave the same as after a write that is Ok. Where memory is refused, nothing has
+    /// changed.
     fn write_at(&mut self, area: Area, at: usize, bytes: &[u8]) -> Result<(), DiskFault>
         requires { at ≤ length (part area (seen self.old)) }
 
@@ -59,6 +68,13 @@ pub trait Disk {
             (Changes area (Torn at (length bytes.now)) (seen self.old) (seen self.new)) }
         ensures crash { Follows (Changes area (Torn at (length bytes.now)))
             (may_leave self.old) (may_leave self.new) }
+        ensures torn { OnOk result (Reaches (Changes area (Torn at (length bytes.now)))
+            (may_leave self.old) (may_leave self.new)) }
+        ensures torn_too { IsErrOf result DiskFault.Device →
+            Reaches (Changes area (Torn at (length bytes.now)))
+            (may_leave self.old) (may_leave self.new) }
+        ensures refused { IsErrOf result DiskFault.Memory → (seen self.new ≡ seen self.old)
+            × ((c : Areas) → may_leave self.new c ↔ may_leave self.old c) }
         ensures time { Elapses (moment self.old) (moment self.new)
             (left_since self.old) (left_since self.new) (may_leave self.new) }
         ensures cause { HasCause (faults self.old) (faults self.new) (IsErr result) };
@@ -69,6 +85,7 @@ pub trait Disk {
         ensures durable { OnOk result (Only (seen self.old) (may_leave self.new)) }
         ensures seen { seen self.new ≡ seen self.old }
         ensures crash { (c : Areas) → may_leave self.new c → may_leave self.old c }
+        ensures kept { OnErr result ((c : Areas) → may_leave self.old c → may_leave self.new c) }
         ensures time { Elapses (moment self.old) (moment self.new)
             (left_since self.old) (left_since self.new) (may_leave self.new) }
         ensures cause { HasCause (faults self.old) (faults self.new) (IsErr result) };

@@ -1,8 +1,8 @@
 // A disk in three files of a folder.
-ghost use Rattle.std.specs.Prelude.{◌≡◌, ◌⊎◌, ◌≤◌, length, IfErr, IfOk};
+ghost use Rattle.std.specs.Prelude.{◌≡◌, ◌⊎◌, ◌≤◌, length, IfErr, IfOk, OnOk};
 ghost use Rattle.disk.specs.Areas.{Areas, Changes, Torn, part};
-ghost use Rattle.disk.specs.Record.{areas_of, leaves, moments, left_since, reads_left, counts_now};
-ghost use Rattle.disk.specs.Record.{only_now};
+ghost use Rattle.disk.specs.Record.{areas_of, at_risk, leaves, moments, left_since, reads_left};
+ghost use Rattle.disk.specs.Record.{counts_now, IsUnsynced, Loaded, only_now};
 
 use crate::{Area, Disk, DiskFault, MemoryDisk};
 use ids::Refusal;
@@ -42,7 +42,8 @@ impl FileDisk {
     /// file, or where another `FileDisk` is in the folder; refused Memory where what the files hold
     /// is more than there is memory for.
     pub fn at<R: Files<File = File>>(rt: &R, alloc: Global, folder: &str) -> Result<Self, Refusal>
-        ensures { IfErr result (λ e. (e ≡ Refusal.Disk) ⊎ (e ≡ Refusal.Memory)) }
+        ensures unsynced { IfOk result (λ d. IsUnsynced d.memory.state) }
+        ensures refused { IfErr result (λ e. (e ≡ Refusal.Disk) ⊎ (e ≡ Refusal.Memory)) }
     {
         match open_folder(rt, alloc, Path::new(folder)) {
             Ok(disk) => Ok(disk),
@@ -57,7 +58,9 @@ fn open_folder<R: Files<File = File>>(
     rt: &R,
     alloc: Global,
     folder: Path<'_>,
-) -> io::Result<FileDisk> {
+) -> io::Result<FileDisk>
+    ensures { IfOk result (λ d. IsUnsynced d.memory.state) }
+{
     make_folder(rt, alloc, folder)?;
     let mut select = open_file(rt, alloc, folder, "select")?;
     if select.try_lock().is_err() {
@@ -131,11 +134,14 @@ fn sync_folder<R: Files<File = File>>(rt: &R, folder: Path<'_>) -> io::Result<()
 }
 
 /// Reads a file whole. What it holds counts as unsynced.
-fn load(alloc: Global, memory: &mut MemoryDisk, area: Area, file: &mut File) -> io::Result<()> {
+fn load(alloc: Global, memory: &mut MemoryDisk, area: Area, file: &mut File) -> io::Result<()>
+    ensures { OnOk result (Loaded area memory.old.state memory.new.state) }
+{
     let mut content = Vec::new(alloc);
     file.read_to_end(&mut content)?;
-    if memory.risk(area, 0, content.len()).is_err() {
-        return Err(AllocError.into());
+    match memory.risk(area, 0, content.len()) {
+        Ok(()) => {}
+        Err(_) => return Err(AllocError.into()),
     }
     memory.state.set(area, content);
     Ok(())
@@ -197,6 +203,8 @@ impl<F: FileExt + OpenFile> FileDisk<F> {
             (areas_of self.old.memory.state.held) (areas_of self.new.memory.state.held) }
         ensures crash { (c : Areas) → leaves self.new.memory.state c →
             (c ≡ areas_of self.new.memory.state.held) ⊎ leaves self.old.memory.state c }
+        ensures risk { (c : Areas) → at_risk self.old.memory.state c
+            → at_risk self.new.memory.state c }
         ensures past { self.new.memory.past ≡ self.old.memory.past }
         ensures failures { self.new.memory.failures ≡ self.old.memory.failures }
     {
@@ -276,7 +284,7 @@ impl<F: FileExt + OpenFile> Disk for FileDisk<F> {
         let n = self.memory.read(area, at, into)?;
         let ends = n < into.len();
         if !holds(self.file(area), at, &into[..n], ends) {
-            return Err(self.memory.fault());
+            return Err(self.memory.fault(DiskFault::Device));
         }
         Ok(n)
     }
@@ -288,14 +296,14 @@ impl<F: FileExt + OpenFile> Disk for FileDisk<F> {
             .prepared(self.memory.alloc, area, at, bytes)
         {
             Ok(next) => next,
-            Err(_) => return Err(self.memory.fault()),
+            Err(_) => return Err(self.memory.fault(DiskFault::Memory)),
         };
         // The range is noted before the file is touched.
         self.memory.risk(area, at, bytes.len())?;
         if self.file(area).write_all_at(bytes, at as u64).is_err() {
             self.doubted = true;
             self.look_again(area, at, bytes.len());
-            return Err(self.memory.fault());
+            return Err(self.memory.fault(DiskFault::Device));
         }
         self.memory.state.set(area, next);
         Ok(())
@@ -303,16 +311,16 @@ impl<F: FileExt + OpenFile> Disk for FileDisk<F> {
 
     fn sync(&mut self) -> Result<(), DiskFault> {
         if self.doubted && !self.agrees() {
-            return Err(self.memory.fault());
+            return Err(self.memory.fault(DiskFault::Device));
         }
         self.doubted = false;
         if self.stale && self.write_again().is_err() {
             self.doubted = true;
-            return Err(self.memory.fault());
+            return Err(self.memory.fault(DiskFault::Device));
         }
         self.stale = self.sync_files().is_err();
         if self.stale {
-            return Err(self.memory.fault());
+            return Err(self.memory.fault(DiskFault::Device));
         }
         self.memory.settle();
         Ok(())

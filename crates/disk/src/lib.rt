@@ -9,6 +9,7 @@ mod device;
 mod file;
 mod memory;
 mod persist;
+mod plan;
 mod save;
 mod shelf;
 mod state;

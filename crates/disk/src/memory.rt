@@ -1,20 +1,21 @@
 // A disk in memory, which can be told to fail and to crash.
-ghost use Rattle.std.specs.Prelude.{◌≡◌, ◌≤◌, ◌++◌, [], ◌∷◌, length, IfOk, IfErr, IsErr, OnOk};
-ghost use Rattle.std.specs.Prelude.{IsTrue, OnErr, Some, ⊤, ◌-◌};
+ghost use Rattle.std.specs.Prelude.{◌≡◌, ◌≤◌, ◌↔◌, length, IfOk, IfErr, IsErr, IsErrOf, OnOk};
+ghost use Rattle.std.specs.Prelude.{IsTrue, OnErr, ⊤};
 ghost use Rattle.disk.specs.Areas.{Areas, Changes, Holds, Reads, Torn, part};
-ghost use Rattle.disk.specs.Crashes.{Elapses, Follows, Grew, HasCause, Only};
-ghost use Rattle.disk.specs.Record.{areas_of, synced, range, leaves, moments, left_since, IsThen};
+ghost use Rattle.disk.specs.Crashes.{Elapses, Follows, HasCause, Only, Reaches};
+ghost use Rattle.disk.specs.Record.{areas_of, at_risk, leaves, moments, left_since, IsThen};
 ghost use Rattle.disk.specs.Record.{reads_left, counts_now, only_now};
-ghost use Rattle.disk.specs.Plan.{AsPlanned, is_due, one_less};
+ghost use Rattle.disk.specs.Plan.{AsPlanned, fails_from, fails_once, is_due};
 
-use crate::state::{Contents, Past, Range, State, start, tick};
+use crate::plan::{Plan, falters};
+use crate::state::{Contents, Past, State, start, tick};
 use crate::{Area, Disk, DiskFault};
 use ids::Refusal;
 use std::alloc::Global;
 use std::snapshot::Snapshot;
 
-/// A disk in memory. It fails where [`fail_from`](MemoryDisk::fail_from) says so, and where it is
-/// refused memory for its record.
+/// A disk in memory. It fails where [`fail_from`](MemoryDisk::fail_from) or
+/// [`fail_once`](MemoryDisk::fail_once) said so last, and where it is refused memory for its record.
 ///
 /// It keeps what it holds and, until the next sync that is Ok, what an area held at the last one
 /// and a few words for each write.
@@ -23,24 +24,8 @@ pub struct MemoryDisk {
     pub(crate) alloc: Global,
     pub(crate) state: State,
     pub(crate) past: Snapshot<Past>,
-    // How many more calls go well, where the later ones fail.
-    good: Option<u64>,
+    plan: Plan,
     pub(crate) failures: u64,
-}
-
-/// Whether this call fails.
-fn falters(good: &mut Option<u64>) -> bool
-    ensures due { result ≡ is_due good.old }
-    ensures next { good.new ≡ one_less good.old }
-{
-    match good {
-        None => false,
-        Some(0) => true,
-        Some(left) => {
-            *left -= 1;
-            false
-        }
-    }
 }
 
 /// Copies what `held` has from the offset `at` on to the front of `into`, as far as both go, and
@@ -76,30 +61,45 @@ impl MemoryDisk {
             alloc,
             state: State::new(alloc, held),
             past: start(),
-            good: None,
+            plan: Plan::Never,
             failures: 0,
         }
     }
 
     /// From now on the `k`-th read, write or sync and all later ones fail; for 0, as for 1, all do.
     pub fn fail_from(&mut self, k: u64)
-        ensures good { self.new.good ≡ Some (k - 1) }
+        ensures plan { self.new.plan ≡ fails_from k }
         ensures state { self.new.state ≡ self.old.state }
         ensures past { self.new.past ≡ self.old.past }
         ensures failures { self.new.failures ≡ self.old.failures }
     {
-        self.good = Some(k.saturating_sub(1));
+        self.plan = Plan::From {
+            good: k.saturating_sub(1),
+        };
+    }
+
+    /// The `k`-th read, write or sync from now fails, for 0 as for 1 the next, and no later one.
+    pub fn fail_once(&mut self, k: u64)
+        ensures plan { self.new.plan ≡ fails_once k }
+        ensures state { self.new.state ≡ self.old.state }
+        ensures past { self.new.past ≡ self.old.past }
+        ensures failures { self.new.failures ≡ self.old.failures }
+    {
+        self.plan = Plan::Once {
+            good: k.saturating_sub(1),
+        };
     }
 
     // Counts a failure.
-    pub(crate) fn fault(&mut self) -> DiskFault
+    pub(crate) fn fault(&mut self, fault: DiskFault) -> DiskFault
+        ensures same { result ≡ fault }
         ensures state { self.new.state ≡ self.old.state }
         ensures past { self.new.past ≡ self.old.past }
-        ensures good { self.new.good ≡ self.old.good }
+        ensures plan { self.new.plan ≡ self.old.plan }
         ensures counted { HasCause self.old.failures self.new.failures ⊤ }
     {
         self.failures = self.failures.saturating_add(1);
-        DiskFault
+        fault
     }
 
     // After it, a crash leaves what a read gives.
@@ -108,29 +108,32 @@ impl MemoryDisk {
         ensures durable { Only (areas_of self.old.state.held) (leaves self.new.state) }
         ensures crash { (c : Areas) → leaves self.new.state c → leaves self.old.state c }
         ensures time { IsThen self.old.past.value self.old.state self.new.past.value }
-        ensures good { self.new.good ≡ self.old.good }
+        ensures plan { self.new.plan ≡ self.old.plan }
         ensures failures { self.new.failures ≡ self.old.failures }
     {
         tick(&mut self.past, &self.state);
         self.state.settle(self.alloc);
     }
 
-    // One moment more is over, and a crash may leave any bytes in this range.
+    // One moment more is over, and a crash may leave any bytes in this range. Where memory for the
+    // record is refused, all is as it was.
     pub(crate) fn risk(&mut self, area: Area, at: usize, len: usize) -> Result<(), DiskFault>
         ensures held { self.new.state.held ≡ self.old.state.held }
-        ensures synced { synced self.new.state ≡ synced self.old.state }
-        ensures noted { OnOk result
-            (self.new.state.ranges.items ≡ self.old.state.ranges.items ++ range area at len ∷ []) }
         ensures crash { Follows (Changes area (Torn at len))
             (leaves self.old.state) (leaves self.new.state) }
+        ensures torn { OnOk result (Reaches (Changes area (Torn at len))
+            (leaves self.old.state) (at_risk self.new.state)) }
+        ensures refused { OnErr result
+            ((c : Areas) → leaves self.new.state c ↔ leaves self.old.state c) }
+        ensures memory { IfErr result (λ e. e ≡ DiskFault.Memory) }
         ensures time { IsThen self.old.past.value self.old.state self.new.past.value }
-        ensures good { self.new.good ≡ self.old.good }
+        ensures plan { self.new.plan ≡ self.old.plan }
         ensures cause { HasCause self.old.failures self.new.failures (IsErr result) }
     {
         tick(&mut self.past, &self.state);
-        match self.state.ranges.push(Range { area, at, len }) {
+        match self.state.note(area, at, len) {
             Ok(()) => Ok(()),
-            Err(_) => Err(self.fault()),
+            Err(_) => Err(self.fault(DiskFault::Memory)),
         }
     }
 
@@ -145,7 +148,7 @@ impl MemoryDisk {
     {
         let mut left = self.state.last_synced(self.alloc)?;
         for range in &self.state.ranges {
-            left.fill(self.alloc, *range, fill)?;
+            left.fill(self.alloc, range, fill)?;
         }
         Ok(MemoryDisk::holding(self.alloc, left))
     }
@@ -162,24 +165,23 @@ impl Disk for MemoryDisk {
 
     ghost faults = { λ d. d.failures };
 
-    /// It fails only where [`fail_from`](MemoryDisk::fail_from) says so.
+    /// It fails only where it was told so.
     fn read(&mut self, area: Area, at: usize, into: &mut [u8]) -> Result<usize, DiskFault>
         ensures bytes { IfOk result (λ n.
             Reads (part area (areas_of self.old.state.held)) at n into.old into.new) }
         ensures state { self.new.state ≡ self.old.state }
         ensures past { self.new.past ≡ self.old.past }
         ensures cause { HasCause self.old.failures self.new.failures (IsErr result) }
-        ensures plan { AsPlanned self.old.good self.new.good (IsErr result) }
-        ensures only_planned { IsErr result → IsTrue (is_due self.old.good) }
+        ensures plan { AsPlanned self.old.plan self.new.plan (IsErr result) }
+        ensures only_planned { IsErr result → IsTrue (is_due self.old.plan) }
     {
-        if falters(&mut self.good) {
-            return Err(self.fault());
+        if falters(&mut self.plan) {
+            return Err(self.fault(DiskFault::Device));
         }
         Ok(copy_out(self.state.held.part(area), at, into))
     }
 
-    /// Where it fails, a read gives what it gave before. The range counts as written since the last
-    /// sync, unless memory for the record was refused.
+    /// Where it fails, a read gives what it gave before.
     fn write_at(&mut self, area: Area, at: usize, bytes: &[u8]) -> Result<(), DiskFault>
         requires { at ≤ length (part area (areas_of self.old.state.held)) }
 
@@ -190,40 +192,49 @@ impl Disk for MemoryDisk {
         ensures kept { OnErr result (self.new.state.held ≡ self.old.state.held) }
         ensures crash { Follows (Changes area (Torn at (length bytes.now)))
             (leaves self.old.state) (leaves self.new.state) }
+        ensures torn { OnOk result (Reaches (Changes area (Torn at (length bytes.now)))
+            (leaves self.old.state) (leaves self.new.state)) }
+        ensures torn_too { IsErrOf result DiskFault.Device →
+            Reaches (Changes area (Torn at (length bytes.now)))
+            (leaves self.old.state) (leaves self.new.state) }
+        ensures refused { IsErrOf result DiskFault.Memory →
+            (areas_of self.new.state.held ≡ areas_of self.old.state.held)
+            × ((c : Areas) → leaves self.new.state c ↔ leaves self.old.state c) }
         ensures time { Elapses (moments self.old.past.value) (moments self.new.past.value)
             (left_since self.old.past.value self.old.state)
             (left_since self.new.past.value self.new.state) (leaves self.new.state) }
         ensures cause { HasCause self.old.failures self.new.failures (IsErr result) }
-        ensures plan { AsPlanned self.old.good self.new.good (IsErr result) }
+        ensures plan { AsPlanned self.old.plan self.new.plan (IsErr result) }
     {
-        if falters(&mut self.good) {
+        if falters(&mut self.plan) {
             self.risk(area, at, bytes.len())?;
-            return Err(self.fault());
+            return Err(self.fault(DiskFault::Device));
         }
         let next = match self.state.prepared(self.alloc, area, at, bytes) {
             Ok(next) => next,
-            Err(_) => return Err(self.fault()),
+            Err(_) => return Err(self.fault(DiskFault::Memory)),
         };
         self.risk(area, at, bytes.len())?;
         self.state.set(area, next);
         Ok(())
     }
 
-    /// It fails only where [`fail_from`](MemoryDisk::fail_from) says so.
+    /// It fails only where it was told so.
     fn sync(&mut self) -> Result<(), DiskFault>
         ensures durable { OnOk result
             (Only (areas_of self.old.state.held) (leaves self.new.state)) }
         ensures seen { areas_of self.new.state.held ≡ areas_of self.old.state.held }
         ensures crash { (c : Areas) → leaves self.new.state c → leaves self.old.state c }
+        ensures kept { OnErr result ((c : Areas) → leaves self.old.state c → leaves self.new.state c) }
         ensures time { Elapses (moments self.old.past.value) (moments self.new.past.value)
             (left_since self.old.past.value self.old.state)
             (left_since self.new.past.value self.new.state) (leaves self.new.state) }
         ensures cause { HasCause self.old.failures self.new.failures (IsErr result) }
-        ensures plan { AsPlanned self.old.good self.new.good (IsErr result) }
-        ensures only_planned { IsErr result → IsTrue (is_due self.old.good) }
+        ensures plan { AsPlanned self.old.plan self.new.plan (IsErr result) }
+        ensures only_planned { IsErr result → IsTrue (is_due self.old.plan) }
     {
-        if falters(&mut self.good) {
-            return Err(self.fault());
+        if falters(&mut self.plan) {
+            return Err(self.fault(DiskFault::Device));
         }
         self.settle();
         Ok(())

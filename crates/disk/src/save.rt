@@ -7,7 +7,7 @@ ghost use Rattle.ids.specs.declared.limits.TheConstants.{GREATEST_IMAGE};
 ghost use Rattle.disk.specs.Areas.{Areas, Changes, Holds, Torn, part};
 ghost use Rattle.disk.specs.Crashes.{HasCause, LeavesOnly, Only, Unmoved};
 ghost use Rattle.disk.specs.Shelf.{IsSettled, NoneOrNew, OldOrNew, half as half_of, opened};
-ghost use Rattle.disk.specs.Shelf.{record_of, recorded, side};
+ghost use Rattle.disk.specs.Shelf.{record_of, recorded, side, TellsLength};
 
 use crate::{Area, Disk, DiskFault};
 use ids::{GREATEST_IMAGE, Refusal};
@@ -131,10 +131,12 @@ pub(crate) fn swap<D: Disk>(
     put(disk, Area::Select, &[choice])
 }
 
-/// Reads the image that an area holds. Refused BadImage where there is none.
+/// Reads the image that an area holds. Refused BadImage where there is none, and Memory where the
+/// area tells more than there is memory for.
 pub(crate) fn load<D: Disk>(alloc: Global, disk: &mut D, area: Area) -> Result<Vec<u8>, Refusal>
     ensures image { IfOk result (λ v. recorded (part area (D.seen disk.old)) ≡ Some v.items) }
     ensures none { IsErrOf result Refusal.BadImage → recorded (part area (D.seen disk.old)) ≡ None }
+    ensures memory { IsErrOf result Refusal.Memory → TellsLength (part area (D.seen disk.old)) }
     ensures quiet { Unmoved D.seen D.may_leave D.moment D.left_since disk.old disk.new }
     ensures cause { HasCause (D.faults disk.old) (D.faults disk.new) (IsErrOf result Refusal.Disk) }
     ensures others { IfErr result (λ e. (e ≡ Refusal.Memory)

@@ -1,12 +1,13 @@
 // A place where one value is saved over and over, so that a crash leaves the old one or the new
 // one.
-ghost use Rattle.std.specs.Prelude.{◌≡◌, ◌-◌, ◌≢◌, ◌⊎◌, ◌↔◌, ◌<◌, ◌≤◌, List, ℕ, [], length};
+ghost use Rattle.std.specs.Prelude.{◌≡◌, ◌≢◌, ◌⊎◌, ◌↔◌, ◌<◌, ◌≤◌, List, ℕ, [], length};
 ghost use Rattle.std.specs.Prelude.{IfErr, IfOk, IsErr, IsErrOf, IsTrue, MatchResult, OnErr, OnOk};
 ghost use Rattle.std.specs.Prelude.{Some, true, false};
 ghost use Rattle.ids.specs.declared.limits.TheConstants.{GREATEST_IMAGE};
 ghost use Rattle.disk.specs.Areas.{Areas};
 ghost use Rattle.disk.specs.Crashes.{Grew, HasCause, LeavesOnly, Only, Unmoved};
-ghost use Rattle.disk.specs.Shelf.{IsReadAs, IsSettled, NoneOrNew, OldOrNew, opened, side};
+ghost use Rattle.disk.specs.Shelf.{IsReadAs, IsSettled, NoneOrNew, OldOrNew, SelectsLength};
+ghost use Rattle.disk.specs.Shelf.{opened, side};
 
 use crate::save::{chosen, half, lay, load, record, swap};
 use crate::{Disk, DiskFault, MemoryDisk, Persist};
@@ -21,9 +22,9 @@ use std::alloc::Global;
 #[derive(Drop)]
 pub struct Shelf<D: Disk> {
     alloc: Global,
-    pub disk: D,
-    /// Which area is selected, while the shelf is open.
-    pub in_b: bool,
+    disk: D,
+    // Which area is selected, while the shelf is open.
+    in_b: bool,
     /// Whether the shelf is open.
     pub ready: bool,
     pub ghost settled: { IsTrue ready → IsSettled D.seen D.may_leave disk in_b },
@@ -60,6 +61,7 @@ fn recall<D: Disk, N: Persist + Drop>(alloc: Global, disk: &mut D) -> Result<(bo
     ensures durable { OnOk result (Only (D.seen disk.new) (D.may_leave disk.new)) }
     ensures bad { IfErr result (λ e. e ≡ Refusal.BadImage →
         (value : N) → IsReadAs N.reads (opened (D.seen disk.old)) value → ⊥) }
+    ensures memory { IfErr result (λ e. e ≡ Refusal.Memory → SelectsLength (D.seen disk.old)) }
     ensures quiet { Unmoved D.seen D.may_leave D.moment D.left_since disk.old disk.new }
     ensures cause { HasCause (D.faults disk.old) (D.faults disk.new) (IsErrOf result Refusal.Disk) }
     ensures others { IfErr result (λ e. (e ≡ Refusal.Memory)
@@ -125,8 +127,9 @@ impl<D: Disk> Shelf<D> {
     /// Syncs a disk and gives the value that it holds, with a shelf that is open. After Ok a crash
     /// leaves that value.
     ///
-    /// Refused Disk where the device failed, BadImage where the disk holds no value, Memory; the
-    /// disk is then given up.
+    /// Refused Disk where the device failed, BadImage where the disk holds no value, Memory where
+    /// it tells the length of an image and there is no memory for that or for the value; the disk
+    /// is then given up.
     pub fn open<N: Persist + Drop>(alloc: Global, mut disk: D) -> Result<(Shelf<D>, N), Refusal>
     where
         D: Drop,
@@ -135,8 +138,15 @@ impl<D: Disk> Shelf<D> {
         ensures ready { IfOk result (λ r. r.0.ready ≡ true) }
         ensures bad { IfErr result (λ e. e ≡ Refusal.BadImage →
             (value : N) → IsReadAs N.reads (opened (D.seen disk)) value → ⊥) }
+        ensures memory { IfErr result (λ e. e ≡ Refusal.Memory → SelectsLength (D.seen disk)) }
         ensures quiet { IfOk result (λ r.
             Unmoved D.seen D.may_leave D.moment D.left_since disk r.0.disk) }
+        ensures fine { IfOk result (λ r. D.faults r.0.disk ≡ D.faults disk) }
+
+        // The disk as it was when it was given up.
+        ensures given_up { IfErr result (λ e. (d : D)
+            × Unmoved D.seen D.may_leave D.moment D.left_since disk d
+            × HasCause (D.faults disk) (D.faults d) (e ≡ Refusal.Disk)) }
         ensures others { IfErr result (λ e. (e ≡ Refusal.Memory)
             ⊎ ((e ≡ Refusal.BadImage) ⊎ (e ≡ Refusal.Disk))) }
     {
@@ -153,13 +163,16 @@ impl<D: Disk> Shelf<D> {
     /// Opens the shelf again by its own disk: syncs it and gives the value that it holds. After Ok
     /// the shelf is open, and a crash leaves that value.
     ///
-    /// Refused as [`open`](Shelf::open); the shelf is then closed.
+    /// Refused as [`open`](Shelf::open); the shelf is then closed, and its disk holds what it held,
+    /// also after a crash.
     pub fn reopen<N: Persist + Drop>(&mut self) -> Result<N, Refusal>
         ensures opened { IfOk result (λ v. IsReadAs N.reads (opened (D.seen self.old.disk)) v) }
         ensures ready { OnOk result (self.new.ready ≡ true) }
         ensures shut { IsErr result → self.new.ready ≡ false }
         ensures bad { IfErr result (λ e. e ≡ Refusal.BadImage →
             (value : N) → IsReadAs N.reads (opened (D.seen self.old.disk)) value → ⊥) }
+        ensures memory { IfErr result (λ e.
+            e ≡ Refusal.Memory → SelectsLength (D.seen self.old.disk)) }
         ensures quiet { Unmoved D.seen D.may_leave D.moment D.left_since
             self.old.disk self.new.disk }
         ensures disk { IsErrOf result Refusal.Disk →
@@ -213,17 +226,29 @@ impl<D: Disk> Shelf<D> {
 
 impl Shelf<MemoryDisk> {
     ghost use Rattle.disk.specs.Memory.{held_by, left_by, filled_by_crash, IsFaultless};
+    ghost use Rattle.disk.specs.Plan.{fails_from, fails_once};
 
     /// From now on the `k`-th call of the disk and all later ones fail, as
     /// [`MemoryDisk::fail_from`] says.
     pub fn fail_from(&mut self, k: u64)
-        ensures good { self.new.disk.good ≡ Some (k - 1) }
+        ensures plan { self.new.disk.plan ≡ fails_from k }
         ensures state { self.new.disk.state ≡ self.old.disk.state }
         ensures past { self.new.disk.past ≡ self.old.disk.past }
         ensures failures { self.new.disk.failures ≡ self.old.disk.failures }
         ensures ready { self.new.ready ≡ self.old.ready }
     {
         self.disk.fail_from(k);
+    }
+
+    /// The `k`-th call of the disk from now fails, as [`MemoryDisk::fail_once`] says.
+    pub fn fail_once(&mut self, k: u64)
+        ensures plan { self.new.disk.plan ≡ fails_once k }
+        ensures state { self.new.disk.state ≡ self.old.disk.state }
+        ensures past { self.new.disk.past ≡ self.old.disk.past }
+        ensures failures { self.new.disk.failures ≡ self.old.disk.failures }
+        ensures ready { self.new.ready ≡ self.old.ready }
+    {
+        self.disk.fail_once(k);
     }
 
     /// The disk that a crash now leaves, as [`MemoryDisk::after_crash`] says.

@@ -1,7 +1,7 @@
 // What a disk in memory keeps of itself: its state, and for proofs the states that it had.
-ghost use Rattle.std.specs.Prelude.{◌≡◌, ◌≤◌, ◌++◌, [], ◌∷◌, length, IfOk, OnOk, OnErr, IfErr};
-ghost use Rattle.std.specs.Prelude.{None};
-ghost use Rattle.disk.specs.Areas.{part, with_part, pasted};
+ghost use Rattle.std.specs.Prelude.{◌≡◌, ◌≤◌, ◌↔◌, [], length, IfOk, OnOk, OnErr};
+ghost use Rattle.disk.specs.Areas.{Areas, Changes, Torn, part, with_part, pasted};
+ghost use Rattle.disk.specs.Crashes.{Follows, Reaches};
 ghost use Rattle.disk.specs.Record.{kept_or, moments, IsThen};
 
 use crate::Area;
@@ -18,11 +18,13 @@ pub struct Contents {
 }
 
 /// Bytes of one area that may be anything after a crash.
-#[derive(Clone, Copy)]
+#[derive(Drop)]
 pub struct Range {
     pub(crate) area: Area,
     pub(crate) at: usize,
     pub(crate) len: usize,
+    // What the disk held before they were written. Proofs alone read it: it has no bytes.
+    pub(crate) before: Snapshot<Contents>,
 }
 
 /// What a disk holds now, what each area held at the last sync, and the ranges that were written
@@ -73,8 +75,8 @@ impl Contents {
     }
 
     /// Makes each byte of a range this one.
-    pub(crate) fn fill(&mut self, alloc: Global, range: Range, fill: u8) -> Result<(), AllocError>
-        ensures { OnOk result (areas_of self.new ≡ filled_in fill range (areas_of self.old)) }
+    pub(crate) fn fill(&mut self, alloc: Global, range: &Range, fill: u8) -> Result<(), AllocError>
+        ensures { OnOk result (areas_of self.new ≡ filled_in fill range.now (areas_of self.old)) }
     {
         let old = self.part(range.area);
         if range.at > old.len() {
@@ -92,7 +94,7 @@ impl Contents {
 }
 
 impl State {
-    ghost use Rattle.disk.specs.Record.{areas_of, synced};
+    ghost use Rattle.disk.specs.Record.{areas_of, at_risk, leaves, synced};
 
     /// A disk that holds this, all of it synced.
     pub(crate) fn new(alloc: Global, held: Contents) -> State
@@ -134,6 +136,24 @@ impl State {
             v.items ≡ pasted at bytes.now (part area (areas_of self.now.held))) }
     {
         pasted_copy(alloc, self.held.part(area), at, bytes)
+    }
+
+    /// From now on a crash may leave any bytes in this range. A refusal leaves all as it was.
+    pub(crate) fn note(&mut self, area: Area, at: usize, len: usize) -> Result<(), AllocError>
+        ensures held { self.new.held ≡ self.old.held }
+        ensures crash { Follows (Changes area (Torn at len)) (leaves self.old) (leaves self.new) }
+        ensures torn { OnOk result
+            (Reaches (Changes area (Torn at len)) (leaves self.old) (at_risk self.new)) }
+        ensures refused { OnErr result ((c : Areas) → leaves self.new c ↔ leaves self.old c) }
+    {
+        let before = Snapshot::of(&self.held);
+        self.ranges.push(Range {
+            area,
+            at,
+            len,
+            before,
+        })?;
+        Ok(())
     }
 
     /// Puts other bytes into an area. Its bytes of the last sync stay known.

@@ -1,12 +1,11 @@
 -- What a node's readers give of its slots, of its messages and of its links is what its image says.
-use Rattle.std.proofs.Common.{◌≡◌, ◌≢◌, ℕ, zero, suc, ◌+◌, ◌-◌, ◌<◌, ◌≤◌, ◌^◌, ◌==◌, true, false}
-use Rattle.std.proofs.Common.{cond, List, [], ◌∷◌, ◌++◌, length, map, take, drop, get_or, Option}
+use Rattle.std.proofs.Common.{◌≡◌, ◌≢◌, ℕ, zero, suc, ◌+◌, ◌-◌, ◌<◌, ◌≤◌, ◌==◌, true, false}
+use Rattle.std.proofs.Common.{cond, List, [], ◌∷◌, ◌++◌, length, map, take, get_or, Option}
 use Rattle.std.proofs.Common.{Some, None, ⊎_elim, refl, sym, ap, subst, ◌∙◌, arith}
 use Rattle.std.specs.Prelude.{nat_le, slice_get}
-use Rattle.std.specs.List.{AllByRecursion, flat_map}
 use Rattle.std.proofs.Math.Seq.{take-suc}
 use Rattle.std.proofs.lemmas.Bool.{cases_eq, eq-eqb, ne_eqb, lt-leb}
-use Rattle.std.proofs.lemmas.List.{append-nil, take-append-drop, take_all}
+use Rattle.std.proofs.lemmas.List.{append-nil, take_all}
 use Rattle.std.proofs.lemmas.Option.{slice_get-get_or, get_or_from_slice_get}
 use Rattle.arena.specs.declared.Slot.TheVariants as slot
 use Rattle.heap.specs.Heap.{slot_of}
@@ -16,7 +15,6 @@ use Rattle.model.specs.References.{no_message}
 use Rattle.model.specs.View.{Link, no_link, message_of}
 use Rattle.image.specs.Links.{StoredLink, StoredSlot}
 use Rattle.image.specs.Images.{stored_slot, stored_link, stored_links, without_at}
-use Rattle.image.proofs.Sizes.{both_longer}
 
 -- ---- slots
 
@@ -124,56 +122,3 @@ others_more own k links got lt same =
     (without_other own k xs one there within
     ∙ ap (λ (x : StoredLink). without_at own (take k xs) ++ x ∷ []) at))
     (cases_eq k own)
-
-without_none : {A : Type 0} (own k : ℕ)
-    → ◌≡◌ {A = List A} (without_at own []) (without_at own (take k []) ++ [])
-without_none own zero = refl
-without_none own (suc k) = refl
-
--- the links to the first nodes come first
-without_first : {A : Type 0} (own k : ℕ) (xs : List A)
-    → (ys : List A) × (without_at own xs ≡ without_at own (take k xs) ++ ys)
-without_first own k [] = ([], without_none own k)
-without_first zero zero (x ∷ xs) = (xs, refl)
-without_first zero (suc k) (x ∷ xs) = (drop k xs, sym (take-append-drop k xs))
-without_first (suc own) zero (x ∷ xs) = (x ∷ without_at own xs, refl)
-without_first {A = A} (suc own) (suc k) (x ∷ xs) =
-    let p = without_first own k xs in
-    (p.0, ap (λ (ys : List A). x ∷ ys) p.1)
-
-pub first_shorter : {A : Type 0} (spell : A → List ℕ) (own k : ℕ) (xs : List A)
-    → length (flat_map spell (without_at own (take k xs)))
-    ≤ length (flat_map spell (without_at own xs))
-first_shorter {A = A} spell own k xs =
-    let p = without_first own k xs in
-    let all : length (flat_map spell (without_at own xs))
-    ≡ length (flat_map spell (without_at own (take k xs))) + length (flat_map spell p.0) =
-    ap (λ (ys : List A). length (flat_map spell ys)) p.1
-    ∙ both_longer spell (without_at own (take k xs)) p.0 in
-    omega (arith, all)
-
--- ---- how many messages the links keep
-
-abbrev pub IsShort : StoredLink → Type 0
-IsShort l = length l.unacknowledged < 2 ^ 32
-
-all_short : (links : List Link) (got : List ℕ) → length got ≡ length links
-    → AllByRecursion IsShort (stored_links links got) → (to : ℕ)
-    → length (get_or links to no_link).unacknowledged < 2 ^ 32
-all_short [] got same all to = omega arith
-all_short (l ∷ ls) [] same all to = absurd (omega (arith, same))
-all_short (l ∷ ls) (g ∷ gs) same all zero = all.0
-all_short (l ∷ ls) (g ∷ gs) same all (suc to) =
-    all_short ls gs (omega (arith, same)) all.1 to
-
-pub others_short : (own : ℕ) (links : List Link) (got : List ℕ) → length got ≡ length links
-    → AllByRecursion IsShort (without_at own (stored_links links got)) → (to : ℕ) → to ≢ own
-    → length (get_or links to no_link).unacknowledged < 2 ^ 32
-others_short own [] got same all to other = omega arith
-others_short own (l ∷ ls) [] same all to other = absurd (omega (arith, same))
-others_short zero (l ∷ ls) (g ∷ gs) same all zero other = absurd (other refl)
-others_short zero (l ∷ ls) (g ∷ gs) same all (suc to) other =
-    all_short ls gs (omega (arith, same)) all to
-others_short (suc own) (l ∷ ls) (g ∷ gs) same all zero other = all.0
-others_short (suc own) (l ∷ ls) (g ∷ gs) same all (suc to) other =
-    others_short own ls gs (omega (arith, same)) all.1 to (λ e. other (ap suc e))

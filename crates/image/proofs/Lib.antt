@@ -1,16 +1,12 @@
-pub mod Loops
-pub mod Combining
-pub mod Front
-pub mod Lists
-pub mod Whole
-pub mod Consuming
-pub mod Sizes
-pub mod Appending
-pub mod Kept
-pub mod Short
-pub mod Saved
-pub mod Spelled
-pub mod Images
 pub mod Conditions
-pub mod Rows
+pub mod Formats
+pub mod Images
+pub mod Joins
+pub mod Kept
+pub mod Loops
 pub mod Made
+mod Rows
+pub mod Saved
+pub mod Sizes
+pub mod Spelled
+pub mod Whole

@@ -1,9 +1,8 @@
 -- Reading values one after another, as a loop does.
-use Rattle.std.proofs.Common.{◌≡◌, ℕ, zero, suc, length, ◌-◌, ◌+◌, ◌≤◌, ◌<◌, List, [], ◌∷◌, ◌++◌}
+use Rattle.std.proofs.Common.{◌≡◌, ℕ, suc, length, ◌-◌, ◌+◌, ◌≤◌, ◌<◌, List, [], ◌∷◌, ◌++◌}
 use Rattle.std.proofs.Common.{Option, Some, None, refl, sym, ap, ◌∙◌, append_assoc, arith}
 use Rattle.std.proofs.lemmas.List.{append-nil, length-append}
-use Rattle.msg.specs.Reading.{Reader, ◌>>=◌}
-use Rattle.image.specs.Reading.{many_at, AreBytes, Consumes}
+use Rattle.codec.specs.Formats.{Reader, ◌>>=◌, each_at}
 
 -- what was read before, and what is still read
 abbrev pub with_front : {A : Type 0} → List A → Option (List A × List ℕ)
@@ -17,29 +16,26 @@ regroup front a None = refl
 
 module _ {A : Type 0} (read : Reader A) (front : List A) (count i : ℕ) (bytes : List ℕ)
     (total : Option (List A × List ℕ))
-    (so_far : with_front front (many_at read (count - i) bytes) ≡ total) where
+    (so_far : with_front front (each_at read (count - i) bytes) ≡ total) where
   pub goes_on : (a : A) (after : List ℕ) → i < count → read bytes ≡ Some (a, after)
-      → with_front (front ++ a ∷ []) (many_at read (count - (i + 1)) after) ≡ total
-  unfolding many_at
+      → with_front (front ++ a ∷ []) (each_at read (count - (i + 1)) after) ≡ total
   goes_on a after lt h =
       let k : count - i ≡ suc (count - (i + 1)) = omega arith in
-      let one : with_front front (many_at read (count - i) bytes)
-      ≡ with_front (front ++ a ∷ []) (many_at read (count - (i + 1)) after) =
-      rw (k, h) (regroup front a (many_at read (count - (i + 1)) after)) in
+      let one : with_front front (each_at read (count - i) bytes)
+      ≡ with_front (front ++ a ∷ []) (each_at read (count - (i + 1)) after) =
+      rw (k, h) (regroup front a (each_at read (count - (i + 1)) after)) in
       sym one ∙ so_far
 
   pub ends : i < count → read bytes ≡ None → total ≡ None
-  unfolding many_at
   ends lt h =
       let k : count - i ≡ suc (count - (i + 1)) = omega arith in
-      let one : with_front front (many_at read (count - i) bytes) ≡ None = rw (k, h) refl in
+      let one : with_front front (each_at read (count - i) bytes) ≡ None = rw (k, h) refl in
       sym so_far ∙ one
 
   pub is_done : count ≤ i → total ≡ Some (front, bytes)
-  unfolding many_at
   is_done le =
       let k : count - i ≡ 0 = omega arith in
-      let one : with_front front (many_at read (count - i) bytes) ≡ Some (front, bytes) =
+      let one : with_front front (each_at read (count - i) bytes) ≡ Some (front, bytes) =
       rw k (ap (λ (xs : List A). Some (xs, bytes)) (append-nil front)) in
       sym so_far ∙ one
 
@@ -48,18 +44,3 @@ pub one_more : {A : Type 0} (xs ys : List A) (a : A) (k : ℕ) → ys ≡ xs ++ 
 one_more xs ys a k e len =
     let more : length ys ≡ length xs + 1 = ap length e ∙ length-append xs (a ∷ []) in
     omega (arith, more, len)
-
--- more values than bytes can't be read
-pub too_few : {A : Type 0} (read : Reader A) → Consumes read → (n : ℕ) (bytes : List ℕ)
-    → AreBytes bytes → length bytes < n → many_at read n bytes ≡ None
-unfolding many_at
-too_few read takes zero bytes fits lt = absurd (omega (arith, lt))
-too_few {A = A} read takes (suc n) bytes fits lt =
-    after (read bytes) refl (λ x e.
-    let t = takes bytes x fits e in
-    too_few read takes n x.1 t.1 (omega (arith, t.0, lt))) where
-      after : (o : Option (A × List ℕ)) → read bytes ≡ o
-          → ((x : A × List ℕ) → read bytes ≡ Some x → many_at read n x.1 ≡ None)
-          → many_at read (suc n) bytes ≡ None
-      after None e rest = rw e refl
-      after (Some x) e rest = let r = rest x e in rw (e, r) refl

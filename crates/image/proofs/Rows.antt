@@ -8,7 +8,12 @@ use Rattle.msg.specs.declared.body.Colour.TheVariants.{White}
 use Rattle.model.specs.State.{register_at, new_local}
 use Rattle.model.specs.References.{IfAny, IsWithin}
 use Rattle.model.specs.View.{new_view}
-use Rattle.image.specs.Grammar.{Stored, spelling}
+use Rattle.codec.specs.Formats.{number2, number4, number8, signed8}
+use Rattle.msg.specs.Formats.{colour, token, optional}
+use Rattle.image.specs.Grammar.{Stored, spelling, start_format, nodes_format, head_format}
+use Rattle.image.specs.Grammar.{phases_format, held_format, ring_format, link_format, front_format}
+use Rattle.image.specs.Grammar.{told_format, slots_format, others_format, lists_format}
+use Rattle.image.specs.Grammar.{image_format}
 use Rattle.image.specs.Nodes.{node_of}
 use Rattle.image.specs.Conditions.{IsSaved}
 
@@ -37,7 +42,7 @@ is_new = refl
 
 is_spelled : spelling says
     ≡ (0x4D ∷ 0x52 ∷ 1 ∷ 2 ∷ 1 ∷ 0 ∷ 1 ∷ 0 ∷ 0 ∷ 0 ∷ 2 ∷ []) ++ replicate 87 0
-unfolding says
+unfolding says spelling image_format front_format head_format start_format nodes_format phases_format ring_format held_format lists_format told_format slots_format others_format link_format number2 number4 number8 signed8 colour token optional
 is_spelled = refl
 
 no_register : (k : ℕ) → IfAny (IsWithin shape) (register_at (new_local shape 1).heap k)

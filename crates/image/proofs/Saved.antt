@@ -4,7 +4,11 @@ use Rattle.std.proofs.Common.{◌≡◌, ◌≢◌, ℕ, zero, suc, ◌-◌, ◌
 use Rattle.std.proofs.Common.{true, false, cond, List, [], ◌∷◌, length, map, drop, replicate}
 use Rattle.std.proofs.Common.{get_or, Option, Some, None, ⊎_elim, refl, sym, ap, ◌∙◌}
 use Rattle.std.proofs.Common.{arith}
-use Rattle.std.specs.Prelude.{nat_lt, nat_le, option_to_list, IsTrue, Result, Ok, Err, OnOk}
+use Rattle.std.specs.Prelude.{nat_lt, nat_le, option_to_list, IsTrue, Result, Ok, Err, OnOk, IfOk, IfErr}
+use Rattle.std.proofs.Common.{◌⊎◌, inl, inr}
+use Rattle.ids.specs.declared.refusal.Refusal.{Refusal}
+use Rattle.ids.specs.declared.refusal.Refusal.TheVariants.{Memory, ImageTooLarge}
+use Rattle.msg.specs.declared.body.Token.{Token}
 use Rattle.std.specs.List.{AllByRecursion}
 use Rattle.std.proofs.lemmas.Bool.{and_from, cases_eq, eq-eqb, ne_eqb, lt-ltb, le-leb}
 use Rattle.ids.specs.Limits.{Shaped, IsShape, reference_fits}
@@ -22,22 +26,23 @@ use Rattle.model.specs.WellFormed.{IsSlotOf, AreReports}
 use Rattle.msg.specs.declared.body.Body.{Body}
 use Rattle.msg.specs.declared.body.Body.TheVariants as body
 use Rattle.msg.specs.declared.body.Message.{Message}
-use Rattle.msg.specs.Grammar.{IsReferenceOfWidth}
 use Rattle.msg.specs.Limits.{optional_fits, place_fits, body_fits}
 use Rattle.node.specs.Invariant.{IsNode}
 use Rattle.node.proofs.Restorable.{standing}
 use Rattle.node.specs.Parts.{IsRestorable}
-use Rattle.image.specs.Grammar.{Stored, Fits, IsOptional, IsReference, IsSlot, IsLetter, IsMessage}
-use Rattle.image.specs.Grammar.{IsStoredLink}
+use Rattle.msg.proofs.Written.{any_colour, any_token, any_reference, any_optional, any_body}
+use Rattle.codec.specs.Formats.{number2, number4, number8, signed8}
+use Rattle.image.specs.Grammar.{Stored, Fits, near, near_optional, letter_format, slot_format}
+use Rattle.image.specs.Grammar.{object_format, places_format, width_format, message_format}
+use Rattle.image.specs.Grammar.{link_format, held_format, start_format, nodes_format, head_format}
+use Rattle.image.specs.Grammar.{phases_format, ring_format, front_format, told_format}
+use Rattle.image.specs.Grammar.{slots_format, others_format, lists_format, image_format, front_of}
+use Rattle.image.specs.Grammar.{told_of, slots_of, others_of}
 use Rattle.image.specs.Images.{stored_slot, stored_link, stored_links, without_at, stored_by}
 use Rattle.image.specs.Images.{image_of}
 use Rattle.image.specs.Nodes.{link_of, received_of, with_at, node_of}
 use Rattle.image.specs.Nodes.{IsImageOf}
-use Rattle.image.specs.Widths.{IsOptionalOfWidth, IsSlotOfWidth, IsLetterOfWidth, IsMessageOfWidth}
-use Rattle.image.specs.Widths.{IsLinkOfWidth, IsStoredOfWidth, AreShort, IsFrontOfWidth}
-use Rattle.image.specs.Widths.{AreToldOfWidth, AreSlotsOfWidth, AreOthersOfWidth}
-use Rattle.image.proofs.Kept.{IsShort, count_stored}
-use Rattle.image.proofs.Short.{short}
+use Rattle.image.proofs.Kept.{count_stored}
 
 -- ---- within the limits
 
@@ -52,34 +57,27 @@ module _ (shape : Shaped) (sizes : IsShape shape) where
       (and_from (nat_lt r.slot GREATEST_SLOTS) (nat_le 1 r.generation)
       (lt-ltb r.slot GREATEST_SLOTS few_slots) (le-leb 1 r.generation is.generation))
 
-  optional : (o : Option Ref) → IsOptionalOfWidth o → IfAny (IsWithin shape) o → IsOptional o
-  optional None width is = record { width = tt; limits = refl }
-  optional (Some r) width is = record { width = width; limits = reference r is }
+  optional : (o : Option Ref) → IfAny (IsWithin shape) o → near_optional.IsWithin o
+  optional None is = (any_optional None, refl)
+  optional (Some r) is = (any_optional (Some r), reference r is)
 
-  optionals : (os : List (Option Ref)) → AllByRecursion IsOptionalOfWidth os
-      → ((k : ℕ) → IfAny (IsWithin shape) (get_or os k None)) → AllByRecursion IsOptional os
-  optionals [] width is = tt
-  optionals (o ∷ os) width is =
-      (optional o width.0 (is 0), optionals os width.1 (λ k. is (suc k)))
+  optionals : (os : List (Option Ref)) → ((k : ℕ) → IfAny (IsWithin shape) (get_or os k None))
+      → AllByRecursion near_optional.IsWithin os
+  optionals [] is = tt
+  optionals (o ∷ os) is = (optional o (is 0), optionals os (λ k. is (suc k)))
 
-  references : (rs : List Ref) → AllByRecursion IsReferenceOfWidth rs
-      → AllByRecursion (IsWithin shape) rs → AllByRecursion IsReference rs
-  references [] width is = tt
-  references (r ∷ rs) width is =
-      (record { width = width.0; limits = reference r is.0 }, references rs width.1 is.1)
+  references : (rs : List Ref) → AllByRecursion (IsWithin shape) rs
+      → AllByRecursion near.IsWithin rs
+  references [] is = tt
+  references (r ∷ rs) is = ((any_reference r, reference r is.0), references rs is.1)
 
-  letters : (ls : List Letter) → AllByRecursion IsLetterOfWidth ls
+  letters : (ls : List Letter)
       → ((k : ℕ) → IfAny (IsWithin shape) (get_or ls k no_letter).reference)
-      → AllByRecursion IsLetter ls
-  letters [] width is = tt
-  letters (l ∷ ls) width is = (
-    record {
-      from = width.0.from;
-      label = width.0.label;
-      reference = optional l.reference width.0.reference (is 0);
-    },
-    letters ls width.1 (λ k. is (suc k)),
-  )
+      → AllByRecursion letter_format.IsWithin ls
+  unfolding letter_format number4
+  letters [] is = tt
+  letters (l ∷ ls) is =
+      ((tt, (tt, optional l.reference (is 0))), letters ls (λ k. is (suc k)))
 
   -- ---- slots
 
@@ -89,35 +87,34 @@ module _ (shape : Shaped) (sizes : IsShape shape) where
         (g : ℕ) (o : Object) (j : ℕ) → s ≡ Occupied g o
         → IfAny (IsWithin shape) (get_or o.places j None)
 
-    one_slot : (s : Slot) → IsSlotOfWidth (stored_slot s) → IsSlotOf cycle s → Places s
-        → IsSlot (stored_slot s)
-    one_slot (Free g) width is places = width
-    one_slot (Occupied g o) width is places = (
-      width.0,
-      record {
-        mark = width.1.mark;
-        word = width.1.word;
-        places = is.places;
-        each = optionals o.places width.1.places (λ j. places g o j refl);
-      },
+    one_slot : (s : Slot) → IsSlotOf cycle s → Places s → slot_format.IsWithin (stored_slot s)
+    unfolding slot_format object_format places_format width_format number4 number8
+    one_slot (Free g) is places = tt
+    one_slot (Occupied g o) is places = (
+      tt,
+      (
+        tt,
+        (
+          tt,
+          ((tt, le-leb _ _ is.places), (refl, optionals o.places (λ j. places g o j refl))),
+        ),
+      ),
     )
-    one_slot Retired width is places = tt
+    one_slot Retired is places = tt
 
-    each_slot : (ss : List Slot) → AllByRecursion IsSlotOfWidth (map stored_slot ss)
-        → ((k : ℕ) → IsSlotOf cycle (get_or ss k Retired))
-        → ((k : ℕ) → Places (get_or ss k Retired)) → AllByRecursion IsSlot (map stored_slot ss)
-    each_slot [] width is places = tt
-    each_slot (s ∷ ss) width is places = (
-      one_slot s width.0 (is 0) (places 0),
-      each_slot ss width.1 (λ k. is (suc k)) (λ k. places (suc k)),
-    )
+    each_slot : (ss : List Slot) → ((k : ℕ) → IsSlotOf cycle (get_or ss k Retired))
+        → ((k : ℕ) → Places (get_or ss k Retired))
+        → AllByRecursion slot_format.IsWithin (map stored_slot ss)
+    each_slot [] is places = tt
+    each_slot (s ∷ ss) is places =
+        (one_slot s (is 0) (places 0), each_slot ss (λ k. is (suc k)) (λ k. places (suc k)))
 
   -- ---- messages
 
-  any_reference : (o : Option Ref) → AllByRecursion (IsWithin shape) (option_to_list o)
+  any_near : (o : Option Ref) → AllByRecursion (IsWithin shape) (option_to_list o)
       → IsTrue (optional_fits o)
-  any_reference None is = refl
-  any_reference (Some r) is = reference r is.0
+  any_near None is = refl
+  any_near (Some r) is = reference r is.0
 
   one_place : (target : Ref) (place : ℕ) → IsWithin shape target → place < GREATEST_PLACES
       → IsTrue (place_fits target place)
@@ -130,24 +127,21 @@ module _ (shape : Shaped) (sizes : IsShape shape) where
   one_body body.Begin is placed = refl
   one_body (body.Token token) is placed = refl
   one_body (body.Mark target) is placed = reference target is.0
-  one_body (body.Give label o) is placed = any_reference o is
+  one_body (body.Give label o) is placed = any_near o is
   one_body (body.Put target place o) is placed =
       and_from (place_fits target place) (optional_fits o) (one_place target place is.0 placed)
-      (any_reference o is.1)
+      (any_near o is.1)
   one_body (body.Get target place label) is placed = one_place target place is.0 placed
   one_body body.Ended is placed = refl
   one_body body.Swept is placed = refl
 
-  messages : (xs : List Message) → AllByRecursion IsMessageOfWidth xs
-      → ((k : ℕ) → IsSendable shape (get_or xs k no_message)) → AllByRecursion IsMessage xs
-  messages [] width is = tt
-  messages (x ∷ xs) width is = (
-    record {
-      stamp = width.0.stamp;
-      width = width.0.body;
-      limits = one_body x.body (is 0).references (is 0).place;
-    },
-    messages xs width.1 (λ k. is (suc k)),
+  messages : (xs : List Message) → ((k : ℕ) → IsSendable shape (get_or xs k no_message))
+      → AllByRecursion message_format.IsWithin xs
+  unfolding message_format number8
+  messages [] is = tt
+  messages (x ∷ xs) is = (
+    (tt, (any_body x.body, one_body x.body (is 0).references (is 0).place)),
+    messages xs (λ k. is (suc k)),
   )
 
   -- ---- links
@@ -155,34 +149,41 @@ module _ (shape : Shaped) (sizes : IsShape shape) where
   abbrev Sends : Link → Type 0
   Sends l = (k : ℕ) → IsSendable shape (get_or l.unacknowledged k no_message)
 
-  one_link : (l : Link) (g : ℕ) → IsLinkOfWidth (stored_link l g) → IsShort (stored_link l g)
-      → Sends l → IsStoredLink (stored_link l g)
-  one_link l g width short is = record {
-    base = width.base;
-    unacknowledged = (short, messages l.unacknowledged width.unacknowledged is);
-    received = width.received;
-  }
+  one_link : (l : Link) (g : ℕ) → Sends l → link_format.IsWithin (stored_link l g)
+  unfolding link_format number4 number8
+  one_link l g is = (tt, ((tt, (refl, messages l.unacknowledged is)), tt))
 
-  each_link : (links : List Link) (got : List ℕ)
-      → AllByRecursion IsLinkOfWidth (stored_links links got)
-      → AllByRecursion IsShort (stored_links links got)
-      → ((i : ℕ) → Sends (get_or links i no_link))
-      → AllByRecursion IsStoredLink (stored_links links got)
-  each_link [] got width short is = tt
-  each_link (l ∷ ls) [] width short is = tt
-  each_link (l ∷ ls) (g ∷ gs) width short is =
-      (one_link l g width.0 short.0 (is 0), each_link ls gs width.1 short.1 (λ i. is (suc i)))
+  each_link : (links : List Link) (got : List ℕ) → ((i : ℕ) → Sends (get_or links i no_link))
+      → AllByRecursion link_format.IsWithin (stored_links links got)
+  each_link [] got is = tt
+  each_link (l ∷ ls) [] is = tt
+  each_link (l ∷ ls) (g ∷ gs) is = (one_link l g (is 0), each_link ls gs (λ i. is (suc i)))
 
   others : (own : ℕ) (links : List Link) (got : List ℕ)
-      → AllByRecursion IsLinkOfWidth (without_at own (stored_links links got))
-      → AllByRecursion IsShort (without_at own (stored_links links got))
       → ((i : ℕ) → Sends (get_or links i no_link))
-      → AllByRecursion IsStoredLink (without_at own (stored_links links got))
-  others own [] got width short is = tt
-  others own (l ∷ ls) [] width short is = tt
-  others zero (l ∷ ls) (g ∷ gs) width short is = each_link ls gs width short (λ i. is (suc i))
-  others (suc own) (l ∷ ls) (g ∷ gs) width short is =
-      (one_link l g width.0 short.0 (is 0), others own ls gs width.1 short.1 (λ i. is (suc i)))
+      → AllByRecursion link_format.IsWithin (without_at own (stored_links links got))
+  others own [] got is = tt
+  others own (l ∷ ls) [] is = tt
+  others zero (l ∷ ls) (g ∷ gs) is = each_link ls gs (λ i. is (suc i))
+  others (suc own) (l ∷ ls) (g ∷ gs) is =
+      (one_link l g (is 0), others own ls gs (λ i. is (suc i)))
+
+-- ---- what has no limits
+
+any_eight : (xs : List ℕ) → AllByRecursion number8.IsWithin xs
+unfolding number8
+any_eight [] = tt
+any_eight (x ∷ xs) = (tt, any_eight xs)
+
+any_four : (xs : List ℕ) → AllByRecursion number4.IsWithin xs
+unfolding number4
+any_four [] = tt
+any_four (x ∷ xs) = (tt, any_four xs)
+
+any_held : (o : Option Token) → held_format.IsWithin o
+unfolding held_format
+any_held None = tt
+any_held (Some t) = any_token t
 
 -- ---- how many
 
@@ -300,62 +301,72 @@ module _ (n : NodeView) (is : IsNode n) where
       (omega (arith, is.own)) is.phases.heard in
       rw (slots, links, got, reports) refl
 
-  fits : IsStoredOfWidth (stored_by n) → AreShort (stored_by n) → Fits (stored_by n)
-  fits width short =
-      let sizes = is.shape in
-      let shape = n.local.shape in
-      record {
-        head = record {
-          nodes = omega (arith, sizes.most_nodes);
-          own = is.own;
-          registers = omega (arith, sizes.most_registers);
-          slots = omega (arith, sizes.most_slots);
-        };
-        phases = width.front.phases;
-        ring = width.front.ring;
-        reports = (
-          told_count n.local.own shape.nodes n.local.phases.reports is.phases.reports,
-          width.told.reports,
-        );
-        registers = (
-          is.stocked.registers,
-          optionals shape sizes n.local.heap.registers width.told.registers is.references.registers,
-        );
-        slots = (
-          short.slots,
-          each_slot shape sizes n.local.phases.cycle n.local.heap.slots width.slots.slots
-              is.stocked.slots (λ k g o j. is.references.places k g o j),
-        );
-        free = (short.free, width.slots.free);
-        grey = (short.grey, width.slots.grey);
-        asked = (
-          short.asked,
-          references shape sizes n.local.asked width.others.asked is.asked.within,
-        );
-        letters = (
-          short.letters,
-          letters shape sizes n.local.heap.letters width.others.letters is.references.letters,
-        );
-        links = (
-          length_without n.local.own (stored_links n.links n.local.got)
-              (omega (arith, own_inside, count_stored n.links n.local.got same_width))
-              ∙ omega (arith, count_stored n.links n.local.got same_width, is.links.width),
-          others shape sizes n.local.own n.links n.local.got width.others.links short.links
-              (λ i k. is.links.messages i k),
-        );
-      }
+  sized : front_format.IsWithin (front_of (stored_by n))
+  unfolding front_format head_format start_format nodes_format phases_format ring_format number2 number4 number8 signed8
+  sized = (
+    (((tt, (tt, tt)), refl), (((tt, tt), lt-ltb _ _ is.own), (tt, tt))),
+    ((tt, (tt, (tt, tt))), (any_colour n.local.ring.colour, (tt, (tt, any_held n.local.ring.token)))),
+  )
 
-  is_image_of : IsSlotted n.local.heap n.local.shape.slots → IsRestorable (kept_view n)
-      → IsStoredOfWidth (stored_by n) → length (image_of n) ≤ GREATEST_IMAGE
-      → IsImageOf (image_of n) (kept_view n)
-  is_image_of slots restorable width within = record {
+  listed : (lists_format (front_of (stored_by n))).IsWithin
+      (told_of (stored_by n), (slots_of (stored_by n), others_of (stored_by n)))
+  unfolding lists_format told_format slots_format others_format number4
+  listed =
+      let sizes = is.shape in
+      let p = n.local in
+      let heap = p.heap in
+      let count = count_stored n.links p.got same_width in (
+        (
+          (
+            told_count p.own p.shape.nodes p.phases.reports is.phases.reports,
+            any_eight (stored_by n).reports,
+          ),
+          (
+            is.stocked.registers,
+            optionals p.shape sizes heap.registers is.references.registers,
+          ),
+        ),
+        (
+          (
+            (
+              tt,
+              (
+                refl,
+                each_slot p.shape sizes p.phases.cycle heap.slots is.stocked.slots
+                    (λ k g o j. is.references.places k g o j),
+              ),
+            ),
+            ((tt, (refl, any_four heap.free)), (tt, (refl, any_four heap.grey))),
+          ),
+          (
+            (tt, (refl, references p.shape sizes p.asked is.asked.within)),
+            (
+              (tt, (refl, letters p.shape sizes heap.letters is.references.letters)),
+              (
+                length_without p.own (stored_links n.links p.got) (omega (arith, own_inside, count))
+                    ∙ omega (arith, count, is.links.width),
+                others p.shape sizes p.own n.links p.got (λ i k. is.links.messages i k),
+              ),
+            ),
+          ),
+        ),
+      )
+
+  fits : image_format.IsWide (stored_by n) → Fits (stored_by n)
+  unfolding image_format
+  fits wide = record { wide = wide; within = (sized, listed) }
+
+  -- what was written within the limit
+  pub is_saved : {V : Type 0} (items : V → List ℕ) (r : Result V Refusal) (is_open : Type 0)
+      → (limit : ℕ) → limit ≡ GREATEST_IMAGE
+      → IsSlotted n.local.heap n.local.shape.slots → IsRestorable (kept_view n) → OnOk r is_open
+      → (is_open → image_format.IsWide (stored_by n))
+      → IfOk r (λ v. (items v ≡ image_of n) × (length (image_of n) ≤ limit))
+      → OnOk r (IsImageOf (image_of n) (kept_view n))
+  is_saved items (Ok v) is_open limit all slots restorable opened wide same = record {
     spelled = record {
       says = stored_by n;
-      image = record {
-        fits = fits width (short (stored_by n) within);
-        spelled = refl;
-        within = within;
-      };
+      image = record { fits = fits (wide opened); spelled = refl; within = omega (arith, same.1, all) };
       node = node_again;
     };
     stands = record {
@@ -363,14 +374,34 @@ module _ (n : NodeView) (is : IsNode n) where
       slots = slots;
     };
   }
+  is_saved items (Err e) is_open limit all slots restorable opened wide same = tt
 
-  -- what was written last, where that succeeded
-  pub is_saved : IsSlotted n.local.heap n.local.shape.slots → IsRestorable (kept_view n)
-      → {Y E : Type 0} (r : Result Y E) → IsFrontOfWidth (stored_by n)
-      → AreToldOfWidth (stored_by n) → AreSlotsOfWidth (stored_by n)
-      → OnOk r (AreOthersOfWidth (stored_by n)) → length (image_of n) ≤ GREATEST_IMAGE
-      → OnOk r (IsImageOf (image_of n) (kept_view n))
-  is_saved slots restorable (Ok y) front told lists others within =
-      is_image_of slots restorable
-      (record { front = front; told = told; slots = lists; others = others }) within
-  is_saved slots restorable (Err e) front told lists others within = tt
+-- what a writer that was given the image gives
+module _ (n : NodeView) {V : Type 0} (items : V → List ℕ) where
+  pub is_written : (r : Result V Refusal) (limit : ℕ)
+      → IfOk r (λ v. (items v ≡ image_of n) × (length (image_of n) ≤ limit))
+      → IfOk r (λ v. items v ≡ image_of n)
+  is_written (Ok v) limit same = same.0
+  is_written (Err e) limit same = tt
+
+  abbrev IsRefused : ℕ → Refusal → Type 0
+  IsRefused limit e =
+      ((e ≡ Memory) × (length (image_of n) ≤ limit))
+      ⊎ ((e ≡ ImageTooLarge) × (limit < length (image_of n)))
+
+  pub is_too_large : (r : Result V Refusal) (limit : ℕ) → limit ≡ GREATEST_IMAGE
+      → IfErr r (IsRefused limit)
+      → IfErr r (λ e. e ≢ Memory
+      → (e ≡ ImageTooLarge) × (GREATEST_IMAGE < length (image_of n)))
+  is_too_large (Ok v) limit same refused = tt
+  is_too_large (Err e) limit same (inl memory) = λ other. absurd (other memory.0)
+  is_too_large (Err e) limit same (inr large) = λ other. (large.0, omega (arith, same, large.1))
+
+  pub is_last : (r : Result V Refusal) (limit : ℕ) → limit ≡ GREATEST_IMAGE
+      → IfErr r (IsRefused limit)
+      → IfErr r (λ e. e ≡ Memory → length (image_of n) ≤ GREATEST_IMAGE)
+  is_last (Ok v) limit same refused = tt
+  is_last (Err e) limit same (inl memory) = λ _. omega (arith, same, memory.1)
+  is_last (Err e) limit same (inr large) = λ memory.
+      let both : ◌≡◌ {A = Refusal} ImageTooLarge Memory = sym large.0 ∙ memory in
+      absurd cc

@@ -10,7 +10,7 @@ use Rattle.image.specs.Grammar.{Stored, Fits, spelling, reports_told}
 use Rattle.heap.specs.Heap.{slot_of}
 use Rattle.image.specs.Nodes.{link_of, received_of, with_at, reports_of, got_of, node_of, Spells}
 use Rattle.image.specs.Images.{stored_slot, stored_links, without_at, stored_by}
-use Rattle.image.proofs.Whole.{no_spelling_begins_another}
+use Rattle.image.proofs.Whole.{no_spelling_begins_another, reports_count}
 
 -- ---- what a node's image says
 
@@ -59,7 +59,7 @@ says_back s fits =
     (map stored_slot (map slot_of s.slots))
     (without_at s.head.own (stored_links (with_at s.head.own no_link (map link_of s.links))
     (got_of s)))
-    (reports_back s.head s.reports fits.reports.0) (slots_back s.slots)
+    (reports_back s.head s.reports (reports_count s fits)) (slots_back s.slots)
     (links_back s.head.own s.links)
 
 -- ---- the laws

@@ -1,16 +1,17 @@
 -- What an image says, and its one spelling.
-use Rattle.std.specs.Prelude.{ℕ, ℤ, ◌-◌, ◌<◌, ◌≤◌, ◌^◌, ◌≡◌, ◌==◌, if◌then◌else◌, List, [], ◌∷◌}
-use Rattle.std.specs.Prelude.{◌++◌, length, Option, Some, None, IfSome, IsTrue, ⊤}
-use Rattle.std.specs.List.{flat_map, AllByRecursion}
-use Rattle.std.specs.Int.{w16, w32, w64, to_be_bytes}
-use Rattle.std.specs.Int.RustNames.{FitsSigned}
+use Rattle.std.specs.Prelude.{ℕ, ◌-◌, ◌≤◌, ◌≡◌, ◌==◌, ◌&&◌, if◌then◌else◌, List, [], ◌∷◌, length}
+use Rattle.std.specs.Prelude.{Bool, Option, nat_lt, nat_le}
 use Rattle.ids.specs.Limits.{reference_fits}
 use Rattle.ids.specs.declared.names.Ref.{Ref}
 use Rattle.ids.specs.declared.limits.TheConstants.{GREATEST_IMAGE, GREATEST_PLACES}
+use Rattle.codec.specs.Formats as codec
+use Rattle.codec.specs.Formats.{Format, Reader, Behind, byte, number2, number4, number8, signed8}
+use Rattle.codec.specs.Formats.{nothing, mapped, joined, ◌&◌, kept, tag, tagged, made_at, option}
+use Rattle.codec.specs.Formats.{many, counted}
+use Rattle.msg.specs.declared.body.Body.{Body}
 use Rattle.msg.specs.declared.body.Message.{Message}
 use Rattle.msg.specs.declared.body.Token.{Token}
-use Rattle.msg.specs.Grammar.{reference_bytes, optional_bytes, colour_byte, signed_bytes}
-use Rattle.msg.specs.Grammar.{token_bytes, body_bytes, IsReferenceOfWidth, IsOfWidth}
+use Rattle.msg.specs.Formats.{reference, optional, colour, token, body_format}
 use Rattle.msg.specs.Limits.{optional_fits, body_fits}
 use Rattle.model.specs.State.{Object}
 use Rattle.model.specs.declared.event.Letter.{Letter}
@@ -39,156 +40,107 @@ pub record Stored : Type 0 where
   -- to the other nodes, in ascending order
   pub links : List StoredLink
 
--- ---- how each part is spelled
+-- ---- what stands before the lists
 
 -- the bytes `MR`, and the version
-abbrev pub start_bytes : List ℕ
-start_bytes = 0x4D ∷ 0x52 ∷ 1 ∷ []
+abbrev pub Start : Type 0
+Start = ℕ × (ℕ × ℕ)
+
+abbrev pub is_start : Start → Bool
+is_start v = v.0 == 0x4D && (v.1.0 == 0x52 && v.1.1 == 1)
+
+unfoldable pub start_format : Format Start
+start_format = kept (byte & byte & byte) is_start
+
+-- the number of nodes, and the own number below it
+unfoldable pub nodes_format : Format (ℕ × ℕ)
+nodes_format = kept (byte & byte) (λ p. nat_lt p.1 p.0)
 
 -- the sizes of the space, with the node's own number
-abbrev pub sizes_bytes : Head → List ℕ
-sizes_bytes h =
-    (h.nodes ∷ h.own ∷ []) ++ (to_be_bytes w16 h.registers ++ to_be_bytes w32 h.slots)
+unfoldable pub head_format : Format Head
+head_format =
+    mapped (start_format & nodes_format & number2 & number4)
+    (λ x. record { nodes = x.1.0.0; own = x.1.0.1; registers = x.1.1.0; slots = x.1.1.1 })
+    (λ h. ((0x4D, (0x52, 1)), ((h.nodes, h.own), (h.registers, h.slots))))
 
-abbrev pub head_bytes : Head → List ℕ
-head_bytes h = start_bytes ++ sizes_bytes h
-
-abbrev pub phases_bytes : PhasesParts → List ℕ
-phases_bytes p =
-    (to_be_bytes w64 p.cycle ++ (to_be_bytes w64 p.ended ++ to_be_bytes w64 p.swept))
-    ++ to_be_bytes w32 p.cursor
+unfoldable pub phases_format : Format PhasesParts
+phases_format =
+    mapped (number8 & number8 & number8 & number4)
+    (λ x. record { cycle = x.0; ended = x.1.0; swept = x.1.1.0; cursor = x.1.1.1 })
+    (λ p. (p.cycle, (p.ended, (p.swept, p.cursor))))
 
 -- 0, or 1 and a token
-abbrev pub held_bytes : Option Token → List ℕ
-held_bytes None = 0 ∷ []
-held_bytes (Some token) = 1 ∷ token_bytes token
+unfoldable pub held_format : Format (Option Token)
+held_format = option token
 
-abbrev pub balances_bytes : ℤ → ℤ → List ℕ
-balances_bytes earlier recent = signed_bytes earlier ++ signed_bytes recent
+unfoldable pub ring_format : Format RingParts
+ring_format =
+    mapped (colour & signed8 & signed8 & held_format)
+    (λ x. record { colour = x.0; earlier = x.1.0; recent = x.1.1.0; token = x.1.1.1 })
+    (λ r. (r.colour, (r.earlier, (r.recent, r.token))))
 
-abbrev pub ring_bytes : RingParts → List ℕ
-ring_bytes r =
-    (colour_byte r.colour ∷ []) ++ (balances_bytes r.earlier r.recent ++ held_bytes r.token)
+-- ---- what stands in the lists, all within the limits
 
--- how many, and each
-abbrev pub counted : {A : Type 0} → (A → List ℕ) → List A → List ℕ
-counted spell xs = to_be_bytes w32 (length xs) ++ flat_map spell xs
+abbrev pub near : Format Ref
+near = kept reference reference_fits
 
-abbrev pub places_bytes : List (Option Ref) → List ℕ
-places_bytes places = (length places ∷ []) ++ flat_map optional_bytes places
+abbrev pub near_optional : Format (Option Ref)
+near_optional = kept optional optional_fits
 
-abbrev pub object_bytes : Object → List ℕ
-object_bytes o =
-    to_be_bytes w64 o.mark ++ (to_be_bytes w64 o.word ++ places_bytes o.places)
+abbrev pub near_body : Format Body
+near_body = kept body_format body_fits
+
+-- how many places there are
+unfoldable pub width_format : Format ℕ
+width_format = kept byte (λ n. nat_le n GREATEST_PLACES)
+
+unfoldable pub places_format : Format (List (Option Ref))
+places_format = counted width_format near_optional
+
+unfoldable pub object_format : Format Object
+object_format =
+    mapped (number8 & number8 & places_format)
+    (λ x. record { word = x.1.0; places = x.1.1; mark = x.0 }) (λ o. (o.mark, (o.word, o.places)))
+
+abbrev pub occupied : Format (ℕ × Object)
+occupied = number4 & object_format
+
+unfoldable pub occupied_at : Reader StoredSlot
+occupied_at bytes = made_at occupied (λ x. slot.Occupied x.0 x.1) bytes
 
 -- a tag and what the slot holds
-abbrev pub slot_bytes : StoredSlot → List ℕ
-slot_bytes (slot.Free generation) = 0 ∷ to_be_bytes w32 generation
-slot_bytes (slot.Occupied generation object) =
-    1 ∷ (to_be_bytes w32 generation ++ object_bytes object)
-slot_bytes slot.Retired = 2 ∷ []
+abbrev pub slot_tag : StoredSlot → Behind
+slot_tag (slot.Free generation) = tag 0 number4 generation
+slot_tag (slot.Occupied generation object) = tag 1 occupied (generation, object)
+slot_tag slot.Retired = tag 2 nothing tt
 
-abbrev pub letter_bytes : Letter → List ℕ
-letter_bytes l = (l.from ∷ []) ++ (to_be_bytes w32 l.label ++ optional_bytes l.reference)
+abbrev pub slots_at : List (ℕ × Reader StoredSlot)
+slots_at =
+    (0, made_at number4 slot.Free)
+    ∷ (1, occupied_at)
+    ∷ (2, made_at nothing (λ _. slot.Retired))
+    ∷ []
 
-abbrev pub message_bytes : Message → List ℕ
-message_bytes m = to_be_bytes w64 m.stamp ++ body_bytes m.body
+unfoldable pub slot_format : Format StoredSlot
+slot_format = tagged slot_tag slots_at
 
-abbrev pub link_bytes : StoredLink → List ℕ
-link_bytes l =
-    to_be_bytes w64 l.base
-    ++ (counted message_bytes l.unacknowledged ++ to_be_bytes w64 l.received)
+unfoldable pub letter_format : Format Letter
+letter_format =
+    mapped (byte & number4 & near_optional)
+    (λ x. record { from = x.0; label = x.1.0; reference = x.1.1 })
+    (λ l. (l.from, (l.label, l.reference)))
 
--- what stands before the lists
-abbrev pub front_bytes : Stored → List ℕ
-front_bytes s = head_bytes s.head ++ (phases_bytes s.phases ++ ring_bytes s.ring)
+unfoldable pub message_format : Format Message
+message_format =
+    mapped (number8 & near_body) (λ x. record { stamp = x.0; body = x.1 }) (λ m. (m.stamp, m.body))
 
--- the lists whose lengths are known from the head
-abbrev pub told_bytes : Stored → List ℕ
-told_bytes s = flat_map (to_be_bytes w64) s.reports ++ flat_map optional_bytes s.registers
+unfoldable pub link_format : Format StoredLink
+link_format =
+    mapped (number8 & counted number4 message_format & number8)
+    (λ x. record { base = x.0; unacknowledged = x.1.0; received = x.1.1 })
+    (λ l. (l.base, (l.unacknowledged, l.received)))
 
--- the slots, and those of them that are free or grey
-abbrev pub slots_bytes : Stored → List ℕ
-slots_bytes s =
-    counted slot_bytes s.slots
-    ++ (counted (to_be_bytes w32) s.free ++ counted (to_be_bytes w32) s.grey)
-
--- the references that were asked for, the letters, and the links
-abbrev pub others_bytes : Stored → List ℕ
-others_bytes s =
-    counted reference_bytes s.asked
-    ++ (counted letter_bytes s.letters ++ flat_map link_bytes s.links)
-
--- the whole image
-abbrev pub spelling : Stored → List ℕ
-spelling s = front_bytes s ++ (told_bytes s ++ (slots_bytes s ++ others_bytes s))
-
--- ---- what has a spelling
-
--- Numbers no wider than their fields, and the own number below the number of nodes.
-pub record IsHead (h : Head) : Type 0 where
-  pub nodes : h.nodes < 2 ^ 8
-  pub own : h.own < h.nodes
-  pub registers : h.registers < 2 ^ 16
-  pub slots : h.slots < 2 ^ 32
-
-pub record ArePhases (p : PhasesParts) : Type 0 where
-  pub cycle : p.cycle < 2 ^ 64
-  pub ended : p.ended < 2 ^ 64
-  pub swept : p.swept < 2 ^ 64
-  pub cursor : p.cursor < 2 ^ 32
-
-abbrev pub IsToken : Token → Type 0
-IsToken t = FitsSigned w64 t.q
-
-pub record IsRing (r : RingParts) : Type 0 where
-  pub earlier : FitsSigned w64 r.earlier
-  pub recent : FitsSigned w64 r.recent
-  pub token : IfSome r.token IsToken
-
--- a reference within the limits
-pub record IsReference (r : Ref) : Type 0 where
-  pub width : IsReferenceOfWidth r
-  pub limits : IsTrue (reference_fits r)
-
--- the same, where there is one
-pub record IsOptional (o : Option Ref) : Type 0 where
-  pub width : IfSome o IsReferenceOfWidth
-  pub limits : IsTrue (optional_fits o)
-
-pub record IsObject (o : Object) : Type 0 where
-  pub mark : o.mark < 2 ^ 64
-  pub word : o.word < 2 ^ 64
-  pub places : length o.places ≤ GREATEST_PLACES
-  pub each : AllByRecursion IsOptional o.places
-
-abbrev pub IsSlot : StoredSlot → Type 0
-IsSlot (slot.Free generation) = generation < 2 ^ 32
-IsSlot (slot.Occupied generation object) = (generation < 2 ^ 32) × IsObject object
-IsSlot slot.Retired = ⊤
-
-pub record IsLetter (l : Letter) : Type 0 where
-  pub from : l.from < 2 ^ 8
-  pub label : l.label < 2 ^ 32
-  pub reference : IsOptional l.reference
-
-pub record IsMessage (m : Message) : Type 0 where
-  pub stamp : m.stamp < 2 ^ 64
-  pub width : IsOfWidth m.body
-  pub limits : IsTrue (body_fits m.body)
-
--- a list whose length has a field of four bytes
-abbrev pub AreCounted : {A : Type 0} → (A → Type 0) → List A → Type 0
-AreCounted Fits xs = (length xs < 2 ^ 32) × AllByRecursion Fits xs
-
--- a list of a length that is known before
-abbrev pub AreSo : {A : Type 0} → ℕ → (A → Type 0) → List A → Type 0
-AreSo count Fits xs = (length xs ≡ count) × AllByRecursion Fits xs
-
-pub record IsStoredLink (l : StoredLink) : Type 0 where
-  pub base : l.base < 2 ^ 64
-  pub unacknowledged : AreCounted IsMessage l.unacknowledged
-  pub received : l.received < 2 ^ 64
+-- ---- the whole
 
 -- how many reports are spelled
 abbrev pub reports_told : Head → ℕ
@@ -198,19 +150,81 @@ reports_told h = if h.own == 0 then h.nodes - 1 else 0
 abbrev pub links_told : Head → ℕ
 links_told h = h.nodes - 1
 
+abbrev pub Front : Type 0
+Front = Head × (PhasesParts × RingParts)
+
+unfoldable pub front_format : Format Front
+front_format = head_format & phases_format & ring_format
+
+-- the lists whose lengths are known from the head
+abbrev pub Told : Type 0
+Told = List ℕ × List (Option Ref)
+
+unfoldable pub told_format : Head → Format Told
+told_format h = many number8 (reports_told h) & many near_optional h.registers
+
+-- the slots, and those of them that are free or grey
+abbrev pub Slots : Type 0
+Slots = List StoredSlot × (List ℕ × List ℕ)
+
+unfoldable pub slots_format : Format Slots
+slots_format = counted number4 slot_format & counted number4 number4 & counted number4 number4
+
+-- the references that were asked for, the letters, and the links
+abbrev pub Others : Type 0
+Others = List Ref × (List Letter × List StoredLink)
+
+unfoldable pub others_format : Head → Format Others
+others_format h =
+    counted number4 near & counted number4 letter_format & many link_format (links_told h)
+
+-- what follows the front
+abbrev pub Lists : Type 0
+Lists = Told × (Slots × Others)
+
+unfoldable pub lists_format : Front → Format Lists
+lists_format f = told_format f.0 & slots_format & others_format f.0
+
+abbrev pub stored : Front × Lists → Stored
+stored x =
+    record {
+      head = x.0.0;
+      phases = x.0.1.0;
+      ring = x.0.1.1;
+      reports = x.1.0.0;
+      registers = x.1.0.1;
+      slots = x.1.1.0.0;
+      free = x.1.1.0.1.0;
+      grey = x.1.1.0.1.1;
+      asked = x.1.1.1.0;
+      letters = x.1.1.1.1.0;
+      links = x.1.1.1.1.1;
+    }
+
+abbrev pub front_of : Stored → Front
+front_of s = (s.head, (s.phases, s.ring))
+
+abbrev pub told_of : Stored → Told
+told_of s = (s.reports, s.registers)
+
+abbrev pub slots_of : Stored → Slots
+slots_of s = (s.slots, (s.free, s.grey))
+
+abbrev pub others_of : Stored → Others
+others_of s = (s.asked, (s.letters, s.links))
+
+unfoldable pub image_format : Format Stored
+image_format =
+    mapped (joined front_format lists_format) stored
+    (λ s. (front_of s, (told_of s, (slots_of s, others_of s))))
+
+-- the whole image
+unfoldable pub spelling : Stored → List ℕ
+spelling s = image_format.spell s
+
 -- what has a spelling
-pub record Fits (s : Stored) : Type 0 where
-  pub head : IsHead s.head
-  pub phases : ArePhases s.phases
-  pub ring : IsRing s.ring
-  pub reports : AreSo (reports_told s.head) (λ n. n < 2 ^ 64) s.reports
-  pub registers : AreSo s.head.registers IsOptional s.registers
-  pub slots : AreCounted IsSlot s.slots
-  pub free : AreCounted (λ k. k < 2 ^ 32) s.free
-  pub grey : AreCounted (λ k. k < 2 ^ 32) s.grey
-  pub asked : AreCounted IsReference s.asked
-  pub letters : AreCounted IsLetter s.letters
-  pub links : AreSo (links_told s.head) IsStoredLink s.links
+abbrev pub Fits : Stored → Type 0
+Fits s = codec.Fits image_format s
 
 -- the bytes are the image that says this
 pub record IsImage (bytes : List ℕ) (s : Stored) : Type 0 where

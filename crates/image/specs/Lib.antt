@@ -1,9 +1,9 @@
 pub mod Links
 pub mod Grammar
-pub mod Reading
-pub mod Parts
-pub mod Nodes
-pub mod Conditions
 pub mod Images
-pub mod Widths
+pub mod Lengths
+pub mod Nodes
+pub mod Numbers
+pub mod Conditions
 pub mod Wholes
+pub mod Parts

@@ -7,8 +7,7 @@
 mod elements;
 mod law;
 mod links;
-mod measuring;
-mod part;
+mod lists;
 mod parts;
 mod reading;
 mod restoring;

@@ -1,6 +1,4 @@
 //! A node as the parts that its image says.
-ghost use Rattle.std.specs.Prelude.{◌≡◌, ◌≤◌, ◌<◌, ◌^◌, length, IsSome, IfSome, ◌↔◌};
-
 use heap::{Object, Slot};
 use ids::Ref;
 use model::Letter;
@@ -57,10 +55,6 @@ impl Model for StoredLink {
       unacknowledged = l.unacknowledged.items;
       received = l.received;
     } };
-
-    ghost use Rattle.std.specs.Prelude.{◌<◌, ◌^◌, length};
-
-    ghost invariant = { λ l. length l.unacknowledged.items < 2 ^ 32 };
 }
 
 /// All that an image says of a node.

@@ -1,83 +1,69 @@
 //! Bytes as the parts of a node.
 ghost use Rattle.std.specs.Prelude.{◌≡◌, ◌≢◌, ◌≤◌, length, IfOk, IfErr, IfSome};
 ghost use Rattle.std.specs.Option.{option_map};
-ghost use Rattle.std.specs.Result.{IsOkAnd};
 ghost use Rattle.ids.specs.declared.refusal.Refusal.TheVariants.{BadImage, Memory};
 ghost use Rattle.ids.specs.declared.limits.TheConstants.{GREATEST_PLACES};
-ghost use Rattle.msg.specs.Reading.{number_at};
-ghost use Rattle.image.specs.Grammar.{Stored, Fits, spelling, reports_told, links_told};
-ghost use Rattle.image.specs.Parts.{stored_of};
-ghost use Rattle.image.specs.Reading.{
-  Gives,
-  version_at,
-  nodes_at,
-  sizes_at,
-  head_at,
-  cycles_at,
-  phases_at,
-  balances_at,
-  held_at,
-  ring_at,
-  limited_reference_at,
-  limited_optional_at,
-  limited_body_at,
-  width_at,
-  places_at,
-  object_at,
+ghost use Rattle.codec.specs.Formats.{whole_at};
+ghost use Rattle.codec.specs.Reading.{Gives};
+ghost use Rattle.image.specs.Grammar.{
+  Stored,
+  IsImage,
+  reports_told,
+  start_format,
+  nodes_format,
+  head_format,
+  phases_format,
+  held_format,
+  ring_format,
+  near,
+  near_optional,
+  near_body,
+  width_format,
+  places_format,
+  object_format,
   occupied_at,
-  slot_at,
-  letter_at,
-  message_at,
-  link_at,
-  front_at,
-  told_at,
-  slots_at,
-  others_at,
-  image_at,
-  whole,
+  slot_format,
+  letter_format,
+  message_format,
+  link_format,
+  front_format,
+  told_format,
+  slots_format,
+  others_format,
+  image_format,
 };
+ghost use Rattle.image.specs.Parts.{stored_of};
 
-use crate::part::{counted, many};
+use crate::lists::{counted, many};
 use crate::parts::{Head, NodeParts, PhasesParts, RingParts, StoredLink};
 use crate::tags::{ABSENT, FREE, OCCUPIED, PRESENT, RETIRED, START, VERSION};
-use byteorder::{BigEndian, ByteOrder};
+use codec::reading::{i64_at, u8_at, u16_at, u32_at, u64_at};
 use heap::{Object, Slot};
 use ids::{GREATEST_IMAGE, GREATEST_PLACES, Ref, Refusal};
 use model::Letter;
-use msg::reading::{
-    body_at, colour_at, i64_at, optional_at, reference_at, token_at, u8_at, u32_at, u64_at,
-};
+use msg::reading::{body_at, colour_at, optional_at, reference_at, token_at};
 use msg::{Body, Message, Token, body_fits, optional_fits};
 use std::alloc::Global;
 
 // ---- what stands before the lists
 
-fn u16_at(bytes: &[u8]) -> Option<(u16, &[u8])>
-    ensures { number_at 2 bytes.now ≡ option_map (λ x. (x.0, x.1.now)) result }
-{
-    if bytes.len() < 2 {
-        return None;
-    }
-    Some((BigEndian::read_u16(bytes), &bytes[2..]))
-}
-
-#[tactic(auto, unfolding(crate::specs::Reading::version_at))]
-fn version_at(bytes: &[u8]) -> Option<((u8, u8, u8), &[u8])>
-    ensures { version_at bytes.now ≡ option_map (λ x. (x.0, x.1.now)) result }
+#[tactic(auto, unfolding(crate::specs::Grammar::start_format))]
+fn start_at(bytes: &[u8]) -> Option<((u8, (u8, u8)), &[u8])>
+    ensures { start_format.read bytes.now ≡ option_map (λ x. (x.0, x.1.now)) result }
 {
     let (first, rest) = u8_at(bytes)?;
     let (second, rest) = u8_at(rest)?;
     let (version, rest) = u8_at(rest)?;
     if first == START[0] && second == START[1] && version == VERSION {
-        Some(((first, second, version), rest))
+        Some(((first, (second, version)), rest))
     } else {
         None
     }
 }
 
-#[tactic(auto, unfolding(crate::specs::Reading::nodes_at))]
+#[tactic(auto, unfolding(crate::specs::Grammar::nodes_format))]
 fn nodes_at(bytes: &[u8]) -> Option<((u8, u8), &[u8])>
-    ensures { nodes_at bytes.now ≡ option_map (λ x. (x.0, x.1.now)) result }
+    ensures { nodes_format.read bytes.now ≡ option_map (λ x. (x.0, x.1.now)) result }
 {
     let (nodes, rest) = u8_at(bytes)?;
     let (own, rest) = u8_at(rest)?;
@@ -88,11 +74,12 @@ fn nodes_at(bytes: &[u8]) -> Option<((u8, u8), &[u8])>
     }
 }
 
-#[tactic(auto, unfolding(crate::specs::Reading::sizes_at))]
-fn sizes_at(bytes: &[u8]) -> Option<(Head, &[u8])>
-    ensures { sizes_at bytes.now ≡ option_map (λ x. (x.0, x.1.now)) result }
+#[tactic(auto, unfolding(crate::specs::Grammar::head_format))]
+fn head_at(bytes: &[u8]) -> Option<(Head, &[u8])>
+    ensures { head_format.read bytes.now ≡ option_map (λ x. (x.0, x.1.now)) result }
 {
-    let ((nodes, own), rest) = nodes_at(bytes)?;
+    let (_start, rest) = start_at(bytes)?;
+    let ((nodes, own), rest) = nodes_at(rest)?;
     let (registers, rest) = u16_at(rest)?;
     let (slots, rest) = u32_at(rest)?;
     let head = Head {
@@ -104,30 +91,13 @@ fn sizes_at(bytes: &[u8]) -> Option<(Head, &[u8])>
     Some((head, rest))
 }
 
-#[tactic(auto, unfolding(crate::specs::Reading::head_at))]
-fn head_at(bytes: &[u8]) -> Option<(Head, &[u8])>
-    ensures { head_at bytes.now ≡ option_map (λ x. (x.0, x.1.now)) result }
-{
-    let (_version, rest) = version_at(bytes)?;
-    let (head, rest) = sizes_at(rest)?;
-    Some((head, rest))
-}
-
-#[tactic(auto, unfolding(crate::specs::Reading::cycles_at))]
-fn cycles_at(bytes: &[u8]) -> Option<((u64, u64, u64), &[u8])>
-    ensures { cycles_at bytes.now ≡ option_map (λ x. (x.0, x.1.now)) result }
+#[tactic(auto, unfolding(crate::specs::Grammar::phases_format))]
+fn phases_at(bytes: &[u8]) -> Option<(PhasesParts, &[u8])>
+    ensures { phases_format.read bytes.now ≡ option_map (λ x. (x.0, x.1.now)) result }
 {
     let (cycle, rest) = u64_at(bytes)?;
     let (ended, rest) = u64_at(rest)?;
     let (swept, rest) = u64_at(rest)?;
-    Some(((cycle, ended, swept), rest))
-}
-
-#[tactic(auto, unfolding(crate::specs::Reading::phases_at))]
-fn phases_at(bytes: &[u8]) -> Option<(PhasesParts, &[u8])>
-    ensures { phases_at bytes.now ≡ option_map (λ x. (x.0, x.1.now)) result }
-{
-    let ((cycle, ended, swept), rest) = cycles_at(bytes)?;
     let (cursor, rest) = u32_at(rest)?;
     let phases = PhasesParts {
         cycle,
@@ -138,18 +108,9 @@ fn phases_at(bytes: &[u8]) -> Option<(PhasesParts, &[u8])>
     Some((phases, rest))
 }
 
-#[tactic(auto, unfolding(crate::specs::Reading::balances_at))]
-fn balances_at(bytes: &[u8]) -> Option<((i64, i64), &[u8])>
-    ensures { balances_at bytes.now ≡ option_map (λ x. (x.0, x.1.now)) result }
-{
-    let (earlier, rest) = i64_at(bytes)?;
-    let (recent, rest) = i64_at(rest)?;
-    Some(((earlier, recent), rest))
-}
-
-#[tactic(auto, unfolding(crate::specs::Reading::held_at))]
+#[tactic(auto, unfolding(crate::specs::Grammar::held_format))]
 fn held_at(bytes: &[u8]) -> Option<(Option<Token>, &[u8])>
-    ensures { held_at bytes.now ≡ option_map (λ x. (x.0, x.1.now)) result }
+    ensures { held_format.read bytes.now ≡ option_map (λ x. (x.0, x.1.now)) result }
 {
     let (flag, rest) = u8_at(bytes)?;
     match flag {
@@ -162,12 +123,13 @@ fn held_at(bytes: &[u8]) -> Option<(Option<Token>, &[u8])>
     }
 }
 
-#[tactic(auto, unfolding(crate::specs::Reading::ring_at))]
+#[tactic(auto, unfolding(crate::specs::Grammar::ring_format))]
 fn ring_at(bytes: &[u8]) -> Option<(RingParts, &[u8])>
-    ensures { ring_at bytes.now ≡ option_map (λ x. (x.0, x.1.now)) result }
+    ensures { ring_format.read bytes.now ≡ option_map (λ x. (x.0, x.1.now)) result }
 {
     let (colour, rest) = colour_at(bytes)?;
-    let ((earlier, recent), rest) = balances_at(rest)?;
+    let (earlier, rest) = i64_at(rest)?;
+    let (recent, rest) = i64_at(rest)?;
     let (token, rest) = held_at(rest)?;
     let ring = RingParts {
         colour,
@@ -180,9 +142,8 @@ fn ring_at(bytes: &[u8]) -> Option<(RingParts, &[u8])>
 
 // ---- what stands in the lists
 
-#[tactic(auto, unfolding(crate::specs::Reading::limited_reference_at))]
 pub(crate) fn limited_reference_at(bytes: &[u8]) -> Option<(Ref, &[u8])>
-    ensures { limited_reference_at bytes.now ≡ option_map (λ x. (x.0, x.1.now)) result }
+    ensures { near.read bytes.now ≡ option_map (λ x. (x.0, x.1.now)) result }
 {
     let (reference, rest) = reference_at(bytes)?;
     if reference.fits() {
@@ -192,9 +153,8 @@ pub(crate) fn limited_reference_at(bytes: &[u8]) -> Option<(Ref, &[u8])>
     }
 }
 
-#[tactic(auto, unfolding(crate::specs::Reading::limited_optional_at))]
 pub(crate) fn limited_optional_at(bytes: &[u8]) -> Option<(Option<Ref>, &[u8])>
-    ensures { limited_optional_at bytes.now ≡ option_map (λ x. (x.0, x.1.now)) result }
+    ensures { near_optional.read bytes.now ≡ option_map (λ x. (x.0, x.1.now)) result }
 {
     let (reference, rest) = optional_at(bytes)?;
     if optional_fits(reference) {
@@ -204,9 +164,8 @@ pub(crate) fn limited_optional_at(bytes: &[u8]) -> Option<(Option<Ref>, &[u8])>
     }
 }
 
-#[tactic(auto, unfolding(crate::specs::Reading::limited_body_at))]
 fn limited_body_at(bytes: &[u8]) -> Option<(Body, &[u8])>
-    ensures { limited_body_at bytes.now ≡ option_map (λ x. (x.0, x.1.now)) result }
+    ensures { near_body.read bytes.now ≡ option_map (λ x. (x.0, x.1.now)) result }
 {
     let (body, rest) = body_at(bytes)?;
     if body_fits(body) {
@@ -216,9 +175,9 @@ fn limited_body_at(bytes: &[u8]) -> Option<(Body, &[u8])>
     }
 }
 
-#[tactic(auto, unfolding(crate::specs::Reading::letter_at))]
+#[tactic(auto, unfolding(crate::specs::Grammar::letter_format))]
 pub(crate) fn letter_at(bytes: &[u8]) -> Option<(Letter, &[u8])>
-    ensures { letter_at bytes.now ≡ option_map (λ x. (x.0, x.1.now)) result }
+    ensures { letter_format.read bytes.now ≡ option_map (λ x. (x.0, x.1.now)) result }
 {
     let (from, rest) = u8_at(bytes)?;
     let (label, rest) = u32_at(rest)?;
@@ -231,18 +190,18 @@ pub(crate) fn letter_at(bytes: &[u8]) -> Option<(Letter, &[u8])>
     Some((letter, rest))
 }
 
-#[tactic(auto, unfolding(crate::specs::Reading::message_at))]
+#[tactic(auto, unfolding(crate::specs::Grammar::message_format))]
 pub(crate) fn message_at(bytes: &[u8]) -> Option<(Message, &[u8])>
-    ensures { message_at bytes.now ≡ option_map (λ x. (x.0, x.1.now)) result }
+    ensures { message_format.read bytes.now ≡ option_map (λ x. (x.0, x.1.now)) result }
 {
     let (stamp, rest) = u64_at(bytes)?;
     let (body, rest) = limited_body_at(rest)?;
     Some((Message { stamp, body }, rest))
 }
 
-#[tactic(auto, unfolding(crate::specs::Reading::width_at))]
+#[tactic(auto, unfolding(crate::specs::Grammar::width_format))]
 fn width_at(bytes: &[u8]) -> Option<(u8, &[u8])>
-    ensures value { width_at bytes.now ≡ option_map (λ x. (x.0, x.1.now)) result }
+    ensures value { width_format.read bytes.now ≡ option_map (λ x. (x.0, x.1.now)) result }
     ensures within { IfSome result (λ x. x.0 ≤ GREATEST_PLACES) }
 {
     let (width, rest) = u8_at(bytes)?;
@@ -253,9 +212,9 @@ fn width_at(bytes: &[u8]) -> Option<(u8, &[u8])>
     }
 }
 
-#[tactic(auto, unfolding(crate::specs::Reading::places_at))]
+#[tactic(auto, unfolding(crate::specs::Grammar::places_format))]
 fn places_at(alloc: Global, bytes: &[u8]) -> Result<(Vec<Option<Ref>>, &[u8]), Refusal>
-    ensures value { Gives (λ x. (x.0.items, x.1.now)) result (places_at bytes.now) }
+    ensures value { Gives (λ x. (x.0.items, x.1.now)) result (places_format.read bytes.now) }
     ensures count { IfOk result (λ x. length x.0.items ≤ GREATEST_PLACES) }
 {
     let Some((width, rest)) = width_at(bytes) else {
@@ -265,9 +224,9 @@ fn places_at(alloc: Global, bytes: &[u8]) -> Result<(Vec<Option<Ref>>, &[u8]), R
     Ok((places, rest))
 }
 
-#[tactic(auto, unfolding(crate::specs::Reading::object_at))]
+#[tactic(auto, unfolding(crate::specs::Grammar::object_format))]
 fn object_at(alloc: Global, bytes: &[u8]) -> Result<(Object, &[u8]), Refusal>
-    ensures { Gives (λ x. (x.0, x.1.now)) result (object_at bytes.now) }
+    ensures { Gives (λ x. (x.0, x.1.now)) result (object_format.read bytes.now) }
 {
     let (mark, rest) = u64_at(bytes).ok_or(Refusal::BadImage)?;
     let (word, rest) = u64_at(rest).ok_or(Refusal::BadImage)?;
@@ -278,7 +237,7 @@ fn object_at(alloc: Global, bytes: &[u8]) -> Result<(Object, &[u8]), Refusal>
     }
 }
 
-#[tactic(auto, unfolding(crate::specs::Reading::occupied_at))]
+#[tactic(auto, unfolding(crate::specs::Grammar::occupied_at))]
 fn occupied_at(alloc: Global, bytes: &[u8]) -> Result<(Slot<Object>, &[u8]), Refusal>
     ensures { Gives (λ x. (x.0, x.1.now)) result (occupied_at bytes.now) }
 {
@@ -287,9 +246,9 @@ fn occupied_at(alloc: Global, bytes: &[u8]) -> Result<(Slot<Object>, &[u8]), Ref
     Ok((Slot::Occupied(generation, object), rest))
 }
 
-#[tactic(auto, unfolding(crate::specs::Reading::slot_at))]
+#[tactic(auto, unfolding(crate::specs::Grammar::slot_format))]
 pub(crate) fn slot_at(alloc: Global, bytes: &[u8]) -> Result<(Slot<Object>, &[u8]), Refusal>
-    ensures { Gives (λ x. (x.0, x.1.now)) result (slot_at bytes.now) }
+    ensures { Gives (λ x. (x.0, x.1.now)) result (slot_format.read bytes.now) }
 {
     let (tag, rest) = u8_at(bytes).ok_or(Refusal::BadImage)?;
     match tag {
@@ -303,9 +262,9 @@ pub(crate) fn slot_at(alloc: Global, bytes: &[u8]) -> Result<(Slot<Object>, &[u8
     }
 }
 
-#[tactic(auto, unfolding(crate::specs::Reading::link_at))]
+#[tactic(auto, unfolding(crate::specs::Grammar::link_format))]
 pub(crate) fn link_at(alloc: Global, bytes: &[u8]) -> Result<(StoredLink, &[u8]), Refusal>
-    ensures { Gives (λ x. (x.0, x.1.now)) result (link_at bytes.now) }
+    ensures { Gives (λ x. (x.0, x.1.now)) result (link_format.read bytes.now) }
 {
     let (base, rest) = u64_at(bytes).ok_or(Refusal::BadImage)?;
     let (unacknowledged, rest) = counted(alloc, rest)?;
@@ -330,9 +289,9 @@ fn reports_told(head: Head) -> usize
     }
 }
 
-#[tactic(auto, unfolding(crate::specs::Reading::front_at))]
+#[tactic(auto, unfolding(crate::specs::Grammar::front_format))]
 fn front_at(bytes: &[u8]) -> Option<((Head, (PhasesParts, RingParts)), &[u8])>
-    ensures { front_at bytes.now ≡ option_map (λ x. (x.0, x.1.now)) result }
+    ensures { front_format.read bytes.now ≡ option_map (λ x. (x.0, x.1.now)) result }
 {
     let (head, rest) = head_at(bytes)?;
     let (phases, rest) = phases_at(rest)?;
@@ -341,13 +300,14 @@ fn front_at(bytes: &[u8]) -> Option<((Head, (PhasesParts, RingParts)), &[u8])>
 }
 
 /// What the other nodes reported, and the registers.
-#[tactic(auto, unfolding(crate::specs::Reading::told_at))]
+#[tactic(auto, unfolding(crate::specs::Grammar::told_format))]
 fn told_at(
     alloc: Global,
     head: Head,
     bytes: &[u8],
 ) -> Result<((Vec<u64>, Vec<Option<Ref>>), &[u8]), Refusal>
-    ensures { Gives (λ x. ((x.0.0.items, x.0.1.items), x.1.now)) result (told_at head bytes.now) }
+    ensures { Gives (λ x. ((x.0.0.items, x.0.1.items), x.1.now)) result
+        ((told_format head).read bytes.now) }
 {
     let (reports, rest) = many(alloc, reports_told(head), bytes)?;
     let (registers, rest) = many(alloc, usize::from(head.registers), rest)?;
@@ -355,13 +315,13 @@ fn told_at(
 }
 
 /// The slots, and which of them are free and which grey.
-#[tactic(auto, unfolding(crate::specs::Reading::slots_at))]
+#[tactic(auto, unfolding(crate::specs::Grammar::slots_format))]
 fn slots_at(
     alloc: Global,
     bytes: &[u8],
 ) -> Result<((Vec<Slot<Object>>, (Vec<u32>, Vec<u32>)), &[u8]), Refusal>
     ensures { Gives (λ x. ((x.0.0.items, (x.0.1.0.items, x.0.1.1.items)), x.1.now))
-        result (slots_at bytes.now) }
+        result (slots_format.read bytes.now) }
 {
     let (slots, rest) = counted(alloc, bytes)?;
     let (free, rest) = counted(alloc, rest)?;
@@ -370,14 +330,14 @@ fn slots_at(
 }
 
 /// The references that were asked for, the letters and the links.
-#[tactic(auto, unfolding(crate::specs::Reading::others_at))]
+#[tactic(auto, unfolding(crate::specs::Grammar::others_format))]
 fn others_at(
     alloc: Global,
     head: Head,
     bytes: &[u8],
 ) -> Result<((Vec<Ref>, (Vec<Letter>, Vec<StoredLink>)), &[u8]), Refusal>
     ensures { Gives (λ x. ((x.0.0.items, (x.0.1.0.items, x.0.1.1.items)), x.1.now))
-        result (others_at head bytes.now) }
+        result ((others_format head).read bytes.now) }
 {
     let (asked, rest) = counted(alloc, bytes)?;
     let (letters, rest) = counted(alloc, rest)?;
@@ -385,9 +345,9 @@ fn others_at(
     Ok(((asked, (letters, links)), rest))
 }
 
-#[tactic(auto, unfolding(crate::specs::Reading::image_at, crate::specs::Reading::lists_at))]
+#[tactic(auto, unfolding(crate::specs::Grammar::image_format, crate::specs::Grammar::lists_format))]
 fn image_at(alloc: Global, bytes: &[u8]) -> Result<(NodeParts, &[u8]), Refusal>
-    ensures { Gives (λ x. (stored_of x.0, x.1.now)) result (image_at bytes.now) }
+    ensures { Gives (λ x. (stored_of x.0, x.1.now)) result (image_format.read bytes.now) }
 {
     let ((head, (phases, ring)), rest) = front_at(bytes).ok_or(Refusal::BadImage)?;
     let ((reports, registers), rest) = told_at(alloc, head, rest)?;
@@ -409,9 +369,9 @@ fn image_at(alloc: Global, bytes: &[u8]) -> Result<(NodeParts, &[u8]), Refusal>
     Ok((parts, rest))
 }
 
-#[tactic(auto, unfolding(crate::specs::Reading::whole))]
+#[tactic(auto, unfolding(crate::specs::Numbers::whole_at))]
 fn whole(alloc: Global, bytes: &[u8]) -> Result<NodeParts, Refusal>
-    ensures { Gives stored_of result (whole bytes.now) }
+    ensures { Gives stored_of result (whole_at image_format.read bytes.now) }
 {
     let (parts, rest) = image_at(alloc, bytes)?;
     if rest.is_empty() {
@@ -422,11 +382,6 @@ fn whole(alloc: Global, bytes: &[u8]) -> Result<NodeParts, Refusal>
 }
 
 impl NodeParts {
-    ghost use Rattle.std.specs.Prelude.{◌≡◌, ◌≢◌, IfOk, IfErr};
-    ghost use Rattle.ids.specs.declared.refusal.Refusal.TheVariants.{BadImage, Memory};
-    ghost use Rattle.image.specs.Grammar.{Stored, IsImage};
-    ghost use Rattle.image.specs.Parts.{stored_of};
-
     /// The parts that the bytes say, all of the bytes. What they say may still be no node's, since
     /// its parts may contradict each other.
     ///

@@ -6,15 +6,15 @@ ghost use Rattle.model.specs.View.{kept_view};
 ghost use Rattle.image.specs.Images.{image_of};
 ghost use Rattle.image.specs.Nodes.{IsImageOf};
 
-use crate::measuring::room_after_node;
 use crate::writing::put_node;
+use codec::Writer;
 use ids::{GREATEST_IMAGE, Refusal};
 use node::{Core, Node};
 use std::alloc::Global;
 
 /// The bytes of the node's image: that of the node as it is after a save, all of whose messages
-/// count as held by a saved node. What the node keeps besides its core isn't in it. It takes the
-/// memory for them at once, and time likewise.
+/// count as held by a saved node. What the node keeps besides its core isn't in it. It takes memory
+/// and time in proportion to them.
 ///
 /// # Errors
 ///
@@ -39,10 +39,8 @@ fn core_to_bytes(alloc: Global, core: &Core) -> Result<Vec<u8>, Refusal>
     ensures last { IfErr result (λ e. e ≡ Memory
         → length (image_of core.now) ≤ GREATEST_IMAGE) }
 {
-    let Some(left) = room_after_node(core) else {
-        return Err(Refusal::ImageTooLarge);
-    };
-    let mut out = Vec::with_capacity(alloc, GREATEST_IMAGE as usize - left)?;
-    put_node(&mut out, core)?;
-    Ok(out)
+    let _summary = core.state();
+    let mut out = Writer::new(alloc, GREATEST_IMAGE as u32, 0);
+    put_node(&mut out, core);
+    out.finish()
 }

@@ -1,173 +1,97 @@
 //! The slots and the letters of a heap as bytes.
-ghost use Rattle.std.specs.Prelude.{◌≡◌, ◌++◌, ◌+◌, ◌<◌, ◌^◌, length, map, slice_index_or};
-ghost use Rattle.std.specs.Prelude.{OnOk, IfErr, IfSome, IfNone};
-ghost use Rattle.std.specs.List.{flat_map, AllByRecursion};
-ghost use Rattle.std.specs.Int.{w32, to_be_bytes};
-ghost use Rattle.ids.specs.declared.refusal.Refusal.TheVariants.{Memory};
+ghost use Rattle.std.specs.Prelude.{◌≡◌, ◌<◌, [], ◌∷◌, ◌++◌, length, map, slice_index_or};
 ghost use Rattle.arena.specs.Arena.{slot_read};
 ghost use Rattle.arena.specs.declared.Slot.TheVariants.{Occupied};
-ghost use Rattle.image.specs.Grammar.{counted, places_bytes, object_bytes, slot_bytes};
-ghost use Rattle.image.specs.Grammar.{letter_bytes};
+ghost use Rattle.codec.specs.Formats.{number4, number8, counted};
+ghost use Rattle.codec.specs.Writing.{Puts, PutsAll};
+ghost use Rattle.image.specs.Grammar.{slot_format, letter_format};
 ghost use Rattle.image.specs.Images.{stored_slot};
-ghost use Rattle.image.specs.Widths.{IsOptionalOfWidth, IsObjectOfWidth, IsSlotOfWidth};
-ghost use Rattle.image.specs.Widths.{IsLetterOfWidth};
 
-use crate::part::{Part, put_all, room_after_all};
+use crate::lists::put_all;
 use crate::tags::{FREE, OCCUPIED, RETIRED};
+use byteorder::{BigEndian, ByteOrder};
+use codec::Writer;
 use heap::{Heap, Object, Slot};
-use ids::{Generation, Ref, Refusal};
+use ids::Generation;
 use model::Letter;
-use msg::writing::{put_u8, put_u32, put_u64};
+use msg::writing::put_optional;
 
 // ---- slots
 
-// Appends how many places there are in a byte, and the places.
-fn put_places(out: &mut Vec<u8>, places: &[Option<Ref>]) -> Result<(), Refusal>
-    requires { length places.now < 2 ^ 8 }
-    ensures done { OnOk result (out.new.items ≡ out.old.items ++ places_bytes places.now) }
-    ensures width { OnOk result (AllByRecursion IsOptionalOfWidth places.now) }
-    ensures refused { IfErr result (λ e. e ≡ Memory) }
+// What stands before an object's places.
+#[tactic(auto, unfolding(crate::specs::Numbers::number4, crate::specs::Numbers::number8))]
+fn occupied_head(generation: Generation, mark: u64, word: u64, places: u8) -> [u8; 22]
+    ensures { result ≡ 1 ∷ (number4.spell generation
+        ++ (number8.spell mark ++ (number8.spell word ++ places ∷ []))) }
 {
-    put_u8(out, places.len() as u8)?;
-    put_all(out, places)
+    let mut part = [0; 22];
+    part[0] = OCCUPIED;
+    BigEndian::write_u32(&mut part[1..], generation);
+    BigEndian::write_u64(&mut part[5..], mark);
+    BigEndian::write_u64(&mut part[13..], word);
+    part[21] = places;
+    part
 }
 
-// Appends the object of these parts.
-fn put_object(
-    out: &mut Vec<u8>,
-    mark: u64,
-    word: u64,
-    places: &[Option<Ref>],
-) -> Result<(), Refusal>
-    requires { length places.now < 2 ^ 8 }
-    ensures done { OnOk result (out.new.items ≡ out.old.items
-        ++ object_bytes (record { word = word; places = places.now; mark = mark })) }
-    ensures width { OnOk result
-        (IsObjectOfWidth (record { word = word; places = places.now; mark = mark })) }
-    ensures refused { IfErr result (λ e. e ≡ Memory) }
+fn put_occupied(out: &mut Writer, generation: Generation, object: &Object)
+    ensures { Puts slot_format out.old out.new (Occupied generation object.now) }
 {
-    put_u64(out, mark)?;
-    put_u64(out, word)?;
-    put_places(out, places)
+    let places = object.contents();
+    let (mark, word) = (object.marked_by(), object.word());
+    out.append(&occupied_head(generation, mark, word, places.len() as u8));
+    put_all(out, places);
 }
 
-fn put_occupied(out: &mut Vec<u8>, generation: Generation, object: &Object) -> Result<(), Refusal>
-    ensures done { OnOk result (out.new.items ≡ out.old.items
-        ++ slot_bytes (Occupied generation object.now)) }
-    ensures width { OnOk result (IsSlotOfWidth (Occupied generation object.now)) }
-    ensures refused { IfErr result (λ e. e ≡ Memory) }
-{
-    put_u8(out, OCCUPIED)?;
-    put_u32(out, generation)?;
-    put_object(out, object.marked_by(), object.word(), object.contents())
-}
-
-fn put_slot(out: &mut Vec<u8>, slot: Slot<&Object>) -> Result<(), Refusal>
-    ensures done { OnOk result
-        (out.new.items ≡ out.old.items ++ slot_bytes (slot_read slot.entry)) }
-    ensures width { OnOk result (IsSlotOfWidth (slot_read slot.entry)) }
-    ensures refused { IfErr result (λ e. e ≡ Memory) }
+#[tactic(auto, unfolding(crate::specs::Grammar::slot_format), using(crate::proofs::Joins::behind))]
+fn put_slot(out: &mut Writer, slot: Slot<&Object>)
+    ensures { Puts slot_format out.old out.new (slot_read slot.entry) }
 {
     match slot {
         Slot::Free(generation) => {
-            put_u8(out, FREE)?;
-            put_u32(out, generation)
+            out.u8(FREE);
+            out.u32(generation);
         }
         Slot::Occupied(generation, object) => put_occupied(out, generation, object),
-        Slot::Retired => put_u8(out, RETIRED),
+        Slot::Retired => out.u8(RETIRED),
     }
 }
 
-fn put_each_slot(out: &mut Vec<u8>, heap: &Heap) -> Result<(), Refusal>
-    ensures done { OnOk result (out.new.items ≡ out.old.items
-        ++ flat_map slot_bytes (map stored_slot heap.now.heap.slots)) }
-    ensures width { OnOk result
-        (AllByRecursion IsSlotOfWidth (map stored_slot heap.now.heap.slots)) }
-    ensures refused { IfErr result (λ e. e ≡ Memory) }
+#[tactic(auto, using(crate::proofs::Joins::unwritten))]
+fn put_each_slot(out: &mut Writer, heap: &Heap)
+    ensures { PutsAll slot_format out.old out.new (map stored_slot heap.now.heap.slots) }
 {
     for slot in 0..heap.slots() {
-        put_slot(out, heap.slot(slot))?;
-    }
-    Ok(())
-}
-
-/// Appends how many slots there are in four bytes, and the slots. `Memory` where a growth was
-/// refused.
-pub(crate) fn put_slot_list(out: &mut Vec<u8>, heap: &Heap) -> Result<(), Refusal>
-    ensures done { OnOk result (out.new.items ≡ out.old.items
-        ++ counted slot_bytes (map stored_slot heap.now.heap.slots)) }
-    ensures width { OnOk result
-        (AllByRecursion IsSlotOfWidth (map stored_slot heap.now.heap.slots)) }
-    ensures refused { IfErr result (λ e. e ≡ Memory) }
-{
-    put_u32(out, heap.slots())?;
-    put_each_slot(out, heap)
-}
-
-fn room_after_slot(room: usize, slot: Slot<&Object>) -> Option<usize>
-    ensures left { IfSome result
-        (λ left. left + length (slot_bytes (slot_read slot.entry)) ≡ room) }
-    ensures over { IfNone result (room < length (slot_bytes (slot_read slot.entry))) }
-{
-    match slot {
-        Slot::Free(_) => room.checked_sub(5),
-        Slot::Occupied(_, object) => {
-            let left = room.checked_sub(22)?;
-            room_after_all(left, object.contents())
-        }
-        Slot::Retired => room.checked_sub(1),
+        put_slot(out, heap.slot(slot));
     }
 }
 
-/// The bytes that are left of so many once the slots are written. None where they take more.
-pub(crate) fn room_after_slots(room: usize, heap: &Heap) -> Option<usize>
-    ensures left { IfSome result (λ left. left
-        + length (flat_map slot_bytes (map stored_slot heap.now.heap.slots)) ≡ room) }
-    ensures over { IfNone result
-        (room < length (flat_map slot_bytes (map stored_slot heap.now.heap.slots))) }
+/// Appends how many slots there are in four bytes, and the slots.
+pub(crate) fn put_slot_list(out: &mut Writer, heap: &Heap)
+    ensures { Puts (counted number4 slot_format) out.old out.new
+        (map stored_slot heap.now.heap.slots) }
 {
-    let mut left = room;
-    for slot in 0..heap.slots() {
-        left = room_after_slot(left, heap.slot(slot))?;
-    }
-    Some(left)
+    out.u32(heap.slots());
+    put_each_slot(out, heap);
 }
 
 // ---- free slots
 
-fn put_each_free(out: &mut Vec<u8>, heap: &Heap) -> Result<(), Refusal>
-    ensures done { OnOk result
-        (out.new.items ≡ out.old.items ++ flat_map (to_be_bytes w32) heap.now.heap.free) }
-    ensures width { OnOk result (AllByRecursion (λ k. k < 2 ^ 32) heap.now.heap.free) }
-    ensures refused { IfErr result (λ e. e ≡ Memory) }
+#[tactic(auto, using(crate::proofs::Joins::unwritten))]
+fn put_each_free(out: &mut Writer, heap: &Heap)
+    ensures { PutsAll number4 out.old out.new heap.now.heap.free }
 {
     for slot in heap.free_slots() {
-        put_u32(out, slot)?;
+        out.u32(slot);
     }
-    Ok(())
 }
 
-/// Appends how many slots are free in four bytes, and each of them in four. `Memory` where a growth
-/// was refused.
-pub(crate) fn put_free_list(out: &mut Vec<u8>, heap: &Heap) -> Result<(), Refusal>
-    ensures done { OnOk result
-        (out.new.items ≡ out.old.items ++ counted (to_be_bytes w32) heap.now.heap.free) }
-    ensures width { OnOk result (AllByRecursion (λ k. k < 2 ^ 32) heap.now.heap.free) }
-    ensures refused { IfErr result (λ e. e ≡ Memory) }
+/// Appends how many slots are free in four bytes, and each of them in four.
+#[tactic(auto, using(crate::proofs::Joins::both))]
+pub(crate) fn put_free_list(out: &mut Writer, heap: &Heap)
+    ensures { Puts (counted number4 number4) out.old out.new heap.now.heap.free }
 {
-    put_u32(out, heap.vacant())?;
-    put_each_free(out, heap)
-}
-
-/// The bytes that are left of so many once the free slots are written. None where they take more.
-#[tactic(auto, using(crate::proofs::Sizes::numbers_length))]
-pub(crate) fn room_after_free(room: usize, heap: &Heap) -> Option<usize>
-    ensures left { IfSome result
-        (λ left. left + length (flat_map (to_be_bytes w32) heap.now.heap.free) ≡ room) }
-    ensures over { IfNone result
-        (room < length (flat_map (to_be_bytes w32) heap.now.heap.free)) }
-{
-    room.checked_sub(4 * heap.vacant() as usize)
+    out.u32(heap.vacant());
+    put_each_free(out, heap);
 }
 
 // ---- letters
@@ -182,41 +106,32 @@ fn letter_at(heap: &Heap, number: usize) -> Letter
     }
 }
 
-fn put_each_letter(out: &mut Vec<u8>, heap: &Heap) -> Result<(), Refusal>
-    ensures done { OnOk result
-        (out.new.items ≡ out.old.items ++ flat_map letter_bytes heap.now.heap.letters) }
-    ensures width { OnOk result (AllByRecursion IsLetterOfWidth heap.now.heap.letters) }
-    ensures refused { IfErr result (λ e. e ≡ Memory) }
+#[tactic(auto, unfolding(crate::specs::Grammar::letter_format), using(crate::proofs::Joins::both, crate::proofs::Joins::first))]
+fn put_letter(out: &mut Writer, letter: Letter)
+    ensures { Puts letter_format out.old out.new letter }
 {
-    for number in 0..heap.letters() {
-        letter_at(heap, number).put(out)?;
-    }
-    Ok(())
+    out.u8(letter.from);
+    out.u32(letter.label);
+    put_optional(out, letter.reference);
 }
 
-/// Appends how many letters wait in four bytes, and the letters. `Memory` where a growth was
-/// refused.
-pub(crate) fn put_letters(out: &mut Vec<u8>, heap: &Heap) -> Result<(), Refusal>
-    requires { length heap.now.heap.letters < 2 ^ 32 }
-    ensures done { OnOk result
-        (out.new.items ≡ out.old.items ++ counted letter_bytes heap.now.heap.letters) }
-    ensures width { OnOk result (AllByRecursion IsLetterOfWidth heap.now.heap.letters) }
-    ensures refused { IfErr result (λ e. e ≡ Memory) }
+#[tactic(auto, using(crate::proofs::Joins::unwritten, crate::proofs::Joins::written_more))]
+fn put_each_letter(out: &mut Writer, heap: &Heap)
+    ensures { PutsAll letter_format out.old out.new heap.now.heap.letters }
 {
-    put_u32(out, heap.letters() as u32)?;
-    put_each_letter(out, heap)
+    for number in 0..heap.letters() {
+        put_letter(out, letter_at(heap, number));
+    }
 }
 
-/// The bytes that are left of so many once the letters are written. None where they take more.
-pub(crate) fn room_after_letters(room: usize, heap: &Heap) -> Option<usize>
-    ensures left { IfSome result
-        (λ left. left + length (flat_map letter_bytes heap.now.heap.letters) ≡ room) }
-    ensures over { IfNone result
-        (room < length (flat_map letter_bytes heap.now.heap.letters)) }
+/// Appends how many letters wait in four bytes, and the letters.
+#[tactic(auto, using(crate::proofs::Joins::both))]
+pub(crate) fn put_letters(out: &mut Writer, heap: &Heap)
+    ensures { Puts (counted number4 letter_format) out.old out.new heap.now.heap.letters }
 {
-    let mut left = room;
-    for number in 0..heap.letters() {
-        left = letter_at(heap, number).room_after(left)?;
+    if out.is_over(heap.letters()) {
+        return;
     }
-    Some(left)
+    out.u32(heap.letters() as u32);
+    put_each_letter(out, heap);
 }

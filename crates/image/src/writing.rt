@@ -1,163 +1,131 @@
 //! A node as bytes.
-ghost use Rattle.std.specs.Prelude.{◌≡◌, ◌++◌, ◌<◌, ◌≤◌, length, OnOk, IfErr};
-ghost use Rattle.std.specs.Int.{w16, to_be_bytes};
-ghost use Rattle.ids.specs.declared.refusal.Refusal.TheVariants.{Memory};
-ghost use Rattle.image.specs.Grammar.{start_bytes, sizes_bytes, head_bytes, phases_bytes};
-ghost use Rattle.image.specs.Grammar.{balances_bytes, held_bytes, ring_bytes, front_bytes};
-ghost use Rattle.image.specs.Grammar.{told_bytes, slots_bytes, others_bytes, ArePhases, IsRing};
-ghost use Rattle.image.specs.Images.{stored_by, image_of};
-ghost use Rattle.image.specs.Widths.{AreShort, IsFrontOfWidth, AreToldOfWidth, AreSlotsOfWidth};
-ghost use Rattle.image.specs.Widths.{AreOthersOfWidth};
-ghost use Rattle.image.specs.Nodes.{IsImageOf};
-ghost use Rattle.node.specs.Invariant.{IsNode};
-ghost use Rattle.model.specs.View.{kept_view};
-ghost use Rattle.ids.specs.declared.limits.TheConstants.{GREATEST_IMAGE};
+ghost use Rattle.std.specs.Prelude.{◌≡◌, [], ◌∷◌, ◌++◌};
+ghost use Rattle.codec.specs.Formats.{◌&◌, number2, number4, signed8};
+ghost use Rattle.codec.specs.Writing.{Puts};
+ghost use Rattle.image.specs.Grammar.{head_format, phases_format, held_format, ring_format};
+ghost use Rattle.image.specs.Grammar.{front_format, told_format, slots_format, others_format};
+ghost use Rattle.image.specs.Grammar.{image_format, front_of, told_of, slots_of, others_of};
+ghost use Rattle.image.specs.Images.{stored_by};
 
 use crate::links::put_links;
-use crate::part::{put_all, put_counted};
+use crate::lists::{put_all, put_counted};
 use crate::parts::{Head, PhasesParts, RingParts};
 use crate::saying::{head_of, phases_of, reports_of, ring_of};
 use crate::slots::{put_free_list, put_letters, put_slot_list};
 use crate::tags::{ABSENT, PRESENT, START, VERSION};
-use byteorder::{BigEndian, WriteBytesExt};
-use ids::Refusal;
+use byteorder::{BigEndian, ByteOrder};
+use codec::Writer;
 use msg::Token;
-use msg::writing::{put_colour, put_i64, put_token, put_u8, put_u32, put_u64};
+use msg::writing::{put_colour, put_token};
 use node::Core;
 
-fn put_u16(out: &mut Vec<u8>, number: u16) -> Result<(), Refusal>
-    ensures done { OnOk result (out.new.items ≡ out.old.items ++ to_be_bytes w16 number) }
-    ensures refused { IfErr result (λ e. e ≡ Memory) }
+#[tactic(auto, unfolding(crate::specs::Numbers::number2, crate::specs::Numbers::number4))]
+fn head_bytes(head: Head) -> [u8; 11]
+    ensures { result ≡ (0x4D ∷ 0x52 ∷ 1 ∷ head.nodes ∷ head.own ∷ [])
+        ++ (number2.spell head.registers ++ number4.spell head.slots) }
 {
-    out.write_u16::<BigEndian>(number)
-        .map_err(|_| Refusal::Memory)
+    let mut part = [0; 11];
+    part[0] = START[0];
+    part[1] = START[1];
+    part[2] = VERSION;
+    part[3] = head.nodes;
+    part[4] = head.own;
+    BigEndian::write_u16(&mut part[5..], head.registers);
+    BigEndian::write_u32(&mut part[7..], head.slots);
+    part
 }
 
-fn put_start(out: &mut Vec<u8>) -> Result<(), Refusal>
-    ensures done { OnOk result (out.new.items ≡ out.old.items ++ start_bytes) }
-    ensures refused { IfErr result (λ e. e ≡ Memory) }
+fn put_head(out: &mut Writer, head: Head)
+    ensures { Puts head_format out.old out.new head }
 {
-    put_u8(out, START[0])?;
-    put_u8(out, START[1])?;
-    put_u8(out, VERSION)
+    out.append(&head_bytes(head));
 }
 
-fn put_sizes(out: &mut Vec<u8>, head: Head) -> Result<(), Refusal>
-    ensures done { OnOk result (out.new.items ≡ out.old.items ++ sizes_bytes head) }
-    ensures refused { IfErr result (λ e. e ≡ Memory) }
+#[tactic(auto, unfolding(crate::specs::Grammar::phases_format), using(crate::proofs::Joins::both))]
+fn put_phases(out: &mut Writer, p: PhasesParts)
+    ensures { Puts phases_format out.old out.new p }
 {
-    put_u8(out, head.nodes)?;
-    put_u8(out, head.own)?;
-    put_u16(out, head.registers)?;
-    put_u32(out, head.slots)
+    out.u64(p.cycle);
+    out.u64(p.ended);
+    out.u64(p.swept);
+    out.u32(p.cursor);
 }
 
-fn put_head(out: &mut Vec<u8>, head: Head) -> Result<(), Refusal>
-    ensures done { OnOk result (out.new.items ≡ out.old.items ++ head_bytes head) }
-    ensures refused { IfErr result (λ e. e ≡ Memory) }
+#[tactic(auto, unfolding(crate::specs::Grammar::held_format), using(crate::proofs::Joins::behind))]
+fn put_held(out: &mut Writer, held: Option<Token>)
+    ensures { Puts held_format out.old out.new held }
 {
-    put_start(out)?;
-    put_sizes(out, head)
-}
-
-fn put_phases(out: &mut Vec<u8>, phases: PhasesParts) -> Result<(), Refusal>
-    ensures done { OnOk result (out.new.items ≡ out.old.items ++ phases_bytes phases) }
-    ensures width { OnOk result (ArePhases phases) }
-    ensures refused { IfErr result (λ e. e ≡ Memory) }
-{
-    put_u64(out, phases.cycle)?;
-    put_u64(out, phases.ended)?;
-    put_u64(out, phases.swept)?;
-    put_u32(out, phases.cursor)
-}
-
-fn put_held(out: &mut Vec<u8>, token: Option<Token>) -> Result<(), Refusal>
-    ensures done { OnOk result (out.new.items ≡ out.old.items ++ held_bytes token) }
-    ensures refused { IfErr result (λ e. e ≡ Memory) }
-{
-    match token {
-        None => put_u8(out, ABSENT),
+    match held {
+        None => out.u8(ABSENT),
         Some(token) => {
-            put_u8(out, PRESENT)?;
-            put_token(out, token)
+            out.u8(PRESENT);
+            put_token(out, token);
         }
     }
 }
 
-fn put_balances(out: &mut Vec<u8>, ring: RingParts) -> Result<(), Refusal>
-    ensures done { OnOk result
-        (out.new.items ≡ out.old.items ++ balances_bytes ring.earlier ring.recent) }
-    ensures refused { IfErr result (λ e. e ≡ Memory) }
+// The two balances, and the token where it is held.
+fn put_balances(out: &mut Writer, earlier: i64, recent: i64, held: Option<Token>)
+    ensures { Puts (signed8 & signed8 & held_format) out.old out.new (earlier, (recent, held)) }
 {
-    put_i64(out, ring.earlier)?;
-    put_i64(out, ring.recent)
+    out.i64(earlier);
+    out.i64(recent);
+    put_held(out, held);
 }
 
-fn put_ring(out: &mut Vec<u8>, ring: RingParts) -> Result<(), Refusal>
-    ensures done { OnOk result (out.new.items ≡ out.old.items ++ ring_bytes ring) }
-    ensures width { OnOk result (IsRing ring) }
-    ensures refused { IfErr result (λ e. e ≡ Memory) }
+fn put_ring(out: &mut Writer, r: RingParts)
+    ensures { Puts ring_format out.old out.new r }
 {
-    put_colour(out, ring.colour)?;
-    put_balances(out, ring)?;
-    put_held(out, ring.token)
+    put_colour(out, r.colour);
+    put_balances(out, r.earlier, r.recent, r.token);
 }
 
-fn put_front(out: &mut Vec<u8>, node: &Core) -> Result<(), Refusal>
-    ensures done { OnOk result (out.new.items ≡ out.old.items ++ front_bytes (stored_by node.now)) }
-    ensures width { OnOk result (IsFrontOfWidth (stored_by node.now)) }
-    ensures refused { IfErr result (λ e. e ≡ Memory) }
+#[tactic(auto, unfolding(crate::specs::Grammar::front_format), using(crate::proofs::Joins::both))]
+fn put_front(out: &mut Writer, node: &Core)
+    ensures { Puts front_format out.old out.new (front_of (stored_by node.now)) }
 {
-    put_head(out, head_of(node))?;
-    put_phases(out, phases_of(node))?;
-    put_ring(out, ring_of(node))
+    put_head(out, head_of(node));
+    put_phases(out, phases_of(node));
+    put_ring(out, ring_of(node));
 }
 
-fn put_told(out: &mut Vec<u8>, node: &Core) -> Result<(), Refusal>
-    ensures done { OnOk result (out.new.items ≡ out.old.items ++ told_bytes (stored_by node.now)) }
-    ensures width { OnOk result (AreToldOfWidth (stored_by node.now)) }
-    ensures refused { IfErr result (λ e. e ≡ Memory) }
+#[tactic(auto, unfolding(crate::specs::Grammar::told_format), using(crate::proofs::Joins::both))]
+fn put_told(out: &mut Writer, node: &Core)
+    ensures { let said = stored_by node.now in
+        Puts (told_format said.head) out.old out.new (told_of said) }
 {
-    put_all(out, reports_of(node))?;
-    put_all(out, node.heap().registers())
+    put_all(out, reports_of(node));
+    put_all(out, node.heap().registers());
 }
 
-fn put_slots(out: &mut Vec<u8>, node: &Core) -> Result<(), Refusal>
-    requires { AreShort (stored_by node.now) }
-    ensures done { OnOk result (out.new.items ≡ out.old.items ++ slots_bytes (stored_by node.now)) }
-    ensures width { OnOk result (AreSlotsOfWidth (stored_by node.now)) }
-    ensures refused { IfErr result (λ e. e ≡ Memory) }
+#[tactic(auto, unfolding(crate::specs::Grammar::slots_format), using(crate::proofs::Joins::both))]
+fn put_slots(out: &mut Writer, node: &Core)
+    ensures { Puts slots_format out.old out.new (slots_of (stored_by node.now)) }
 {
     let heap = node.heap();
-    put_slot_list(out, heap)?;
-    put_free_list(out, heap)?;
-    put_counted(out, heap.grey_slots())
+    put_slot_list(out, heap);
+    put_free_list(out, heap);
+    put_counted(out, heap.grey_slots());
 }
 
-fn put_others(out: &mut Vec<u8>, node: &Core, own: u8) -> Result<(), Refusal>
-    requires own { own ≡ node.now.local.own }
-    requires sound { IsNode node.now }
-    requires short { AreShort (stored_by node.now) }
-    ensures done { OnOk result
-        (out.new.items ≡ out.old.items ++ others_bytes (stored_by node.now)) }
-    ensures width { OnOk result (AreOthersOfWidth (stored_by node.now)) }
-    ensures refused { IfErr result (λ e. e ≡ Memory) }
+#[tactic(auto, unfolding(crate::specs::Grammar::others_format), using(crate::proofs::Joins::both))]
+fn put_others(out: &mut Writer, node: &Core, own: u8)
+    requires { own ≡ node.now.local.own }
+    ensures { let said = stored_by node.now in
+        Puts (others_format said.head) out.old out.new (others_of said) }
 {
-    put_counted(out, node.asked())?;
-    put_letters(out, node.heap())?;
-    put_links(out, own, node.links())
+    put_counted(out, node.asked());
+    put_letters(out, node.heap());
+    put_links(out, own, node.links());
 }
 
-/// Appends the image of the node. `Memory` where a growth was refused.
-pub(crate) fn put_node(out: &mut Vec<u8>, node: &Core) -> Result<(), Refusal>
-    requires { length (image_of node.now) ≤ GREATEST_IMAGE }
-    ensures done { OnOk result (out.new.items ≡ out.old.items ++ image_of node.now) }
-    ensures image { OnOk result (IsImageOf (image_of node.now) (kept_view node.now)) }
-    ensures refused { IfErr result (λ e. e ≡ Memory) }
+/// Appends the image of the node.
+#[tactic(auto, unfolding(crate::specs::Grammar::image_format, crate::specs::Grammar::lists_format), using(crate::proofs::Joins::both))]
+pub(crate) fn put_node(out: &mut Writer, node: &Core)
+    ensures { Puts image_format out.old out.new (stored_by node.now) }
 {
-    let own = node.state().own;
-    put_front(out, node)?;
-    put_told(out, node)?;
-    put_slots(out, node)?;
-    put_others(out, node, own)
+    put_front(out, node);
+    put_told(out, node);
+    put_slots(out, node);
+    put_others(out, node, node.state().own);
 }

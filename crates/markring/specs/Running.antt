@@ -36,13 +36,14 @@ abbrev pub is_own_said : RunLine → Bool
 is_own_said (said.Act node e) = is_own e
 is_own_said l = true
 
--- a line that waits
-abbrev pub is_waiting : RunLine → Bool
-is_waiting said.Cycle = true
-is_waiting (said.Await node register) = true
-is_waiting l = false
+-- a line that other scripts don't have
+abbrev pub is_of_runs : RunLine → Bool
+is_of_runs said.Cycle = true
+is_of_runs (said.Await node register) = true
+is_of_runs (said.Trace node) = true
+is_of_runs l = false
 
--- A line of other scripts says here what it says there, or nothing. Any other line may wait.
+-- A line of other scripts says here what it says there, or nothing. Any other line is one of runs.
 abbrev pub IsSaid : Option Line → Option RunLine → Type 0
 IsSaid (Some l) result = result ≡ shared_of l
-IsSaid None result = IfSome result (λ l. IsTrue (is_waiting l))
+IsSaid None result = IfSome result (λ l. IsTrue (is_of_runs l))

@@ -1,7 +1,7 @@
 //! One line of a script that runs over node threads.
 ghost use Rattle.std.specs.Prelude.{◌≡◌, IfSome, IsTrue};
 ghost use Rattle.commands.specs.Grammar.{is_own_line, line_of, words_of};
-ghost use Rattle.markring.specs.Running.{is_for_workers, is_own_said, is_waiting, shared_of, IsSaid};
+ghost use Rattle.markring.specs.Running.{is_for_workers, is_own_said, is_of_runs, shared_of, IsSaid};
 
 use commands::{Line, read_u8, read_u16};
 use model::{Event, Step};
@@ -19,19 +19,21 @@ pub enum RunLine {
     Cycle,
     /// A letter, taken into this register of the node once one is there.
     Await { node: u8, register: u16 },
+    /// The trace of a node's last calls.
+    Trace(u8),
 }
 
 impl RunLine {
     /// What the line says, or None where it is outside the grammar: `cycle`, `await` with a node
-    /// and a register, and the lines of other scripts that ask for an event of a program or for a
-    /// restart.
+    /// and a register, a node and `trace`, and the lines of other scripts that ask for an event of a
+    /// program or for a restart.
     pub fn parse(text: &str) -> Option<RunLine>
         ensures shared { IsSaid (line_of (words_of text.now)) result }
         ensures own { IfSome result (λ l. IsTrue (is_own_said l)) }
     {
         match Line::parse(text) {
             Some(line) => shared(line),
-            None => waiting(text),
+            None => of_runs(text),
         }
     }
 }
@@ -50,7 +52,7 @@ fn shared(line: Line) -> Option<RunLine>
                 Some(RunLine::Act(node, event))
             }
         }
-        Line::Step(_) | Line::Space { .. } | Line::State(_) => None,
+        Line::Step(_) | Line::Space { .. } | Line::State(_) | Line::Report => None,
     }
 }
 
@@ -64,9 +66,9 @@ fn is_for_workers(event: &Event) -> bool
     }
 }
 
-// What a line says that waits.
-fn waiting(text: &str) -> Option<RunLine>
-    ensures { IfSome result (λ l. IsTrue (is_waiting l)) }
+// What a line says that other scripts don't have.
+fn of_runs(text: &str) -> Option<RunLine>
+    ensures { IfSome result (λ l. IsTrue (is_of_runs l)) }
 {
     let mut words = text.split(' ').filter(|word| !word.is_empty());
     let found = match (words.next()?, words.next(), words.next()) {
@@ -75,6 +77,7 @@ fn waiting(text: &str) -> Option<RunLine>
             node: read_u8(node)?,
             register: read_u16(register)?,
         },
+        (node, Some("trace"), None) => RunLine::Trace(read_u8(node)?),
         _ => return None,
     };
     if words.next().is_some() {

@@ -29,11 +29,13 @@ const PAUSE: u64 = 500;
 const LOOK: u64 = 500;
 
 /// What a line of a script comes to.
-#[derive(Clone, Copy)]
+#[derive(Drop)]
 enum Told {
     /// Nothing is printed.
     Nothing,
     Outcome(Outcome),
+    /// The texts of a node's last calls.
+    Trace(Vec<String>),
     Refused(Refusal),
     /// All workers had ended before a cycle did.
     NoVerdict,
@@ -280,6 +282,10 @@ fn take_line<R: Clock + Wait, D: Disk + Drop>(
         },
         Some(RunLine::Cycle) => cycle(rt, space, watch),
         Some(RunLine::Await { node, register }) => await_letter(rt, space, node, register),
+        Some(RunLine::Trace(node)) => match trace(rt, space, node) {
+            Ok(texts) => Told::Trace(texts),
+            Err(refusal) => Told::Refused(refusal),
+        },
         None => Told::NoCommand,
     }
 }
@@ -302,6 +308,18 @@ fn act<R: Wait, D: Disk + Drop>(
 {
     match space.program(node) {
         Some(program) => program.act(rt, event),
+        None => Err(Refusal::NoNode),
+    }
+}
+
+// The texts of a node's last calls.
+fn trace<R: Wait, D: Disk + Drop>(
+    rt: &R,
+    space: &Space<D>,
+    node: u8,
+) -> Result<Vec<String>, Refusal> {
+    match space.program(node) {
+        Some(program) => program.trace_lines(rt),
         None => Err(Refusal::NoNode),
     }
 }
@@ -363,6 +381,7 @@ fn print_told<W: Write>(out: &mut W, number: usize, told: &Told) -> io::Result<(
     match told {
         Told::Nothing => {}
         Told::Outcome(outcome) => writeln!(out, "{}", OutcomeText(*outcome))?,
+        Told::Trace(texts) => print_texts(out, texts.as_slice())?,
         Told::Refused(refusal) => writeln!(out, "refused {refusal}")?,
         Told::NoVerdict => writeln!(out, "no verdict")?,
         Told::NoCommand => writeln!(out, "line {number}: not a command")?,
@@ -370,12 +389,23 @@ fn print_told<W: Write>(out: &mut W, number: usize, told: &Told) -> io::Result<(
     out.flush()
 }
 
+// Prints texts, a line each, or `-` where there are none.
+fn print_texts<W: Write>(out: &mut W, texts: &[String]) -> io::Result<()> {
+    if texts.is_empty() {
+        return writeln!(out, "-");
+    }
+    for text in texts {
+        writeln!(out, "{text}")?;
+    }
+    Ok(())
+}
+
 // The status that a script has at least where a line comes to this.
 fn status_after(told: &Told) -> u8
     ensures { result ≤ 2 }
 {
     match told {
-        Told::Nothing | Told::Outcome(_) => DONE,
+        Told::Nothing | Told::Outcome(_) | Told::Trace(_) => DONE,
         Told::Refused(_) | Told::NoVerdict => REFUSED,
         Told::NoCommand => UNREADABLE,
     }

@@ -1,4 +1,5 @@
 pub mod Limits
-pub mod Fields
-pub mod Bodies
+pub mod Formats
 pub mod Frames
+pub mod Joins
+pub mod Written

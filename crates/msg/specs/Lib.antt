@@ -1,5 +1,7 @@
 pub mod Limits
+pub mod Formats
 pub mod Grammar
 pub mod Frames
-pub mod Reading
+pub mod Lengths
+pub mod Numbers
 pub mod Texts

@@ -2,66 +2,25 @@ ghost use Rattle.std.specs.Prelude.{◌≡◌, IfOk, IfErr};
 ghost use Rattle.std.specs.Option.{option_map};
 ghost use Rattle.std.specs.Result.{IsOkAnd};
 ghost use Rattle.ids.specs.declared.refusal.Refusal.TheVariants.{BadFrame};
-ghost use Rattle.msg.specs.Grammar.{Plain, Fits, spelling};
+ghost use Rattle.msg.specs.Formats.{reference, optional, colour, token, give_at, put_at, get_at};
+ghost use Rattle.msg.specs.Formats.{body_format, head};
+ghost use Rattle.msg.specs.Grammar.{Plain, Fits, spelling, data_at, ack_at, frame};
+ghost use Rattle.codec.specs.Formats.{whole_at};
 ghost use Rattle.msg.specs.Frames.{plain, plain_data, plain_ack};
-ghost use Rattle.msg.specs.Reading.{byte_at, number_at, signed_at, reference_at, optional_at};
-ghost use Rattle.msg.specs.Reading.{colour_at, token_at, give_at, put_at, get_at, body_at};
-ghost use Rattle.msg.specs.Reading.{head_at, data_at, ack_at, frame_at, whole};
 
 use crate::body::{Body, Colour, Token};
 use crate::frame::{Ack, Data, Frame};
 use crate::tags::{
     ABSENT, ACK, BEGIN, BLACK, DATA, ENDED, GET, GIVE, MARK, PRESENT, PUT, SWEPT, TOKEN, WHITE,
 };
-use byteorder::{BigEndian, ByteOrder};
+use codec::reading::{i64_at, u8_at, u32_at, u64_at};
 use ids::{Ref, Refusal};
 
-/// The byte at the front, and the bytes after it. None where there is no such thing at the front,
-/// and so for every call here.
-pub fn u8_at(bytes: &[u8]) -> Option<(u8, &[u8])>
-    ensures { byte_at bytes.now ≡ option_map (λ x. (x.0, x.1.now)) result }
-{
-    match bytes {
-        [byte, rest @ ..] => Some((*byte, rest)),
-        [] => None,
-    }
-}
-
-/// A number in four bytes.
-pub fn u32_at(bytes: &[u8]) -> Option<(u32, &[u8])>
-    ensures { number_at 4 bytes.now ≡ option_map (λ x. (x.0, x.1.now)) result }
-{
-    if bytes.len() < 4 {
-        return None;
-    }
-    Some((BigEndian::read_u32(bytes), &bytes[4..]))
-}
-
-/// A number in eight bytes.
-pub fn u64_at(bytes: &[u8]) -> Option<(u64, &[u8])>
-    ensures { number_at 8 bytes.now ≡ option_map (λ x. (x.0, x.1.now)) result }
-{
-    if bytes.len() < 8 {
-        return None;
-    }
-    Some((BigEndian::read_u64(bytes), &bytes[8..]))
-}
-
-/// A number in eight bytes, in two's complement.
-#[tactic(auto, unfolding(crate::specs::Reading::signed_at))]
-pub fn i64_at(bytes: &[u8]) -> Option<(i64, &[u8])>
-    ensures { signed_at bytes.now ≡ option_map (λ x. (x.0, x.1.now)) result }
-{
-    if bytes.len() < 8 {
-        return None;
-    }
-    Some((BigEndian::read_i64(bytes), &bytes[8..]))
-}
-
-/// A reference, whose numbers may be any.
-#[tactic(auto, unfolding(crate::specs::Reading::reference_at))]
+/// A reference, whose numbers may be any. None where there is no such thing at the front, and so
+/// for every call here.
+#[tactic(auto, unfolding(crate::specs::Formats::reference))]
 pub fn reference_at(bytes: &[u8]) -> Option<(Ref, &[u8])>
-    ensures { reference_at bytes.now ≡ option_map (λ x. (x.0, x.1.now)) result }
+    ensures { reference.read bytes.now ≡ option_map (λ x. (x.0, x.1.now)) result }
 {
     let (node, rest) = u8_at(bytes)?;
     let (slot, rest) = u32_at(rest)?;
@@ -75,9 +34,9 @@ pub fn reference_at(bytes: &[u8]) -> Option<(Ref, &[u8])>
 }
 
 /// A reference whose numbers may be any, or that there is none.
-#[tactic(auto, unfolding(crate::specs::Reading::optional_at))]
+#[tactic(auto, unfolding(crate::specs::Formats::optional))]
 pub fn optional_at(bytes: &[u8]) -> Option<(Option<Ref>, &[u8])>
-    ensures { optional_at bytes.now ≡ option_map (λ x. (x.0, x.1.now)) result }
+    ensures { optional.read bytes.now ≡ option_map (λ x. (x.0, x.1.now)) result }
 {
     let (flag, rest) = u8_at(bytes)?;
     match flag {
@@ -91,9 +50,9 @@ pub fn optional_at(bytes: &[u8]) -> Option<(Option<Ref>, &[u8])>
 }
 
 /// A colour.
-#[tactic(auto, unfolding(crate::specs::Reading::colour_at))]
+#[tactic(auto, unfolding(crate::specs::Formats::colour))]
 pub fn colour_at(bytes: &[u8]) -> Option<(Colour, &[u8])>
-    ensures { colour_at bytes.now ≡ option_map (λ x. (x.0, x.1.now)) result }
+    ensures { colour.read bytes.now ≡ option_map (λ x. (x.0, x.1.now)) result }
 {
     let (flag, rest) = u8_at(bytes)?;
     match flag {
@@ -104,16 +63,16 @@ pub fn colour_at(bytes: &[u8]) -> Option<(Colour, &[u8])>
 }
 
 /// A token.
-#[tactic(auto, unfolding(crate::specs::Reading::token_at))]
+#[tactic(auto, unfolding(crate::specs::Formats::token))]
 pub fn token_at(bytes: &[u8]) -> Option<(Token, &[u8])>
-    ensures { token_at bytes.now ≡ option_map (λ x. (x.0, x.1.now)) result }
+    ensures { token.read bytes.now ≡ option_map (λ x. (x.0, x.1.now)) result }
 {
     let (colour, rest) = colour_at(bytes)?;
     let (q, rest) = i64_at(rest)?;
     Some((Token { colour, q }, rest))
 }
 
-#[tactic(auto, unfolding(crate::specs::Reading::give_at))]
+#[tactic(auto, unfolding(crate::specs::Formats::give_at))]
 fn give_at(bytes: &[u8]) -> Option<(Body, &[u8])>
     ensures { give_at bytes.now ≡ option_map (λ x. (x.0, x.1.now)) result }
 {
@@ -122,7 +81,7 @@ fn give_at(bytes: &[u8]) -> Option<(Body, &[u8])>
     Some((Body::Give { label, reference }, rest))
 }
 
-#[tactic(auto, unfolding(crate::specs::Reading::put_at))]
+#[tactic(auto, unfolding(crate::specs::Formats::put_at))]
 fn put_at(bytes: &[u8]) -> Option<(Body, &[u8])>
     ensures { put_at bytes.now ≡ option_map (λ x. (x.0, x.1.now)) result }
 {
@@ -137,7 +96,7 @@ fn put_at(bytes: &[u8]) -> Option<(Body, &[u8])>
     Some((body, rest))
 }
 
-#[tactic(auto, unfolding(crate::specs::Reading::get_at))]
+#[tactic(auto, unfolding(crate::specs::Formats::get_at))]
 fn get_at(bytes: &[u8]) -> Option<(Body, &[u8])>
     ensures { get_at bytes.now ≡ option_map (λ x. (x.0, x.1.now)) result }
 {
@@ -153,9 +112,9 @@ fn get_at(bytes: &[u8]) -> Option<(Body, &[u8])>
 }
 
 /// What a message says, behind its tag; its references and places may be any.
-#[tactic(auto, unfolding(crate::specs::Reading::body_at))]
+#[tactic(auto, unfolding(crate::specs::Formats::body_format))]
 pub fn body_at(bytes: &[u8]) -> Option<(Body, &[u8])>
-    ensures { body_at bytes.now ≡ option_map (λ x. (x.0, x.1.now)) result }
+    ensures { body_format.read bytes.now ≡ option_map (λ x. (x.0, x.1.now)) result }
 {
     let (tag, rest) = u8_at(bytes)?;
     match tag {
@@ -177,39 +136,39 @@ pub fn body_at(bytes: &[u8]) -> Option<(Body, &[u8])>
     }
 }
 
-#[tactic(auto, unfolding(crate::specs::Reading::head_at))]
-fn head_at(bytes: &[u8]) -> Option<((u8, u8, u64), &[u8])>
-    ensures { head_at bytes.now ≡ option_map (λ x. (x.0, x.1.now)) result }
+#[tactic(auto, unfolding(crate::specs::Formats::head))]
+fn head_at(bytes: &[u8]) -> Option<((u8, (u8, u64)), &[u8])>
+    ensures { head.read bytes.now ≡ option_map (λ x. (x.0, x.1.now)) result }
 {
     let (from, rest) = u8_at(bytes)?;
     let (to, rest) = u8_at(rest)?;
     let (number, rest) = u64_at(rest)?;
-    Some(((from, to, number), rest))
+    Some(((from, (to, number)), rest))
 }
 
-#[tactic(auto, unfolding(crate::specs::Reading::data_at))]
+#[tactic(auto, unfolding(crate::specs::Grammar::data_at, crate::specs::Formats::sent))]
 fn data_at(bytes: &[u8]) -> Option<(Data, &[u8])>
     ensures { data_at bytes.now ≡ option_map (λ x. (plain_data x.0, x.1.now)) result }
 {
-    let ((from, to, number), rest) = head_at(bytes)?;
+    let ((from, (to, number)), rest) = head_at(bytes)?;
     let (stamp, rest) = u64_at(rest)?;
     let (body, rest) = body_at(rest)?;
     let data = Data::new(from, to, number, stamp, body)?;
     Some((data, rest))
 }
 
-#[tactic(auto, unfolding(crate::specs::Reading::ack_at))]
+#[tactic(auto, unfolding(crate::specs::Grammar::ack_at, crate::specs::Formats::known))]
 fn ack_at(bytes: &[u8]) -> Option<(Ack, &[u8])>
     ensures { ack_at bytes.now ≡ option_map (λ x. (plain_ack x.0, x.1.now)) result }
 {
-    let ((from, to, number), rest) = head_at(bytes)?;
+    let ((from, (to, number)), rest) = head_at(bytes)?;
     let ack = Ack::new(from, to, number)?;
     Some((ack, rest))
 }
 
-#[tactic(auto, unfolding(crate::specs::Reading::frame_at))]
+#[tactic(auto, unfolding(crate::specs::Grammar::frame))]
 fn frame_at(bytes: &[u8]) -> Option<(Frame, &[u8])>
-    ensures { frame_at bytes.now ≡ option_map (λ x. (plain x.0, x.1.now)) result }
+    ensures { frame.read bytes.now ≡ option_map (λ x. (plain x.0, x.1.now)) result }
 {
     let (kind, rest) = u8_at(bytes)?;
     match kind {
@@ -225,9 +184,9 @@ fn frame_at(bytes: &[u8]) -> Option<(Frame, &[u8])>
     }
 }
 
-#[tactic(auto, unfolding(crate::specs::Reading::whole))]
+#[tactic(auto, unfolding(crate::specs::Numbers::whole_at))]
 fn whole(bytes: &[u8]) -> Option<Frame>
-    ensures { whole bytes.now ≡ option_map plain result }
+    ensures { whole_at frame.read bytes.now ≡ option_map plain result }
 {
     let (frame, rest) = frame_at(bytes)?;
     if rest.is_empty() { Some(frame) } else { None }

@@ -1,10 +1,9 @@
-ghost use Rattle.std.specs.Prelude.{◌≡◌, ◌<◌, ◌^◌, ◌++◌, ◌∷◌, [], OnOk, IfOk, IfErr, IfSome};
-ghost use Rattle.std.specs.Int.{w32, w64, to_be_bytes};
+ghost use Rattle.std.specs.Prelude.{◌≡◌, [], ◌∷◌, ◌++◌, IfOk, IfErr};
 ghost use Rattle.ids.specs.declared.refusal.Refusal.TheVariants.{Memory};
-ghost use Rattle.std.specs.Int.RustNames.{FitsSigned};
-ghost use Rattle.msg.specs.Grammar.{Fits, IsOfWidth, IsReferenceOfWidth, spelling};
-ghost use Rattle.msg.specs.Grammar.{reference_bytes, optional_bytes, signed_bytes, token_bytes, colour_byte};
-ghost use Rattle.msg.specs.Grammar.{place_bytes, body_bytes, head_bytes};
+ghost use Rattle.codec.specs.Formats.{number8};
+ghost use Rattle.codec.specs.Writing.{Puts};
+ghost use Rattle.msg.specs.Formats.{reference, optional, colour, token, body_format};
+ghost use Rattle.msg.specs.Grammar.{Fits, spelling, frame};
 ghost use Rattle.msg.specs.Frames.{plain, plain_data, plain_ack};
 
 use crate::body::{Body, Colour, Token};
@@ -12,179 +11,143 @@ use crate::frame::{Ack, Data, Frame};
 use crate::tags::{
     ABSENT, ACK, BEGIN, BLACK, DATA, ENDED, GET, GIVE, MARK, PRESENT, PUT, SWEPT, TOKEN, WHITE,
 };
-use byteorder::{BigEndian, WriteBytesExt};
+use byteorder::{BigEndian, ByteOrder};
+use codec::Writer;
 use ids::{Ref, Refusal};
 use std::alloc::Global;
 
-/// Appends a byte. `Memory` where a growth was refused, and so for every call here.
-pub fn put_u8(out: &mut Vec<u8>, byte: u8) -> Result<(), Refusal>
-    ensures done { OnOk result (out.new.items ≡ out.old.items ++ byte ∷ []) }
-    ensures refused { IfErr result (λ e. e ≡ Memory) }
-{
-    Ok(out.push(byte)?)
-}
-
-/// Appends a number in four bytes.
-pub fn put_u32(out: &mut Vec<u8>, number: u32) -> Result<(), Refusal>
-    ensures done { OnOk result (out.new.items ≡ out.old.items ++ to_be_bytes w32 number) }
-    ensures refused { IfErr result (λ e. e ≡ Memory) }
-{
-    out.write_u32::<BigEndian>(number)
-        .map_err(|_| Refusal::Memory)
-}
-
-/// Appends a number in eight bytes.
-pub fn put_u64(out: &mut Vec<u8>, number: u64) -> Result<(), Refusal>
-    ensures done { OnOk result (out.new.items ≡ out.old.items ++ to_be_bytes w64 number) }
-    ensures refused { IfErr result (λ e. e ≡ Memory) }
-{
-    out.write_u64::<BigEndian>(number)
-        .map_err(|_| Refusal::Memory)
-}
-
-/// Appends a number in eight bytes, in two's complement.
-pub fn put_i64(out: &mut Vec<u8>, number: i64) -> Result<(), Refusal>
-    ensures done { OnOk result (out.new.items ≡ out.old.items ++ signed_bytes number) }
-    ensures refused { IfErr result (λ e. e ≡ Memory) }
-{
-    out.write_i64::<BigEndian>(number)
-        .map_err(|_| Refusal::Memory)
-}
+/// The longest frame has so many bytes.
+const GREATEST_FRAME: u32 = 40;
 
 /// Appends a reference.
-pub fn put_reference(out: &mut Vec<u8>, reference: Ref) -> Result<(), Refusal>
-    ensures width { OnOk result (IsReferenceOfWidth reference) }
-    ensures done { OnOk result (out.new.items ≡ out.old.items ++ reference_bytes reference) }
-    ensures refused { IfErr result (λ e. e ≡ Memory) }
+#[tactic(auto, unfolding(crate::specs::Formats::reference, crate::specs::Numbers::number4))]
+pub fn put_reference(out: &mut Writer, r: Ref)
+    ensures { Puts reference out.old out.new r }
 {
-    put_u8(out, reference.node)?;
-    put_u32(out, reference.slot)?;
-    put_u32(out, reference.generation)
+    let mut part = [0; 9];
+    part[0] = r.node;
+    BigEndian::write_u32(&mut part[1..], r.slot);
+    BigEndian::write_u32(&mut part[5..], r.generation);
+    out.append(&part);
 }
 
 /// Appends a reference, or that there is none.
-pub fn put_optional(out: &mut Vec<u8>, reference: Option<Ref>) -> Result<(), Refusal>
-    ensures width { OnOk result (IfSome reference IsReferenceOfWidth) }
-    ensures done { OnOk result (out.new.items ≡ out.old.items ++ optional_bytes reference) }
-    ensures refused { IfErr result (λ e. e ≡ Memory) }
+#[tactic(auto, unfolding(crate::specs::Formats::optional), using(crate::proofs::Joins::behind))]
+pub fn put_optional(out: &mut Writer, o: Option<Ref>)
+    ensures { Puts optional out.old out.new o }
 {
-    match reference {
-        None => put_u8(out, ABSENT),
-        Some(reference) => {
-            put_u8(out, PRESENT)?;
-            put_reference(out, reference)
+    match o {
+        None => out.u8(ABSENT),
+        Some(r) => {
+            out.u8(PRESENT);
+            put_reference(out, r);
         }
     }
 }
 
 /// Appends a colour.
-pub fn put_colour(out: &mut Vec<u8>, colour: Colour) -> Result<(), Refusal>
-    ensures done { OnOk result (out.new.items ≡ out.old.items ++ colour_byte colour ∷ []) }
-    ensures refused { IfErr result (λ e. e ≡ Memory) }
+#[tactic(auto, unfolding(crate::specs::Formats::colour))]
+pub fn put_colour(out: &mut Writer, c: Colour)
+    ensures { Puts colour out.old out.new c }
 {
-    let byte = match colour {
+    out.u8(match c {
         Colour::White => WHITE,
         Colour::Black => BLACK,
-    };
-    put_u8(out, byte)
+    });
 }
 
 /// Appends a token.
-pub fn put_token(out: &mut Vec<u8>, token: Token) -> Result<(), Refusal>
-    ensures width { OnOk result (FitsSigned w64 token.q) }
-    ensures done { OnOk result (out.new.items ≡ out.old.items ++ token_bytes token) }
-    ensures refused { IfErr result (λ e. e ≡ Memory) }
+#[tactic(auto, unfolding(crate::specs::Formats::token), using(crate::proofs::Joins::both))]
+pub fn put_token(out: &mut Writer, t: Token)
+    ensures { Puts token out.old out.new t }
 {
-    put_colour(out, token.colour)?;
-    put_i64(out, token.q)
-}
-
-fn put_place(out: &mut Vec<u8>, target: Ref, place: u8) -> Result<(), Refusal>
-    ensures width { OnOk result (IsReferenceOfWidth target × (place < 2 ^ 8)) }
-    ensures done { OnOk result (out.new.items ≡ out.old.items ++ place_bytes target place) }
-    ensures refused { IfErr result (λ e. e ≡ Memory) }
-{
-    put_reference(out, target)?;
-    put_u8(out, place)
+    put_colour(out, t.colour);
+    out.i64(t.q);
 }
 
 /// Appends what a message says, behind its tag.
-pub fn put_body(out: &mut Vec<u8>, body: Body) -> Result<(), Refusal>
-    ensures width { OnOk result (IsOfWidth body) }
-    ensures done { OnOk result (out.new.items ≡ out.old.items ++ body_bytes body) }
-    ensures refused { IfErr result (λ e. e ≡ Memory) }
+#[tactic(auto, unfolding(crate::specs::Formats::body_format), using(crate::proofs::Joins::behind, crate::proofs::Joins::both, crate::proofs::Joins::first))]
+pub fn put_body(out: &mut Writer, body: Body)
+    ensures { Puts body_format out.old out.new body }
 {
     match body {
-        Body::Begin => put_u8(out, BEGIN),
+        Body::Begin => out.u8(BEGIN),
         Body::Token(token) => {
-            put_u8(out, TOKEN)?;
-            put_token(out, token)
+            out.u8(TOKEN);
+            put_token(out, token);
         }
         Body::Mark { target } => {
-            put_u8(out, MARK)?;
-            put_reference(out, target)
+            out.u8(MARK);
+            put_reference(out, target);
         }
         Body::Give { label, reference } => {
-            put_u8(out, GIVE)?;
-            put_u32(out, label)?;
-            put_optional(out, reference)
+            out.u8(GIVE);
+            out.u32(label);
+            put_optional(out, reference);
         }
         Body::Put {
             target,
             place,
             reference,
         } => {
-            put_u8(out, PUT)?;
-            put_place(out, target, place)?;
-            put_optional(out, reference)
+            out.u8(PUT);
+            put_reference(out, target);
+            out.u8(place);
+            put_optional(out, reference);
         }
         Body::Get {
             target,
             place,
             label,
         } => {
-            put_u8(out, GET)?;
-            put_place(out, target, place)?;
-            put_u32(out, label)
+            out.u8(GET);
+            put_reference(out, target);
+            out.u8(place);
+            out.u32(label);
         }
-        Body::Ended => put_u8(out, ENDED),
-        Body::Swept => put_u8(out, SWEPT),
+        Body::Ended => out.u8(ENDED),
+        Body::Swept => out.u8(SWEPT),
     }
 }
 
-fn put_head(out: &mut Vec<u8>, kind: u8, from: u8, to: u8, number: u64) -> Result<(), Refusal>
-    ensures done { OnOk result (out.new.items ≡ out.old.items ++ kind ∷ head_bytes from to number) }
-    ensures refused { IfErr result (λ e. e ≡ Memory) }
+// What stands before a message's body.
+#[tactic(auto, unfolding(crate::specs::Numbers::number8))]
+fn head_of(message: Data) -> [u8; 19]
+    ensures { result ≡ (0x44 ∷ message.from ∷ message.to ∷ [])
+        ++ (number8.spell message.number ++ number8.spell message.stamp) }
 {
-    put_u8(out, kind)?;
-    put_u8(out, from)?;
-    put_u8(out, to)?;
-    put_u64(out, number)
+    let mut part = [0; 19];
+    part[0] = DATA;
+    part[1] = message.from;
+    part[2] = message.to;
+    BigEndian::write_u64(&mut part[3..], message.number);
+    BigEndian::write_u64(&mut part[11..], message.stamp);
+    part
 }
 
-fn put_data(out: &mut Vec<u8>, message: Data) -> Result<(), Refusal>
-    ensures width { OnOk result (IsOfWidth message.body) }
-    ensures done { OnOk result (out.new.items ≡ out.old.items ++ spelling (plain_data message)) }
-    ensures refused { IfErr result (λ e. e ≡ Memory) }
+fn put_data(out: &mut Writer, message: Data)
+    ensures { Puts frame out.old out.new (plain_data message) }
 {
-    put_head(out, DATA, message.from, message.to, message.number)?;
-    put_u64(out, message.stamp)?;
-    put_body(out, message.body)
+    out.append(&head_of(message));
+    put_body(out, message.body);
 }
 
-fn put_ack(out: &mut Vec<u8>, ack: Ack) -> Result<(), Refusal>
-    ensures done { OnOk result (out.new.items ≡ out.old.items ++ spelling (plain_ack ack)) }
-    ensures refused { IfErr result (λ e. e ≡ Memory) }
+#[tactic(auto, unfolding(crate::specs::Grammar::frame, crate::specs::Formats::known, crate::specs::Formats::head, crate::specs::Numbers::number8))]
+fn put_ack(out: &mut Writer, ack: Ack)
+    ensures { Puts frame out.old out.new (plain_ack ack) }
 {
-    put_head(out, ACK, ack.from, ack.to, ack.number)
+    let mut part = [0; 11];
+    part[0] = ACK;
+    part[1] = ack.from;
+    part[2] = ack.to;
+    BigEndian::write_u64(&mut part[3..], ack.number);
+    out.append(&part);
 }
 
-fn put_frame(out: &mut Vec<u8>, frame: Frame) -> Result<(), Refusal>
-    ensures fits { OnOk result (Fits (plain frame)) }
-    ensures done { OnOk result (out.new.items ≡ out.old.items ++ spelling (plain frame)) }
-    ensures refused { IfErr result (λ e. e ≡ Memory) }
+fn put_frame(out: &mut Writer, f: Frame)
+    ensures { Puts frame out.old out.new (plain f) }
 {
-    match frame {
+    match f {
         Frame::Data(message) => put_data(out, message),
         Frame::Ack(ack) => put_ack(out, ack),
     }
@@ -195,12 +158,12 @@ fn put_frame(out: &mut Vec<u8>, frame: Frame) -> Result<(), Refusal>
 /// # Errors
 ///
 /// [`Refusal::Memory`] where memory is refused, and no other.
-pub fn encode(alloc: Global, frame: &Frame) -> Result<Vec<u8>, Refusal>
+pub fn encode(alloc: Global, f: &Frame) -> Result<Vec<u8>, Refusal>
     ensures spelled { IfOk result
-        (λ v. Fits (plain frame.now) × (v.items ≡ spelling (plain frame.now))) }
+        (λ v. Fits (plain f.now) × (v.items ≡ spelling (plain f.now))) }
     ensures refused { IfErr result (λ e. e ≡ Memory) }
 {
-    let mut out = Vec::new(alloc);
-    put_frame(&mut out, *frame)?;
-    Ok(out)
+    let mut out = Writer::new(alloc, GREATEST_FRAME, GREATEST_FRAME as usize);
+    put_frame(&mut out, *f);
+    out.finish()
 }

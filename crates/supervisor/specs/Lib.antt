@@ -1,2 +1,3 @@
 pub mod Settings
 pub mod Opened
+pub mod Teams

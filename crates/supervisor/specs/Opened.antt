@@ -1,9 +1,10 @@
--- The cells and the watches of a wire.
-use Rattle.std.specs.Prelude.{◌≡◌, ℕ, List, Some, slice_get}
+-- The cells and the watches of a wire, and the workers of a space.
+use Rattle.std.specs.Prelude.{◌≡◌, ℕ, ◌+◌, List, Option, None, Some, slice_get, vec_len}
 use Rattle.wire.specs.Readers.{IsSeatOf, IsWatchOf}
 use Rattle.wire.specs.declared.seats.NodeSeat.{NodeSeat}
 use Rattle.wire.specs.declared.seats.Wire.{Wire}
 use Rattle.wire.specs.declared.seats.Watch.{Watch}
+use Rattle.supervisor.specs.declared.team.Team.{Team}
 
 -- watches of this wire
 abbrev pub AreWatches : Wire → List Watch → Type 0
@@ -12,3 +13,8 @@ AreWatches wire watches = (k : ℕ) (x : Watch) → slice_get watches k ≡ Some
 -- seats of this wire
 abbrev pub AreSeats : Wire → List NodeSeat → Type 0
 AreSeats wire seats = (k : ℕ) (s : NodeSeat) → slice_get seats k ≡ Some s → IsSeatOf wire s
+
+-- how many workers a space has, those that have ended too
+abbrev pub worker_count : Option Team → ℕ
+worker_count None = 0
+worker_count (Some t) = vec_len t.workers + vec_len t.reports

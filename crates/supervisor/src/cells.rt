@@ -5,6 +5,7 @@ ghost use Rattle.ids.specs.declared.refusal.Refusal.TheVariants.{Memory};
 ghost use Rattle.wire.specs.Readers.{IsSeatOf};
 ghost use Rattle.cell.specs.Opened.{HasPlace, HoldsAnother};
 ghost use Rattle.supervisor.specs.Opened.{AreSeats, AreWatches};
+ghost use Rattle.supervisor.specs.declared.cells.TheConstants.{WATCHES};
 ghost use Rattle.supervisor.specs.declared.fault.OpenFault.TheVariants as fault;
 
 use crate::fault::OpenFault;
@@ -24,7 +25,7 @@ fn share<D: Disk + Drop>(
     wire: &Arc<Wire>,
     cell: Cell<D>,
 ) -> Result<Arc<Shared<D>>, Refusal>
-    requires { IsSeatOf (arc_value wire.now) cell.desk.seat }
+    requires { IsSeatOf (arc_value wire.now) cell.seat }
     ensures { IfErr result (λ e. e ≡ Memory) }
 {
     let shared = Shared::new(cell, same_wire(wire)?);
@@ -48,7 +49,7 @@ fn share_all<D: Disk + Drop>(
     wire: &Arc<Wire>,
     mut cells: Vec<Cell<D>>,
 ) -> Result<Vec<Arc<Shared<D>>>, Refusal>
-    requires { AreSeats (arc_value wire.now) (map (λ c. c.desk.seat) cells.items) }
+    requires { AreSeats (arc_value wire.now) (map (λ c. c.seat) cells.items) }
     ensures count { IfOk result (λ v. vec_len v ≡ vec_len cells) }
     ensures refused { IfErr result (λ e. e ≡ Memory) }
 {
@@ -70,8 +71,9 @@ fn open_alone<D: Disk + Drop>(
     ensures other { IsErrOf result fault.Disks → vec_len disks ≡ shape.nodes →
         HasPlace (λ k d. HoldsAnother shape k (D.seen d)) disks.items }
     ensures count { IfOk result (λ r. vec_len r.1 ≡ shape.nodes) }
-    ensures seats { IfOk result (λ r. AreSeats r.0 (map (λ c. c.desk.seat) r.1.items)) }
+    ensures seats { IfOk result (λ r. AreSeats r.0 (map (λ c. c.seat) r.1.items)) }
     ensures watches { IfOk result (λ r. AreWatches r.0 r.2.items) }
+    ensures watch_count { IfOk result (λ r. vec_len r.2 ≡ WATCHES) }
 {
     match cell::open(alloc, shape, disks, WATCHES) {
         Ok(opened) => Ok(opened),
@@ -92,6 +94,7 @@ pub(crate) fn open_cells<D: Disk + Drop>(
         HasPlace (λ k d. HoldsAnother shape k (D.seen d)) disks.items }
     ensures count { IfOk result (λ r. vec_len r.1 ≡ shape.nodes) }
     ensures watches { IfOk result (λ r. AreWatches (arc_value r.0) r.2.items) }
+    ensures watch_count { IfOk result (λ r. vec_len r.2 ≡ WATCHES) }
 {
     let (wire, cells, watches) = open_alone(alloc, shape, disks)?;
     match share_on(alloc, wire, cells) {
@@ -106,7 +109,7 @@ fn share_on<D: Disk + Drop>(
     wire: Wire,
     cells: Vec<Cell<D>>,
 ) -> Result<(Arc<Wire>, Vec<Arc<Shared<D>>>), Refusal>
-    requires { AreSeats wire (map (λ c. c.desk.seat) cells.items) }
+    requires { AreSeats wire (map (λ c. c.seat) cells.items) }
     ensures wire { IfOk result (λ r. arc_value r.0 ≡ wire) }
     ensures count { IfOk result (λ r. vec_len r.1 ≡ vec_len cells) }
     ensures refused { IfErr result (λ e. e ≡ Memory) }

@@ -1,13 +1,15 @@
 //! A space of nodes on their disks, and its workers.
-ghost use Rattle.std.specs.Prelude.{◌≡◌, ◌≤◌, ◌<◌, ◌≢◌, ◌↔◌, ◌⊎◌, false, true, IfErr, IfOk, IfSome};
-ghost use Rattle.std.specs.Prelude.{IsErrOf, IsSome, OnErr, OnOk, is_some, max, vec_len};
+ghost use Rattle.std.specs.Prelude.{◌≡◌, ◌≤◌, ◌<◌, ◌≢◌, ◌↔◌, ◌⊎◌, ◌+◌, false, true, Some, IfErr, IfNone};
+ghost use Rattle.std.specs.Prelude.{IfOk, IfSome, IsErrOf, IsSome, OnErr, OnOk, is_some, length, map};
+ghost use Rattle.std.specs.Prelude.{max, option_to_list, slice_get, vec_len};
 ghost use Rattle.std.specs.Arc.{arc_value};
 ghost use Rattle.std.specs.List.Sorted.{IsNonDecreasingBy};
 ghost use Rattle.ids.specs.declared.refusal.Refusal.TheVariants as refusal;
-ghost use Rattle.wire.specs.Plays.{HasEnded};
+ghost use Rattle.wire.specs.Plays.{HasEnded, WasEnded};
 ghost use Rattle.wire.specs.Readers.{heard, loaded, watch_opening, IsSameWatch, IsWatchOf};
 ghost use Rattle.cell.specs.Opened.{HasPlace, HoldsAnother};
-ghost use Rattle.supervisor.specs.Opened.{AreWatches};
+ghost use Rattle.supervisor.specs.Opened.{worker_count, AreWatches};
+ghost use Rattle.supervisor.specs.declared.cells.TheConstants.{WATCHES};
 ghost use Rattle.supervisor.specs.declared.fault.OpenFault.TheVariants as fault;
 
 use crate::cells::open_cells;
@@ -53,6 +55,7 @@ impl<D: Disk + Drop> Space<D> {
         ensures nodes { IfOk result (λ s. s.plan.nodes ≡ config.now.shape.nodes) }
         ensures turns { IfOk result (λ s. s.plan.turns ≡ config.now.turns) }
         ensures fresh { IfOk result (λ s. is_some s.team ≡ false) }
+        ensures watches { IfOk result (λ s. vec_len s.watches ≡ WATCHES) }
     {
         let shape = config.shape;
         let (wire, cells, watches) = open_cells(alloc, shape, disks)?;
@@ -93,7 +96,9 @@ impl<D: Disk + Drop> Space<D> {
 
     /// What a node's program calls, if there is a node of that number.
     pub fn program(&self, node: u8) -> Option<&Shared<D>>
-        ensures { IsSome result ↔ (node < self.now.plan.nodes) }
+        ensures found { IsSome result ↔ (node < self.now.plan.nodes) }
+        ensures cell { IfSome result (λ s.
+            slice_get (map arc_value self.now.cells.items) node ≡ Some s.now) }
     {
         match self.cells.get(usize::from(node)) {
             Some(cell) => Some(&**cell),
@@ -104,6 +109,9 @@ impl<D: Disk + Drop> Space<D> {
     /// A right to look at the space's board; none after the sixteenth.
     pub fn watch(&mut self) -> Option<Watch>
         ensures of { IfSome result (λ x. IsWatchOf (arc_value self.new.wire) x) }
+        ensures left { vec_len self.old.watches
+            ≡ vec_len self.new.watches + length (option_to_list result) }
+        ensures none { IfNone result (vec_len self.old.watches ≡ 0) }
         ensures wire { arc_value self.new.wire ≡ arc_value self.old.wire }
         ensures plan { self.new.plan ≡ self.old.plan }
         ensures team { self.new.team ≡ self.old.team }
@@ -112,7 +120,8 @@ impl<D: Disk + Drop> Space<D> {
     }
 
     /// The last cycle that the watch knows node 0 to have ended: the one on the board, or a later
-    /// one that the watch was told. It is never earlier than what the watch saw before.
+    /// one that the watch was told. It is never earlier than what the watch saw before. Node 0 had
+    /// ended it, and was saved so.
     pub fn look(&self, watch: &mut Watch) -> Cycle
         requires { IsWatchOf (arc_value self.now.wire) watch.old }
         ensures same { IsSameWatch watch.old watch.new }
@@ -120,6 +129,7 @@ impl<D: Disk + Drop> Space<D> {
         ensures heard { heard watch.new ≡ heard watch.old }
         ensures later { loaded watch.old ≤ loaded watch.new }
         ensures ended { HasEnded (watch_opening watch.old) (loaded watch.new) }
+        ensures was_ended { WasEnded (watch_opening watch.old) result.number }
     {
         self.wire.look(watch)
     }
@@ -127,7 +137,7 @@ impl<D: Disk + Drop> Space<D> {
     /// Whether no worker is left that could take a turn: all have ended, or none was started.
     pub fn all_ended(&self) -> bool {
         match &self.team {
-            Some(team) => team.ended() >= u64::from(self.plan.nodes),
+            Some(team) => team.all_ended(),
             None => true,
         }
     }
@@ -135,7 +145,8 @@ impl<D: Disk + Drop> Space<D> {
     /// Stops the workers, waits for their end, and answers all their reports, sorted by node; none
     /// where none was started.
     pub fn close<R: Threads>(self, rt: &R) -> Vec<Report>
-        ensures { IsNonDecreasingBy (λ r. r.node) result.items }
+        ensures count { vec_len result ≡ worker_count self.team }
+        ensures sorted { IsNonDecreasingBy (λ r. r.node) result.items }
     {
         let Space { alloc, team, .. } = self;
         match team {
@@ -157,6 +168,7 @@ impl<D: Disk + Send + Drop + 'static> Space<D> {
         G: Gate + Send + Sync + Drop + 'static,
         requires { is_some self.old.team ≡ false }
         ensures started { OnOk result (is_some self.new.team ≡ true) }
+        ensures workers { OnOk result (worker_count self.new.team ≡ self.new.plan.nodes) }
         ensures stopped { OnErr result (is_some self.new.team ≡ false) }
         ensures refused { IfErr result (λ e. e ≡ refusal.Memory) }
         ensures wire { arc_value self.new.wire ≡ arc_value self.old.wire }
@@ -165,5 +177,41 @@ impl<D: Disk + Send + Drop + 'static> Space<D> {
         let team = Team::start(rt, self.alloc, self.cells.as_slice(), &gate, self.plan)?;
         self.team = Some(team);
         Ok(())
+    }
+
+    /// Waits for the end of a node's worker, where one runs; restarts the node, as
+    /// [`Space::restart`] does; and starts a new worker for it, with the configuration's turns,
+    /// which asks this gate. Nobody ends the old worker: its gate does, or it has taken its turns.
+    ///
+    /// NoNode where there is no node of that number; Memory where room for the worker or its report
+    /// was refused: these change nothing, and the old worker goes on. Disk where the device failed,
+    /// Memory: the node's cell is then closed, until a restart is Ok; or Memory where the thread
+    /// was refused. No worker is started then, and the old one has ended.
+    pub fn revive<R, G>(&mut self, rt: &R, node: u8, gate: Arc<G>) -> Result<(), Refusal>
+    where
+        R: Threads + Wait + Clone + Send + Drop + 'static,
+        G: Gate + Send + Sync + Drop + 'static,
+        requires { is_some self.old.team ≡ true }
+        ensures begun { OnOk result (worker_count self.new.team
+            ≡ worker_count self.old.team + 1) }
+        ensures none_begun { OnErr result (worker_count self.new.team
+            ≡ worker_count self.old.team) }
+        ensures team { is_some self.new.team ≡ true }
+        ensures no_node { IsErrOf result refusal.NoNode ↔ (self.old.plan.nodes ≤ node) }
+        ensures others { node < self.old.plan.nodes
+            → IfErr result (λ e. (e ≡ refusal.Memory) ⊎ (e ≡ refusal.Disk)) }
+        ensures wire { arc_value self.new.wire ≡ arc_value self.old.wire }
+        ensures plan { self.new.plan ≡ self.old.plan }
+    {
+        if node >= self.plan.nodes {
+            return Err(Refusal::NoNode);
+        }
+        let Some(team) = &mut self.team else {
+            unreachable!()
+        };
+        team.await_end(rt, node)?;
+        let cell = &self.cells[usize::from(node)];
+        cell.reopen(rt)?;
+        team.begin(rt, self.alloc, cell, &gate, node, self.plan)
     }
 }

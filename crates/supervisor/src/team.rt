@@ -1,5 +1,6 @@
 //! The threads of a space's workers.
-ghost use Rattle.std.specs.Prelude.{◌≡◌, ◌≤◌, ◌<◌, ◌+◌, IfErr, IfOk, length, vec_capacity, vec_len};
+ghost use Rattle.std.specs.Prelude.{◌≡◌, ◌≤◌, ◌<◌, ◌+◌, IfErr, IfOk, OnErr, OnOk, length};
+ghost use Rattle.std.specs.Prelude.{vec_capacity, vec_len};
 ghost use Rattle.std.specs.List.Sorted.{IsNonDecreasingBy};
 ghost use Rattle.ids.specs.declared.refusal.Refusal.TheVariants.{Memory};
 
@@ -37,12 +38,19 @@ impl Drop for Halt {
     }
 }
 
-/// Workers in threads of their own, one a node. Where it is let go they are asked to stop, and
-/// [`Team::close`] also waits for their end.
+// A worker that nobody has joined yet, and its node.
+#[derive(Drop)]
+struct Worker {
+    node: u8,
+    handle: JoinHandle<Report>,
+}
+
+/// Workers in threads of their own, at most one a node, and the reports of those that were joined.
+/// Where it is let go the workers are asked to stop, and [`Team::close`] also waits for their end.
 #[derive(Drop)]
 pub struct Team {
     halt: Halt,
-    workers: Vec<JoinHandle<Report>>,
+    workers: Vec<Worker>,
     reports: Vec<Report>,
     ghost room: { vec_len workers + vec_len reports ≤ vec_capacity reports },
 }
@@ -63,8 +71,8 @@ fn work<R: Wait, S: Site, G: Gate>(
     run_node(rt, site, gate, node, plan.nodes, turns, stop).report
 }
 
-// Starts the worker of a node: its order waits in a channel before the thread is made.
-fn start_worker<R, S, G>(
+// Starts the thread of a worker: its order waits in a channel before the thread is made.
+fn start_thread<R, S, G>(
     rt: &R,
     alloc: Global,
     site: &Arc<S>,
@@ -107,6 +115,8 @@ fn sort(reports: &mut Vec<Report>)
 }
 
 impl Team {
+    ghost use Rattle.supervisor.specs.Teams.{HasRoom};
+
     // No worker yet, with room for those of this plan and for their reports.
     fn empty(alloc: Global, plan: Plan) -> Result<Team, Refusal>
         ensures room { IfOk result (λ t. plan.nodes ≤ vec_capacity t.workers) }
@@ -127,7 +137,7 @@ impl Team {
     }
 
     // Adds a worker, for whom there is room.
-    fn add(&mut self, worker: JoinHandle<Report>)
+    fn add(&mut self, worker: Worker)
         requires room { vec_len self.old.workers < vec_capacity self.old.workers }
         requires reports { vec_len self.old.workers + vec_len self.old.reports
             < vec_capacity self.old.reports }
@@ -162,20 +172,72 @@ impl Team {
         let mut team = Team::empty(alloc, plan)?;
         for node in 0..plan.nodes {
             let site = &sites[usize::from(node)];
-            match start_worker(rt, alloc, site, gate, &team.halt.stop, node, plan) {
-                Ok(worker) => team.add(worker),
-                Err(refusal) => {
-                    let _ = team.close(rt);
-                    return Err(refusal);
-                }
+            if let Err(refusal) = team.begin(rt, alloc, site, gate, node, plan) {
+                let _ = team.close(rt);
+                return Err(refusal);
             }
         }
         Ok(team)
     }
 
-    /// How many workers have ended.
-    pub fn ended(&self) -> u64 {
-        self.halt.stop.ended()
+    /// Starts one more worker, of a node that has none. Memory where a growth or a thread was
+    /// refused; nothing was started then.
+    pub(crate) fn begin<R, S, G>(
+        &mut self,
+        rt: &R,
+        alloc: Global,
+        site: &Arc<S>,
+        gate: &Arc<G>,
+        node: u8,
+        plan: Plan,
+    ) -> Result<(), Refusal>
+    where
+        R: Threads + Wait + Clone + Send + Drop + 'static,
+        S: Site + Send + Sync + Drop + 'static,
+        G: Gate + Send + Sync + Drop + 'static,
+        requires { HasRoom self.old }
+        ensures count { OnOk result (vec_len self.new.workers ≡ vec_len self.old.workers + 1) }
+        ensures room { vec_capacity self.new.workers ≡ vec_capacity self.old.workers }
+        ensures reports { self.new.reports ≡ self.old.reports }
+        ensures refused { IfErr result (λ e. e ≡ Memory) }
+        ensures unchanged { OnErr result (self.new.workers ≡ self.old.workers) }
+    {
+        let handle = start_thread(rt, alloc, site, gate, &self.halt.stop, node, plan)?;
+        self.add(Worker { node, handle });
+        Ok(())
+    }
+
+    // Makes room for one more worker and its report.
+    fn reserve(&mut self) -> Result<(), Refusal>
+        ensures room { OnOk result (HasRoom self.new) }
+        ensures workers { self.new.workers.items ≡ self.old.workers.items }
+        ensures reports { self.new.reports.items ≡ self.old.reports.items }
+        ensures refused { IfErr result (λ e. e ≡ Memory) }
+    {
+        self.reports.reserve(self.workers.len() + 1)?;
+        Ok(self.workers.reserve(1)?)
+    }
+
+    /// Makes room for one more worker and its report, and waits for the end of the node's worker,
+    /// where there is one. Memory where that room was refused: nobody is waited for then.
+    pub(crate) fn await_end<R: Threads>(&mut self, rt: &R, node: u8) -> Result<(), Refusal>
+        ensures room { OnOk result (HasRoom self.new) }
+        ensures started { vec_len self.new.workers + vec_len self.new.reports
+            ≡ vec_len self.old.workers + vec_len self.old.reports }
+        ensures refused { IfErr result (λ e. e ≡ Memory) }
+        ensures unchanged { OnErr result (vec_len self.new.workers ≡ vec_len self.old.workers) }
+    {
+        self.reserve()?;
+        if let Some(place) = self.workers.iter().position(|worker| worker.node == node) {
+            let worker = self.workers.swap_remove(place);
+            self.reports.push_reserved(worker.handle.join(rt));
+        }
+        Ok(())
+    }
+
+    /// Whether all workers that were started have ended.
+    pub fn all_ended(&self) -> bool {
+        self.halt.stop.ended() >= (self.workers.len() + self.reports.len()) as u64
     }
 
     /// Stops the workers, waits for their end, and answers all their reports, sorted by node. It
@@ -191,7 +253,7 @@ impl Team {
         } = self;
         halt.stop.ask();
         while let Some(worker) = workers.pop() {
-            reports.push_reserved(worker.join(rt));
+            reports.push_reserved(worker.handle.join(rt));
         }
         sort(&mut reports);
         reports

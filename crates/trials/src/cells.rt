@@ -28,7 +28,7 @@ use wire::{NodeSeat, Watch, Wire};
 pub(crate) struct Seated<'a> {
     wire: &'a Wire,
     pub(crate) cell: Cell<MemoryDisk>,
-    ghost sits: { IsSeatOf wire.now cell.desk.seat },
+    ghost sits: { IsSeatOf wire.now cell.seat },
 }
 
 impl Seated<'_> {
@@ -127,7 +127,7 @@ pub(crate) fn new_cell(
     seat: NodeSeat,
 ) -> Result<Cell<MemoryDisk>, Refusal>
     requires { IsAtSeat (new_view shape own.number) seat }
-    ensures { IfOk result (λ c. c.desk.seat ≡ seat) }
+    ensures { IfOk result (λ c. c.seat ≡ seat) }
 {
     let node = Node::new(alloc, shape, own)?;
     let shelf = shelf_of(alloc, &node)?;

@@ -5,6 +5,7 @@
 mod arenas;
 mod case;
 mod cells;
+mod collected;
 mod disks;
 mod events;
 mod files;
@@ -15,6 +16,7 @@ mod nodes;
 mod out;
 mod random;
 mod reaching;
+mod revived;
 mod shared;
 mod shelves;
 mod space;

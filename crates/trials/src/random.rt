@@ -163,6 +163,26 @@ pub(crate) fn next_turn(dice: &mut Dice, sim: &Sim) -> [Option<Step>; MOST] {
     }
 }
 
+/// What happens next where no collection runs: a step of a program, a save with deliveries, or an
+/// acknowledgement.
+pub(crate) fn next_program_turn(dice: &mut Dice, sim: &Sim) -> [Option<Step>; MOST] {
+    let node = dice.node();
+    match dice.below(16) {
+        0..=5 => single(Step::Act(node, own_event(dice))),
+        6..=9 => single(Step::Act(node, sent_event(dice))),
+        10 => single(Step::Hand {
+            from: dice.other_than(node),
+            to: node,
+        }),
+        _ => saved_and_sent(dice, sim, node),
+    }
+}
+
+/// The delivery of the next message from one node to another.
+pub(crate) fn next_delivery(sim: &Sim, from: u8, to: u8) -> Option<Step> {
+    delivery(sim, from, to, 1)
+}
+
 /// A new space for such lists.
 pub(crate) fn new_space(alloc: Global) -> Result<Sim, Refusal> {
     match Shape::new(NODES, u16::from(REGISTERS), 16) {

@@ -3,6 +3,7 @@ ghost use Rattle.std.specs.Prelude.{◌≡◌};
 ghost use Rattle.model.specs.World.{is_own_step};
 
 use crate::case::{Line, Stop, read};
+use crate::collected;
 use crate::out::Out;
 use crate::random::{Dice, MOST, NODES, new_space, next_turn};
 use ids::{Ref, Refusal};
@@ -21,18 +22,27 @@ pub(crate) fn run(alloc: Global, lines: &[Line<'_>], out: &mut Out) -> Result<()
 }
 
 fn take(alloc: Global, words: &[&str], out: &mut Out) -> Result<(), Stop> {
-    let ["reach", lists, turns, least] = words else {
-        return Err(Stop::Unknown);
-    };
+    match words {
+        ["reach", lists, turns, least] => {
+            look(alloc, read(lists)?, read(turns)?, read(least)?, out);
+        }
+        ["collect", lists, turns, least] => {
+            collected::run(alloc, read(lists)?, read(turns)?, read(least)?, out);
+        }
+        _ => return Err(Stop::Unknown),
+    }
+    Ok(())
+}
+
+fn look(alloc: Global, lists: u64, turns: u32, least: u64, out: &mut Out) {
     let mut found = Found {
         freed: 0,
         reached: 0,
         missing: 0,
     };
-    let done = run_lists(alloc, read(lists)?, read(turns)?, &mut found);
-    found.put(read(least)?, out);
+    let done = run_lists(alloc, lists, turns, &mut found);
+    found.put(least, out);
     out.done(done);
-    Ok(())
 }
 
 /// How many objects were freed, how many references were reached in all cuts after sweeps, and how
@@ -99,7 +109,7 @@ fn all_saved(alloc: Global, sim: &Sim) -> Result<Vec<Node>, Refusal> {
 }
 
 // Whether the step may be asked of a space, which itself hands messages to nodes.
-fn is_own(step: Step) -> bool
+pub(crate) fn is_own(step: Step) -> bool
     ensures { result ≡ is_own_step step }
 {
     !matches!(step, Step::Act(_, Event::Data(_) | Event::Ack(_)))

@@ -3,6 +3,7 @@ ghost use Rattle.std.specs.Prelude.{◌≡◌, false, IfSome, is_some};
 
 use crate::case::{Line, Stop, read};
 use crate::out::Out;
+use crate::revived::revive;
 use crate::space::meet;
 use disk::MemoryDisk;
 use model::Event;
@@ -19,7 +20,7 @@ use workers::{Gate, Point, Report, Stage};
 const PAUSE: u64 = 200;
 
 // More turns than a worker takes in the time that a case has.
-const MANY: u32 = 1_000_000;
+pub(crate) const MANY: u32 = 1_000_000;
 
 // A gate that pauses before each turn, and holds a node at a stage until the other one's
 // turn is over, which begins once the first one waits.
@@ -78,7 +79,7 @@ impl<R: Clock> Gate for Pauses<R> {
     }
 }
 
-fn await_flag<R: Clock + Wait>(rt: &R, flag: &AtomicBool) {
+pub(crate) fn await_flag<R: Clock + Wait>(rt: &R, flag: &AtomicBool) {
     for _ in rt.forever() {
         if flag.load(Ordering::SeqCst) {
             return;
@@ -87,7 +88,7 @@ fn await_flag<R: Clock + Wait>(rt: &R, flag: &AtomicBool) {
     }
 }
 
-fn pause<R: Clock>(rt: &R) {
+pub(crate) fn pause<R: Clock>(rt: &R) {
     thread::sleep(rt, Duration::from_micros(PAUSE));
 }
 
@@ -117,7 +118,7 @@ fn disks(alloc: Global) -> Result<Vec<MemoryDisk>, AllocError> {
 }
 
 // A new space in memory, whose workers take so many turns at most.
-fn opened(alloc: Global, turns: u32) -> Option<Space<MemoryDisk>>
+pub(crate) fn opened(alloc: Global, turns: u32) -> Option<Space<MemoryDisk>>
     ensures { IfSome result (λ s. is_some s.team ≡ false) }
 {
     let text = text_of(alloc, turns).ok()?;
@@ -225,6 +226,7 @@ where
             out.debug(&take_turn(rt, alloc, read(later)?, stage_of(stage)?));
         }
         ["leave"] => out.debug(&leave(rt, alloc)),
+        ["revive", stage] => out.debug(&revive(rt, alloc, stage_of(stage)?)),
         _ => return Err(Stop::Unknown),
     }
     Ok(())
@@ -234,6 +236,9 @@ fn stage_of(word: &str) -> Result<Stage, Stop> {
     match word {
         "Start" => Ok(Stage::Start),
         "TakenIn" => Ok(Stage::TakenIn),
+        "Collected" => Ok(Stage::Collected),
+        "Saved" => Ok(Stage::Saved),
+        "Sent" => Ok(Stage::Sent),
         _ => Err(Stop::Unknown),
     }
 }

@@ -10,7 +10,7 @@ use Rattle.model.specs.World.{World, run}
 use Rattle.wire.specs.Views.{Role, dealer, node, watch, Pair, Known, marks, raises, pair_at}
 use Rattle.wire.specs.Rule.{nodes_of, ended_of, WatchOk, SeatOk, Holds}
 use Rattle.wire.specs.Plays.{HasEnded, raised, looked}
-use Rattle.wire.proofs.Stays.{Standing, noted, node-of, same-log}
+use Rattle.wire.proofs.Stays.{Standing, noted, node-of, same-log, none-more}
 
 module _ {S : Type 0} (bytes : S → List ℕ) (opening : World) where
   abbrev n : ℕ
@@ -53,6 +53,8 @@ module _ {S : Type 0} (bytes : S → List ℕ) (opening : World) where
               (max-le h.fits within);
           higher = subst (λ (z : ℕ). r ≤ z) (sym same) (le-max_left r k);
           shown = λ other. absurd (other role first);
+          visits = none-more bytes opening here (raises k v) (record { role = refl; me = refl })
+              refl;
           mine = subst
               (SeatOk opening h.log (slice_index words (n * n + 1)) (set s.views id (raises k v))
               h.mail id (raises k v))
@@ -68,6 +70,7 @@ module _ {S : Type 0} (bytes : S → List ℕ) (opening : World) where
                 empties = ok.empties;
                 sends = ok.sends;
                 gets = ok.gets;
+                visited = ok.visited;
                 shows = λ at_first. same ∙ ap (λ (z : ℕ). max z k) (ok.shows first);
               });
           no_dealer = λ d. (let never : ◌≡◌ {A = Role} node dealer = sym role ∙ d in absurd cc);
@@ -110,6 +113,8 @@ module _ {S : Type 0} (bytes : S → List ℕ) (opening : World) where
               fits = h.fits;
               higher = le_refl r;
               shown = λ _. refl;
+              visits = none-more bytes opening here (marks r v)
+                  (record { role = refl; me = refl }) refl;
               mine = subst
                   (SeatOk opening h.log r (set s.views id (marks r v)) h.mail id (marks r v))
                   (sym role)

@@ -11,7 +11,7 @@ use Rattle.wire.specs.Views.{Role, dealer, node, Pair, Known, ticks, pair_at}
 use Rattle.wire.specs.Rule.{nodes_of, ended_of, AreEvents, NodeOk, SeatOk, Holds}
 use Rattle.wire.specs.Plays.{Happens, Enters, ticked}
 use Rattle.wire.proofs.Events.{count, width, net-push, ended-push, are-push, events-push_same, events-push_other, IsLocal, happens-local}
-use Rattle.wire.proofs.Stays.{Standing, noted, node-of}
+use Rattle.wire.proofs.Stays.{Standing, noted, node-of, none-more}
 
 counted : (l r : ℕ) → r ≡ l % 2 ^ 64 → (r + 1) % 2 ^ 64 ≡ (l + 1) % 2 ^ 64
 counted l r is = omega arith
@@ -75,6 +75,7 @@ module _ {S : Type 0} (bytes : S → List ℕ) (opening : World) where
       empties = ok.empties;
       sends = ok.sends;
       gets = ok.gets;
+      visited = ok.visited;
       shows = ok.shows;
     }
 
@@ -122,6 +123,8 @@ module _ {S : Type 0} (bytes : S → List ℕ) (opening : World) where
           fits = subst (λ (z : ℕ). z ≤ GREATEST_CYCLE) (sym board) h.fits;
           higher = subst (λ (z : ℕ). get_or s.words (n * n + 1) 0 ≤ z) (sym board) (le_refl _);
           shown = λ _. board;
+          visits = none-more bytes opening p (ticks e q v) (record { role = refl; me = refl })
+              refl;
           mine = subst
               (SeatOk opening (h.log ++ e ∷ []) (slice_index words (n * n + 1))
               (set s.views id (ticks e q v)) h.mail id (ticks e q v))

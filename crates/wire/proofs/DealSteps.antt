@@ -1,5 +1,5 @@
 -- A new wire meets the rule, and goes on to while its seats are made.
-use Rattle.std.proofs.Common.{◌≡◌, ◌≢◌, ◌⊎◌, ℕ, zero, suc, ◌+◌, ◌*◌, ◌<◌, ◌≤◌, true, false, List, [], ◌∷◌, ◌++◌, length, set, get_or, Option, Some, None, refl, sym, ap, ◌∙◌, subst, inl, inr, ⊎_elim, arith, zero-le, le_refl, le_trans}
+use Rattle.std.proofs.Common.{◌≡◌, ◌≢◌, ◌⊎◌, ℕ, zero, suc, ◌+◌, ◌*◌, ◌<◌, ◌≤◌, ◌==◌, ne_eqb, true, false, List, [], ◌∷◌, ◌++◌, length, set, get_or, Option, Some, None, refl, sym, ap, ◌∙◌, subst, inl, inr, ⊎_elim, arith, zero-le, le_refl, le_trans}
 use Rattle.std.specs.Prelude.{slice_index}
 use mathlib.Core.Option.{some, some-injective, some-ne-none}
 use lib.ListN.{get_elem?}
@@ -9,7 +9,8 @@ use Rattle.atomic_table.proofs.Lists.{at_set, set_else, at_longer, some_there}
 use Rattle.ids.specs.declared.limits.TheConstants.{GREATEST_CYCLE}
 use Rattle.msg.specs.Grammar.{Plain}
 use Rattle.model.specs.World.{World, run}
-use Rattle.wire.specs.Views.{Role, dealer, node, watch, Known, pair_at, dealing, dealer_after, next_node, next_watch}
+use Rattle.wire.specs.Views.{Role, dealer, node, watch, Visit, Known, pair_at, dealing, dealer_after, next_node, next_watch}
+use Rattle.wire.proofs.Visits.{filter-none}
 use Rattle.wire.specs.Rule.{nodes_of, ended_of, IsOpening, Box, Mail, empty, full, filling_by, emptying_by, Content, DealerOk, SeatOk, Holds}
 
 at-end : {A : Type 0} (l : List A) (a b : A) (j : ℕ) → get_elem? (l ++ a ∷ []) j ≡ some b
@@ -144,6 +145,15 @@ module _ {S : Type 0} (bytes : S → List ℕ) (opening : World) where
       log = h.log;
       mail = h.mail;
       in_order = h.in_order;
+      visits = h.visits;
+      visitors = λ m below k x e.
+          let seat = h.visitors m below k x e in (
+            seat.0,
+            seat.1,
+            kept-node seat.0 seat.1 seat.2 seat.3,
+            seat.3,
+            seat.4,
+          );
       opens = h.opens;
       wide = h.wide;
       slots = h.slots;
@@ -226,6 +236,13 @@ module _ {S : Type 0} (bytes : S → List ℕ) (opening : World) where
           empties = λ m f e. (let never : ◌≡◌ {A = Option Plain} None (Some f) = e in absurd cc);
           sends = λ m inside me. ok.unsent m inside (subst (λ (k : ℕ). v.me ≤ k) me (le_refl v.me));
           gets = λ m inside me. ok.untaken m inside (subst (λ (k : ℕ). v.me ≤ k) me (le_refl v.me));
+          visited = λ m inside.
+              filter-none (λ x. x.node == v.me) (h.mail.visits m) (λ k x e.
+              ne_eqb x.node v.me (λ (is : x.node ≡ v.me).
+              let seat = h.visitors m inside k x e in
+              let before : seat.1.me < v.me = ok.earlier seat.0 seat.1 seat.2 seat.3 in
+              let same : seat.1.me ≡ v.me = seat.4 ∙ is in
+              omega (arith, before, same)));
           shows = ok.unseen;
         };
         alone = λ r k u a ru same. (let before : u.me < v.me = ok.earlier k u a ru in omega arith);
@@ -275,7 +292,12 @@ module _ {S : Type 0} (bytes : S → List ℕ) (opening : World) where
   first-at v u (suc j) e = absurd (some-ne-none u (sym e))
 
   abbrev no_mail : Mail
-  no_mail = record { boxes = λ _. empty; posted = λ _. []; got = λ _. [] }
+  no_mail = record {
+    boxes = λ _. empty;
+    posted = λ _. [];
+    got = λ _. [];
+    visits = λ _. [];
+  }
 
   pub starts : (words : List ℕ) (slots : List S) → IsOpening opening
       → length words ≡ n * n + 2 → ((k : ℕ) → get_or words k 0 ≡ 0) → length slots ≡ n * n
@@ -287,6 +309,9 @@ module _ {S : Type 0} (bytes : S → List ℕ) (opening : World) where
         log = [];
         mail = no_mail;
         in_order = λ m below. refl;
+        visits = λ m below. refl;
+        visitors = λ m below k x e.
+            (let never : ◌≡◌ {A = Option Visit} None (Some x) = e in absurd cc);
         opens = opens;
         wide = wide;
         slots = homes;

@@ -3,6 +3,7 @@ pub mod Events
 pub mod Lists
 pub mod Boxes
 pub mod InOrder
+pub mod Visits
 pub mod Stays
 pub mod Moves
 pub mod MailSteps
@@ -11,8 +12,10 @@ pub mod CountSteps
 pub mod BoardSteps
 pub mod DealSteps
 pub mod Sitting
+pub mod Room
 pub mod Ended
 pub mod Numbers
 pub mod Rows
 pub mod NewWires
 pub mod Nothing
+pub mod Telling

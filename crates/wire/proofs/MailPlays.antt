@@ -1,5 +1,5 @@
 -- The four plays on a mailbox are allowed.
-use Rattle.std.proofs.Common.{◌≡◌, ℕ, ◌*◌, ◌/◌, ◌%◌, ◌<◌, true, List, ◌∷◌, get_or, Some, refl, sym, ap, ◌∙◌, subst, eqb}
+use Rattle.std.proofs.Common.{◌≡◌, ℕ, ◌*◌, ◌/◌, ◌%◌, ◌<◌, true, List, ◌∷◌, length, get_or, Some, refl, sym, ap, ◌∙◌, subst, eqb}
 use mathlib.Core.Option.{none}
 use prog.Atomic.{either}
 use Rattle.atomic_table.specs.Table.{State, Me, step, Act, keeps, takes, gives, carried_after, stepped, Valid, Allows, rest}
@@ -38,22 +38,23 @@ module _ {S : Type 0} (bytes : S → List ℕ) (opening : World) where
       let here : Standing bytes opening =
       record { state = s; holds = h; id = id; view = me.0; at = at } in
       let r : ℕ = get_or s.words m 0 in
+      let place : ℕ = length (h.mail.visits m) in
       let told = claimed (step slots m 0 3 none) me r in
       exchanged r 0 3 (Goes s m id me told)
       (λ hit.
       let c = claim-hit bytes opening here role m below me_is hit me.1 in (
-        claims m me.0,
+        claims m place me.0,
         takes m c.0,
         c.1,
         c.2,
-        ((λ _. (c.0, refl, refl, c.3)), (λ miss. absurd (miss hit))),
+        ((λ _. (place, c.0, refl, refl, c.3)), (λ miss. absurd (miss hit))),
       ))
       (λ miss. (
-        notes r me.0,
+        notes m place r me.0,
         keeps,
         tt,
-        missed bytes opening here role m r refl,
-        ((λ hit. absurd (miss hit)), (λ _. (refl, refl))),
+        missed bytes opening here role m r below refl,
+        ((λ hit. absurd (miss hit)), (λ _. (place, refl, refl))),
       ))
 
   pub takes_allowed : {slots m : ℕ} (id : ℕ) (me : Sat) → m < n * n → me.0.role ≡ node
@@ -64,12 +65,13 @@ module _ {S : Type 0} (bytes : S → List ℕ) (opening : World) where
       let here : Standing bytes opening =
       record { state = s; holds = h; id = id; view = me.0; at = at } in
       let r : ℕ = get_or s.words m 0 in
+      let place : ℕ = length (h.mail.visits m) in
       let told = took bytes (step slots m 1 2 none) me r in
       let mine = node-of bytes opening here role in
       exchanged r 1 2 (Goes s m id me told)
       (λ hit.
       let c = take-hit bytes opening here role m below me_is hit me.1 in (
-        takes_in m c.0 me.0,
+        takes_in m place c.0 me.0,
         takes m c.1,
         c.2,
         c.3,
@@ -77,7 +79,7 @@ module _ {S : Type 0} (bytes : S → List ℕ) (opening : World) where
           (λ _. (
             c.0,
             (
-              refl,
+              (place, refl),
               c.7 ∙ ap (λ (k : ℕ). m / k) (sym mine.nodes_is),
               c.8 ∙ sym me_is,
               record {
@@ -95,11 +97,11 @@ module _ {S : Type 0} (bytes : S → List ℕ) (opening : World) where
         ),
       ))
       (λ miss. (
-        notes r me.0,
+        notes m place r me.0,
         keeps,
         tt,
-        missed bytes opening here role m r refl,
-        ((λ hit. absurd (miss hit)), (λ _. (refl, refl))),
+        missed bytes opening here role m r below refl,
+        ((λ hit. absurd (miss hit)), (λ _. (place, refl, refl))),
       ))
 
   -- the bytes lie in the slot that comes first
@@ -110,15 +112,16 @@ module _ {S : Type 0} (bytes : S → List ℕ) (opening : World) where
   posts_allowed {m = m} id me x role filling front owns s h wide at small =
       let here : Standing bytes opening =
       record { state = s; holds = h; id = id; view = me.0; at = at } in
+      let place : ℕ = length (h.mail.visits m) in
       let d = post-done bytes opening here role m filling x (rest me.1) owns in (
-        posts m owns.0 me.0,
+        posts m place owns.0 me.0,
         gives,
         tt,
         subst
             (λ (c : List (ℕ × S)).
-            Holds bytes opening (stepped s m 1 id c (posts m owns.0 me.0) gives))
+            Holds bytes opening (stepped s m 1 id c (posts m place owns.0 me.0) gives))
             (sym front) d.0,
-        (owns.0, (refl, refl, d.1, (x, front, owns.1))),
+        (owns.0, ((place, refl), refl, d.1, (x, front, owns.1))),
       )
 
   pub clears_allowed : {slots m : ℕ} (id : ℕ) (me : Sat) (x : S) (f : Plain) → me.0.role ≡ node
@@ -128,12 +131,14 @@ module _ {S : Type 0} (bytes : S → List ℕ) (opening : World) where
   clears_allowed {m = m} id me x f role emptying front s h wide at small =
       let here : Standing bytes opening =
       record { state = s; holds = h; id = id; view = me.0; at = at } in
+      let place : ℕ = length (h.mail.visits m) in
       let d = clear-done bytes opening here role m f emptying x (rest me.1) in (
-        clears m me.0,
+        clears m place me.0,
         gives,
         tt,
         subst
-            (λ (c : List (ℕ × S)). Holds bytes opening (stepped s m 0 id c (clears m me.0) gives))
+            (λ (c : List (ℕ × S)).
+            Holds bytes opening (stepped s m 0 id c (clears m place me.0) gives))
             (sym front) d.0,
-        (refl, refl, d.1),
+        ((place, refl), refl, d.1),
       )

@@ -19,7 +19,7 @@ use Rattle.wire.proofs.Lists.{has-here, has-more, has-gone, has-stays, found-her
 use Rattle.wire.proofs.InOrder.{box-number, box-here, box-else}
 use Rattle.wire.proofs.Boxes.{holder, is-empty, is-full, none-from, set-at}
 use Rattle.wire.proofs.Events.{count}
-use Rattle.wire.proofs.Stays.{Standing, still-seat, noted, same-log, node-of}
+use Rattle.wire.proofs.Stays.{Standing, Visits, still-seat, noted, same-log, node-of, one-more}
 use Rattle.wire.proofs.Moves.{moved}
 
 -- what a saved state releases is in the net
@@ -77,22 +77,39 @@ module _ {S : Type 0} (bytes : S → List ℕ) (opening : World) where
       none-from (found m v.emptying) (λ f e. none_holds (ap holder (ok.empties m f e).1)),
     )
 
+    -- how many steps on the mailbox came before
+    abbrev place : ℕ → ℕ
+    place m = length (h.mail.visits m)
+
     -- a claim or a take that goes no further
-    pub missed : (m r : ℕ) → r ≡ get_or s.words m 0
-        → Holds bytes opening (stepped s m r id [] (notes r v) keeps)
-    missed m r is =
+    pub missed : (m r : ℕ) → m < n * n → r ≡ get_or s.words m 0
+        → Holds bytes opening (stepped s m r id [] (notes m (place m) r v) keeps)
+    missed m r below is =
+        let w : Known = notes m (place m) r v in
+        let visits : Visits bytes opening p w h.mail.boxes =
+        one-more bytes opening p w h.mail.boxes m
+        (record {
+          found = r;
+          left = r;
+          alike = record { role = refl; me = refl };
+          role = role;
+          below = below;
+          was = is ∙ (h.each_box m below).shows;
+          is = is ∙ (h.each_box m below).shows;
+          same = λ k apart. refl;
+          visits = refl;
+        }) in
         subst
         (λ (ws : List ℕ).
-        Holds bytes opening
-        (record { words = ws; homes = s.homes; views = set s.views id (notes r v) }))
+        Holds bytes opening (record { words = ws; homes = s.homes; views = set s.views id w }))
         (sym (set-get_or s.words m 0) ∙ ap (set s.words m) (sym is))
-        (noted bytes opening p (notes r v) h.log s.words (record {
+        (noted bytes opening p w h.log s.words (record {
           alike = record { role = refl; me = refl };
           filling = refl;
           emptying = refl;
           extends = same-log opening h.log v;
           wide = refl;
-          boxes = λ k below. refl;
+          boxes = λ k inside. refl;
           events = h.events;
           count = h.count;
           board = h.board;
@@ -100,9 +117,10 @@ module _ {S : Type 0} (bytes : S → List ℕ) (opening : World) where
           higher = (let z : ℕ = slice_index s.words (n * n + 1) in
               let le : z ≤ z = omega arith in le);
           shown = λ _. refl;
+          visits = visits;
           mine = subst
-              (SeatOk opening h.log (slice_index s.words (n * n + 1)) (set s.views id (notes r v))
-              h.mail id (notes r v))
+              (SeatOk opening h.log (slice_index s.words (n * n + 1)) (set s.views id w)
+              (record h.mail { visits = visits.all }) id w)
               (sym role)
               (record {
                 below = ok.below;
@@ -115,6 +133,7 @@ module _ {S : Type 0} (bytes : S → List ℕ) (opening : World) where
                 empties = ok.empties;
                 sends = ok.sends;
                 gets = ok.gets;
+                visited = visits.mine role;
                 shows = ok.shows;
               });
           no_dealer = λ d. (let never : ◌≡◌ {A = Role} node dealer = sym role ∙ d in absurd cc);
@@ -122,7 +141,7 @@ module _ {S : Type 0} (bytes : S → List ℕ) (opening : World) where
 
     pub claim-hit : (m : ℕ) → m < n * n → v.me ≡ m / n → get_or s.words m 0 ≡ 0 → (c : List (ℕ × S))
         → (x : S) × (get_elem? s.homes m ≡ some (some x))
-        × Holds bytes opening (stepped s m 3 id c (claims m v) (takes m x)) × IsFresh m v
+        × Holds bytes opening (stepped s m 3 id c (claims m (place m) v) (takes m x)) × IsFresh m v
     claim-hit m below me_is hit c =
         let b = h.each_box m below in
         let is = is-empty (h.mail.boxes m) (sym b.shows ∙ hit) in
@@ -132,15 +151,15 @@ module _ {S : Type 0} (bytes : S → List ℕ) (opening : World) where
         λ j e. (let never : 0 ≡ suc j = sym (ap holder is) ∙ e in omega arith) in (
           lies.0,
           lies.1,
-          moved bytes opening p (claims m v) m 3 (filling_by id) (record {
+          moved bytes opening p (claims m (place m) v) m 3 (filling_by id) (record {
             home = none;
             below = below;
             role = role;
             seat = still-seat;
             shows = refl;
             content = (
-              claims m v,
-              set-at s.views id (claims m v) v p.at,
+              claims m (place m) v,
+              set-at s.views id (claims m (place m) v) v p.at,
               role,
               me_is,
               has-here m v.filling,
@@ -158,6 +177,9 @@ module _ {S : Type 0} (bytes : S → List ℕ) (opening : World) where
             gets = ok.gets m below;
             sends_none = λ _. refl;
             gets_none = λ _. refl;
+            found = 0;
+            was = sym (ap face is);
+            visits = refl;
             sent = λ k apart. refl;
             took = λ k apart. refl;
           }),
@@ -166,7 +188,7 @@ module _ {S : Type 0} (bytes : S → List ℕ) (opening : World) where
 
     pub take-hit : (m : ℕ) → m < n * n → v.me ≡ m % n → get_or s.words m 0 ≡ 1 → (c : List (ℕ × S))
         → (f : Plain) × (x : S) × (get_elem? s.homes m ≡ some (some x))
-        × Holds bytes opening (stepped s m 2 id c (takes_in m f v) (takes m x)) × IsFresh m v
+        × Holds bytes opening (stepped s m 2 id c (takes_in m (place m) f v) (takes m x)) × IsFresh m v
         × Spells f (bytes x) × IsInNet (run opening h.log) f × (sender f ≡ m / n)
         × (receiver f ≡ m % n)
     take-hit m below me_is hit c =
@@ -180,15 +202,15 @@ module _ {S : Type 0} (bytes : S → List ℕ) (opening : World) where
           f,
           lies.0.0,
           lies.0.1,
-          moved bytes opening p (takes_in m f v) m 2 (emptying_by id f) (record {
+          moved bytes opening p (takes_in m (place m) f v) m 2 (emptying_by id f) (record {
             home = none;
             below = below;
             role = role;
             seat = still-seat;
             shows = refl;
             content = (
-              takes_in m f v,
-              set-at s.views id (takes_in m f v) v p.at,
+              takes_in m (place m) f v,
+              set-at s.views id (takes_in m (place m) f v) v p.at,
               role,
               me_is,
               found-here m f v.emptying,
@@ -215,6 +237,9 @@ module _ {S : Type 0} (bytes : S → List ℕ) (opening : World) where
                 ∙ sym (box-here n m f v.taken (box-number n m f lies.2 lies.3));
             sends_none = λ _. refl;
             gets_none = λ other. absurd (other me_is);
+            found = 1;
+            was = sym (ap face is.1);
+            visits = refl;
             sent = λ k apart. refl;
             took = λ k apart. box-else n m k f v.taken (box-number n m f lies.2 lies.3) apart;
           }),
@@ -227,7 +252,7 @@ module _ {S : Type 0} (bytes : S → List ℕ) (opening : World) where
 
     pub post-done : (m : ℕ) → has m v.filling ≡ true → (x : S) (c : List (ℕ × S))
         → (owns : Owns m v (bytes x))
-        → Holds bytes opening (stepped s m 1 id ((m, x) ∷ c) (posts m owns.0 v) gives)
+        → Holds bytes opening (stepped s m 1 id ((m, x) ∷ c) (posts m (place m) owns.0 v) gives)
         × (found m v.emptying ≡ None)
     post-done m filling x c owns =
         let mine = ok.fills m filling in
@@ -246,7 +271,7 @@ module _ {S : Type 0} (bytes : S → List ℕ) (opening : World) where
         (subst (λ (k : ℕ). receiver f < k) (sym long)
         (subst (λ (k : ℕ). k < n) (sym to_is) (mod-lt m pos)))
         owns.3 in (
-          moved bytes opening p (posts m f v) m 1 (full f) (record {
+          moved bytes opening p (posts m (place m) f v) m 1 (full f) (record {
             home = some x;
             below = mine.0;
             role = role;
@@ -277,6 +302,9 @@ module _ {S : Type 0} (bytes : S → List ℕ) (opening : World) where
             gets = ok.gets m mine.0;
             sends_none = λ other. absurd (other me_is);
             gets_none = λ _. refl;
+            found = 3;
+            was = sym (ap face mine.1);
+            visits = refl;
             sent = λ k apart. box-else n m k f v.sent number apart;
             took = λ k apart. refl;
           }),
@@ -287,11 +315,11 @@ module _ {S : Type 0} (bytes : S → List ℕ) (opening : World) where
         clash g e = let never : ◌≡◌ {A = ℕ} 3 2 = ap face e in absurd cc
 
     pub clear-done : (m : ℕ) (f : Plain) → found m v.emptying ≡ Some f → (x : S) (c : List (ℕ × S))
-        → Holds bytes opening (stepped s m 0 id ((m, x) ∷ c) (clears m v) gives)
+        → Holds bytes opening (stepped s m 0 id ((m, x) ∷ c) (clears m (place m) v) gives)
         × (has m v.filling ≡ false)
     clear-done m f emptying x c =
         let mine = ok.empties m f emptying in (
-          moved bytes opening p (clears m v) m 0 empty (record {
+          moved bytes opening p (clears m (place m) v) m 0 empty (record {
             home = some x;
             below = mine.0;
             role = role;
@@ -317,6 +345,9 @@ module _ {S : Type 0} (bytes : S → List ℕ) (opening : World) where
             gets = ok.gets m mine.0;
             sends_none = λ _. refl;
             gets_none = λ _. refl;
+            found = 2;
+            was = sym (ap face mine.1);
+            visits = refl;
             sent = λ k apart. refl;
             took = λ k apart. refl;
           }),

@@ -10,10 +10,10 @@ use Rattle.ids.specs.declared.limits.TheConstants.{GREATEST_CYCLE}
 use Rattle.msg.specs.Grammar.{Plain}
 use Rattle.model.specs.World.{World, run, IsInNet}
 use Rattle.wire.specs.Lists.{has, found}
-use Rattle.wire.specs.Views.{Role, dealer, node, Known, pair_at}
+use Rattle.wire.specs.Views.{Role, dealer, node, Known, visits_with, pair_at}
 use Rattle.wire.specs.Rule.{nodes_of, ended_of, events_of, Box, Mail, filling_by, emptying_by, face, lying, in_box, Content, BoxOk, NodeOk, SeatOk, Holds}
 use Rattle.wire.proofs.Boxes.{put, at_put, put-here, put-other, holder}
-use Rattle.wire.proofs.Stays.{IsSeat, IsLike, Apart, Standing, same-log, turned, box-stays, node-of}
+use Rattle.wire.proofs.Stays.{IsSeat, IsLike, Apart, Standing, Visits, same-log, turned, box-stays, node-of, one-more}
 
 module _ {S : Type 0} (bytes : S → List ℕ) (opening : World) where
   abbrev n : ℕ
@@ -48,6 +48,10 @@ module _ {S : Type 0} (bytes : S → List ℕ) (opening : World) where
     pub gets : p.view.me ≡ m % n → got ≡ in_box n m w.taken
     pub sends_none : p.view.me ≢ m / n → posted ≡ p.holds.mail.posted m
     pub gets_none : p.view.me ≢ m % n → got ≡ p.holds.mail.got m
+    -- the word that stood there
+    pub found : ℕ
+    pub was : found ≡ face (p.holds.mail.boxes m)
+    pub visits : w.visits ≡ visits_with m (length (p.holds.mail.visits m)) found x p.view
     pub sent : (k : ℕ) → k ≢ m → in_box n k w.sent ≡ in_box n k p.view.sent
     pub took : (k : ℕ) → k ≢ m → in_box n k w.taken ≡ in_box n k p.view.taken
 
@@ -57,12 +61,28 @@ module _ {S : Type 0} (bytes : S → List ℕ) (opening : World) where
         p.view
     was-node = node-of bytes opening p t.role
 
+    visits : Visits bytes opening p w (put p.holds.mail.boxes m b)
+    visits =
+        one-more bytes opening p w (put p.holds.mail.boxes m b) m
+        (record {
+          found = t.found;
+          left = x;
+          alike = t.seat.alike;
+          role = t.role;
+          below = t.below;
+          was = t.was;
+          is = t.shows ∙ ap face (sym (put-here p.holds.mail.boxes m b m refl));
+          same = λ k apart. ap face (put-other p.holds.mail.boxes m b k apart);
+          visits = t.visits;
+        })
+
     -- the mailboxes, with this one moved
     abbrev then : Mail
     then = record {
       boxes = put p.holds.mail.boxes m b;
       posted = put p.holds.mail.posted m t.posted;
       got = put p.holds.mail.got m t.got;
+      visits = visits.all;
     }
 
     then-apart : (board : ℕ) → Apart n board board p.holds.mail then p.view
@@ -73,6 +93,7 @@ module _ {S : Type 0} (bytes : S → List ℕ) (opening : World) where
       got = λ k. at_put p.holds.mail.got m t.got
           (λ i y. (p.view.role ≡ node → p.view.me ≢ i % n) → y ≡ p.holds.mail.got i) k
           (λ a. t.gets_none (a t.role)) (λ _ _. refl);
+      visits = visits.others;
       board = λ _. refl;
     }
 
@@ -113,6 +134,7 @@ module _ {S : Type 0} (bytes : S → List ℕ) (opening : World) where
           (λ i y. w.me ≡ i % n → y ≡ in_box n i w.taken) k
           (λ me. t.gets (sym t.seat.alike.me ∙ me))
           (λ apart me. was-node.gets k inside (sym t.seat.alike.me ∙ me) ∙ sym (t.took k apart));
+      visited = visits.mine t.role;
       shows = λ first. was-node.shows (sym t.seat.alike.me ∙ first) ∙ sym t.seat.shown;
     }
 
@@ -140,6 +162,8 @@ module _ {S : Type 0} (bytes : S → List ℕ) (opening : World) where
               then p.view) (sym board)
               (then-apart (slice_index p.state.words (n * n + 1)));
           in_order = then-ordered;
+          visits = visits.each;
+          visitors = visits.taken;
           wide = length-set p.state.words m x;
           slots = length-set p.state.homes m t.home;
           events = p.holds.events;

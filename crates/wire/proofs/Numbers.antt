@@ -1,6 +1,8 @@
 -- The number of a mailbox, among those between so many nodes.
-use Rattle.std.proofs.Common.{◌≡◌, ℕ, ◌+◌, ◌*◌, ◌/◌, ◌%◌, ◌<◌, ◌≤◌, true, true≢false, refl, sym, subst, arith, suc, suc-mul, mul-le-mul_right}
+use Rattle.std.proofs.Common.{◌≡◌, ℕ, ◌+◌, ◌*◌, ◌/◌, ◌%◌, ◌<◌, ◌≤◌, ◌==◌, ◌||◌, eq-eqb, Bool, true, true≢false, refl, sym, ap, ◌∙◌, subst, arith, suc, suc-mul, mul-le-mul_right}
 use Rattle.std.proofs.lemmas.Nat.{div-mul-add, mod-mul-add}
+use Rattle.std.proofs.Math.Bool.{or-true}
+use Rattle.wire.specs.Seated.{IsOwnBox}
 use Rattle.wire.specs.Views.{Role, dealer, node, watch, is_node, is_watch}
 
 pub record IsBox (i j n m : ℕ) : Type 0 where
@@ -27,6 +29,18 @@ pub box-of : {k m : ℕ} (i j n : ℕ) → i < n → j < n → n ≡ k → m ≡
 box-of {k} i j n first second same is =
     subst (λ (z : ℕ). IsBox i j k z) (sym is)
     (subst (λ (z : ℕ). IsBox i j z (i * n + j)) same (is-box i j n first second))
+
+-- one from the node, and one to it, is its own
+pub own-from : (i j n m : ℕ) → IsBox i j n m → IsOwnBox i n m
+own-from i j n m box =
+    (box.below, ap (λ (b : Bool). b || m % n == i) (eq-eqb (m / n) i (sym box.sender)))
+
+pub own-to : (i j n m : ℕ) → IsBox i j n m → IsOwnBox j n m
+own-to i j n m box = (
+  box.below,
+  ap (λ (b : Bool). m / n == j || b) (eq-eqb (m % n) j (sym box.receiver))
+      ∙ or-true (m / n == j),
+)
 
 pub a-node : (r : Role) → is_node r ≡ true → r ≡ node
 a-node dealer e = absurd (true≢false (sym e))

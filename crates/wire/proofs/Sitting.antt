@@ -1,9 +1,7 @@
 -- What a seat keeps of the slots that are out with it, as slots come and go.
-use Rattle.std.proofs.Common.{◌≡◌, ◌≢◌, ℕ, zero, suc, ◌*◌, ◌<◌, ◌≤◌, ◌==◌, eqb, cond, eq-eqb, ne_eqb, eqb-true, Bool, true, false, true≢false, List, [], ◌∷◌, ◌++◌, length, drop, take, get_or, Option, Some, None, refl, sym, ap, ◌∙◌, subst, ⊎_elim, arith}
+use Rattle.std.proofs.Common.{◌≡◌, ◌≢◌, ℕ, zero, suc, ◌<◌, ◌==◌, cond, eq-eqb, ne_eqb, Bool, true, false, true≢false, List, [], ◌∷◌, ◌++◌, drop, take, get_or, Option, Some, None, refl, sym, ap, ◌∙◌, subst, ⊎_elim, arith}
 use Rattle.std.specs.Prelude.{is_some}
-use Rattle.std.specs.List.{list_any, AllByRecursion, IsDistinct}
-use Rattle.std.proofs.lemmas.Bool.{cond-true, cond-false, cases_Bool, or_cases}
-use Rattle.std.proofs.lemmas.Map.Steps.{length-le_from_distinct_below}
+use Rattle.std.proofs.lemmas.Bool.{cond-true, cond-false, cases_Bool}
 use mathlib.Core.Option.{some, some-ne-none, some-injective}
 use mathlib.Core.Logic.{dite}
 use native.Mathlib.Decide.{ℕ_discrete}
@@ -12,55 +10,22 @@ use Rattle.atomic_table.specs.Table.{rest, turned}
 use Rattle.atomic_table.proofs.Lists.{at_snoc}
 use Rattle.msg.specs.Grammar.{Plain, spelling}
 use Rattle.wire.specs.Lists.{has, found, cleared, once}
-use Rattle.wire.specs.Views.{Known, is_node, takes_in, posts, clears}
+use Rattle.wire.specs.Views.{Known, is_node, claims, takes_in, posts, clears}
 use Rattle.wire.specs.Plays.{IsFresh}
-use Rattle.wire.specs.Seated.{minds, boxes_of, Sits}
+use Rattle.wire.specs.Seated.{minds, boxes_of, IsOwnBox, Sits}
 use Rattle.wire.proofs.Lists.{has-here, has-more, has-gone, has-stays, found-here, found-more, found-gone, found-stays}
 
 -- ---- Numbers that stand once
 
-has-from_any : (q : ℕ) (xs : List ℕ) → list_any (eqb q) xs ≡ true → has q xs ≡ true
-has-from_any q [] e = e
-has-from_any q (x ∷ xs) e =
-    ⊎_elim
-    (λ same. cond-true _ _ _ (eq-eqb x q (sym (eqb-true q x same))))
-    (λ later. dite (ℕ_discrete x q)
-    (λ is. cond-true _ _ _ (eq-eqb x q is))
-    (λ n. cond-false _ _ _ (ne_eqb x q n) ∙ has-from_any q xs later))
-    (or_cases (eqb q x) (list_any (eqb q) xs) e)
-
-no-more : (x : ℕ) (xs : List ℕ) → has x xs ≡ false → AllByRecursion (λ y. eqb x y ≡ false) xs
-no-more x [] e = tt
-no-more x (y ∷ ys) e =
-    dite (ℕ_discrete y x)
-    (λ is. absurd (true≢false (sym (cond-true _ _ _ (eq-eqb y x is)) ∙ e)))
-    (λ n. (ne_eqb x y (λ f. n (sym f)), no-more x ys (sym (cond-false _ _ _ (ne_eqb y x n)) ∙ e)))
-
-once-parts : (x : ℕ) (xs : List ℕ) → once (x ∷ xs) ≡ true → (has x xs ≡ false) × (once xs ≡ true)
+pub once-parts : (x : ℕ) (xs : List ℕ) → once (x ∷ xs) ≡ true → (has x xs ≡ false) × (once xs ≡ true)
 once-parts x xs e =
     ⊎_elim
     (λ there. absurd (true≢false (sym e ∙ cond-true _ _ _ there)))
     (λ gone. (gone, sym (cond-false _ _ _ gone) ∙ e))
     (cases_Bool (has x xs))
 
-once-more : (x : ℕ) (xs : List ℕ) → has x xs ≡ false → once xs ≡ true → once (x ∷ xs) ≡ true
+pub once-more : (x : ℕ) (xs : List ℕ) → has x xs ≡ false → once xs ≡ true → once (x ∷ xs) ≡ true
 once-more x xs gone e = cond-false _ _ _ gone ∙ e
-
-distinct : (xs : List ℕ) → once xs ≡ true → IsDistinct eqb xs
-unfolding IsDistinct
-distinct [] e = tt
-distinct (x ∷ xs) e = let p = once-parts x xs e in (no-more x xs p.0, distinct xs p.1)
-
--- so few that there is room for one more
-pub room-for : (at n : ℕ) (xs : List ℕ) → once xs ≡ true → has at xs ≡ false → at < n
-    → ((k : ℕ) → has k xs ≡ true → k < n) → length xs < n
-room-for at n xs single gone below inside =
-    let more : length (at ∷ xs) ≤ n =
-    length-le_from_distinct_below (at ∷ xs) n (distinct (at ∷ xs) (once-more at xs gone single))
-    (λ q e. dite (ℕ_discrete q at)
-    (λ is. subst (λ (k : ℕ). k < n) (sym is) below)
-    (λ apart. inside q (sym (has-more at q xs apart) ∙ has-from_any q (at ∷ xs) e))) in
-    omega arith
 
 -- the first one goes last
 has-last : (k x : ℕ) (xs : List ℕ) → has k (xs ++ x ∷ []) ≡ has k (x ∷ xs)
@@ -139,10 +104,10 @@ abbrev Seated : {S : Type 0} → (S → List ℕ) → ℕ → ℕ → List ℕ �
 Seated bytes me nodes held v out = Sits bytes me nodes held (v, out)
 
 module _ {S : Type 0} {bytes : S → List ℕ} {me nodes : ℕ} where
-  pub sits-took : {held : List ℕ} {v : Known} {out : List (ℕ × S)} (at : ℕ) (x : S) (f : Plain)
-      → Seated bytes me nodes held v out → IsFresh at v → at < nodes * nodes → bytes x ≡ spelling f
-      → Seated bytes me nodes (at ∷ held) (takes_in at f v) ((at, x) ∷ out)
-  sits-took {held} {v} {out} at x f s fresh below spelled =
+  pub sits-claimed : {held : List ℕ} {v : Known} {out : List (ℕ × S)} (at place : ℕ) (x : S)
+      → Seated bytes me nodes held v out → IsFresh at v → IsOwnBox me nodes at
+      → Seated bytes me nodes (at ∷ held) (claims at place v) ((at, x) ∷ out)
+  sits-claimed {held} {v} {out} at place x s fresh its =
       let gone : has at held ≡ false = s.minded at ∙ fresh-minds at v fresh in
       record {
         role = s.role;
@@ -152,16 +117,51 @@ module _ {S : Type 0} {bytes : S → List ℕ} {me nodes : ℕ} where
         few = s.few;
         order = ap (λ (l : List ℕ). at ∷ l) s.order;
         minded = λ k. dite (ℕ_discrete k at)
-            (λ is. subst (λ (j : ℕ). has j (at ∷ held) ≡ minds j (takes_in at f v)) (sym is)
+            (λ is. subst (λ (j : ℕ). has j (at ∷ held) ≡ minds j (claims at place v)) (sym is)
+            (has-here at held ∙ sym (cond-true _ _ _ (has-here at v.filling))))
+            (λ apart. has-more at k held apart ∙ s.minded k
+            ∙ ap (λ (b : Bool). cond b true (is_some (found k v.emptying)))
+            (sym (has-more at k v.filling apart)));
+        single = once-more at held gone s.single;
+        own = λ k e. dite (ℕ_discrete k at)
+            (λ is. subst (IsOwnBox me nodes) (sym is) its)
+            (λ apart. s.own k (sym (has-more at k held apart) ∙ e));
+        spells = spells;
+      }
+    where
+      spells : (i b : ℕ) (y : S) (g : Plain) → get_elem? ((at, x) ∷ out) i ≡ some (b, y)
+          → found b v.emptying ≡ Some g → bytes y ≡ spelling g
+      spells zero b y g e there =
+          let same = some-injective (at, x) (b, y) e in
+          let is : at ≡ b = ap (λ (z : ℕ × S). z.0) same in
+          absurd (let never : ◌≡◌ {A = Option Plain} None (Some g) =
+          sym fresh.1 ∙ ap (λ (j : ℕ). found j v.emptying) is ∙ there in cc)
+      spells (suc i) b y g e there = s.spells i b y g e there
+
+  pub sits-took : {held : List ℕ} {v : Known} {out : List (ℕ × S)} (at place : ℕ) (x : S) (f : Plain)
+      → Seated bytes me nodes held v out → IsFresh at v → IsOwnBox me nodes at
+      → bytes x ≡ spelling f
+      → Seated bytes me nodes (at ∷ held) (takes_in at place f v) ((at, x) ∷ out)
+  sits-took {held} {v} {out} at place x f s fresh its spelled =
+      let gone : has at held ≡ false = s.minded at ∙ fresh-minds at v fresh in
+      record {
+        role = s.role;
+        me_is = s.me_is;
+        nodes_is = s.nodes_is;
+        within = s.within;
+        few = s.few;
+        order = ap (λ (l : List ℕ). at ∷ l) s.order;
+        minded = λ k. dite (ℕ_discrete k at)
+            (λ is. subst (λ (j : ℕ). has j (at ∷ held) ≡ minds j (takes_in at place f v)) (sym is)
             (has-here at held
             ∙ sym (cond-false _ _ _ fresh.0 ∙ ap is_some (found-here at f v.emptying))))
             (λ apart. has-more at k held apart ∙ s.minded k
             ∙ ap (λ (o : Option Plain). cond (has k v.filling) true (is_some o))
             (sym (found-more at k f v.emptying apart)));
         single = once-more at held gone s.single;
-        inside = λ k e. dite (ℕ_discrete k at)
-            (λ is. subst (λ (j : ℕ). j < nodes * nodes) (sym is) below)
-            (λ apart. s.inside k (sym (has-more at k held apart) ∙ e));
+        own = λ k e. dite (ℕ_discrete k at)
+            (λ is. subst (IsOwnBox me nodes) (sym is) its)
+            (λ apart. s.own k (sym (has-more at k held apart) ∙ e));
         spells = spells;
       }
     where
@@ -204,7 +204,7 @@ module _ {S : Type 0} {bytes : S → List ℕ} {me nodes : ℕ} where
             (λ apart. sym (has-more at k (boxes_of out) apart) ∙ ap (has k) s.order ∙ s.minded k
             ∙ sym (others k apart));
         single = parts.1;
-        inside = λ k e. s.inside k (ap (has k) (sym s.order) ∙ later k e);
+        own = λ k e. s.own k (ap (has k) (sym s.order) ∙ later k e);
         spells = λ i b y f e there. s.spells (suc i) b y f e (less b f there);
       }
     where
@@ -214,21 +214,21 @@ module _ {S : Type 0} {bytes : S → List ℕ} {me nodes : ℕ} where
           (λ is. cond-true _ _ _ (eq-eqb at k (sym is)))
           (λ apart. has-more at k (boxes_of out) apart ∙ e)
 
-  pub sits-posted : {held : List ℕ} {v : Known} {out : List (ℕ × S)} (at : ℕ) (f : Plain) (x : S)
+  pub sits-posted : {held : List ℕ} {v : Known} {out : List (ℕ × S)} (at place : ℕ) (f : Plain) (x : S)
       → Seated bytes me nodes held v ((at, x) ∷ out) → found at v.emptying ≡ None
-      → Seated bytes me nodes (boxes_of out) (posts at f v) out
-  sits-posted {v = v} at f x s none =
-      sits-given (posts at f v) at x s (refl, refl, refl)
+      → Seated bytes me nodes (boxes_of out) (posts at place f v) out
+  sits-posted {v = v} at place f x s none =
+      sits-given (posts at place f v) at x s (refl, refl, refl)
       (cond-false _ _ _ (has-gone at v.filling) ∙ ap is_some none)
       (λ k apart. ap (λ (b : Bool). cond b true (is_some (found k v.emptying)))
       (has-stays at k v.filling apart))
       (λ b f e. e)
 
-  pub sits-cleared : {held : List ℕ} {v : Known} {out : List (ℕ × S)} (at : ℕ) (x : S)
+  pub sits-cleared : {held : List ℕ} {v : Known} {out : List (ℕ × S)} (at place : ℕ) (x : S)
       → Seated bytes me nodes held v ((at, x) ∷ out) → has at v.filling ≡ false
-      → Seated bytes me nodes (boxes_of out) (clears at v) out
-  sits-cleared {v = v} at x s none =
-      sits-given (clears at v) at x s (refl, refl, refl)
+      → Seated bytes me nodes (boxes_of out) (clears at place v) out
+  sits-cleared {v = v} at place x s none =
+      sits-given (clears at place v) at x s (refl, refl, refl)
       (cond-false _ _ _ none ∙ ap is_some (found-gone at v.emptying))
       (λ k apart. ap (λ (o : Option Plain). cond (has k v.filling) true (is_some o))
       (found-stays at k v.emptying apart))
@@ -253,7 +253,7 @@ module _ {S : Type 0} {bytes : S → List ℕ} {me nodes : ℕ} where
         order = refl;
         minded = λ k. ap (has k) s.order ∙ s.minded k;
         single = refl;
-        inside = λ k e. s.inside k (sym (ap (has k) s.order) ∙ e);
+        own = λ k e. s.own k (sym (ap (has k) s.order) ∙ e);
         spells = s.spells;
       })
   sits-turned {v = v} {out = (at, x) ∷ out} s =
@@ -269,7 +269,7 @@ module _ {S : Type 0} {bytes : S → List ℕ} {me nodes : ℕ} where
         order = boxes-last out at x;
         minded = λ k. has-last k at (boxes_of out) ∙ ap (has k) s.order ∙ s.minded k;
         single = once-last at (boxes_of out) (ap once s.order ∙ s.single);
-        inside = λ k e. s.inside k
+        own = λ k e. s.own k
             (ap (has k) (sym s.order) ∙ sym (has-last k at (boxes_of out)) ∙ e);
         spells = λ i b y f e there. ⊎_elim
             (λ (was : get_elem? out i ≡ some (b, y)). s.spells (suc i) b y f was there)

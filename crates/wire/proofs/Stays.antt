@@ -1,5 +1,5 @@
 -- What stays of the rule when one seat takes a step.
-use Rattle.std.proofs.Common.{◌≡◌, ◌≢◌, ℕ, suc, ◌+◌, ◌*◌, ◌/◌, ◌%◌, ◌^◌, ◌<◌, ◌≤◌, List, ◌++◌, length, set, refl, sym, ap, ◌∙◌, subst, ⊎_elim, arith, le_trans}
+use Rattle.std.proofs.Common.{◌≡◌, ◌≢◌, ℕ, suc, ◌+◌, ◌*◌, ◌/◌, ◌%◌, ◌^◌, ◌<◌, ◌≤◌, ◌==◌, eq-eqb, ne_eqb, List, [], ◌∷◌, ◌++◌, length, set, refl, sym, ap, ◌∙◌, subst, ⊎_elim, arith, le_trans}
 use Rattle.std.specs.Prelude.{slice_index}
 use mathlib.Core.Option as maybe
 use mathlib.Core.Option.{some, some-injective}
@@ -13,9 +13,11 @@ use Rattle.msg.specs.Grammar.{Plain}
 use Rattle.model.specs.declared.step.Step.{Step}
 use Rattle.model.specs.World.{World, run, IsInNet}
 use Rattle.wire.specs.Lists.{has, found}
-use Rattle.wire.specs.Views.{Role, dealer, node, watch, Known, pair_at}
-use Rattle.wire.specs.Rule.{nodes_of, ended_of, events_of, AreEvents, Box, Mail, empty, full, filling_by, emptying_by, lying, Content, BoxOk, NodeOk, DealerOk, SeatOk, Holds}
-use Rattle.wire.proofs.Boxes.{holder, set-at}
+use Rattle.wire.specs.Views.{Role, dealer, node, watch, Visit, Known, visit, visits_with, pair_at}
+use Rattle.wire.specs.Rule.{nodes_of, ended_of, events_of, AreEvents, Box, Mail, empty, full, filling_by, emptying_by, face, lying, by_node, on_box, AreVisits, Content, BoxOk, NodeOk, DealerOk, HasSeat, AreTaken, SeatOk, Holds}
+use Rattle.laws.proofs.Lookups.{slice_get-push}
+use Rattle.wire.proofs.Boxes.{put, at_put, holder, set-at}
+use Rattle.wire.proofs.Visits.{filter-here, filter-else, visits-push}
 
 -- what the others read of a seat
 pub record IsAlike (v w : Known) : Type 0 where
@@ -31,11 +33,10 @@ pub record IsSeat (v w : Known) : Type 0 where
   pub events : w.events ≡ v.events
   pub shown : w.shown ≡ v.shown
 
-pub still-seat : {v : Known} {read tries : ℕ} {filling : List ℕ} {emptying : List (ℕ × Plain)}
-    {taken sent : List Plain}
+pub still-seat : {v : Known} {visits : List Visit} {filling : List ℕ}
+    {emptying : List (ℕ × Plain)} {taken sent : List Plain}
     → IsSeat v (record v {
-      read = read;
-      tries = tries;
+      visits = visits;
       filling = filling;
       emptying = emptying;
       taken = taken;
@@ -75,11 +76,18 @@ same-log opening log v = record { net = λ f h. h; others = λ i apart. (refl, r
 pub record Apart (n : ℕ) (old new : ℕ) (mail mail' : Mail) (v : Known) : Type 0 where
   pub posted : (m : ℕ) → (v.role ≡ node → v.me ≢ m / n) → mail'.posted m ≡ mail.posted m
   pub got : (m : ℕ) → (v.role ≡ node → v.me ≢ m % n) → mail'.got m ≡ mail.got m
+  pub visits : (m i : ℕ) → (v.role ≡ node → v.me ≢ i)
+      → by_node i (mail'.visits m) ≡ by_node i (mail.visits m)
   pub board : (v.role ≡ node → v.me ≢ 0) → new ≡ old
 
 pub same-mail : (n b : ℕ) (mail : Mail) (v : Known) → Apart n b b mail mail v
 same-mail n b mail v =
-    record { posted = λ m a. refl; got = λ m a. refl; board = λ a. refl }
+    record {
+      posted = λ m a. refl;
+      got = λ m a. refl;
+      visits = λ m i a. refl;
+      board = λ a. refl;
+    }
 
 -- a seat in a state that keeps the rule
 pub record Standing {S : Type 0} (bytes : S → List ℕ) (opening : World) : Type 0 where
@@ -113,6 +121,27 @@ module _ {S : Type 0} (bytes : S → List ℕ) (opening : World) where
         ))
         (λ (t : (j ≢ p.id) × (get_elem? p.state.views j ≡ some u)). (u, t.1, refl, refl))
         (at_set p.state.views p.id j w u e)
+
+    pub still-there : (i : ℕ) → HasSeat p.state.views i → HasSeat (after p w) i
+    still-there i seat =
+        dite (ℕ_discrete seat.0 p.id)
+        (λ e.
+        let is : p.view ≡ seat.1 =
+        some-injective p.view seat.1
+        (sym p.at ∙ subst (λ (k : ℕ). get_elem? p.state.views k ≡ some seat.1) e seat.2) in (
+          p.id,
+          w,
+          set-at p.state.views p.id w p.view p.at,
+          alike.role ∙ ap (λ (x : Known). x.role) is ∙ seat.3,
+          alike.me ∙ ap (λ (x : Known). x.me) is ∙ seat.4,
+        ))
+        (λ apart. (
+          seat.0,
+          seat.1,
+          set_else p.state.views p.id seat.0 w apart ∙ seat.2,
+          seat.3,
+          seat.4,
+        ))
 
     abbrev IsOne : List Known → Type 0
     IsOne vs =
@@ -169,6 +198,8 @@ module _ {S : Type 0} (bytes : S → List ℕ) (opening : World) where
     pub each : (m : ℕ) → m < n * n
         → BoxOk bytes n (run opening log) words homes (after p w) m (mail.boxes m)
     pub in_order : (m : ℕ) → m < n * n → mail.posted m ≡ mail.got m ++ lying (mail.boxes m)
+    pub visits : (m : ℕ) → m < n * n → AreVisits m (face (mail.boxes m)) 0 0 (mail.visits m)
+    pub visitors : (m : ℕ) → m < n * n → AreTaken (after p w) (mail.visits m)
     pub theirs : (j : ℕ) → j ≢ p.id → (m : ℕ) → holder (p.holds.mail.boxes m) ≡ suc j
         → mail.boxes m ≡ p.holds.mail.boxes m
     pub mine : SeatOk opening log (slice_index words (n * n + 1)) (after p w) mail p.id
@@ -201,6 +232,7 @@ module _ {S : Type 0} (bytes : S → List ℕ) (opening : World) where
           empties = λ m f e. let a = ok.empties m f e in (a.0, theirs m (ap holder a.1) ∙ a.1);
           sends = λ m inside me. t.apart.posted m (other (m / n) me) ∙ ok.sends m inside me;
           gets = λ m inside me. t.apart.got m (other (m % n) me) ∙ ok.gets m inside me;
+          visited = λ m inside. t.apart.visits m u.me (other u.me refl) ∙ ok.visited m inside;
           shows = λ first. t.apart.board (other 0 first) ∙ ok.shows first;
         }
     theirs-stay j u apart at watch is ok =
@@ -220,6 +252,8 @@ module _ {S : Type 0} (bytes : S → List ℕ) (opening : World) where
       fits = t.fits;
       each_box = t.each;
       in_order = t.in_order;
+      visits = t.visits;
+      visitors = t.visitors;
       each_seat = λ j u e.
           ⊎_elim
           (λ (is : (j ≡ p.id) × (w ≡ u)).
@@ -299,6 +333,118 @@ module _ {S : Type 0} (bytes : S → List ℕ) (opening : World) where
       p.holds.mail p.id p.view)
       role (p.holds.each_seat p.id p.view p.at)
 
+  -- ---- The steps on mailboxes, after this one
+
+  pub record Visits (p : Standing bytes opening) (w : Known) (boxes : ℕ → Box) : Type 0 where
+    pub all : ℕ → List Visit
+    pub each : (m : ℕ) → m < n * n → AreVisits m (face (boxes m)) 0 0 (all m)
+    pub taken : (m : ℕ) → m < n * n → AreTaken (after p w) (all m)
+    pub others : (m i : ℕ) → (p.view.role ≡ node → p.view.me ≢ i)
+        → by_node i (all m) ≡ by_node i (p.holds.mail.visits m)
+    pub mine : p.view.role ≡ node → (m : ℕ) → m < n * n
+        → by_node w.me (all m) ≡ on_box m w.visits
+
+  -- it is on none
+  abbrev pub none-more : (p : Standing bytes opening) (w : Known) → IsAlike p.view w
+      → w.visits ≡ p.view.visits → Visits p w p.holds.mail.boxes
+  none-more p w alike same = record {
+    all = p.holds.mail.visits;
+    each = p.holds.visits;
+    taken = λ m below k x e. still-there p w alike x.node (p.holds.visitors m below k x e);
+    others = λ m i apart. refl;
+    mine = λ role m below.
+        ap (λ (i : ℕ). by_node i (p.holds.mail.visits m)) alike.me
+        ∙ (node-of p role).visited m below ∙ ap (on_box m) (sym same);
+  }
+
+  -- it is on the mailbox m
+  pub record Visiting (p : Standing bytes opening) (w : Known) (boxes : ℕ → Box)
+      (m : ℕ) : Type 0 where
+    pub found : ℕ
+    pub left : ℕ
+    pub alike : IsAlike p.view w
+    pub role : p.view.role ≡ node
+    pub below : m < n * n
+    pub was : found ≡ face (p.holds.mail.boxes m)
+    pub is : left ≡ face (boxes m)
+    pub same : (k : ℕ) → k ≢ m → face (boxes k) ≡ face (p.holds.mail.boxes k)
+    pub visits : w.visits
+        ≡ visits_with m (length (p.holds.mail.visits m)) found left p.view
+
+  module _ (p : Standing bytes opening) (w : Known) (boxes : ℕ → Box) (m : ℕ)
+      (t : Visiting p w boxes m) where
+    abbrev before : ℕ → List Visit
+    before = p.holds.mail.visits
+
+    abbrev last : Visit
+    last = visit m (length (before m)) t.found t.left p.view
+
+    abbrev all : ℕ → List Visit
+    all = put before m (before m ++ last ∷ [])
+
+    each-follows : (k : ℕ) → k < n * n → AreVisits k (face (boxes k)) 0 0 (all k)
+    each-follows k below =
+        at_put before m (before m ++ last ∷ [])
+        (λ i xs. i < n * n → AreVisits i (face (boxes i)) 0 0 xs) k
+        (λ _.
+        subst (λ (z : ℕ). AreVisits m z 0 0 (before m ++ last ∷ [])) t.is
+        (visits-push m (face (p.holds.mail.boxes m)) last (before m) 0 0
+        (p.holds.visits m t.below) refl (omega arith) t.was))
+        (λ apart inside.
+        subst (λ (z : ℕ). AreVisits k z 0 0 (before k)) (sym (t.same k apart))
+        (p.holds.visits k inside))
+        below
+
+    each-taken : (k : ℕ) → k < n * n → AreTaken (after p w) (all k)
+    each-taken k below =
+        at_put before m (before m ++ last ∷ [])
+        (λ i xs. i < n * n → AreTaken (after p w) xs) k
+        (λ _ j x e.
+        ⊎_elim
+        (λ was. still-there p w t.alike x.node (p.holds.visitors m t.below j x was))
+        (λ (is : x ≡ last). (
+          p.id,
+          w,
+          set-at p.state.views p.id w p.view p.at,
+          t.alike.role ∙ t.role,
+          t.alike.me ∙ ap (λ (y : Visit). y.node) (sym is),
+        ))
+        (slice_get-push (before m) last j x e))
+        (λ apart inside j x e.
+        still-there p w t.alike x.node (p.holds.visitors k inside j x e))
+        below
+
+    mine-too : (k : ℕ) → k < n * n → by_node p.view.me (all k) ≡ on_box k w.visits
+    mine-too k below =
+        at_put before m (before m ++ last ∷ [])
+        (λ i xs. i < n * n → by_node p.view.me xs ≡ on_box i w.visits) k
+        (λ _.
+        filter-here (λ x. x.node == p.view.me) (before m) last
+        (eq-eqb p.view.me p.view.me refl)
+        ∙ ap (λ (xs : List Visit). xs ++ last ∷ []) ((node-of p t.role).visited m t.below)
+        ∙ sym (filter-here (λ x. x.box == m) p.view.visits last (eq-eqb m m refl))
+        ∙ ap (on_box m) (sym t.visits))
+        (λ apart inside.
+        (node-of p t.role).visited k inside
+        ∙ sym (filter-else (λ x. x.box == k) p.view.visits last
+        (ne_eqb m k (λ e. apart (sym e))))
+        ∙ ap (on_box k) (sym t.visits))
+        below
+
+    pub one-more : Visits p w boxes
+    one-more = record {
+      all = all;
+      each = each-follows;
+      taken = each-taken;
+      others = λ k i apart.
+          at_put before m (before m ++ last ∷ [])
+          (λ j xs. by_node i xs ≡ by_node i (before j)) k
+          (filter-else (λ x. x.node == i) (before m) last (ne_eqb p.view.me i (apart t.role)))
+          (λ _. refl);
+      mine = λ role k below.
+          ap (λ (i : ℕ). by_node i (all k)) t.alike.me ∙ mine-too k below;
+    }
+
   -- ---- A step that moves none
 
   pub record Note (p : Standing bytes opening) (w : Known) (log : List Step)
@@ -316,8 +462,9 @@ module _ {S : Type 0} (bytes : S → List ℕ) (opening : World) where
     pub higher : slice_index p.state.words (n * n + 1) ≤ slice_index words (n * n + 1)
     pub shown : (p.view.role ≡ node → p.view.me ≢ 0)
         → slice_index words (n * n + 1) ≡ slice_index p.state.words (n * n + 1)
-    pub mine : SeatOk opening log (slice_index words (n * n + 1)) (after p w) p.holds.mail p.id
-        w w.role
+    pub visits : Visits p w p.holds.mail.boxes
+    pub mine : SeatOk opening log (slice_index words (n * n + 1)) (after p w)
+        (record p.holds.mail { visits = visits.all }) p.id w w.role
     pub no_dealer : p.view.role ≢ dealer
 
   pub noted : (p : Standing bytes opening) (w : Known) (log : List Step)
@@ -327,10 +474,17 @@ module _ {S : Type 0} (bytes : S → List ℕ) (opening : World) where
       turned p w words p.state.homes (record {
         alike = t.alike;
         log = log;
-        mail = p.holds.mail;
+        mail = record p.holds.mail { visits = t.visits.all };
         extends = t.extends;
-        apart = record { posted = λ m a. refl; got = λ m a. refl; board = t.shown };
+        apart = record {
+          posted = λ m a. refl;
+          got = λ m a. refl;
+          visits = t.visits.others;
+          board = t.shown;
+        };
         in_order = p.holds.in_order;
+        visits = t.visits.each;
+        visitors = t.visits.taken;
         wide = t.wide;
         slots = refl;
         events = t.events;

@@ -96,28 +96,33 @@ abbrev pub IsFresh : ℕ → Known → Type 0
 IsFresh box v = (has box v.filling ≡ false) × (found box v.emptying ≡ None)
 
 module _ {S : Type 0} where
+  -- the seat looked at the mailbox, and went no further
+  abbrev pub Noted : Step S → Me S Known → ℕ → Me S Known → Type 0
+  Noted st m r m' = (place : ℕ) × (m'.0 ≡ notes st.word place r m.0) × (m'.1 ≡ m.1)
+
+  abbrev pub Claimed : Step S → Me S Known → Me S Known → Type 0
+  Claimed st m m' =
+      (place : ℕ) × (x : S) × (m'.0 ≡ claims st.word place m.0) × (m'.1 ≡ (st.word, x) ∷ m.1)
+      × IsFresh st.word m.0
+
   abbrev pub claimed : Step S → Me S Known → ℕ → Me S Known → Type 0
-  claimed st m r m' =
-      (r ≡ 0
-      → (x : S) × (m'.0 ≡ claims st.word m.0) × (m'.1 ≡ (st.word, x) ∷ m.1) × IsFresh st.word m.0)
-      × (r ≢ 0 → (m'.0 ≡ notes r m.0) × (m'.1 ≡ m.1))
+  claimed st m r m' = (r ≡ 0 → Claimed st m m') × (r ≢ 0 → Noted st m r m')
 
   -- what was taken, and the slot with it
   abbrev pub Took : (S → List ℕ) → Step S → Me S Known → Me S Known → Plain → Type 0
   Took bytes st m m' f =
-      (m'.0 ≡ takes_in st.word f m.0) × (sender f ≡ st.word / m.0.nodes) × (receiver f ≡ m.0.me)
-      × Arrives m.0 f
+      ((place : ℕ) × (m'.0 ≡ takes_in st.word place f m.0)) × (sender f ≡ st.word / m.0.nodes)
+      × (receiver f ≡ m.0.me) × Arrives m.0 f
       × ((x : S) × (m'.1 ≡ (st.word, x) ∷ m.1) × Spells f (bytes x) × IsFresh st.word m.0)
 
   abbrev pub took : (S → List ℕ) → Step S → Me S Known → ℕ → Me S Known → Type 0
-  took bytes st m r m' =
-      (r ≡ 1 → (f : Plain) × Took bytes st m m' f)
-      × (r ≢ 1 → (m'.0 ≡ notes r m.0) × (m'.1 ≡ m.1))
+  took bytes st m r m' = (r ≡ 1 → (f : Plain) × Took bytes st m m' f) × (r ≢ 1 → Noted st m r m')
 
   -- what was posted: the frame that the slot in front has
   abbrev pub Posted : (S → List ℕ) → Step S → Me S Known → Me S Known → Plain → Type 0
   Posted bytes st m m' f =
-      (m'.0 ≡ posts st.word f m.0) × (m'.1 ≡ rest m.1) × (found st.word m.0.emptying ≡ None)
+      ((place : ℕ) × (m'.0 ≡ posts st.word place f m.0)) × (m'.1 ≡ rest m.1)
+      × (found st.word m.0.emptying ≡ None)
       × ((x : S) × (m.1 ≡ (st.word, x) ∷ rest m.1) × Spells f (bytes x))
 
   abbrev pub posted : (S → List ℕ) → Step S → Me S Known → ℕ → Me S Known → Type 0
@@ -125,7 +130,8 @@ module _ {S : Type 0} where
 
   abbrev pub emptied : Step S → Me S Known → ℕ → Me S Known → Type 0
   emptied st m r m' =
-      (m'.0 ≡ clears st.word m.0) × (m'.1 ≡ rest m.1) × (has st.word m.0.filling ≡ false)
+      ((place : ℕ) × (m'.0 ≡ clears st.word place m.0)) × (m'.1 ≡ rest m.1)
+      × (has st.word m.0.filling ≡ false)
 
   abbrev pub ticked : model.Step → Pair → Step S → Me S Known → ℕ → Me S Known → Type 0
   ticked e q st m r m' = (m'.0 ≡ ticks e q m.0) × (m'.1 ≡ m.1) × Enters e m.0 r m'.0

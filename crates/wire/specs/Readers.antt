@@ -34,14 +34,17 @@ known s = s.seat.me.0
 abbrev pub seat_node : NodeSeat → ℕ
 seat_node s = s.node
 
+-- it is one of this wire, and of the world with which that was made
 abbrev pub IsSeatOf : Wire → NodeSeat → Type 0
-IsSeatOf w s = (s.seat.table_id ≡ w.table.shared.table_id) × (s.nodes ≡ w.nodes)
+IsSeatOf w s =
+    (s.seat.table_id ≡ w.table.shared.table_id) × (s.nodes ≡ w.nodes)
+    × ((known s).opening ≡ opened_with w)
 
--- the same seat, whatever it knows
+-- the same seat, whatever else it knows
 abbrev pub IsSame : NodeSeat → NodeSeat → Type 0
 IsSame old new =
     (new.seat.table_id ≡ old.seat.table_id) × (new.seat.id ≡ old.seat.id) × (new.node ≡ old.node)
-    × (new.nodes ≡ old.nodes)
+    × (new.nodes ≡ old.nodes) × ((known new).opening ≡ (known old).opening)
 
 -- its mailbox to a node, and from one
 abbrev pub outbox : NodeSeat → ℕ → ℕ
@@ -72,15 +75,22 @@ abbrev pub raised_opening : Raised → World
 raised_opening r = r.of.value.me.0.opening
 
 abbrev pub IsRaisedOf : Wire → Raised → Type 0
-IsRaisedOf w r = r.of.value.table_id ≡ w.table.shared.table_id
+IsRaisedOf w r =
+    (r.of.value.table_id ≡ w.table.shared.table_id) × (raised_opening r ≡ opened_with w)
 
 -- ---- A watch
 
+abbrev pub watch_opening : Watch → World
+watch_opening x = x.seat.me.0.opening
+
 abbrev pub IsWatchOf : Wire → Watch → Type 0
-IsWatchOf w x = x.seat.table_id ≡ w.table.shared.table_id
+IsWatchOf w x =
+    (x.seat.table_id ≡ w.table.shared.table_id) × (watch_opening x ≡ opened_with w)
 
 abbrev pub IsSameWatch : Watch → Watch → Type 0
-IsSameWatch old new = (new.seat.table_id ≡ old.seat.table_id) × (new.seat.id ≡ old.seat.id)
+IsSameWatch old new =
+    (new.seat.table_id ≡ old.seat.table_id) × (new.seat.id ≡ old.seat.id)
+    × (watch_opening new ≡ watch_opening old)
 
 -- the cycle that it loaded last, and the greatest that it heard of
 abbrev pub loaded : Watch → ℕ
@@ -89,12 +99,10 @@ loaded x = x.seat.me.0.number
 abbrev pub heard : Watch → ℕ
 heard x = x.heard.number
 
-abbrev pub watch_opening : Watch → World
-watch_opening x = x.seat.me.0.opening
-
 -- they are of one wire
 abbrev pub IsHeardOf : Watch → Raised → Type 0
-IsHeardOf x r = r.of.value.table_id ≡ x.seat.table_id
+IsHeardOf x r =
+    (r.of.value.table_id ≡ x.seat.table_id) × (raised_opening r ≡ watch_opening x)
 
 -- ---- Making a wire
 

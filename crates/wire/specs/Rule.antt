@@ -1,7 +1,8 @@
 -- What holds of a wire between any two atomic steps ("The rule" in docs/WIRE.md).
 -- The word m, for m below n * n, is that of the mailbox from node m / n to node m % n, and the slot
 -- m holds its bytes. Then come the count word and the board.
-use Rattle.std.specs.Prelude.{◌≡◌, ℕ, ◌+◌, ◌*◌, ◌/◌, ◌%◌, ◌^◌, ◌<◌, ◌≤◌, true, cond, ◌==◌, List, [], ◌∷◌, ◌++◌, length, slice_index, slice_get, Some}
+use Rattle.std.specs.Prelude.{◌≡◌, ℕ, suc, ◌+◌, ◌*◌, ◌/◌, ◌%◌, ◌^◌, ◌<◌, ◌≤◌, true, cond, ◌==◌, List, [], ◌∷◌, ◌++◌, length, slice_index, slice_get, Some}
+use Rattle.std.specs.List.{filter}
 use mathlib.Core.Option as maybe
 use mathlib.Core.Option.{some}
 use lib.ListN.{get_elem?}
@@ -12,7 +13,7 @@ use Rattle.model.specs.declared.step.Step.{Step}
 use Rattle.model.specs.declared.step.Step.TheVariants as step
 use Rattle.model.specs.State.{node_at}
 use Rattle.model.specs.World.{World, happens, is_event, run, IsInNet}
-use Rattle.wire.specs.Views.{Role, dealer, node, watch, Known, pair_at}
+use Rattle.wire.specs.Views.{Role, dealer, node, watch, Visit, Known, pair_at}
 use Rattle.wire.specs.Lists.{has, found}
 
 abbrev pub nodes_of : World → ℕ
@@ -85,12 +86,27 @@ abbrev pub in_box : ℕ → ℕ → List Plain → List Plain
 in_box n m [] = []
 in_box n m (f ∷ fs) = cond (box_of n f == m) (f ∷ in_box n m fs) (in_box n m fs)
 
+-- Of steps on mailboxes, those that a node's seat took, and those on one mailbox.
+abbrev pub by_node : ℕ → List Visit → List Visit
+by_node i xs = filter (λ x. x.node == i) xs
+
+abbrev pub on_box : ℕ → List Visit → List Visit
+on_box m xs = filter (λ x. x.box == m) xs
+
+-- Steps on the mailbox m, one after another from this place and word on: each finds the word that
+-- the one before left, and so the last one leaves this word.
+abbrev pub AreVisits : ℕ → ℕ → ℕ → ℕ → List Visit → Type 0
+AreVisits m word place first [] = first ≡ word
+AreVisits m word place first (x ∷ xs) =
+    (x.box ≡ m) × (x.place ≡ place) × (x.found ≡ first) × AreVisits m word (suc place) x.left xs
+
 -- The mailboxes, and for each of them the frames that were ever posted to it and those that were
--- ever taken from it, in order.
+-- ever taken from it, and the steps that were ever taken on it, in order.
 pub record Mail : Type 0 where
   pub boxes : ℕ → Box
   pub posted : ℕ → List Plain
   pub got : ℕ → List Plain
+  pub visits : ℕ → List Visit
 
 module _ {S : Type 0} (bytes : S → List ℕ) (n : ℕ) (w : World)
     (homes : List (maybe.Option S)) (views : List Known) (m : ℕ) where
@@ -134,6 +150,9 @@ pub record NodeOk (opening : World) (log : List Step) (board : ℕ) (mail : Mail
       → mail.posted m ≡ in_box (nodes_of opening) m v.sent
   pub gets : (m : ℕ) → m < nodes_of opening * nodes_of opening → v.me ≡ m % nodes_of opening
       → mail.got m ≡ in_box (nodes_of opening) m v.taken
+  -- and of the steps on a mailbox those that it took are the ones that it knows of
+  pub visited : (m : ℕ) → m < nodes_of opening * nodes_of opening
+      → by_node v.me (mail.visits m) ≡ on_box m v.visits
   -- the board shows the greatest number that node 0's seat raised
   pub shows : v.me ≡ 0 → board ≡ v.shown
 
@@ -152,6 +171,15 @@ pub record DealerOk (opening : World) (log : List Step) (board : ℕ) (mail : Ma
   pub untaken : (m : ℕ) → m < nodes_of opening * nodes_of opening → v.me ≤ m % nodes_of opening
       → mail.got m ≡ []
   pub unseen : v.me ≡ 0 → board ≡ 0
+
+-- the node has a seat
+abbrev pub HasSeat : List Known → ℕ → Type 0
+HasSeat views i =
+    (j : ℕ) × (v : Known) × (get_elem? views j ≡ some v) × (v.role ≡ node) × (v.me ≡ i)
+
+-- each step was a seat's
+abbrev pub AreTaken : List Known → List Visit → Type 0
+AreTaken views xs = (k : ℕ) (x : Visit) → slice_get xs k ≡ Some x → HasSeat views x.node
 
 pub record WatchOk (opening : World) (board : ℕ) (v : Known) : Type 0 where
   pub opening_is : v.opening ≡ opening
@@ -181,6 +209,11 @@ pub record Holds {S : Type 0} (bytes : S → List ℕ) (opening : World)
   -- no frame is lost on the way, nor comes twice, nor before an earlier one
   pub in_order : (m : ℕ) → m < nodes_of opening * nodes_of opening
       → mail.posted m ≡ mail.got m ++ lying (mail.boxes m)
+  -- What stands in a mailbox is what the steps on it came to, and there was none but the seats'.
+  pub visits : (m : ℕ) → m < nodes_of opening * nodes_of opening
+      → AreVisits m (face (mail.boxes m)) 0 0 (mail.visits m)
+  pub visitors : (m : ℕ) → m < nodes_of opening * nodes_of opening
+      → AreTaken s.views (mail.visits m)
   pub each_seat : (j : ℕ) (v : Known) → get_elem? s.views j ≡ some v
       → SeatOk opening log (slice_index s.words (nodes_of opening * nodes_of opening + 1)) s.views
       mail j v v.role

@@ -1,5 +1,5 @@
 -- What a node's seat keeps of the slots that are out with it.
-use Rattle.std.specs.Prelude.{◌≡◌, ℕ, ◌*◌, ◌<◌, ◌≤◌, Bool, true, cond, is_some, List, [], ◌∷◌, Some}
+use Rattle.std.specs.Prelude.{◌≡◌, ℕ, ◌*◌, ◌/◌, ◌%◌, ◌==◌, ◌<◌, ◌≤◌, ◌||◌, Bool, true, cond, is_some, List, [], ◌∷◌, Some}
 use mathlib.Core.Option.{some}
 use lib.ListN.{get_elem?}
 use Rattle.atomic_table.specs.Table.{Me}
@@ -17,6 +17,10 @@ abbrev pub boxes_of : {S : Type 0} → List (ℕ × S) → List ℕ
 boxes_of [] = []
 boxes_of (x ∷ xs) = x.0 ∷ boxes_of xs
 
+-- the mailbox is one from the node or to it
+abbrev pub IsOwnBox : ℕ → ℕ → ℕ → Type 0
+IsOwnBox me nodes k = (k < nodes * nodes) × ((k / nodes == me || k % nodes == me) ≡ true)
+
 pub record Sits {S : Type 0} (bytes : S → List ℕ) (me nodes : ℕ) (held : List ℕ)
     (m : Me S Known) : Type 0 where
   pub role : is_node m.0.role ≡ true
@@ -28,7 +32,7 @@ pub record Sits {S : Type 0} (bytes : S → List ℕ) (me nodes : ℕ) (held : L
   pub order : boxes_of m.1 ≡ held
   pub minded : (k : ℕ) → has k held ≡ minds k m.0
   pub single : once held ≡ true
-  pub inside : (k : ℕ) → has k held ≡ true → k < nodes * nodes
+  pub own : (k : ℕ) → has k held ≡ true → IsOwnBox me nodes k
   -- and those that it empties have the frame's bytes
   pub spells : (i b : ℕ) (x : S) (f : Plain) → get_elem? m.1 i ≡ some (b, x)
       → found b m.0.emptying ≡ Some f → bytes x ≡ spelling f

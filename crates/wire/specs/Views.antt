@@ -1,5 +1,5 @@
 -- What each seat of a wire knows, in proofs alone.
-use Rattle.std.specs.Prelude.{ℕ, ◌+◌, max, Bool, true, false, List, [], ◌∷◌, ◌++◌, length}
+use Rattle.std.specs.Prelude.{◌≡◌, ◌≢◌, ℕ, ◌+◌, max, Bool, true, false, List, [], ◌∷◌, ◌++◌, length}
 use Rattle.msg.specs.Grammar.{Plain}
 use Rattle.model.specs.declared.step.Step.{Step}
 use Rattle.model.specs.State.{NodeState, no_node, node_at}
@@ -16,6 +16,15 @@ pub data Role : Type 0 where
 pub record Pair : Type 0 where
   pub current : NodeState
   pub saved : NodeState
+
+-- One step on a mailbox: how many steps on it had come before, by whatever seat; the node whose seat
+-- took it; the word that stood there, and the one that it left.
+pub record Visit : Type 0 where
+  pub box : ℕ
+  pub place : ℕ
+  pub node : ℕ
+  pub found : ℕ
+  pub left : ℕ
 
 pub record Known : Type 0 where
   pub role : Role
@@ -35,9 +44,9 @@ pub record Known : Type 0 where
   pub taken : List Plain
   -- the frames that it ever posted, in order
   pub sent : List Plain
-  -- the word that its last claim or take read, and how often it claimed or took
-  pub read : ℕ
-  pub tries : ℕ
+  -- the steps that it ever took on mailboxes, in order: claims and takes, also those that came to
+  -- nothing, posts and clears
+  pub visits : List Visit
   -- the number that it raised last; of a watch, the one that it loaded last
   pub number : ℕ
   -- the greatest number that it raised
@@ -70,8 +79,7 @@ fresh role me nodes opening pair = record {
   emptying = [];
   taken = [];
   sent = [];
-  read = 0;
-  tries = 0;
+  visits = [];
   number = 0;
   shown = 0;
 }
@@ -92,26 +100,44 @@ watch_of opening = fresh watch 0 (length opening.current) opening no_pair
 
 -- ---- What a call leaves of what a seat knew
 
--- a claim or a take that found this word, and went no further
-abbrev pub notes : ℕ → Known → Known
-notes word v = record v { read = word; tries = v.tries + 1 }
+-- the seat's next step on a mailbox, and all of them with it
+abbrev pub visit : ℕ → ℕ → ℕ → ℕ → Known → Visit
+visit box place found left v =
+    record { box = box; place = place; node = v.me; found = found; left = left }
 
-abbrev pub claims : ℕ → Known → Known
-claims box v = record v { read = 0; tries = v.tries + 1; filling = box ∷ v.filling }
+abbrev pub visits_with : ℕ → ℕ → ℕ → ℕ → Known → List Visit
+visits_with box place found left v = v.visits ++ visit box place found left v ∷ []
 
-abbrev pub takes_in : ℕ → Plain → Known → Known
-takes_in box f v = record v {
-  read = 1;
-  tries = v.tries + 1;
+-- a claim or a take that found this word in the mailbox, and went no further
+abbrev pub notes : ℕ → ℕ → ℕ → Known → Known
+notes box place word v = record v { visits = visits_with box place word word v }
+
+-- the seat took one step on the mailbox, which found another word there than this
+abbrev pub FindsOther : ℕ → ℕ → Known → Known → Type 0
+FindsOther box word v w =
+    (place : ℕ) × (found : ℕ) × (found ≢ word) × (w ≡ notes box place found v)
+
+abbrev pub claims : ℕ → ℕ → Known → Known
+claims box place v =
+    record v { visits = visits_with box place 0 3 v; filling = box ∷ v.filling }
+
+abbrev pub takes_in : ℕ → ℕ → Plain → Known → Known
+takes_in box place f v = record v {
+  visits = visits_with box place 1 2 v;
   emptying = (box, f) ∷ v.emptying;
   taken = v.taken ++ f ∷ [];
 }
 
-abbrev pub posts : ℕ → Plain → Known → Known
-posts box f v = record v { filling = without box v.filling; sent = v.sent ++ f ∷ [] }
+abbrev pub posts : ℕ → ℕ → Plain → Known → Known
+posts box place f v = record v {
+  visits = visits_with box place 3 1 v;
+  filling = without box v.filling;
+  sent = v.sent ++ f ∷ [];
+}
 
-abbrev pub clears : ℕ → Known → Known
-clears box v = record v { emptying = cleared box v.emptying }
+abbrev pub clears : ℕ → ℕ → Known → Known
+clears box place v =
+    record v { visits = visits_with box place 2 0 v; emptying = cleared box v.emptying }
 
 -- one more event of the node, and the pair after it
 abbrev pub ticks : Step → Pair → Known → Known

@@ -47,7 +47,7 @@ impl Wire {
 
     /// The last cycle that the watch knows node 0 to have ended: the one on the board, or a later
     /// one that the watch was told; one load. It is never earlier than what the watch saw before.
-    /// Node 0 had ended it, and was saved so, where that is so of what the watch was told.
+    /// Node 0 had ended it, and was saved so.
     pub fn look(&self, watch: &mut Watch) -> Cycle
         requires wire { IsWatchOf self.now watch.old }
         ensures same { IsSameWatch watch.old watch.new }
@@ -55,9 +55,7 @@ impl Wire {
         ensures heard { heard watch.new ≡ heard watch.old }
         ensures later { loaded watch.old ≤ loaded watch.new }
         ensures ended { HasEnded (watch_opening watch.old) (loaded watch.new) }
-        ensures opening { watch_opening watch.new ≡ watch_opening watch.old }
-        ensures told { WasEnded (watch_opening watch.old) (heard watch.old)
-            → WasEnded (watch_opening watch.old) result.number }
+        ensures was_ended { WasEnded (watch_opening watch.old) result.number }
     {
         let board = self.nodes * self.nodes + 1;
         let number = self.table.shared.load::<Looks>(&mut watch.seat, board);
@@ -70,16 +68,13 @@ impl Wire {
 }
 
 impl Watch {
-    /// Tells the watch of a cycle that was raised on its wire.
+    /// Tells the watch of a cycle that was raised on its wire. The watch keeps the last one of those
+    /// that it was told.
     pub fn hear(&mut self, raised: &Raised)
         requires wire { IsHeardOf self.old raised.now }
         ensures same { IsSameWatch self.old self.new }
         ensures loaded { loaded self.new ≡ loaded self.old }
         ensures heard { heard self.new ≡ max (heard self.old) (raised_cycle raised.now) }
-        ensures opening { watch_opening self.new ≡ watch_opening self.old }
-        ensures told { raised_opening raised.now ≡ watch_opening self.old
-            → WasEnded (watch_opening self.old) (heard self.old)
-            → WasEnded (watch_opening self.old) (heard self.new) }
     {
         self.heard = self.heard.max(raised.cycle);
     }

@@ -40,7 +40,9 @@ use std::alloc::{AllocError, Global};
 impl Wire {
     /// A wire between the nodes of a shape, the seat of each, in order, and this many watches: all
     /// mailboxes are empty, no event has come, and the board shows no cycle. All that the nodes
-    /// hold is saved. `Memory` where a growth was refused; nothing is left then.
+    /// hold is saved. Between n nodes it takes n * n mailboxes, each a word and an empty vector, and
+    /// for each seat room for the numbers of 2 * n of them; no other call grows any of that.
+    /// `Memory` where a growth was refused; nothing is left then.
     pub fn new(
         alloc: Global,
         shape: Shape,
@@ -72,7 +74,7 @@ impl Wire {
     {
         let mut seats = Vec::with_capacity(self.alloc, self.nodes)?;
         for node in 0..self.nodes {
-            let held = Vec::with_capacity(self.alloc, self.nodes * self.nodes)?;
+            let held = Vec::with_capacity(self.alloc, 2 * self.nodes)?;
             seats.push_reserved(self.next_seat(dealer, node, held));
         }
         Ok(seats)
@@ -81,7 +83,7 @@ impl Wire {
     fn next_seat(&self, dealer: &mut Seat<Vec<u8>, View>, node: usize, held: Vec<usize>) -> NodeSeat
         requires dealer { IsDealer self.now node dealer.old }
         requires node { node < width self.now }
-        requires held { (held.items ≡ []) × (width self.now * width self.now ≤ vec_capacity held) }
+        requires held { (held.items ≡ []) × (2 * width self.now ≤ vec_capacity held) }
         ensures seat { IsSeated self.now node result }
         ensures dealer { IsDealer self.now (node + 1) dealer.new }
     {

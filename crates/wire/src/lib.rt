@@ -8,6 +8,8 @@ mod history;
 mod mailboxes;
 mod plays;
 mod seats;
+mod truth;
 mod views;
 
 pub use seats::{Claim, NodeSeat, Raised, Taken, Watch, Wire};
+pub use truth::laws;

@@ -19,7 +19,7 @@ ghost use Rattle.std.specs.Global.{Global};
 ghost use Rattle.atomic_table.specs.Table.{rest};
 ghost use Rattle.msg.specs.Grammar.{Plain, Fits, spelling};
 ghost use Rattle.wire.specs.Lists.{has, found};
-ghost use Rattle.wire.specs.Views.{notes, claims, takes_in, posts, clears};
+ghost use Rattle.wire.specs.Views.{FindsOther, claims, takes_in, posts, clears};
 ghost use Rattle.wire.specs.Rule.{sender, receiver, Spells};
 ghost use Rattle.wire.specs.Plays.{Arrives, Owns};
 ghost use Rattle.wire.specs.Readers.{
@@ -51,16 +51,17 @@ const FILLING: u64 = 3;
 
 impl Wire {
     /// Claims the seat's mailbox to another node, so that [`post`](Wire::post) can fill it; one
-    /// exchange of a word. `None` where the mailbox wasn't empty at that moment.
+    /// exchange of a word. `None` where the mailbox wasn't empty at that moment: the word that this
+    /// call found there is kept in the seat's view.
     pub fn claim(&self, seat: &mut NodeSeat, to: u8) -> Option<Claim>
         requires wire { IsSeatOf self.now seat.old }
         requires to { (to < width self.now) × (to ≢ seat_node seat.old) }
         ensures same { IsSame seat.old seat.new }
         ensures claim { MatchOption result
-            (((known seat.new).read ≢ 0)
-            × (known seat.new ≡ notes (known seat.new).read (known seat.old)))
+            (FindsOther (outbox seat.old to) 0 (known seat.old) (known seat.new))
             (λ c. (claim_to c ≡ to) × IsClaimOf seat.old c
-            × (known seat.new ≡ claims (outbox seat.old to) (known seat.old))) }
+            × ((place : ℕ)
+            × (known seat.new ≡ claims (outbox seat.old to) place (known seat.old)))) }
     {
         let at = seat.node * seat.nodes + usize::from(to);
         let shared = &self.table.shared;
@@ -83,8 +84,9 @@ impl Wire {
             × (has (outbox seat.old (claim_to claim)) (known seat.old).filling ≡ true) }
         requires released { Owns (outbox seat.old (claim_to claim)) (known seat.old) bytes.items }
         ensures same { IsSame seat.old seat.new }
-        ensures posted { (f : Plain) × Spells f bytes.items
-            × (known seat.new ≡ posts (outbox seat.old (claim_to claim)) f (known seat.old)) }
+        ensures posted { (f : Plain) × Spells f bytes.items × ((place : ℕ)
+            × (known seat.new
+            ≡ posts (outbox seat.old (claim_to claim)) place f (known seat.old))) }
     {
         let Claim { to, of: _ } = claim;
         let at = seat.node * seat.nodes + usize::from(to);
@@ -97,18 +99,17 @@ impl Wire {
 
     /// Takes the frame in the seat's mailbox from another node, which [`clear`](Wire::clear) then
     /// gives; one exchange of a word. The frame counts as taken for good. `None` where the mailbox
-    /// wasn't full at that moment.
+    /// wasn't full at that moment: the word that this call found there is kept in the seat's view.
     pub fn take(&self, seat: &mut NodeSeat, from: u8) -> Option<Taken>
         requires wire { IsSeatOf self.now seat.old }
         requires from { (from < width self.now) × (from ≢ seat_node seat.old) }
         ensures same { IsSame seat.old seat.new }
         ensures taken { MatchOption result
-            (((known seat.new).read ≢ 1)
-            × (known seat.new ≡ notes (known seat.new).read (known seat.old)))
+            (FindsOther (inbox seat.old from) 1 (known seat.old) (known seat.new))
             (λ t. (taken_from t ≡ from) × IsTakenOf seat.old t
             × ((f : Plain) × Fits f × (sender f ≡ from) × (receiver f ≡ seat_node seat.old)
-            × Arrives (known seat.old) f
-            × (known seat.new ≡ takes_in (inbox seat.old from) f (known seat.old)))) }
+            × Arrives (known seat.old) f × ((place : ℕ)
+            × (known seat.new ≡ takes_in (inbox seat.old from) place f (known seat.old))))) }
     {
         let at = usize::from(from) * seat.nodes + seat.node;
         let shared = &self.table.shared;
@@ -130,8 +131,8 @@ impl Wire {
             × ((f : Plain)
             × (found (inbox seat.old (taken_from taken)) (known seat.old).emptying ≡ Some f)) }
         ensures same { IsSame seat.old seat.new }
-        ensures cleared { known seat.new
-            ≡ clears (inbox seat.old (taken_from taken)) (known seat.old) }
+        ensures cleared { (place : ℕ) × (known seat.new
+            ≡ clears (inbox seat.old (taken_from taken)) place (known seat.old)) }
         ensures bytes { (f : Plain)
             → found (inbox seat.old (taken_from taken)) (known seat.old).emptying ≡ Some f
             → result.items ≡ spelling f }

@@ -35,18 +35,21 @@ pub struct NodeSeat {
     pub(crate) node: usize,
     pub(crate) nodes: usize,
     // The mailboxes that it fills or empties, in the order of the slots that are out with the seat.
-    // It has room for all.
+    // It has room for all: one to each node, and one from each.
     pub(crate) held: Vec<usize>,
     ghost sits: { Sits (λ v. v.items) node nodes held.items seat.me },
-    ghost room: { nodes * nodes ≤ vec_capacity held },
+    ghost room: { 2 * nodes ≤ vec_capacity held },
 }
 
-/// A right to look at a wire's board, and what was seen there and heard of it.
+/// A right to look at a wire's board, and what was seen there and heard of it. Node 0 had ended all
+/// of that, and was saved so.
 #[derive(Drop)]
 pub struct Watch {
     pub(crate) seat: Seat<Vec<u8>, View>,
     pub(crate) heard: Cycle,
     ghost watches: { IsWatching seat.me.0.role },
+    ghost loaded: { WasEnded seat.me.0.opening seat.me.0.number },
+    ghost told: { WasEnded seat.me.0.opening heard.number },
 }
 
 /// A mailbox that its holder's seat has claimed, to be filled by [`Wire::post`]. It can't be

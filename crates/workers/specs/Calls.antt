@@ -32,8 +32,12 @@ abbrev pub freed_in : Past → ℕ
 freed_in Start = 0
 freed_in (Then' m before c) = freed_in before + freed_by c
 
+-- these calls were made, and took in so many messages and freed so many objects
+pub record Makes (calls : List Call) (received freed : ℕ) (old new : Past) : Type 0 where
+  pub asks : asked new ≡ asked old ++ calls
+  pub receives : received_in new ≡ received_in old + received
+  pub frees : freed_in new ≡ freed_in old + freed
+
 -- one call more
-pub record Adds (c : Call) (old new : Past) : Type 0 where
-  pub asks : asked new ≡ asked old ++ plain c ∷ []
-  pub receives : received_in new ≡ received_in old + received_by c
-  pub frees : freed_in new ≡ freed_in old + freed_by c
+abbrev pub Adds : Call → Past → Past → Type 0
+Adds c old new = Makes (plain c ∷ []) (received_by c) (freed_by c) old new

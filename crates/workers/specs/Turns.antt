@@ -1,5 +1,5 @@
 -- The calls of a worker's turns.
-use Rattle.std.specs.Prelude.{◌≡◌, ℕ, ◌+◌, ◌≤◌, zero, suc, nat_lt, ◌==◌, Bool, true, false, cond, List, [], ◌∷◌, ◌++◌, replicate}
+use Rattle.std.specs.Prelude.{◌≡◌, ℕ, ◌+◌, ◌≤◌, zero, suc, nat_lt, ◌==◌, Bool, true, false, not, cond, List, [], ◌∷◌, ◌++◌, replicate, Option, Some, None}
 use Rattle.workers.specs.Calls.{asked, freed_in, received_in}
 use Rattle.workers.specs.declared.calls.Call.{Call}
 use Rattle.workers.specs.declared.calls.Call.TheVariants as call
@@ -7,10 +7,20 @@ use Rattle.workers.specs.declared.calls.Past.{Past}
 use Rattle.workers.specs.declared.gate.Stage.{Stage}
 use Rattle.workers.specs.declared.gate.Stage.TheVariants as stage
 use Rattle.workers.specs.declared.run.Turns.{Turns, Start, Then'}
+use Rattle.workers.specs.declared.turn.Turn.{Turn}
 
--- the gate is asked
-abbrev pub at : ℕ → ℕ → Stage → Call
-at node turn s = call.At (record { node = node; turn = turn; stage = s })
+-- the gate is asked, and answers whether the worker goes on
+abbrev pub at : ℕ → ℕ → Stage → Bool → Call
+at node turn s goes_on = call.At (record { node = node; turn = turn; stage = s }) goes_on
+
+-- whether the worker was told to end there
+abbrev pub ends_at : Option Stage → Stage → Bool
+ends_at (Some stage.Start) stage.Start = true
+ends_at (Some stage.TakenIn) stage.TakenIn = true
+ends_at (Some stage.Collected) stage.Collected = true
+ends_at (Some stage.Saved) stage.Saved = true
+ends_at (Some stage.Sent) stage.Sent = true
+ends_at _ _ = false
 
 -- one call for each other node below a number, ascending
 abbrev pub each_other : (ℕ → Call) → ℕ → ℕ → List Call
@@ -39,28 +49,55 @@ saves unsaved = call.Unsaved unsaved ∷ cond unsaved (call.Save ∷ []) []
 abbrev pub raises : ℕ → List Call
 raises node = cond (node == 0) (call.Raise ∷ []) []
 
-abbrev pub turn_of : ℕ → ℕ → ℕ → ℕ → Bool → List Call
-turn_of node nodes turn scanned unsaved =
-    at node turn stage.Start ∷ takes node nodes ++ at node turn stage.TakenIn ∷ collects scanned
-    ++ at node turn stage.Collected ∷ saves unsaved ++ at node turn stage.Saved ∷ sends node nodes
-    ++ raises node ++ at node turn stage.Sent ∷ []
+-- the gate is asked, and these calls follow where the worker isn't told to end there
+abbrev pub asks : ℕ → ℕ → Option Stage → Stage → List Call → List Call
+asks node turn ended s rest =
+    at node turn s (not (ends_at ended s)) ∷ cond (ends_at ended s) [] rest
 
--- a turn of this number, of a node among so many
-pub record IsTurn (node nodes turn : ℕ) (past : Past) : Type 0 where
+abbrev pub turn_of : ℕ → ℕ → ℕ → Option Stage → ℕ → Bool → List Call
+turn_of node nodes turn ended scanned unsaved =
+    asks node turn ended stage.Start
+    (takes node nodes ++ asks node turn ended stage.TakenIn
+    (collects scanned ++ asks node turn ended stage.Collected
+    (saves unsaved ++ asks node turn ended stage.Saved
+    (sends node nodes ++ (raises node ++ asks node turn ended stage.Sent [])))))
+
+-- a turn of this number, of a node among so many, up to where the worker was told to end
+pub record IsTurn (node nodes turn : ℕ) (ended : Option Stage) (past : Past) : Type 0 where
   pub scanned : ℕ
   pub few : scanned ≤ 8
   pub unsaved : Bool
-  pub whole : asked past ≡ turn_of node nodes turn scanned unsaved
+  pub whole : asked past ≡ turn_of node nodes turn ended scanned unsaved
+
+-- nothing was done yet in the turn
+pub record IsNew (t : Turn) : Type 0 where
+  pub asks : asked t.past.value ≡ []
+  pub receives : received_in t.past.value ≡ 0
+  pub frees : freed_in t.past.value ≡ 0
+  pub received : t.received ≡ 0
+  pub freed : t.freed ≡ 0
 
 -- turns, one after another, counted from 1
 abbrev pub count : Turns → ℕ
 count Start = 0
 count (Then' m before past) = count before + 1
 
-abbrev pub AreTurns : ℕ → ℕ → Turns → Type 0
-AreTurns node nodes Start = Unit {0}
-AreTurns node nodes (Then' m before past) =
-    AreTurns node nodes before × IsTurn node nodes (count before + 1) past.value
+-- whether a turn that ended there is whole
+abbrev pub is_whole : Option Stage → Bool
+is_whole None = true
+is_whole (Some stage.Sent) = true
+is_whole _ = false
+
+-- the whole ones among turns of which the last ended there
+abbrev pub whole_turns : Option Stage → Turns → ℕ
+whole_turns ended Start = 0
+whole_turns ended (Then' m before past) = count before + cond (is_whole ended) 1 0
+
+-- turns of a node, the last of them up to where the worker was told to end
+abbrev pub AreTurns : ℕ → ℕ → Option Stage → Turns → Type 0
+AreTurns node nodes ended Start = ended ≡ None
+AreTurns node nodes ended (Then' m before past) =
+    AreTurns node nodes None before × IsTurn node nodes (count before + 1) ended past.value
 
 abbrev pub received_over : Turns → ℕ
 received_over Start = 0
@@ -73,7 +110,9 @@ freed_over (Then' m before past) = freed_over before + freed_in past.value
 -- One turn more. Whatever a node's turns were before, they are its turns with it.
 pub record AddsTurn (past : Past) (old new : Turns) : Type 0 where
   pub counts : count new ≡ count old + 1
+  pub wholes : (ended : Option Stage)
+      → whole_turns ended new ≡ count old + cond (is_whole ended) 1 0
   pub receives : received_over new ≡ received_over old + received_in past
   pub frees : freed_over new ≡ freed_over old + freed_in past
-  pub turns : (node nodes : ℕ) → AreTurns node nodes old → IsTurn node nodes (count old + 1) past
-      → AreTurns node nodes new
+  pub turns : (node nodes : ℕ) (ended : Option Stage) → AreTurns node nodes None old
+      → IsTurn node nodes (count old + 1) ended past → AreTurns node nodes ended new

@@ -9,8 +9,8 @@ use std::snapshot::Snapshot;
 /// One call of a worker's, with what is counted of its answer.
 #[derive(Clone, Copy)]
 pub enum Call {
-    /// The gate was asked at this point.
-    At(Point),
+    /// The gate was asked at this point; whether the worker goes on.
+    At { point: Point, goes_on: bool },
     /// What is there from a node was taken in; whether it was a new message.
     PumpIn { from: u8, received: bool },
     /// An object was to be scanned; whether one was.

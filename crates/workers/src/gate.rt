@@ -23,9 +23,15 @@ pub struct Point {
     pub stage: Stage,
 }
 
-/// What a worker asks at each point of its turns, while it holds no lock: it may pause there, or
-/// look at the space.
+/// What a worker asks at each point of its turns, while it holds no lock: it may pause there, look
+/// at the space, and end the worker.
 pub trait Gate {
     /// The worker is at this point, and goes on once the call returns.
     fn at(&self, point: Point);
+
+    /// Whether the worker goes on from this point; asked after [`Gate::at`]. Where it doesn't, it
+    /// ends there: it makes no call after that, and what it did stays done.
+    fn go_on(&self, _point: Point) -> bool {
+        true
+    }
 }

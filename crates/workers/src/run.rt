@@ -1,9 +1,10 @@
 //! The turns of a worker, one after another.
 ghost use Rattle.std.specs.Prelude.{◌≡◌, ◌≤◌};
-ghost use Rattle.workers.specs.Turns.{count, freed_over, received_over, AddsTurn, AreTurns};
+ghost use Rattle.workers.specs.Turns.{freed_over, is_whole, received_over, whole_turns};
+ghost use Rattle.workers.specs.Turns.{AddsTurn, AreTurns};
 
 use crate::calls::Past;
-use crate::gate::Gate;
+use crate::gate::{Gate, Stage};
 use crate::site::Site;
 use crate::turn::turn_node;
 use std::mem;
@@ -48,14 +49,16 @@ impl Stop {
     }
 }
 
-/// What a worker did: its node, its whole turns, the new messages that it took in and the objects
-/// that it freed.
+/// What a worker did: its node, its whole turns, the new messages that it took in, the objects that
+/// it freed, and where the gate told it to end, if it did. A turn at whose last point it ended is
+/// whole.
 #[derive(Clone, Copy, Debug, PartialEq, Eq)]
 pub struct Report {
     pub node: u8,
     pub turns: u32,
     pub received: u64,
     pub freed: u64,
+    pub ended_at: Option<Stage>,
 }
 
 /// The turns that are over. Proofs alone read it: a snapshot of it has no bytes.
@@ -75,6 +78,13 @@ pub struct Run {
     pub turns: Snapshot<Turns>,
 }
 
+// Whether a turn that ended there is whole.
+fn is_whole(ended_at: Option<Stage>) -> bool
+    ensures { result ≡ is_whole ended_at }
+{
+    matches!(ended_at, None | Some(Stage::Sent))
+}
+
 // Adds a turn.
 fn add(turns: &mut Snapshot<Turns>, turn: Snapshot<Past>)
     ensures { AddsTurn turn.value turns.old.value turns.new.value }
@@ -83,7 +93,8 @@ fn add(turns: &mut Snapshot<Turns>, turn: Snapshot<Past>)
     *turns = Snapshot::of(&Turns::Then { before, turn });
 }
 
-// Takes turns until the workers are asked to stop, but at most this many.
+// Takes turns until the workers are asked to stop or the gate tells this one to end, but at most
+// this many.
 fn take_turns<R: Wait, S: Site, G: Gate>(
     rt: &R,
     site: &S,
@@ -94,8 +105,8 @@ fn take_turns<R: Wait, S: Site, G: Gate>(
     stop: &Stop,
 ) -> Run
     ensures node { result.report.node ≡ node }
-    ensures turns { AreTurns node nodes result.turns.value }
-    ensures counted { result.report.turns ≡ count result.turns.value }
+    ensures turns { AreTurns node nodes result.report.ended_at result.turns.value }
+    ensures counted { result.report.turns ≡ whole_turns result.report.ended_at result.turns.value }
     ensures most { result.report.turns ≤ turns }
     ensures received { result.report.received ≡ received_over result.turns.value }
     ensures freed { result.report.freed ≡ freed_over result.turns.value }
@@ -104,12 +115,16 @@ fn take_turns<R: Wait, S: Site, G: Gate>(
     let mut over = 0;
     let mut received = 0;
     let mut freed = 0;
+    let mut ended_at = None;
     for turn in 0..turns {
-        if stop.is_asked() {
+        if stop.is_asked() || ended_at.is_some() {
             break;
         }
         let taken = turn_node(rt, site, gate, node, nodes, turn + 1);
-        over += 1;
+        ended_at = taken.ended_at;
+        if is_whole(ended_at) {
+            over += 1;
+        }
         received += u64::from(taken.received);
         freed += u64::from(taken.freed);
         add(&mut past, taken.past);
@@ -120,13 +135,15 @@ fn take_turns<R: Wait, S: Site, G: Gate>(
             turns: over,
             received,
             freed,
+            ended_at,
         },
         turns: past,
     }
 }
 
-/// Takes turns for a node among so many until the workers are asked to stop, but at most this many;
-/// then notes that a worker has ended. The report counts what the turns came to.
+/// Takes turns for a node among so many until the workers are asked to stop or the gate tells this
+/// one to end, but at most this many; then notes that a worker has ended. The report counts what the
+/// turns came to.
 pub fn run_node<R: Wait, S: Site, G: Gate>(
     rt: &R,
     site: &S,
@@ -137,8 +154,8 @@ pub fn run_node<R: Wait, S: Site, G: Gate>(
     stop: &Stop,
 ) -> Run
     ensures node { result.report.node ≡ node }
-    ensures turns { AreTurns node nodes result.turns.value }
-    ensures counted { result.report.turns ≡ count result.turns.value }
+    ensures turns { AreTurns node nodes result.report.ended_at result.turns.value }
+    ensures counted { result.report.turns ≡ whole_turns result.report.ended_at result.turns.value }
     ensures most { result.report.turns ≤ turns }
     ensures received { result.report.received ≡ received_over result.turns.value }
     ensures freed { result.report.freed ≡ freed_over result.turns.value }

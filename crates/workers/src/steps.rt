@@ -1,6 +1,6 @@
 // The steps of a turn. Each of the small functions makes one call and notes it.
-ghost use Rattle.std.specs.Prelude.{◌≡◌, ◌≤◌, ◌+◌, ◌++◌, ◌∷◌, [], ℕ, Bool};
-ghost use Rattle.workers.specs.Calls.{asked, freed_in, received_in, Adds};
+ghost use Rattle.std.specs.Prelude.{◌≡◌, ◌≤◌, ℕ, is_ok, Bool, IfErr};
+ghost use Rattle.workers.specs.Calls.{Adds, Makes};
 ghost use Rattle.workers.specs.Turns.{at, collects, raises, saves, scans, sends, takes};
 ghost use Rattle.workers.specs.declared.calls.Call.TheVariants as call;
 
@@ -18,13 +18,22 @@ const SCANS: u8 = 8;
 // How many slots a turn sweeps.
 const SWEPT: u32 = 64;
 
-// Asks the gate.
-pub(crate) fn ask<G: Gate>(gate: &G, past: &mut Snapshot<Past>, node: u8, turn: u32, stage: Stage)
-    ensures { Adds (at node turn stage) past.old.value past.new.value }
+// Asks the gate. Where the worker is to end there, that stage is the error.
+pub(crate) fn ask<G: Gate>(
+    gate: &G,
+    past: &mut Snapshot<Past>,
+    node: u8,
+    turn: u32,
+    stage: Stage,
+) -> Result<(), Stage>
+    ensures made { Adds (at node turn stage (is_ok result)) past.old.value past.new.value }
+    ensures stage { IfErr result (λ s. s ≡ stage) }
 {
     let point = Point { node, turn, stage };
     gate.at(point);
-    note(past, Call::At(point));
+    let goes_on = gate.go_on(point);
+    note(past, Call::At { point, goes_on });
+    if goes_on { Ok(()) } else { Err(stage) }
 }
 
 // Takes in what is there from another node, and says whether it was a new message.
@@ -107,9 +116,7 @@ pub(crate) fn take_in<R: Wait, S: Site>(
     node: u8,
     nodes: u8,
 ) -> u8
-    ensures asked { asked past.new.value ≡ asked past.old.value ++ takes node nodes }
-    ensures received { received_in past.new.value ≡ received_in past.old.value + result }
-    ensures freed { freed_in past.new.value ≡ freed_in past.old.value }
+    ensures { Makes (takes node nodes) result 0 past.old.value past.new.value }
 {
     let mut received = 0;
     for from in 0..nodes {
@@ -122,10 +129,7 @@ pub(crate) fn take_in<R: Wait, S: Site>(
 
 // Scans objects until that is refused, but at most 8.
 fn scan_some<R: Wait, S: Site>(rt: &R, site: &S, past: &mut Snapshot<Past>)
-    ensures asked { (n : ℕ) × (n ≤ 8)
-        × (asked past.new.value ≡ asked past.old.value ++ scans n) }
-    ensures received { received_in past.new.value ≡ received_in past.old.value }
-    ensures freed { freed_in past.new.value ≡ freed_in past.old.value }
+    ensures { (n : ℕ) × (n ≤ 8) × Makes (scans n) 0 0 past.old.value past.new.value }
 {
     for _place in 0..SCANS {
         if !scan(rt, site, past) {
@@ -136,10 +140,7 @@ fn scan_some<R: Wait, S: Site>(rt: &R, site: &S, past: &mut Snapshot<Past>)
 
 // Scans, passes the token on and sweeps, and says how many objects were freed.
 pub(crate) fn collect<R: Wait, S: Site>(rt: &R, site: &S, past: &mut Snapshot<Past>) -> u32
-    ensures asked { (n : ℕ) × (n ≤ 8)
-        × (asked past.new.value ≡ asked past.old.value ++ collects n) }
-    ensures received { received_in past.new.value ≡ received_in past.old.value }
-    ensures freed { freed_in past.new.value ≡ freed_in past.old.value + result }
+    ensures { (n : ℕ) × (n ≤ 8) × Makes (collects n) 0 result past.old.value past.new.value }
 {
     scan_some(rt, site, past);
     pass(rt, site, past);
@@ -148,9 +149,7 @@ pub(crate) fn collect<R: Wait, S: Site>(rt: &R, site: &S, past: &mut Snapshot<Pa
 
 // Saves the node, where something is unsaved.
 pub(crate) fn save_unsaved<R: Wait, S: Site>(rt: &R, site: &S, past: &mut Snapshot<Past>)
-    ensures asked { (b : Bool) × (asked past.new.value ≡ asked past.old.value ++ saves b) }
-    ensures received { received_in past.new.value ≡ received_in past.old.value }
-    ensures freed { freed_in past.new.value ≡ freed_in past.old.value }
+    ensures { (b : Bool) × Makes (saves b) 0 0 past.old.value past.new.value }
 {
     if ask_unsaved(rt, site, past) {
         save(rt, site, past);
@@ -165,9 +164,7 @@ pub(crate) fn send_out<R: Wait, S: Site>(
     node: u8,
     nodes: u8,
 )
-    ensures asked { asked past.new.value ≡ asked past.old.value ++ sends node nodes }
-    ensures received { received_in past.new.value ≡ received_in past.old.value }
-    ensures freed { freed_in past.new.value ≡ freed_in past.old.value }
+    ensures { Makes (sends node nodes) 0 0 past.old.value past.new.value }
 {
     for to in 0..nodes {
         if to != node {
@@ -178,9 +175,7 @@ pub(crate) fn send_out<R: Wait, S: Site>(
 
 // Shows what ended on the board, at node 0.
 pub(crate) fn raise<R: Wait, S: Site>(rt: &R, site: &S, past: &mut Snapshot<Past>, node: u8)
-    ensures asked { asked past.new.value ≡ asked past.old.value ++ raises node }
-    ensures received { received_in past.new.value ≡ received_in past.old.value }
-    ensures freed { freed_in past.new.value ≡ freed_in past.old.value }
+    ensures { Makes (raises node) 0 0 past.old.value past.new.value }
 {
     if node == 0 {
         show(rt, site, past);

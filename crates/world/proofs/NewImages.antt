@@ -1,75 +1,82 @@
 -- The image of a new node is short.
 use Rattle.std.proofs.Common.{◌≡◌, ◌≢◌, ℕ, zero, suc, ◌*◌, ◌<◌, ◌≤◌, ◌==◌, if◌then◌else◌, Bool, true, false, List, [], ◌∷◌, length, drop, replicate, None, refl, ap, arith}
 use Rattle.std.specs.List.{flat_map}
-use Rattle.std.specs.Int.{w64, to_be_bytes}
+use Rattle.codec.specs.Formats.{number4, number8, signed8}
 use Rattle.std.proofs.lemmas.List.{length-append, length-drop, length-replicate}
 use Rattle.ids.specs.Limits.{Shaped, IsShape}
 use Rattle.ids.specs.declared.limits.TheConstants.{GREATEST_IMAGE}
 use Rattle.ids.specs.declared.refusal.Refusal.{Refusal}
 use Rattle.ids.specs.declared.refusal.Refusal.TheVariants.{Memory, ImageTooLarge}
-use Rattle.msg.specs.Grammar.{optional_bytes}
+use Rattle.msg.specs.Formats.{optional, colour}
 use Rattle.model.specs.View.{no_link, new_view}
 use Rattle.image.specs.Links.{StoredLink}
-use Rattle.image.specs.Grammar.{Stored, link_bytes, front_bytes}
+use Rattle.image.specs.Grammar.{Stored, link_format, front_format, front_of, start_format, nodes_format, head_format, phases_format, ring_format, held_format}
+use Rattle.codec.specs.Formats.{number2}
 use Rattle.image.specs.Images.{image_of, stored_by, stored_link, stored_links, without_at}
 use Rattle.world.proofs.Refusals.{memory-alone}
-use Rattle.image.proofs.Sizes.{told_length, slots_length, others_length, spelling_length}
+use Rattle.image.proofs.Sizes.{spelling_length}
 
 -- ---- how long it is
 
-all-reports : (ns : List ℕ) → length (flat_map (to_be_bytes w64) ns) ≡ 8 * length ns
+all-reports : (ns : List ℕ) → length (flat_map number8.spell ns) ≡ 8 * length ns
+unfolding number8
 all-reports [] = refl
 all-reports (n ∷ ns) =
-    let this = length-append (to_be_bytes w64 n) (flat_map (to_be_bytes w64) ns) in
+    let this = length-append (number8.spell n) (flat_map number8.spell ns) in
     omega (arith, this, all-reports ns)
 
-empty-registers : (n : ℕ) → length (flat_map optional_bytes (replicate n None)) ≡ n
+empty-registers : (n : ℕ) → length (flat_map optional.spell (replicate n None)) ≡ n
+unfolding optional
 empty-registers zero = refl
 empty-registers (suc n) = ap (λ k. suc k) (empty-registers n)
 
 abbrev new_links : ℕ → List StoredLink
 new_links n = stored_links (replicate n no_link) (replicate n 0)
 
-empty-links : (n : ℕ) → length (flat_map link_bytes (new_links n)) ≡ 20 * n
+empty-links : (n : ℕ) → length (flat_map link_format.spell (new_links n)) ≡ 20 * n
+unfolding link_format number4 number8
 empty-links zero = refl
 empty-links (suc n) =
-    let this = length-append (link_bytes (stored_link no_link 0))
-    (flat_map link_bytes (new_links n))
+    let this = length-append (link_format.spell (stored_link no_link 0))
+    (flat_map link_format.spell (new_links n))
     in omega (arith, this, empty-links n)
 
 -- those to other nodes
-other-links : (own n : ℕ) → length (flat_map link_bytes (without_at own (new_links n))) ≤ 20 * n
+other-links : (own n : ℕ)
+    → length (flat_map link_format.spell (without_at own (new_links n))) ≤ 20 * n
+unfolding link_format number4 number8
 other-links own zero = omega arith
 other-links zero (suc n) = omega (arith, empty-links n)
 other-links (suc own) (suc n) =
-    let this = length-append (link_bytes (stored_link no_link 0))
-    (flat_map link_bytes (without_at own (new_links n))) in
+    let this = length-append (link_format.spell (stored_link no_link 0))
+    (flat_map link_format.spell (without_at own (new_links n))) in
     omega (arith, this, other-links own n)
 
 new-reports : (b : Bool) (n : ℕ)
-    → length (flat_map (to_be_bytes w64) (if b then drop 1 (replicate n 0) else [])) ≤ 8 * n
+    → length (flat_map number8.spell (if b then drop 1 (replicate n 0) else [])) ≤ 8 * n
 new-reports false n = omega arith
 new-reports true n =
     let zeros : List ℕ = replicate n 0 in
     let all = all-reports (drop 1 zeros) in
     omega (arith, all, length-drop 1 zeros, length-replicate {A = ℕ} n 0)
 
+new-front : (shape : Shaped) (own : ℕ)
+    → length (front_format.spell (front_of (stored_by (new_view shape own)))) ≡ 57
+unfolding front_format head_format start_format nodes_format phases_format ring_format held_format colour signed8 number2 number4 number8
+new-front shape own = refl
+
 pub new-within : (shape : Shaped) (own : ℕ) → IsShape shape
     → length (image_of (new_view shape own)) ≤ GREATEST_IMAGE
 new-within shape own h =
     let s : Stored = stored_by (new_view shape own) in
-    let front : length (front_bytes s) ≡ 57 = refl in
     omega (
       arith,
       h.most_nodes,
       h.most_registers,
       spelling_length s,
-      front,
-      told_length s,
+      new-front shape own,
       new-reports (own == 0) shape.nodes,
       empty-registers shape.registers,
-      slots_length s,
-      others_length s,
       other-links own shape.nodes,
     )
 

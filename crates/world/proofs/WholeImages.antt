@@ -1,16 +1,15 @@
 -- The image of a node is no longer than it would be with all that the node ever sent.
 use Rattle.std.proofs.Common.{◌≡◌, ℕ, zero, suc, ◌+◌, ◌≤◌, List, [], ◌∷◌, ◌++◌, length, map, drop, get_or, refl, ap, le_refl, arith}
 use Rattle.std.specs.List.{flat_map}
-use Rattle.std.specs.Int.{w32, w64, to_be_bytes}
+use Rattle.codec.specs.Formats.{number4, number8}
 use Rattle.std.proofs.lemmas.List.{length-append}
 use Rattle.msg.specs.declared.body.Message.{Message}
 use Rattle.model.specs.State.{LocalState, NodeState}
 use Rattle.model.specs.View.{Link, NodeView, Shows, ShowsSent, no_link}
 use Rattle.image.specs.Links.{StoredLink}
-use Rattle.image.specs.Grammar.{Stored, counted, message_bytes, letter_bytes, link_bytes, front_bytes, told_bytes, slots_bytes}
-use Rattle.msg.specs.Grammar.{reference_bytes}
+use Rattle.image.specs.Grammar.{Stored, message_format, link_format}
 use Rattle.image.specs.Images.{image_of, stored_by, stored_link, stored_links, without_at}
-use Rattle.image.proofs.Sizes.{others_length, spelling_length}
+use Rattle.image.proofs.Sizes.{spelling_length}
 use Rattle.world.specs.Shows.{whole_link, whole_view}
 
 -- what is left of a list is spelled no longer
@@ -23,22 +22,18 @@ left-shorter f (suc k) (x ∷ xs) =
     omega (arith, all, left-shorter f k xs)
 
 link-length : (l : StoredLink)
-    → length (link_bytes l) ≡ 20 + length (flat_map message_bytes l.unacknowledged)
+    → length (link_format.spell l) ≡ 20 + length (flat_map message_format.spell l.unacknowledged)
+unfolding link_format number4 number8
 link-length l =
-    let messages = length-append (to_be_bytes w32 (length l.unacknowledged))
-    (flat_map message_bytes l.unacknowledged) in
-    let behind = length-append (counted message_bytes l.unacknowledged)
-    (to_be_bytes w64 l.received) in
-    let all = length-append (to_be_bytes w64 l.base)
-    (counted message_bytes l.unacknowledged ++ to_be_bytes w64 l.received) in
-    omega (arith, messages, behind, all)
+    let messages = flat_map message_format.spell l.unacknowledged in
+    omega (arith, length-append messages (number8.spell l.received))
 
 link-shorter : (l : Link) (sent : List Message) (got : ℕ) → ShowsSent l sent
-    → length (link_bytes (stored_link l got))
-    ≤ length (link_bytes (stored_link (whole_link sent) got))
+    → length (link_format.spell (stored_link l got))
+    ≤ length (link_format.spell (stored_link (whole_link sent) got))
 link-shorter l sent got h =
-    let left = left-shorter message_bytes l.base sent in
-    let is = ap (λ (z : List Message). length (flat_map message_bytes z)) h.unacknowledged in
+    let left = left-shorter message_format.spell l.base sent in
+    let is = ap (λ (z : List Message). length (flat_map message_format.spell z)) h.unacknowledged in
     omega (
       arith,
       left,
@@ -56,18 +51,18 @@ others-shown : {l : Link} {ls : List Link} {x : List Message} {xs : List (List M
 others-shown h = record { width = omega (arith, h.width); each = λ i. h.each (suc i) }
 
 links-shorter : (ls : List Link) (sent : List (List Message)) (got : List ℕ) → ShowAll ls sent
-    → length (flat_map link_bytes (stored_links ls got))
-    ≤ length (flat_map link_bytes (stored_links (map whole_link sent) got))
+    → length (flat_map link_format.spell (stored_links ls got))
+    ≤ length (flat_map link_format.spell (stored_links (map whole_link sent) got))
 links-shorter [] [] got h = le_refl _
 links-shorter [] (x ∷ xs) got h = let none = h.width in absurd cc
 links-shorter (l ∷ ls) [] got h = let none = h.width in absurd cc
 links-shorter (l ∷ ls) (x ∷ xs) [] h = le_refl _
 links-shorter (l ∷ ls) (x ∷ xs) (g ∷ gs) h =
-    let some = length-append (link_bytes (stored_link l g))
-    (flat_map link_bytes (stored_links ls gs))
+    let some = length-append (link_format.spell (stored_link l g))
+    (flat_map link_format.spell (stored_links ls gs))
     in
-    let all = length-append (link_bytes (stored_link (whole_link x) g))
-    (flat_map link_bytes (stored_links (map whole_link xs) gs)) in
+    let all = length-append (link_format.spell (stored_link (whole_link x) g))
+    (flat_map link_format.spell (stored_links (map whole_link xs) gs)) in
     omega (
       arith,
       some,
@@ -79,18 +74,18 @@ links-shorter (l ∷ ls) (x ∷ xs) (g ∷ gs) h =
 -- but for one of them
 but-one-shorter : (own : ℕ) (ls : List Link) (sent : List (List Message)) (got : List ℕ)
     → ShowAll ls sent
-    → length (flat_map link_bytes (without_at own (stored_links ls got)))
-    ≤ length (flat_map link_bytes (without_at own (stored_links (map whole_link sent) got)))
+    → length (flat_map link_format.spell (without_at own (stored_links ls got)))
+    ≤ length (flat_map link_format.spell (without_at own (stored_links (map whole_link sent) got)))
 but-one-shorter own [] [] got h = le_refl _
 but-one-shorter own [] (x ∷ xs) got h = let none = h.width in absurd cc
 but-one-shorter own (l ∷ ls) [] got h = let none = h.width in absurd cc
 but-one-shorter own (l ∷ ls) (x ∷ xs) [] h = le_refl _
 but-one-shorter zero (l ∷ ls) (x ∷ xs) (g ∷ gs) h = links-shorter ls xs gs (others-shown h)
 but-one-shorter (suc own) (l ∷ ls) (x ∷ xs) (g ∷ gs) h =
-    let some = length-append (link_bytes (stored_link l g))
-    (flat_map link_bytes (without_at own (stored_links ls gs))) in
-    let all = length-append (link_bytes (stored_link (whole_link x) g))
-    (flat_map link_bytes (without_at own (stored_links (map whole_link xs) gs))) in
+    let some = length-append (link_format.spell (stored_link l g))
+    (flat_map link_format.spell (without_at own (stored_links ls gs))) in
+    let all = length-append (link_format.spell (stored_link (whole_link x) g))
+    (flat_map link_format.spell (without_at own (stored_links (map whole_link xs) gs))) in
     omega (
       arith,
       some,
@@ -106,27 +101,6 @@ image-shorter n s h =
     let same = ap (λ (p : LocalState). length (image_of (v p))) h.local in
     let a : Stored = stored_by (v s.local) in
     let b : Stored = stored_by (whole_view s) in
-    let front : length (front_bytes a) ≡ length (front_bytes b) = refl in
-    let told : length (told_bytes a) ≡ length (told_bytes b) = refl in
-    let slots : length (slots_bytes a) ≡ length (slots_bytes b) = refl in
-    let asked : length (flat_map reference_bytes a.asked)
-    ≡ length (flat_map reference_bytes b.asked)
-    = refl in
-    let letters : length (flat_map letter_bytes a.letters)
-    ≡ length (flat_map letter_bytes b.letters) = refl in
     let links = but-one-shorter s.local.own n.links s.sent s.local.got
     (record { width = h.width; each = h.links }) in
-    omega (
-      arith,
-      same,
-      spelling_length a,
-      spelling_length b,
-      front,
-      told,
-      slots,
-      others_length a,
-      others_length b,
-      asked,
-      letters,
-      links,
-    )
+    omega (arith, same, spelling_length a, spelling_length b, links)

@@ -4,8 +4,8 @@ ghost use Rattle.std.specs.Prelude.{
   ◌≢◌,
   ◌↔◌,
   ◌++◌,
-  [],
   ◌∷◌,
+  [],
   true,
   false,
   IfErr,
@@ -13,7 +13,6 @@ ghost use Rattle.std.specs.Prelude.{
   IsErrOf,
   IsTrue,
   OnErr,
-  replicate,
   map,
   string_bytes,
 };
@@ -22,7 +21,6 @@ ghost use Rattle.ids.specs.declared.limits.TheConstants.{TRACE_EVENTS};
 ghost use Rattle.ids.specs.declared.refusal.Refusal.TheVariants.{Memory};
 ghost use Rattle.trace.specs.Lines.{call_of, line_text};
 ghost use Rattle.model.specs.Steps.{is_memory_free, is_own};
-ghost use Rattle.model.specs.View.{Shows};
 ghost use Rattle.node.specs.Keeping.{met, own_step};
 ghost use Rattle.wire.specs.Views.{raises};
 ghost use Rattle.wire.specs.Readers.{
@@ -34,9 +32,10 @@ ghost use Rattle.wire.specs.Readers.{
   IsSame,
   IsSeatOf,
 };
-ghost use Rattle.cell.specs.Desks.{AreTaken, IsAtSeat, IsUnsaved};
+ghost use Rattle.cell.specs.Cells.{new_cell, GoesOn, IsKept};
+ghost use Rattle.cell.specs.Desks.{IsAtSeat, IsUnsaved};
 ghost use Rattle.cell.specs.Disks.{OpensToNode};
-ghost use Rattle.cell.specs.Events.{outcome_of, Given, IsMarked};
+ghost use Rattle.cell.specs.Events.{outcome_of, Given};
 
 use super::Cell;
 use crate::desk::Desk;
@@ -64,12 +63,7 @@ impl<D: Disk> Cell<D> {
         requires seat { IsAtSeat node.core seat }
         requires ready { shelf.ready ≡ true }
         requires disk { OpensToNode node (D.seen shelf.disk) }
-        ensures node { IfOk result (λ c. c.desk.node ≡ node) }
-        ensures seat { IfOk result (λ c. c.desk.seat ≡ seat) }
-        ensures places { IfOk result (λ c. c.desk.places ≡ replicate 16 0) }
-        ensures unsaved { IfOk result (λ c. c.desk.is_unsaved ≡ false) }
-        ensures shelf { IfOk result (λ c. c.shelf ≡ shelf) }
-        ensures trace { IfOk result (λ c. c.trace ≡ []) }
+        ensures made { IfOk result (λ c. c ≡ new_cell node seat shelf.disk) }
         ensures refused { IfErr result (λ e. e ≡ Memory) }
     {
         let trace = Trace::new(alloc)?;
@@ -87,24 +81,19 @@ impl<D: Disk> Cell<D> {
     /// is closed. An event that takes no memory is never refused Memory. A line is added to the
     /// trace either way.
     pub fn act(&mut self, wire: &Wire, event: Event) -> Result<Answer, Refusal>
-        requires wire { IsSeatOf wire.now self.old.desk.seat }
+        requires wire { IsSeatOf wire.now self.old.seat }
         requires own { is_own event ≡ true }
-        ensures given { IsTrue self.old.shelf.ready
-            → Given event (met self.old.desk.node.early event)
-            (own_step self.old.desk.node.early (known self.old.desk.seat).me event) result
-            self.old.desk.node self.new.desk.node
-            (known self.old.desk.seat) (known self.new.desk.seat) }
-        ensures memory_free { IsTrue (is_memory_free self.old.desk.node.core.local
-            (met self.old.desk.node.early event))
+        ensures given { IsTrue self.old.is_open
+            → Given event (met self.old.node.early event)
+            (own_step self.old.node.early (known self.old.seat).me event) result
+            self.old.node self.new.node (known self.old.seat) (known self.new.seat) }
+        ensures memory_free { IsTrue (is_memory_free self.old.node.core.local
+            (met self.old.node.early event))
             → IfErr result (λ e. e ≢ Memory) }
-        ensures closed { IsErrOf result Refusal.Closed ↔ (self.old.shelf.ready ≡ false) }
-        ensures shut { self.old.shelf.ready ≡ false → self.new.desk ≡ self.old.desk }
-        ensures unsaved { IsMarked (known self.old.desk.seat) (known self.new.desk.seat)
-            self.old.desk.is_unsaved self.new.desk.is_unsaved }
-        ensures same { IsSame self.old.desk.seat self.new.desk.seat }
-        ensures saved { self.new.desk.saved.value ≡ self.old.desk.saved.value }
-        ensures places { self.new.desk.places ≡ self.old.desk.places }
-        ensures shelf { self.new.shelf ≡ self.old.shelf }
+        ensures closed { IsErrOf result Refusal.Closed ↔ (self.old.is_open ≡ false) }
+        ensures shut { self.old.is_open ≡ false
+            → self.new ≡ record self.old { trace = self.new.trace } }
+        ensures goes_on { GoesOn self.old self.new }
         ensures traced { self.new.trace ≡ keep_last TRACE_EVENTS (self.old.trace
             ++ record { call = call_of event; outcome = outcome_of result } ∷ []) }
     {
@@ -122,26 +111,20 @@ impl<D: Disk> Cell<D> {
     /// exactly while the cell is closed, and NotDirector exactly where it is open and the node is
     /// another one than node 0.
     pub fn raise(&mut self, wire: &Wire) -> Result<Raised, Refusal>
-        requires wire { IsSeatOf wire.now self.old.desk.seat }
+        requires wire { IsSeatOf wire.now self.old.seat }
         ensures raised { IfOk result (λ r. (raised_cycle r
-            ≡ (known self.old.desk.seat).pair.saved.local.phases.ended)
+            ≡ (known self.old.seat).pair.saved.local.phases.ended)
             × IsRaisedOf wire.now r
-            × (known self.new.desk.seat
-            ≡ raises (known self.old.desk.seat).pair.saved.local.phases.ended
-            (known self.old.desk.seat))) }
-        ensures opening { IfOk result (λ r.
-            raised_opening r ≡ (known self.old.desk.seat).opening) }
-        ensures closed { IsErrOf result Refusal.Closed ↔ (self.old.shelf.ready ≡ false) }
+            × (known self.new.seat
+            ≡ raises (known self.old.seat).pair.saved.local.phases.ended
+            (known self.old.seat))) }
+        ensures opening { IfOk result (λ r. raised_opening r ≡ (known self.old.seat).opening) }
+        ensures closed { IsErrOf result Refusal.Closed ↔ (self.old.is_open ≡ false) }
         ensures director { IfErr result (λ e. e ≢ Refusal.Closed
-            → (e ≡ Refusal.NotDirector) × (seat_node self.old.desk.seat ≢ 0)) }
-        ensures refused { OnErr result (self.new.desk ≡ self.old.desk) }
-        ensures same { IsSame self.old.desk.seat self.new.desk.seat }
-        ensures node { self.new.desk.node ≡ self.old.desk.node }
-        ensures saved { self.new.desk.saved.value ≡ self.old.desk.saved.value }
-        ensures places { self.new.desk.places ≡ self.old.desk.places }
-        ensures unsaved { self.new.desk.is_unsaved ≡ self.old.desk.is_unsaved }
-        ensures shelf { self.new.shelf ≡ self.old.shelf }
-        ensures trace { self.new.trace ≡ self.old.trace }
+            → (e ≡ Refusal.NotDirector) × (seat_node self.old.seat ≢ 0)) }
+        ensures refused { OnErr result (self.new ≡ self.old) }
+        ensures same { IsSame self.old.seat self.new.seat }
+        ensures stays { self.new ≡ record self.old { seat = self.new.seat } }
     {
         if !self.shelf.ready {
             return Err(Refusal::Closed);
@@ -155,18 +138,18 @@ impl<D: Disk> Cell<D> {
     /// Whether an event came since the last save or reopening. Where it says none did, the node's
     /// current state is the saved one.
     pub fn unsaved(&self) -> bool
-        ensures value { result ≡ self.now.desk.is_unsaved }
-        ensures saved { IsUnsaved result (known self.now.desk.seat).pair }
+        ensures value { result ≡ self.now.unsaved }
+        ensures saved { IsUnsaved result (known self.now.seat).pair }
     {
         self.desk.is_unsaved
     }
 
     /// The node as it stands: it shows the state in which the seat's events leave it, and each
-    /// message that it keeps is one that the seat took.
+    /// message that it keeps is one that the seat took. Its contract says all that a cell keeps
+    /// between two calls.
     pub fn node(&self) -> &Node
-        ensures value { result.now ≡ self.now.desk.node }
-        ensures shows { Shows result.now.core (known self.now.desk.seat).pair.current }
-        ensures taken { AreTaken (known self.now.desk.seat).taken result.now.early }
+        ensures value { result.now ≡ self.now.node }
+        ensures kept { IsKept D.may_leave self.now }
     {
         &self.desk.node
     }

@@ -9,15 +9,17 @@ ghost use Rattle.std.specs.Prelude.{
   IfOk,
   IsErrOf,
   IsTrue,
+  MatchOption,
   None,
   OnErr,
   slice_index_or,
 };
 ghost use Rattle.model.specs.View.{is_other};
 ghost use Rattle.node.specs.Keeping.{waiting};
-ghost use Rattle.wire.specs.Readers.{inbox, known, outbox, IsSame, IsSeatOf};
-ghost use Rattle.cell.specs.Events.{event_of, IsMarked};
-ghost use Rattle.cell.specs.Pumping.{is_out, PumpedIn};
+ghost use Rattle.wire.specs.Readers.{known, outbox, IsSame, IsSeatOf};
+ghost use Rattle.cell.specs.Cells.{GoesOn};
+ghost use Rattle.cell.specs.Events.{event_of};
+ghost use Rattle.cell.specs.Pumping.{is_out, FoundEmpty, PumpedIn, TookFrom};
 ghost use Rattle.cell.specs.Sending.{frame_due, places_after, IsSent};
 
 use super::Cell;
@@ -25,7 +27,7 @@ use crate::pumped::{Inbound, Outbound};
 use crate::tracing::outcome;
 use disk::Disk;
 use ids::Refusal;
-use model::Event;
+use model::{Answer, Event};
 use msg::Frame;
 use trace::Call;
 use wire::Wire;
@@ -51,26 +53,16 @@ impl<D: Disk> Cell<D> {
     /// of the space; else as the node refuses the message or frame. A line is added to the trace
     /// where there was one.
     pub fn pump_in(&mut self, wire: &Wire, from: u8) -> Result<Inbound, Refusal>
-        requires wire { IsSeatOf wire.now self.old.desk.seat }
-        ensures pumped { IsTrue self.old.shelf.ready
-            → IsTrue (is_other self.old.desk.node.core.local from)
-            → PumpedIn (inbox self.old.desk.seat from) from result
-            self.old.desk.node self.new.desk.node
-            (known self.old.desk.seat) (known self.new.desk.seat)
-            self.old.trace self.new.trace }
-        ensures closed { IsErrOf result Refusal.Closed ↔ (self.old.shelf.ready ≡ false) }
-        ensures shut { self.old.shelf.ready ≡ false
-            → (self.new.desk ≡ self.old.desk) × (self.new.trace ≡ self.old.trace) }
-        ensures no_node { IsTrue self.old.shelf.ready
-            → is_other self.old.desk.node.core.local from ≡ false
-            → IsErrOf result Refusal.NoNode × (self.new.desk ≡ self.old.desk)
-            × (self.new.trace ≡ self.old.trace) }
-        ensures same { IsSame self.old.desk.seat self.new.desk.seat }
-        ensures saved { self.new.desk.saved.value ≡ self.old.desk.saved.value }
-        ensures unsaved { IsMarked (known self.old.desk.seat) (known self.new.desk.seat)
-            self.old.desk.is_unsaved self.new.desk.is_unsaved }
-        ensures places { self.new.desk.places ≡ self.old.desk.places }
-        ensures shelf { self.new.shelf ≡ self.old.shelf }
+        requires wire { IsSeatOf wire.now self.old.seat }
+        ensures pumped { IsTrue self.old.is_open
+            → IsTrue (is_other self.old.node.core.local from)
+            → PumpedIn from result self.old self.new }
+        ensures closed { IsErrOf result Refusal.Closed ↔ (self.old.is_open ≡ false) }
+        ensures shut { self.old.is_open ≡ false → self.new ≡ self.old }
+        ensures no_node { IsTrue self.old.is_open
+            → is_other self.old.node.core.local from ≡ false
+            → IsErrOf result Refusal.NoNode × (self.new ≡ self.old) }
+        ensures goes_on { GoesOn self.old self.new }
     {
         if !self.shelf.ready {
             return Err(Refusal::Closed);
@@ -86,50 +78,46 @@ impl<D: Disk> Cell<D> {
 
     // Takes in the message that waits.
     fn next(&mut self, wire: &Wire, from: u8) -> Result<Inbound, Refusal>
-        requires wire { IsSeatOf wire.now self.old.desk.seat }
-        requires ready { IsTrue self.old.shelf.ready }
-        requires waits { IsTrue (is_some (waiting self.old.desk.node.early from)) }
-        ensures pumped { PumpedIn (inbox self.old.desk.seat from) from result
-            self.old.desk.node self.new.desk.node
-            (known self.old.desk.seat) (known self.new.desk.seat)
-            self.old.trace self.new.trace }
-        ensures same { IsSame self.old.desk.seat self.new.desk.seat }
-        ensures saved { self.new.desk.saved.value ≡ self.old.desk.saved.value }
-        ensures unsaved { IsMarked (known self.old.desk.seat) (known self.new.desk.seat)
-            self.old.desk.is_unsaved self.new.desk.is_unsaved }
-        ensures places { self.new.desk.places ≡ self.old.desk.places }
-        ensures shelf { self.new.shelf ≡ self.old.shelf }
+        requires wire { IsSeatOf wire.now self.old.seat }
+        requires ready { IsTrue self.old.is_open }
+        requires waits { IsTrue (is_some (waiting self.old.node.early from)) }
+        ensures pumped { PumpedIn from result self.old self.new }
+        ensures goes_on { GoesOn self.old self.new }
     {
         let answer = self.act(wire, Event::Next { from })?;
         Ok(Inbound::Event(answer))
     }
 
+    // Takes in the frame that is there, where none waits.
     fn receive(&mut self, wire: &Wire, from: u8) -> Result<Inbound, Refusal>
-        requires wire { IsSeatOf wire.now self.old.desk.seat }
-        requires ready { IsTrue self.old.shelf.ready }
-        requires other { IsTrue (is_other self.old.desk.node.core.local from) }
-        requires none { waiting self.old.desk.node.early from ≡ None }
-        ensures pumped { PumpedIn (inbox self.old.desk.seat from) from result
-            self.old.desk.node self.new.desk.node
-            (known self.old.desk.seat) (known self.new.desk.seat)
-            self.old.trace self.new.trace }
-        ensures same { IsSame self.old.desk.seat self.new.desk.seat }
-        ensures saved { self.new.desk.saved.value ≡ self.old.desk.saved.value }
-        ensures unsaved { IsMarked (known self.old.desk.seat) (known self.new.desk.seat)
-            self.old.desk.is_unsaved self.new.desk.is_unsaved }
-        ensures places { self.new.desk.places ≡ self.old.desk.places }
-        ensures shelf { self.new.shelf ≡ self.old.shelf }
+        requires wire { IsSeatOf wire.now self.old.seat }
+        requires ready { IsTrue self.old.is_open }
+        requires other { IsTrue (is_other self.old.node.core.local from) }
+        requires none { waiting self.old.node.early from ≡ None }
+        ensures pumped { PumpedIn from result self.old self.new }
+        ensures goes_on { GoesOn self.old self.new }
     {
-        let Some(frame) = self.desk.take(wire, from) else {
+        let Some(answered) = self.take_in(wire, from) else {
             return Ok(Inbound::Empty);
         };
+        let answer = answered?;
+        Ok(Inbound::Event(answer))
+    }
+
+    // Takes the frame that is there, and gives it to the node. None where the mailbox wasn't full.
+    fn take_in(&mut self, wire: &Wire, from: u8) -> Option<Result<Answer, Refusal>>
+        requires wire { IsSeatOf wire.now self.old.seat }
+        requires ready { IsTrue self.old.is_open }
+        requires other { IsTrue (is_other self.old.node.core.local from) }
+        ensures took { MatchOption result (FoundEmpty from self.old self.new)
+            (λ r. TookFrom from r self.old self.new) }
+        ensures goes_on { GoesOn self.old self.new }
+    {
+        let frame = self.desk.take(wire, from)?;
         let answered = self.desk.handle(wire, frame);
         self.trace
             .push(Call::of(&event_of(frame)), outcome(&answered));
-        match answered {
-            Ok(answer) => Ok(Inbound::Event(answer)),
-            Err(refusal) => Err(refusal),
-        }
+        Some(answered)
     }
 
     /// Sends a frame to another node: the message in the next place of the window that a saved node
@@ -139,26 +127,22 @@ impl<D: Disk> Cell<D> {
     /// Refused Closed exactly while the cell is closed; then NoNode where `to` is no other node of
     /// the space; Memory where a growth was refused. A refusal changes nothing.
     pub fn pump_out(&mut self, wire: &Wire, to: u8) -> Result<Outbound, Refusal>
-        requires wire { IsSeatOf wire.now self.old.desk.seat }
-        ensures sent { IfOk result (λ o. IsSent (outbox self.old.desk.seat to)
-            (frame_due self.old.desk.node.core to (slice_index_or self.old.desk.places to 0))
-            (is_out o) (known self.old.desk.seat) (known self.new.desk.seat)) }
-        ensures places { IfOk result (λ o. self.new.desk.places
-            ≡ places_after (is_out o) self.old.desk.node.core to self.old.desk.places) }
-        ensures refused { OnErr result (self.new.desk.seat ≡ self.old.desk.seat) }
-        ensures stays { OnErr result (self.new.desk.places ≡ self.old.desk.places) }
-        ensures closed { IsErrOf result Refusal.Closed ↔ (self.old.shelf.ready ≡ false) }
-        ensures no_node { IsTrue self.old.shelf.ready
+        requires wire { IsSeatOf wire.now self.old.seat }
+        ensures sent { IfOk result (λ o. IsSent (outbox self.old.seat to)
+            (frame_due self.old.node.core to (slice_index_or self.old.places to 0))
+            (is_out o) (known self.old.seat) (known self.new.seat)) }
+        ensures places { IfOk result (λ o. self.new.places
+            ≡ places_after (is_out o) self.old.node.core to self.old.places) }
+        ensures refused { OnErr result (self.new ≡ self.old) }
+        ensures closed { IsErrOf result Refusal.Closed ↔ (self.old.is_open ≡ false) }
+        ensures no_node { IsTrue self.old.is_open
             → (IsErrOf result Refusal.NoNode
-            ↔ (is_other self.old.desk.node.core.local to ≡ false)) }
+            ↔ (is_other self.old.node.core.local to ≡ false)) }
         ensures others { IfErr result (λ e. (e ≡ Refusal.Closed)
             ⊎ ((e ≡ Refusal.NoNode) ⊎ (e ≡ Refusal.Memory))) }
-        ensures same { IsSame self.old.desk.seat self.new.desk.seat }
-        ensures node { self.new.desk.node ≡ self.old.desk.node }
-        ensures saved { self.new.desk.saved.value ≡ self.old.desk.saved.value }
-        ensures unsaved { self.new.desk.is_unsaved ≡ self.old.desk.is_unsaved }
-        ensures shelf { self.new.shelf ≡ self.old.shelf }
-        ensures trace { self.new.trace ≡ self.old.trace }
+        ensures same { IsSame self.old.seat self.new.seat }
+        ensures stays { self.new
+            ≡ record self.old { seat = self.new.seat; places = self.new.places } }
     {
         if !self.shelf.ready {
             return Err(Refusal::Closed);

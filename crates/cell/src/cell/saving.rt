@@ -14,21 +14,21 @@ ghost use Rattle.std.specs.Prelude.{
   false,
   IfErr,
   IfOk,
-  IsErr,
   IsErrOf,
   IsTrue,
   OnErr,
   OnOk,
   replicate,
-  Some,
 };
 ghost use Rattle.circular_buffer.specs.Buffer.{keep_last};
 ghost use Rattle.ids.specs.declared.limits.TheConstants.{GREATEST_IMAGE, TRACE_EVENTS};
 ghost use Rattle.trace.specs.declared.call.Call.TheVariants as call;
+ghost use Rattle.model.specs.View.{kept_view};
 ghost use Rattle.node.specs.Keeping.{kept_whole};
 ghost use Rattle.image.specs.Images.{image_of};
 ghost use Rattle.disk.specs.Crashes.{Grew, Only};
 ghost use Rattle.disk.specs.Memory.{filled_by_crash, held_by, IsFaultless, left_by};
+ghost use Rattle.disk.specs.Plan.{fails_from};
 ghost use Rattle.wire.specs.Readers.{known, IsSame, IsSeatOf};
 ghost use Rattle.cell.specs.Disks.{is_same_image, HoldsSaved, OpensToNode};
 ghost use Rattle.cell.specs.Events.{
@@ -55,30 +55,34 @@ impl<D: Disk> Cell<D> {
     /// longer than an image may be, and Memory: these change nothing. Disk where the device failed:
     /// it closes the cell, and no event enters. A line is added to the trace either way.
     pub fn save(&mut self, wire: &Wire) -> Result<(), Refusal>
-        requires wire { IsSeatOf wire.now self.old.desk.seat }
-        ensures saved { OnOk result
-            (known self.new.desk.seat ≡ saved_by (known self.old.desk.seat)) }
-        ensures entered { OnOk result (Entered (step.Save (known self.old.desk.seat).me)
-            (known self.old.desk.seat) (known self.new.desk.seat)) }
-        ensures node { OnOk result (self.new.desk.node ≡ kept_whole self.old.desk.node) }
-        ensures unsaved { OnOk result (self.new.desk.is_unsaved ≡ false) }
-        ensures ready { OnOk result (self.new.shelf.ready ≡ true) }
-        ensures places { self.new.desk.places ≡ self.old.desk.places }
-        ensures same { IsSame self.old.desk.seat self.new.desk.seat }
-        ensures refused { OnErr result ((self.new.desk.node ≡ self.old.desk.node)
-            × (self.new.desk.seat ≡ self.old.desk.seat)
-            × (self.new.desk.saved.value ≡ self.old.desk.saved.value)
-            × (self.new.desk.is_unsaved ≡ self.old.desk.is_unsaved)) }
-        ensures closed { IsErrOf result Refusal.Closed ↔ (self.old.shelf.ready ≡ false) }
+        requires wire { IsSeatOf wire.now self.old.seat }
+        ensures done { OnOk result (self.new ≡ record self.old {
+          node = kept_whole self.old.node;
+          saved = kept_view self.old.node.core;
+          seat = self.new.seat;
+          unsaved = false;
+          disk = self.new.disk;
+          is_open = true;
+          trace = self.new.trace;
+        }) }
+        ensures known { OnOk result (known self.new.seat ≡ saved_by (known self.old.seat)) }
+        ensures entered { OnOk result (Entered (step.Save (known self.old.seat).me)
+            (known self.old.seat) (known self.new.seat)) }
+        ensures same { IsSame self.old.seat self.new.seat }
+        ensures refused { OnErr result (self.new ≡ record self.old {
+          disk = self.new.disk;
+          is_open = self.new.is_open;
+          trace = self.new.trace;
+        }) }
+        ensures closed { IsErrOf result Refusal.Closed ↔ (self.old.is_open ≡ false) }
         ensures disk { IsErrOf result Refusal.Disk
-            → Grew (D.faults self.old.shelf.disk) (D.faults self.new.shelf.disk)
-            × (self.new.shelf.ready ≡ false) }
+            → Grew (D.faults self.old.disk) (D.faults self.new.disk)
+            × (self.new.is_open ≡ false) }
         ensures too_large { IsErrOf result Refusal.ImageTooLarge ↔
-            IsTrue self.old.shelf.ready
-            × (GREATEST_IMAGE < length (image_of self.old.desk.node.core)) }
+            IsTrue self.old.is_open
+            × (GREATEST_IMAGE < length (image_of self.old.node.core)) }
         ensures unchanged { IfErr result (λ e. e ≢ Refusal.Disk
-            → (self.new.shelf.disk ≡ self.old.shelf.disk)
-            × (self.new.shelf.ready ≡ self.old.shelf.ready)) }
+            → self.new ≡ record self.old { trace = self.new.trace }) }
         ensures others { IfErr result (λ e. (e ≡ Refusal.Closed) ⊎ ((e ≡ Refusal.ImageTooLarge)
             ⊎ ((e ≡ Refusal.Memory) ⊎ (e ≡ Refusal.Disk)))) }
         ensures traced { self.new.trace ≡ keep_last TRACE_EVENTS (self.old.trace
@@ -106,32 +110,38 @@ impl<D: Disk> Cell<D> {
     /// Refused Disk where the device failed, and Memory: the cell is then closed, and no event
     /// enters. A line is added to the trace either way.
     pub fn reopen(&mut self, wire: &Wire) -> Result<(), Refusal>
-        requires wire { IsSeatOf wire.now self.old.desk.seat }
-        ensures opened { OnOk result (OpensToNode self.new.desk.node (D.seen self.old.shelf.disk)) }
-        ensures reopened { OnOk result (known self.new.desk.seat
-            ≡ reopened_by (is_same_image self.new.desk.node.core self.old.desk.saved.value)
-            (known self.old.desk.seat)) }
+        requires wire { IsSeatOf wire.now self.old.seat }
+        ensures opened { OnOk result (OpensToNode self.new.node (D.seen self.old.disk)) }
+        ensures done { OnOk result (self.new ≡ record self.old {
+          node = self.new.node;
+          saved = self.new.node.core;
+          seat = self.new.seat;
+          places = replicate 16 0;
+          unsaved = false;
+          disk = self.new.disk;
+          is_open = true;
+          trace = self.new.trace;
+        }) }
+        ensures known { OnOk result (known self.new.seat
+            ≡ reopened_by (is_same_image self.new.node.core self.old.saved)
+            (known self.old.seat)) }
         ensures entered { OnOk result (Entered
-            (found_step (is_same_image self.new.desk.node.core self.old.desk.saved.value)
-            (known self.old.desk.seat).me)
-            (known self.old.desk.seat) (known self.new.desk.seat)) }
-        ensures restarted { OnOk result (IsTrue self.old.shelf.ready
-            → known self.new.desk.seat ≡ restarted_by (known self.old.desk.seat)) }
+            (found_step (is_same_image self.new.node.core self.old.saved) (known self.old.seat).me)
+            (known self.old.seat) (known self.new.seat)) }
+        ensures restarted { OnOk result
+            (IsTrue self.old.is_open ⊎ HoldsSaved (D.may_leave self.old.disk) self.old.saved
+            → known self.new.seat ≡ restarted_by (known self.old.seat)) }
         ensures saved_still { OnErr result
-            (IsTrue self.old.shelf.ready ⊎ HoldsSaved (D.may_leave self.old.shelf.disk)
-            self.old.desk.saved.value
-            → HoldsSaved (D.may_leave self.new.shelf.disk) self.new.desk.saved.value) }
-        ensures restarted_later { OnOk result
-            (HoldsSaved (D.may_leave self.old.shelf.disk) self.old.desk.saved.value
-            → known self.new.desk.seat ≡ restarted_by (known self.old.desk.seat)) }
-        ensures unsaved { OnOk result (self.new.desk.is_unsaved ≡ false) }
-        ensures ready { OnOk result (self.new.shelf.ready ≡ true) }
-        ensures places { OnOk result (self.new.desk.places ≡ replicate 16 0) }
-        ensures same { IsSame self.old.desk.seat self.new.desk.seat }
-        ensures refused { OnErr result (self.new.desk ≡ self.old.desk) }
-        ensures shut { IsErr result → self.new.shelf.ready ≡ false }
+            (IsTrue self.old.is_open ⊎ HoldsSaved (D.may_leave self.old.disk) self.old.saved
+            → HoldsSaved (D.may_leave self.new.disk) self.new.saved) }
+        ensures same { IsSame self.old.seat self.new.seat }
+        ensures refused { OnErr result (self.new ≡ record self.old {
+          disk = self.new.disk;
+          is_open = false;
+          trace = self.new.trace;
+        }) }
         ensures disk { IsErrOf result Refusal.Disk
-            → Grew (D.faults self.old.shelf.disk) (D.faults self.new.shelf.disk) }
+            → Grew (D.faults self.old.disk) (D.faults self.new.disk) }
         ensures others { IfErr result (λ e. (e ≡ Refusal.Memory) ⊎ (e ≡ Refusal.Disk)) }
         ensures traced { self.new.trace ≡ keep_last TRACE_EVENTS (self.old.trace
             ++ record { call = call.Reopen; outcome = done_outcome result } ∷ []) }
@@ -154,20 +164,19 @@ impl Cell<MemoryDisk> {
     /// From now on the `k`-th call of the disk and all later ones fail, as
     /// [`MemoryDisk::fail_from`] says.
     pub fn fail_from(&mut self, k: u64)
-        ensures good { self.new.shelf.disk.good ≡ Some (k - 1) }
-        ensures state { self.new.shelf.disk.state ≡ self.old.shelf.disk.state }
-        ensures past { self.new.shelf.disk.past ≡ self.old.shelf.disk.past }
-        ensures ready { self.new.shelf.ready ≡ self.old.shelf.ready }
-        ensures desk { self.new.desk ≡ self.old.desk }
-        ensures trace { self.new.trace ≡ self.old.trace }
+        ensures plan { self.new.disk.plan ≡ fails_from k }
+        ensures state { self.new.disk.state ≡ self.old.disk.state }
+        ensures past { self.new.disk.past ≡ self.old.disk.past }
+        ensures failures { self.new.disk.failures ≡ self.old.disk.failures }
+        ensures stays { self.new ≡ record self.old { disk = self.new.disk } }
     {
         self.shelf.fail_from(k);
     }
 
     /// The disk that a crash now leaves, as [`MemoryDisk::after_crash`] says.
     pub fn after_crash(&self, fill: u8) -> Result<MemoryDisk, Refusal>
-        ensures filled { IfOk result (λ d. held_by d ≡ filled_by_crash fill self.now.shelf.disk) }
-        ensures left { IfOk result (λ d. left_by self.now.shelf.disk (held_by d)) }
+        ensures filled { IfOk result (λ d. held_by d ≡ filled_by_crash fill self.now.disk) }
+        ensures left { IfOk result (λ d. left_by self.now.disk (held_by d)) }
         ensures durable { IfOk result (λ d. Only (held_by d) (left_by d)) }
         ensures faultless { IfOk result IsFaultless }
         ensures memory { IfErr result (λ e. e ≡ Refusal.Memory) }

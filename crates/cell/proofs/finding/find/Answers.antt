@@ -2,7 +2,8 @@ use Rattle.std.proofs.Common.{Err, IfErr, refl, ◌≡◌, ◌<◌, arith, ap, s
 use Rattle.std.proofs.lemmas.Result.{err_from_is_err_and, IfErr-at_err}
 use Rattle.std.proofs.lemmas.List.{drop-drop}
 use Rattle.cell.specs.declared.fault.Unopened.TheVariants as fault
-use Rattle.cell.proofs.OnShelves.{first-there, more-found, next-beside}
+use Rattle.cell.proofs.Causes.{cause-there, place-there}
+use Rattle.cell.proofs.OnShelves.{more-found, next-beside}
 use Rattle.cell.proofs.finding.find.Goals as goal
 
 pub loop-number-preserved : goal.loop-number-preserved
@@ -29,11 +30,19 @@ returns-in_err-node-clause-other g c = λ failed same.
     let p = err_from_is_err_and c.from_residual.result c.from_residual.ensures.1 in
     let is : fault.Disks ≡ p.0 =
     IfErr-at_err (λ e. e ≡ p.0) failed (subst (λ r. IfErr r (λ e. e ≡ p.0)) (sym p.1) refl) in
-    record {
-      place = c.loop-number.number;
-      value = c.remove.result;
-      there = first-there c.args.disks.items c.loop-number.number c.remove.result inside
-          (subst (λ l. c.remove.result ≡ get_or l 0 c.remove.result) c.loop-number.invariant.rest
-          c.remove.ensures.value);
-      is = c.in_err-node.ensures.other (ap Err (sym (is ∙ p.2)));
-    }
+    place-there c.args.disks.items c.loop-number.number c.remove.result inside
+    (subst (λ l. c.remove.result ≡ get_or l 0 c.remove.result) c.loop-number.invariant.rest
+    c.remove.ensures.value)
+    (c.in_err-node.ensures.other (ap Err (sym (is ∙ p.2))))
+
+pub returns-in_err-node-clause-cause : goal.returns-in_err-node-clause-cause
+returns-in_err-node-clause-cause g c =
+    let inside : c.loop-number.number < length c.args.disks.items =
+    omega (arith, c.loop-number.invariant.left, c.remove.ensures.len, c.args.disks.ok) in
+    let p = err_from_is_err_and c.from_residual.result c.from_residual.ensures.1 in
+    rw (p.1, p.2)
+    (cause-there _
+    (λ r is. place-there c.args.disks.items c.loop-number.number c.remove.result inside
+    (subst (λ l. c.remove.result ≡ get_or l 0 c.remove.result) c.loop-number.invariant.rest
+    c.remove.ensures.value) is)
+    c.in_err-node.ensures.cause)

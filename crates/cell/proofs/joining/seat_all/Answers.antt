@@ -1,5 +1,7 @@
-use Rattle.std.proofs.Common.{◌<◌, length, arith}
-use Rattle.cell.proofs.Ready.{first-ready, later-ready, shifted}
+use Rattle.std.proofs.Common.{◌<◌, All, [], ap, length, arith, subst, sym}
+use Rattle.std.proofs.lemmas.List.Elements.{All-append, All-cons, All-nil}
+use Rattle.cell.specs.Cells.{IsNew}
+use Rattle.cell.proofs.Ready.{first-ready, later-ready, made-new, shifted, shifted-by}
 use Rattle.cell.proofs.joining.seat_all.Goals as goal
 
 pub new-requires : goal.new-requires
@@ -14,17 +16,21 @@ pub loop-preserved : goal.loop-preserved
 loop-preserved g c =
     let was = c.loop.invariant in
     let some : 0 < length c.loop.nodes.items = omega arith in
+    let made = c.in_ok-new.ensures.made in
     record {
       ready = later-ready _ _ _ was.ready
           (c.remove-node.ensures.items, c.remove-shelf.ensures.items, c.remove-seat.ensures.items);
       left = omega (arith, was.left, c.remove-node.ensures.len);
       all = was.all;
       nodes = shifted _ _ _ _ _ _ c.remove-node.result _ was.nodes c.in_ok-push.ensures.items
-          c.in_ok-new.ensures.node c.remove-node.ensures.value some c.remove-node.ensures.items;
-      shelves = shifted _ _ _ _ _ _ c.remove-shelf.result _ was.shelves
-          c.in_ok-push.ensures.items c.in_ok-new.ensures.shelf c.remove-shelf.ensures.value
+          (ap (λ v. v.node) made) c.remove-node.ensures.value some c.remove-node.ensures.items;
+      disks = shifted-by (λ v. v.disk) (λ s. s.disk) _ _ _ _ _ c.remove-shelf.result _ was.disks
+          c.in_ok-push.ensures.items (ap (λ v. v.disk) made) c.remove-shelf.ensures.value
           (omega (arith, some, was.ready.shelved)) c.remove-shelf.ensures.items;
       seats = shifted _ _ _ _ _ _ c.remove-seat.result _ was.seats c.in_ok-push.ensures.items
-          c.in_ok-new.ensures.seat c.remove-seat.ensures.value
+          (ap (λ v. v.seat) made) c.remove-seat.ensures.value
           (omega (arith, some, was.ready.seated)) c.remove-seat.ensures.items;
+      new = subst (All IsNew) (sym c.in_ok-push.ensures.items)
+          (All-append IsNew _ _ was.new
+          (All-cons IsNew _ [] (made-new _ _ _ _ made) (All-nil IsNew)));
     }

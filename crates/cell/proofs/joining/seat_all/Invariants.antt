@@ -1,4 +1,5 @@
-use Rattle.std.proofs.Common.{◌≡◌, ◌+◌, ◌++◌, map, vec_len, true}
+use Rattle.std.proofs.Common.{◌≡◌, ◌+◌, ◌++◌, All, map, vec_len, true}
+use Rattle.cell.specs.Cells.{IsNew}
 use Rattle.cell.specs.Disks.{OpensToNode}
 use Rattle.cell.specs.Opened.{AreReady}
 use Rattle.cell.proofs.joining.seat_all.Given as goal
@@ -9,7 +10,9 @@ invariant-loop g l = record {
       l.shelves.items l.seats.items;
   left : vec_len l.nodes + l.counter ≡ l.end;
   all : l.end ≡ vec_len l.fn.nodes;
-  nodes : map (λ c. c.desk.node) l.cells.items ++ l.nodes.items ≡ l.fn.nodes.items;
-  shelves : map (λ c. c.shelf) l.cells.items ++ l.shelves.items ≡ l.fn.shelves.items;
-  seats : map (λ c. c.desk.seat) l.cells.items ++ l.seats.items ≡ l.fn.seats.items;
+  nodes : map (λ c. c.node) l.cells.items ++ l.nodes.items ≡ l.fn.nodes.items;
+  disks : map (λ c. c.disk) l.cells.items ++ map (λ s. s.disk) l.shelves.items
+      ≡ map (λ s. s.disk) l.fn.shelves.items;
+  seats : map (λ c. c.seat) l.cells.items ++ l.seats.items ≡ l.fn.seats.items;
+  new : All IsNew l.cells.items;
 }

@@ -20,7 +20,7 @@ post-requires-clause-released c =
       c.requires.receiver ∙ box.receiver
           ∙ (λ i. (s.node * s.nodes + sym to i) % s.sits.nodes_is i),
       subst (λ (v : Known). Releases v.me v.pair.saved frame)
-          (sym c.in-Some.ensures.claim.2) c.requires.released,
+          (sym c.in-Some.ensures.claim.2.1) c.requires.released,
     )
 
 pub returns-clause-sent : goal.returns-clause-sent
@@ -28,9 +28,13 @@ returns-clause-sent c =
     let to = c.in-Some.ensures.claim.0 in
     let posted = c.post.ensures.posted in
     let frame = frame_due c.args._node.now.core c.args.to c.args._place in
-    let same : posted.0 ≡ frame = one_frame posted.0 frame posted.1 c.requires.spelled in
-    posted.2
-    ∙ (λ i. posts
-    (c.claim.ensures.same.2 i * c.claim.ensures.same.3 i + to i)
-    (same i)
-    (c.in-Some.ensures.claim.2 i))
+    let same : posted.0 ≡ frame = one_frame posted.0 frame posted.1 c.requires.spelled in (
+      c.in-Some.ensures.claim.2.0,
+      posted.2.0,
+      posted.2.1
+          ∙ (λ i. posts
+          (c.claim.ensures.same.2 i * c.claim.ensures.same.3 i + to i)
+          posted.2.0
+          (same i)
+          (c.in-Some.ensures.claim.2.1 i)),
+    )

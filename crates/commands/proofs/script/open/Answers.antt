@@ -7,6 +7,6 @@ pub returns-in-Ok : goal.returns-in-Ok
 returns-in-Ok g c =
     let shows = g.S.Space.shows in
     let keeps = g.S.Space.keeps in
-    λ h shown. made_shows shows keeps h c.args.shape c.in-Ok.space
+    λ h shown. made_shows shows keeps h c.args.shape c.in-Ok.space c.new-freed.result
     (subst (λ s. ShowsHeld shows keeps s h) c.in-Unopened.is shown) c.in-Ok.ensures.made
-    c.in-Ok.ensures.early
+    c.in-Ok.ensures.early c.new-freed.ensures

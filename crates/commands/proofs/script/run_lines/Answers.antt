@@ -14,7 +14,23 @@ loop-index-init g c =
     (g.W.Write.contents c.args.out.now)
     (ap lines_rest source ∙ c.lines.ensures.rest) from_zero
 
--- a line that does not end the program
+-- a line that does not end the program; its reply may hold memory
+pub loop-index-preserved-in_default : goal.loop-index-preserved-in_default
+loop-index-preserved-in_default g c =
+    printed_more g.S.Space.shows g.S.Space.keeps c.args.script.now (g.W.Write.contents c.args.out.now) _ _
+    c.loop-index.invariant
+    (record {
+      index = c.in-Some.index;
+      text = c.in-Some.text;
+      reply = c.take_line-reply.result;
+      step = c.in-Some.ensures.steps;
+      answers = c.take_line-reply.ensures;
+      prints = c.in_ok-print_reply.ensures;
+      worse = omega arith;
+    })
+    c.in_default.not-NoCommand
+
+-- the same where its reply holds none
 pub loop-index-preserved : goal.loop-index-preserved
 loop-index-preserved g c =
     printed_more g.S.Space.shows g.S.Space.keeps c.args.script.now (g.W.Write.contents c.args.out.now) _ _

@@ -7,9 +7,9 @@ pub returns-in-Ok : goal.returns-in-Ok
 returns-in-Ok g c =
     let shows = g.S.Space.shows in
     let keeps = g.S.Space.keeps in
-    λ h shown. outcome_shows shows keeps h c.args.step c.in-Open.space _ _
+    λ h shown. outcome_shows shows keeps h c.args.step c.in-Open.space _ c.in-Open.freed _ _
     (subst (λ s. ShowsHeld shows keeps s h) c.in-Open.is shown) c.in-Ok.ensures.follows
-    c.in-Ok.ensures.early
+    c.in-Ok.ensures.early c.note.ensures
 
 -- what has to hold of the refusal is searched for, so that another one fails at the fact that it
 -- breaks
@@ -21,7 +21,7 @@ returns-in-Err g c =
     let free = c.in-Err.ensures.memory_free in
     let small = c.in-Err.ensures.small in
     let early = c.in-Err.ensures.early in
-    λ h shown. refusal_shows shows keeps h c.args.step c.in-Open.space _ _
+    λ h shown. refusal_shows shows keeps h c.args.step c.in-Open.space _ c.in-Open.freed _
     (subst (λ s. ShowsHeld shows keeps s h) c.in-Open.is shown)
     (λ w s. (
       record {

@@ -38,6 +38,15 @@ returns-then-found-len-clause-none g c bad =
       c.if-told-lt-HEAD.false,
     ))
 
+pub returns-in_err-image-clause-memory : goal.returns-in_err-image-clause-memory
+returns-in_err-image-clause-memory g c refused =
+    let long = c.in_ok-told.ensures.bytes.count in
+    let tells = told_read _ _ _ c.in_ok-told.told c.in_ok-told.ensures.bytes refl
+    c.if-told-lt-HEAD.false in (
+      omega (arith, long, c.if-told-lt-HEAD.false),
+      omega (arith, tells, c.from_be_bytes-len.ensures, c.if-len-gt-GREATEST_IMAGE.false),
+    )
+
 pub returns-clause-image : goal.returns-clause-image
 returns-clause-image g c =
     let held = part c.args.area (g.D.Disk.seen c.args.disk.now) in

@@ -1,14 +1,10 @@
-use Rattle.std.proofs.Common.{◌≡◌, ◌++◌, take}
-use Rattle.std.specs.List.{flat_map, AllByRecursion}
-use Rattle.image.specs.Grammar.{link_bytes}
+use Rattle.std.proofs.Common.{take}
+use Rattle.codec.specs.Writing.{PutsAll}
+use Rattle.image.specs.Grammar.{link_format}
 use Rattle.image.specs.Images.{stored_links, without_at}
-use Rattle.image.specs.Widths.{IsLinkOfWidth}
 use Rattle.image.proofs.links.put_links.Given as goal
 
 abbrev pub invariant-loop-to : goal.invariant-loop-to
 invariant-loop-to l =
-    let others = without_at l.own (take l.to (stored_links l.links.links l.links.got)) in
-    record {
-      written : l.out.items ≡ l.fn.out.items ++ flat_map link_bytes others;
-      width : AllByRecursion IsLinkOfWidth others;
-    }
+    PutsAll link_format l.fn.out l.out
+    (without_at l.own (take l.to (stored_links l.links.links l.links.got)))

@@ -1,21 +1,22 @@
-use Rattle.std.proofs.Common.{ℕ, ◌<◌, length, subst}
+use Rattle.std.proofs.Common.{length, arith}
+use Rattle.std.specs.List.{flat_map}
+use Rattle.std.proofs.lemmas.List.{length-append}
+use Rattle.codec.specs.Formats.{number4}
+use Rattle.codec.proofs.Laws.{longer}
+use Rattle.codec.proofs.Writing.{beyond}
 use Rattle.link.specs.Links.{link_at}
-use Rattle.image.specs.Grammar.{message_bytes}
-use Rattle.image.specs.Widths.{IsMessageOfWidth}
-use Rattle.image.proofs.Appending.{written_more, all_more}
+use Rattle.image.specs.Grammar.{message_format}
+use Rattle.image.specs.Lengths.{message_long}
 use Rattle.image.proofs.links.put_messages.Goals as goal
 
-pub loop-place-preserved : goal.loop-place-preserved
-loop-place-preserved c =
+pub returns-then-is_over : goal.returns-then-is_over
+returns-then-is_over c =
     let messages = (link_at c.args.links.now c.args.to).unacknowledged in
-    let k = c.loop-place.place in
-    let message = c.message_at.result in
-    let within : k < length messages =
-    subst (λ (n : ℕ). k < n) c.message_count-place-end.ensures.value c.loop-place-test.true in
-    record {
-      written = written_more message_bytes IsMessageOfWidth messages k message within
-          c.message_at.ensures c.args.out.now.items c.loop-place.out.items c.put.new.out.items
-          c.loop-place.invariant.written c.in_ok-put.ensures.done;
-      width = all_more message_bytes IsMessageOfWidth messages k message within c.message_at.ensures
-          c.loop-place.invariant.width c.in_ok-put.ensures.width;
-    }
+    let count = number4.spell (length messages) in
+    let each = flat_map message_format.spell messages in
+    beyond (c.is_over.ensures.over c.if-is_over.true _ (omega (
+      arith,
+      length-append count each,
+      longer message_format message_long messages,
+      c.message_count-count.ensures.value,
+    )))

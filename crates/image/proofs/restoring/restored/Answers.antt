@@ -6,6 +6,7 @@ use Rattle.model.specs.View.{NodeView}
 use Rattle.image.specs.Nodes.{node_of}
 use Rattle.image.specs.Parts.{stored_of}
 use Rattle.image.proofs.Made.{said_refused}
+use Rattle.image.proofs.Whole.{own_below, links_count}
 use Rattle.image.proofs.restoring.restored.Goals as goal
 
 pub returns-in_default-clause-refused : goal.returns-in_default-clause-refused
@@ -24,7 +25,9 @@ returns-in_default-from_parts-clause-refused c = λ other. (
 )
 
 pub every_link-requires : goal.every_link-requires
-every_link-requires c = omega (arith, c.requires.head.own, c.requires.links.0)
+every_link-requires c =
+    let image = stored_of c.args.image in
+    omega (arith, own_below image c.requires, links_count image c.requires)
 
 pub returns-clause-refused : goal.returns-clause-refused
 returns-clause-refused c =

@@ -1,28 +1,42 @@
-use Rattle.std.specs.Int.{w32, to_be_bytes}
-use Rattle.std.proofs.Common.{◌≡◌, [], ◌∷◌, ◌++◌, OnOk, refl, subst}
+use Rattle.std.proofs.Common.{◌≡◌, ◌≤◌, ℕ, List, Option, length, refl, sym, subst, arith}
+use Rattle.std.specs.Prelude.{⊤}
+use Rattle.ids.specs.declared.names.Ref.{Ref}
+use Rattle.ids.specs.declared.limits.TheConstants.{GREATEST_PLACES}
+use Rattle.arena.specs.declared.Slot.TheVariants.{Occupied}
+use Rattle.codec.specs.Formats.{number4, number8}
+use Rattle.codec.specs.Writing.{Writes, Puts}
+use Rattle.codec.proofs.Writing.{both}
 use Rattle.model.specs.State.{Object}
-use Rattle.image.specs.Grammar.{object_bytes}
-use Rattle.image.proofs.Appending.{also}
+use Rattle.image.specs.Grammar.{slot_format, object_format, places_format, width_format}
 use Rattle.image.proofs.slots.put_occupied.Goals as goal
 
-pub returns-clause-done : goal.returns-clause-done
-returns-clause-done c =
-    let generation = to_be_bytes w32 c.args.generation in
-    let object = object_bytes c.args.object.now in
-    let one = c.put_u8.new.out.items in
-    let two = c.put_u32.new.out.items in
-    let new = c.put_object.new.out.items in
-    let same : record {
-      word = c.word.result;
-      places = c.contents.result.now;
-      mark = c.marked_by.result;
-    } ≡ c.args.object.now = rw (
-      c.word.ensures,
-      c.contents.ensures.value,
-      c.marked_by.ensures,
+pub returns : goal.returns
+unfolding slot_format object_format places_format width_format number4 number8
+returns c =
+    let made : Object = record {
+      word = c.word-word.result;
+      places = c.contents-places.result.now;
+      mark = c.marked_by-mark.result;
+    } in
+    let same : made ≡ c.args.object.now = rw (
+      c.word-word.ensures,
+      c.contents-places.ensures.value,
+      c.marked_by-mark.ensures,
     ) refl in
-    also c.put_object.result c.args.out.now.items one new (1 ∷ []) (generation ++ object)
-    c.in_ok-put_u8.ensures.done
-    (also c.put_object.result one two new generation object c.in_ok-put_u32.ensures.done
-    (subst (λ (o : Object). OnOk c.put_object.result (new ≡ two ++ object_bytes o)) same
-    c.put_object.ensures.done))
+    let few : length c.contents-places.result.now ≤ GREATEST_PLACES =
+    subst (λ (xs : List (Option Ref)). length xs ≤ GREATEST_PLACES)
+    (sym c.contents-places.ensures.value) c.contents-places.ensures.few in
+    let head =
+    subst (λ (t : List ℕ). Writes c.args.out.now c.append.new.self t ⊤) c.occupied_head.ensures
+    c.append.ensures in
+    let w = both head c.put_all.ensures in
+    subst (λ (o : Object).
+    Puts slot_format c.args.out.now c.put_all.new.out (Occupied c.args.generation o)) same (record {
+      limit = w.limit;
+      back = w.back;
+      more = w.more;
+      known = λ is. let k = w.known is in (
+        omega arith,
+        (omega arith, (omega arith, (omega (arith, few), k.1))),
+      );
+    })

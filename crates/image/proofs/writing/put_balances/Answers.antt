@@ -1,20 +1,20 @@
-use Rattle.std.proofs.Common.{◌≡◌, ◌++◌, ℤ, OnOk, subst, rules}
+use Rattle.std.proofs.Common.{subst, rules}
 use Rattle.std.specs.Int.{w64}
 use Rattle.std.specs.Int.RustNames.{FitsSigned}
 use Rattle.std.proofs.lemmas.Int.{to_z-of_z}
-use Rattle.msg.specs.Grammar.{signed_bytes}
-use Rattle.image.proofs.Appending.{also}
+use Rattle.codec.specs.Formats.{signed8}
+use Rattle.codec.specs.Writing.{Puts}
+use Rattle.codec.proofs.Writing.{both}
 use Rattle.image.proofs.writing.put_balances.Goals as goal
 
-pub returns-clause-done : goal.returns-clause-done
-returns-clause-done c =
-    let earlier : FitsSigned w64 c.args.ring.earlier = search rules in
-    let recent : FitsSigned w64 c.args.ring.recent = search rules in
-    let one = c.put_i64.new.out.items in
-    let new = c.put_i64-2.new.out.items in
-    also c.put_i64-2.result c.args.out.now.items one new (signed_bytes c.args.ring.earlier)
-    (signed_bytes c.args.ring.recent)
-    (subst (λ (z : ℤ). one ≡ c.args.out.now.items ++ signed_bytes z)
-    (to_z-of_z w64 c.args.ring.earlier earlier) c.in_ok-put_i64.ensures.done)
-    (subst (λ (z : ℤ). OnOk c.put_i64-2.result (new ≡ one ++ signed_bytes z))
-    (to_z-of_z w64 c.args.ring.recent recent) c.put_i64-2.ensures.done)
+pub returns : goal.returns
+returns c =
+    let earlier : FitsSigned w64 c.args.earlier = search rules in
+    let recent : FitsSigned w64 c.args.recent = search rules in
+    both
+    (subst (Puts signed8 c.args.out.now c.i64.new.self) (to_z-of_z w64 c.args.earlier earlier)
+    c.i64.ensures)
+    (both
+    (subst (Puts signed8 c.i64.new.self c.i64-2.new.self) (to_z-of_z w64 c.args.recent recent)
+    c.i64-2.ensures)
+    c.put_held.ensures)

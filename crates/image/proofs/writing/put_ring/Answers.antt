@@ -1,15 +1,24 @@
-use Rattle.std.proofs.Common.{[], ◌∷◌, ◌++◌}
-use Rattle.msg.specs.Grammar.{colour_byte}
-use Rattle.image.specs.Grammar.{balances_bytes, held_bytes}
-use Rattle.image.proofs.Appending.{also}
+use Rattle.std.proofs.Common.{ℤ, subst, rules, to_z, of_z}
+use Rattle.std.specs.Int.{w64}
+use Rattle.std.specs.Int.RustNames.{FitsSigned}
+use Rattle.std.proofs.lemmas.Int.{to_z-of_z}
+use Rattle.codec.specs.Formats.{◌&◌, signed8}
+use Rattle.codec.specs.Writing.{Puts}
+use Rattle.codec.proofs.Writing.{both}
+use Rattle.image.specs.Grammar.{held_format, ring_format}
 use Rattle.image.proofs.writing.put_ring.Goals as goal
 
-pub returns-clause-done : goal.returns-clause-done
-returns-clause-done c =
-    let balances = balances_bytes c.args.ring.earlier c.args.ring.recent in
-    let held = held_bytes c.args.ring.token in
-    also c.put_held.result c.args.out.now.items c.put_colour.new.out.items c.put_held.new.out.items
-    (colour_byte c.args.ring.colour ∷ []) (balances ++ held) c.in_ok-put_colour.ensures.done
-    (also c.put_held.result c.put_colour.new.out.items c.put_balances.new.out.items
-    c.put_held.new.out.items balances held c.in_ok-put_balances.ensures.done
-    c.put_held.ensures.done)
+pub returns : goal.returns
+unfolding ring_format
+returns c =
+    let r = c.args.r in
+    let earlier : FitsSigned w64 r.earlier = search rules in
+    let recent : FitsSigned w64 r.recent = search rules in
+    let Given : ℤ → ℤ → Type 0 =
+    λ a b.
+    Puts (signed8 & signed8 & held_format) c.put_colour.new.out c.put_balances.new.out
+    (a, (b, r.token)) in
+    both c.put_colour.ensures
+    (subst (λ (a : ℤ). Given a r.recent) (to_z-of_z w64 r.earlier earlier)
+    (subst (Given (to_z w64 (of_z w64 r.earlier))) (to_z-of_z w64 r.recent recent)
+    c.put_balances.ensures))

@@ -6,12 +6,12 @@ use Rattle.supervisor.proofs.cells.share_all.Goals as goal
 pub share-requires : goal.share-requires
 share-requires g c =
     let some : 0 < length c.loop.cells.items = omega arith in
-    first-seat (λ y. y.desk.seat) (arc_value c.args.wire.now) _ c.remove-cell.result
+    first-seat (λ y. y.seat) (arc_value c.args.wire.now) _ c.remove-cell.result
     c.loop.invariant.seats some c.remove-cell.ensures.value
 
 pub loop-preserved : goal.loop-preserved
 loop-preserved g c = record {
-  seats = later-seats (λ y. y.desk.seat) (arc_value c.args.wire.now) _ _ c.loop.invariant.seats
+  seats = later-seats (λ y. y.seat) (arc_value c.args.wire.now) _ _ c.loop.invariant.seats
       c.remove-cell.ensures.items;
   left = omega (arith, c.loop.invariant.left, c.remove-cell.ensures.len);
   all = c.loop.invariant.all;

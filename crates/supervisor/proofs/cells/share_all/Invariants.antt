@@ -5,7 +5,7 @@ use Rattle.supervisor.proofs.cells.share_all.Given as goal
 
 abbrev pub invariant-loop : goal.invariant-loop
 invariant-loop g l = record {
-  seats : AreSeats (arc_value l.wire) (map (λ c. c.desk.seat) l.cells.items);
+  seats : AreSeats (arc_value l.wire) (map (λ c. c.seat) l.cells.items);
   left : vec_len l.cells + l.counter ≡ l.end;
   all : l.end ≡ vec_len l.fn.cells;
   made : vec_len l.shared ≡ l.counter;

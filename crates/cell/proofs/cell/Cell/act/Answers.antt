@@ -1,30 +1,25 @@
-use Rattle.std.proofs.Common.{◌≡◌, true, false, sym, ◌∙◌, Bool}
-use Rattle.cell.proofs.Opening.{open-stays, settled-left}
+use Rattle.std.proofs.Common.{◌≡◌, true, false, ap, sym, ◌∙◌, Bool}
+use Rattle.cell.proofs.Opening.{stays-open}
 use Rattle.model.specs.Steps.{is_shading}
 use Rattle.node.specs.Keeping.{met}
 use Rattle.cell.proofs.Refusing.{never-closed}
 use Rattle.cell.proofs.cell.Cell.act.Goals as goal
 
-pub invariant_of-self-2 : goal.invariant_of-self-2
-invariant_of-self-2 g c =
-    let cell = c.args.self.now in
-    let seen = g.D.Disk.seen cell.shelf.disk in
+pub invariant_of-self-inside-2 : goal.invariant_of-self-inside-2
+invariant_of-self-inside-2 g c =
+    let cell = c.self.inside in
     let desk = c.act-answered.new.self in
     let ready : cell.shelf.ready ≡ true = c.if-not-self.false in
-    let opens = open-stays cell.desk.saved.value desk.saved.value seen
-    (c.act-answered.ensures.saved) (cell.while_open ready) in
-    record {
-      while_open = λ _. opens;
-      left = λ x may.
-          settled-left desk.saved.value desk.node.core seen x ((cell.shelf.settled ready).0 x may) opens;
-    }
+    stays-open cell.desk.saved.value desk.saved.value desk.node.core
+    (g.D.Disk.seen cell.shelf.disk) (g.D.Disk.may_leave cell.shelf.disk)
+    c.act-answered.ensures.saved (cell.shelf.settled ready).0 (cell.while_open ready)
 
 pub returns-clause-closed : goal.returns-clause-closed
 returns-clause-closed g c =
-    let old = c.args.self.now.desk.node in (
+    let old = c.self.inside.desk.node in (
       λ closed. absurd (never-closed (is_shading (met old.early c.args.event))
           (met old.early c.args.event) old.core c.act-answered.new.self.node.core
           c.act-answered.result c.act-answered.ensures.given.acted.performs closed),
       λ shut. (let never : ◌≡◌ {A = Bool} true false =
-          sym (c.if-not-self.false) ∙ shut in absurd cc),
+          sym (c.if-not-self.false) ∙ ap (λ v. v.is_open) c.self.view_is ∙ shut in absurd cc),
     )

@@ -1,4 +1,4 @@
-use Rattle.cell.proofs.Opening.{core-found, image-found, open-stays, settled-left}
+use Rattle.cell.proofs.Opening.{core-found, image-found, stays-open}
 use Rattle.cell.proofs.cell.Cell.new.Goals as goal
 
 pub new-requires-2-clause-image : goal.new-requires-2-clause-image
@@ -13,11 +13,6 @@ pub invariant_of-result : goal.invariant_of-result
 invariant_of-result g c =
     let seen = g.D.Disk.seen c.args.shelf.disk in
     let desk = c.new-2.result in
-    let opens = open-stays c.args.node.core desk.saved.value seen c.new-2.ensures.saved
-    ∣ core-found c.args.node seen c.requires.disk ∣₁ in
-    record {
-      while_open = λ _. opens;
-      left = λ x may.
-          settled-left desk.saved.value desk.node.core seen x
-          ((c.args.shelf.settled c.requires.ready).0 x may) opens;
-    }
+    stays-open c.args.node.core desk.saved.value desk.node.core seen
+    (g.D.Disk.may_leave c.args.shelf.disk) c.new-2.ensures.saved
+    (c.args.shelf.settled c.requires.ready).0 ∣ core-found c.args.node seen c.requires.disk ∣₁

@@ -6,12 +6,12 @@ use Rattle.model.specs.View.{kept_view}
 use Rattle.image.specs.Images.{image_of}
 use Rattle.disk.specs.Areas.{Areas}
 use Rattle.cell.specs.Disks.{OpensTo, OpensToEither}
-use Rattle.cell.proofs.Opening.{failed-left, open-stays, settled-left}
+use Rattle.cell.proofs.Opening.{failed-left, stays-open}
 use Rattle.cell.proofs.cell.Cell.save.Goals as goal
 
-pub invariant_of-self-in-Err : goal.invariant_of-self-in-Err
-invariant_of-self-in-Err g c =
-    let cell = c.args.self.now in
+pub invariant_of-self-inside-in-Err : goal.invariant_of-self-inside-in-Err
+invariant_of-self-inside-in-Err g c =
+    let cell = c.self.inside in
     let shelf = c.save.new.self in
     let saved = cell.desk.saved.value in
     let n = cell.desk.node.core in
@@ -44,19 +44,14 @@ invariant_of-self-in-Err g c =
     (⊎_elim (λ is. unchanged (λ d. (let never = sym is ∙ d in absurd cc)))
     (⊎_elim (λ is. unchanged (λ d. (let never = sym is ∙ d in absurd cc))) failed))
     said.others in
-    record { while_open = kept.0; left = kept.1 }
+    (kept.0, (kept.1, tt))
 
-pub invariant_of-self-in-Ok : goal.invariant_of-self-in-Ok
-invariant_of-self-in-Ok g c =
-    let n = c.args.self.now.desk.node.core in
+pub invariant_of-self-inside-in-Ok : goal.invariant_of-self-inside-in-Ok
+invariant_of-self-inside-in-Ok g c =
+    let n = c.self.inside.desk.node.core in
     let shelf = c.save.new.self in
     let desk = c.save-in-Ok.new.self in
-    let seen = g.D.Disk.seen shelf.disk in
     let said = c.in-Ok.ensures in
-    let opens = open-stays (kept_view n) desk.saved.value seen c.save-in-Ok.ensures.saved
-    ∣ (image_of n, said.saved, said.readable.0) ∣₁ in
-    record {
-      while_open = λ _. opens;
-      left = λ x may.
-          settled-left desk.saved.value desk.node.core seen x ((shelf.settled said.ready).0 x may) opens;
-    }
+    stays-open (kept_view n) desk.saved.value desk.node.core (g.D.Disk.seen shelf.disk)
+    (g.D.Disk.may_leave shelf.disk) c.save-in-Ok.ensures.saved (shelf.settled said.ready).0
+    ∣ (image_of n, said.saved, said.readable.0) ∣₁

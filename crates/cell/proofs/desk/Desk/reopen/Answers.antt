@@ -7,7 +7,7 @@ use Rattle.wire.specs.Plays.{Happens}
 use Rattle.node.specs.Keeping.{WholeNode}
 use Rattle.cell.specs.Desks.{AreTaken, IsSavedNode, StandsAt}
 use Rattle.cell.specs.Disks.{is_same_image}
-use Rattle.cell.specs.Events.{found_pair, found_step}
+use Rattle.cell.specs.Events.{found_pair, found_step, reopened_by}
 use Rattle.cell.proofs.Waiting.{taken-none}
 use Rattle.cell.proofs.Found.{found-happens, is-found}
 use Rattle.cell.proofs.desk.Desk.reopen.Goals as goal
@@ -24,6 +24,13 @@ enter_found-requires c = (
       (found-happens (is_same_image c.args.found.core c.args.self.now.saved.value)
       (known c.args.self.now.seat)),
 )
+
+pub returns-clause-known : goal.returns-clause-known
+returns-clause-known c =
+    c.enter_found.ensures.ticked
+    ∙ ap (λ (m : NodeView).
+    reopened_by (is_same_image m c.args.self.now.saved.value) (known c.args.self.now.seat))
+    c.core.ensures.value
 
 pub invariant_of-self : goal.invariant_of-self
 invariant_of-self c =

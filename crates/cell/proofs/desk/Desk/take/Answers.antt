@@ -21,17 +21,23 @@ returns-clause-taken c =
     let box : inbox new c.in_ok-taken.taken.from ≡ inbox s c.args.from =
     λ i. told.0 i * c.take.ensures.same.3 i + c.take.ensures.same.2 i in
     let there : found (inbox new c.in_ok-taken.taken.from) (known new).emptying ≡ Some f =
-    (λ i. found (box i) (told.2.5 i).emptying)
+    (λ i. found (box i) (told.2.5.1 i).emptying)
     ∙ found-here (inbox s c.args.from) f (known s).emptying in
     let bytes : c.deref.result.now ≡ spelling f =
     c.deref.ensures.value ∙ c.clear-bytes.ensures.bytes f there in
+    let cleared = c.clear-bytes.ensures.cleared in
     let same : plain c.in-Ok.frame ≡ f = c.in-Ok.ensures.only f told.2.1 bytes in (
       ap sender same ∙ told.2.2,
       ap receiver same ∙ told.2.3 ∙ s.sits.me_is,
       subst (Arrives (known s)) (sym same) told.2.4,
-      c.clear-bytes.ensures.cleared
-          ∙ (λ i. clears (box i) (told.2.5 i))
-          ∙ ap (λ (g : Plain). emptied (inbox s c.args.from) g (known s)) (sym same),
+      (
+        told.2.5.0,
+        cleared.0,
+        cleared.1
+            ∙ (λ i. clears (box i) cleared.0 (told.2.5.1 i))
+            ∙ ap (λ (g : Plain).
+            emptied (inbox s c.args.from) told.2.5.0 cleared.0 g (known s)) (sym same),
+      ),
     )
 
 pub invariant_of-self-2 : goal.invariant_of-self-2
@@ -39,11 +45,12 @@ invariant_of-self-2 c =
     let desk = c.args.self.now in
     let v = known desk.seat in
     let told = c.in_ok-taken.ensures.taken in
+    let cleared = c.clear-bytes.ensures.cleared in
     let known_is : known c.clear-bytes.new.seat ≡
-    clears (inbox c.take.new.seat c.in_ok-taken.taken.from)
-    (takes_in (inbox desk.seat c.args.from) told.2.0 v) =
-    c.clear-bytes.ensures.cleared
-    ∙ ap (clears (inbox c.take.new.seat c.in_ok-taken.taken.from)) told.2.5 in
+    clears (inbox c.take.new.seat c.in_ok-taken.taken.from) cleared.0
+    (takes_in (inbox desk.seat c.args.from) told.2.5.0 told.2.0 v) =
+    cleared.1
+    ∙ ap (clears (inbox c.take.new.seat c.in_ok-taken.taken.from) cleared.0) told.2.5.1 in
     let pair_is : (known c.clear-bytes.new.seat).pair ≡ v.pair =
     ap (λ (w : Known). w.pair) known_is in
     record {

@@ -1,6 +1,6 @@
 use Rattle.std.proofs.Common.{ap, length, arith}
 use Rattle.disk.specs.Record.{areas_of}
-use Rattle.disk.proofs.Torn.{changed_by_write, set_leaves}
+use Rattle.disk.proofs.Torn.{changed_by_write, set_leaves, set_risk}
 use Rattle.disk.proofs.file.FileDisk.look_again.Goals as goal
 
 pub returns-in-Ok-prepared-clause-change : goal.returns-in-Ok-prepared-clause-change
@@ -19,3 +19,7 @@ returns-in-Ok-prepared-clause-change g c =
 pub returns-in-Ok-prepared-clause-crash : goal.returns-in-Ok-prepared-clause-crash
 returns-in-Ok-prepared-clause-crash g c =
     set_leaves c.args.self.now.memory.state c.set.new.self c.set.ensures.synced c.set.ensures.ranges
+
+pub returns-in-Ok-prepared-clause-risk : goal.returns-in-Ok-prepared-clause-risk
+returns-in-Ok-prepared-clause-risk g c =
+    set_risk c.args.self.now.memory.state c.set.new.self c.set.ensures.synced c.set.ensures.ranges

@@ -1,9 +1,9 @@
-use Rattle.std.proofs.Common.{◌∙◌, ap, subst, length, arith}
+use Rattle.std.proofs.Common.{◌∙◌, ap, subst, sym, length, arith}
 use Rattle.disk.specs.Areas.{Changes, Torn, with_part}
 use Rattle.disk.specs.Record.{areas_of, leaves}
 use Rattle.disk.specs.declared.state.Contents.{Contents}
 use Rattle.disk.specs.declared.state.State.{State}
-use Rattle.disk.proofs.Torn.{changed_by_write, follows_set, set_leaves}
+use Rattle.disk.proofs.Torn.{changed_by_write, follows_set, risk_left, set_leaves, set_reaches}
 use Rattle.disk.proofs.file.FileDiskDisk.write_at.Goals as goal
 
 pub returns-then-is_err-clause-crash : goal.returns-then-is_err-clause-crash
@@ -38,3 +38,15 @@ returns-clause-crash g c =
     noted.crash
     (set_leaves c.risk.new.self.state c.set.new.self c.set.ensures.synced c.set.ensures.ranges)
     change
+
+pub returns-then-is_err-clause-torn_too : goal.returns-then-is_err-clause-torn_too
+returns-then-is_err-clause-torn_too g c is d x left torn =
+    subst (λ (s : State). leaves s x) (sym c.fault-then-is_err.ensures.state)
+    (risk_left c.look_again.new.self.memory.state x
+    (c.look_again.ensures.risk x (c.in_ok-risk.ensures.torn d x left torn)))
+
+pub returns-clause-torn : goal.returns-clause-torn
+returns-clause-torn g c =
+    set_reaches (Changes c.args.area (Torn c.args.at (length c.args.bytes.now)))
+    c.args.self.now.memory.state c.risk.new.self.state c.set.new.self c.set.ensures.synced
+    c.set.ensures.ranges c.in_ok-risk.ensures.torn

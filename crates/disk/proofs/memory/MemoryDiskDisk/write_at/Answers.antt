@@ -1,9 +1,15 @@
-use Rattle.std.proofs.Common.{◌∙◌, ap, length, arith}
+use Rattle.std.proofs.Common.{◌∙◌, ap, length, subst, sym, arith}
 use Rattle.disk.specs.Areas.{Changes, Torn, with_part}
-use Rattle.disk.specs.Record.{areas_of}
+use Rattle.disk.specs.Record.{areas_of, leaves}
 use Rattle.disk.specs.declared.state.Contents.{Contents}
-use Rattle.disk.proofs.Torn.{changed_by_write, follows_set, set_leaves}
+use Rattle.disk.specs.declared.state.State.{State}
+use Rattle.disk.proofs.Torn.{changed_by_write, follows_set, risk_left, set_leaves, set_reaches}
 use Rattle.disk.proofs.memory.MemoryDiskDisk.write_at.Goals as goal
+
+pub returns-then-falters-clause-torn_too : goal.returns-then-falters-clause-torn_too
+returns-then-falters-clause-torn_too c is d x left torn =
+    subst (λ (s : State). leaves s x) (sym c.fault.ensures.state)
+    (risk_left c.risk.new.self.state x (c.in_ok-risk.ensures.torn d x left torn))
 
 pub returns-clause-crash : goal.returns-clause-crash
 returns-clause-crash c =
@@ -25,3 +31,9 @@ returns-clause-crash c =
     let mid = c.risk-2.new.self.state in
     follows_set (Changes c.args.area (Torn c.args.at n)) s mid c.set.new.self noted.crash
     (set_leaves mid c.set.new.self c.set.ensures.synced c.set.ensures.ranges) change
+
+pub returns-clause-torn : goal.returns-clause-torn
+returns-clause-torn c =
+    set_reaches (Changes c.args.area (Torn c.args.at (length c.args.bytes.now)))
+    c.args.self.now.state c.risk-2.new.self.state c.set.new.self c.set.ensures.synced
+    c.set.ensures.ranges c.in_ok-risk-2.ensures.torn

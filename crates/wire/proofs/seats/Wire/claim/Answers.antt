@@ -1,6 +1,8 @@
-use Rattle.std.proofs.Common.{rules, ◌≡◌, ◌+◌, ◌*◌, ◌<◌, refl, sym, ◌∙◌, arith, length, vec_len}
-use Rattle.wire.proofs.Numbers.{box-of, in-words, a-node}
-use Rattle.wire.proofs.Sitting.{room-for, fresh-minds}
+use Rattle.std.proofs.Common.{rules, ◌≡◌, ◌+◌, ◌*◌, ◌<◌, refl, sym, ◌∙◌, subst₂, arith, length, vec_len}
+use Rattle.wire.proofs.Numbers.{box-of, in-words, own-from, a-node}
+use Rattle.wire.specs.Seated.{Sits}
+use Rattle.wire.proofs.Sitting.{fresh-minds, sits-claimed}
+use Rattle.wire.proofs.Room.{room-for}
 use Rattle.wire.proofs.MailPlays.{claims_allowed}
 use Rattle.wire.proofs.seats.Wire.claim.Goals as goal
 
@@ -25,8 +27,24 @@ hold-requires c =
     let to = c.from.result in
     let box = box-of {k = s.nodes} {m = at} s.node to s.nodes s.sits.within to_is refl refl in
     let told = c.compare_exchange-found.ensures.2.0 c.if-found-ne-EMPTY.false in
-    let few = room-for at (s.nodes * s.nodes) s.held.items s.sits.single
-    (s.sits.minded at ∙ fresh-minds at s.seat.me.0 told.3) box.below s.sits.inside in
+    let few = room-for s.node s.nodes at s.held.items s.sits.single
+    (s.sits.minded at ∙ fresh-minds at s.seat.me.0 told.4) s.sits.within
+    (own-from s.node to s.nodes at box) s.sits.own in
     let room = s.room in
     let long : vec_len s.held ≡ length s.held.items = search rules in
     omega (arith, few, room, long)
+
+pub invariant_of-seat-2 : goal.invariant_of-seat-2
+invariant_of-seat-2 c =
+    let s = c.args.seat.now in
+    let to = c.from.result in
+    let at = s.node * s.nodes + to in
+    let to_is : to < s.nodes = search rules in
+    let box = box-of {k = s.nodes} {m = at} s.node to s.nodes s.sits.within to_is refl refl in
+    let told = c.compare_exchange-found.ensures.2.0 c.if-found-ne-EMPTY.false in
+    record {
+      sits = subst₂ (Sits (λ v. v.items) s.node s.nodes) (sym c.hold.ensures.items)
+          (λ i. (sym told.2 i, sym told.3 i))
+          (sits-claimed at told.0 told.1 s.sits told.4 (own-from s.node to s.nodes at box));
+      room = search rules;
+    }

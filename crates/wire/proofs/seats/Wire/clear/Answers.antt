@@ -47,10 +47,10 @@ invariant_of-seat c =
       sits = subst₂ (Sits (λ v. v.items) b.node b.nodes)
           (ap (drop 1) sits.order ∙ sym c.remove.ensures.items)
           (λ i. (
-            (sym (told.0 ∙ ap (λ m. clears at m.0) now.3)) i,
+            (sym (told.0.1 ∙ ap (λ m. clears at told.0.0 m.0) now.3)) i,
             (sym (told.1 ∙ ap (λ m. rest m.1) now.3)) i,
           ))
-          (sits-cleared at front.0 sits
+          (sits-cleared at told.0.0 front.0 sits
           (sym (ap (λ m. has at m.0.filling) now.3) ∙ told.2));
       room = search rules;
     }

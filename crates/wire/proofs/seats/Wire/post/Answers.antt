@@ -49,10 +49,10 @@ invariant_of-seat c =
       sits = subst₂ (Sits (λ v. v.items) b.node b.nodes)
           (ap (drop 1) sits.order ∙ sym c.remove.ensures.items)
           (λ i. (
-            (sym (told.1.0 ∙ ap (λ m. posts at told.0 m.0) now.3)) i,
+            (sym (told.1.0.1 ∙ ap (λ m. posts at told.1.0.0 told.0 m.0) now.3)) i,
             (sym (told.1.1 ∙ ap (λ m. rest m.1) now.3)) i,
           ))
-          (sits-posted at told.0 front.0 sits
+          (sits-posted at told.1.0.0 told.0 front.0 sits
           (sym (ap (λ m. found at m.0.emptying) now.3) ∙ told.1.2));
       room = search rules;
     }

@@ -1,8 +1,9 @@
 use Rattle.std.proofs.Common.{rules, ◌≡◌, ℕ, ◌+◌, ◌*◌, ◌/◌, ◌<◌, refl, sym, ap, ◌∙◌, subst₂, arith, length, vec_len}
 use Rattle.wire.specs.Views.{takes_in}
 use Rattle.wire.specs.Seated.{Sits}
-use Rattle.wire.proofs.Numbers.{box-of, in-words, a-node}
-use Rattle.wire.proofs.Sitting.{room-for, fresh-minds, sits-took}
+use Rattle.wire.proofs.Numbers.{box-of, in-words, own-to, a-node}
+use Rattle.wire.proofs.Sitting.{fresh-minds, sits-took}
+use Rattle.wire.proofs.Room.{room-for}
 use Rattle.wire.proofs.MailPlays.{takes_allowed}
 use Rattle.wire.proofs.seats.Wire.take.Goals as goal
 
@@ -27,8 +28,9 @@ hold-requires c =
     let from = c.from.result in
     let box = box-of {k = s.nodes} {m = at} from s.node s.nodes from_is s.sits.within refl refl in
     let told = c.compare_exchange-found.ensures.2.0 c.if-found-ne-FULL.false in
-    let few = room-for at (s.nodes * s.nodes) s.held.items s.sits.single
-    (s.sits.minded at ∙ fresh-minds at s.seat.me.0 told.1.4.3) box.below s.sits.inside in
+    let few = room-for s.node s.nodes at s.held.items s.sits.single
+    (s.sits.minded at ∙ fresh-minds at s.seat.me.0 told.1.4.3) s.sits.within
+    (own-to from s.node s.nodes at box) s.sits.own in
     let room = s.room in
     let long : vec_len s.held ≡ length s.held.items = search rules in
     omega (arith, few, room, long)
@@ -43,8 +45,9 @@ invariant_of-seat-2 c =
     let told = c.compare_exchange-found.ensures.2.0 c.if-found-ne-FULL.false in
     record {
       sits = subst₂ (Sits (λ v. v.items) s.node s.nodes) (sym c.hold.ensures.items)
-          (λ i. (sym told.1.0 i, sym told.1.4.1 i))
-          (sits-took at told.1.4.0 told.0 s.sits told.1.4.3 box.below told.1.4.2.1);
+          (λ i. (sym told.1.0.1 i, sym told.1.4.1 i))
+          (sits-took at told.1.0.0 told.1.4.0 told.0 s.sits told.1.4.3
+          (own-to from s.node s.nodes at box) told.1.4.2.1);
       room = search rules;
     }
 
@@ -69,6 +72,10 @@ returns-clause-taken c =
         told.1.1 ∙ ap (λ (k : ℕ). at / k) (sym s.sits.nodes_is) ∙ sym box.sender ∙ same,
         told.1.2 ∙ sym s.sits.me_is,
         told.1.3,
-        told.1.0 ∙ ap (λ (k : ℕ). takes_in (k * s.nodes + s.node) told.0 s.seat.me.0) same,
+        (
+          told.1.0.0,
+          told.1.0.1
+              ∙ ap (λ (k : ℕ). takes_in (k * s.nodes + s.node) told.1.0.0 told.0 s.seat.me.0) same,
+        ),
       ),
     )

@@ -4,13 +4,15 @@ use Rattle.disk.specs.declared.state.State.{State}
 use Rattle.cell.specs.Disks.{OpensTo}
 use Rattle.cell.proofs.cell.saving.Cell+MemoryDisk.fail_from.Goals as goal
 
-pub invariant_of-self : goal.invariant_of-self
-invariant_of-self c =
-    let cell = c.args.self.now in
-    let state = c.fail_from.ensures.state in
-    record {
-      while_open = λ ready.
+pub invariant_of-self-inside : goal.invariant_of-self-inside
+invariant_of-self-inside c =
+    let cell = c.self.inside in
+    let state = c.fail_from.ensures.state in (
+      λ ready.
           subst (λ (s : State). ∥ OpensTo cell.desk.saved.value (areas_of s.held) ∥₁) (sym state)
-          (cell.while_open (sym c.fail_from.ensures.ready ∙ ready));
-      left = λ x may. cell.left x (subst (λ (s : State). leaves s x) state may);
-    }
+          (cell.while_open (sym c.fail_from.ensures.ready ∙ ready)),
+      (
+        λ x may. cell.left x (subst (λ (s : State). leaves s x) state may),
+        tt,
+      ),
+    )

@@ -1,0 +1,67 @@
+-- A cell as its callers see it: what it is, what it keeps between two calls, and what a call leaves
+-- as it was.
+use Rattle.std.specs.Prelude.{◌≡◌, ℕ, Bool, true, false, List, [], IsTrue, replicate}
+use Rattle.model.specs.View.{NodeView}
+use Rattle.node.specs.Keeping.{WholeNode}
+use Rattle.trace.specs.declared.trace.Line.{Line}
+use Rattle.disk.specs.Areas.{Areas}
+use Rattle.wire.specs.Readers.{known, seat_node, IsSame}
+use Rattle.wire.specs.declared.seats.NodeSeat.{NodeSeat}
+use Rattle.cell.specs.Desks.{AreTaken, IsSavedNode, IsUnsaved, StandsAt}
+use Rattle.cell.specs.Disks.{HoldsSaved, OpensToEither}
+use Rattle.cell.specs.Events.{IsMarked}
+
+pub record CellView (D : Type 0) : Type 0 where
+  -- the node as it stands, with the messages that it keeps until their turn
+  pub node : WholeNode
+  -- the node that was saved last
+  pub saved : NodeView
+  pub seat : NodeSeat
+  -- for each node the place in the window to it whose frame is sent next
+  pub places : List ℕ
+  -- whether an event came since the last save or reopening
+  pub unsaved : Bool
+  pub disk : D
+  pub is_open : Bool
+  -- the last calls and what came of them, the oldest first
+  pub trace : List Line
+
+-- a cell that was just made
+abbrev pub new_cell : {D : Type 0} → WholeNode → NodeSeat → D → CellView D
+new_cell node seat disk = record {
+  node = node;
+  saved = node.core;
+  seat = seat;
+  places = replicate 16 0;
+  unsaved = false;
+  disk = disk;
+  is_open = true;
+  trace = [];
+}
+
+abbrev pub IsNew : {D : Type 0} → CellView D → Type 0
+IsNew c = c ≡ new_cell c.node c.seat c.disk
+
+-- What each cell keeps between two calls. The node shows the state in which its seat's events leave
+-- it, and the one that was saved last shows the state that they leave saved. While the cell is open,
+-- the disk opens to that one, also after a crash; and in any case to that one or to the node as it
+-- stands.
+pub record IsKept {D : Type 0} (may_leave : D → Areas → Type 0) (c : CellView D) : Type 0 where
+  pub stands : StandsAt (seat_node c.seat) c.seat.nodes (known c.seat).pair c.node.core
+  pub was : IsSavedNode (seat_node c.seat) c.seat.nodes (known c.seat).pair.saved c.saved
+  pub unsaved : IsUnsaved c.unsaved (known c.seat).pair
+  pub taken : AreTaken (known c.seat).taken c.node.early
+  pub while_open : IsTrue c.is_open → HoldsSaved (may_leave c.disk) c.saved
+  pub left : (x : Areas) → may_leave c.disk x → ∥ OpensToEither c.saved c.node.core x ∥₁
+
+-- What a call leaves that gives the node an event or a frame: the seat is the same one, and the mark
+-- tells whether an event came; what was saved, the disk and the places in the windows stay.
+pub record GoesOn {D : Type 0} (old new : CellView D) : Type 0 where
+  pub same : IsSame old.seat new.seat
+  pub marked : IsMarked (known old.seat) (known new.seat) old.unsaved new.unsaved
+  pub stays : new ≡ record old {
+    node = new.node;
+    seat = new.seat;
+    unsaved = new.unsaved;
+    trace = new.trace;
+  }

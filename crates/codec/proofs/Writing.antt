@@ -1,0 +1,103 @@
+-- One text after another.
+use Rattle.std.proofs.Common.{◌≡◌, ℕ, ◌+◌, ◌<◌, List, [], ◌∷◌, ◌++◌, length, take, get_or, refl, sym, ap}
+use Rattle.std.proofs.Common.{subst, ◌∙◌, append_assoc}
+use Rattle.std.specs.Prelude.{⊤}
+use Rattle.std.specs.List.{flat_map, AllByRecursion}
+use Rattle.std.proofs.lemmas.List.{append-nil, take_more}
+use Rattle.std.proofs.lemmas.List.Concat.{flat_map-cons}
+use Rattle.std.proofs.lemmas.Grind.{flat_map-append}
+use Rattle.codec.specs.declared.writer.Writer.{Writer}
+use Rattle.codec.specs.Writing.{Says, Writes}
+
+pub both : {a b c : Writer} {x y : List ℕ} {P Q : Type 0} → Writes a b x P → Writes b c y Q
+    → Writes a c (x ++ y) (P × Q)
+both {c = c} {x = x} {y = y} first second = record {
+  limit = second.limit ∙ first.limit;
+  back = λ is. first.back (second.back is);
+  more = λ before is.
+      subst (Says c) (append_assoc before x y) (second.more (before ++ x) (first.more before is));
+  known = λ is. (first.known (second.back is), second.known is);
+}
+
+-- no text
+pub unwritten : (a : Writer) → Writes a a [] ⊤
+unwritten a = record {
+  limit = refl;
+  back = λ is. is;
+  more = λ before is. subst (Says a) (sym (append-nil before)) is;
+  known = λ is. tt;
+}
+
+-- a text that can't be within the limit
+pub beyond : {a b : Writer} {x : List ℕ} {P : Type 0} → Writes a b x ⊥ → Writes a b x P
+beyond w = record {
+  limit = w.limit;
+  back = w.back;
+  more = w.more;
+  known = λ is. absurd (w.known is);
+}
+
+-- ---- one of a list more
+
+all_append : {A : Type 0} (P : A → Type 0) (xs ys : List A) → AllByRecursion P xs
+    → AllByRecursion P ys → AllByRecursion P (xs ++ ys)
+all_append P [] ys first second = second
+all_append P (x ∷ xs) ys first second = (first.0, all_append P xs ys first.1 second)
+
+-- the elements of ys after those of xs
+pub written_also : {A : Type 0} (spell : A → List ℕ) (P : A → Type 0) (xs ys : List A)
+    (a b c : Writer) → Writes a b (flat_map spell xs) (AllByRecursion P xs)
+    → Writes b c (flat_map spell ys) (AllByRecursion P ys)
+    → Writes a c (flat_map spell (xs ++ ys)) (AllByRecursion P (xs ++ ys))
+written_also spell P xs ys a b c first second =
+    let w = both first second in
+    record {
+      limit = w.limit;
+      back = w.back;
+      more = λ before is.
+          subst (λ (t : List ℕ). Says c (before ++ t)) (sym (flat_map-append spell xs ys))
+          (w.more before is);
+      known = λ is. let k = w.known is in all_append P xs ys k.0 k.1;
+    }
+
+-- one element alone
+pub alone : {A : Type 0} (spell : A → List ℕ) (P : A → Type 0) (x : A) (a b : Writer)
+    → Writes a b (spell x) (P x)
+    → Writes a b (flat_map spell (x ∷ [])) (AllByRecursion P (x ∷ []))
+alone spell P x a b w = record {
+  limit = w.limit;
+  back = w.back;
+  more = λ before has.
+      subst (λ (t : List ℕ). Says b (before ++ t))
+      (sym (flat_map-cons spell x [] ∙ append-nil (spell x))) (w.more before has);
+  known = λ has. (w.known has, tt);
+}
+
+-- the element of the next number
+pub written_more : {A : Type 0} (spell : A → List ℕ) (P : A → Type 0) (xs : List A) (i : ℕ) (x : A)
+    → i < length xs → x ≡ get_or xs i x → (a b c : Writer)
+    → Writes a b (flat_map spell (take i xs)) (AllByRecursion P (take i xs))
+    → Writes b c (spell x) (P x)
+    → Writes a c (flat_map spell (take (i + 1) xs)) (AllByRecursion P (take (i + 1) xs))
+written_more {A = A} spell P xs i x within is a b c one two =
+    let taken : take i xs ++ x ∷ [] ≡ take (i + 1) xs =
+    sym (take_more xs i x within ∙ ap (λ (y : A). take i xs ++ y ∷ []) (sym is)) in
+    subst (λ (ys : List A). Writes a c (flat_map spell ys) (AllByRecursion P ys)) taken
+    (written_also spell P (take i xs) (x ∷ []) a b c one (alone spell P x b c two))
+
+-- a tag, and what follows it
+pub behind : {a b c : Writer} {n : ℕ} {y : List ℕ} {P Q : Type 0} → Writes a b (n ∷ []) P
+    → Writes b c y Q → Writes a c (n ∷ y) Q
+behind first second =
+    let w = both first second in
+    record {
+      limit = w.limit;
+      back = w.back;
+      more = w.more;
+      known = λ is. let k = w.known is in k.1;
+    }
+
+-- a byte, and what follows it
+pub first : {a b c : Writer} {n : ℕ} {y : List ℕ} {P Q : Type 0} → Writes a b (n ∷ []) P
+    → Writes b c y Q → Writes a c (n ∷ y) (P × Q)
+first one others = both one others

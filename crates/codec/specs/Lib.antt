@@ -1,0 +1,4 @@
+pub mod Formats
+pub mod Reading
+pub mod Writing
+pub mod Lengths

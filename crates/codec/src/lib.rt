@@ -1,0 +1,13 @@
+//! Values as bytes: each kind of value has a format, which says how it is spelled, and no spelling
+//! of a format begins another.
+//!
+//! `specs/Formats.antt` has the formats of numbers, and of what is made of other values: one after
+//! another, one that may be missing, one of several behind a tag, a list. [`reading`] takes values
+//! from the front of bytes, and a [`Writer`] is given them one after another, up to a limit. So a
+//! record is described by one line, and read and written by one function each.
+#![tactic(auto)]
+
+pub mod reading;
+mod writer;
+
+pub use writer::Writer;

@@ -1,0 +1,153 @@
+ghost use Rattle.std.specs.Prelude.{
+  ◌≡◌,
+  ◌⊎◌,
+  ◌<◌,
+  ◌≤◌,
+  ◌^◌,
+  [],
+  List,
+  ℕ,
+  length,
+  ⊤,
+  true,
+  false,
+  OnOk,
+  IfOk,
+  IfErr,
+};
+ghost use Rattle.codec.specs.Formats.{byte, number2, number4, number8, signed8};
+ghost use Rattle.codec.specs.Writing.{Says, IsOpen, Writes, Puts};
+ghost use Rattle.ids.specs.declared.refusal.Refusal.TheVariants.{Memory, ImageTooLarge};
+
+use ids::Refusal;
+use std::alloc::Global;
+
+/// Bytes that are written one after another, up to a limit. Once they would be more, or memory is
+/// refused, none is kept any more, and [`finish`](Writer::finish) says so: no call before it fails.
+#[derive(Drop)]
+pub struct Writer {
+    bytes: Vec<u8>,
+    limit: u32,
+    // How many bytes may still come. None once there were too many.
+    room: Option<usize>,
+    // Whether the bytes are all that came.
+    kept: bool,
+}
+
+impl Writer {
+    /// A writer of so many bytes at most. It takes memory as they come, and for the first of them
+    /// at once.
+    pub fn new(alloc: Global, limit: u32, first: usize) -> Writer
+        ensures limit { result.limit ≡ limit }
+        ensures empty { Says result [] }
+    {
+        let (bytes, kept) = match Vec::with_capacity(alloc, first) {
+            Ok(bytes) => (bytes, true),
+            Err(_) => (Vec::new(alloc), false),
+        };
+        Writer {
+            bytes,
+            limit,
+            room: Some(limit as usize),
+            kept,
+        }
+    }
+
+    /// Appends the bytes.
+    pub fn append(&mut self, part: &[u8])
+        ensures { Writes self.old self.new part.now ⊤ }
+    {
+        match self.room {
+            None => {}
+            Some(room) if part.len() <= room => {
+                self.room = Some(room - part.len());
+                self.kept = self.kept && self.bytes.extend_from_slice(part).is_ok();
+            }
+            Some(_) => self.room = None,
+        }
+    }
+
+    /// Whether so many bytes are beyond the limit. If so, it is as if a text of so many at least had
+    /// come.
+    pub fn is_over(&mut self, least: usize) -> bool
+        ensures count { result ≡ false → least < 2 ^ 32 }
+        ensures same { result ≡ false → self.new ≡ self.old }
+        ensures over { result ≡ true → (text : List ℕ) → least ≤ length text
+            → Writes self.old self.new text ⊥ }
+    {
+        if least <= self.limit as usize {
+            return false;
+        }
+        self.room = None;
+        true
+    }
+
+    /// The bytes that were written.
+    ///
+    /// # Errors
+    ///
+    /// [`Refusal::ImageTooLarge`] where they are more than the limit. Where they are not,
+    /// [`Refusal::Memory`] where memory was refused.
+    pub fn finish(self) -> Result<Vec<u8>, Refusal>
+        ensures within { OnOk result (IsOpen self) }
+        ensures written { (text : List ℕ) → Says self text → IfOk result (λ v.
+            (v.items ≡ text) × (length text ≤ self.limit)) }
+        ensures refused { (text : List ℕ) → Says self text → IfErr result (λ e.
+            ((e ≡ Memory) × (length text ≤ self.limit))
+            ⊎ ((e ≡ ImageTooLarge) × (self.limit < length text))) }
+    {
+        let Writer {
+            bytes,
+            room,
+            kept,
+            ..
+        } = self;
+        if room.is_none() {
+            return Err(Refusal::ImageTooLarge);
+        }
+        if kept {
+            Ok(bytes)
+        } else {
+            Err(Refusal::Memory)
+        }
+    }
+
+    /// Appends a byte.
+    pub fn u8(&mut self, number: u8)
+        ensures { Puts byte self.old self.new number }
+    {
+        self.append(&[number]);
+    }
+
+    /// Appends a number in two bytes.
+    #[tactic(auto, unfolding(crate::specs::Formats::number2))]
+    pub fn u16(&mut self, number: u16)
+        ensures { Puts number2 self.old self.new number }
+    {
+        self.append(&number.to_be_bytes());
+    }
+
+    /// Appends a number in four bytes.
+    #[tactic(auto, unfolding(crate::specs::Formats::number4))]
+    pub fn u32(&mut self, number: u32)
+        ensures { Puts number4 self.old self.new number }
+    {
+        self.append(&number.to_be_bytes());
+    }
+
+    /// Appends a number in eight bytes.
+    #[tactic(auto, unfolding(crate::specs::Formats::number8))]
+    pub fn u64(&mut self, number: u64)
+        ensures { Puts number8 self.old self.new number }
+    {
+        self.append(&number.to_be_bytes());
+    }
+
+    /// Appends a number in eight bytes, in two's complement.
+    #[tactic(auto, unfolding(crate::specs::Formats::signed8))]
+    pub fn i64(&mut self, number: i64)
+        ensures { Puts signed8 self.old self.new number }
+    {
+        self.append(&number.to_be_bytes());
+    }
+}
