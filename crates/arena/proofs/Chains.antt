@@ -20,7 +20,8 @@ use Rattle.arena.specs.declared.Slot.{Slot}
 use Rattle.arena.specs.declared.Slot.TheVariants as slot
 use Rattle.arena.specs.declared.entry.Entry.{Entry}
 use Rattle.arena.specs.declared.entry.Entry.TheVariants.{Free, Occupied, Retired}
-use Rattle.arena.specs.declared.TheConstants.{GREATEST_GENERATION, FIRST_GENERATION}
+use Rattle.ids.specs.declared.limits.TheConstants.{GREATEST_GENERATION}
+use Rattle.arena.specs.declared.TheConstants.{FIRST_GENERATION}
 use Rattle.arena.proofs.Sound.{IsTaken, free_within, IsSound-fill, IsSound-vacate, IsSound-set}
 
 -- what a search of the list finds is in it

@@ -8,7 +8,8 @@ use Rattle.arena.specs.declared.Slot.TheVariants.{Free, Occupied, Retired}
 use Rattle.arena.specs.declared.Key.{Key}
 use Rattle.arena.specs.declared.Fault.{Fault}
 use Rattle.arena.specs.declared.Fault.TheVariants.{Full, Memory, Shape}
-use Rattle.arena.specs.declared.TheConstants.{GREATEST_GENERATION, FIRST_GENERATION}
+use Rattle.ids.specs.declared.limits.TheConstants.{GREATEST_GENERATION}
+use Rattle.arena.specs.declared.TheConstants.{FIRST_GENERATION}
 
 -- the slots that have been used, the free ones in order of use, and how many slots there may be
 pub record Arena (T : Type 0) : Type 0 where

@@ -6,7 +6,8 @@ ghost use Rattle.arena.specs.Arena.{slot_read};
 ghost use Rattle.arena.specs.Entry.{slot_of, held_by, next_of, occupied_by};
 ghost use Rattle.arena.specs.Made.{unlinked_of, is_unlinked, linked_to};
 
-use crate::{Generation, Slot};
+use crate::Slot;
+use ids::Generation;
 use std::mem;
 
 /// A slot: as [`crate::Slot`], but a free one also names the free slot that is used after it.

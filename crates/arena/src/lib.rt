@@ -24,15 +24,9 @@ use crate::entry::Entry;
 pub use crate::free::FreeSlots;
 use crate::made::Filled;
 use crate::store::Store;
+use ids::{GREATEST_GENERATION, Generation};
 use std::alloc::Global;
 use std::marker::Model;
-
-/// Counts the values that a slot has had, from [`FIRST_GENERATION`] on.
-pub type Generation = u32;
-
-/// The greatest generation. A slot whose value of this generation is removed is retired: it is
-/// never used again.
-pub const GREATEST_GENERATION: Generation = 4_294_967_295;
 
 /// The generation of the first value of a slot.
 pub const FIRST_GENERATION: Generation = 1;

@@ -4,7 +4,7 @@ use Rattle.std.specs.List.{AllByRecursion}
 use Rattle.std.specs.Option.{option_to_list}
 use Rattle.std.proofs.Math.Seq.{take-suc}
 use Rattle.std.proofs.lemmas.List.{length-map}
-use Rattle.ids.specs.declared.limits.TheConstants.{GREATEST_NODES, GREATEST_NUMBER}
+use Rattle.ids.specs.declared.limits.TheConstants.{GREATEST_NODES, GREATEST_NUMBER, GREATEST_SENT}
 use Rattle.ids.specs.declared.names.Ref.{Ref}
 use Rattle.msg.specs.declared.body.Message.{Message}
 use Rattle.model.specs.Shading.{filled, unasked, mark_for, marks_for}
@@ -52,7 +52,7 @@ all-asked {was = was} {links = links} before new cycle keys same a =
 pub few-asked : {asked : List Ref} {cycle : ℕ} {was links : LinksView} (own : ℕ)
     (before rs : List Ref) → AllByRecursion (λ (r : Ref). r.node < length was.links) rs
     → IsLinks links → IsAsked before (unasked own before rs) cycle was asked links
-    → length was.links ≤ GREATEST_NODES → length asked ≤ length before + 2 ^ 52
+    → length was.links ≤ GREATEST_NODES → length asked ≤ length before + GREATEST_SENT
 few-asked {asked = asked} {cycle = cycle} {was = was} own before rs nodes sound done few =
     let new : List Ref = unasked own before rs in
     let ms : List (ℕ × Message) = marks_for cycle new in

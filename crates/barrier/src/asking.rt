@@ -1,6 +1,6 @@
 ghost use Rattle.std.specs.Prelude.{◌≡◌, ℕ, List, ◌++◌, ◌+◌, ◌<◌, ◌≤◌, ◌^◌, length, take, option_to_list, IfOk, IfErr, OnOk, OnErr};
 ghost use Rattle.std.specs.List.{AllByRecursion};
-ghost use Rattle.ids.specs.declared.limits.TheConstants.{GREATEST_NODES};
+ghost use Rattle.ids.specs.declared.limits.TheConstants.{GREATEST_NODES, GREATEST_SENT};
 ghost use Rattle.ids.specs.declared.names.Ref.{Ref as Reference};
 ghost use Rattle.ids.specs.declared.refusal.Refusal.TheVariants.{Memory};
 ghost use Rattle.model.specs.Shading.{filled, unasked, marks_for};
@@ -32,7 +32,7 @@ pub fn ask(
     ensures done { let new = unasked own asked.old.keys (filled references.now) in
         OnOk result (IsAsked asked.old.keys new cycle links.old asked.new.keys links.new) }
     ensures few { length links.old.links ≤ GREATEST_NODES →
-        OnOk result (length asked.new.keys ≤ length asked.old.keys + 2 ^ 52) }
+        OnOk result (length asked.new.keys ≤ length asked.old.keys + GREATEST_SENT) }
     ensures refused { let new = unasked own asked.old.keys (filled references.now) in
         IfErr result (IsRefused links.old (marks_for cycle new)) }
     ensures unchanged { OnErr result

@@ -1,6 +1,6 @@
 ghost use Rattle.std.specs.Prelude.{◌≡◌, [], ◌<◌, ◌≤◌, ◌^◌, length, IfOk, IfErr, OnOk, OnErr};
 ghost use Rattle.std.specs.List.{AllByRecursion};
-ghost use Rattle.ids.specs.declared.limits.TheConstants.{GREATEST_NODES};
+ghost use Rattle.ids.specs.declared.limits.TheConstants.{GREATEST_NODES, GREATEST_SENT};
 ghost use Rattle.model.specs.Shading.{filled, roots, unasked, marks_for};
 ghost use Rattle.link.specs.Links.{IsLinks};
 ghost use Rattle.barrier.specs.Asked.{IsAsked, IsRefused};
@@ -32,7 +32,7 @@ pub fn ask_for_roots(
     ensures done { let new = unasked own [] (filled (roots heap.now.heap)) in
         IfOk result (λ asked. IsAsked [] new cycle links.old asked.keys links.new) }
     ensures few { length links.old.links ≤ GREATEST_NODES →
-        IfOk result (λ asked. length asked.keys ≤ 2 ^ 52) }
+        IfOk result (λ asked. length asked.keys ≤ GREATEST_SENT) }
     ensures refused { let new = unasked own [] (filled (roots heap.now.heap)) in
         IfErr result (IsRefused links.old (marks_for cycle new)) }
     ensures unchanged { OnErr result (links.new ≡ links.old) }

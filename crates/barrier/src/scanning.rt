@@ -1,6 +1,6 @@
 ghost use Rattle.std.specs.Prelude.{◌≡◌, false, ◌+◌, ◌<◌, ◌≤◌, ◌^◌, length, IfOk, IfErr, OnOk, OnErr};
 ghost use Rattle.std.specs.List.{AllByRecursion};
-ghost use Rattle.ids.specs.declared.limits.TheConstants.{GREATEST_NODES};
+ghost use Rattle.ids.specs.declared.limits.TheConstants.{GREATEST_COUNTED, GREATEST_NODES};
 ghost use Rattle.model.specs.State.{LocalState, slot_at};
 ghost use Rattle.model.specs.Shading.{filled, is_calm, last_grey};
 ghost use Rattle.model.specs.Collecting.{places_in, scan, scanned_reference};
@@ -38,7 +38,7 @@ pub fn scan(
     requires nodes { AllByRecursion (λ r. r.node < length links.old.links)
         (filled (places_in (slot_at heap.old.heap (last_grey heap.old.heap)))) }
     requires few { length links.old.links ≤ GREATEST_NODES }
-    requires small { IsBounded (2 ^ 53) ring.old }
+    requires small { IsBounded GREATEST_COUNTED ring.old }
     ensures scanned { (p : LocalState) → IsAt own cycle ended p →
         IfOk result (λ r. r ≡ scanned_reference
         (part_of p heap.old.heap asked.old.keys ring.old)) }

@@ -1,6 +1,6 @@
 ghost use Rattle.std.specs.Prelude.{◌≡◌, [], cond, ◌==◌, ◌+◌, ◌<◌, ◌≤◌, ◌^◌, length, IfErr, OnOk, OnErr};
 ghost use Rattle.std.specs.List.{AllByRecursion};
-ghost use Rattle.ids.specs.declared.limits.TheConstants.{GREATEST_NODES};
+ghost use Rattle.ids.specs.declared.limits.TheConstants.{GREATEST_COUNTED, GREATEST_NODES};
 ghost use Rattle.model.specs.State.{LocalState};
 ghost use Rattle.model.specs.Shading.{filled, shade_all};
 ghost use Rattle.link.specs.Links.{IsLinks};
@@ -35,7 +35,7 @@ pub fn shade_all(
     requires nodes { AllByRecursion (λ r. r.node < length links.old.links)
         (filled references.now) }
     requires few { length links.old.links ≤ GREATEST_NODES }
-    requires small { IsBounded (2 ^ 53) ring.old }
+    requires small { IsBounded GREATEST_COUNTED ring.old }
     ensures done { (p : LocalState) → IsAt own cycle ended p →
         let w = shade_all (work_of p heap.old.heap asked.old.keys ring.old)
         (filled references.now) in

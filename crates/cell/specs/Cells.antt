@@ -1,6 +1,7 @@
 -- A cell as its callers see it: what it is, what it keeps between two calls, and what a call leaves
 -- as it was.
 use Rattle.std.specs.Prelude.{◌≡◌, ℕ, Bool, true, false, List, [], IsTrue, replicate}
+use Rattle.ids.specs.declared.limits.TheConstants.{GREATEST_NODES}
 use Rattle.model.specs.View.{NodeView}
 use Rattle.node.specs.Keeping.{WholeNode}
 use Rattle.trace.specs.declared.trace.Line.{Line}
@@ -32,7 +33,7 @@ new_cell node seat disk = record {
   node = node;
   saved = node.core;
   seat = seat;
-  places = replicate 16 0;
+  places = replicate GREATEST_NODES 0;
   unsaved = false;
   disk = disk;
   is_open = true;

@@ -3,7 +3,7 @@ ghost use Rattle.std.specs.Prelude.{◌≡◌};
 ghost use Rattle.wire.specs.Readers.{known};
 ghost use Rattle.cell.specs.Desks.{AreTaken, IsSeatAt, IsSavedNode, IsUnsaved, StandsAt};
 
-use ids::Cycle;
+use ids::{Cycle, GREATEST_NODES};
 use node::{Core, Node};
 use std::snapshot::Snapshot;
 use wire::NodeSeat;
@@ -20,7 +20,7 @@ pub(crate) struct Desk {
     pub(crate) ended: Cycle,
     pub(crate) seat: NodeSeat,
     // For each node the place in the window to it whose frame is sent next.
-    pub(crate) places: [u8; 16],
+    pub(crate) places: [u8; GREATEST_NODES as usize],
     // Whether an event came since the last save or reopening.
     pub(crate) is_unsaved: bool,
     ghost at: { IsSeatAt own nodes seat },

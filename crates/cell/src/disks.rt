@@ -1,5 +1,6 @@
 // What a disk does for the node at a desk.
 ghost use Rattle.std.specs.Prelude.{◌≡◌, false, replicate};
+ghost use Rattle.ids.specs.declared.limits.TheConstants.{GREATEST_NODES};
 ghost use Rattle.model.specs.View.{kept_view};
 ghost use Rattle.node.specs.Keeping.{alone, kept_whole};
 ghost use Rattle.image.specs.Images.{image_of};
@@ -12,7 +13,7 @@ ghost use Rattle.model.specs.declared.step.Step.TheVariants as step;
 
 use crate::desk::Desk;
 use crate::entering::{enter_found, enter_save};
-use ids::Cycle;
+use ids::{Cycle, GREATEST_NODES};
 use node::Node;
 use std::snapshot::Snapshot;
 use wire::{NodeSeat, Wire};
@@ -35,7 +36,7 @@ impl Desk {
         ensures node { result.node ≡ node }
         ensures seat { result.seat ≡ seat }
         ensures saved { result.saved.value ≡ node.core }
-        ensures places { result.places ≡ replicate 16 0 }
+        ensures places { result.places ≡ replicate GREATEST_NODES 0 }
         ensures unsaved { result.is_unsaved ≡ false }
     {
         let state = node.state();
@@ -46,7 +47,7 @@ impl Desk {
             ended: ended_by(&node),
             node,
             seat,
-            places: [0; 16],
+            places: [0; GREATEST_NODES as usize],
             is_unsaved: false,
         }
     }
@@ -87,14 +88,14 @@ impl Desk {
             (known self.old.seat) (known self.new.seat) }
         ensures node { self.new.node ≡ found }
         ensures saved { self.new.saved.value ≡ found.core }
-        ensures places { self.new.places ≡ replicate 16 0 }
+        ensures places { self.new.places ≡ replicate GREATEST_NODES 0 }
         ensures unsaved { self.new.is_unsaved ≡ false }
     {
         enter_found(wire, &mut self.seat, found.core(), &self.saved);
         self.saved = Snapshot::of(found.core());
         self.ended = ended_by(&found);
         self.node = found;
-        self.places = [0; 16];
+        self.places = [0; GREATEST_NODES as usize];
         self.is_unsaved = false;
     }
 }

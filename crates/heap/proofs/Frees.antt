@@ -6,7 +6,7 @@ use Rattle.std.proofs.Math.ListN.{get_or-map}
 use Rattle.std.proofs.Math.Nat.{min-eq_left, min-eq_right}
 use Rattle.arena.specs.Arena.{Arena, key_of, value_of, freed, retired, without, removed}
 use Rattle.arena.specs.Arena as arena
-use Rattle.arena.specs.declared.TheConstants.{GREATEST_GENERATION}
+use Rattle.ids.specs.declared.limits.TheConstants.{GREATEST_GENERATION}
 use Rattle.arena.specs.declared.Key.{Key}
 use Rattle.arena.specs.declared.Slot.{Slot}
 use Rattle.arena.specs.declared.Slot.TheVariants.{Free, Occupied, Retired}

@@ -3,8 +3,8 @@
 use Rattle.std.proofs.Common.{◌≡◌, ℕ, zero, suc, ◌+◌, ◌<◌, ◌≤◌, ◌==◌, true, cond, List, [], ◌∷◌, ◌++◌, length, length-set, length-append, get_or, set, option_to_list, sym, subst, ⊎_elim, arith, le_refl, le_trans, ltb, ltb-true}
 use Rattle.std.proofs.lemmas.Bool.{cases_Bool, cond_both}
 use Rattle.std.proofs.lemmas.List.{get_or_append_left}
+use Rattle.ids.specs.declared.limits.TheConstants.{GREATEST_GENERATION}
 use Rattle.ids.specs.declared.names.Ref.{Ref}
-use Rattle.model.specs.Collecting.{greatest_generation}
 use Rattle.msg.specs.declared.body.Body.{Body}
 use Rattle.msg.specs.declared.body.Body.TheVariants as body
 use Rattle.model.specs.declared.event.Event.{Event}
@@ -135,7 +135,7 @@ later-object (j ∷ js) slots o f k generation used past =
 
 past-vacated : (g generation : ℕ) → generation ≤ g → PastSlot (vacated_slot g) generation
 past-vacated g generation h =
-    cond_both (g == greatest_generation) Retired (Free (g + 1)) (λ z. PastSlot z generation)
+    cond_both (g == GREATEST_GENERATION) Retired (Free (g + 1)) (λ z. PastSlot z generation)
     (λ _. tt) (λ _. (let w : generation < g + 1 = omega (arith, h) in w))
 
 later-sweep_one : (cycle i : ℕ) (s : Sweeping) → Later s.heap (sweep_one cycle i s).heap

@@ -3,9 +3,9 @@
 use Rattle.std.proofs.Common.{◌≡◌, ◌≢◌, ℕ, zero, suc, ◌+◌, ◌<◌, ◌≤◌, ◌⊎◌, ◌==◌, eqb, true, false, List, [], ◌∷◌, length, get_or, set, Option, None, refl, sym, ap, ◌∙◌, subst, ⊎_elim, inl, arith, le_refl, length-set, get_or-set_same, get_or-set_other}
 use Rattle.std.specs.List.{AllByRecursion, IsDistinct}
 use Rattle.std.proofs.lemmas.Bool.{cases_eq, cases_lt, cases_Bool, cond_both, cond-true, cond-false, eq-eqb, ne_eqb, eqb-true, both_ways, not_from_true, not-false}
+use Rattle.ids.specs.declared.limits.TheConstants.{GREATEST_GENERATION}
 use Rattle.ids.specs.Limits.{Shaped}
 use Rattle.ids.specs.declared.names.Ref.{Ref}
-use Rattle.model.specs.Collecting.{greatest_generation}
 use Rattle.msg.specs.declared.body.Body.{Body}
 use Rattle.msg.specs.declared.body.Body.TheVariants as body
 use Rattle.msg.specs.declared.body.Message.{Message}
@@ -69,7 +69,7 @@ garbage-not cycle s g o clean there =
 
 vacant : (g e : ℕ) (y : Object) → vacated_slot g ≡ Occupied e y → ⊥
 vacant g e y =
-    cond_both (g == greatest_generation) Retired (Free (g + 1)) (λ z. z ≡ Occupied e y → ⊥)
+    cond_both (g == GREATEST_GENERATION) Retired (Free (g + 1)) (λ z. z ≡ Occupied e y → ⊥)
     (λ _ h. absurd cc) (λ _ h. absurd cc)
 
 -- its slot isn't among the free ones
@@ -98,20 +98,20 @@ vacated-free slots j g o ks there f =
     ⊎_elim {C = FreeSlots (set slots j (vacated_slot g)) (vacated_free j g ks)}
     (λ last.
     subst (λ (z : List ℕ). FreeSlots (set slots j (vacated_slot g)) z)
-    (sym (cond-true (g == greatest_generation) ks (j ∷ ks) last))
+    (sym (cond-true (g == GREATEST_GENERATION) ks (j ∷ ks) last))
     (record { free = others; once = f.once }))
     (λ more.
     subst (λ (z : List ℕ). FreeSlots (set slots j (vacated_slot g)) z)
-    (sym (cond-false (g == greatest_generation) ks (j ∷ ks) more))
+    (sym (cond-false (g == GREATEST_GENERATION) ks (j ∷ ks) more))
     (record {
       free = (
         subst IsFree (sym (placed
-            ∙ cond-false (g == greatest_generation) Retired (Free (g + 1)) more)) refl,
+            ∙ cond-false (g == GREATEST_GENERATION) Retired (Free (g + 1)) more)) refl,
         others,
       );
       once = (apart, f.once);
     }))
-    (cases_Bool (g == greatest_generation))
+    (cases_Bool (g == GREATEST_GENERATION))
 
 swept-one : (cycle k : ℕ) (s : Sweeping)
     → SweptHeap cycle k (k + 1) s.heap (sweep_one cycle k s).heap

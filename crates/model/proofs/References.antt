@@ -4,13 +4,14 @@ use Rattle.std.specs.List.{AllByRecursion}
 use Rattle.std.specs.Option.{option_to_list, unwrap_or}
 use Rattle.std.proofs.lemmas.Bool.{cond_both}
 use Rattle.std.proofs.lemmas.Grind.{get_or_after_one}
+use Rattle.ids.specs.declared.limits.TheConstants.{GREATEST_GENERATION}
 use Rattle.ids.specs.Limits.{Shaped}
 use Rattle.ids.specs.declared.names.Ref.{Ref}
 use Rattle.model.specs.declared.event.Letter.{Letter}
 use Rattle.model.specs.State.{Object, Slot, Free, Occupied, Retired, Heap, slot_at, new_heap}
 use Rattle.model.specs.Heaps.{with_register, with_object, new_object, next_generation, slots_with, object_of, object_at, place_of, rewritten, with_rewritten, with_place, with_word, with_letter, no_letter}
 use Rattle.model.specs.Shading.{is_unmarked, with_mark, make_grey, make_all_grey, filled, reference_of, roots, without_last_grey}
-use Rattle.model.specs.Collecting.{greatest_generation, is_garbage, generation_in, places_in, vacated_slot, vacated, Sweeping, sweep_one, sweep_some}
+use Rattle.model.specs.Collecting.{is_garbage, generation_in, places_in, vacated_slot, vacated, Sweeping, sweep_one, sweep_some}
 use Rattle.model.specs.References.{IfAny, HoldsOnly}
 use Rattle.model.proofs.Lookups.{at_set, at_push}
 use Rattle.model.proofs.ShadingParts.{filled-append}
@@ -210,7 +211,7 @@ holds-without_last_grey P h all = marks_no_place P h (take (length h.grey - 1) h
 
 vacated_slot_holds : (P : Ref → Type 0) (g : ℕ) → SlotHolds P (vacated_slot g)
 vacated_slot_holds P g =
-    cond_both (g == greatest_generation) Retired (Free (g + 1))
+    cond_both (g == GREATEST_GENERATION) Retired (Free (g + 1))
     (SlotHolds P)
     (λ _ k o j e. absurd cc)
     (λ _ k o j e. absurd cc)

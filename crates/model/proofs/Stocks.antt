@@ -4,14 +4,14 @@ use Rattle.std.specs.List.{AllByRecursion, IsDistinct}
 use Rattle.std.proofs.lemmas.Bool.{cond_both, cond-true, eqb-true, eqb-false, eq-eqb, ne_eqb, not-true}
 use Rattle.std.proofs.lemmas.List.{length-set, length-replicate, get_or_append_left}
 use Rattle.ids.specs.Limits.{Shaped}
-use Rattle.ids.specs.declared.limits.TheConstants.{GREATEST_PLACES}
+use Rattle.ids.specs.declared.limits.TheConstants.{GREATEST_GENERATION, GREATEST_PLACES}
 use Rattle.ids.specs.declared.names.Ref.{Ref}
 use Rattle.msg.specs.declared.body.Token.{Token}
 use Rattle.model.specs.declared.event.Letter.{Letter}
 use Rattle.model.specs.State.{Object, Slot, Free, Occupied, Retired, Heap, LocalState, slot_at, new_heap}
 use Rattle.model.specs.Heaps.{with_register, with_object, new_object, next_generation, slots_with, object_at, rewritten, with_rewritten, with_place, with_word, with_letter}
 use Rattle.model.specs.Shading.{is_open, is_unmarked, with_mark, make_grey, make_all_grey, is_calm, without_last_grey}
-use Rattle.model.specs.Collecting.{greatest_generation, is_garbage, generation_in, vacated_slot, vacated, Sweeping, sweep_one, sweep_some}
+use Rattle.model.specs.Collecting.{is_garbage, generation_in, vacated_slot, vacated, Sweeping, sweep_one, sweep_some}
 use Rattle.model.specs.WellFormed.{IsOther, IsObject, IsSlotOf, HasMarked, IsStocked, IsHeld}
 use Rattle.model.proofs.Lookups.{all-map, at_set, at_set_if, at_push}
 use Rattle.model.proofs.References.{all-append}
@@ -354,7 +354,7 @@ vacated-sound : (cycle of : ℕ) (s : Slot) → is_garbage of s ≡ true → IsS
     → IsSlotOf cycle (vacated_slot (generation_in s))
 vacated-sound cycle of (Free g) garbage is = absurd cc
 vacated-sound cycle of (Occupied g o) garbage is =
-    cond_both (g == greatest_generation) Retired (Free (g + 1)) (IsSlotOf cycle)
+    cond_both (g == GREATEST_GENERATION) Retired (Free (g + 1)) (IsSlotOf cycle)
     (λ _. tt)
     (λ _. let born = is.born in omega (arith, born))
 vacated-sound cycle of Retired garbage is = absurd cc

@@ -6,7 +6,7 @@ use Rattle.std.specs.List.{list_all}
 use Rattle.std.specs.Option.{unwrap_or}
 use Rattle.std.specs.Ordering.{int_eq}
 use Rattle.ids.specs.declared.names.Ref.{Ref}
-use Rattle.ids.specs.declared.limits.TheConstants.{GREATEST_CYCLE}
+use Rattle.ids.specs.declared.limits.TheConstants.{GREATEST_GENERATION, GREATEST_CYCLE}
 use Rattle.ids.specs.declared.refusal.Refusal.{Refusal}
 use Rattle.ids.specs.declared.refusal.Refusal.TheVariants.{CyclesSpent, NotDirector, CycleRunning, NothingToDo}
 use Rattle.msg.specs.declared.body.Body.TheVariants as body
@@ -162,16 +162,12 @@ is_garbage cycle (Free g) = false
 is_garbage cycle (Occupied g o) = not (o.mark == cycle)
 is_garbage cycle Retired = false
 
--- the last generation of a slot: the greatest number of 32 bits
-abbrev pub greatest_generation : ℕ
-greatest_generation = 2 ^ 32 - 1
-
 -- A freed slot is the next to be used, with the next generation. After the last one it is retired.
 abbrev pub vacated_slot : ℕ → Slot
-vacated_slot g = cond (g == greatest_generation) Retired (Free (g + 1))
+vacated_slot g = cond (g == GREATEST_GENERATION) Retired (Free (g + 1))
 
 abbrev pub vacated_free : ℕ → ℕ → List ℕ → List ℕ
-vacated_free k g free = cond (g == greatest_generation) free (k ∷ free)
+vacated_free k g free = cond (g == GREATEST_GENERATION) free (k ∷ free)
 
 abbrev pub vacated : Heap → ℕ → ℕ → Heap
 vacated h k g =

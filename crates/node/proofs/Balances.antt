@@ -3,7 +3,8 @@ use Rattle.std.proofs.Common.{◌≡◌, ℕ, ◌+◌, ◌*◌, ◌^◌, ◌<◌
 use Rattle.std.specs.List.{sum, sum_by}
 use Rattle.std.proofs.lemmas.List.Sums.{sum_by-set, sum_by-le, sum-map}
 use Rattle.std.proofs.lemmas.List.Elements.{All-from_get_or}
-use Rattle.ids.specs.declared.limits.TheConstants.{GREATEST_NODES, GREATEST_NUMBER}
+use Rattle.ids.specs.declared.limits.TheConstants.{GREATEST_COUNTED, GREATEST_NODES}
+use Rattle.ids.specs.declared.limits.TheConstants.{GREATEST_NUMBER}
 use Rattle.model.specs.State.{Ring}
 use Rattle.model.specs.View.{Link, NodeView, no_link, used, all_kept, trimmed}
 use Rattle.link.specs.Links.{LinksView, IsLinks}
@@ -67,7 +68,7 @@ bounded-same most q r a b h = record {
 
 -- all messages of a node together
 pub number-few : (l : LinksView) → IsLinks l → length l.links ≤ GREATEST_NODES
-    → number_sum l.links l.got ≤ 2 ^ 53
+    → number_sum l.links l.got ≤ GREATEST_COUNTED
 number-few l is many =
     let sent : sum_by used l.links ≤ length l.links * GREATEST_NUMBER =
     sum_by-bound used GREATEST_NUMBER l.links no_link (λ i. (is.links i).used) in
@@ -75,8 +76,8 @@ number-few l is many =
     sum_by-bound (λ (k : ℕ). k) GREATEST_NUMBER l.got 0 is.numbers in
     omega (arith, sent, taken, is.received, many)
 
-pub balance-small : (n : NodeView) → IsNode n → IsBounded (2 ^ 53) n.local.ring
+pub balance-small : (n : NodeView) → IsNode n → IsBounded GREATEST_COUNTED n.local.ring
 balance-small n h =
     let many : length n.links ≤ GREATEST_NODES = omega (arith, h.links.width, h.shape.most_nodes) in
-    bounded_more (number_sum n.links n.local.got) (2 ^ 53) n.local.ring
+    bounded_more (number_sum n.links n.local.got) GREATEST_COUNTED n.local.ring
     (number-few (links_of n) h.links.links many) h.balance

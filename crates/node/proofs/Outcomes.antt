@@ -4,6 +4,7 @@ use Rattle.std.specs.Prelude.{nat_le, nat_lt}
 use Rattle.std.proofs.Common.{le-ltb, lt-ltb}
 use Rattle.std.proofs.lemmas.Int.{ints}
 use Rattle.std.proofs.lemmas.Bool.{and_parts, cond-false, cond-true, lt-leb, leb-true, ne_eqb}
+use Rattle.ids.specs.declared.limits.TheConstants.{GREATEST_COUNTED}
 use Rattle.ids.specs.declared.names.Ref.{Ref}
 use Rattle.ids.specs.declared.refusal.Refusal.{Refusal}
 use Rattle.ids.specs.declared.refusal.Refusal.TheVariants.{LinkSpent, Memory}
@@ -217,7 +218,7 @@ module _ (n : NodeView) (from stamp : ℕ) (b : Body) (old : IsNode n)
         performed-refused n from stamp b _ settled-is refused same
 
     pub settled-small : IsLinks (links_of settled_node)
-        → IsBounded (2 ^ 53 - 1) (looked_after n.local (settled_met n stamp b)).ring
+        → IsBounded (GREATEST_COUNTED - 1) (looked_after n.local (settled_met n stamp b)).ring
     settled-small links =
         met-small n n.local.heap n.local.asked n.local.phases n.local.ring [] from stamp
         (is_open n.local) b old (comes n from stamp b old t) (reached-here n old) settled-suits
@@ -250,7 +251,7 @@ module _ (n : NodeView) (from stamp : ℕ) (b : Body) (old : IsNode n)
     pub counted-small : {cycle ended : ℕ} {v : Option Ref} {m : Met} {reply : Option Message}
         {asked : List Ref} {r : Ring} {marks : ℕ} {l u : LinksView}
         → Read n stamp b cycle ended v m reply → Sends n from cycle m reply asked r marks l u
-        → IsLinks u → IsBounded (2 ^ 53 - 1) r
+        → IsLinks u → IsBounded (GREATEST_COUNTED - 1) r
     counted-small {r = r} {u = u} read sends links =
         let all : u ≡ links_of settled_node =
         sends.taken
@@ -263,7 +264,8 @@ module _ (n : NodeView) (from stamp : ℕ) (b : Body) (old : IsNode n)
         (sends.count
         ∙ ap (λ (z : Met). count_due z (sought n.local.own n.local.asked z))
         (met-read n from stamp b _ _ _ _ _ read)) in
-        subst (IsBounded (2 ^ 53 - 1)) (sym same) (settled-small (subst IsLinks all links))
+        subst (IsBounded (GREATEST_COUNTED - 1)) (sym same)
+          (settled-small (subst IsLinks all links))
 
 -- ---- at a node that joins the message's cycle
 
@@ -469,7 +471,7 @@ module _ (n : NodeView) (from stamp : ℕ) (b : Body) (old : IsNode n)
           {asked : List Ref} {r s : Ring} {marks : ℕ} {l u : LinksView}
           → ReadJoining n stamp b v m reply
           → SendsJoining n from stamp m reply g asked r s marks l u → IsLinks u
-          → IsBounded (2 ^ 53 - 1) s
+          → IsBounded (GREATEST_COUNTED - 1) s
       joined-small {g = g} {u = u} read sends links =
           let j : LocalState = joined_parts n.local stamp in
           let all : u ≡ links_of joined_node =
@@ -477,7 +479,8 @@ module _ (n : NodeView) (from stamp : ℕ) (b : Body) (old : IsNode n)
           ∙ ap (λ (z : LinksView). taken_next_from z from)
           (sends.sent.sent
           ∙ ap (all_appended (links_of n)) (due-joining n from stamp b _ _ _ read g sends.room)) in
-          subst (IsBounded (2 ^ 53 - 1)) (sym (ring-joining n from stamp b _ _ _ read sends))
+          subst (IsBounded (GREATEST_COUNTED - 1))
+            (sym (ring-joining n from stamp b _ _ _ read sends))
           (met-small n j.heap j.asked j.phases j.ring (marks_for stamp (roots_of n)) from stamp true
           b old (comes n from stamp b old t) (joined-reached phases) joined-suits
           (subst IsLinks all links))

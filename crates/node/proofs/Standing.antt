@@ -5,7 +5,7 @@ use Rattle.std.proofs.lemmas.Bool.{cond_both}
 use Rattle.std.proofs.lemmas.List.{length-set, length-map}
 use Rattle.std.proofs.lemmas.List.Sums.{sum_by-set}
 use Rattle.ids.specs.Limits.{Shaped}
-use Rattle.ids.specs.declared.limits.TheConstants.{GREATEST_CYCLE, GREATEST_NODES}
+use Rattle.ids.specs.declared.limits.TheConstants.{GREATEST_COUNTED, GREATEST_CYCLE, GREATEST_NODES}
 use Rattle.ids.specs.declared.names.Ref.{Ref}
 use Rattle.msg.specs.declared.body.Body.{Body}
 use Rattle.msg.specs.declared.body.Body.TheVariants as body
@@ -333,14 +333,14 @@ module _ (n : NodeView) (h : Heap) (asked : List Ref) (p : Phases) (r : Ring)
 
     -- the balances when what was met is counted, and the message not yet
     pub met-small : IsLinks (links_of taken_here)
-        → IsBounded (2 ^ 53 - 1) (looked_after reached_here met_here).ring
+        → IsBounded (GREATEST_COUNTED - 1) (looked_after reached_here met_here).ring
     met-small links =
         let k : ℕ = count_due met_here sought_here in
         let wide : length taken_here.links ≡ length n.links = length-append_to n.links sends_here in
         let many : length taken_here.links ≤ GREATEST_NODES =
         omega (arith, wide, old.links.width, old.shape.most_nodes) in
         let few = number-few (links_of taken_here) links many in
-        bounded_more (number_sum n.links n.local.got + length ms + k) (2 ^ 53 - 1) _
+        bounded_more (number_sum n.links n.local.got + length ms + k) (GREATEST_COUNTED - 1) _
         (omega (arith, few, number-here, sends-count))
         (bounded_marks (number_sum n.links n.local.got + length ms) k r reached.balance)
 

@@ -1,7 +1,8 @@
 -- Worked examples at the limits, computed for one node in states that are set up by hand.
 use Rattle.std.proofs.Common.{◌≡◌, ℕ, ℤ, ◌^◌, ◌-◌, pos, neg_ℤ, true, false, [], ◌∷◌, Some, Result, Ok, Err, refl}
 use Rattle.std.specs.Int.{int_wrap}
-use Rattle.ids.specs.declared.limits.TheConstants.{GREATEST_NUMBER, GREATEST_CYCLE}
+use Rattle.ids.specs.declared.limits.TheConstants.{GREATEST_GENERATION, GREATEST_NUMBER}
+use Rattle.ids.specs.declared.limits.TheConstants.{GREATEST_CYCLE}
 use Rattle.ids.specs.declared.refusal.Refusal.{Refusal}
 use Rattle.ids.specs.declared.refusal.Refusal.TheVariants.{LinkSpent, CyclesSpent, NotDirector, CycleRunning}
 use Rattle.msg.specs.declared.body.Colour.{Colour}
@@ -13,7 +14,7 @@ use Rattle.model.specs.State.{Object, Free, Occupied, Retired, LocalState, new_l
 use Rattle.model.specs.Effects.{Effect}
 use Rattle.model.specs.Counting.{append, announce}
 use Rattle.model.specs.Shading.{make_grey, shade, enter, join}
-use Rattle.model.specs.Collecting.{greatest_generation, probe, begun, scan, scanned, conclude, passed, sweep_one, swept_slots}
+use Rattle.model.specs.Collecting.{probe, begun, scan, scanned, conclude, passed, sweep_one, swept_slots}
 use Rattle.model.specs.Steps.{effect, is_memory_free}
 use Rattle.rows.proofs.Rows.{Answers, effect_answer, object, space}
 
@@ -155,8 +156,8 @@ sweepable own =
       phases = record p.phases { cycle = 1; ended = 1 };
       heap = record p.heap {
         slots =
-            Occupied greatest_generation unmarked
-            ∷ Occupied (greatest_generation - 1) unmarked
+            Occupied GREATEST_GENERATION unmarked
+            ∷ Occupied (GREATEST_GENERATION - 1) unmarked
             ∷ Occupied 4 marked
             ∷ Free 2
             ∷ [];
@@ -175,7 +176,7 @@ swept = effect_of (effect (sweepable 0) (0 ∷ 0 ∷ []) (event.Sweep 16))
 -- and are used before those that were free.
 pub generations : (swept.answer ≡ answer.Freed 2 true)
     × (swept.local.heap.slots
-    ≡ Retired ∷ Free greatest_generation ∷ Occupied 4 marked ∷ Free 2 ∷ [])
+    ≡ Retired ∷ Free GREATEST_GENERATION ∷ Occupied 4 marked ∷ Free 2 ∷ [])
     × (swept.local.heap.free ≡ 1 ∷ 3 ∷ [])
 unfolding sweep_one swept_slots
 generations = (refl, refl, refl)

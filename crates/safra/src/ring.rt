@@ -1,4 +1,5 @@
 ghost use Rattle.std.specs.Prelude.{◌≡◌, ◌≤◌, ◌^◌, IsSome};
+ghost use Rattle.ids.specs.declared.limits.TheConstants.{GREATEST_COUNTED};
 ghost use Rattle.model.specs.State.{new_ring};
 ghost use Rattle.model.specs.Counting.{counted_up, counted_down};
 ghost use Rattle.model.specs.Shading.{entered};
@@ -34,9 +35,8 @@ const NEW_TOKEN: Token = Token {
 /// messages with references from the present cycle, which the next one counts. Black means: since
 /// the token left, the node took in a counted message, or joined a cycle.
 ///
-/// No call takes memory. Calls that count ask that the two parts together are at most 2^53,
-/// whatever their signs: on its links with at most 16 nodes, of 2^48 messages each way, no node
-/// sends and takes in more.
+/// No call takes memory. Calls that count ask that the two parts together are at most
+/// [`ids::GREATEST_COUNTED`], whatever their signs: no node sends and takes in more.
 #[derive(Clone, Copy, Debug, PartialEq, Eq)]
 pub struct Ring {
     colour: Colour,
@@ -113,7 +113,7 @@ impl Ring {
     /// Counts a message that was sent, in the balance that [`balance_of`](crate::balance_of) gives;
     /// None changes nothing.
     pub fn sent(&mut self, balance: Option<Balance>)
-        requires { IsBounded (2 ^ 53) self.old }
+        requires { IsBounded GREATEST_COUNTED self.old }
         ensures { self.new ≡ counted_up balance self.old }
     {
         match balance {
@@ -125,8 +125,8 @@ impl Ring {
 
     /// Counts so many Marks that were sent. A Mark counts in the present cycle.
     pub fn sent_marks(&mut self, count: u64)
-        requires small { IsBounded (2 ^ 53) self.old }
-        requires few { count ≤ 2 ^ 53 }
+        requires small { IsBounded GREATEST_COUNTED self.old }
+        requires few { count ≤ GREATEST_COUNTED }
         ensures { self.new ≡ counted_marks count self.old }
     {
         self.earlier += count as i64;
@@ -136,7 +136,7 @@ impl Ring {
     /// gives; None changes nothing. One that counts in the present cycle makes the node black,
     /// since it may have made the node active after the token left.
     pub fn received(&mut self, balance: Option<Balance>)
-        requires { IsBounded (2 ^ 53) self.old }
+        requires { IsBounded GREATEST_COUNTED self.old }
         ensures { self.new ≡ counted_down balance self.old }
     {
         match balance {
@@ -152,7 +152,7 @@ impl Ring {
     /// The node joins the next cycle: what the next cycle was to count counts now, and the node is
     /// black.
     pub fn join(&mut self)
-        requires { IsBounded (2 ^ 53) self.old }
+        requires { IsBounded GREATEST_COUNTED self.old }
         ensures { self.new ≡ entered self.old }
     {
         self.colour = Colour::Black;

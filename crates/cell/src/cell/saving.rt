@@ -21,7 +21,8 @@ ghost use Rattle.std.specs.Prelude.{
   replicate,
 };
 ghost use Rattle.circular_buffer.specs.Buffer.{keep_last};
-ghost use Rattle.ids.specs.declared.limits.TheConstants.{GREATEST_IMAGE, TRACE_EVENTS};
+ghost use Rattle.ids.specs.declared.limits.TheConstants.{GREATEST_IMAGE, GREATEST_NODES};
+ghost use Rattle.ids.specs.declared.limits.TheConstants.{TRACE_EVENTS};
 ghost use Rattle.trace.specs.declared.call.Call.TheVariants as call;
 ghost use Rattle.model.specs.View.{kept_view};
 ghost use Rattle.node.specs.Keeping.{kept_whole};
@@ -116,7 +117,7 @@ impl<D: Disk> Cell<D> {
           node = self.new.node;
           saved = self.new.node.core;
           seat = self.new.seat;
-          places = replicate 16 0;
+          places = replicate GREATEST_NODES 0;
           unsaved = false;
           disk = self.new.disk;
           is_open = true;

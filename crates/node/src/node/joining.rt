@@ -2,7 +2,7 @@
 //! that has joined.
 ghost use Rattle.std.specs.Prelude.{◌≡◌, ◌<◌, ◌≤◌, ◌^◌, [], ◌∷◌, true, false, length, None, IfOk, IfErr, OnOk, OnErr};
 ghost use Rattle.std.specs.List.{AllByRecursion};
-ghost use Rattle.ids.specs.declared.limits.TheConstants.{GREATEST_NODES};
+ghost use Rattle.ids.specs.declared.limits.TheConstants.{GREATEST_COUNTED, GREATEST_NODES};
 ghost use Rattle.model.specs.Shading.{filled, roots};
 ghost use Rattle.model.specs.View.{Performed, view_taken};
 ghost use Rattle.link.specs.Links.{IsLinks};
@@ -56,7 +56,7 @@ fn send_joining(
         IfOk result (λ s. AreSent [] new links.old sends s.asked.keys links.new) }
     ensures count { IfOk result
         (λ s. s.marks ≡ joining_count own heap.now.heap errand.met) }
-    ensures few { IfOk result (λ s. s.marks ≤ 2 ^ 53) }
+    ensures few { IfOk result (λ s. s.marks ≤ GREATEST_COUNTED) }
     ensures refused { IfErr result (IsRefused links.old
         (joining_due own cycle heap.now.heap errand.met errand.to errand.reply)) }
     ensures unchanged { OnErr result (links.new ≡ links.old) }

@@ -3,7 +3,8 @@
 //! counting and what the body does come after it and can't be refused.
 ghost use Rattle.std.specs.Prelude.{◌≡◌, ◌≢◌, ◌-◌, ◌+◌, ◌<◌, ◌≤◌, ◌^◌, ℕ, [], ◌∷◌, true, false, length, None, IfOk, IfErr, OnOk, OnErr};
 ghost use Rattle.std.specs.List.{AllByRecursion};
-ghost use Rattle.ids.specs.declared.limits.TheConstants.{GREATEST_NODES};
+ghost use Rattle.ids.specs.declared.limits.TheConstants.{GREATEST_COUNTED, GREATEST_NODES};
+ghost use Rattle.ids.specs.declared.limits.TheConstants.{GREATEST_SENT};
 ghost use Rattle.model.specs.Shading.{filled};
 ghost use Rattle.model.specs.Steps.{target_of};
 ghost use Rattle.model.specs.View.{Performed, view_taken};
@@ -139,7 +140,7 @@ pub(super) fn send_for(
     requires sound { IsLinks links.old }
     ensures count { let new = sought own asked.old.keys errand.met in
         IfOk result (λ n. n ≡ count_due errand.met new) }
-    ensures few { length links.old.links ≤ GREATEST_NODES → IfOk result (λ n. n ≤ 2 ^ 52) }
+    ensures few { length links.old.links ≤ GREATEST_NODES → IfOk result (λ n. n ≤ GREATEST_SENT) }
     ensures done { let new = sought own asked.old.keys errand.met in
         let sends = due cycle errand.met new errand.to errand.reply in
         OnOk result (AreSent asked.old.keys new links.old sends asked.new.keys links.new) }
@@ -196,7 +197,7 @@ pub(super) fn follow_on_heap(heap: &mut Heap, from: u8, body: Body)
 /// Counts the message as taken in, and does what the body says of the ring and of the phases. The
 /// answer of a Get is counted.
 pub(super) fn follow(phases: &mut Phases, ring: &mut Ring, from: u8, stamp: u64, body: Body)
-    requires small { IsBounded (2 ^ 53 - 1) ring.old }
+    requires small { IsBounded (GREATEST_COUNTED - 1) ring.old }
     requires there { from < length phases.old.reports }
     requires reached { stamp ≤ phases.old.cycle }
     ensures phases { phases.new ≡ body_phases from stamp body phases.old }

@@ -1,6 +1,7 @@
 use Rattle.std.proofs.Common.{◌≡◌, ◌<◌, ◌^◌, true, false, length, map, sym, ◌∙◌, refl, subst, Ok, Err}
 use Rattle.std.specs.List.{AllByRecursion}
 use Rattle.std.proofs.lemmas.Result.{err_from_is_err_and}
+use Rattle.ids.specs.declared.limits.TheConstants.{GREATEST_COUNTED}
 use Rattle.ids.specs.declared.names.Ref.{Ref}
 use Rattle.model.specs.declared.event.Answer.TheVariants.{Received}
 use Rattle.model.specs.State.{Heap}
@@ -33,7 +34,7 @@ join-requires-2 c = balance-small (view_of c.self.inside) c.self.invariant.node
 pub sent_marks-requires-clause-small : goal.sent_marks-requires-clause-small
 sent_marks-requires-clause-small c =
     rw c.join-2.ensures
-    (bounded_entered (2 ^ 53) c.self.inside.ring
+    (bounded_entered GREATEST_COUNTED c.self.inside.ring
     (balance-small (view_of c.self.inside) c.self.invariant.node))
 
 -- ---- what several goals need
