@@ -1,0 +1,57 @@
+/* Stands before the C library's allocator, and refuses requests for memory that a program makes of it: the one numbered
+ * $REFUSE, counted from 1, or with $REFUSE_ALL that one and all later ones. At the program's end it writes how many there
+ * were into the file $REQUESTS. A program is run with it by LD_PRELOAD; tests/memory does so. */
+#define _GNU_SOURCE
+#include <dlfcn.h>
+#include <errno.h>
+#include <fcntl.h>
+#include <stdio.h>
+#include <stdlib.h>
+#include <unistd.h>
+
+extern void *__libc_malloc(size_t size);
+extern void *__libc_calloc(size_t count, size_t size);
+extern void *__libc_realloc(void *old, size_t size);
+extern void *__libc_memalign(size_t align, size_t size);
+
+static unsigned long requests, refused;
+static int all;
+
+__attribute__((constructor)) static void begin(void) {
+    const char *number = getenv("REFUSE");
+    refused = number ? strtoul(number, NULL, 10) : 0;
+    all = getenv("REFUSE_ALL") != NULL;
+    requests = 0;
+}
+
+/* Whether the request that comes now is refused. The program has one thread. */
+static int refuses(void) {
+    requests++;
+    return refused && (all ? requests >= refused : requests == refused);
+}
+
+void *malloc(size_t size) { return refuses() ? NULL : __libc_malloc(size); }
+
+void *calloc(size_t count, size_t size) { return refuses() ? NULL : __libc_calloc(count, size); }
+
+void *realloc(void *old, size_t size) { return refuses() ? NULL : __libc_realloc(old, size); }
+
+void *memalign(size_t align, size_t size) { return refuses() ? NULL : __libc_memalign(align, size); }
+
+void *aligned_alloc(size_t align, size_t size) { return memalign(align, size); }
+
+int posix_memalign(void **place, size_t align, size_t size) {
+    void *block = memalign(align, size);
+    if (block) *place = block;
+    return block ? 0 : ENOMEM;
+}
+
+__attribute__((destructor)) static void end(void) {
+    const char *path = getenv("REQUESTS");
+    int file = path ? open(path, O_WRONLY | O_CREAT | O_TRUNC, 0644) : -1;
+    if (file < 0) return;
+    char text[24];
+    int length = snprintf(text, sizeof text, "%lu\n", requests);
+    if (write(file, text, (size_t)length) != length) _exit(70);
+    close(file);
+}
