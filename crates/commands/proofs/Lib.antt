@@ -8,3 +8,4 @@ pub mod Replies
 pub mod Reports
 pub mod Shapes
 pub mod Files
+pub mod Sizes

@@ -1,13 +1,18 @@
 -- What a script prints, and the status that it ends with.
-use Rattle.std.specs.Prelude.{◌≡◌, ◌≢◌, ℕ, ◌+◌, true, max, List, [], ◌∷◌, ◌++◌, ◌⊎◌, Option, Some, None, IfSome, Ok, Err, codes, decimal, replicate}
+use Rattle.std.specs.Prelude.{◌≡◌, ◌≢◌, ℕ, ◌+◌, ◌<◌, true, length, max, List, [], ◌∷◌, ◌++◌, ◌⊎◌, Option, Some, None, IfSome, Ok, Err, codes, decimal, replicate}
 use Rattle.std.specs.Io.KnownBytes.{Appends}
 use Rattle.std.specs.Str.Lines.{lines}
 use Rattle.ids.specs.Limits.{Shaped, IsShape}
+use Rattle.ids.specs.declared.limits.TheConstants.{GREATEST_IMAGE}
 use Rattle.ids.specs.declared.refusal.Refusal.{Refusal}
 use Rattle.ids.specs.declared.refusal.Refusal.TheVariants.{Memory, NoNode, ImageTooLarge}
-use Rattle.model.specs.World.{World, IsStepRefusal, new_world, is_step_memory_free, take_step}
+use Rattle.model.specs.World.{World, IsStepRefusal, acknowledged, new_world, is_step_memory_free, take_step}
 use Rattle.model.specs.declared.step.Outcome.TheVariants as outcome
 use Rattle.model.specs.declared.step.Step.{Step}
+use Rattle.model.specs.declared.step.Step.TheVariants as step
+use Rattle.model.specs.State.{node_at}
+use Rattle.model.specs.View.{NodeView}
+use Rattle.image.specs.Images.{image_of}
 use Rattle.commands.specs.declared.line.Line.{Line}
 use Rattle.commands.specs.declared.line.Line.TheVariants as line
 use Rattle.commands.specs.declared.script.Reply.{Reply}
@@ -16,7 +21,7 @@ use Rattle.commands.specs.declared.script.State.{State}
 use Rattle.commands.specs.declared.script.State.TheVariants as state
 use Rattle.commands.specs.Freed.{KeepsSums, freed_after}
 use Rattle.commands.specs.Grammar.{line_of, words_of}
-use Rattle.world.specs.Shows.{IsSmall, summary_at}
+use Rattle.world.specs.Shows.{ShowsNode, summary_at}
 use Rattle.world.specs.Spaces.{KeepsAfter, step_met}
 use Rattle.commands.specs.Text.{outcome_text, refused_text, report_text, summary_text}
 use Rattle.node.specs.Keeping.{Rings, no_rings}
@@ -46,12 +51,21 @@ Moves shows keeps becomes old new =
     (h : Held) → ShowsHeld shows keeps old h
     → (later : Held) × becomes h later × ShowsHeld shows keeps new later
 
+-- The step saves a node, and the image of one that shows its state is longer than an image may be.
+-- A state doesn't say which messages the node has let go of.
+abbrev pub MayBeTooLarge : World → Step → Type 0
+MayBeTooLarge w (step.Save i) =
+    (n : NodeView)
+    × ShowsNode (node_at w.saved i) (acknowledged w i) n (node_at w.current i)
+    × (GREATEST_IMAGE < length (image_of n))
+MayBeTooLarge w s = ⊥
+
 -- A step is refused so, on a space whose nodes keep this. One that takes no memory is not refused
--- for want of it, and no save of a small image because it is too large.
+-- for want of it, and none but a save of an image that is too large because of that.
 pub record RefusesStep (w : World) (all : List Rings) (step : Step) (e : Refusal) : Type 0 where
   pub first : IsStepRefusal w (step_met all step) e
   pub memory_free : is_step_memory_free w (step_met all step) ≡ true → e ≢ Memory
-  pub small : IsSmall w step → e ≢ ImageTooLarge
+  pub too_large : e ≡ ImageTooLarge → MayBeTooLarge w step
 
 -- What is printed for a step of a space that is there, and the space afterwards with what its nodes
 -- keep and the sums.

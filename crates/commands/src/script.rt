@@ -4,11 +4,11 @@ ghost use Rattle.std.specs.Io.KnownBytes.{Appends};
 ghost use Rattle.ids.specs.declared.refusal.Refusal.TheVariants.{Memory, ImageTooLarge};
 ghost use Rattle.model.specs.World.{World, FollowsStep, new_world, is_own_step, is_step_memory_free};
 ghost use Rattle.node.specs.Keeping.{Rings};
-ghost use Rattle.world.specs.Shows.{IsSmall, summary_at};
+ghost use Rattle.world.specs.Shows.{summary_at};
 ghost use Rattle.world.specs.Spaces.{KeepsAfter, ShowsSpace, step_met};
 ghost use Rattle.commands.specs.Freed.{KeepsSums, freed_after};
 ghost use Rattle.commands.specs.Grammar.{line_of, words_of};
-ghost use Rattle.commands.specs.Script.{Moves, PrintsNoScript, PrintsReplies, RunsScript, TakesLine, TakesReport, TakesSpace, TakesState, TakesStep, none_kept, reply_text, status_after};
+ghost use Rattle.commands.specs.Script.{MayBeTooLarge, Moves, PrintsNoScript, PrintsReplies, RunsScript, TakesLine, TakesReport, TakesSpace, TakesState, TakesStep, none_kept, reply_text, status_after};
 ghost use Rattle.commands.specs.Text.{cycle_line, report_text};
 
 use crate::freed::{Freed, freed_in, sweeper};
@@ -47,7 +47,7 @@ trait Space: Drop + Sized {
 
     /// Takes a step, or refuses it and shows the same as before; a message that waited for its turn
     /// may have left its place then. A step that takes no memory is not refused for want of it, and
-    /// no save of a small image because it is too large.
+    /// none but a save of an image that is too large because of that.
     fn step(&mut self, step: Step) -> Result<Outcome, Refusal>
         requires own { IsTrue (is_own_step step) }
         ensures follows { (w : World) → shows self.old w
@@ -57,8 +57,8 @@ trait Space: Drop + Sized {
         ensures memory_free { (w : World) → shows self.old w
             → IsTrue (is_step_memory_free w (step_met (keeps self.old) step))
             → IfErr result (λ e. e ≢ Memory) }
-        ensures small { (w : World) → shows self.old w → IsSmall w step
-            → IfErr result (λ e. e ≢ ImageTooLarge) };
+        ensures too_large { (w : World) → shows self.old w
+            → IfErr result (λ e. e ≡ ImageTooLarge → MayBeTooLarge w step) };
 
     /// The node of this number in numbers, if there is one.
     fn state(&self, number: u8) -> Option<Summary>

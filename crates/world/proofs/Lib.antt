@@ -4,7 +4,6 @@ pub mod SiteLemmas
 pub mod Refusals
 pub mod NeverTooLarge
 pub mod NewImages
-pub mod WholeImages
 pub mod Shows
 pub mod Steps
 pub mod Deliveries

@@ -27,10 +27,9 @@ use Rattle.model.proofs.Shown.{act-shown}
 use Rattle.node.specs.Invariant.{IsNode}
 use Rattle.node.specs.Summaries.{summary_of}
 use Rattle.world.specs.Sites.{SiteView, Saves, bases, bases_acked}
-use Rattle.world.specs.Shows.{SiteBases, ShowsWorld, SavesTooLarge, IsSmall, Stepped, Given, IsSim, no_site, site_at, site_bases, bases_of, bases_at, bases_after, summary_at}
+use Rattle.world.specs.Shows.{SiteBases, ShowsWorld, SavesTooLarge, Stepped, Given, IsSim, no_site, site_at, site_bases, bases_of, bases_at, bases_after, summary_at}
 use Rattle.world.proofs.Refusals.{first-refused, first-memory, first-by, memory-or, step-refused}
 use Rattle.world.proofs.NeverTooLarge.{event-other}
-use Rattle.world.proofs.WholeImages.{image-shorter}
 use Rattle.world.proofs.SiteLemmas.{IsAckWithin}
 use Rattle.world.proofs.Shows.{Changes, unchanged-sites, shows-moved, shows-saved, node-moved, saved_after}
 
@@ -377,27 +376,6 @@ module _ {n m : List SiteView} {i : ℕ} {q p : SiteView} (c : Changes n m i q p
       (record w { current = set w.current i (node_at w.saved i) }, stepped, shown))
       (λ large. large)
       (bases-changed (λ b. record b { current = b.saved }) c (ap site_bases is))
-
--- ---- images
-
--- no small image is too large
-not-small : {n : List SiteView} {w : World} → ShowsWorld n w → (s : Step) → SavesTooLarge n s
-    → IsSmall w s → ⊥
-not-small {n = n} {w = w} h (step.Save i) saves small =
-    let shown = (h.each i).current.shows in
-    let less = image-shorter (site_at n i).current (node_at w.current i) shown in
-    omega (arith, saves.1, less, small)
-not-small h (step.Act i e) saves small = saves
-not-small h (step.Restart i) saves small = saves
-not-small h (step.Deliver from to number) saves small = saves
-not-small h (step.Hand from to) saves small = saves
-
-pub small-fits : {n : List SiteView} (s : Step) (r : Result Outcome Refusal)
-    → (r ≡ Err ImageTooLarge ↔ SavesTooLarge n s) → (w : World) → ShowsWorld n w → IsSmall w s
-    → IfErr r (λ e. e ≢ ImageTooLarge)
-small-fits s (Ok o) large w h small = tt
-small-fits s (Err e) large w h small =
-    λ is. not-small h s (large.0 (ap (λ z. Err z) is)) small
 
 -- ---- a node in numbers
 

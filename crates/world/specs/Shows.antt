@@ -4,7 +4,6 @@ use Rattle.ids.specs.Limits.{Shaped}
 use Rattle.ids.specs.declared.refusal.Refusal.{Refusal}
 use Rattle.ids.specs.declared.refusal.Refusal.TheVariants.{Memory, ImageTooLarge}
 use Rattle.ids.specs.declared.limits.TheConstants.{GREATEST_NODES, GREATEST_IMAGE}
-use Rattle.msg.specs.declared.body.Message.{Message}
 use Rattle.msg.specs.declared.frame.Ack.{Ack}
 use Rattle.model.specs.declared.event.Event.{Event}
 use Rattle.model.specs.declared.event.Answer.{Answer}
@@ -14,7 +13,7 @@ use Rattle.model.specs.declared.step.Outcome.{Outcome}
 use Rattle.model.specs.declared.step.Outcome.TheVariants as outcome
 use Rattle.model.specs.State.{NodeState, node_at, sent_to}
 use Rattle.model.specs.Steps.{is_addressed}
-use Rattle.model.specs.View.{Link, NodeView, Shows, link_to}
+use Rattle.model.specs.View.{NodeView, Shows, link_to}
 use Rattle.model.specs.World.{World, KeepsSent, FollowsStep, acknowledged, new_world, run, is_node, is_step_memory_free}
 use Rattle.image.specs.Images.{image_of}
 use Rattle.node.specs.Summaries.{summary_of}
@@ -110,23 +109,6 @@ abbrev pub SavesTooLarge : List SiteView → Step → Type 0
 SavesTooLarge sites (step.Save i) =
     (i < length sites) × (GREATEST_IMAGE < length (image_of (site_at sites i).current))
 SavesTooLarge sites s = ⊥
-
--- the node with all that it ever sent, as if nothing had been acknowledged
-abbrev pub whole_link : List Message → Link
-whole_link sent = record { base = 0; unacknowledged = sent; kept = 0 }
-
-abbrev pub whole_view : NodeState → NodeView
-whole_view s = record {
-  local = s.local;
-  links = map whole_link s.sent;
-  acks = s.local.got;
-}
-
--- The step saves no node, or one whose image is no longer than an image may be, even with all
--- messages that the node ever sent.
-abbrev pub IsSmall : World → Step → Type 0
-IsSmall w (step.Save i) = length (image_of (whole_view (node_at w.current i))) ≤ GREATEST_IMAGE
-IsSmall w s = Unit {0}
 
 -- A step against that of the definitions, on each of their spaces that was shown before.
 abbrev pub FollowsShown : Result Outcome Refusal → List SiteView → List SiteView → Step → Type 0

@@ -11,7 +11,6 @@ ghost use Rattle.model.specs.declared.step.Step.TheVariants as step;
 ghost use Rattle.world.specs.Shows.{
   ShowsWorld,
   SavesTooLarge,
-  IsSmall,
   IsAckOf,
   bases_of,
   bases_after,
@@ -80,11 +79,10 @@ impl Sim {
     /// image would be too large; and `Memory` where a growth was refused. A refused step changes
     /// nothing, but that a message that waited for its turn may have left its place. Never refused
     /// memory are the events that a node never refuses it, the delivery of nothing or of a message
-    /// that isn't the next one, an acknowledgement, and a save whose image is too large. No image
-    /// is too large that would not be with all that its node ever sent. An acknowledgement alone
-    /// lets go of messages: those up to its number. Steps one after another are a run of the
-    /// definitions, without those that are refused memory or whose image is too large; there `Next`
-    /// of a message that waits is its delivery.
+    /// that isn't the next one, an acknowledgement, and a save whose image is too large. An
+    /// acknowledgement alone lets go of messages: those up to its number. Steps one after another
+    /// are a run of the definitions, without those that are refused memory or whose image is too
+    /// large; there `Next` of a message that waits is its delivery.
     pub fn step(&mut self, step: Step) -> Result<Outcome, Refusal>
         requires own { IsTrue (is_own_step step) }
         ensures follows { FollowsSpace result self.old self.new step }
@@ -92,8 +90,6 @@ impl Sim {
         ensures lets_go { IfOk result (λ o.
             bases_of self.new.sites ≡ bases_after (bases_of self.old.sites) step o) }
         ensures too_large { result ≡ Err ImageTooLarge ↔ SavesTooLarge self.old.sites step }
-        ensures small { (w : World) → ShowsWorld self.old.sites w → IsSmall w step
-            → IfErr result (λ e. e ≢ ImageTooLarge) }
         ensures unchanged { OnErr result (self.new.sites ≡ self.old.sites) }
         ensures early { (w : World) → ShowsSpace self.old w
             → KeepsAfter w self.old.early step result self.new.early }

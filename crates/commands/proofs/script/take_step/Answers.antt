@@ -19,7 +19,7 @@ returns-in-Err g c =
     let keeps = g.S.Space.keeps in
     let follows = c.in-Err.ensures.follows in
     let free = c.in-Err.ensures.memory_free in
-    let small = c.in-Err.ensures.small in
+    let large = c.in-Err.ensures.too_large in
     let early = c.in-Err.ensures.early in
     λ h shown. refusal_shows shows keeps h c.args.step c.in-Open.space _ c.in-Open.freed _
     (subst (λ s. ShowsHeld shows keeps s h) c.in-Open.is shown)
@@ -27,7 +27,7 @@ returns-in-Err g c =
       record {
         first = search (rules, (follows w s).0);
         memory_free = search (rules, free w s);
-        small = search (rules, small w s);
+        too_large = search (rules, large w s);
       },
       early w s,
       (follows w s).1,
