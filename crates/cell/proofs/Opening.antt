@@ -9,7 +9,9 @@ use Rattle.image.specs.Nodes.{IsImageOf}
 use Rattle.image.proofs.Images.{image_of_one, image_is}
 use Rattle.disk.specs.Areas.{Areas}
 use Rattle.disk.specs.Crashes.{LeavesOnly, Only}
+use Rattle.disk.specs.Record.{areas_of, leaves}
 use Rattle.disk.specs.Shelf.{opened, OldOrNew}
+use Rattle.disk.specs.declared.state.State.{State}
 use Rattle.node.specs.Keeping.{WholeNode, alone}
 use Rattle.cell.specs.Disks.{HoldsSaved, OpensTo, OpensToEither, OpensToNode, is_same_image}
 
@@ -89,6 +91,18 @@ pub stays-open : {ready : Bool} (was saved n : NodeView) (seen : Areas) (may_lea
 stays-open was saved n seen may_leave same only opens =
     let still = open-stays was saved seen same opens in
     (λ _. still, ((λ x may. settled-left saved n seen x (only x may) still), tt))
+
+-- what a cell keeps whose disk in memory was told when to fail
+pub told-to-fail : (ready was : Bool) (saved n : NodeView) (old new : State) → new ≡ old
+    → ready ≡ was → (IsTrue was → ∥ OpensTo saved (areas_of old.held) ∥₁)
+    → ((x : Areas) → leaves old x → ∥ OpensToEither saved n x ∥₁)
+    → (IsTrue ready → ∥ OpensTo saved (areas_of new.held) ∥₁)
+    × (((x : Areas) → leaves new x → ∥ OpensToEither saved n x ∥₁) × Unit {0})
+told-to-fail ready was saved n old new same as_before opens left = (
+  λ is. subst (λ (s : State). ∥ OpensTo saved (areas_of s.held) ∥₁) (sym same)
+      (opens (sym as_before ∙ is)),
+  ((λ x may. left x (subst (λ (s : State). leaves s x) same may)), tt),
+)
 
 -- what a crash leaves after a save that failed on the disk
 pub failed-left : {D : Type 0} (seen : D → Areas) (may_leave : D → Areas → Type 0)

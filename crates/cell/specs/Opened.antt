@@ -11,6 +11,7 @@ use Rattle.model.specs.View.{Link, NodeView}
 use Rattle.model.specs.World.{World}
 use Rattle.wire.specs.declared.seats.NodeSeat.{NodeSeat}
 use Rattle.disk.specs.Areas.{Areas}
+use Rattle.disk.specs.Crashes.{HasFailed}
 use Rattle.node.specs.Keeping.{WholeNode, new_whole}
 use Rattle.image.specs.Wholes.{whole_image}
 use Rattle.cell.specs.Desks.{IsAtSeat}
@@ -49,12 +50,13 @@ pub record IsTooLarge (shape : Shaped) (own : ℕ) (seen : Areas) : Type 0 where
   pub blank : seen.select ≡ []
   pub large : GREATEST_IMAGE < length (whole_image (new_whole shape own))
 
--- why the node of this number is refused from a disk that reads so, but for want of memory
-abbrev pub IsCause : Shaped → ℕ → Areas → Refusal → Type 0
-IsCause shape own seen Disk = Unit {0}
-IsCause shape own seen BadImage = HoldsNone seen
-IsCause shape own seen ImageTooLarge = IsTooLarge shape own seen
-IsCause shape own seen e = ⊥
+-- why the node of this number is refused from a disk, but for want of memory
+abbrev pub IsCause : {D : Type 0} → (D → Areas) → (D → ℕ) → (D → ℕ) → Shaped → ℕ → D → Refusal
+    → Type 0
+IsCause seen moment faults shape own disk Disk = HasFailed moment faults disk
+IsCause seen moment faults shape own disk BadImage = HoldsNone (seen disk)
+IsCause seen moment faults shape own disk ImageTooLarge = IsTooLarge shape own (seen disk)
+IsCause seen moment faults shape own disk e = ⊥
 
 -- what is so of a refusal that isn't Memory
 abbrev pub IfRefused : (Refusal → Type 0) → Unopened → Type 0

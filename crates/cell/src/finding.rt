@@ -28,7 +28,8 @@ fn create_node<D: Disk + Drop>(
     ensures ready { IfOk result (λ r. r.1.ready ≡ true) }
     ensures opens { IfOk result (λ r. OpensToNode r.0 (D.seen r.1.disk)) }
     ensures refused { IfErr result (λ e. e ≢ fault.Disks) }
-    ensures cause { IfErr result (IfRefused (IsCause shape own.number (D.seen disk))) }
+    ensures cause { IfErr result (IfRefused
+        (IsCause D.seen D.moment D.faults shape own.number disk)) }
 {
     let node = match Node::new(alloc, shape, own) {
         Ok(node) => node,
@@ -76,7 +77,8 @@ fn read_node<D: Disk + Drop>(
     ensures opens { IfOk result (λ r. OpensToNode r.0 (D.seen r.1.disk)) }
     ensures read { IfOk result (λ r. OpensToNode r.0 (D.seen disk)) }
     ensures other { IsErrOf result fault.Disks → HoldsAnother shape own.number (D.seen disk) }
-    ensures cause { IfErr result (IfRefused (IsCause shape own.number (D.seen disk))) }
+    ensures cause { IfErr result (IfRefused
+        (IsCause D.seen D.moment D.faults shape own.number disk)) }
 {
     let (shelf, node) = match Shelf::open::<Node>(alloc, disk) {
         Ok(found) => found,
@@ -103,7 +105,8 @@ fn node_of<D: Disk + Drop>(
     ensures opens { IfOk result (λ r. OpensToNode r.0 (D.seen r.1.disk)) }
     ensures read { IfOk result (λ r. IsReadFrom shape own.number (D.seen disk) r.0) }
     ensures other { IsErrOf result fault.Disks → HoldsAnother shape own.number (D.seen disk) }
-    ensures cause { IfErr result (IfRefused (IsCause shape own.number (D.seen disk))) }
+    ensures cause { IfErr result (IfRefused
+        (IsCause D.seen D.moment D.faults shape own.number disk)) }
 {
     match is_blank(&mut disk) {
         Ok(true) => create_node(alloc, shape, own, disk),
@@ -118,7 +121,7 @@ fn node_of<D: Disk + Drop>(
 /// `Disks` where there are fewer or more disks than nodes, or where a disk holds a node of another
 /// shape or number. `Refused` with BadImage where something was created on a disk and it opens to no
 /// node; with ImageTooLarge where a disk is blank and the image of its new node would be longer than
-/// an image may be; with Disk where a disk failed; with Memory where a growth was refused; with
+/// an image may be; with Disk where a call of a disk failed in this one; with Memory where a growth was refused; with
 /// nothing else. All disks are then given up.
 pub fn find<D: Disk + Drop>(
     alloc: Global,
@@ -129,7 +132,7 @@ pub fn find<D: Disk + Drop>(
     ensures other { IsErrOf result fault.Disks → vec_len disks ≡ shape.nodes →
         HasPlace (λ k d. HoldsAnother shape k (D.seen d)) disks.items }
     ensures cause { IfErr result (IfRefused (λ r.
-        HasPlace (λ k d. IsCause shape k (D.seen d) r) disks.items)) }
+        HasPlace (λ k d. IsCause D.seen D.moment D.faults shape k d r) disks.items)) }
     ensures count { IfOk result (λ r. length r.0.items ≡ shape.nodes) }
     ensures found { IfOk result (λ r.
         AreFound (λ n s. (s.ready ≡ true) × OpensToNode n (D.seen s.disk))

@@ -100,7 +100,7 @@ pub fn open<D: Disk + Drop>(
     ensures other { IsErrOf result fault.Disks → vec_len disks ≡ shape.nodes →
         HasPlace (λ k d. HoldsAnother shape k (D.seen d)) disks.items }
     ensures cause { IfErr result (IfRefused (λ r.
-        HasPlace (λ k d. IsCause shape k (D.seen d) r) disks.items)) }
+        HasPlace (λ k d. IsCause D.seen D.moment D.faults shape k d r) disks.items)) }
     ensures read { IfOk result (λ r. AreBeside (λ k d n. IsReadFrom shape k (D.seen d) n)
         disks.items (map (λ c. c.node) r.1.items)) }
     ensures count { IfOk result (λ r. vec_len r.1 ≡ shape.nodes) }

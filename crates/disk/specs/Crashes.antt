@@ -47,3 +47,9 @@ pub record HasCause (before now : ℕ) (fault : Type 0) : Type 0 where
   pub later : before ≤ now
   pub failed : fault → Grew before now
   pub fine : (fault → ⊥) → now ≡ before
+
+-- a call of this disk has failed since, as it counts at a later moment
+pub record HasFailed {D : Type 0} (moment faults : D → ℕ) (disk : D) : Type 0 where
+  pub after : D
+  pub later : moment disk ≤ moment after
+  pub failed : Grew (faults disk) (faults after)

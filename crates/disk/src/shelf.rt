@@ -25,9 +25,8 @@ pub struct Shelf<D: Disk> {
     disk: D,
     // Which area is selected, while the shelf is open.
     in_b: bool,
-    /// Whether the shelf is open.
-    pub ready: bool,
-    pub ghost settled: { IsTrue ready → IsSettled D.seen D.may_leave disk in_b },
+    ready: bool,
+    ghost settled: { IsTrue ready → IsSettled D.seen D.may_leave disk in_b },
 }
 
 /// Syncs a disk, and tells which side is selected.
@@ -77,6 +76,13 @@ fn recall<D: Disk, N: Persist + Drop>(alloc: Global, disk: &mut D) -> Result<(bo
 }
 
 impl<D: Disk> Shelf<D> {
+    /// Whether the shelf is open.
+    pub fn is_ready(&self) -> bool
+        ensures { result ≡ self.now.ready }
+    {
+        self.ready
+    }
+
     /// Lays the first value on a disk on which nothing was created, as [`is_blank`] tells.
     ///
     /// A crash within leaves an empty selector or the value; after Ok it leaves the value. Refused

@@ -97,7 +97,7 @@ impl<D: Disk> Cell<D> {
         ensures traced { self.new.trace ≡ keep_last TRACE_EVENTS (self.old.trace
             ++ record { call = call_of event; outcome = outcome_of result } ∷ []) }
     {
-        if !self.shelf.ready {
+        if !self.shelf.is_ready() {
             let closed = Outcome::Refused(Refusal::Closed);
             self.trace.push(Call::of(&event), closed);
             return Err(Refusal::Closed);
@@ -126,7 +126,7 @@ impl<D: Disk> Cell<D> {
         ensures same { IsSame self.old.seat self.new.seat }
         ensures stays { self.new ≡ record self.old { seat = self.new.seat } }
     {
-        if !self.shelf.ready {
+        if !self.shelf.is_ready() {
             return Err(Refusal::Closed);
         }
         if self.desk.own != 0 {

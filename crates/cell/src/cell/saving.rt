@@ -29,7 +29,7 @@ ghost use Rattle.node.specs.Keeping.{kept_whole};
 ghost use Rattle.image.specs.Images.{image_of};
 ghost use Rattle.disk.specs.Crashes.{Grew, Only};
 ghost use Rattle.disk.specs.Memory.{filled_by_crash, held_by, IsFaultless, left_by};
-ghost use Rattle.disk.specs.Plan.{fails_from};
+ghost use Rattle.disk.specs.Plan.{fails_from, fails_once};
 ghost use Rattle.wire.specs.Readers.{known, IsSame, IsSeatOf};
 ghost use Rattle.cell.specs.Disks.{is_same_image, HoldsSaved, OpensToNode};
 ghost use Rattle.cell.specs.Events.{
@@ -172,6 +172,17 @@ impl Cell<MemoryDisk> {
         ensures stays { self.new ≡ record self.old { disk = self.new.disk } }
     {
         self.shelf.fail_from(k);
+    }
+
+    /// The `k`-th call of the disk from now fails, as [`MemoryDisk::fail_once`] says.
+    pub fn fail_once(&mut self, k: u64)
+        ensures plan { self.new.disk.plan ≡ fails_once k }
+        ensures state { self.new.disk.state ≡ self.old.disk.state }
+        ensures past { self.new.disk.past ≡ self.old.disk.past }
+        ensures failures { self.new.disk.failures ≡ self.old.disk.failures }
+        ensures stays { self.new ≡ record self.old { disk = self.new.disk } }
+    {
+        self.shelf.fail_once(k);
     }
 
     /// The disk that a crash now leaves, as [`MemoryDisk::after_crash`] says.

@@ -9,7 +9,7 @@ pub invariant_of-self-inside-2 : goal.invariant_of-self-inside-2
 invariant_of-self-inside-2 g c =
     let cell = c.self.inside in
     let desk = c.act-answered.new.self in
-    let ready : cell.shelf.ready ≡ true = c.if-not-self.false in
+    let ready : cell.shelf.ready ≡ true = sym c.is_ready.ensures ∙ c.if-not-is_ready.false in
     stays-open cell.desk.saved.value desk.saved.value desk.node.core
     (g.D.Disk.seen cell.shelf.disk) (g.D.Disk.may_leave cell.shelf.disk)
     c.act-answered.ensures.saved (cell.shelf.settled ready).0 (cell.while_open ready)
@@ -21,5 +21,6 @@ returns-clause-closed g c =
           (met old.early c.args.event) old.core c.act-answered.new.self.node.core
           c.act-answered.result c.act-answered.ensures.given.acted.performs closed),
       λ shut. (let never : ◌≡◌ {A = Bool} true false =
-          sym (c.if-not-self.false) ∙ ap (λ v. v.is_open) c.self.view_is ∙ shut in absurd cc),
+          sym c.if-not-is_ready.false ∙ c.is_ready.ensures
+          ∙ ap (λ v. v.is_open) c.self.view_is ∙ shut in absurd cc),
     )

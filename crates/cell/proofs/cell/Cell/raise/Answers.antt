@@ -1,4 +1,4 @@
-use Rattle.std.proofs.Common.{◌≡◌, true}
+use Rattle.std.proofs.Common.{◌≡◌, ◌∙◌, sym, true}
 use Rattle.cell.proofs.Opening.{stays-open}
 use Rattle.cell.proofs.cell.Cell.raise.Goals as goal
 
@@ -6,7 +6,7 @@ pub invariant_of-self-inside : goal.invariant_of-self-inside
 invariant_of-self-inside g c =
     let cell = c.self.inside in
     let desk = c.raise.new.self in
-    let ready : cell.shelf.ready ≡ true = c.if-not-self.false in
+    let ready : cell.shelf.ready ≡ true = sym c.is_ready.ensures ∙ c.if-not-is_ready.false in
     stays-open cell.desk.saved.value desk.saved.value desk.node.core
     (g.D.Disk.seen cell.shelf.disk) (g.D.Disk.may_leave cell.shelf.disk) c.raise.ensures.saved
     (cell.shelf.settled ready).0 (cell.while_open ready)
