@@ -1,6 +1,6 @@
 -- Calls that were made one after another.
 use Rattle.std.proofs.Common.{◌≡◌, ℕ, ◌+◌, Bool, List, ◌∷◌, [], ◌++◌, subst, append_assoc, arith}
-use Rattle.workers.specs.Calls.{asked, freed_in, received_in, Makes}
+use Rattle.workers.specs.Calls.{asked, Makes}
 use Rattle.workers.specs.Turns.{at}
 use Rattle.workers.specs.declared.calls.Call.{Call}
 use Rattle.workers.specs.declared.calls.Past.{Past}

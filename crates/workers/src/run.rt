@@ -1,7 +1,7 @@
 //! The turns of a worker, one after another.
-ghost use Rattle.std.specs.Prelude.{◌≡◌, ◌≤◌};
-ghost use Rattle.workers.specs.Turns.{freed_over, is_whole, received_over, whole_turns};
-ghost use Rattle.workers.specs.Turns.{AddsTurn, AreTurns};
+ghost use Rattle.std.specs.Prelude.{◌≡◌};
+ghost use Rattle.workers.specs.Runs.{IsRun};
+ghost use Rattle.workers.specs.Turns.{is_whole, AddsTurn};
 
 use crate::calls::Past;
 use crate::gate::{Gate, Stage};
@@ -104,12 +104,7 @@ fn take_turns<R: Wait, S: Site, G: Gate>(
     turns: u32,
     stop: &Stop,
 ) -> Run
-    ensures node { result.report.node ≡ node }
-    ensures turns { AreTurns node nodes result.report.ended_at result.turns.value }
-    ensures counted { result.report.turns ≡ whole_turns result.report.ended_at result.turns.value }
-    ensures most { result.report.turns ≤ turns }
-    ensures received { result.report.received ≡ received_over result.turns.value }
-    ensures freed { result.report.freed ≡ freed_over result.turns.value }
+    ensures { IsRun node nodes turns result }
 {
     let mut past = Snapshot::of(&Turns::Start);
     let mut over = 0;
@@ -153,12 +148,7 @@ pub fn run_node<R: Wait, S: Site, G: Gate>(
     turns: u32,
     stop: &Stop,
 ) -> Run
-    ensures node { result.report.node ≡ node }
-    ensures turns { AreTurns node nodes result.report.ended_at result.turns.value }
-    ensures counted { result.report.turns ≡ whole_turns result.report.ended_at result.turns.value }
-    ensures most { result.report.turns ≤ turns }
-    ensures received { result.report.received ≡ received_over result.turns.value }
-    ensures freed { result.report.freed ≡ freed_over result.turns.value }
+    ensures { IsRun node nodes turns result }
 {
     let run = take_turns(rt, site, gate, node, nodes, turns, stop);
     stop.note_end();

@@ -1,6 +1,6 @@
-use Rattle.std.proofs.Common.{rules, ◌≡◌, ◌++◌, true, false, Some, None, is_ok, subst, sym}
+use Rattle.std.proofs.Common.{rules, ◌≡◌, ◌++◌, true, false, Some, None, subst, sym}
 use Rattle.std.specs.Result.{result_err}
-use Rattle.workers.specs.Calls.{asked, Makes}
+use Rattle.workers.specs.Calls.{asked}
 use Rattle.workers.specs.Turns.{turn_of}
 use Rattle.workers.specs.declared.gate.Stage.TheVariants as stage
 use Rattle.workers.proofs.Making.{answered, then}
