@@ -1,105 +1,37 @@
--- Of a node that stands all is true that is true of a saved node.
-use Rattle.std.proofs.Common.{◌≡◌, ℕ, zero, suc, ◌<◌, ◌≤◌, false, eqb, List, []}
-use Rattle.std.proofs.Common.{◌∷◌, length, get_or, Option, Some, None, inl, inr, sym}
-use Rattle.std.proofs.Common.{arith}
-use Rattle.std.specs.Prelude.{IfSome}
-use Rattle.std.specs.List.{AllByRecursion, Contains, IsDistinct}
-use Rattle.std.proofs.lemmas.Bool.{ne_eqb}
-use Rattle.std.proofs.lemmas.List.Elements.{All-from_get_or, recursion_from_All}
-use Rattle.ids.specs.declared.limits.TheConstants.{GREATEST_NUMBER}
+-- A node that is spelled stands exactly where all is true of it that is true of a saved node.
+use Rattle.std.proofs.Common.{◌≡◌, ℕ, zero, suc, ◌+◌, ◌-◌, ◌<◌, ◌≤◌, ◌==◌, true, false, cond, Bool}
+use Rattle.std.proofs.Common.{List, [], ◌∷◌, length, get_or, map, replicate, refl, sym, ap, ◌∙◌, subst}
+use Rattle.std.proofs.Common.{le_refl, arith}
+use Rattle.std.specs.Prelude.{IsTrue, ◌↔◌}
+use Rattle.std.specs.List.{AllByRecursion}
+use Rattle.std.proofs.Math.ListN.{get_or-map}
+use Rattle.std.proofs.lemmas.Bool.{and_parts, eqb-true, ltb-true}
+use Rattle.std.proofs.lemmas.List.{length-map, length-replicate}
+use Rattle.model.proofs.Lookups.{get_or-replicate_any}
+use Rattle.msg.specs.declared.body.Body.{Body}
+use Rattle.msg.specs.declared.body.Body.TheVariants as body
 use Rattle.msg.specs.declared.body.Message.{Message}
-use Rattle.msg.specs.declared.body.Token.{Token}
-use Rattle.heap.specs.Heap.{Has, Once, IsFree}
-use Rattle.model.specs.State.{Slot, Free, Occupied, Retired, slot_at}
-use Rattle.model.specs.References.{no_message}
-use Rattle.model.specs.View.{Link, NodeView, no_link, used}
-use Rattle.model.specs.WellFormed.{IsSlotOf, HasMarked, IsHeld}
-use Rattle.safra.proofs.Sizes.{bounded-sizes}
-use Rattle.image.specs.Nodes.{IsStanding, IsImageOf}
-use Rattle.image.specs.Conditions.{IsUsedSlot, IsFreeSlot, IsMarkedSlot, IsMessageWithin, IsSaved}
-
--- ---- the list of the free slots
-
-has_contains : (xs : List ℕ) (i : ℕ) → Has xs i → Contains xs i
-has_contains [] i has = absurd has
-has_contains (x ∷ xs) i (inl e) = (0, omega arith, sym e)
-has_contains (x ∷ xs) i (inr has) =
-    let there = has_contains xs i has in
-    (suc there.0, omega (arith, there.1), there.2)
-
-contains_at : (xs : List ℕ) (i k : ℕ) → k < length xs → get_or xs k i ≡ i → Has xs i
-contains_at [] i k lt e = absurd (omega (arith, lt))
-contains_at (x ∷ xs) i zero lt e = inl (sym e)
-contains_at (x ∷ xs) i (suc k) lt e = inr (contains_at xs i k (omega (arith, lt)) e)
-
-apart : (x : ℕ) (xs : List ℕ) → (Has xs x → ⊥) → AllByRecursion (λ y. eqb x y ≡ false) xs
-apart x [] never = tt
-apart x (y ∷ ys) never =
-    (ne_eqb x y (λ e. never (inl e)), apart x ys (λ has. never (inr has)))
-
-once_distinct : (xs : List ℕ) → Once xs → IsDistinct eqb xs
-unfolding IsDistinct
-once_distinct [] once = tt
-once_distinct (x ∷ xs) once = (apart x xs once.0, once_distinct xs once.1)
-
-free_slot : (s : Slot) → IsFree s → IsFreeSlot s
-free_slot (Free g) is = tt
-free_slot (Occupied g o) is = absurd is
-free_slot Retired is = absurd is
-
-slot_free : (s : Slot) → IsFreeSlot s → IsFree s
-slot_free (Free g) is = tt
-slot_free (Occupied g o) is = absurd is
-slot_free Retired is = absurd is
-
--- ---- slots, the grey ones, and the token
-
-used_slot : (cycle : ℕ) (s : Slot) → IsSlotOf cycle s → IsUsedSlot cycle s
-used_slot cycle (Free g) is = is
-used_slot cycle (Occupied g o) is = (is.born, is.mark, is.places)
-used_slot cycle Retired is = tt
-
-marked_slot : (cycle : ℕ) (s : Slot) → HasMarked cycle s → IsMarkedSlot cycle s
-marked_slot cycle (Free g) is = absurd is
-marked_slot cycle (Occupied g o) is = is
-marked_slot cycle Retired is = absurd is
-
-all_marked : (cycle : ℕ) (at : ℕ → Slot) (grey : List ℕ)
-    → AllByRecursion (λ k. HasMarked cycle (at k)) grey
-    → AllByRecursion (λ k. IsMarkedSlot cycle (at k)) grey
-all_marked cycle at [] all = tt
-all_marked cycle at (k ∷ ks) all =
-    (marked_slot cycle (at k) all.0, all_marked cycle at ks all.1)
-
-held_in_time : (cycle ended : ℕ) (token : Option Token) → IsHeld cycle ended token
-    → IfSome token (λ _. ended < cycle)
-held_in_time cycle ended None is = tt
-held_in_time cycle ended (Some token) is = is
-
--- ---- the messages of all links
-
-all_messages : (P : Message → Type 0) (ls : List Link)
-    → ((i k : ℕ) → P (get_or (get_or ls i no_link).unacknowledged k no_message))
-    → AllByRecursion (λ (l : Link). AllByRecursion P l.unacknowledged) ls
-all_messages P ls each =
-    let Each : Link → Type 0 = λ l. AllByRecursion P l.unacknowledged in
-    recursion_from_All Each ls (All-from_get_or Each ls no_link (λ i inside.
-    let messages = (get_or ls i no_link).unacknowledged in
-    recursion_from_All P messages
-    (All-from_get_or P messages no_message (λ k within. each i k))))
-
--- ---- the node
+use Rattle.msg.specs.Limits.{body_fits}
+use Rattle.link.specs.Senders.{IsLink}
+use Rattle.model.specs.References.{IsPlaced, no_message}
+use Rattle.model.specs.View.{Link, NodeView, no_link, used, all_kept, link_to}
+use Rattle.model.specs.WellFormed.{AreReports}
+use Rattle.node.specs.Invariant.{AreLinked, links_of}
+use Rattle.safra.proofs.Sizes.{bounded-sizes, sizes-bounded}
+use Rattle.image.specs.Grammar.{Stored, Fits, message_format, link_format}
+use Rattle.image.specs.Grammar.{image_format, lists_format, told_format, others_format}
+use Rattle.image.specs.Links.{StoredLink}
+use Rattle.image.specs.Nodes.{link_of, received_of, with_at, node_of, Spells, IsStanding}
+use Rattle.image.specs.Conditions.{IsSaved}
+use Rattle.image.proofs.Spelled.{all_kept_at}
+use Rattle.image.proofs.Whole.{own_below, links_count, reports_count}
 
 pub standing_saved : (n : NodeView) → IsStanding n → IsSaved n
 standing_saved n stands =
     let is = stands.node in
-    let p = n.local in
     let links = is.links.links in
     let phases = is.phases.phases in
-    let free = stands.slots in
-    let IsUsed = IsUsedSlot p.phases.cycle in
-    let IsNumber : ℕ → Type 0 = λ g. g ≤ GREATEST_NUMBER in
-    let IsCounted : Link → Type 0 = λ l. used l ≤ GREATEST_NUMBER in
+    let slots = stands.slots in
     record {
       place = record { shape = is.shape; own = is.own };
       phases = record {
@@ -109,48 +41,222 @@ standing_saved n stands =
         within = phases.within;
       };
       cursor = record { within = is.phases.cursor; resting = phases.cursor };
-      token = held_in_time p.phases.cycle p.phases.ended p.ring.token is.token;
-      reports = recursion_from_All (λ (r : ℕ). r ≤ p.phases.cycle) p.phases.reports phases.reports;
-      slots = record {
-        count = free.within;
-        each = recursion_from_All IsUsed p.heap.slots
-            (All-from_get_or IsUsed p.heap.slots Retired
-            (λ k inside. used_slot p.phases.cycle (slot_at p.heap k) (is.stocked.slots k)));
-      };
-      free = record {
-        exactly = λ k. (
-          λ found.
-              free_slot (slot_at p.heap k)
-              (free.named k (contains_at p.heap.free k found.0 found.1 found.2)),
-          λ is_free.
-              has_contains p.heap.free k
-              (free.listed k (slot_free (slot_at p.heap k) is_free)),
-        );
-        once = once_distinct p.heap.free free.once;
-      };
+      token = is.token;
+      reports = phases.reports;
+      slots = record { count = slots.within; each = is.stocked.slots };
+      free = record { exactly = λ k. (slots.named k, slots.listed k); once = slots.once };
       grey = record {
-        marked = all_marked p.phases.cycle (slot_at p.heap) p.heap.grey is.stocked.grey;
+        marked = is.stocked.grey;
         once = is.stocked.once;
         calm = is.stocked.calm;
       };
       references = record {
         held = is.references;
-        sent = all_messages (IsMessageWithin p.shape) n.links
-            (λ i k. (is.links.messages i k).references);
+        sent = λ i k. (is.links.messages i k).references;
         asked = is.asked.within;
         foreign = is.asked.others;
         once = is.asked.once;
       };
       letters = is.stocked.letters;
       numbers = record {
-        sent = recursion_from_All IsCounted n.links
-            (All-from_get_or IsCounted n.links no_link (λ i inside. (links.links i).used));
-        received = recursion_from_All IsNumber p.got
-            (All-from_get_or IsNumber p.got 0 (λ i inside. links.numbers i));
-        stamps = all_messages (λ x. x.stamp ≤ p.phases.cycle) n.links is.links.timely.stamps;
+        sent = λ i. (links.links i).used;
+        received = links.numbers;
+        stamps = is.links.timely.stamps;
       };
-      balances = bounded-sizes _ p.ring is.balance;
+      balances = bounded-sizes _ n.local.ring is.balance;
     }
 
-pub image_saved : (bytes : List ℕ) (n : NodeView) → IsImageOf bytes n → IsSaved n
-image_saved bytes n is = standing_saved n is.stands
+-- ---- what a spelling says
+
+registers_count : (s : Stored) → Fits s → length s.registers ≡ s.head.registers
+unfolding image_format lists_format told_format
+registers_count s fits = fits.within.1.0.1.0
+
+length_with : {A : Type 0} (k : ℕ) (a : A) (xs : List A) → k ≤ length xs
+    → length (with_at k a xs) ≡ suc (length xs)
+length_with zero a xs inside = refl
+length_with (suc k) a [] inside = absurd (omega (arith, inside))
+length_with (suc k) a (x ∷ xs) inside = ap suc (length_with k a xs (omega (arith, inside)))
+
+-- what was put in stands in its place
+with_at_own : {A : Type 0} (k : ℕ) (a : A) (xs : List A) → get_or (with_at k a xs) k a ≡ a
+with_at_own zero a xs = refl
+with_at_own (suc k) a [] = refl
+with_at_own (suc k) a (x ∷ xs) = with_at_own k a xs
+
+module _ {A B : Type 0} (P : B → Type 0) (f : A → B) (b : B) (here : P b) where
+  all_at : (xs : List A) (i : ℕ) → AllByRecursion (λ x. P (f x)) xs → P (get_or (map f xs) i b)
+  all_at [] i all = here
+  all_at (x ∷ xs) zero all = all.0
+  all_at (x ∷ xs) (suc i) all = all_at xs i all.1
+
+  with_at_each : (k : ℕ) (xs : List A) (i : ℕ) → AllByRecursion (λ x. P (f x)) xs
+      → P (get_or (with_at k b (map f xs)) i b)
+  with_at_each zero xs zero all = here
+  with_at_each zero xs (suc i) all = all_at xs i all
+  with_at_each (suc k) [] i all = here
+  with_at_each (suc k) (x ∷ xs) zero all = all.0
+  with_at_each (suc k) (x ∷ xs) (suc i) all = with_at_each k xs i all.1
+
+-- the reports that are said, by whether the node is node 0
+reports_by : (own nodes : ℕ) (told : List ℕ) (first : Bool) → (own == 0) ≡ first
+    → own < nodes → length told ≡ cond first (nodes - 1) 0
+    → (length (cond first (0 ∷ told) (replicate nodes 0)) ≡ nodes)
+    × AreReports own (cond first (0 ∷ told) (replicate nodes 0))
+reports_by own nodes told true is inside count = (
+  omega (arith, inside, count),
+  record { first = refl; others = λ far. absurd (far (eqb-true own 0 is)) },
+)
+reports_by own nodes told false is inside count =
+    let none : (i : ℕ) → get_or (replicate nodes 0) i 0 ≡ 0 = λ i. get_or-replicate_any nodes i 0 in (
+      length-replicate nodes 0,
+      record { first = none 0; others = λ far. none },
+    )
+
+-- ---- the messages that are kept
+
+placed : (b : Body) → IsTrue (body_fits b) → IsPlaced b
+placed (body.Put target place r) fits = ltb-true _ _ (and_parts _ _ (and_parts _ _ fits).0).1
+placed (body.Get target place label) fits = ltb-true _ _ (and_parts _ _ fits).1
+placed b fits = tt
+
+abbrev ArePlaced : Link → Type 0
+ArePlaced l = (k : ℕ) → IsPlaced (get_or l.unacknowledged k no_message).body
+
+messages_placed : (xs : List Message) → AllByRecursion message_format.IsWithin xs → (k : ℕ)
+    → IsPlaced (get_or xs k no_message).body
+unfolding message_format
+messages_placed [] all k = tt
+messages_placed (x ∷ xs) all zero = placed x.body all.0.1.1
+messages_placed (x ∷ xs) all (suc k) = messages_placed xs all.1 k
+
+links_placed : (ls : List StoredLink) → AllByRecursion link_format.IsWithin ls
+    → AllByRecursion (λ l. ArePlaced (link_of l)) ls
+unfolding link_format
+links_placed [] all = tt
+links_placed (l ∷ ls) all =
+    (messages_placed l.unacknowledged all.0.1.0.1.1, links_placed ls all.1)
+
+links_within : (s : Stored) → Fits s → AllByRecursion link_format.IsWithin s.links
+unfolding image_format lists_format others_format
+links_within s fits = fits.within.1.1.1.1.1.1
+
+-- ---- the node that is said
+
+module _ (s : Stored) (fits : Fits s) (saved : IsSaved (node_of s)) where
+  abbrev n : NodeView
+  n = node_of s
+
+  abbrev own : ℕ
+  own = s.head.own
+
+  one_more : length s.links + 1 ≡ s.head.nodes
+  one_more = omega (arith, links_count s fits, own_below s fits)
+
+  width : {A : Type 0} (f : StoredLink → A) (a : A)
+      → length (with_at own a (map f s.links)) ≡ s.head.nodes
+  width f a =
+      let count = length-map s.links f in
+      omega (
+        arith,
+        one_more,
+        count,
+        own_below s fits,
+        length_with own a (map f s.links) (omega (arith, one_more, count, own_below s fits)),
+      )
+
+  kept_all : (i : ℕ) → link_to n i ≡ all_kept (link_to n i)
+  kept_all i =
+      ap (λ (ls : List Link). get_or ls i no_link) (sym (all_kept_at own s.links))
+      ∙ get_or-map all_kept n.links i no_link
+
+  linked : (i : ℕ) → IsLink (link_to n i)
+  linked i =
+      let kept = ap (λ (l : Link). l.kept) (kept_all i) in
+      record {
+        base = omega (arith, kept);
+        kept = omega (arith, kept);
+        used = saved.numbers.sent i;
+      }
+
+  are_linked : AreLinked n.local.shape own n.local.phases.cycle (links_of n)
+  are_linked =
+      let sent = width link_of no_link in
+      let got = width received_of 0 in
+      record {
+        width = sent;
+        links = record {
+          width = omega (arith, sent, saved.place.shape.most_nodes);
+          received = got ∙ sym sent;
+          acked = got ∙ sym sent;
+          links = linked;
+          numbers = saved.numbers.received;
+          acks = λ i. le_refl _;
+        };
+        messages = λ i k. record {
+          stamp = omega (arith, saved.numbers.stamps i k, saved.phases.within);
+          references = saved.references.sent i k;
+          place = with_at_each ArePlaced link_of no_link (λ j. tt) own s.links i
+              (links_placed s.links (links_within s fits)) k;
+        };
+        timely = record {
+          unused = with_at_own own no_link (map link_of s.links);
+          unheard = with_at_own own 0 (map received_of s.links);
+          stamps = saved.numbers.stamps;
+        };
+      }
+
+  pub saved_standing : IsStanding (node_of s)
+  saved_standing =
+      let reports = reports_by own s.head.nodes s.reports (own == 0) refl (own_below s fits)
+      (reports_count s fits) in
+      record {
+        node = record {
+          shape = saved.place.shape;
+          own = saved.place.own;
+          references = saved.references.held;
+          stocked = record {
+            registers = registers_count s fits;
+            letters = saved.letters;
+            slots = saved.slots.each;
+            grey = saved.grey.marked;
+            once = saved.grey.once;
+            calm = saved.grey.calm;
+          };
+          asked = record {
+            within = saved.references.asked;
+            others = saved.references.foreign;
+            once = saved.references.once;
+          };
+          phases = record {
+            phases = record {
+              swept = saved.phases.swept;
+              ended = saved.phases.ended;
+              cycle = saved.phases.cycle;
+              within = saved.phases.within;
+              cursor = saved.cursor.resting;
+              reports = saved.reports;
+            };
+            cursor = saved.cursor.within;
+            reports = reports.0;
+            heard = reports.1;
+          };
+          token = saved.token;
+          links = are_linked;
+          balance = sizes-bounded _ n.local.ring saved.balances;
+        };
+        slots = record {
+          within = saved.slots.count;
+          named = λ k. (saved.free.exactly k).0;
+          listed = λ k. (saved.free.exactly k).1;
+          once = saved.free.once;
+        };
+      }
+
+pub saved_both : (bytes : List ℕ) (n : NodeView) → Spells bytes n → (IsSaved n ↔ IsStanding n)
+saved_both bytes n p = (
+  λ saved.
+      subst IsStanding p.node
+      (saved_standing p.says p.image.fits (subst IsSaved (sym p.node) saved)),
+  standing_saved n,
+)

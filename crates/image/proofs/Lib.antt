@@ -7,6 +7,5 @@ pub mod Loops
 pub mod Made
 mod Rows
 pub mod Saved
-pub mod Sizes
 pub mod Spelled
 pub mod Whole

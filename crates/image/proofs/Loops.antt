@@ -32,13 +32,6 @@ module _ {A : Type 0} (read : Reader A) (front : List A) (count i : ℕ) (bytes 
       let one : with_front front (each_at read (count - i) bytes) ≡ None = rw (k, h) refl in
       sym so_far ∙ one
 
-  pub is_done : count ≤ i → total ≡ Some (front, bytes)
-  is_done le =
-      let k : count - i ≡ 0 = omega arith in
-      let one : with_front front (each_at read (count - i) bytes) ≡ Some (front, bytes) =
-      rw k (ap (λ (xs : List A). Some (xs, bytes)) (append-nil front)) in
-      sym so_far ∙ one
-
 pub one_more : {A : Type 0} (xs ys : List A) (a : A) (k : ℕ) → ys ≡ xs ++ a ∷ []
     → length xs ≡ k → length ys ≡ k + 1
 one_more xs ys a k e len =

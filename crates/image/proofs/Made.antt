@@ -5,15 +5,15 @@ use Rattle.std.proofs.Common.{refl, sym, ap, ◌∙◌, subst, arith}
 use Rattle.std.specs.Prelude.{IfOk, IfErr, OnOk}
 use Rattle.std.specs.List.{insert}
 use Rattle.std.proofs.lemmas.List.{map-append}
-use Rattle.ids.specs.Limits.{IsShape}
 use Rattle.ids.specs.declared.refusal.Refusal.{Refusal}
 use Rattle.ids.specs.declared.refusal.Refusal.TheVariants.{Memory, BadImage}
-use Rattle.control.specs.Phases.{IsPhases}
 use Rattle.model.specs.View.{NodeView}
 use Rattle.node.specs.Parts.{IsRestorable}
-use Rattle.node.proofs.Restorable.{restorable, standing}
-use Rattle.image.specs.Grammar.{Stored, IsImage}
+use Rattle.node.proofs.Restorable.{restorable}
+use Rattle.image.specs.Grammar.{Stored, Fits, IsImage}
+use Rattle.image.specs.Conditions.{IsSaved}
 use Rattle.image.specs.Nodes.{with_at, node_of, IsStanding, IsImageOf}
+use Rattle.image.proofs.Conditions.{standing_saved, saved_standing}
 
 pub map-insert : {A B : Type 0} (f : A → B) (k : ℕ) (xs : List A) (x : A) → k ≤ length xs
     → map f (insert xs k x) ≡ with_at k (f x) (map f xs)
@@ -31,17 +31,6 @@ same_more {C = C} f g xs ys x y same one =
 
 -- what the call of the node gave, said of the node that it stands for
 module _ (given said : NodeView) (same : given ≡ said) where
-  pub gives_said : (r : Result NodeView Refusal) → IfOk r (λ n. n ≡ given)
-      → IfOk r (λ n. n ≡ said)
-  gives_said r made = subst (λ (m : NodeView). IfOk r (λ n. n ≡ m)) same made
-
-  pub said_stands : (r : Result NodeView Refusal) → IsShape given.local.shape
-      → IsPhases given.local.phases → OnOk r (IsRestorable given) → OnOk r (IsStanding said)
-  said_stands (Ok n) shape phases is =
-      subst IsStanding same
-      (record { node = standing given shape phases is; slots = is.heap.slots })
-  said_stands (Err e) shape phases is = tt
-
   pub said_refused : (r : Result NodeView Refusal)
       → IfErr r (λ e. e ≢ Memory → (e ≡ BadImage) × (IsRestorable given → ⊥))
       → IfErr r (λ e. e ≢ Memory → (e ≡ BadImage) × (IsStanding said → ⊥))
@@ -59,28 +48,23 @@ module _ (bytes : List ℕ) where
       → IfOk r (λ n. n ≡ node_of s) → OnOk r (IsStanding (node_of s)) → IfOk r (IsImageOf bytes)
   is_image s (Ok n) image made stands = record {
     spelled = record { says = s; image = image; node = sym made };
-    stands = subst IsStanding (sym made) stands;
+    saved = subst IsSaved (sym made) (standing_saved (node_of s) stands);
   }
   is_image s (Err e) image made stands = tt
 
   abbrev IsOfNone : Refusal → Type 0
   IsOfNone e = e ≢ Memory → (e ≡ BadImage) × ((n : NodeView) → IsImageOf bytes n → ⊥)
 
-  pub is_none : (s : Stored) (r : Result NodeView Refusal)
+  pub is_none : (s : Stored) → Fits s → (r : Result NodeView Refusal)
       → ((t : Stored) → IsImage bytes t → s ≡ t)
       → IfErr r (λ e. e ≢ Memory → (e ≡ BadImage) × (IsStanding (node_of s) → ⊥))
       → IfErr r IsOfNone
-  is_none s (Ok n) only refused = tt
-  is_none s (Err e) only refused = λ other.
+  is_none s fits (Ok n) only refused = tt
+  is_none s fits (Err e) only refused = λ other.
       let h = refused other in (
         h.0,
         λ n is.
             let same : node_of s ≡ n =
             ap node_of (only is.spelled.says is.spelled.image) ∙ is.spelled.node in
-            h.1 (subst IsStanding (sym same) is.stands),
+            h.1 (saved_standing s fits (subst IsSaved (sym same) is.saved)),
       )
-
-  pub spells_none : (e : Refusal)
-      → (e ≢ Memory → (e ≡ BadImage) × ((s : Stored) → IsImage bytes s → ⊥)) → IsOfNone e
-  spells_none e refused = λ other.
-      let h = refused other in (h.0, λ n is. h.1 is.spelled.says is.spelled.image)

@@ -1,12 +1,8 @@
--- A new node: what its image says, how that is spelled, and that it may be saved.
-use Rattle.std.proofs.Common.{◌≡◌, ℕ, zero, suc, [], ◌∷◌, ◌++◌, replicate}
-use Rattle.std.proofs.Common.{None, refl, arith}
+-- A new node: what its image says, and how that is spelled.
+use Rattle.std.proofs.Common.{◌≡◌, [], ◌∷◌, ◌++◌, replicate, None, refl}
 use Rattle.std.specs.Prelude.{pos}
-use Rattle.std.specs.List.{IsDistinct}
 use Rattle.ids.specs.Limits.{Shaped}
 use Rattle.msg.specs.declared.body.Colour.TheVariants.{White}
-use Rattle.model.specs.State.{register_at, new_local}
-use Rattle.model.specs.References.{IfAny, IsWithin}
 use Rattle.model.specs.View.{new_view}
 use Rattle.codec.specs.Formats.{number2, number4, number8, signed8}
 use Rattle.msg.specs.Formats.{colour, token, optional}
@@ -15,7 +11,6 @@ use Rattle.image.specs.Grammar.{phases_format, held_format, ring_format, link_fo
 use Rattle.image.specs.Grammar.{told_format, slots_format, others_format, lists_format}
 use Rattle.image.specs.Grammar.{image_format}
 use Rattle.image.specs.Nodes.{node_of}
-use Rattle.image.specs.Conditions.{IsSaved}
 
 shape : Shaped
 shape = record { nodes = 2; registers = 1; slots = 2 }
@@ -44,57 +39,3 @@ is_spelled : spelling says
     ≡ (0x4D ∷ 0x52 ∷ 1 ∷ 2 ∷ 1 ∷ 0 ∷ 1 ∷ 0 ∷ 0 ∷ 0 ∷ 2 ∷ []) ++ replicate 87 0
 unfolding says spelling image_format front_format head_format start_format nodes_format phases_format ring_format held_format lists_format told_format slots_format others_format link_format number2 number4 number8 signed8 colour token optional
 is_spelled = refl
-
-no_register : (k : ℕ) → IfAny (IsWithin shape) (register_at (new_local shape 1).heap k)
-unfolding shape
-no_register zero = tt
-no_register (suc k) = tt
-
-may_be_saved : IsSaved (new_view shape 1)
-unfolding IsDistinct shape no_register
-may_be_saved = record {
-  place = record {
-    shape = record {
-      least_nodes = omega arith;
-      most_nodes = omega arith;
-      least_registers = omega arith;
-      most_registers = omega arith;
-      least_slots = omega arith;
-      most_slots = omega arith;
-    };
-    own = omega arith;
-  };
-  phases = record {
-    swept = omega arith;
-    ended = omega arith;
-    cycle = omega arith;
-    within = omega arith;
-  };
-  cursor = record { within = omega arith; resting = λ _. refl };
-  token = tt;
-  reports = (omega arith, (omega arith, tt));
-  slots = record { count = omega arith; each = tt };
-  free = record {
-    exactly = λ k. (λ found. absurd (omega (arith, found.1)), λ none. absurd none);
-    once = tt;
-  };
-  grey = record { marked = tt; once = tt; calm = λ _. refl };
-  references = record {
-    held = record {
-      registers = no_register;
-      letters = λ k. tt;
-      places = λ k g o j e. absurd cc;
-    };
-    sent = (tt, (tt, tt));
-    asked = tt;
-    foreign = tt;
-    once = tt;
-  };
-  letters = tt;
-  numbers = record {
-    sent = (omega arith, (omega arith, tt));
-    received = (omega arith, (omega arith, tt));
-    stamps = (tt, (tt, tt));
-  };
-  balances = omega arith;
-}

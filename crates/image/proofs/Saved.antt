@@ -43,6 +43,7 @@ use Rattle.image.specs.Images.{image_of}
 use Rattle.image.specs.Nodes.{link_of, received_of, with_at, node_of}
 use Rattle.image.specs.Nodes.{IsImageOf}
 use Rattle.image.proofs.Kept.{count_stored}
+use Rattle.image.proofs.Conditions.{standing_saved}
 
 -- ---- within the limits
 
@@ -369,10 +370,10 @@ module _ (n : NodeView) (is : IsNode n) where
       image = record { fits = fits (wide opened); spelled = refl; within = omega (arith, same.1, all) };
       node = node_again;
     };
-    stands = record {
+    saved = standing_saved (kept_view n) (record {
       node = standing (kept_view n) is.shape is.phases.phases restorable;
       slots = slots;
-    };
+    });
   }
   is_saved items (Err e) is_open limit all slots restorable opened wide same = tt
 

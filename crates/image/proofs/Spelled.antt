@@ -79,7 +79,7 @@ one_spelling n bytes others p q =
     ∙ says_back q.says q.image.fits in
     p.image.spelled ∙ ap spelling e ∙ sym q.image.spelled
 
-all_kept_at : (k : ℕ) (xs : List StoredLink)
+pub all_kept_at : (k : ℕ) (xs : List StoredLink)
     → map all_kept (with_at k no_link (map link_of xs)) ≡ with_at k no_link (map link_of xs)
 all_kept_at zero xs = ap (λ (ls : List Link). no_link ∷ ls) (each xs) where
   each : (ys : List StoredLink) → map all_kept (map link_of ys) ≡ map link_of ys

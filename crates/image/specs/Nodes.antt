@@ -7,6 +7,7 @@ use Rattle.model.specs.View.{Link, NodeView, no_link}
 use Rattle.image.specs.declared.parts.Head.{Head}
 use Rattle.image.specs.Links.{StoredLink}
 use Rattle.image.specs.Grammar.{Stored, IsImage}
+use Rattle.image.specs.Conditions.{IsSaved}
 
 -- all messages count as saved
 abbrev pub link_of : StoredLink → Link
@@ -76,12 +77,12 @@ pub record Spells (bytes : List ℕ) (n : NodeView) : Type 0 where
   pub image : IsImage bytes says
   pub node : node_of says ≡ n
 
--- a node that stands, in a space of its shape
+-- a node that the code may have: it stands, and its heap is one of its shape
 pub record IsStanding (n : NodeView) : Type 0 where
   pub node : IsNode n
   pub slots : IsSlotted n.local.heap n.local.shape.slots
 
--- the bytes are the image of the node
+-- the bytes are the image of the node: they spell it, and it is as a saved node is to be
 pub record IsImageOf (bytes : List ℕ) (n : NodeView) : Type 0 where
   pub spelled : Spells bytes n
-  pub stands : IsStanding n
+  pub saved : IsSaved n

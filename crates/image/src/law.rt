@@ -1,8 +1,8 @@
-ghost use Rattle.std.specs.Prelude.{◌≡◌, ◌++◌, [], ℕ, List};
+ghost use Rattle.std.specs.Prelude.{◌≡◌, ◌++◌, ◌↔◌, [], ℕ, List};
 ghost use Rattle.model.specs.View.{NodeView, kept_view};
 ghost use Rattle.image.specs.Grammar.{Stored, Fits, spelling};
 ghost use Rattle.image.specs.Conditions.{IsSaved};
-ghost use Rattle.image.specs.Nodes.{Spells, IsImageOf};
+ghost use Rattle.image.specs.Nodes.{IsStanding, Spells};
 
 /// No spelling of an image begins another, so bytes are one image at most. This does nothing: its
 /// contract is the law.
@@ -21,8 +21,8 @@ pub fn nodes_spelled()
     ensures saved { (bytes : List ℕ) (n : NodeView) → Spells bytes n → kept_view n ≡ n }
 {}
 
-/// A node that has an image is as a saved node is to be. This does nothing: its contract is the
-/// law.
+/// A node that is spelled stands exactly where it is as a saved node is to be. So each node that is
+/// saved is so, and each that is so is read. This does nothing: its contract is the law.
 pub fn nodes_saved()
-    ensures { (bytes : List ℕ) (n : NodeView) → IsImageOf bytes n → IsSaved n }
+    ensures { (bytes : List ℕ) (n : NodeView) → Spells bytes n → (IsSaved n ↔ IsStanding n) }
 {}

@@ -1,4 +1,3 @@
-pub mod Limits
 pub mod Formats
 pub mod Frames
 pub mod Joins

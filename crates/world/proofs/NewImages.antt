@@ -1,22 +1,43 @@
 -- The image of a new node is short.
 use Rattle.std.proofs.Common.{◌≡◌, ◌≢◌, ℕ, zero, suc, ◌*◌, ◌<◌, ◌≤◌, ◌==◌, if◌then◌else◌, Bool, true, false, List, [], ◌∷◌, length, drop, replicate, None, refl, ap, arith}
 use Rattle.std.specs.List.{flat_map}
-use Rattle.codec.specs.Formats.{number4, number8, signed8}
+use Rattle.codec.specs.Formats.{number2, number4, number8, signed8}
 use Rattle.std.proofs.lemmas.List.{length-append, length-drop, length-replicate}
 use Rattle.ids.specs.Limits.{Shaped, IsShape}
 use Rattle.ids.specs.declared.limits.TheConstants.{GREATEST_IMAGE}
 use Rattle.ids.specs.declared.refusal.Refusal.{Refusal}
 use Rattle.ids.specs.declared.refusal.Refusal.TheVariants.{Memory, ImageTooLarge}
-use Rattle.msg.specs.Formats.{optional, colour}
+use Rattle.msg.specs.Formats.{reference, optional, colour}
 use Rattle.model.specs.View.{no_link, new_view}
 use Rattle.image.specs.Links.{StoredLink}
-use Rattle.image.specs.Grammar.{Stored, link_format, front_format, front_of, start_format, nodes_format, head_format, phases_format, ring_format, held_format}
-use Rattle.codec.specs.Formats.{number2}
+use Rattle.image.specs.Grammar.{Stored, spelling, image_format, lists_format, told_format, slots_format, others_format, slot_format, letter_format, link_format, front_format, front_of, start_format, nodes_format, head_format, phases_format, ring_format, held_format}
 use Rattle.image.specs.Images.{image_of, stored_by, stored_link, stored_links, without_at}
 use Rattle.world.proofs.Refusals.{memory-alone}
-use Rattle.image.proofs.Sizes.{spelling_length}
 
 -- ---- how long it is
+
+four : (n : ℕ) → length (number4.spell n) ≡ 4
+unfolding number4
+four n = refl
+
+-- what stands before the lists, and each of these
+spelling_length : (s : Stored) → length (spelling s)
+    ≡ length (front_format.spell (front_of s)) + 20
+    + (length (flat_map number8.spell s.reports) + length (flat_map optional.spell s.registers))
+    + (length (flat_map slot_format.spell s.slots) + length (flat_map number4.spell s.free)
+    + length (flat_map number4.spell s.grey))
+    + (length (flat_map reference.spell s.asked) + length (flat_map letter_format.spell s.letters)
+    + length (flat_map link_format.spell s.links))
+unfolding spelling image_format lists_format told_format slots_format others_format
+spelling_length s =
+    simp length-append (omega (
+      arith,
+      four (length s.slots),
+      four (length s.free),
+      four (length s.grey),
+      four (length s.asked),
+      four (length s.letters),
+    ))
 
 all-reports : (ns : List ℕ) → length (flat_map number8.spell ns) ≡ 8 * length ns
 unfolding number8

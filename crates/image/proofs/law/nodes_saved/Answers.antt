@@ -1,5 +1,5 @@
-use Rattle.image.proofs.Conditions.{image_saved}
+use Rattle.image.proofs.Conditions.{saved_both}
 use Rattle.image.proofs.law.nodes_saved.Goals as goal
 
 pub returns : goal.returns
-returns c = image_saved
+returns c = saved_both

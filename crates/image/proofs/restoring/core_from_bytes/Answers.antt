@@ -12,5 +12,5 @@ returns-clause-read c =
 
 pub returns-clause-refused : goal.returns-clause-refused
 returns-clause-refused c =
-    is_none c.args.bytes.now (stored_of c.in_ok-image.image) c.restored.result
-    c.in_ok-image.ensures.only c.restored.ensures.refused
+    is_none c.args.bytes.now (stored_of c.in_ok-image.image) c.in_ok-image.ensures.found.fits
+    c.restored.result c.in_ok-image.ensures.only c.restored.ensures.refused
