@@ -1,9 +1,13 @@
--- The cells and the watches of a wire, and the workers of a space.
-use Rattle.std.specs.Prelude.{◌≡◌, ℕ, ◌+◌, List, Option, None, Some, slice_get, vec_len}
+-- The cells and the watches of a wire, the workers of a space, and why one isn't opened.
+use Rattle.std.specs.Prelude.{◌≡◌, ◌≢◌, ℕ, ◌+◌, List, Option, None, Some, slice_get, vec_len}
+use Rattle.ids.specs.declared.refusal.Refusal.{Refusal}
+use Rattle.ids.specs.declared.refusal.Refusal.TheVariants.{Memory}
 use Rattle.wire.specs.Readers.{IsSeatOf, IsWatchOf}
 use Rattle.wire.specs.declared.seats.NodeSeat.{NodeSeat}
 use Rattle.wire.specs.declared.seats.Wire.{Wire}
 use Rattle.wire.specs.declared.seats.Watch.{Watch}
+use Rattle.supervisor.specs.declared.fault.OpenFault.{OpenFault}
+use Rattle.supervisor.specs.declared.fault.OpenFault.TheVariants.{Config, Disks, Refused}
 use Rattle.supervisor.specs.declared.team.Team.{Team}
 
 -- watches of this wire
@@ -18,3 +22,9 @@ AreSeats wire seats = (k : ℕ) (s : NodeSeat) → slice_get seats k ≡ Some s 
 abbrev pub worker_count : Option Team → ℕ
 worker_count None = 0
 worker_count (Some t) = vec_len t.workers + vec_len t.reports
+
+-- what is so of a refusal that isn't Memory, where the configuration was read before
+abbrev pub IfRefused : (Refusal → Type 0) → OpenFault → Type 0
+IfRefused P Config = ⊥
+IfRefused P Disks = Unit {0}
+IfRefused P (Refused e) = e ≢ Memory → P e

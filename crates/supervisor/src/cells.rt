@@ -3,8 +3,8 @@ ghost use Rattle.std.specs.Prelude.{◌≡◌, ◌≢◌, IfErr, IfOk, IsErrOf, 
 ghost use Rattle.std.specs.Arc.{arc_value};
 ghost use Rattle.ids.specs.declared.refusal.Refusal.TheVariants.{Memory};
 ghost use Rattle.wire.specs.Readers.{IsSeatOf};
-ghost use Rattle.cell.specs.Opened.{HasPlace, HoldsAnother};
-ghost use Rattle.supervisor.specs.Opened.{AreSeats, AreWatches};
+ghost use Rattle.cell.specs.Opened.{HasPlace, HoldsAnother, IsCause};
+ghost use Rattle.supervisor.specs.Opened.{AreSeats, AreWatches, IfRefused};
 ghost use Rattle.supervisor.specs.declared.cells.TheConstants.{WATCHES};
 ghost use Rattle.supervisor.specs.declared.fault.OpenFault.TheVariants as fault;
 
@@ -70,6 +70,8 @@ fn open_alone<D: Disk + Drop>(
     ensures disks { vec_len disks ≢ shape.nodes → IsErrOf result fault.Disks }
     ensures other { IsErrOf result fault.Disks → vec_len disks ≡ shape.nodes →
         HasPlace (λ k d. HoldsAnother shape k (D.seen d)) disks.items }
+    ensures cause { IfErr result (IfRefused (λ r.
+        HasPlace (λ k d. IsCause D.seen D.moment D.faults shape k d r) disks.items)) }
     ensures count { IfOk result (λ r. vec_len r.1 ≡ shape.nodes) }
     ensures seats { IfOk result (λ r. AreSeats r.0 (map (λ c. c.seat) r.1.items)) }
     ensures watches { IfOk result (λ r. AreWatches r.0 r.2.items) }
@@ -92,6 +94,8 @@ pub(crate) fn open_cells<D: Disk + Drop>(
     ensures disks { vec_len disks ≢ shape.nodes → IsErrOf result fault.Disks }
     ensures other { IsErrOf result fault.Disks → vec_len disks ≡ shape.nodes →
         HasPlace (λ k d. HoldsAnother shape k (D.seen d)) disks.items }
+    ensures cause { IfErr result (IfRefused (λ r.
+        HasPlace (λ k d. IsCause D.seen D.moment D.faults shape k d r) disks.items)) }
     ensures count { IfOk result (λ r. vec_len r.1 ≡ shape.nodes) }
     ensures watches { IfOk result (λ r. AreWatches (arc_value r.0) r.2.items) }
     ensures watch_count { IfOk result (λ r. vec_len r.2 ≡ WATCHES) }

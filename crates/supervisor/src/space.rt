@@ -7,8 +7,8 @@ ghost use Rattle.std.specs.List.Sorted.{IsNonDecreasingBy};
 ghost use Rattle.ids.specs.declared.refusal.Refusal.TheVariants as refusal;
 ghost use Rattle.wire.specs.Plays.{HasEnded, WasEnded};
 ghost use Rattle.wire.specs.Readers.{heard, loaded, watch_opening, IsSameWatch, IsWatchOf};
-ghost use Rattle.cell.specs.Opened.{HasPlace, HoldsAnother};
-ghost use Rattle.supervisor.specs.Opened.{worker_count, AreWatches};
+ghost use Rattle.cell.specs.Opened.{HasPlace, HoldsAnother, IsCause};
+ghost use Rattle.supervisor.specs.Opened.{worker_count, AreWatches, IfRefused};
 ghost use Rattle.supervisor.specs.declared.cells.TheConstants.{WATCHES};
 ghost use Rattle.supervisor.specs.declared.fault.OpenFault.TheVariants as fault;
 
@@ -46,12 +46,15 @@ impl<D: Disk + Drop> Space<D> {
     /// that hold nodes are those of one space that was closed or stopped earlier.
     ///
     /// `Disks` where there are fewer or more disks than nodes, or where a disk holds a node of
-    /// another shape or number; `Refused` Disk where a device failed, BadImage where a disk holds
-    /// no node, Memory. All disks are then given up.
+    /// another shape or number; `Refused` with BadImage, ImageTooLarge or Disk for the cause that
+    /// [`cell::find`] has, with Memory where a growth was refused, and with nothing else; never
+    /// `Config`. All disks are then given up.
     pub fn open(alloc: Global, config: &Config, disks: Vec<D>) -> Result<Space<D>, OpenFault>
         ensures disks { vec_len disks ≢ config.now.shape.nodes → IsErrOf result fault.Disks }
         ensures other { IsErrOf result fault.Disks → vec_len disks ≡ config.now.shape.nodes →
             HasPlace (λ k d. HoldsAnother config.now.shape k (D.seen d)) disks.items }
+        ensures cause { IfErr result (IfRefused (λ r. HasPlace
+            (λ k d. IsCause D.seen D.moment D.faults config.now.shape k d r) disks.items)) }
         ensures nodes { IfOk result (λ s. s.plan.nodes ≡ config.now.shape.nodes) }
         ensures turns { IfOk result (λ s. s.plan.turns ≡ config.now.turns) }
         ensures fresh { IfOk result (λ s. is_some s.team ≡ false) }
