@@ -14,6 +14,7 @@ mod mailboxes;
 mod names;
 mod nodes;
 mod out;
+mod programs;
 mod random;
 mod reaching;
 mod revived;
@@ -22,6 +23,7 @@ mod shelves;
 mod space;
 mod spaces;
 mod threads;
+mod turning;
 mod turns;
 
 use case::{Line, Stop, read_lines};
