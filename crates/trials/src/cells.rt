@@ -1,38 +1,32 @@
 //! Cells of new nodes on a wire, which are saved in memory.
-ghost use Rattle.std.specs.Prelude.{◌≡◌, ◌<◌, ℕ, length, slice_get, true, IfOk, Some};
+ghost use Rattle.std.specs.Prelude.{◌≡◌, true, map, IfOk};
 ghost use Rattle.model.specs.Steps.{is_own};
-ghost use Rattle.model.specs.View.{new_view};
-ghost use Rattle.node.specs.Keeping.{WholeNode, new_whole};
-ghost use Rattle.image.specs.Wholes.{whole_image, IsWholeOf, saved_whole};
-ghost use Rattle.disk.specs.Memory.{held_by};
-ghost use Rattle.disk.specs.Shelf.{opened};
 ghost use Rattle.wire.specs.Readers.{IsSeatOf, IsWatchOf};
-ghost use Rattle.cell.specs.Desks.{IsAtSeat};
-ghost use Rattle.trials.specs.Cells.{AreSeated};
+ghost use Rattle.supervisor.specs.Opened.{AreSeats};
 
 use crate::case::{Line, Stop, read};
 use crate::events::own_event_of;
 use crate::nodes::{InNumbers, put_frame, put_image};
 use crate::out::Out;
 use crate::shelves::node_on;
-use cell::{Cell, Inbound, Outbound};
-use disk::{MemoryDisk, Shelf};
-use ids::{NodeId, Refusal, Shape};
+use cell::{Cell, Inbound, Outbound, Unopened};
+use disk::MemoryDisk;
+use ids::{Refusal, Shape};
 use model::{Answer, Event};
 use node::Node;
 use std::alloc::Global;
-use wire::{NodeSeat, Watch, Wire};
+use wire::{Watch, Wire};
 
 // A cell, with the wire on which it sits.
 #[derive(Drop)]
-pub(crate) struct Seated<'a> {
+struct Seated<'a> {
     wire: &'a Wire,
-    pub(crate) cell: Cell<MemoryDisk>,
+    cell: Cell<MemoryDisk>,
     ghost sits: { IsSeatOf wire.now cell.seat },
 }
 
 impl Seated<'_> {
-    pub(crate) fn act(&mut self, event: Event) -> Result<Answer, Refusal>
+    fn act(&mut self, event: Event) -> Result<Answer, Refusal>
         requires { is_own event ≡ true }
     {
         self.cell.act(self.wire, event)
@@ -49,19 +43,19 @@ impl Seated<'_> {
         Ok(last)
     }
 
-    pub(crate) fn save(&mut self) -> Result<(), Refusal> {
+    fn save(&mut self) -> Result<(), Refusal> {
         self.cell.save(self.wire)
     }
 
-    pub(crate) fn reopen(&mut self) -> Result<(), Refusal> {
+    fn reopen(&mut self) -> Result<(), Refusal> {
         self.cell.reopen(self.wire)
     }
 
-    pub(crate) fn send(&mut self, to: u8) -> Result<Outbound, Refusal> {
+    fn send(&mut self, to: u8) -> Result<Outbound, Refusal> {
         self.cell.pump_out(self.wire, to)
     }
 
-    pub(crate) fn receive(&mut self, from: u8) -> Result<Inbound, Refusal> {
+    fn receive(&mut self, from: u8) -> Result<Inbound, Refusal> {
         self.cell.pump_in(self.wire, from)
     }
 
@@ -72,7 +66,7 @@ impl Seated<'_> {
         }
     }
 
-    pub(crate) fn is_unsaved(&self) -> bool {
+    fn is_unsaved(&self) -> bool {
         self.cell.unsaved()
     }
 
@@ -82,74 +76,48 @@ impl Seated<'_> {
     }
 }
 
-// The new nodes of a shape.
-fn new_nodes(alloc: Global, shape: Shape) -> Result<Vec<Node>, Refusal>
-    ensures count { IfOk result (λ v. length v.items ≡ shape.nodes) }
-    ensures new { IfOk result (λ v. (k : ℕ) (n : WholeNode) → slice_get v.items k ≡ Some n
-        → n ≡ new_whole shape k) }
-{
-    let mut nodes = Vec::new(alloc);
-    for number in 0..shape.nodes() {
-        let node = Node::new(alloc, shape, NodeId { number })?;
-        nodes.push(node)?;
+// A blank disk in memory for each node.
+fn blank_disks(alloc: Global, nodes: u8) -> Result<Vec<MemoryDisk>, Refusal> {
+    let mut disks = Vec::new(alloc);
+    for _ in 0..nodes {
+        disks.push(MemoryDisk::new(alloc))?;
     }
-    Ok(nodes)
+    Ok(disks)
 }
 
-/// A wire between the new nodes of a shape, their seats, and a watch.
-pub(crate) fn new_wire(alloc: Global, shape: Shape) -> Result<(Wire, Vec<NodeSeat>, Watch), Refusal>
-    ensures seats { IfOk result (λ r. AreSeated shape r.0 0 r.1.items) }
+/// The wire between the new nodes of a shape, their cells in order, with disks in memory, and a
+/// watch.
+pub(crate) fn open_cells(
+    alloc: Global,
+    shape: Shape,
+) -> Result<(Wire, Vec<Cell<MemoryDisk>>, Watch), Refusal>
+    ensures seats { IfOk result (λ r. AreSeats r.0 (map (λ c. c.seat) r.1.items)) }
     ensures watch { IfOk result (λ r. IsWatchOf r.0 r.2) }
 {
-    let nodes = new_nodes(alloc, shape)?;
-    let (wire, seats, mut watches) = Wire::new(alloc, shape, &nodes, 1)?;
-    let watch = watches.remove(0);
-    Ok((wire, seats, watch))
-}
-
-// A shelf on which a node was created.
-fn shelf_of(alloc: Global, node: &Node) -> Result<Shelf<MemoryDisk>, Refusal>
-    ensures ready { IfOk result (λ s. s.ready ≡ true) }
-    ensures created { IfOk result (λ s. opened (held_by s.disk) ≡ Some (whole_image node.now)) }
-    ensures read { IfOk result (λ _. IsWholeOf (whole_image node.now) (saved_whole node.now)) }
-{
-    match Shelf::create(alloc, MemoryDisk::new(alloc), node) {
-        Ok(shelf) => Ok(shelf),
-        Err((_disk, refusal)) => Err(refusal),
+    match cell::open(alloc, shape, blank_disks(alloc, shape.nodes())?, 1) {
+        Ok((wire, cells, mut watches)) => {
+            let watch = watches.remove(0);
+            Ok((wire, cells, watch))
+        }
+        Err(Unopened::Refused(refusal)) => Err(refusal),
+        Err(Unopened::Disks) => Err(Refusal::NoNode),
     }
 }
 
-/// The cell of a new node.
-pub(crate) fn new_cell(
+// Cells, in order, with their wire.
+fn seat_all<'a>(
     alloc: Global,
-    shape: Shape,
-    own: NodeId,
-    seat: NodeSeat,
-) -> Result<Cell<MemoryDisk>, Refusal>
-    requires { IsAtSeat (new_view shape own.number) seat }
-    ensures { IfOk result (λ c. c.seat ≡ seat) }
-{
-    let node = Node::new(alloc, shape, own)?;
-    let shelf = shelf_of(alloc, &node)?;
-    Cell::new(alloc, node, shelf, seat)
-}
-
-/// The cells of the new nodes of a shape, in order, each at its own seat.
-pub(crate) fn new_cells<'a>(
-    alloc: Global,
-    shape: Shape,
     wire: &'a Wire,
-    mut seats: Vec<NodeSeat>,
+    mut cells: Vec<Cell<MemoryDisk>>,
 ) -> Result<Vec<Seated<'a>>, Refusal>
-    requires { AreSeated shape wire.now 0 seats.items }
+    requires { AreSeats wire.now (map (λ c. c.seat) cells.items) }
 {
-    let mut cells = Vec::new(alloc);
-    for number in 0..shape.nodes() {
-        let seat = seats.remove(0);
-        let cell = new_cell(alloc, shape, NodeId { number }, seat)?;
-        cells.push(Seated { wire, cell })?;
+    let mut seated = Vec::new(alloc);
+    for _ in 0..cells.len() {
+        let cell = cells.remove(0);
+        seated.push(Seated { wire, cell })?;
     }
-    Ok(cells)
+    Ok(seated)
 }
 
 /// A case over the cells of new nodes.
@@ -171,8 +139,8 @@ fn on_wire(
     lines: &[Line<'_>],
     out: &mut Out,
 ) -> Result<Result<(), Stop>, Refusal> {
-    let (wire, seats, watch) = new_wire(alloc, shape)?;
-    let cells = new_cells(alloc, shape, &wire, seats)?;
+    let (wire, cells, watch) = open_cells(alloc, shape)?;
+    let cells = seat_all(alloc, &wire, cells)?;
     let mut subject = Cells {
         alloc,
         wire: &wire,

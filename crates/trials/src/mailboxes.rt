@@ -1,6 +1,7 @@
 //! The steps of a wire between two new nodes, on which node 0 sends its acknowledgement of nothing.
-ghost use Rattle.std.specs.Prelude.{◌≡◌, ℕ, Some, slice_get, IfOk};
+ghost use Rattle.std.specs.Prelude.{◌≡◌, ℕ, Some, length, slice_get, IfOk};
 ghost use Rattle.msg.specs.Grammar.{ack_frame};
+ghost use Rattle.node.specs.Keeping.{WholeNode, new_whole};
 ghost use Rattle.wire.specs.Rule.{Spells};
 ghost use Rattle.wire.specs.Readers.{
   width,
@@ -10,12 +11,13 @@ ghost use Rattle.wire.specs.Readers.{
   IsWatchOf,
   IsRaisedOf,
 };
+ghost use Rattle.trials.specs.Cells.{AreSeated};
 
 use crate::case::{Line, Stop, read};
-use crate::cells::new_wire;
 use crate::out::Out;
-use ids::{Cycle, Refusal, Shape};
+use ids::{Cycle, NodeId, Refusal, Shape};
 use msg::{Ack, Frame, encode};
+use node::Node;
 use std::alloc::Global;
 use std::thread;
 use std::thread::Threads;
@@ -139,6 +141,31 @@ pub(crate) fn run(alloc: Global, lines: &[Line<'_>], out: &mut Out) -> Result<()
     let done = joined.take_all(lines, out);
     drop(joined);
     done
+}
+
+// The new nodes of a shape.
+fn new_nodes(alloc: Global, shape: Shape) -> Result<Vec<Node>, Refusal>
+    ensures count { IfOk result (λ v. length v.items ≡ shape.nodes) }
+    ensures new { IfOk result (λ v. (k : ℕ) (n : WholeNode) → slice_get v.items k ≡ Some n
+        → n ≡ new_whole shape k) }
+{
+    let mut nodes = Vec::new(alloc);
+    for number in 0..shape.nodes() {
+        let node = Node::new(alloc, shape, NodeId { number })?;
+        nodes.push(node)?;
+    }
+    Ok(nodes)
+}
+
+// A wire between the new nodes of a shape, their seats, and a watch.
+fn new_wire(alloc: Global, shape: Shape) -> Result<(Wire, Vec<NodeSeat>, Watch), Refusal>
+    ensures seats { IfOk result (λ r. AreSeated shape r.0 r.1.items) }
+    ensures watch { IfOk result (λ r. IsWatchOf r.0 r.2) }
+{
+    let nodes = new_nodes(alloc, shape)?;
+    let (wire, seats, mut watches) = Wire::new(alloc, shape, &nodes, 1)?;
+    let watch = watches.remove(0);
+    Ok((wire, seats, watch))
 }
 
 // The bytes of node 0's acknowledgement of nothing.

@@ -7,6 +7,7 @@ mod case;
 mod cells;
 mod collected;
 mod disks;
+mod ended;
 mod events;
 mod files;
 mod frames;
@@ -14,6 +15,9 @@ mod mailboxes;
 mod names;
 mod nodes;
 mod out;
+mod players;
+mod programs;
+mod quiet;
 mod random;
 mod reaching;
 mod revived;
@@ -22,6 +26,7 @@ mod shelves;
 mod space;
 mod spaces;
 mod threads;
+mod turning;
 mod turns;
 
 use case::{Line, Stop, read_lines};
@@ -138,6 +143,7 @@ where
         + 'static,
 {
     match subject {
+        "ends" => ended::run(rt, alloc, lines, out),
         "files" => files::run(rt, lines, out),
         "space" => spaces::run(rt, alloc, lines, out),
         "threads" => threads::run(rt, alloc, lines, out),

@@ -20,8 +20,8 @@ pub(crate) struct Dice {
 }
 
 impl Dice {
-    // A number below the sides, of which there is at least one.
-    fn below(&mut self, sides: u8) -> u8 {
+    /// A number below the sides, of which there is at least one.
+    pub(crate) fn below(&mut self, sides: u8) -> u8 {
         let grown = self.state.wrapping_mul(6_364_136_223_846_793_005);
         self.state = grown.wrapping_add(1_442_695_040_888_963_407);
         ((self.state >> 33) % u64::from(sides.max(1))) as u8

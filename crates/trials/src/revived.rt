@@ -1,7 +1,7 @@
 //! A worker that its gate ends at a stage, and that comes back.
 ghost use Rattle.std.specs.Prelude.{◌≡◌, is_some, true};
 
-use crate::spaces::{MANY, await_flag, opened, pause};
+use crate::spaces::{MANY, Size, await_flag, opened, pause};
 use cell::Shared;
 use disk::MemoryDisk;
 use ids::Refusal;
@@ -173,7 +173,7 @@ where
     R: Clock + Threads + Wait + Clone + Send + Sync + Drop + 'static,
 {
     let gate = ending_gate(rt, alloc, stage)?;
-    let mut space = opened(alloc, MANY)?;
+    let mut space = opened(alloc, Size::pair(MANY))?;
     give(rt, space.program(0)?).ok()?;
     space.start(rt, gate).ok()?;
     let before = write_word(rt, space.program(0)?);

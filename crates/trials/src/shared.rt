@@ -1,23 +1,21 @@
 //! Cells of new nodes that are shared, on one wire, and a watch that hears of what they raise.
-ghost use Rattle.std.specs.Prelude.{◌≡◌, IfOk, Some};
+ghost use Rattle.std.specs.Prelude.{◌≡◌, map, IfOk, Some};
 ghost use Rattle.std.specs.Arc.{arc_value};
-ghost use Rattle.cell.specs.Desks.{IsAtSeat};
 ghost use Rattle.cell.specs.Names.{name_of, IsNamed};
-ghost use Rattle.model.specs.View.{new_view};
-ghost use Rattle.wire.specs.Readers.{IsSeatOf, IsWatchOf};
-ghost use Rattle.trials.specs.Cells.{AreSeated};
+ghost use Rattle.wire.specs.Readers.{IsWatchOf};
+ghost use Rattle.supervisor.specs.Opened.{AreSeats};
 
 use crate::case::{Line, Stop, read};
-use crate::cells::{new_cell, new_wire};
+use crate::cells::open_cells;
 use crate::events::own_event_of;
 use crate::out::Out;
-use cell::{Naming, SharedOn};
+use cell::{Cell, Naming, SharedOn};
 use disk::MemoryDisk;
-use ids::{NodeId, Refusal, Shape};
+use ids::{Refusal, Shape};
 use std::alloc::Global;
 use std::marker::Brand;
 use std::sync::{Arc, Wait};
-use wire::{NodeSeat, Watch, Wire};
+use wire::{Watch, Wire};
 
 // The cells, their wire, which has the name of `W` in proofs, and a watch of it.
 #[derive(Drop)]
@@ -88,22 +86,6 @@ fn on_cell<R: Wait, W: Naming>(
     Ok(())
 }
 
-// The cell of a new node at its seat, shared.
-fn share<W: Naming>(
-    alloc: Global,
-    shape: Shape,
-    own: NodeId,
-    seat: NodeSeat,
-    wire: &Arc<Wire>,
-) -> Result<SharedOn<MemoryDisk, W>, Refusal>
-    requires sits { IsSeatOf (arc_value wire.now) seat }
-    requires stands { IsAtSeat (new_view shape own.number) seat }
-    requires name { IsNamed W.wire (name_of (arc_value wire.now)) }
-{
-    let cell = new_cell(alloc, shape, own, seat)?;
-    Ok(SharedOn::new(cell, same_wire(wire)?))
-}
-
 // One more holder of the wire.
 fn same_wire(wire: &Arc<Wire>) -> Result<Arc<Wire>, Refusal>
     ensures { IfOk result (λ w. arc_value w ≡ arc_value wire.now) }
@@ -114,22 +96,21 @@ fn same_wire(wire: &Arc<Wire>) -> Result<Arc<Wire>, Refusal>
     }
 }
 
-// The shared cells of the new nodes of a shape, in order, each at its own seat.
+// The cells of a wire, in order, shared.
 fn share_all<W: Naming>(
     alloc: Global,
-    shape: Shape,
     wire: &Arc<Wire>,
-    mut seats: Vec<NodeSeat>,
+    mut cells: Vec<Cell<MemoryDisk>>,
 ) -> Result<Vec<SharedOn<MemoryDisk, W>>, Refusal>
-    requires seats { AreSeated shape (arc_value wire.now) 0 seats.items }
+    requires seats { AreSeats (arc_value wire.now) (map (λ c. c.seat) cells.items) }
     requires name { IsNamed W.wire (name_of (arc_value wire.now)) }
 {
-    let mut cells = Vec::new(alloc);
-    for number in 0..shape.nodes() {
-        let seat = seats.remove(0);
-        cells.push(share(alloc, shape, NodeId { number }, seat, wire)?)?;
+    let mut shared = Vec::new(alloc);
+    for _ in 0..cells.len() {
+        let cell = cells.remove(0);
+        shared.push(SharedOn::new(cell, same_wire(wire)?))?;
     }
-    Ok(cells)
+    Ok(shared)
 }
 
 /// A case over the shared cells of new nodes.
@@ -153,27 +134,26 @@ fn on_wire<R: Wait>(
     lines: &[Line<'_>],
     out: &mut Out,
 ) -> Result<Result<(), Stop>, Refusal> {
-    let (wire, seats, watch) = new_wire(alloc, shape)?;
+    let (wire, cells, watch) = open_cells(alloc, shape)?;
     let wire = Arc::new(alloc, wire)?;
-    named::<Brand, R>(rt, alloc, shape, wire, seats, watch, lines, out)
+    named::<Brand, R>(rt, alloc, wire, cells, watch, lines, out)
 }
 
 // The same on a wire whose name is that of `W`.
 fn named<W: Naming, R: Wait>(
     rt: &R,
     alloc: Global,
-    shape: Shape,
     wire: Arc<Wire>,
-    seats: Vec<NodeSeat>,
+    cells: Vec<Cell<MemoryDisk>>,
     watch: Watch,
     lines: &[Line<'_>],
     out: &mut Out,
 ) -> Result<Result<(), Stop>, Refusal>
-    requires seats { AreSeated shape (arc_value wire) 0 seats.items }
+    requires seats { AreSeats (arc_value wire) (map (λ c. c.seat) cells.items) }
     requires watch { IsWatchOf (arc_value wire) watch }
     requires name { W.wire ≡ Some (name_of (arc_value wire)) }
 {
-    let cells = share_all::<W>(alloc, shape, &wire, seats)?;
+    let cells = share_all::<W>(alloc, &wire, cells)?;
     let mut sharing = Sharing { wire, watch, cells };
     let done = sharing.take_all(rt, lines, out);
     drop(sharing);

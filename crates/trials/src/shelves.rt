@@ -130,7 +130,7 @@ impl<D: Disk + Drop> Bench<D> {
 }
 
 /// The node that a disk opens to.
-pub(crate) fn node_on(alloc: Global, disk: MemoryDisk) -> Result<Node, Refusal> {
+pub(crate) fn node_on<D: Disk + Drop>(alloc: Global, disk: D) -> Result<Node, Refusal> {
     match Shelf::open::<Node>(alloc, disk) {
         Ok((_shelf, node)) => Ok(node),
         Err(refusal) => Err(refusal),

@@ -1,11 +1,14 @@
-//! Spaces of two nodes in threads of their own. What is printed is the same in each schedule.
+//! Spaces whose nodes have workers. What is printed is the same in each schedule.
 ghost use Rattle.std.specs.Prelude.{◌≡◌, false, IfSome, is_some};
 
 use crate::case::{Line, Stop, read};
 use crate::out::Out;
+use crate::programs::run_programs;
 use crate::revived::revive;
 use crate::space::meet;
+use crate::turning::{is_writing, turn_often};
 use disk::MemoryDisk;
+use ids::Refusal;
 use model::Event;
 use std::alloc::{AllocError, Global};
 use std::sync::atomic::{AtomicBool, Ordering};
@@ -19,8 +22,28 @@ use workers::{Gate, Point, Report, Stage};
 // How many microseconds a worker pauses before each turn, and who waits before the next look.
 const PAUSE: u64 = 200;
 
-// More turns than a worker takes in the time that a case has.
+/// More turns than a worker takes in the time that a case has.
 pub(crate) const MANY: u32 = 1_000_000;
+
+/// How many nodes a space has, each with three registers and so many slots, and how many turns its
+/// workers take at most.
+#[derive(Clone, Copy)]
+pub(crate) struct Size {
+    pub(crate) nodes: u8,
+    pub(crate) slots: u32,
+    pub(crate) turns: u32,
+}
+
+impl Size {
+    /// Two nodes.
+    pub(crate) fn pair(turns: u32) -> Size {
+        Size {
+            nodes: 2,
+            slots: 8,
+            turns,
+        }
+    }
+}
 
 // A gate that pauses before each turn, and holds a node at a stage until the other one's
 // turn is over, which begins once the first one waits.
@@ -65,9 +88,9 @@ impl<R: Clock + Wait> Gate for Held<R> {
     }
 }
 
-// A gate that pauses before each turn.
+/// A gate that pauses before each turn.
 #[derive(Drop)]
-struct Pauses<R> {
+pub(crate) struct Pauses<R> {
     rt: R,
 }
 
@@ -88,6 +111,7 @@ pub(crate) fn await_flag<R: Clock + Wait>(rt: &R, flag: &AtomicBool) {
     }
 }
 
+/// Sleeps as long as a worker pauses before each turn.
 pub(crate) fn pause<R: Clock>(rt: &R) {
     thread::sleep(rt, Duration::from_micros(PAUSE));
 }
@@ -109,21 +133,30 @@ fn gate<R: Clone + Drop>(
     Ok(Arc::new(alloc, held)?)
 }
 
-fn text_of(alloc: Global, turns: u32) -> Result<String, AllocError> {
-    format!(in alloc; "nodes = 2\nregisters = 2\nslots = 8\nturns = {turns}\n")
+fn text_of(alloc: Global, size: Size) -> Result<String, AllocError> {
+    let Size {
+        nodes,
+        slots,
+        turns,
+    } = size;
+    format!(in alloc; "nodes = {nodes}\nregisters = 3\nslots = {slots}\nturns = {turns}\n")
 }
 
-fn disks(alloc: Global) -> Result<Vec<MemoryDisk>, AllocError> {
-    Ok(vec![in alloc; MemoryDisk::new(alloc), MemoryDisk::new(alloc)]?)
+fn disks(alloc: Global, nodes: u8) -> Result<Vec<MemoryDisk>, AllocError> {
+    let mut disks = Vec::new(alloc);
+    for _ in 0..nodes {
+        disks.push(MemoryDisk::new(alloc))?;
+    }
+    Ok(disks)
 }
 
-// A new space in memory, whose workers take so many turns at most.
-pub(crate) fn opened(alloc: Global, turns: u32) -> Option<Space<MemoryDisk>>
+/// A new space in memory, of this size.
+pub(crate) fn opened(alloc: Global, size: Size) -> Option<Space<MemoryDisk>>
     ensures { IfSome result (λ s. is_some s.team ≡ false) }
 {
-    let text = text_of(alloc, turns).ok()?;
+    let text = text_of(alloc, size).ok()?;
     let config = Config::from_text(alloc, text.as_str()).ok()?;
-    match Space::open(alloc, &config, disks(alloc).ok()?) {
+    match Space::open(alloc, &config, disks(alloc, size.nodes).ok()?) {
         Ok(space) => Some(space),
         Err(_) => None,
     }
@@ -135,7 +168,7 @@ where
     R: Clock + Threads + Wait + Clone + Send + Sync + Drop + 'static,
 {
     let gate = gate(rt, alloc, later, stage).ok()?;
-    let mut space = opened(alloc, 1)?;
+    let mut space = opened(alloc, Size::pair(1))?;
     let given = give(rt, &space);
     if given.is_some() && space.start(rt, gate).is_ok() {
         await_end(rt, &space);
@@ -169,16 +202,21 @@ fn give<R: Wait>(rt: &R, space: &Space<MemoryDisk>) -> Option<()> {
     Some(())
 }
 
+/// A gate that pauses before each turn.
+pub(crate) fn pausing<R: Clone + Drop>(rt: &R, alloc: Global) -> Option<Arc<Pauses<R>>> {
+    let pauses = Pauses {
+        rt: rt.clone().ok()?,
+    };
+    Arc::new(alloc, pauses).ok()
+}
+
 // A space is let go while its workers have many turns left. The gate is the last thing that they
 // let go of.
 fn leave<R>(rt: &R, alloc: Global) -> Option<()>
 where
     R: Clock + Threads + Wait + Clone + Send + Sync + Drop + 'static,
 {
-    let pauses = Pauses {
-        rt: rt.clone().ok()?,
-    };
-    let gate = Arc::new(alloc, pauses).ok()?;
+    let gate = pausing(rt, alloc)?;
     start(rt, alloc, &gate)?;
     for _ in rt.forever() {
         if Arc::strong_count(&gate) == 1 {
@@ -195,10 +233,46 @@ where
     R: Clock + Threads + Wait + Clone + Send + Sync + Drop + 'static,
 {
     let gate = gate.clone().ok()?;
-    let mut space = opened(alloc, MANY)?;
+    let mut space = opened(alloc, Size::pair(MANY))?;
     let started = space.start(rt, gate);
     drop(space);
     started.ok()
+}
+
+// What came of starting and closing a space.
+#[derive(Clone, Copy, Debug)]
+struct Started {
+    answer: Result<(), Refusal>,
+    // Whether no worker was left then.
+    ended: bool,
+    // How many held the gate then: each worker does until its thread is joined.
+    holders: usize,
+    // The reports when it was closed.
+    reports: usize,
+}
+
+// Starts a space of so many nodes, whose workers have many turns left, and closes it.
+fn start_all<R>(rt: &R, alloc: Global, nodes: u8) -> Option<Started>
+where
+    R: Clock + Threads + Wait + Clone + Send + Sync + Drop + 'static,
+{
+    let gate = pausing(rt, alloc)?;
+    let size = Size {
+        nodes,
+        slots: 8,
+        turns: MANY,
+    };
+    let mut space = opened(alloc, size)?;
+    let answer = space.start(rt, gate.clone().ok()?);
+    let ended = space.all_ended();
+    let holders = Arc::strong_count(&gate);
+    let reports = space.close(rt).len();
+    Some(Started {
+        answer,
+        ended,
+        holders,
+        reports,
+    })
 }
 
 /// A case over spaces.
@@ -218,8 +292,9 @@ where
 {
     match words {
         ["meet", turns] => {
-            let text = text_of(alloc, read(turns)?)?;
-            let reports = meet(rt, alloc, text.as_str(), disks(alloc)?);
+            let size = Size::pair(read(turns)?);
+            let text = text_of(alloc, size)?;
+            let reports = meet(rt, alloc, text.as_str(), disks(alloc, size.nodes)?);
             out.debug(&reports.map(|reports| reports.len()));
         }
         ["turn", later, stage] => {
@@ -227,6 +302,31 @@ where
         }
         ["leave"] => out.debug(&leave(rt, alloc)),
         ["revive", stage] => out.debug(&revive(rt, alloc, stage_of(stage)?)),
+        ["start", nodes] => out.debug(&start_all(rt, alloc, read(nodes)?)),
+        words => return take_many(rt, alloc, words, out),
+    }
+    Ok(())
+}
+
+// The commands that have the programs of many nodes do something.
+fn take_many<R>(rt: &R, alloc: Global, words: &[&str], out: &mut Out) -> Result<(), Stop>
+where
+    R: Clock + Threads + Wait + Clone + Send + Sync + Drop + 'static,
+{
+    match words {
+        ["programs", nodes, slots, rounds] => {
+            let size = Size {
+                nodes: read(nodes)?,
+                slots: read(slots)?,
+                turns: MANY,
+            };
+            out.debug(&run_programs(rt, alloc, size, read(rounds)?));
+        }
+        ["turns", nodes, objects, turns, what] => {
+            let (nodes, objects) = (read(nodes)?, read(objects)?);
+            let is_writing = is_writing(what)?;
+            out.debug(&turn_often(rt, alloc, nodes, objects, read(turns)?, is_writing));
+        }
         _ => return Err(Stop::Unknown),
     }
     Ok(())

@@ -1,162 +1,244 @@
 //! Threads that work on one wire at once. What is printed is the same whatever their schedule.
+ghost use Rattle.std.specs.Prelude.{◌≡◌, true};
+ghost use Rattle.model.specs.Steps.{is_own};
+
 use crate::case::{Line, Stop, read};
-use crate::cells::{Seated, new_cells, new_wire};
 use crate::mailboxes::exchange_frames;
-use crate::nodes::shape_of;
 use crate::out::Out;
-use ids::{GREATEST_NODES, Refusal, Shape};
-use model::Event;
-use std::alloc::Global;
+use crate::spaces::{Size, opened};
+use cell::Shared;
+use disk::Disk;
+use ids::Refusal;
+use model::{Answer, Event, Letter};
+use std::alloc::{AllocError, Global};
+use std::sync::Wait;
+use std::sync::atomic::{AtomicU64, Ordering};
 use std::thread;
 use std::thread::Threads;
+use supervisor::Space;
+use workers::Site;
 
-// How many turns on one thread may come at the end.
+// How many turns on one thread may come at the end, besides four for each letter.
 const GREATEST_TURNS: u32 = 20_000;
 
-// A cell in a ring, which gives letters to the next one.
+// The register of a member's object.
+const OWN: u16 = 0;
+
+// The register of what came in its last letter.
+const OTHER: u16 = 1;
+
+// A cell in a ring, which gives letters to the next one, and takes those of the one before it.
 #[derive(Drop)]
-struct Member<'a> {
-    seated: Seated<'a>,
+struct Member<'a, S> {
+    cell: &'a S,
+    // How many members have taken all their letters.
+    over: &'a AtomicU64,
     next: u8,
     previous: u8,
-    // How many letters it is still to give.
-    left: u32,
+    // How many letters it is to give, and to take.
+    letters: u32,
+    given: u32,
+    taken: u32,
+    // How many letters weren't the next one of the member before it.
+    wrong: u32,
 }
 
-impl<'a> Member<'a> {
-    // The member of a cell, which gets an object of its own.
-    fn new(mut seated: Seated<'a>, letters: u32) -> Result<Member<'a>, Refusal> {
-        match make_object(&mut seated) {
-            Ok((previous, next)) => Ok(Member {
-                seated,
-                next,
-                previous,
-                left: letters,
-            }),
-            Err(refusal) => Err(refusal),
-        }
+impl<S: Site> Member<'_, S> {
+    fn act<R: Wait>(&self, rt: &R, event: Event) -> Result<Answer, Refusal>
+        requires { is_own event ≡ true }
+    {
+        self.cell.act(rt, event)
+    }
+
+    // Makes the object that it gives.
+    fn make<R: Wait>(&self, rt: &R) {
+        let object = Event::Alloc {
+            register: OWN,
+            places: 0,
+        };
+        let _ = self.act(rt, object);
     }
 
     // Gives a letter, where it is to and may.
-    fn give(&mut self) {
+    fn give<R: Wait>(&mut self, rt: &R) {
         let letter = Event::Give {
             to: self.next,
-            label: 4,
-            register: 0,
+            label: self.given,
+            register: OWN,
         };
-        if self.left > 0 && self.seated.act(letter).is_ok() {
-            self.left = self.left.saturating_sub(1);
+        if self.given < self.letters && self.act(rt, letter).is_ok() {
+            self.given = self.given.saturating_add(1);
         }
     }
 
-    // Gives a letter, saves, and sends and takes in what there is.
-    fn turn(&mut self) {
-        self.give();
-        if self.seated.is_unsaved() {
-            let _ = self.seated.save();
+    fn take<R: Wait>(&mut self, rt: &R) {
+        if let Ok(Answer::Letter(letter)) = self.act(rt, Event::Accept { register: OTHER }) {
+            self.note(letter);
         }
-        let _ = self.seated.send(self.next);
-        let _ = self.seated.receive(self.previous);
-        let _ = self.seated.send(self.previous);
-        let _ = self.seated.receive(self.next);
     }
 
-    fn take_turns(&mut self, turns: u32) {
+    fn note(&mut self, letter: Letter) {
+        if letter.from != self.previous || letter.label != self.taken {
+            self.wrong = self.wrong.saturating_add(1);
+        }
+        self.taken = self.taken.saturating_add(1);
+        if self.taken == self.letters {
+            self.over.fetch_add(1, Ordering::SeqCst);
+        }
+    }
+
+    // Gives a letter, saves, sends and takes in what there is, and takes a letter.
+    fn turn<R: Wait>(&mut self, rt: &R) {
+        self.give(rt);
+        if self.cell.unsaved(rt) {
+            let _ = self.cell.save(rt);
+        }
+        let _ = self.cell.pump_out(rt, self.next);
+        let _ = self.cell.pump_in(rt, self.previous);
+        let _ = self.cell.pump_out(rt, self.previous);
+        let _ = self.cell.pump_in(rt, self.next);
+        self.take(rt);
+    }
+
+    // Takes so many turns, but none once so many members have taken all their letters.
+    fn take_turns<R: Wait>(&mut self, rt: &R, turns: u32, members: u64) {
         for _ in 0..turns {
-            self.turn();
+            if self.over.load(Ordering::SeqCst) == members {
+                return;
+            }
+            self.turn(rt);
         }
     }
 
-    // Whether it took in so many letters of the one before it.
-    fn has_taken(&self, letters: u32) -> bool {
-        self.seated.cell.node().core().taken_from(self.previous) == u64::from(letters)
+    // Whether it took all its letters, each once and in order.
+    fn has_taken(&self) -> bool {
+        self.taken == self.letters && self.wrong == 0
     }
 }
 
-// Makes an object in register 0, and answers the numbers before and after the cell's own.
-fn make_object(seated: &mut Seated<'_>) -> Result<(u8, u8), Refusal> {
-    let object = Event::Alloc {
-        register: 0,
-        places: 0,
-    };
-    let _ = seated.act(object)?;
-    let state = seated.cell.node().state();
-    Ok(beside(state.own, state.shape.nodes()))
-}
-
-// The numbers before and after this one in a ring of so many.
-fn beside(own: u8, nodes: u8) -> (u8, u8) {
+/// The numbers before and after this one in a ring of so many.
+pub(crate) fn beside(own: u8, nodes: u8) -> (u8, u8) {
     let last = nodes.saturating_sub(1);
     let next = if own < last { own.saturating_add(1) } else { 0 };
     let previous = if own > 0 { own.saturating_sub(1) } else { last };
     (previous, next)
 }
 
-// The ring of these cells, each of which is to give so many letters.
-fn ring<'a>(
+// The ring of a space's cells, each of which is to give so many letters.
+fn ring<'a, R: Wait, D: Disk + Drop>(
+    rt: &R,
     alloc: Global,
-    cells: Vec<Seated<'a>>,
+    space: &'a Space<D>,
+    over: &'a AtomicU64,
+    nodes: u8,
     letters: u32,
-) -> Result<Vec<Member<'a>>, Refusal> {
+) -> Result<Vec<Member<'a, Shared<D>>>, AllocError> {
     let mut members = Vec::new(alloc);
-    for seated in cells {
-        members.push(Member::new(seated, letters)?)?;
+    for node in 0..nodes {
+        if let Some(cell) = space.program(node) {
+            let (previous, next) = beside(node, nodes);
+            let member = Member {
+                cell,
+                over,
+                next,
+                previous,
+                letters,
+                given: 0,
+                taken: 0,
+                wrong: 0,
+            };
+            member.make(rt);
+            members.push(member)?;
+        }
     }
     Ok(members)
 }
 
-fn have_taken(members: &[Member], letters: u32) -> bool {
+fn have_taken<S: Site>(members: &[Member<'_, S>]) -> bool {
     for member in members {
-        if !member.has_taken(letters) {
+        if !member.has_taken() {
             return false;
         }
     }
     true
 }
 
-fn turn_each(members: &mut [Member]) {
+fn turn_each<R: Wait, S: Site>(rt: &R, members: &mut [Member<'_, S>]) {
     for member in members.iter_mut() {
-        member.turn();
+        member.turn(rt);
     }
 }
 
-// On one thread, until each has taken in so many letters; whether that came.
-fn finish(members: &mut [Member], letters: u32) -> bool {
-    for _ in 0..GREATEST_TURNS {
-        if have_taken(members, letters) {
+// On one thread, until each has taken all its letters; whether that came.
+fn finish<R: Wait, S: Site>(rt: &R, members: &mut [Member<'_, S>], letters: u32) -> bool {
+    for _ in 0..letters.saturating_mul(4).saturating_add(GREATEST_TURNS) {
+        if have_taken(members) {
             return true;
         }
-        turn_each(members);
+        turn_each(rt, members);
     }
     false
 }
 
 // Each takes so many turns, in a thread of its own.
-fn take_turns<R: Threads + Sync>(rt: &R, members: &mut [Member], turns: u32) {
-    let run = move |_place: usize, member: &mut Member| { member.take_turns(turns) };
-    thread::for_each_mut(rt, members, usize::from(GREATEST_NODES), &run);
+fn take_turns<R, S>(rt: &R, members: &mut [Member<'_, S>], turns: u32)
+where
+    R: Threads + Wait + Sync,
+    S: Site + Sync,
+{
+    let count = members.len() as u64;
+    let run = move |_place: usize, member: &mut Member<'_, S>| {
+        member.take_turns(rt, turns, count)
+    };
+    let threads = members.len().max(1);
+    thread::for_each_mut(rt, members, threads, &run);
 }
 
-// The cells of a ring at once, so many turns in a thread each, and then what is left; whether each
-// took in so many letters.
-fn exchange<R: Threads + Sync>(
+// The cells of a space as a ring: at most so many turns in a thread each, and then what is left;
+// whether each took in its letters.
+fn exchange_in<R, D>(
     rt: &R,
     alloc: Global,
-    shape: Shape,
+    space: &Space<D>,
+    nodes: u8,
     letters: u32,
     turns: u32,
-) -> Result<bool, Refusal> {
-    let (wire, seats, _watch) = new_wire(alloc, shape)?;
-    let cells = new_cells(alloc, shape, &wire, seats)?;
-    let mut members = ring(alloc, cells, letters)?;
-    take_turns(rt, &mut members, turns);
-    let done = finish(&mut members, letters);
+) -> Result<bool, AllocError>
+where
+    R: Threads + Wait + Sync,
+    D: Disk + Send + Drop,
+{
+    let over = AtomicU64::new(0);
+    let mut members = ring(rt, alloc, space, &over, nodes, letters)?;
+    if turns > 0 {
+        take_turns(rt, &mut members, turns);
+    }
+    let done = finish(rt, &mut members, letters);
     drop(members);
     Ok(done)
 }
 
+// The same in a new space of so many nodes.
+fn exchange<R: Threads + Wait + Sync>(
+    rt: &R,
+    alloc: Global,
+    nodes: u8,
+    letters: u32,
+    turns: u32,
+) -> Option<bool> {
+    let size = Size {
+        nodes,
+        slots: 2,
+        turns: 1,
+    };
+    let space = opened(alloc, size)?;
+    let done = exchange_in(rt, alloc, &space, nodes, letters, turns).ok();
+    drop(space);
+    done
+}
+
 /// A case of threads.
-pub(crate) fn run<R: Threads + Sync>(
+pub(crate) fn run<R: Threads + Wait + Sync>(
     rt: &R,
     alloc: Global,
     lines: &[Line<'_>],
@@ -168,7 +250,7 @@ pub(crate) fn run<R: Threads + Sync>(
     Ok(())
 }
 
-fn take<R: Threads + Sync>(
+fn take<R: Threads + Wait + Sync>(
     rt: &R,
     alloc: Global,
     words: &[&str],
@@ -176,9 +258,8 @@ fn take<R: Threads + Sync>(
 ) -> Result<(), Stop> {
     match words {
         ["ring", nodes, letters, turns] => {
-            let shape = shape_of(nodes, "1", "2")?;
-            let (letters, turns) = (read(letters)?, read(turns)?);
-            out.answer(exchange(rt, alloc, shape, letters, turns));
+            let done = exchange(rt, alloc, read(nodes)?, read(letters)?, read(turns)?);
+            out.debug(&done.ok_or(Stop::Memory)?);
         }
         ["frames", tries] => out.answer(exchange_frames(rt, alloc, read(tries)?)),
         _ => return Err(Stop::Unknown),

@@ -1,13 +1,17 @@
-use Rattle.std.proofs.Common.{◌<◌, arith}
-use Rattle.trials.proofs.Seating.{next-stands, later-seats}
+use Rattle.std.proofs.Common.{◌<◌, length, arith}
+use Rattle.std.specs.Arc.{arc_value}
+use Rattle.supervisor.proofs.Seats.{first-seat, later-seats}
 use Rattle.trials.proofs.shared.share_all.Goals as goal
 
-pub share-requires-clause-stands : goal.share-requires-clause-stands
-share-requires-clause-stands g c =
-    let inside : c.loop-number.number < c.args.shape.nodes = omega arith in
-    next-stands c.remove-seat.result c.loop-number.invariant inside c.remove-seat.ensures.value
+pub new-requires-clause-seat : goal.new-requires-clause-seat
+new-requires-clause-seat g c =
+    let some : 0 < length c.loop.cells.items = omega arith in
+    first-seat (λ y. y.seat) (arc_value c.args.wire.now) _ c.remove-cell.result
+    c.loop.invariant.seats some c.remove-cell.ensures.value
 
-pub loop-number-preserved : goal.loop-number-preserved
-loop-number-preserved g c =
-    let inside : c.loop-number.number < c.args.shape.nodes = omega arith in
-    later-seats _ c.loop-number.invariant inside c.remove-seat.ensures.items
+pub loop-preserved : goal.loop-preserved
+loop-preserved g c = record {
+  seats = later-seats (λ y. y.seat) (arc_value c.args.wire.now) _ _ c.loop.invariant.seats
+      c.remove-cell.ensures.items;
+  left = omega (arith, c.loop.invariant.left, c.remove-cell.ensures.len);
+}

@@ -1,6 +1,10 @@
+use Rattle.std.proofs.Common.{◌≡◌, ◌+◌, map, vec_len}
 use Rattle.std.specs.Arc.{arc_value}
-use Rattle.trials.specs.Cells.{AreSeated}
+use Rattle.supervisor.specs.Opened.{AreSeats}
 use Rattle.trials.proofs.shared.share_all.Given as goal
 
-abbrev pub invariant-loop-number : goal.invariant-loop-number
-invariant-loop-number g l = AreSeated l.shape (arc_value l.wire) l.number l.seats.items
+abbrev pub invariant-loop : goal.invariant-loop
+invariant-loop g l = record {
+  seats : AreSeats (arc_value l.wire) (map (λ c. c.seat) l.cells.items);
+  left : vec_len l.cells + l.counter ≡ l.end;
+}

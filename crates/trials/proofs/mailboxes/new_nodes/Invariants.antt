@@ -1,6 +1,6 @@
 use Rattle.std.proofs.Common.{◌≡◌, ℕ, length, Some, slice_get}
 use Rattle.node.specs.Keeping.{WholeNode, new_whole}
-use Rattle.trials.proofs.cells.new_nodes.Given as goal
+use Rattle.trials.proofs.mailboxes.new_nodes.Given as goal
 
 abbrev pub invariant-loop-number : goal.invariant-loop-number
 invariant-loop-number l =

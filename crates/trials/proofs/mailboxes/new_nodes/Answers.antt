@@ -1,5 +1,5 @@
 use Rattle.trials.proofs.Seating.{next-new}
-use Rattle.trials.proofs.cells.new_nodes.Goals as goal
+use Rattle.trials.proofs.mailboxes.new_nodes.Goals as goal
 
 pub loop-number-preserved : goal.loop-number-preserved
 loop-number-preserved c =

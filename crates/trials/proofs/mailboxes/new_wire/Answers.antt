@@ -7,7 +7,7 @@ use Rattle.model.specs.World.{new_world}
 use Rattle.wire.specs.Readers.{AreOpened}
 use Rattle.wire.proofs.NewWires.{new-opened, there}
 use Rattle.trials.proofs.Seating.{made-seated}
-use Rattle.trials.proofs.cells.new_wire.Goals as goal
+use Rattle.trials.proofs.mailboxes.new_wire.Goals as goal
 
 pub new-requires : goal.new-requires
 new-requires c =
