@@ -12,6 +12,9 @@ use ids::{GREATEST_IMAGE, Refusal};
 use node::{Core, Node};
 use std::alloc::Global;
 
+// Room that is taken at once: small images need no more.
+const FIRST_BYTES: usize = 512;
+
 /// The bytes of the node's image: that of the node as it is after a save, all of whose messages
 /// count as held by a saved node. What the node keeps besides its core isn't in it. It takes memory
 /// and time in proportion to them.
@@ -40,7 +43,7 @@ fn core_to_bytes(alloc: Global, core: &Core) -> Result<Vec<u8>, Refusal>
         → length (image_of core.now) ≤ GREATEST_IMAGE) }
 {
     let _summary = core.state();
-    let mut out = Writer::new(alloc, GREATEST_IMAGE as u32, 0);
+    let mut out = Writer::new(alloc, GREATEST_IMAGE as u32, FIRST_BYTES);
     put_node(&mut out, core);
     out.finish()
 }
