@@ -49,8 +49,10 @@ module _ {A B : Type 0} (F : Format A) (G : Format B) (front : List ℕ) (make :
       })
 
 pub made_again : {A B : Type 0} (F : Format A) (make : A → B) → IsSound F
-    → (a : A) (rest : List ℕ) → Fits F a → made_at F make (F.spell a ++ rest) ≡ Some (make a, rest)
-made_again F make sound a rest fits = rw (sound.again a rest fits) refl
+    → (a : A) (rest : List ℕ) → F.IsWide a → F.IsWithin a
+    → made_at F make (F.spell a ++ rest) ≡ Some (make a, rest)
+made_again F make sound a rest wide within =
+    rw (sound.again a rest (record { wide = wide; within = within })) refl
 
 pub mapped_sound : {A B : Type 0} (F : Format A) (make : A → B) (parts : B → A) → IsSound F
     → ((a : A) → Fits F a → parts (make a) ≡ a) → ((b : B) → make (parts b) ≡ b)
@@ -65,7 +67,7 @@ mapped_sound {A = A} {B = B} F make parts sound back again = record {
         },
       ));
   again = λ b rest fits.
-      made_again F make sound (parts b) rest (record { wide = fits.wide; within = fits.within })
+      made_again F make sound (parts b) rest fits.wide fits.within
       ∙ ap (λ (c : B). Some (c, rest)) (again b);
 }
 
@@ -155,9 +157,17 @@ IsFound {A = A} F choice =
 
 -- a choice of what is made of a value
 pub found : {A B : Type 0} (F : Format A) (G : Format B) (tag : ℕ) (make : A → B) → IsSound F
-    → ((a : A) → Fits F a → (G.spell (make a) ≡ tag ∷ F.spell a) × Fits G (make a))
+    → ((a : A) → G.spell (make a) ≡ tag ∷ F.spell a)
+    → ((a : A) → F.IsWide a → G.IsWide (make a)) → ((a : A) → F.IsWithin a → G.IsWithin (make a))
     → IsFound G (tag, made_at F make)
-found F G tag make sound made = made_takes F G (tag ∷ []) make sound made
+found F G tag make sound spelled wide within =
+    made_takes F G (tag ∷ []) make sound (λ a fits.
+    (spelled a, record { wide = wide a fits.wide; within = within a fits.within }))
+
+-- one choice before the others
+infixr 15 ◌⊕◌
+abbrev pub ◌⊕◌ : {A B : Type 0} → A → B → A × B
+a ⊕ b = (a, b)
 
 module _ {A : Type 0} (F : Format A) where
   abbrev pub AreFound : List (ℕ × Reader A) → Type 0
@@ -187,20 +197,16 @@ module _ {A : Type 0} (F : Format A) (sound : IsSound F) where
   option_takes =
       tagged_takes (option F)
       ((0, made_at nothing (λ _. None)) ∷ (1, made_at F (λ a. Some a)) ∷ []) (
-        found nothing (option F) 0 (λ _. None) nothing_sound
-            (λ u fits. (refl, record { wide = tt; within = tt })),
-        (
-          found F (option F) 1 (λ a. Some a) sound
-              (λ a fits. (refl, record { wide = fits.wide; within = fits.within })),
-          tt,
-        ),
+      found nothing (option F) 0 (λ _. None) nothing_sound (λ _. refl) (λ _ w. w) (λ _ w. w)
+      ⊕ found F (option F) 1 (λ a. Some a) sound (λ _. refl) (λ _ w. w) (λ _ w. w)
+      ⊕ tt
       )
 
   option_again : (o : Option A) (rest : List ℕ) → Fits (option F) o
       → (option F).read ((option F).spell o ++ rest) ≡ Some (o, rest)
   option_again None rest fits = refl
   option_again (Some a) rest fits =
-      made_again F (λ x. Some x) sound a rest (record { wide = fits.wide; within = fits.within })
+      made_again F (λ x. Some x) sound a rest fits.wide fits.within
 
   pub option_sound : IsSound (option F)
   option_sound = record { takes = option_takes; again = option_again }
@@ -213,6 +219,13 @@ longer F long [] = omega arith
 longer F long (x ∷ xs) =
     let others = longer F long xs in
     rw flat_map-cons (omega (arith, length-append (F.spell x) (flat_map F.spell xs), others, long x))
+
+-- a list has no more values than its spelling has bytes
+pub no_more : {A : Type 0} (count : Format ℕ) (F : Format A) → IsLong F → (xs : List A)
+    → length xs ≤ length ((counted count F).spell xs)
+no_more count F long xs =
+    let all = length-append (count.spell (length xs)) (flat_map F.spell xs) in
+    omega (arith, longer F long xs, all)
 
 module _ {A : Type 0} (F : Format A) (sound : IsSound F) (long : IsLong F) where
   each_takes : (n : ℕ) (bytes : List ℕ) (x : List A × List ℕ) → IsBytes bytes

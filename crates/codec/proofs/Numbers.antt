@@ -133,7 +133,7 @@ signed_again : (q : ℤ) (rest : List ℕ) → Fits signed8 q
 unfolding signed8
 signed_again q rest fits =
     made_again (number w64) (cast_signed w64) (number_sound w64 wide64) (cast_unsigned w64 q) rest
-    (record { wide = Fits-lt-pow (Fits-of_z fits.wide); within = tt })
+    (Fits-lt-pow (Fits-of_z fits.wide)) tt
     ∙ ap (λ (z : ℤ). Some (z, rest)) (to_z-of_z w64 q fits.wide)
 
 pub signed8_sound : IsSound signed8

@@ -28,14 +28,18 @@ unwritten a = record {
   known = λ is. tt;
 }
 
--- a text that can't be within the limit
-pub beyond : {a b : Writer} {x : List ℕ} {P : Type 0} → Writes a b x ⊥ → Writes a b x P
-beyond w = record {
+-- what follows of a fact is known too
+pub so : {a b : Writer} {x : List ℕ} {P Q : Type 0} → (P → Q) → Writes a b x P → Writes a b x Q
+so follows w = record {
   limit = w.limit;
   back = w.back;
   more = w.more;
-  known = λ is. absurd (w.known is);
+  known = λ is. follows (w.known is);
 }
+
+-- a text that can't be within the limit
+pub beyond : {a b : Writer} {x : List ℕ} {P : Type 0} → Writes a b x ⊥ → Writes a b x P
+beyond w = so (λ never. absurd never) w
 
 -- ---- one of a list more
 
@@ -88,14 +92,7 @@ written_more {A = A} spell P xs i x within is a b c one two =
 -- a tag, and what follows it
 pub behind : {a b c : Writer} {n : ℕ} {y : List ℕ} {P Q : Type 0} → Writes a b (n ∷ []) P
     → Writes b c y Q → Writes a c (n ∷ y) Q
-behind first second =
-    let w = both first second in
-    record {
-      limit = w.limit;
-      back = w.back;
-      more = w.more;
-      known = λ is. let k = w.known is in k.1;
-    }
+behind first second = so (λ k. k.1) (both first second)
 
 -- a byte, and what follows it
 pub first : {a b c : Writer} {n : ℕ} {y : List ℕ} {P Q : Type 0} → Writes a b (n ∷ []) P

@@ -1,20 +1,5 @@
-ghost use Rattle.std.specs.Prelude.{
-  ◌≡◌,
-  ◌⊎◌,
-  ◌<◌,
-  ◌≤◌,
-  ◌^◌,
-  [],
-  List,
-  ℕ,
-  length,
-  ⊤,
-  true,
-  false,
-  OnOk,
-  IfOk,
-  IfErr,
-};
+ghost use Rattle.std.specs.Prelude.{◌≡◌, ◌≢◌, ◌<◌, ◌≤◌, ◌^◌, [], List, ℕ, length, ⊤, true, false};
+ghost use Rattle.std.specs.Prelude.{OnOk, IfOk, IfErr};
 ghost use Rattle.codec.specs.Formats.{byte, number2, number4, number8, signed8};
 ghost use Rattle.codec.specs.Writing.{Says, IsOpen, Writes, Puts};
 ghost use Rattle.ids.specs.declared.refusal.Refusal.TheVariants.{Memory, ImageTooLarge};
@@ -90,11 +75,12 @@ impl Writer {
     /// [`Refusal::Memory`] where memory was refused.
     pub fn finish(self) -> Result<Vec<u8>, Refusal>
         ensures within { OnOk result (IsOpen self) }
-        ensures written { (text : List ℕ) → Says self text → IfOk result (λ v.
-            (v.items ≡ text) × (length text ≤ self.limit)) }
-        ensures refused { (text : List ℕ) → Says self text → IfErr result (λ e.
-            ((e ≡ Memory) × (length text ≤ self.limit))
-            ⊎ ((e ≡ ImageTooLarge) × (self.limit < length text))) }
+        ensures written { (text : List ℕ) → Says self text → IfOk result (λ v. v.items ≡ text) }
+        ensures fits { (text : List ℕ) → Says self text → OnOk result (length text ≤ self.limit) }
+        ensures refused { (text : List ℕ) → Says self text → IfErr result (λ e. e ≢ Memory
+            → (e ≡ ImageTooLarge) × (self.limit < length text)) }
+        ensures last { (text : List ℕ) → Says self text → IfErr result (λ e. e ≡ Memory
+            → length text ≤ self.limit) }
     {
         let Writer {
             bytes,

@@ -1,10 +1,11 @@
 -- The formats of the parts of an image are sound.
 use Rattle.std.proofs.Common.{◌≡◌, ℕ, List, ◌++◌, Some, true, refl, sym, ap}
 use Rattle.std.proofs.lemmas.Bool.{and_parts, eqb-true}
+use Rattle.std.specs.Prelude.{nat_lt}
 use Rattle.codec.specs.Formats.{Fits, number4, number8, nothing}
 use Rattle.codec.specs.Lengths.{number4_long, number8_long}
-use Rattle.codec.specs.Reading.{IsBytes, Took, IsSound}
-use Rattle.codec.proofs.Laws.{nothing_sound, mapped_sound, joined_sound, ◌⊗◌, kept_sound, found}
+use Rattle.codec.specs.Reading.{IsSound}
+use Rattle.codec.proofs.Laws.{nothing_sound, mapped_sound, joined_sound, ◌⊗◌, kept_sound, ◌⊕◌, found}
 use Rattle.codec.proofs.Laws.{tagged_takes, made_again, option_sound, many_sound, counted_sound}
 use Rattle.codec.proofs.Numbers.{byte_sound, number2_sound, number4_sound, number8_sound}
 use Rattle.codec.proofs.Numbers.{signed8_sound}
@@ -12,11 +13,12 @@ use Rattle.msg.proofs.Formats.{reference_sound, optional_sound, colour_sound, to
 use Rattle.msg.proofs.Formats.{body_sound}
 use Rattle.msg.specs.Lengths.{reference_long, optional_long}
 use Rattle.arena.specs.declared.Slot.TheVariants as slot
+use Rattle.model.specs.State.{Object}
 use Rattle.image.specs.Links.{StoredSlot}
 use Rattle.image.specs.Lengths.{slot_long, letter_long, message_long, link_long}
 use Rattle.image.specs.Grammar.{Start, is_start, start_format, nodes_format, head_format}
 use Rattle.image.specs.Grammar.{phases_format, held_format, ring_format, near, near_optional}
-use Rattle.image.specs.Grammar.{near_body, width_format, places_format, object_format, occupied}
+use Rattle.image.specs.Grammar.{width_format, places_format, object_format, occupied}
 use Rattle.image.specs.Grammar.{occupied_at, slots_at, slot_format, letter_format, message_format}
 use Rattle.image.specs.Grammar.{link_format, reports_told, links_told, Front, front_format}
 use Rattle.image.specs.Grammar.{told_format, slots_format, others_format, lists_format, stored}
@@ -35,18 +37,12 @@ is_start_is v h =
     let e : ◌≡◌ {A = Start} (v.0, (v.1.0, v.1.1)) (0x4D, (0x52, 1)) = cc in
     e
 
-start_sound : IsSound start_format
-unfolding start_format
-start_sound = kept_sound _ is_start (byte_sound ⊗ byte_sound ⊗ byte_sound)
-
-nodes_sound : IsSound nodes_format
-unfolding nodes_format
-nodes_sound = kept_sound _ _ (byte_sound ⊗ byte_sound)
-
 head_sound : IsSound head_format
-unfolding head_format start_format
+unfolding head_format start_format nodes_format
 head_sound =
-    mapped_sound _ _ _ (start_sound ⊗ nodes_sound ⊗ number2_sound ⊗ number4_sound)
+    let start = kept_sound _ is_start (byte_sound ⊗ byte_sound ⊗ byte_sound) in
+    let nodes = kept_sound _ (λ (p : ℕ × ℕ). nat_lt p.1 p.0) (byte_sound ⊗ byte_sound) in
+    mapped_sound _ _ _ (start ⊗ nodes ⊗ number2_sound ⊗ number4_sound)
     (λ a fits. ap (λ (v : Start). (v, a.1)) (sym (is_start_is a.0 fits.within.0.1)))
     (λ h. refl)
 
@@ -56,14 +52,10 @@ phases_sound =
     mapped_sound _ _ _ (number8_sound ⊗ number8_sound ⊗ number8_sound ⊗ number4_sound)
     (λ a fits. refl) (λ p. refl)
 
-held_sound : IsSound held_format
-unfolding held_format
-held_sound = option_sound _ token_sound
-
 ring_sound : IsSound ring_format
-unfolding ring_format
+unfolding ring_format held_format
 ring_sound =
-    mapped_sound _ _ _ (colour_sound ⊗ signed8_sound ⊗ signed8_sound ⊗ held_sound)
+    mapped_sound _ _ _ (colour_sound ⊗ signed8_sound ⊗ signed8_sound ⊗ option_sound _ token_sound)
     (λ a fits. refl) (λ r. refl)
 
 -- ---- what stands in the lists
@@ -74,16 +66,11 @@ near_sound = kept_sound _ _ reference_sound
 near_optional_sound : IsSound near_optional
 near_optional_sound = kept_sound _ _ optional_sound
 
-near_body_sound : IsSound near_body
-near_body_sound = kept_sound _ _ body_sound
-
-width_sound : IsSound width_format
-unfolding width_format
-width_sound = kept_sound _ _ byte_sound
-
 places_sound : IsSound places_format
-unfolding places_format
-places_sound = counted_sound near_optional near_optional_sound optional_long width_format width_sound
+unfolding places_format width_format
+places_sound =
+    counted_sound near_optional near_optional_sound optional_long width_format
+    (kept_sound _ _ byte_sound)
 
 object_sound : IsSound object_format
 unfolding object_format
@@ -93,38 +80,29 @@ object_sound =
 occupied_sound : IsSound occupied
 occupied_sound = number4_sound ⊗ object_sound
 
-slot_takes : (bytes : List ℕ) (x : StoredSlot × List ℕ) → IsBytes bytes
-    → slot_format.read bytes ≡ Some x → Took slot_format bytes x
-unfolding slot_format occupied_at
-slot_takes =
-    let F = slot_format in
-    tagged_takes F slots_at (
-      found number4 F 0 slot.Free number4_sound
-          (λ g fits. (refl, record { wide = fits.wide; within = fits.within })),
-      (
-        found occupied F 1 (λ x. slot.Occupied x.0 x.1) occupied_sound
-            (λ x fits. (refl, record { wide = fits.wide; within = fits.within })),
-        (
-          found nothing F 2 (λ _. slot.Retired) nothing_sound
-              (λ u fits. (refl, record { wide = tt; within = tt })),
-          tt,
-        ),
-      ),
-    )
-
 slot_again : (x : StoredSlot) (rest : List ℕ) → Fits slot_format x
     → slot_format.read (slot_format.spell x ++ rest) ≡ Some (x, rest)
 unfolding slot_format occupied_at
 slot_again (slot.Free g) rest fits =
-    made_again number4 slot.Free number4_sound g rest
-    (record { wide = fits.wide; within = fits.within })
+    made_again number4 slot.Free number4_sound g rest fits.wide fits.within
 slot_again (slot.Occupied g o) rest fits =
-    made_again occupied (λ x. slot.Occupied x.0 x.1) occupied_sound (g, o) rest
-    (record { wide = fits.wide; within = fits.within })
+    made_again occupied (λ x. slot.Occupied x.0 x.1) occupied_sound (g, o) rest fits.wide fits.within
 slot_again slot.Retired rest fits = refl
 
 slot_sound : IsSound slot_format
-slot_sound = record { takes = slot_takes; again = slot_again }
+unfolding slot_format occupied_at
+slot_sound =
+    let F = slot_format in
+    let occupied_slot = λ (x : ℕ × Object). slot.Occupied x.0 x.1 in
+    record {
+      takes = tagged_takes F slots_at (
+          found number4 F 0 slot.Free number4_sound (λ _. refl) (λ _ w. w) (λ _ w. w)
+          ⊕ found occupied F 1 occupied_slot occupied_sound (λ _. refl) (λ _ w. w) (λ _ w. w)
+          ⊕ found nothing F 2 (λ _. slot.Retired) nothing_sound (λ _. refl) (λ _ w. w) (λ _ w. w)
+          ⊕ tt
+          );
+      again = slot_again;
+    }
 
 letter_sound : IsSound letter_format
 unfolding letter_format
@@ -135,7 +113,7 @@ letter_sound =
 message_sound : IsSound message_format
 unfolding message_format
 message_sound =
-    mapped_sound _ _ _ (number8_sound ⊗ near_body_sound) (λ a fits. refl) (λ m. refl)
+    mapped_sound _ _ _ (number8_sound ⊗ kept_sound _ _ body_sound) (λ a fits. refl) (λ m. refl)
 
 link_sound : IsSound link_format
 unfolding link_format

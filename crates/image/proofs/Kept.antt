@@ -1,11 +1,11 @@
 -- What a node's readers give of its slots, of its messages and of its links is what its image says.
-use Rattle.std.proofs.Common.{◌≡◌, ◌≢◌, ℕ, zero, suc, ◌+◌, ◌-◌, ◌<◌, ◌≤◌, ◌==◌, true, false}
+use Rattle.std.proofs.Common.{◌≡◌, ◌≢◌, ℕ, zero, suc, ◌+◌, ◌-◌, ◌<◌, ◌≤◌, ◌==◌, false}
 use Rattle.std.proofs.Common.{cond, List, [], ◌∷◌, ◌++◌, length, map, take, get_or, Option}
-use Rattle.std.proofs.Common.{Some, None, ⊎_elim, refl, sym, ap, subst, ◌∙◌, arith}
+use Rattle.std.proofs.Common.{Some, None, refl, sym, ap, ◌∙◌, arith}
 use Rattle.std.specs.Prelude.{nat_le, slice_get}
 use Rattle.std.proofs.Math.Seq.{take-suc}
-use Rattle.std.proofs.lemmas.Bool.{cases_eq, eq-eqb, ne_eqb, lt-leb}
-use Rattle.std.proofs.lemmas.List.{append-nil, take_all}
+use Rattle.std.proofs.lemmas.Bool.{eq-eqb, ne_eqb, lt-leb}
+use Rattle.std.proofs.lemmas.List.{take_all}
 use Rattle.std.proofs.lemmas.Option.{slice_get-get_or, get_or_from_slice_get}
 use Rattle.arena.specs.declared.Slot.TheVariants as slot
 use Rattle.heap.specs.Heap.{slot_of}
@@ -79,22 +79,18 @@ all_stored links got k same past =
     let count = count_stored links got same in
     take_all k (stored_links links got) (omega (arith, count, past))
 
-without_own : {A : Type 0} (own : ℕ) (xs : List A)
-    → without_at own (take (suc own) xs) ≡ without_at own (take own xs)
-without_own zero [] = refl
-without_own zero (x ∷ xs) = refl
-without_own (suc own) [] = refl
-without_own {A = A} (suc own) (x ∷ xs) = ap (λ (ys : List A). x ∷ ys) (without_own own xs)
-
-without_other : {A : Type 0} (own k : ℕ) (xs : List A) (d : A) → k ≢ own → k < length xs
-    → without_at own (take (suc k) xs) ≡ without_at own (take k xs) ++ get_or xs k d ∷ []
-without_other own k [] d other lt = absurd (omega (arith, lt))
-without_other zero zero (x ∷ xs) d other lt = absurd (other refl)
-without_other zero (suc k) (x ∷ xs) d other lt = take-suc xs k d (omega (arith, lt))
-without_other (suc own) zero (x ∷ xs) d other lt = refl
-without_other {A = A} (suc own) (suc k) (x ∷ xs) d other lt =
-    ap (λ (ys : List A). x ∷ ys)
-    (without_other own k xs d (λ e. other (ap suc e)) (omega (arith, lt)))
+without_more : {A : Type 0} (own k : ℕ) (xs ys : List A) (d : A) → k < length xs
+    → (k ≡ own → ys ≡ []) → (k ≢ own → ys ≡ get_or xs k d ∷ [])
+    → without_at own (take (suc k) xs) ≡ without_at own (take k xs) ++ ys
+without_more own k [] ys d lt here there = absurd (omega (arith, lt))
+without_more zero zero (x ∷ xs) ys d lt here there = sym (here refl)
+without_more zero (suc k) (x ∷ xs) ys d lt here there =
+    rw (there (λ e. absurd cc)) (take-suc xs k d (omega (arith, lt)))
+without_more (suc own) zero (x ∷ xs) ys d lt here there = sym (there (λ e. absurd cc))
+without_more {A = A} (suc own) (suc k) (x ∷ xs) ys d lt here there =
+    ap (λ (zs : List A). x ∷ zs)
+    (without_more own k xs ys d (omega (arith, lt)) (λ e. here (ap suc e))
+    (λ other. there (λ e. other (omega (arith, e)))))
 
 -- one more link, unless it is the one to the node itself
 pub others_more : (own k : ℕ) (links : List Link) (got : List ℕ) → k < length links
@@ -106,19 +102,10 @@ others_more own k links got lt same =
     let xs : List StoredLink = stored_links links got in
     let one : StoredLink = stored_link (get_or links k no_link) (get_or got k 0) in
     let more : k + 1 ≡ suc k = omega arith in
-    ⊎_elim {C = without_at own (take (k + 1) xs)
-    ≡ without_at own (take k xs) ++ cond (k == own) [] (one ∷ [])}
-    (λ (here : k ≡ own).
-    let test : (k == own) ≡ true = eq-eqb k own here in
-    let same_first : without_at own (take (suc own) xs) ≡ without_at own (take own xs) =
-    without_own own xs in
-    rw (more, test, here)
-    (same_first ∙ sym (append-nil (without_at own (take own xs)))))
-    (λ (there : k ≢ own).
-    let test : (k == own) ≡ false = ne_eqb k own there in
-    let at : get_or xs k one ≡ one = stored_there links got k one lt same in
-    let within : k < length xs = subst (λ (n : ℕ). k < n) (sym (count_stored links got same)) lt in
-    rw (more, test)
-    (without_other own k xs one there within
-    ∙ ap (λ (x : StoredLink). without_at own (take k xs) ++ x ∷ []) at))
-    (cases_eq k own)
+    rw more
+    (without_more own k xs (cond (k == own) [] (one ∷ [])) one
+    (omega (arith, lt, count_stored links got same))
+    (λ here. rw (eq-eqb k own here) refl)
+    (λ there.
+    rw (ne_eqb k own there)
+    (ap (λ (x : StoredLink). x ∷ []) (sym (stored_there links got k one lt same)))))

@@ -1,10 +1,12 @@
 -- The node that an image says is made of what the image says.
 use Rattle.std.proofs.Common.{◌≡◌, ◌≢◌, ℕ, zero, suc, ◌≤◌, List, [], ◌∷◌, ◌++◌, length}
-use Rattle.std.proofs.Common.{map, Result, Ok, Err}
+use Rattle.std.proofs.Common.{map, ◌<◌, Option, Some, None, Result, Ok, Err}
 use Rattle.std.proofs.Common.{refl, sym, ap, ◌∙◌, subst, arith}
 use Rattle.std.specs.Prelude.{IfOk, IfErr, OnOk}
 use Rattle.std.specs.List.{insert}
 use Rattle.std.proofs.lemmas.List.{map-append}
+use Rattle.std.proofs.lemmas.Option.{same_Some}
+use Rattle.ids.specs.declared.limits.TheConstants.{GREATEST_IMAGE}
 use Rattle.ids.specs.declared.refusal.Refusal.{Refusal}
 use Rattle.ids.specs.declared.refusal.Refusal.TheVariants.{Memory, BadImage}
 use Rattle.model.specs.View.{NodeView}
@@ -14,6 +16,7 @@ use Rattle.image.specs.Grammar.{Stored, Fits, IsImage}
 use Rattle.image.specs.Conditions.{IsSaved}
 use Rattle.image.specs.Nodes.{with_at, node_of, IsStanding, IsImageOf}
 use Rattle.image.proofs.Conditions.{standing_saved, saved_standing}
+use Rattle.image.proofs.Whole.{read, again}
 
 pub map-insert : {A B : Type 0} (f : A → B) (k : ℕ) (xs : List A) (x : A) → k ≤ length xs
     → map f (insert xs k x) ≡ with_at k (f x) (map f xs)
@@ -55,16 +58,30 @@ module _ (bytes : List ℕ) where
   abbrev IsOfNone : Refusal → Type 0
   IsOfNone e = e ≢ Memory → (e ≡ BadImage) × ((n : NodeView) → IsImageOf bytes n → ⊥)
 
-  pub is_none : (s : Stored) → Fits s → (r : Result NodeView Refusal)
-      → ((t : Stored) → IsImage bytes t → s ≡ t)
-      → IfErr r (λ e. e ≢ Memory → (e ≡ BadImage) × (IsStanding (node_of s) → ⊥))
-      → IfErr r IsOfNone
-  is_none s fits (Ok n) only refused = tt
-  is_none s fits (Err e) only refused = λ other.
+  -- nothing that the node might be is said
+  pub too_long : GREATEST_IMAGE < length bytes → IsOfNone BadImage
+  too_long long = λ _. (refl, λ n is. omega (arith, long, is.spelled.image.within))
+
+  pub unread : (e : Refusal) → (e ≢ Memory → (e ≡ BadImage) × (read bytes ≡ None)) → IsOfNone e
+  unread e refused = λ other.
       let h = refused other in (
         h.0,
         λ n is.
-            let same : node_of s ≡ n =
-            ap node_of (only is.spelled.says is.spelled.image) ∙ is.spelled.node in
+            let some : ◌≡◌ {A = Option Stored} (Some is.spelled.says) None =
+            sym (again bytes is.spelled.says is.spelled.image) ∙ h.1 in
+            absurd cc,
+      )
+
+  pub is_none : (s : Stored) → Fits s → read bytes ≡ Some s → (r : Result NodeView Refusal)
+      → IfErr r (λ e. e ≢ Memory → (e ≡ BadImage) × (IsStanding (node_of s) → ⊥))
+      → IfErr r IsOfNone
+  is_none s fits says (Ok n) refused = tt
+  is_none s fits says (Err e) refused = λ other.
+      let h = refused other in (
+        h.0,
+        λ n is.
+            let p = is.spelled in
+            let one : s ≡ p.says = same_Some s p.says (sym says ∙ again bytes p.says p.image) in
+            let same : node_of s ≡ n = ap node_of one ∙ p.node in
             h.1 (saved_standing s fits (subst IsSaved (sym same) is.saved)),
       )

@@ -1,41 +1,22 @@
--- A new node: what its image says, and how that is spelled.
-use Rattle.std.proofs.Common.{◌≡◌, [], ◌∷◌, ◌++◌, replicate, None, refl}
-use Rattle.std.specs.Prelude.{pos}
-use Rattle.ids.specs.Limits.{Shaped}
-use Rattle.msg.specs.declared.body.Colour.TheVariants.{White}
-use Rattle.model.specs.View.{new_view}
+-- A new node: how its image is spelled, and that this says it.
+use Rattle.std.proofs.Common.{◌≡◌, [], ◌∷◌, ◌++◌, replicate, refl}
+use Rattle.model.specs.View.{NodeView, new_view}
 use Rattle.codec.specs.Formats.{number2, number4, number8, signed8}
 use Rattle.msg.specs.Formats.{colour, token, optional}
-use Rattle.image.specs.Grammar.{Stored, spelling, start_format, nodes_format, head_format}
-use Rattle.image.specs.Grammar.{phases_format, held_format, ring_format, link_format, front_format}
-use Rattle.image.specs.Grammar.{told_format, slots_format, others_format, lists_format}
-use Rattle.image.specs.Grammar.{image_format}
+use Rattle.image.specs.Grammar.{spelling, start_format, nodes_format, head_format, phases_format}
+use Rattle.image.specs.Grammar.{held_format, ring_format, link_format, front_format, told_format}
+use Rattle.image.specs.Grammar.{slots_format, others_format, lists_format, image_format}
+use Rattle.image.specs.Images.{image_of, stored_by}
 use Rattle.image.specs.Nodes.{node_of}
 
-shape : Shaped
-shape = record { nodes = 2; registers = 1; slots = 2 }
-
 -- node 1 of two
-says : Stored
-says = record {
-  head = record { nodes = 2; own = 1; registers = 1; slots = 2 };
-  phases = record { cycle = 0; ended = 0; swept = 0; cursor = 0 };
-  ring = record { colour = White; earlier = pos 0; recent = pos 0; token = None };
-  reports = [];
-  registers = None ∷ [];
-  slots = [];
-  free = [];
-  grey = [];
-  asked = [];
-  letters = [];
-  links = record { base = 0; unacknowledged = []; received = 0 } ∷ [];
-}
+abbrev new : NodeView
+new = new_view (record { nodes = 2; registers = 1; slots = 2 }) 1
 
-is_new : node_of says ≡ new_view shape 1
-unfolding says shape
-is_new = refl
+is_said : node_of (stored_by new) ≡ new
+is_said = refl
 
-is_spelled : spelling says
+is_spelled : image_of new
     ≡ (0x4D ∷ 0x52 ∷ 1 ∷ 2 ∷ 1 ∷ 0 ∷ 1 ∷ 0 ∷ 0 ∷ 0 ∷ 2 ∷ []) ++ replicate 87 0
-unfolding says spelling image_format front_format head_format start_format nodes_format phases_format ring_format held_format lists_format told_format slots_format others_format link_format number2 number4 number8 signed8 colour token optional
+unfolding spelling image_format front_format head_format start_format nodes_format phases_format ring_format held_format lists_format told_format slots_format others_format link_format number2 number4 number8 signed8 colour token optional
 is_spelled = refl

@@ -4,12 +4,11 @@ use Rattle.std.proofs.Common.{◌≡◌, ◌≢◌, ℕ, zero, suc, ◌-◌, ◌
 use Rattle.std.proofs.Common.{true, false, cond, List, [], ◌∷◌, length, map, drop, replicate}
 use Rattle.std.proofs.Common.{get_or, Option, Some, None, ⊎_elim, refl, sym, ap, ◌∙◌}
 use Rattle.std.proofs.Common.{arith}
-use Rattle.std.specs.Prelude.{nat_lt, nat_le, option_to_list, IsTrue, Result, Ok, Err, OnOk, IfOk, IfErr}
-use Rattle.std.proofs.Common.{◌⊎◌, inl, inr}
+use Rattle.std.specs.Prelude.{nat_lt, nat_le, option_to_list, IsTrue, Result, Ok, Err, OnOk}
 use Rattle.ids.specs.declared.refusal.Refusal.{Refusal}
-use Rattle.ids.specs.declared.refusal.Refusal.TheVariants.{Memory, ImageTooLarge}
 use Rattle.msg.specs.declared.body.Token.{Token}
 use Rattle.std.specs.List.{AllByRecursion}
+use Rattle.std.proofs.lemmas.List.Elements.{All-from_get_or, recursion_from_All}
 use Rattle.std.proofs.lemmas.Bool.{and_from, cases_eq, eq-eqb, ne_eqb, lt-ltb, le-leb}
 use Rattle.ids.specs.Limits.{Shaped, IsShape, reference_fits}
 use Rattle.ids.specs.declared.names.Ref.{Ref}
@@ -171,15 +170,9 @@ module _ (shape : Shaped) (sizes : IsShape shape) where
 
 -- ---- what has no limits
 
-any_eight : (xs : List ℕ) → AllByRecursion number8.IsWithin xs
-unfolding number8
-any_eight [] = tt
-any_eight (x ∷ xs) = (tt, any_eight xs)
-
-any_four : (xs : List ℕ) → AllByRecursion number4.IsWithin xs
-unfolding number4
-any_four [] = tt
-any_four (x ∷ xs) = (tt, any_four xs)
+every : (P : ℕ → Type 0) (xs : List ℕ) (d : ℕ) → ((k : ℕ) → k < length xs → P (get_or xs k d))
+    → AllByRecursion P xs
+every P xs d each = recursion_from_All P xs (All-from_get_or P xs d each)
 
 any_held : (o : Option Token) → held_format.IsWithin o
 unfolding held_format
@@ -311,63 +304,46 @@ module _ (n : NodeView) (is : IsNode n) where
 
   listed : (lists_format (front_of (stored_by n))).IsWithin
       (told_of (stored_by n), (slots_of (stored_by n), others_of (stored_by n)))
-  unfolding lists_format told_format slots_format others_format number4
+  unfolding lists_format told_format slots_format others_format number4 number8
   listed =
-      let sizes = is.shape in
       let p = n.local in
       let heap = p.heap in
-      let count = count_stored n.links p.got same_width in (
-        (
-          (
-            told_count p.own p.shape.nodes p.phases.reports is.phases.reports,
-            any_eight (stored_by n).reports,
-          ),
-          (
-            is.stocked.registers,
-            optionals p.shape sizes heap.registers is.references.registers,
-          ),
-        ),
-        (
-          (
-            (
-              tt,
-              (
-                refl,
-                each_slot p.shape sizes p.phases.cycle heap.slots is.stocked.slots
-                    (λ k g o j. is.references.places k g o j),
-              ),
-            ),
-            ((tt, (refl, any_four heap.free)), (tt, (refl, any_four heap.grey))),
-          ),
-          (
-            (tt, (refl, references p.shape sizes p.asked is.asked.within)),
-            (
-              (tt, (refl, letters p.shape sizes heap.letters is.references.letters)),
-              (
-                length_without p.own (stored_links n.links p.got) (omega (arith, own_inside, count))
-                    ∙ omega (arith, count, is.links.width),
-                others p.shape sizes p.own n.links p.got (λ i k. is.links.messages i k),
-              ),
-            ),
-          ),
-        ),
-      )
+      let count = count_stored n.links p.got same_width in
+      let told = told_count p.own p.shape.nodes p.phases.reports is.phases.reports in
+      let reports = every number8.IsWithin (stored_by n).reports 0 (λ k _. tt) in
+      let registers = optionals p.shape is.shape heap.registers is.references.registers in
+      let slots =
+      each_slot p.shape is.shape p.phases.cycle heap.slots is.stocked.slots
+      (λ k g o j. is.references.places k g o j) in
+      let free = every number4.IsWithin heap.free 0 (λ k _. tt) in
+      let grey = every number4.IsWithin heap.grey 0 (λ k _. tt) in
+      let asked = references p.shape is.shape p.asked is.asked.within in
+      let waiting = letters p.shape is.shape heap.letters is.references.letters in
+      let width =
+      length_without p.own (stored_links n.links p.got) (omega (arith, own_inside, count))
+      ∙ omega (arith, count, is.links.width) in
+      let links =
+      others p.shape is.shape p.own n.links p.got (λ i k. is.links.messages i k) in
+      let slots_within : slots_format.IsWithin (slots_of (stored_by n)) =
+      ((tt, (refl, slots)), ((tt, (refl, free)), (tt, (refl, grey)))) in
+      let others_within : (others_format (stored_by n).head).IsWithin (others_of (stored_by n)) =
+      ((tt, (refl, asked)), ((tt, (refl, waiting)), (width, links))) in
+      (((told, reports), (is.stocked.registers, registers)), (slots_within, others_within))
 
   fits : image_format.IsWide (stored_by n) → Fits (stored_by n)
   unfolding image_format
   fits wide = record { wide = wide; within = (sized, listed) }
 
   -- what was written within the limit
-  pub is_saved : {V : Type 0} (items : V → List ℕ) (r : Result V Refusal) (is_open : Type 0)
-      → (limit : ℕ) → limit ≡ GREATEST_IMAGE
+  pub is_saved : {V : Type 0} (r : Result V Refusal) (is_open : Type 0) (limit : ℕ)
+      → limit ≡ GREATEST_IMAGE
       → IsSlotted n.local.heap n.local.shape.slots → IsRestorable (kept_view n) → OnOk r is_open
       → (is_open → image_format.IsWide (stored_by n))
-      → IfOk r (λ v. (items v ≡ image_of n) × (length (image_of n) ≤ limit))
-      → OnOk r (IsImageOf (image_of n) (kept_view n))
-  is_saved items (Ok v) is_open limit all slots restorable opened wide same = record {
+      → OnOk r (length (image_of n) ≤ limit) → OnOk r (IsImageOf (image_of n) (kept_view n))
+  is_saved (Ok v) is_open limit all slots restorable opened wide short = record {
     spelled = record {
       says = stored_by n;
-      image = record { fits = fits (wide opened); spelled = refl; within = omega (arith, same.1, all) };
+      image = record { fits = fits (wide opened); spelled = refl; within = omega (arith, short, all) };
       node = node_again;
     };
     saved = standing_saved (kept_view n) (record {
@@ -375,34 +351,4 @@ module _ (n : NodeView) (is : IsNode n) where
       slots = slots;
     });
   }
-  is_saved items (Err e) is_open limit all slots restorable opened wide same = tt
-
--- what a writer that was given the image gives
-module _ (n : NodeView) {V : Type 0} (items : V → List ℕ) where
-  pub is_written : (r : Result V Refusal) (limit : ℕ)
-      → IfOk r (λ v. (items v ≡ image_of n) × (length (image_of n) ≤ limit))
-      → IfOk r (λ v. items v ≡ image_of n)
-  is_written (Ok v) limit same = same.0
-  is_written (Err e) limit same = tt
-
-  abbrev IsRefused : ℕ → Refusal → Type 0
-  IsRefused limit e =
-      ((e ≡ Memory) × (length (image_of n) ≤ limit))
-      ⊎ ((e ≡ ImageTooLarge) × (limit < length (image_of n)))
-
-  pub is_too_large : (r : Result V Refusal) (limit : ℕ) → limit ≡ GREATEST_IMAGE
-      → IfErr r (IsRefused limit)
-      → IfErr r (λ e. e ≢ Memory
-      → (e ≡ ImageTooLarge) × (GREATEST_IMAGE < length (image_of n)))
-  is_too_large (Ok v) limit same refused = tt
-  is_too_large (Err e) limit same (inl memory) = λ other. absurd (other memory.0)
-  is_too_large (Err e) limit same (inr large) = λ other. (large.0, omega (arith, same, large.1))
-
-  pub is_last : (r : Result V Refusal) (limit : ℕ) → limit ≡ GREATEST_IMAGE
-      → IfErr r (IsRefused limit)
-      → IfErr r (λ e. e ≡ Memory → length (image_of n) ≤ GREATEST_IMAGE)
-  is_last (Ok v) limit same refused = tt
-  is_last (Err e) limit same (inl memory) = λ _. omega (arith, same, memory.1)
-  is_last (Err e) limit same (inr large) = λ memory.
-      let both : ◌≡◌ {A = Refusal} ImageTooLarge Memory = sym large.0 ∙ memory in
-      absurd cc
+  is_saved (Err e) is_open limit all slots restorable opened wide short = tt

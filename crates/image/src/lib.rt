@@ -4,7 +4,6 @@
 //! parts ("Images"), `specs/Grammar.antt` their spelling.
 #![tactic(auto)]
 
-mod elements;
 mod law;
 mod links;
 mod lists;

@@ -4,10 +4,13 @@ ghost use Rattle.codec.specs.Formats.{Format, number4, number8, many, counted};
 ghost use Rattle.codec.specs.Reading.{Gives, IsLong};
 ghost use Rattle.codec.specs.Writing.{Puts, PutsAll};
 ghost use Rattle.codec.specs.Lengths.{number4_long, number8_long};
+ghost use Rattle.msg.specs.Formats.{reference, optional};
+ghost use Rattle.msg.specs.Lengths.{reference_long, optional_long};
 
 use codec::Writer;
 use codec::reading::{u32_at, u64_at};
-use ids::Refusal;
+use ids::{Ref, Refusal};
+use msg::writing::{put_optional, put_reference};
 use std::alloc::Global;
 
 /// A value that stands in lists, and is written.
@@ -73,6 +76,26 @@ impl Writable for u64 {
     }
 
     ghost long = { number8_long };
+}
+
+impl Writable for Ref {
+    ghost written = { reference };
+
+    fn put(&self, out: &mut Writer) {
+        put_reference(out, *self);
+    }
+
+    ghost long = { reference_long };
+}
+
+impl Writable for Option<Ref> {
+    ghost written = { optional };
+
+    fn put(&self, out: &mut Writer) {
+        put_optional(out, *self);
+    }
+
+    ghost long = { optional_long };
 }
 
 impl Readable for u32 {

@@ -1,48 +1,27 @@
 //! Bytes as the parts of a node.
-ghost use Rattle.std.specs.Prelude.{◌≡◌, ◌≢◌, ◌≤◌, length, IfOk, IfErr, IfSome};
+ghost use Rattle.std.specs.Prelude.{◌≡◌, ◌≤◌, length, IfOk, IfSome};
 ghost use Rattle.std.specs.Option.{option_map};
 ghost use Rattle.ids.specs.declared.refusal.Refusal.TheVariants.{BadImage, Memory};
 ghost use Rattle.ids.specs.declared.limits.TheConstants.{GREATEST_PLACES};
 ghost use Rattle.codec.specs.Formats.{whole_at};
 ghost use Rattle.codec.specs.Reading.{Gives};
-ghost use Rattle.image.specs.Grammar.{
-  Stored,
-  IsImage,
-  reports_told,
-  start_format,
-  nodes_format,
-  head_format,
-  phases_format,
-  held_format,
-  ring_format,
-  near,
-  near_optional,
-  near_body,
-  width_format,
-  places_format,
-  object_format,
-  occupied_at,
-  slot_format,
-  letter_format,
-  message_format,
-  link_format,
-  front_format,
-  told_format,
-  slots_format,
-  others_format,
-  image_format,
-};
+ghost use Rattle.image.specs.Grammar.{reports_told, start_format, nodes_format};
+ghost use Rattle.image.specs.Grammar.{head_format, phases_format, held_format, ring_format, near};
+ghost use Rattle.image.specs.Grammar.{near_optional, width_format, places_format, object_format};
+ghost use Rattle.image.specs.Grammar.{occupied_at, slot_format, letter_format, message_format};
+ghost use Rattle.image.specs.Grammar.{link_format, front_format, told_format, slots_format};
+ghost use Rattle.image.specs.Grammar.{others_format, image_format};
 ghost use Rattle.image.specs.Parts.{stored_of};
 
-use crate::lists::{counted, many};
+use crate::lists::{Readable, counted, many};
 use crate::parts::{Head, NodeParts, PhasesParts, RingParts, StoredLink};
 use crate::tags::{ABSENT, FREE, OCCUPIED, PRESENT, RETIRED, START, VERSION};
 use codec::reading::{i64_at, u8_at, u16_at, u32_at, u64_at};
 use heap::{Object, Slot};
-use ids::{GREATEST_IMAGE, GREATEST_PLACES, Ref, Refusal};
+use ids::{GREATEST_PLACES, Ref, Refusal};
 use model::Letter;
 use msg::reading::{body_at, colour_at, optional_at, reference_at, token_at};
-use msg::{Body, Message, Token, body_fits, optional_fits};
+use msg::{Message, Token, body_fits, optional_fits};
 use std::alloc::Global;
 
 // ---- what stands before the lists
@@ -142,18 +121,7 @@ fn ring_at(bytes: &[u8]) -> Option<(RingParts, &[u8])>
 
 // ---- what stands in the lists
 
-pub(crate) fn limited_reference_at(bytes: &[u8]) -> Option<(Ref, &[u8])>
-    ensures { near.read bytes.now ≡ option_map (λ x. (x.0, x.1.now)) result }
-{
-    let (reference, rest) = reference_at(bytes)?;
-    if reference.fits() {
-        Some((reference, rest))
-    } else {
-        None
-    }
-}
-
-pub(crate) fn limited_optional_at(bytes: &[u8]) -> Option<(Option<Ref>, &[u8])>
+fn limited_optional_at(bytes: &[u8]) -> Option<(Option<Ref>, &[u8])>
     ensures { near_optional.read bytes.now ≡ option_map (λ x. (x.0, x.1.now)) result }
 {
     let (reference, rest) = optional_at(bytes)?;
@@ -162,41 +130,6 @@ pub(crate) fn limited_optional_at(bytes: &[u8]) -> Option<(Option<Ref>, &[u8])>
     } else {
         None
     }
-}
-
-fn limited_body_at(bytes: &[u8]) -> Option<(Body, &[u8])>
-    ensures { near_body.read bytes.now ≡ option_map (λ x. (x.0, x.1.now)) result }
-{
-    let (body, rest) = body_at(bytes)?;
-    if body_fits(body) {
-        Some((body, rest))
-    } else {
-        None
-    }
-}
-
-#[tactic(auto, unfolding(crate::specs::Grammar::letter_format))]
-pub(crate) fn letter_at(bytes: &[u8]) -> Option<(Letter, &[u8])>
-    ensures { letter_format.read bytes.now ≡ option_map (λ x. (x.0, x.1.now)) result }
-{
-    let (from, rest) = u8_at(bytes)?;
-    let (label, rest) = u32_at(rest)?;
-    let (reference, rest) = limited_optional_at(rest)?;
-    let letter = Letter {
-        from,
-        label,
-        reference,
-    };
-    Some((letter, rest))
-}
-
-#[tactic(auto, unfolding(crate::specs::Grammar::message_format))]
-pub(crate) fn message_at(bytes: &[u8]) -> Option<(Message, &[u8])>
-    ensures { message_format.read bytes.now ≡ option_map (λ x. (x.0, x.1.now)) result }
-{
-    let (stamp, rest) = u64_at(bytes)?;
-    let (body, rest) = limited_body_at(rest)?;
-    Some((Message { stamp, body }, rest))
 }
 
 #[tactic(auto, unfolding(crate::specs::Grammar::width_format))]
@@ -246,35 +179,92 @@ fn occupied_at(alloc: Global, bytes: &[u8]) -> Result<(Slot<Object>, &[u8]), Ref
     Ok((Slot::Occupied(generation, object), rest))
 }
 
-#[tactic(auto, unfolding(crate::specs::Grammar::slot_format))]
-pub(crate) fn slot_at(alloc: Global, bytes: &[u8]) -> Result<(Slot<Object>, &[u8]), Refusal>
-    ensures { Gives (λ x. (x.0, x.1.now)) result (slot_format.read bytes.now) }
-{
-    let (tag, rest) = u8_at(bytes).ok_or(Refusal::BadImage)?;
-    match tag {
-        FREE => {
-            let (generation, rest) = u32_at(rest).ok_or(Refusal::BadImage)?;
-            Ok((Slot::Free(generation), rest))
+impl Readable for Ref {
+    ghost format = { near };
+
+    fn read(_alloc: Global, bytes: &[u8]) -> Result<(Ref, &[u8]), Refusal> {
+        let (reference, rest) = reference_at(bytes).ok_or(Refusal::BadImage)?;
+        if reference.fits() {
+            Ok((reference, rest))
+        } else {
+            Err(Refusal::BadImage)
         }
-        OCCUPIED => occupied_at(alloc, rest),
-        RETIRED => Ok((Slot::Retired, rest)),
-        _ => Err(Refusal::BadImage),
     }
 }
 
-#[tactic(auto, unfolding(crate::specs::Grammar::link_format))]
-pub(crate) fn link_at(alloc: Global, bytes: &[u8]) -> Result<(StoredLink, &[u8]), Refusal>
-    ensures { Gives (λ x. (x.0, x.1.now)) result (link_format.read bytes.now) }
-{
-    let (base, rest) = u64_at(bytes).ok_or(Refusal::BadImage)?;
-    let (unacknowledged, rest) = counted(alloc, rest)?;
-    let (received, rest) = u64_at(rest).ok_or(Refusal::BadImage)?;
-    let link = StoredLink {
-        base,
-        unacknowledged,
-        received,
-    };
-    Ok((link, rest))
+impl Readable for Option<Ref> {
+    ghost format = { near_optional };
+
+    fn read(_alloc: Global, bytes: &[u8]) -> Result<(Option<Ref>, &[u8]), Refusal> {
+        limited_optional_at(bytes).ok_or(Refusal::BadImage)
+    }
+}
+
+impl Readable for Letter {
+    ghost format = { letter_format };
+
+    #[tactic(auto, unfolding(crate::specs::Grammar::letter_format))]
+    fn read(_alloc: Global, bytes: &[u8]) -> Result<(Letter, &[u8]), Refusal> {
+        let (from, rest) = u8_at(bytes).ok_or(Refusal::BadImage)?;
+        let (label, rest) = u32_at(rest).ok_or(Refusal::BadImage)?;
+        let (reference, rest) = limited_optional_at(rest).ok_or(Refusal::BadImage)?;
+        let letter = Letter {
+            from,
+            label,
+            reference,
+        };
+        Ok((letter, rest))
+    }
+}
+
+impl Readable for Message {
+    ghost format = { message_format };
+
+    #[tactic(auto, unfolding(crate::specs::Grammar::message_format))]
+    fn read(_alloc: Global, bytes: &[u8]) -> Result<(Message, &[u8]), Refusal> {
+        let (stamp, rest) = u64_at(bytes).ok_or(Refusal::BadImage)?;
+        let (body, rest) = body_at(rest).ok_or(Refusal::BadImage)?;
+        if body_fits(body) {
+            Ok((Message { stamp, body }, rest))
+        } else {
+            Err(Refusal::BadImage)
+        }
+    }
+}
+
+impl Readable for Slot<Object> {
+    ghost format = { slot_format };
+
+    #[tactic(auto, unfolding(crate::specs::Grammar::slot_format))]
+    fn read(alloc: Global, bytes: &[u8]) -> Result<(Slot<Object>, &[u8]), Refusal> {
+        let (tag, rest) = u8_at(bytes).ok_or(Refusal::BadImage)?;
+        match tag {
+            FREE => {
+                let (generation, rest) = u32_at(rest).ok_or(Refusal::BadImage)?;
+                Ok((Slot::Free(generation), rest))
+            }
+            OCCUPIED => occupied_at(alloc, rest),
+            RETIRED => Ok((Slot::Retired, rest)),
+            _ => Err(Refusal::BadImage),
+        }
+    }
+}
+
+impl Readable for StoredLink {
+    ghost format = { link_format };
+
+    #[tactic(auto, unfolding(crate::specs::Grammar::link_format))]
+    fn read(alloc: Global, bytes: &[u8]) -> Result<(StoredLink, &[u8]), Refusal> {
+        let (base, rest) = u64_at(bytes).ok_or(Refusal::BadImage)?;
+        let (unacknowledged, rest) = counted(alloc, rest)?;
+        let (received, rest) = u64_at(rest).ok_or(Refusal::BadImage)?;
+        let link = StoredLink {
+            base,
+            unacknowledged,
+            received,
+        };
+        Ok((link, rest))
+    }
 }
 
 // ---- the whole
@@ -369,8 +359,11 @@ fn image_at(alloc: Global, bytes: &[u8]) -> Result<(NodeParts, &[u8]), Refusal>
     Ok((parts, rest))
 }
 
+/// The parts that the bytes say, all of the bytes. What they say may still be no node's, since its
+/// parts may contradict each other. `BadImage` where the bytes spell none, `Memory` where a growth
+/// was refused. It takes memory in proportion to the bytes, and time likewise.
 #[tactic(auto, unfolding(crate::specs::Numbers::whole_at))]
-fn whole(alloc: Global, bytes: &[u8]) -> Result<NodeParts, Refusal>
+pub(crate) fn whole(alloc: Global, bytes: &[u8]) -> Result<NodeParts, Refusal>
     ensures { Gives stored_of result (whole_at image_format.read bytes.now) }
 {
     let (parts, rest) = image_at(alloc, bytes)?;
@@ -378,30 +371,5 @@ fn whole(alloc: Global, bytes: &[u8]) -> Result<NodeParts, Refusal>
         Ok(parts)
     } else {
         Err(Refusal::BadImage)
-    }
-}
-
-impl NodeParts {
-    /// The parts that the bytes say, all of the bytes. What they say may still be no node's, since
-    /// its parts may contradict each other.
-    ///
-    /// It takes memory in proportion to the bytes, and time likewise.
-    ///
-    /// # Errors
-    ///
-    /// [`Refusal::BadImage`] where the bytes are no image: they spell none, or are more than
-    /// [`GREATEST_IMAGE`]. [`Refusal::Memory`] where a growth was refused.
-    pub fn from_bytes(alloc: Global, bytes: &[u8]) -> Result<NodeParts, Refusal>
-        // What is read is spelled so.
-        ensures found { IfOk result (λ p. IsImage bytes.now (stored_of p)) }
-        // What is spelled so is read.
-        ensures only { (s : Stored) → IsImage bytes.now s → IfOk result (λ p. stored_of p ≡ s) }
-        ensures refused { IfErr result (λ e. e ≢ Memory
-            → (e ≡ BadImage) × ((s : Stored) → IsImage bytes.now s → ⊥)) }
-    {
-        if bytes.len() > GREATEST_IMAGE as usize {
-            return Err(Refusal::BadImage);
-        }
-        whole(alloc, bytes)
     }
 }

@@ -5,21 +5,15 @@ ghost use Rattle.model.specs.View.{NodeView, no_link};
 ghost use Rattle.link.specs.Parts.{link_given, taken_given, links_given};
 ghost use Rattle.node.specs.Keeping.{alone};
 ghost use Rattle.image.specs.Grammar.{Fits};
-ghost use Rattle.image.specs.Nodes.{
-  link_of,
-  received_of,
-  with_at,
-  reports_of,
-  node_of,
-  IsStanding,
-  IsImageOf,
-};
+ghost use Rattle.image.specs.Nodes.{link_of, received_of, with_at, reports_of, node_of};
+ghost use Rattle.image.specs.Nodes.{IsStanding, IsImageOf};
 ghost use Rattle.image.specs.Parts.{stored_of};
 
 use crate::parts::{Head, NodeParts, RingParts, StoredLink};
+use crate::reading::whole;
 use control::Phases;
 use heap::HeapParts;
-use ids::{Refusal, Shape};
+use ids::{GREATEST_IMAGE, Refusal, Shape};
 use link::LinkParts;
 use node::{Core, Node};
 use safra::Ring;
@@ -51,7 +45,10 @@ pub fn core_from_bytes(alloc: Global, bytes: &[u8]) -> Result<Core, Refusal>
     ensures refused { IfErr result (λ e. e ≢ Memory
         → (e ≡ BadImage) × ((n : NodeView) → IsImageOf bytes.now n → ⊥)) }
 {
-    let image = NodeParts::from_bytes(alloc, bytes)?;
+    if bytes.len() > GREATEST_IMAGE as usize {
+        return Err(Refusal::BadImage);
+    }
+    let image = whole(alloc, bytes)?;
     restored(alloc, image)
 }
 

@@ -1,6 +1,6 @@
 //! A node as bytes.
 ghost use Rattle.std.specs.Prelude.{◌≡◌, [], ◌∷◌, ◌++◌};
-ghost use Rattle.codec.specs.Formats.{◌&◌, number2, number4, signed8};
+ghost use Rattle.codec.specs.Formats.{number2, number4};
 ghost use Rattle.codec.specs.Writing.{Puts};
 ghost use Rattle.image.specs.Grammar.{head_format, phases_format, held_format, ring_format};
 ghost use Rattle.image.specs.Grammar.{front_format, told_format, slots_format, others_format};
@@ -64,20 +64,13 @@ fn put_held(out: &mut Writer, held: Option<Token>)
     }
 }
 
-// The two balances, and the token where it is held.
-fn put_balances(out: &mut Writer, earlier: i64, recent: i64, held: Option<Token>)
-    ensures { Puts (signed8 & signed8 & held_format) out.old out.new (earlier, (recent, held)) }
-{
-    out.i64(earlier);
-    out.i64(recent);
-    put_held(out, held);
-}
-
 fn put_ring(out: &mut Writer, r: RingParts)
     ensures { Puts ring_format out.old out.new r }
 {
     put_colour(out, r.colour);
-    put_balances(out, r.earlier, r.recent, r.token);
+    out.i64(r.earlier);
+    out.i64(r.recent);
+    put_held(out, r.token);
 }
 
 #[tactic(auto, unfolding(crate::specs::Grammar::front_format), using(crate::proofs::Joins::both))]

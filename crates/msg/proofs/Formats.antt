@@ -1,8 +1,8 @@
 -- The formats of the parts of frames are sound.
 use Rattle.std.proofs.Common.{◌≡◌, ℕ, List, [], ◌∷◌, ◌++◌, Some, refl}
 use Rattle.codec.specs.Formats.{Fits, nothing, made_at}
-use Rattle.codec.specs.Reading.{IsBytes, Took, IsSound}
-use Rattle.codec.proofs.Laws.{nothing_sound, mapped_sound, ◌⊗◌, option_sound, kept_sound, made_again, found, tagged_takes}
+use Rattle.codec.specs.Reading.{IsSound}
+use Rattle.codec.proofs.Laws.{nothing_sound, mapped_sound, ◌⊗◌, option_sound, kept_sound, made_again, ◌⊕◌, found, tagged_takes}
 use Rattle.codec.proofs.Numbers.{byte_sound, number4_sound, number8_sound, signed8_sound}
 use Rattle.msg.specs.declared.body.Body.{Body}
 use Rattle.msg.specs.declared.body.Body.TheVariants as body
@@ -31,13 +31,9 @@ unfolding colour
 colour_sound = record {
   takes = tagged_takes colour
       ((0, made_at nothing (λ _. White)) ∷ (1, made_at nothing (λ _. Black)) ∷ []) (
-        found nothing colour 0 (λ _. White) nothing_sound
-            (λ u fits. (refl, record { wide = tt; within = tt })),
-        (
-          found nothing colour 1 (λ _. Black) nothing_sound
-              (λ u fits. (refl, record { wide = tt; within = tt })),
-          tt,
-        ),
+      found nothing colour 0 (λ _. White) nothing_sound (λ _. refl) (λ _ w. w) (λ _ w. w)
+      ⊕ found nothing colour 1 (λ _. Black) nothing_sound (λ _. refl) (λ _ w. w) (λ _ w. w)
+      ⊕ tt
       );
   again = colour_again;
 }
@@ -58,69 +54,43 @@ get_sound = reference_sound ⊗ byte_sound ⊗ number4_sound
 
 -- ---- bodies
 
-body_takes : (bytes : List ℕ) (x : Body × List ℕ) → IsBytes bytes
-    → body_format.read bytes ≡ Some x → Took body_format bytes x
-unfolding body_format give_at put_at get_at
-body_takes =
-    let F = body_format in
-    tagged_takes F bodies (
-      found nothing F 1 (λ _. body.Begin) nothing_sound
-          (λ u fits. (refl, record { wide = tt; within = tt })),
-      (
-        found token F 2 body.Token token_sound
-            (λ t fits. (refl, record { wide = fits.wide; within = fits.within })),
-        (
-          found reference F 3 body.Mark reference_sound
-              (λ r fits. (refl, record { wide = fits.wide; within = fits.within })),
-          (
-            found give F 4 (λ x. body.Give x.0 x.1) give_sound
-                (λ x fits. (refl, record { wide = fits.wide; within = fits.within })),
-            (
-              found put F 5 (λ x. body.Put x.0 x.1.0 x.1.1) put_sound
-                  (λ x fits. (refl, record { wide = fits.wide; within = fits.within })),
-              (
-                found get F 6 (λ x. body.Get x.0 x.1.0 x.1.1) get_sound
-                    (λ x fits. (refl, record { wide = fits.wide; within = fits.within })),
-                (
-                  found nothing F 7 (λ _. body.Ended) nothing_sound
-                      (λ u fits. (refl, record { wide = tt; within = tt })),
-                  (
-                    found nothing F 8 (λ _. body.Swept) nothing_sound
-                        (λ u fits. (refl, record { wide = tt; within = tt })),
-                    tt,
-                  ),
-                ),
-              ),
-            ),
-          ),
-        ),
-      ),
-    )
-
 body_again : (b : Body) (rest : List ℕ) → Fits body_format b
     → body_format.read (body_format.spell b ++ rest) ≡ Some (b, rest)
 unfolding body_format give_at put_at get_at
 body_again body.Begin rest fits = refl
 body_again (body.Token t) rest fits =
-    made_again token body.Token token_sound t rest
-    (record { wide = fits.wide; within = fits.within })
+    made_again token body.Token token_sound t rest fits.wide fits.within
 body_again (body.Mark target) rest fits =
-    made_again reference body.Mark reference_sound target rest
-    (record { wide = fits.wide; within = fits.within })
+    made_again reference body.Mark reference_sound target rest fits.wide fits.within
 body_again (body.Give label r) rest fits =
-    made_again give (λ x. body.Give x.0 x.1) give_sound (label, r) rest
-    (record { wide = fits.wide; within = fits.within })
+    made_again give (λ x. body.Give x.0 x.1) give_sound (label, r) rest fits.wide fits.within
 body_again (body.Put target place r) rest fits =
-    made_again put (λ x. body.Put x.0 x.1.0 x.1.1) put_sound (target, (place, r)) rest
-    (record { wide = fits.wide; within = fits.within })
+    made_again put (λ x. body.Put x.0 x.1.0 x.1.1) put_sound (target, (place, r)) rest fits.wide
+    fits.within
 body_again (body.Get target place label) rest fits =
-    made_again get (λ x. body.Get x.0 x.1.0 x.1.1) get_sound (target, (place, label)) rest
-    (record { wide = fits.wide; within = fits.within })
+    made_again get (λ x. body.Get x.0 x.1.0 x.1.1) get_sound (target, (place, label)) rest fits.wide
+    fits.within
 body_again body.Ended rest fits = refl
 body_again body.Swept rest fits = refl
 
 pub body_sound : IsSound body_format
-body_sound = record { takes = body_takes; again = body_again }
+unfolding body_format give_at put_at get_at
+body_sound =
+    let F = body_format in
+    record {
+      takes = tagged_takes F bodies (
+          found nothing F 1 (λ _. body.Begin) nothing_sound (λ _. refl) (λ _ w. w) (λ _ w. w)
+          ⊕ found token F 2 body.Token token_sound (λ _. refl) (λ _ w. w) (λ _ w. w)
+          ⊕ found reference F 3 body.Mark reference_sound (λ _. refl) (λ _ w. w) (λ _ w. w)
+          ⊕ found give F 4 (λ x. body.Give x.0 x.1) give_sound (λ _. refl) (λ _ w. w) (λ _ w. w)
+          ⊕ found put F 5 (λ x. body.Put x.0 x.1.0 x.1.1) put_sound (λ _. refl) (λ _ w. w) (λ _ w. w)
+          ⊕ found get F 6 (λ x. body.Get x.0 x.1.0 x.1.1) get_sound (λ _. refl) (λ _ w. w) (λ _ w. w)
+          ⊕ found nothing F 7 (λ _. body.Ended) nothing_sound (λ _. refl) (λ _ w. w) (λ _ w. w)
+          ⊕ found nothing F 8 (λ _. body.Swept) nothing_sound (λ _. refl) (λ _ w. w) (λ _ w. w)
+          ⊕ tt
+          );
+      again = body_again;
+    }
 
 -- ---- what stands behind a frame's first byte
 

@@ -6,7 +6,7 @@ use Rattle.std.specs.Result.{IsOkAnd}
 use Rattle.ids.specs.declared.refusal.Refusal.{Refusal}
 use Rattle.codec.specs.Formats.{whole_at}
 use Rattle.codec.specs.Reading.{IsBytes, IsSound}
-use Rattle.codec.proofs.Laws.{found, tagged_takes, made_again}
+use Rattle.codec.proofs.Laws.{◌⊕◌, found, tagged_takes, made_again}
 use Rattle.codec.proofs.Wholes.{whole_takes, whole_again, begins_none}
 use Rattle.msg.specs.declared.frame.Frame.{Frame}
 use Rattle.msg.specs.Grammar.{Plain, data_frame, ack_frame, spelling, frame, Fits, data_at, ack_at}
@@ -24,24 +24,19 @@ frame_again : (f : Plain) (rest : List ℕ) → Fits f
     → frame.read (frame.spell f ++ rest) ≡ Some (f, rest)
 unfolding frame data_at ack_at
 frame_again (data_frame from to number stamp body) rest fits =
-    made_again sent data_of sent_sound ((from, (to, number)), (stamp, body)) rest
-    (record { wide = fits.wide; within = fits.within })
+    made_again sent data_of sent_sound ((from, (to, number)), (stamp, body)) rest fits.wide
+    fits.within
 frame_again (ack_frame from to number) rest fits =
-    made_again known ack_of known_sound (from, (to, number)) rest
-    (record { wide = fits.wide; within = fits.within })
+    made_again known ack_of known_sound (from, (to, number)) rest fits.wide fits.within
 
 frame_sound : IsSound frame
 unfolding frame data_at ack_at
 frame_sound = record {
   takes = tagged_takes frame ((0x44, data_at) ∷ (0x41, ack_at) ∷ []) (
-    found sent frame 0x44 data_of sent_sound
-        (λ x fits. (refl, record { wide = fits.wide; within = fits.within })),
-    (
-      found known frame 0x41 ack_of known_sound
-          (λ x fits. (refl, record { wide = fits.wide; within = fits.within })),
-      tt,
-    ),
-  );
+      found sent frame 0x44 data_of sent_sound (λ _. refl) (λ _ w. w) (λ _ w. w)
+      ⊕ found known frame 0x41 ack_of known_sound (λ _. refl) (λ _ w. w) (λ _ w. w)
+      ⊕ tt
+      );
   again = frame_again;
 }
 

@@ -2,7 +2,7 @@
 use Rattle.std.proofs.Common.{◌≡◌, ◌≤◌, ◌<◌, ℕ, List, length, Option, Some, None}
 use Rattle.std.proofs.Common.{Result, Ok, Err}
 use Rattle.std.specs.Prelude.{IfOk, IfErr, OnOk}
-use Rattle.std.proofs.Common.{◌+◌, ◌++◌, inl, inr, ◌⊎◌, arith}
+use Rattle.std.proofs.Common.{◌≢◌, ◌+◌, ◌++◌, refl, arith}
 use Rattle.std.proofs.lemmas.List.{length-append}
 use Rattle.ids.specs.declared.refusal.Refusal.{Refusal}
 use Rattle.ids.specs.declared.refusal.Refusal.TheVariants.{Memory, ImageTooLarge}
@@ -85,18 +85,17 @@ frame_short (frame.Data d) = omega (arith, body_short d.body)
 frame_short (frame.Ack a) = omega arith
 
 -- what a writer that was given the frame gives
-module _ (f : Frame) {V : Type 0} (items : V → List ℕ) (limit : ℕ) where
-  pub is_spelled : (r : Result V Refusal) (is_open : Type 0) → OnOk r is_open
-      → (is_open → grammar.frame.IsWide (plain f))
-      → IfOk r (λ v. (items v ≡ spelling (plain f)) × (length (spelling (plain f)) ≤ limit))
+module _ (f : Frame) {V : Type 0} where
+  pub is_spelled : (items : V → List ℕ) (r : Result V Refusal) (is_open : Type 0) → OnOk r is_open
+      → (is_open → grammar.frame.IsWide (plain f)) → IfOk r (λ v. items v ≡ spelling (plain f))
       → IfOk r (λ v. Fits (plain f) × (items v ≡ spelling (plain f)))
-  is_spelled (Ok v) is_open is wide same = (frame_fits f (wide is), same.0)
-  is_spelled (Err e) is_open is wide same = tt
+  is_spelled items (Ok v) is_open is wide same = (frame_fits f (wide is), same)
+  is_spelled items (Err e) is_open is wide same = tt
 
-  pub is_refused : (r : Result V Refusal) → limit ≡ 40
-      → IfErr r (λ e. ((e ≡ Memory) × (length (spelling (plain f)) ≤ limit))
-      ⊎ ((e ≡ ImageTooLarge) × (limit < length (spelling (plain f)))))
+  pub is_refused : (r : Result V Refusal) (limit : ℕ) → limit ≡ 40
+      → IfErr r (λ e. e ≢ Memory → (e ≡ ImageTooLarge) × (limit < length (spelling (plain f))))
       → IfErr r (λ e. e ≡ Memory)
-  is_refused (Ok v) same refused = tt
-  is_refused (Err e) same (inl memory) = memory.0
-  is_refused (Err e) same (inr large) = absurd (omega (arith, same, large.1, frame_short f))
+  is_refused (Ok v) limit same refused = tt
+  is_refused (Err Memory) limit same refused = refl
+  is_refused (Err e) limit same refused =
+      absurd (omega (arith, same, (refused (λ is. absurd cc)).1, frame_short f))

@@ -1,16 +1,36 @@
+use Rattle.std.proofs.Common.{arith}
+use Rattle.std.proofs.lemmas.Result.{err_from_is_err_and}
 use Rattle.image.specs.Parts.{stored_of}
-use Rattle.image.proofs.Made.{is_image, is_none}
+use Rattle.image.proofs.Made.{is_image, is_none, too_long, unread}
+use Rattle.image.proofs.Whole.{spelled_so}
 use Rattle.image.proofs.restoring.core_from_bytes.Goals as goal
 
+pub returns-then-bytes-clause-refused : goal.returns-then-bytes-clause-refused
+returns-then-bytes-clause-refused c =
+    too_long c.args.bytes.now (omega (arith, c.if-bytes.true))
+
+pub returns-in_err-image-clause-refused : goal.returns-in_err-image-clause-refused
+returns-in_err-image-clause-refused c =
+    let p = err_from_is_err_and c.from_residual.result c.from_residual.ensures.1 in
+    rw (p.1, p.2) (unread c.args.bytes.now _ c.in_err-image.ensures)
+
 pub restored-requires : goal.restored-requires
-restored-requires c = c.in_ok-image.ensures.found.fits
+restored-requires c =
+    (spelled_so c.args.bytes.now (stored_of c.in_ok-image.image)
+    (λ i. omega (arith, c.type_inv.bytes i)) c.if-bytes.false c.in_ok-image.ensures).fits
 
 pub returns-clause-read : goal.returns-clause-read
 returns-clause-read c =
-    is_image c.args.bytes.now (stored_of c.in_ok-image.image) c.restored.result
-    c.in_ok-image.ensures.found c.restored.ensures.made c.restored.ensures.stands
+    let s = stored_of c.in_ok-image.image in
+    is_image c.args.bytes.now s c.restored.result
+    (spelled_so c.args.bytes.now s (λ i. omega (arith, c.type_inv.bytes i)) c.if-bytes.false
+    c.in_ok-image.ensures)
+    c.restored.ensures.made c.restored.ensures.stands
 
 pub returns-clause-refused : goal.returns-clause-refused
 returns-clause-refused c =
-    is_none c.args.bytes.now (stored_of c.in_ok-image.image) c.in_ok-image.ensures.found.fits
-    c.restored.result c.in_ok-image.ensures.only c.restored.ensures.refused
+    let s = stored_of c.in_ok-image.image in
+    let image = spelled_so c.args.bytes.now s (λ i. omega (arith, c.type_inv.bytes i))
+    c.if-bytes.false c.in_ok-image.ensures in
+    is_none c.args.bytes.now s image.fits c.in_ok-image.ensures c.restored.result
+    c.restored.ensures.refused

@@ -5,7 +5,7 @@ use Rattle.ids.specs.declared.limits.TheConstants.{GREATEST_PLACES}
 use Rattle.arena.specs.declared.Slot.TheVariants.{Occupied}
 use Rattle.codec.specs.Formats.{number4, number8}
 use Rattle.codec.specs.Writing.{Writes, Puts}
-use Rattle.codec.proofs.Writing.{both}
+use Rattle.codec.proofs.Writing.{both, so}
 use Rattle.model.specs.State.{Object}
 use Rattle.image.specs.Grammar.{slot_format, object_format, places_format, width_format}
 use Rattle.image.proofs.slots.put_occupied.Goals as goal
@@ -29,14 +29,7 @@ returns c =
     let head =
     subst (λ (t : List ℕ). Writes c.args.out.now c.append.new.self t ⊤) c.occupied_head.ensures
     c.append.ensures in
-    let w = both head c.put_all.ensures in
     subst (λ (o : Object).
-    Puts slot_format c.args.out.now c.put_all.new.out (Occupied c.args.generation o)) same (record {
-      limit = w.limit;
-      back = w.back;
-      more = w.more;
-      known = λ is. let k = w.known is in (
-        omega arith,
-        (omega arith, (omega arith, (omega (arith, few), k.1))),
-      );
-    })
+    Puts slot_format c.args.out.now c.put_all.new.out (Occupied c.args.generation o)) same
+    (so (λ k. (omega arith, (omega arith, (omega arith, (omega (arith, few), k.1)))))
+    (both head c.put_all.ensures))

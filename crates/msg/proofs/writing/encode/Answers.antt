@@ -9,9 +9,8 @@ pub returns-clause-spelled : goal.returns-clause-spelled
 unfolding spelling
 returns-clause-spelled c =
     let f = c.args.f.now in
-    let out = c.put_frame.new.out in
-    is_spelled f (λ v. v.items) out.limit c.finish.result (IsOpen out) c.finish.ensures.within
-    c.put_frame.ensures.known
+    is_spelled f (λ v. v.items) c.finish.result (IsOpen c.put_frame.new.out)
+    c.finish.ensures.within c.put_frame.ensures.known
     (c.finish.ensures.written (spelling (plain f))
     (c.put_frame.ensures.more [] c.new-out.ensures.empty))
 
@@ -19,7 +18,7 @@ pub returns-clause-refused : goal.returns-clause-refused
 unfolding spelling
 returns-clause-refused c =
     let f = c.args.f.now in
-    is_refused f (λ v. v.items) c.put_frame.new.out.limit c.finish.result
+    is_refused f c.finish.result c.put_frame.new.out.limit
     (c.put_frame.ensures.limit ∙ c.new-out.ensures.limit)
     (c.finish.ensures.refused (spelling (plain f))
     (c.put_frame.ensures.more [] c.new-out.ensures.empty))
