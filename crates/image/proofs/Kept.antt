@@ -18,7 +18,7 @@ use Rattle.image.specs.Images.{stored_slot, stored_link, stored_links, without_a
 
 -- ---- slots
 
-stored_back : (x : StoredSlot) → stored_slot (slot_of x) ≡ x
+pub stored_back : (x : StoredSlot) → stored_slot (slot_of x) ≡ x
 stored_back (slot.Free g) = refl
 stored_back (slot.Occupied g o) = refl
 stored_back slot.Retired = refl

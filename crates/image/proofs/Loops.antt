@@ -1,7 +1,6 @@
 -- Reading values one after another, as a loop does.
-use Rattle.std.proofs.Common.{◌≡◌, ℕ, suc, length, ◌-◌, ◌+◌, ◌<◌, List, [], ◌∷◌, ◌++◌}
+use Rattle.std.proofs.Common.{◌≡◌, ℕ, suc, ◌-◌, ◌+◌, ◌<◌, List, [], ◌∷◌, ◌++◌}
 use Rattle.std.proofs.Common.{Option, Some, None, refl, sym, ap, ◌∙◌, append_assoc, arith}
-use Rattle.std.proofs.lemmas.List.{length-append}
 use Rattle.codec.specs.Formats.{Reader, ◌>>=◌, each_at}
 
 -- what was read before, and what is still read
@@ -31,9 +30,3 @@ module _ {A : Type 0} (read : Reader A) (front : List A) (count i : ℕ) (bytes 
       let k : count - i ≡ suc (count - (i + 1)) = omega arith in
       let one : with_front front (each_at read (count - i) bytes) ≡ None = rw (k, h) refl in
       sym so_far ∙ one
-
-pub one_more : {A : Type 0} (xs ys : List A) (a : A) (k : ℕ) → ys ≡ xs ++ a ∷ []
-    → length xs ≡ k → length ys ≡ k + 1
-one_more xs ys a k e len =
-    let more : length ys ≡ length xs + 1 = ap length e ∙ length-append xs (a ∷ []) in
-    omega (arith, more, len)

@@ -1,15 +1,14 @@
 -- A node that stands, all of whose numbers are no wider than their fields, and whose image isn't
 -- too long, has an image: that of the node as it is after a save.
-use Rattle.std.proofs.Common.{◌≡◌, ◌≢◌, ℕ, zero, suc, ◌-◌, ◌<◌, ◌≤◌, ◌==◌, ◌&&◌, Bool}
-use Rattle.std.proofs.Common.{true, false, cond, List, [], ◌∷◌, length, map, drop, replicate}
-use Rattle.std.proofs.Common.{get_or, Option, Some, None, ⊎_elim, refl, sym, ap, ◌∙◌}
-use Rattle.std.proofs.Common.{arith}
-use Rattle.std.specs.Prelude.{nat_lt, nat_le, option_to_list, IsTrue, Result, Ok, Err, OnOk}
+use Rattle.std.proofs.Common.{◌≡◌, ℕ, zero, suc, ◌-◌, ◌<◌, ◌≤◌, ◌==◌, Bool, true, false, cond, List}
+use Rattle.std.proofs.Common.{[], ◌∷◌, length, map, drop, replicate, get_or, Option, Some, None}
+use Rattle.std.proofs.Common.{refl, sym, ap, ◌∙◌, arith}
+use Rattle.std.specs.Prelude.{option_to_list, IsTrue, Result, Ok, Err, OnOk}
 use Rattle.ids.specs.declared.refusal.Refusal.{Refusal}
 use Rattle.msg.specs.declared.body.Token.{Token}
 use Rattle.std.specs.List.{AllByRecursion}
 use Rattle.std.proofs.lemmas.List.Elements.{All-from_get_or, recursion_from_All}
-use Rattle.std.proofs.lemmas.Bool.{and_from, cases_eq, eq-eqb, ne_eqb, lt-ltb, le-leb}
+use Rattle.std.proofs.lemmas.Bool.{and_from, eqb-false, lt-ltb, le-leb}
 use Rattle.ids.specs.Limits.{Shaped, IsShape, reference_fits}
 use Rattle.ids.specs.declared.names.Ref.{Ref}
 use Rattle.ids.specs.declared.limits.TheConstants.{GREATEST_NODES, GREATEST_SLOTS, GREATEST_PLACES}
@@ -34,13 +33,12 @@ use Rattle.codec.specs.Formats.{number2, number4, number8, signed8}
 use Rattle.image.specs.Grammar.{Stored, Fits, near, near_optional, letter_format, slot_format}
 use Rattle.image.specs.Grammar.{object_format, places_format, width_format, message_format}
 use Rattle.image.specs.Grammar.{link_format, held_format, start_format, nodes_format, head_format}
-use Rattle.image.specs.Grammar.{phases_format, ring_format, front_format, told_format}
-use Rattle.image.specs.Grammar.{slots_format, others_format, lists_format, image_format, front_of}
-use Rattle.image.specs.Grammar.{told_of, slots_of, others_of}
+use Rattle.image.specs.Grammar.{phases_format, ring_format, front_format, told_format, slots_format}
+use Rattle.image.specs.Grammar.{others_format, lists_format, image_format, front_of, told_of}
+use Rattle.image.specs.Grammar.{slots_of, others_of}
 use Rattle.image.specs.Images.{stored_slot, stored_link, stored_links, without_at, stored_by}
 use Rattle.image.specs.Images.{image_of}
-use Rattle.image.specs.Nodes.{link_of, received_of, with_at, node_of}
-use Rattle.image.specs.Nodes.{IsImageOf}
+use Rattle.image.specs.Nodes.{link_of, received_of, with_at, node_of, IsImageOf}
 use Rattle.image.proofs.Kept.{count_stored}
 use Rattle.image.proofs.Conditions.{standing_saved}
 
@@ -49,13 +47,9 @@ use Rattle.image.proofs.Conditions.{standing_saved}
 module _ (shape : Shaped) (sizes : IsShape shape) where
   reference : (r : Ref) → IsWithin shape r → IsTrue (reference_fits r)
   reference r is =
-      let few_slots : r.slot < GREATEST_SLOTS = omega (arith, is.slot, sizes.most_slots) in
-      let few_nodes : r.node < GREATEST_NODES = omega (arith, is.node, sizes.most_nodes) in
-      and_from (nat_lt r.node GREATEST_NODES)
-      (nat_lt r.slot GREATEST_SLOTS && nat_le 1 r.generation)
-      (lt-ltb r.node GREATEST_NODES few_nodes)
-      (and_from (nat_lt r.slot GREATEST_SLOTS) (nat_le 1 r.generation)
-      (lt-ltb r.slot GREATEST_SLOTS few_slots) (le-leb 1 r.generation is.generation))
+      and_from _ _ (lt-ltb r.node GREATEST_NODES (omega (arith, is.node, sizes.most_nodes)))
+      (and_from _ _ (lt-ltb r.slot GREATEST_SLOTS (omega (arith, is.slot, sizes.most_slots)))
+      (le-leb 1 r.generation is.generation))
 
   optional : (o : Option Ref) → IfAny (IsWithin shape) o → near_optional.IsWithin o
   optional None is = (any_optional None, refl)
@@ -118,9 +112,7 @@ module _ (shape : Shaped) (sizes : IsShape shape) where
 
   one_place : (target : Ref) (place : ℕ) → IsWithin shape target → place < GREATEST_PLACES
       → IsTrue (place_fits target place)
-  one_place target place is placed =
-      and_from (reference_fits target) (nat_lt place GREATEST_PLACES) (reference target is)
-      (lt-ltb place GREATEST_PLACES placed)
+  one_place target place is placed = and_from _ _ (reference target is) (lt-ltb _ _ placed)
 
   one_body : (b : Body) → AllByRecursion (IsWithin shape) (mentioned b) → IsPlaced b
       → IsTrue (body_fits b)
@@ -129,8 +121,7 @@ module _ (shape : Shaped) (sizes : IsShape shape) where
   one_body (body.Mark target) is placed = reference target is.0
   one_body (body.Give label o) is placed = any_near o is
   one_body (body.Put target place o) is placed =
-      and_from (place_fits target place) (optional_fits o) (one_place target place is.0 placed)
-      (any_near o is.1)
+      and_from _ _ (one_place target place is.0 placed) (any_near o is.1)
   one_body (body.Get target place label) is placed = one_place target place is.0 placed
   one_body body.Ended is placed = refl
   one_body body.Swept is placed = refl
@@ -258,16 +249,12 @@ told_again (r ∷ rs) lt none = ap (λ (x : ℕ). x ∷ rs) (sym none)
 
 reports_again : (own nodes : ℕ) (rs : List ℕ) → length rs ≡ nodes → 0 < nodes → AreReports own rs
     → cond (own == 0) (0 ∷ cond (own == 0) (drop 1 rs) []) (replicate nodes 0) ≡ rs
-reports_again own nodes rs len some is =
-    ⊎_elim {C = cond (own == 0) (0 ∷ cond (own == 0) (drop 1 rs) []) (replicate nodes 0) ≡ rs}
-    (λ (here : own ≡ 0).
-    let test : (own == 0) ≡ true = eq-eqb own 0 here in
-    rw test (told_again rs (omega (arith, len, some)) is.first))
-    (λ (far : own ≢ 0).
-    let test : (own == 0) ≡ false = ne_eqb own 0 far in
-    rw test
-    (ap (λ (k : ℕ). replicate k 0) (sym len) ∙ zeros rs (is.others far)))
-    (cases_eq own 0)
+reports_again own nodes rs len some is = by (own == 0) refl where
+  by : (b : Bool) → (own == 0) ≡ b
+      → cond b (0 ∷ cond b (drop 1 rs) []) (replicate nodes 0) ≡ rs
+  by true e = told_again rs (omega (arith, len, some)) is.first
+  by false e =
+      ap (λ (k : ℕ). replicate k 0) (sym len) ∙ zeros rs (is.others (eqb-false own 0 e))
 
 -- ---- the node
 

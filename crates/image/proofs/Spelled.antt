@@ -4,22 +4,19 @@ use Rattle.std.proofs.Common.{[], ◌∷◌, ◌++◌, length, map, drop, refl, 
 use Rattle.std.proofs.lemmas.List.{append-nil, nil_from_length}
 use Rattle.model.specs.View.{Link, NodeView, no_link, all_kept, kept_view}
 use Rattle.image.specs.declared.parts.Head.{Head}
-use Rattle.arena.specs.declared.Slot.TheVariants as slot
 use Rattle.image.specs.Links.{StoredLink, StoredSlot}
 use Rattle.image.specs.Grammar.{Stored, Fits, spelling, reports_told}
 use Rattle.heap.specs.Heap.{slot_of}
 use Rattle.image.specs.Nodes.{link_of, received_of, with_at, reports_of, got_of, node_of, Spells}
 use Rattle.image.specs.Images.{stored_slot, stored_links, without_at, stored_by}
+use Rattle.image.proofs.Kept.{stored_back}
 use Rattle.image.proofs.Whole.{no_spelling_begins_another, reports_count}
 
 -- ---- what a node's image says
 
 slots_back : (xs : List StoredSlot) → map stored_slot (map slot_of xs) ≡ xs
 slots_back [] = refl
-slots_back (slot.Free g ∷ xs) = ap (λ (ys : List StoredSlot). slot.Free g ∷ ys) (slots_back xs)
-slots_back (slot.Occupied g o ∷ xs) =
-    ap (λ (ys : List StoredSlot). slot.Occupied g o ∷ ys) (slots_back xs)
-slots_back (slot.Retired ∷ xs) = ap (λ (ys : List StoredSlot). slot.Retired ∷ ys) (slots_back xs)
+slots_back (x ∷ xs) = rw (stored_back x) (ap (λ (ys : List StoredSlot). x ∷ ys) (slots_back xs))
 
 all_links_back : (xs : List StoredLink) → stored_links (map link_of xs) (map received_of xs) ≡ xs
 all_links_back [] = refl

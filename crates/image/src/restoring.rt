@@ -136,7 +136,6 @@ fn every_link(alloc: Global, own: u8, stored: Vec<StoredLink>) -> Result<Vec<Lin
 fn given_links(alloc: Global, stored: Vec<StoredLink>) -> Result<Vec<LinkParts>, Refusal>
     ensures sent { IfOk result (λ v. map link_given v.items ≡ map link_of stored.items) }
     ensures taken { IfOk result (λ v. map taken_given v.items ≡ map received_of stored.items) }
-    ensures count { IfOk result (λ v. length v.items ≡ length stored.items) }
     ensures refused { IfErr result (λ e. e ≡ Memory) }
 {
     let mut links = Vec::with_capacity(alloc, stored.len())?;

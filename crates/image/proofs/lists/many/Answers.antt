@@ -1,8 +1,9 @@
-use Rattle.std.proofs.Common.{◌≡◌, false, ltb, length}
+use Rattle.std.proofs.Common.{◌≡◌, false, ltb, length, arith}
+use Rattle.std.proofs.lemmas.Grind.{common_steps}
 use Rattle.std.proofs.lemmas.Bool.{le-ltb}
 use Rattle.std.proofs.lemmas.Result.{err_from_is_err_and}
 use Rattle.codec.specs.Formats.{many_at, each_at}
-use Rattle.image.proofs.Loops.{goes_on, ends, one_more}
+use Rattle.image.proofs.Loops.{goes_on, ends}
 use Rattle.image.proofs.lists.many.Goals as goal
 
 pub returns-in_err-part-clause-value : goal.returns-in_err-part-clause-value
@@ -28,7 +29,5 @@ loop-part-preserved g c = record {
       c.loop-part.rest.now (each_at g.T.Readable.format.read c.args.count c.args.bytes.now)
       c.loop-part.invariant.read c.in_ok-part.part c.in_ok-part.after.now c.loop-part-test.true
       c.in_ok-part.ensures);
-  count =
-      one_more c.loop-part.parts.items _ c.in_ok-part.part c.loop-part._part
-      c.in_ok-push.ensures.items c.loop-part.invariant.count;
+  count = grind (arith, common_steps);
 }

@@ -1,4 +1,5 @@
-use Rattle.std.proofs.Common.{◌≡◌, ◌∙◌, ◌≤◌, ℕ, refl, sym, ap, subst, map, length, List}
+use Rattle.std.proofs.Common.{◌≡◌, ◌∙◌, ◌≤◌, ℕ, refl, ap, map, length, List, arith}
+use Rattle.std.proofs.lemmas.List.{length-map}
 use Rattle.std.specs.List.{insert}
 use Rattle.model.specs.View.{Link, no_link}
 use Rattle.link.specs.Parts.{link_given, taken_given}
@@ -12,8 +13,13 @@ returns-clause-made c =
     let stored = c.args.stored.items in
     let own = c.args.own in
     let links = c.in_ok-links.links.items in
-    let within : own ≤ length links =
-    subst (λ (k : ℕ). own ≤ k) (sym c.in_ok-links.ensures.count) c.requires in
+    let within : own ≤ length links = omega (
+      arith,
+      c.requires,
+      ap length c.in_ok-links.ensures.sent,
+      length-map links link_given,
+      length-map stored link_of,
+    ) in
     let none : LinkParts = record { base = 0; messages = c.new.result; taken = 0 } in
     let empty : link_given none ≡ no_link = rw c.new.ensures.items refl in
     let sent : map link_given (insert links own none) ≡ with_at own no_link (map link_of stored) =

@@ -1,4 +1,4 @@
-use Rattle.std.proofs.Common.{◌≡◌, ◌++◌, ◌∙◌, sym, ap, map, length, arith, append_assoc}
+use Rattle.std.proofs.Common.{◌≡◌, ◌++◌, ◌∙◌, sym, ap, map, arith, append_assoc}
 use Rattle.std.proofs.lemmas.Grind.{common_steps}
 use Rattle.link.specs.Parts.{link_given, taken_given}
 use Rattle.image.specs.Nodes.{link_of, received_of}
@@ -19,7 +19,6 @@ loop-link-preserved c =
       taken = rw c.in_ok-push.ensures.items
           (same_more taken_given received_of c.loop-link.links.items c.loop-link.yielded
           c.given_link.result c.in-Some.link old.taken one.taken);
-      count = grind (arith, common_steps);
     }
 
 pub returns-clause-sent : goal.returns-clause-sent
@@ -31,8 +30,3 @@ pub returns-clause-taken : goal.returns-clause-taken
 returns-clause-taken c =
     let all : c.loop-link.yielded ≡ c.args.stored.items = grind (arith, common_steps) in
     c.loop-link.invariant.taken ∙ ap (map received_of) all
-
-pub returns-clause-count : goal.returns-clause-count
-returns-clause-count c =
-    let all : c.loop-link.yielded ≡ c.args.stored.items = grind (arith, common_steps) in
-    c.loop-link.invariant.count ∙ ap length all

@@ -1,4 +1,4 @@
-use Rattle.std.proofs.Common.{◌≡◌, ◌++◌, length, map}
+use Rattle.std.proofs.Common.{◌≡◌, ◌++◌, map}
 use Rattle.link.specs.Parts.{link_given, taken_given}
 use Rattle.image.specs.Nodes.{link_of, received_of}
 use Rattle.image.proofs.restoring.given_links.Given as goal
@@ -8,5 +8,4 @@ invariant-loop-link l = record {
   came : l.yielded ++ l.link-iterator.rest.items ≡ l.fn.stored.items;
   sent : map link_given l.links.items ≡ map link_of l.yielded;
   taken : map taken_given l.links.items ≡ map received_of l.yielded;
-  count : length l.links.items ≡ length l.yielded;
 }
