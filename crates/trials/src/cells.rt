@@ -74,6 +74,10 @@ impl Seated<'_> {
     fn fail(&mut self, k: u64) {
         self.cell.fail_from(k);
     }
+
+    fn fail_once(&mut self, k: u64) {
+        self.cell.fail_once(k);
+    }
 }
 
 // A blank disk in memory for each node.
@@ -205,6 +209,10 @@ fn on_cell(
         ["receive", from] => out.answer(seated.receive(read(from)?)),
         ["fail", k] => {
             seated.fail(read(k)?);
+            out.text("ok");
+        }
+        ["fail-once", k] => {
+            seated.fail_once(read(k)?);
             out.text("ok");
         }
         words => return ask(alloc, seated, words, out),

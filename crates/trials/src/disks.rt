@@ -85,6 +85,7 @@ impl Disks {
         match words {
             [verb] => self.take_word(verb, words, out),
             ["fail", k] => fail(&mut self.bench.held, read(k)?, out),
+            ["fail-once", k] => fail_once(&mut self.bench.held, read(k)?, out),
             ["crash", fill] => self.crash(read(fill)?, out),
             words => self.bench.take(words, out),
         }
@@ -100,6 +101,17 @@ impl Disks {
         }
         Ok(())
     }
+}
+
+// The k-th call of the disk from now fails, and no later one.
+fn fail_once(held: &mut Held<MemoryDisk>, k: u64, out: &mut Out) -> Result<(), Stop> {
+    match held {
+        Held::Loose(disk) => disk.fail_once(k),
+        Held::Shelved(shelf) => shelf.fail_once(k),
+        Held::Nothing => return Err(Stop::Unknown),
+    }
+    out.text("ok");
+    Ok(())
 }
 
 // From now on the k-th call of the disk and all later ones fail.
