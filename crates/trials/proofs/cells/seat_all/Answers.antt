@@ -2,11 +2,13 @@ use Rattle.std.proofs.Common.{◌<◌, length, arith}
 use Rattle.supervisor.proofs.Seats.{first-seat, later-seats}
 use Rattle.trials.proofs.cells.seat_all.Goals as goal
 
-pub invariant_of-seated : goal.invariant_of-seated
-invariant_of-seated c =
+pub invariant_of-push : goal.invariant_of-push
+invariant_of-push c =
     let some : 0 < length c.loop.cells.items = omega arith in
-    first-seat (λ y. y.seat) c.args.wire.now _ c.remove-cell.result c.loop.invariant.seats some
-    c.remove-cell.ensures.value
+    record {
+      sits = first-seat (λ y. y.seat) c.args.wire.now _ c.remove-cell.result c.loop.invariant.seats
+          some c.remove-cell.ensures.value;
+    }
 
 pub loop-preserved : goal.loop-preserved
 loop-preserved c = record {

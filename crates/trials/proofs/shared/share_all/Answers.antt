@@ -1,13 +1,16 @@
-use Rattle.std.proofs.Common.{◌<◌, length, arith}
+use Rattle.std.proofs.Common.{◌<◌, length, sym, subst, arith}
 use Rattle.std.specs.Arc.{arc_value}
+use Rattle.wire.specs.Readers.{IsSeatOf}
+use Rattle.wire.specs.declared.seats.Wire.{Wire}
 use Rattle.supervisor.proofs.Seats.{first-seat, later-seats}
 use Rattle.trials.proofs.shared.share_all.Goals as goal
 
 pub new-requires-clause-seat : goal.new-requires-clause-seat
 new-requires-clause-seat g c =
     let some : 0 < length c.loop.cells.items = omega arith in
-    first-seat (λ y. y.seat) (arc_value c.args.wire.now) _ c.remove-cell.result
-    c.loop.invariant.seats some c.remove-cell.ensures.value
+    subst (λ (w : Wire). IsSeatOf w c.remove-cell.result.seat) (sym c.in_ok-same_wire.ensures)
+    (first-seat (λ y. y.seat) (arc_value c.args.wire.now) _ c.remove-cell.result
+    c.loop.invariant.seats some c.remove-cell.ensures.value)
 
 pub loop-preserved : goal.loop-preserved
 loop-preserved g c = record {
