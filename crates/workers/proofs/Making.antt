@@ -1,10 +1,12 @@
 -- Calls that were made one after another.
-use Rattle.std.proofs.Common.{◌≡◌, ℕ, ◌+◌, Bool, List, ◌∷◌, [], ◌++◌, subst, append_assoc, arith}
+use Rattle.std.proofs.Common.{◌≡◌, ℕ, ◌+◌, Bool, true, List, ◌∷◌, [], ◌++◌, Some, Result, Ok, Err, IfErr, is_ok, sym, subst, append_assoc, arith}
+use Rattle.std.specs.Result.{result_err}
 use Rattle.workers.specs.Calls.{asked, Makes}
-use Rattle.workers.specs.Turns.{at}
+use Rattle.workers.specs.Turns.{at, collects, raises, saves, sends, takes, turn_of}
 use Rattle.workers.specs.declared.calls.Call.{Call}
 use Rattle.workers.specs.declared.calls.Past.{Past}
 use Rattle.workers.specs.declared.gate.Stage.{Stage}
+use Rattle.workers.specs.declared.gate.Stage.TheVariants as stage
 
 -- these calls, and then those
 pub then : {first second : List Call} {r f s g : ℕ} {old middle new : Past}
@@ -25,3 +27,21 @@ pub answered : {node turn r f : ℕ} {s : Stage} {b : Bool} {old new : Past} (an
     → Makes (at node turn s answer ∷ []) r f old new
 answered {node} {turn} {r} {f} {s} {old = old} {new = new} answer is makes =
     subst (λ a. Makes (at node turn s a ∷ []) r f old new) is makes
+
+-- the calls of a turn whose last question has this answer
+abbrev pub up_to_sent : ℕ → ℕ → ℕ → ℕ → Bool → Bool → List Call
+up_to_sent node nodes turn scanned unsaved goes_on =
+    (at node turn stage.Start true ∷ [])
+    ++ (takes node nodes ++ ((at node turn stage.TakenIn true ∷ [])
+    ++ (collects scanned ++ ((at node turn stage.Collected true ∷ [])
+    ++ (saves unsaved ++ ((at node turn stage.Saved true ∷ [])
+    ++ (sends node nodes ++ (raises node ++ at node turn stage.Sent goes_on ∷ []))))))))
+
+-- a whole turn, whether its last question ends the worker or not
+pub at-last : {T : Type 0} (past : Past) (node nodes turn scanned : ℕ) (unsaved : Bool)
+    (r : Result T Stage) → IfErr r (λ s. s ≡ stage.Sent)
+    → asked past ≡ up_to_sent node nodes turn scanned unsaved (is_ok r)
+    → asked past ≡ turn_of node nodes turn (result_err r) scanned unsaved
+at-last past node nodes turn scanned unsaved (Ok x) is made = made
+at-last past node nodes turn scanned unsaved (Err s) is made =
+    subst (λ t. asked past ≡ turn_of node nodes turn (Some t) scanned unsaved) (sym is) made

@@ -50,8 +50,7 @@ fn take_turn<R: Wait, S: Site, G: Gate>(
     ask(gate, past, node, number, Stage::Saved)?;
     send_out(rt, site, past, node, nodes);
     raise(rt, site, past, node);
-    ask(gate, past, node, number, Stage::Sent)?;
-    Ok(())
+    ask(gate, past, node, number, Stage::Sent)
 }
 
 /// Takes one turn for a node among so many: takes in a frame of each other node, ascending; scans
