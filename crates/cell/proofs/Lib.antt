@@ -12,4 +12,5 @@ pub mod Places
 pub mod OnShelves
 pub mod Causes
 pub mod Ready
+pub mod Blank
 pub mod Left

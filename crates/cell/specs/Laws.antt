@@ -26,7 +26,7 @@ use Rattle.wire.specs.Views.{Known, pair_at}
 use Rattle.cell.specs.Desks.{IsSavedNode}
 use Rattle.cell.specs.Disks.{OpensTo}
 use Rattle.cell.specs.Events.{Given}
-use Rattle.cell.specs.Opened.{cores, IsReadFrom}
+use Rattle.cell.specs.Opened.{cores, world_of, IsReadFrom}
 use Rattle.cell.specs.Pumping.{TookIn}
 
 -- a run of a space of this shape reaches the world
@@ -56,6 +56,15 @@ LeftIsOpened =
     → ((k : ℕ) (n : WholeNode) → slice_get nodes k ≡ Some n → (c : Areas)
     × IsLeft k shape.nodes (node_at w.saved k) c × IsReadFrom shape k c n)
     → AreOpened shape (cores nodes) (restarted w)
+
+-- Where nothing was ever created on any of the disks, the nodes that are read from them are new, and
+-- the world that is made of them is that of new nodes.
+abbrev pub BlankIsNew : Type 0
+BlankIsNew =
+    (shape : Shaped) (nodes : List WholeNode) → length nodes ≡ shape.nodes
+    → ((k : ℕ) (n : WholeNode) → slice_get nodes k ≡ Some n → (c : Areas) × (c.select ≡ [])
+    × IsReadFrom shape k c n)
+    → world_of (cores nodes) ≡ new_world shape
 
 -- what the sweep of the node i leaves where it was
 abbrev pub KeepsReachable : World → ℕ → NodeView → NodeView → Type 0

@@ -2,6 +2,7 @@ ghost use Rattle.ids.specs.Limits.{IsShape, Shaped};
 ghost use Rattle.model.specs.World.{new_world, World};
 ghost use Rattle.cell.specs.Laws.{
   restarted,
+  BlankIsNew,
   IsReached,
   LeftIsOpened,
   NoneRefusedInTurn,
@@ -16,9 +17,11 @@ ghost use Rattle.cell.specs.Laws.{
 pub fn laws()
     // A run reaches the world of new nodes.
     ensures new { (shape : Shaped) → IsShape shape → IsReached (new_world shape) }
-    // So does the world in which all nodes go on as a run saved them,
+    // It is the world in which cells begin that are opened on blank disks.
+    ensures blank { BlankIsNew }
+    // A run reaches the world too in which all nodes go on as a run saved them,
     ensures restarted { (w : World) → IsReached w → IsReached (restarted w) }
-    // and that is a world in which nodes stand that are read from what cells left on their disks.
+    // and in that world nodes stand that are read from what cells left on their disks.
     ensures left { LeftIsOpened }
     // What is reachable and the sweeping node's own is there before the sweep, and the same after.
     ensures frees_none_reachable { SweepsFreeNoneReachable }

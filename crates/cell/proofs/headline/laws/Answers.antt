@@ -1,3 +1,4 @@
+use Rattle.cell.proofs.Blank.{blank-new}
 use Rattle.cell.proofs.Composed.{new-reached, none-refused-in-turn, sweeps-free-none-reachable}
 use Rattle.cell.proofs.Left.{left-opened, restarted-reached}
 use Rattle.cell.proofs.headline.laws.Goals as goal
@@ -16,3 +17,6 @@ returns-clause-restarted c = restarted-reached
 
 pub returns-clause-left : goal.returns-clause-left
 returns-clause-left c = left-opened
+
+pub returns-clause-blank : goal.returns-clause-blank
+returns-clause-blank c = blank-new
