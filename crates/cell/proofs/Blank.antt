@@ -32,7 +32,7 @@ new-states shape first (n ∷ ns) new =
 pub blank-new : BlankIsNew
 blank-new shape nodes count blank =
     let each : (k : ℕ) (n : WholeNode) → slice_get nodes k ≡ Some n
-        → n.core ≡ new_view shape (0 + k) =
+    → n.core ≡ new_view shape (0 + k) =
     λ k n there.
     (let from = blank k n there in
     ap (λ (m : WholeNode). m.core) (from.2.blank from.1)

@@ -265,7 +265,7 @@ module _ (n : NodeView) (from stamp : ℕ) (b : Body) (old : IsNode n)
         ∙ ap (λ (z : Met). count_due z (sought n.local.own n.local.asked z))
         (met-read n from stamp b _ _ _ _ _ read)) in
         subst (IsBounded (GREATEST_COUNTED - 1)) (sym same)
-          (settled-small (subst IsLinks all links))
+        (settled-small (subst IsLinks all links))
 
 -- ---- at a node that joins the message's cycle
 
@@ -480,7 +480,7 @@ module _ (n : NodeView) (from stamp : ℕ) (b : Body) (old : IsNode n)
           (sends.sent.sent
           ∙ ap (all_appended (links_of n)) (due-joining n from stamp b _ _ _ read g sends.room)) in
           subst (IsBounded (GREATEST_COUNTED - 1))
-            (sym (ring-joining n from stamp b _ _ _ read sends))
+          (sym (ring-joining n from stamp b _ _ _ read sends))
           (met-small n j.heap j.asked j.phases j.ring (marks_for stamp (roots_of n)) from stamp true
           b old (comes n from stamp b old t) (joined-reached phases) joined-suits
           (subst IsLinks all links))
