@@ -21,6 +21,9 @@ use workers::Site;
 // How many turns on one thread may come at the end, besides four for each letter.
 const GREATEST_TURNS: u32 = 20_000;
 
+// How many letters more a member gives than it takes, so that what its node keeps stays small.
+const AHEAD: u32 = 16;
+
 // The register of a member's object.
 const OWN: u16 = 0;
 
@@ -66,7 +69,8 @@ impl<S: Site> Member<'_, S> {
             label: self.given,
             register: OWN,
         };
-        if self.given < self.letters && self.act(rt, letter).is_ok() {
+        let may = self.given < self.letters.min(self.taken.saturating_add(AHEAD));
+        if may && self.act(rt, letter).is_ok() {
             self.given = self.given.saturating_add(1);
         }
     }
