@@ -57,8 +57,8 @@ LeftIsOpened =
     × IsLeft k shape.nodes (node_at w.saved k) c × IsReadFrom shape k c n)
     → AreOpened shape (cores nodes) (restarted w)
 
--- Where nothing was ever created on any of the disks, the nodes that are read from them are new, and
--- the world that is made of them is that of new nodes.
+-- Where nothing was ever created on any of the disks, the nodes that are read from them are new,
+-- and the world that is made of them is that of new nodes.
 abbrev pub BlankIsNew : Type 0
 BlankIsNew =
     (shape : Shaped) (nodes : List WholeNode) → length nodes ≡ shape.nodes

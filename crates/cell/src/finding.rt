@@ -121,8 +121,8 @@ fn node_of<D: Disk + Drop>(
 /// `Disks` where there are fewer or more disks than nodes, or where a disk holds a node of another
 /// shape or number. `Refused` with BadImage where something was created on a disk and it opens to no
 /// node; with ImageTooLarge where a disk is blank and the image of its new node would be longer than
-/// an image may be; with Disk where a call of a disk failed in this one; with Memory where a growth was refused; with
-/// nothing else. All disks are then given up.
+/// an image may be; with Disk where a call of a disk failed in this one; with Memory where a growth
+/// was refused; with nothing else. All disks are then given up.
 pub fn find<D: Disk + Drop>(
     alloc: Global,
     shape: Shape,

@@ -1,4 +1,5 @@
--- A save is refused because the image is too large only where that of a node that shows its state is.
+-- A save is refused because the image is too large only where that of a node that shows its state
+-- is.
 use Rattle.std.proofs.Common.{◌≡◌, List, Result, Ok, Err, ap}
 use Rattle.std.specs.Prelude.{IfErr, ◌↔◌}
 use Rattle.ids.specs.declared.refusal.Refusal.{Refusal}

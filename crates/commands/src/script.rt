@@ -8,7 +8,9 @@ ghost use Rattle.world.specs.Shows.{summary_at};
 ghost use Rattle.world.specs.Spaces.{KeepsAfter, ShowsSpace, step_met};
 ghost use Rattle.commands.specs.Freed.{KeepsSums, freed_after};
 ghost use Rattle.commands.specs.Grammar.{line_of, words_of};
-ghost use Rattle.commands.specs.Script.{MayBeTooLarge, Moves, PrintsNoScript, PrintsReplies, RunsScript, TakesLine, TakesReport, TakesSpace, TakesState, TakesStep, none_kept, reply_text, status_after};
+ghost use Rattle.commands.specs.Script.{MayBeTooLarge, Moves, PrintsNoScript, PrintsReplies};
+ghost use Rattle.commands.specs.Script.{RunsScript, TakesLine, TakesReport, TakesSpace};
+ghost use Rattle.commands.specs.Script.{TakesState, TakesStep, none_kept, reply_text, status_after};
 ghost use Rattle.commands.specs.Text.{cycle_line, report_text};
 
 use crate::freed::{Freed, freed_in, sweeper};

@@ -108,7 +108,8 @@ reports_by own nodes told true is inside count = (
   record { first = refl; others = λ far. absurd (far (eqb-true own 0 is)) },
 )
 reports_by own nodes told false is inside count =
-    let none : (i : ℕ) → get_or (replicate nodes 0) i 0 ≡ 0 = λ i. get_or-replicate_any nodes i 0 in (
+    let none : (i : ℕ) → get_or (replicate nodes 0) i 0 ≡ 0 =
+    λ i. get_or-replicate_any nodes i 0 in (
       length-replicate nodes 0,
       record { first = none 0; others = λ far. none },
     )

@@ -86,7 +86,8 @@ unfolding slot_format occupied_at
 slot_again (slot.Free g) rest fits =
     made_again number4 slot.Free number4_sound g rest fits.wide fits.within
 slot_again (slot.Occupied g o) rest fits =
-    made_again occupied (λ x. slot.Occupied x.0 x.1) occupied_sound (g, o) rest fits.wide fits.within
+    made_again occupied (λ x. slot.Occupied x.0 x.1) occupied_sound (g, o) rest
+    fits.wide fits.within
 slot_again slot.Retired rest fits = refl
 
 slot_sound : IsSound slot_format

@@ -330,7 +330,11 @@ module _ (n : NodeView) (is : IsNode n) where
   is_saved (Ok v) is_open limit all slots restorable opened wide short = record {
     spelled = record {
       says = stored_by n;
-      image = record { fits = fits (wide opened); spelled = refl; within = omega (arith, short, all) };
+      image = record {
+        fits = fits (wide opened);
+        spelled = refl;
+        within = omega (arith, short, all);
+      };
       node = node_again;
     };
     saved = standing_saved (kept_view n) (record {

@@ -83,8 +83,10 @@ body_sound =
           ⊕ found token F 2 body.Token token_sound (λ _. refl) (λ _ w. w) (λ _ w. w)
           ⊕ found reference F 3 body.Mark reference_sound (λ _. refl) (λ _ w. w) (λ _ w. w)
           ⊕ found give F 4 (λ x. body.Give x.0 x.1) give_sound (λ _. refl) (λ _ w. w) (λ _ w. w)
-          ⊕ found put F 5 (λ x. body.Put x.0 x.1.0 x.1.1) put_sound (λ _. refl) (λ _ w. w) (λ _ w. w)
-          ⊕ found get F 6 (λ x. body.Get x.0 x.1.0 x.1.1) get_sound (λ _. refl) (λ _ w. w) (λ _ w. w)
+          ⊕ found put F 5 (λ x. body.Put x.0 x.1.0 x.1.1) put_sound
+          (λ _. refl) (λ _ w. w) (λ _ w. w)
+          ⊕ found get F 6 (λ x. body.Get x.0 x.1.0 x.1.1) get_sound
+          (λ _. refl) (λ _ w. w) (λ _ w. w)
           ⊕ found nothing F 7 (λ _. body.Ended) nothing_sound (λ _. refl) (λ _ w. w) (λ _ w. w)
           ⊕ found nothing F 8 (λ _. body.Swept) nothing_sound (λ _. refl) (λ _ w. w) (λ _ w. w)
           ⊕ tt

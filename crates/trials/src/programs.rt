@@ -165,7 +165,8 @@ impl<S: Site> Program<'_, S> {
         self.must(rt, Event::Drop { register: OTHER });
     }
 
-    // Puts its newest object into the one that it is given, asks for it back, and empties the place.
+    // Puts its newest object into the one that it is given, asks for it back, and empties the
+    // place.
     fn take_gift<R: Wait>(&mut self, rt: &R, letter: Letter) {
         if letter.label != self.seen.letters {
             self.fail();
