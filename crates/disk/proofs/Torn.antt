@@ -89,6 +89,16 @@ pub record Noted (r : Range) (s s' : State) : Type 0 where
   pub synced : synced s' ≡ synced s
   pub noted : s'.ranges.items ≡ s.ranges.items ++ r ∷ []
 
+-- so it is where the range is pushed behind the others
+pub pushed : {s : State} (r : Range) (rs : Vec Range Global) → r.before.value ≡ s.held
+    → rs.items ≡ s.ranges.items ++ r ∷ [] → Noted r s (record s { ranges = rs })
+pushed r rs before items = record {
+  before = before;
+  held = refl;
+  synced = refl;
+  noted = items;
+}
+
 -- what is at risk then
 risk_noted : {r : Range} {s s' : State} → Noted r s s' → (c : Areas) →
     at_risk s' c ↔ torn_in r (at_risk s) c

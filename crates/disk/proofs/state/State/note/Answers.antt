@@ -1,47 +1,29 @@
 use Rattle.std.proofs.Common.{rules, ◌≡◌, [], ◌∷◌, ◌++◌, refl}
 use Rattle.std.proofs.lemmas.Result.{err_from_is_err_and}
-use Rattle.disk.proofs.Torn.{follows_noted, follows_same, reaches_noted, unnoted, Noted}
+use Rattle.disk.proofs.Torn.{follows_noted, follows_same, reaches_noted, pushed, unnoted}
 use Rattle.disk.specs.declared.state.Range.{Range}
 use Rattle.disk.specs.declared.state.State.{State}
 use Rattle.disk.proofs.state.State.note.Goals as goal
 
 pub returns-clause-crash : goal.returns-clause-crash
 returns-clause-crash c =
-    let s = c.args.self.now in
     let r : Range = record {
       area = c.args.area;
       at = c.args.at;
       len = c.args.len;
       before = c.of-before.result;
     } in
-    let items : c.push.new.self.items ≡ s.ranges.items ++ r ∷ [] = search rules in
-    let s' : State = record s { ranges = c.push.new.self } in
-    let noted : Noted r s s' = record {
-      before = c.of-before.ensures;
-      held = refl;
-      synced = refl;
-      noted = items;
-    } in
-    follows_noted noted
+    follows_noted (pushed {s = c.args.self.now} r c.push.new.self c.of-before.ensures (search rules))
 
 pub returns-clause-torn : goal.returns-clause-torn
 returns-clause-torn c =
-    let s = c.args.self.now in
     let r : Range = record {
       area = c.args.area;
       at = c.args.at;
       len = c.args.len;
       before = c.of-before.result;
     } in
-    let items : c.push.new.self.items ≡ s.ranges.items ++ r ∷ [] = search rules in
-    let s' : State = record s { ranges = c.push.new.self } in
-    let noted : Noted r s s' = record {
-      before = c.of-before.ensures;
-      held = refl;
-      synced = refl;
-      noted = items;
-    } in
-    reaches_noted noted
+    reaches_noted (pushed {s = c.args.self.now} r c.push.new.self c.of-before.ensures (search rules))
 
 pub returns-in_err-push-clause-crash : goal.returns-in_err-push-clause-crash
 returns-in_err-push-clause-crash c =
