@@ -2,7 +2,7 @@
 pub const LEAST_NODES: u8 = 2;
 
 /// The greatest number of nodes in a space; a node's number is below it.
-pub const GREATEST_NODES: u8 = 16;
+pub const GREATEST_NODES: u8 = 64;
 
 /// The greatest number of registers of a node; the least is 1.
 pub const GREATEST_REGISTERS: u16 = 256;
@@ -14,19 +14,22 @@ pub const GREATEST_SLOTS: u32 = 1_048_576;
 pub const GREATEST_PLACES: u8 = 8;
 
 /// Counts how often a slot was given out: 1 for its first object.
-pub type Generation = u32;
+pub type Generation = u64;
 
 /// The greatest generation. A slot whose object of this generation is freed is never used again.
-pub const GREATEST_GENERATION: Generation = 4_294_967_295;
+pub const GREATEST_GENERATION: Generation = 18_446_744_073_709_551_615;
 
 /// The greatest number of a message on a link, 2^48; the first is 1.
 pub const GREATEST_NUMBER: u64 = 281_474_976_710_656;
 
-/// How many messages a node sends at most, 2^52: on each of its links one of each number.
-pub const GREATEST_SENT: u64 = 4_503_599_627_370_496;
+/// How many messages a node sends at most, 2^54: on each of its links one of each number.
+pub const GREATEST_SENT: u64 = 18_014_398_509_481_984;
 
-/// How many messages a node counts at most, 2^53: those that it sends, and those that it takes in.
-pub const GREATEST_COUNTED: u64 = 9_007_199_254_740_992;
+/// How many messages a node counts at most, 2^55: those that it sends, and those that it takes in.
+pub const GREATEST_COUNTED: u64 = 36_028_797_018_963_968;
+
+/// How many messages all nodes count at most, 2^61: the sum that the token carries stays within it.
+pub const GREATEST_SUM: u64 = 2_305_843_009_213_693_952;
 
 /// The greatest number of a collection cycle, 2^48; 0 stands for "none yet".
 pub const GREATEST_CYCLE: u64 = 281_474_976_710_656;

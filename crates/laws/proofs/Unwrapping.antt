@@ -6,7 +6,8 @@ use Rattle.std.proofs.lemmas.Int.{ints, int_wrap_fits, fits_signed_from_abs}
 use Rattle.std.specs.Int.RustNames.{FitsSigned}
 use Rattle.std.proofs.lemmas.Bool.{cases_Bool, cases_eq, cond-true, cond-false, and_parts}
 use Rattle.ids.specs.Limits.{Shaped, IsShape}
-use Rattle.ids.specs.declared.limits.TheConstants.{GREATEST_NUMBER}
+use Rattle.ids.specs.declared.limits.TheConstants.{GREATEST_NODES, GREATEST_NUMBER}
+use Rattle.ids.specs.declared.limits.TheConstants.{GREATEST_COUNTED, GREATEST_SUM}
 use Rattle.msg.specs.declared.body.Token.{Token}
 use Rattle.msg.specs.declared.body.Message.{Message}
 use Rattle.model.specs.State.{LocalState, NodeState, got_from, sent_to}
@@ -93,33 +94,30 @@ total-most (suc n) k f all =
     let more : suc n * k ≡ n * k + k = suc-mul n k in
     omega (arith, ints, before, last, more)
 
--- the most that one node can have sent and taken in, and that all of 16 can
-abbrev node_most : ℕ
-node_most = 9007199254740992
-
-abbrev space_most : ℕ
-space_most = 144115188075855872
+-- the most numbers that the two directions of a link can have
+abbrev link_most : ℕ
+link_most = 2 * GREATEST_NUMBER
 
 numbers-most : {shape : Shaped} {c : Cut} → IsShape shape → Inv shape c → Numbered c → (i : ℕ)
-    → numbers shape.nodes (c i) ≤ℤ pos node_most
+    → numbers shape.nodes (c i) ≤ℤ pos GREATEST_COUNTED
 numbers-most {shape = shape} {c = c} limits inv all i =
-    let each = total-most shape.nodes 562949953421312
+    let each = total-most shape.nodes link_most
     (λ j. pos (length (sent_to (c i) j) + got_from (c i).local j))
     (λ j _.
     (let a = all i j in
     let b = inv.base.within j i in
     let e = all j i in
     omega (arith, ints, a, b, e))) in
-    let few : shape.nodes * 562949953421312 ≤ 16 * 562949953421312 =
-    mul-le-mul_right 562949953421312 limits.most_nodes in
+    let few : shape.nodes * link_most ≤ GREATEST_NODES * link_most =
+    mul-le-mul_right link_most limits.most_nodes in
     omega (arith, ints, each, few)
 
 above-most : {shape : Shaped} {c : Cut} → IsShape shape → Inv shape c → Numbered c → (t : ℕ)
-    → above shape.nodes t (λ i. numbers shape.nodes (c i)) ≤ℤ pos space_most
+    → above shape.nodes t (λ i. numbers shape.nodes (c i)) ≤ℤ pos GREATEST_SUM
 above-most {shape = shape} {c = c} limits inv all t =
-    let each = total-most shape.nodes node_most
+    let each = total-most shape.nodes GREATEST_COUNTED
     (λ i. cond (ltb t i) (numbers shape.nodes (c i)) (pos 0))
-    (λ j _. ⊎_elim {C = cond (ltb t j) (numbers shape.nodes (c j)) (pos 0) ≤ℤ pos node_most}
+    (λ j _. ⊎_elim {C = cond (ltb t j) (numbers shape.nodes (c j)) (pos 0) ≤ℤ pos GREATEST_COUNTED}
     (λ is.
     (let a = cond-true (ltb t j) (numbers shape.nodes (c j)) (pos 0) is in
     let b = numbers-most limits inv all j in
@@ -128,12 +126,15 @@ above-most {shape = shape} {c = c} limits inv all t =
     (let a = cond-false (ltb t j) (numbers shape.nodes (c j)) (pos 0) isnt in
     omega (arith, ints, a)))
     (cases_Bool (ltb t j))) in
-    let few : shape.nodes * node_most ≤ 16 * node_most =
-    mul-le-mul_right node_most limits.most_nodes in
+    let few : shape.nodes * GREATEST_COUNTED ≤ GREATEST_NODES * GREATEST_COUNTED =
+    mul-le-mul_right GREATEST_COUNTED limits.most_nodes in
     omega (arith, ints, each, few)
 
-fits-signed : (z : ℤ) → z ≤ℤ pos 153122387330596864 → (pos 0 -ℤ z) ≤ℤ pos 153122387330596864
-    → FitsSigned w64 z
+-- the sum that a token carries, and the balance of the node that holds it
+abbrev held_most : ℕ
+held_most = GREATEST_SUM + GREATEST_COUNTED
+
+fits-signed : (z : ℤ) → z ≤ℤ pos held_most → (pos 0 -ℤ z) ≤ℤ pos held_most → FitsSigned w64 z
 fits-signed (pos n) most least =
     fits_signed_from_abs w64 (pos n)
     (let w : n < 9223372036854775808 = omega (arith, ints, most) in w)
@@ -141,8 +142,7 @@ fits-signed (negsuc n) most least =
     fits_signed_from_abs w64 (negsuc n)
     (let w : suc n < 9223372036854775808 = omega (arith, ints, least) in w)
 
-sum-fits : (z : ℤ) → z ≤ℤ pos 153122387330596864 → (pos 0 -ℤ z) ≤ℤ pos 153122387330596864
-    → int_wrap w64 z ≡ z
+sum-fits : (z : ℤ) → z ≤ℤ pos held_most → (pos 0 -ℤ z) ≤ℤ pos held_most → int_wrap w64 z ≡ z
 sum-fits z most least = int_wrap_fits w64 z (fits-signed z most least)
 
 pub unwrapped : {shape : Shaped} {c : Cut} → IsShape shape → Inv shape c → Numbered c → Unwrapped c

@@ -32,9 +32,9 @@ frame_again (ack_frame from to number) rest fits =
 frame_sound : IsSound frame
 unfolding frame data_at ack_at
 frame_sound = record {
-  takes = tagged_takes frame ((0x44, data_at) ∷ (0x41, ack_at) ∷ []) (
-      found sent frame 0x44 data_of sent_sound (λ _. refl) (λ _ w. w) (λ _ w. w)
-      ⊕ found known frame 0x41 ack_of known_sound (λ _. refl) (λ _ w. w) (λ _ w. w)
+  takes = tagged_takes frame ((0x45, data_at) ∷ (0x42, ack_at) ∷ []) (
+      found sent frame 0x45 data_of sent_sound (λ _. refl) (λ _ w. w) (λ _ w. w)
+      ⊕ found known frame 0x42 ack_of known_sound (λ _. refl) (λ _ w. w) (λ _ w. w)
       ⊕ tt
       );
   again = frame_again;

@@ -14,8 +14,11 @@ use Rattle.msg.specs.declared.body.Colour.TheVariants.{White, Black}
 use Rattle.msg.specs.declared.body.Token.{Token}
 use Rattle.msg.specs.declared.frame.Frame.{Frame}
 use Rattle.msg.specs.declared.frame.Frame.TheVariants as frame
-use Rattle.msg.specs.Formats.{reference, optional, colour, token, body_format, head, sent, known}
+use Rattle.msg.specs.Formats.{generation, reference, optional, colour, token, body_format}
+use Rattle.msg.specs.Formats.{head, sent, known}
 use Rattle.msg.specs.Frames.{plain}
+use Rattle.msg.specs.declared.version.Version.{Version}
+use Rattle.msg.specs.declared.version.Version.TheVariants.{First, Second}
 use Rattle.msg.specs.Grammar.{Fits, spelling}
 use Rattle.msg.specs.Grammar as grammar
 
@@ -24,35 +27,40 @@ unfolding colour
 any_colour White = tt
 any_colour Black = tt
 
-pub any_reference : (r : Ref) → reference.IsWithin r
-unfolding reference number4
-any_reference r = (tt, (tt, tt))
+pub any_generation : (v : Version) (g : ℕ) → (generation v).IsWithin g
+unfolding number4 number8
+any_generation First g = tt
+any_generation Second g = tt
 
-pub any_optional : (o : Option Ref) → optional.IsWithin o
-unfolding optional reference number4
-any_optional None = tt
-any_optional (Some r) = (tt, (tt, tt))
+pub any_reference : (v : Version) (r : Ref) → (reference v).IsWithin r
+unfolding reference number4
+any_reference v r = (tt, (tt, any_generation v r.generation))
+
+pub any_optional : (v : Version) (o : Option Ref) → (optional v).IsWithin o
+unfolding optional
+any_optional v None = tt
+any_optional v (Some r) = any_reference v r
 
 pub any_token : (t : Token) → token.IsWithin t
 unfolding token signed8
 any_token t = (any_colour t.colour, tt)
 
 -- a body's format has no limits
-pub any_body : (b : Body) → body_format.IsWithin b
+pub any_body : (v : Version) (b : Body) → (body_format v).IsWithin b
 unfolding body_format number4
-any_body body.Begin = tt
-any_body (body.Token t) = any_token t
-any_body (body.Mark target) = any_reference target
-any_body (body.Give label o) = (tt, any_optional o)
-any_body (body.Put target place o) = (any_reference target, (tt, any_optional o))
-any_body (body.Get target place label) = (any_reference target, (tt, tt))
-any_body body.Ended = tt
-any_body body.Swept = tt
+any_body v body.Begin = tt
+any_body v (body.Token t) = any_token t
+any_body v (body.Mark target) = any_reference v target
+any_body v (body.Give label o) = (tt, any_optional v o)
+any_body v (body.Put target place o) = (any_reference v target, (tt, any_optional v o))
+any_body v (body.Get target place label) = (any_reference v target, (tt, tt))
+any_body v body.Ended = tt
+any_body v body.Swept = tt
 
 frame_fits : (f : Frame) → grammar.frame.IsWide (plain f) → Fits (plain f)
 unfolding grammar.frame sent known head number8
 frame_fits (frame.Data d) wide =
-    record { wide = wide; within = (((tt, (tt, tt)), (tt, any_body d.body)), d.fits) }
+    record { wide = wide; within = (((tt, (tt, tt)), (tt, any_body Second d.body)), d.fits) }
 frame_fits (frame.Ack a) wide = record { wide = wide; within = ((tt, (tt, tt)), a.fits) }
 
 colour_short : (c : Colour) → length (colour.spell c) ≤ 1
@@ -60,13 +68,13 @@ unfolding colour
 colour_short White = omega arith
 colour_short Black = omega arith
 
-optional_short : (o : Option Ref) → length (optional.spell o) ≤ 10
-unfolding optional reference number4
+optional_short : (o : Option Ref) → length ((optional Second).spell o) ≤ 14
+unfolding optional reference number4 number8
 optional_short None = omega arith
 optional_short (Some r) = omega arith
 
-body_short : (b : Body) → length (body_format.spell b) ≤ 21
-unfolding body_format token signed8 reference number4
+body_short : (b : Body) → length ((body_format Second).spell b) ≤ 29
+unfolding body_format token signed8 reference number4 number8
 body_short body.Begin = omega arith
 body_short (body.Token t) = omega (arith, by (colour.spell t.colour) (colour_short t.colour)) where
   by : (xs : List ℕ) → length xs ≤ 1 → ((ys : List ℕ) → length (xs ++ ys) ≤ 1 + length ys)
@@ -78,7 +86,7 @@ body_short (body.Get target place label) = omega arith
 body_short body.Ended = omega arith
 body_short body.Swept = omega arith
 
-frame_short : (f : Frame) → length (spelling (plain f)) ≤ 40
+frame_short : (f : Frame) → length (spelling (plain f)) ≤ 48
 unfolding spelling grammar.frame sent known head number8
 frame_short (frame.Data d) = omega (arith, body_short d.body)
 frame_short (frame.Ack a) = omega arith
@@ -91,7 +99,7 @@ module _ (f : Frame) {V : Type 0} where
   is_spelled items (Ok v) is_open is wide same = (frame_fits f (wide is), same)
   is_spelled items (Err e) is_open is wide same = tt
 
-  pub is_refused : (r : Result V Refusal) (limit : ℕ) → limit ≡ 40
+  pub is_refused : (r : Result V Refusal) (limit : ℕ) → limit ≡ 48
       → IfErr r (λ e. e ≢ Memory → (e ≡ ImageTooLarge) × (limit < length (spelling (plain f))))
       → IfErr r (λ e. e ≡ Memory)
   is_refused (Ok v) limit same refused = tt

@@ -8,18 +8,25 @@ use Rattle.msg.specs.declared.body.Body.TheVariants as body
 use Rattle.msg.specs.declared.body.Colour.{Colour}
 use Rattle.msg.specs.declared.body.Colour.TheVariants.{White, Black}
 use Rattle.msg.specs.declared.body.Token.{Token}
+use Rattle.msg.specs.declared.version.Version.{Version}
+use Rattle.msg.specs.declared.version.Version.TheVariants.{First, Second}
 use Rattle.msg.specs.Limits.{data_fits, ack_fits}
 
+-- a generation, in four bytes in the first version
+abbrev pub generation : Version → Format ℕ
+generation First = number4
+generation Second = number8
+
 -- node, slot and generation
-unfoldable pub reference : Format Ref
-reference =
-    mapped (byte & number4 & number4)
+unfoldable pub reference : Version → Format Ref
+reference v =
+    mapped (byte & number4 & generation v)
     (λ x. record { node = x.0; slot = x.1.0; generation = x.1.1 })
     (λ r. (r.node, (r.slot, r.generation)))
 
 -- 0, or 1 and a reference
-unfoldable pub optional : Format (Option Ref)
-optional = option reference
+unfoldable pub optional : Version → Format (Option Ref)
+optional v = option (reference v)
 
 abbrev pub colour_tag : Colour → Behind
 colour_tag White = tag 0 nothing tt
@@ -34,53 +41,53 @@ unfoldable pub token : Format Token
 token = mapped (colour & signed8) (λ x. record { colour = x.0; q = x.1 }) (λ t. (t.colour, t.q))
 
 -- a label and an optional reference
-abbrev pub give : Format (ℕ × Option Ref)
-give = number4 & optional
+abbrev pub give : Version → Format (ℕ × Option Ref)
+give v = number4 & optional v
 
 -- an object, one of its places, and an optional reference
-abbrev pub put : Format (Ref × (ℕ × Option Ref))
-put = reference & byte & optional
+abbrev pub put : Version → Format (Ref × (ℕ × Option Ref))
+put v = reference v & byte & optional v
 
 -- an object, one of its places, and a label
-abbrev pub get : Format (Ref × (ℕ × ℕ))
-get = reference & byte & number4
+abbrev pub get : Version → Format (Ref × (ℕ × ℕ))
+get v = reference v & byte & number4
 
 -- a tag and what the body says
-abbrev pub body_tag : Body → Behind
-body_tag body.Begin = tag 1 nothing tt
-body_tag (body.Token t) = tag 2 token t
-body_tag (body.Mark target) = tag 3 reference target
-body_tag (body.Give label r) = tag 4 give (label, r)
-body_tag (body.Put target place r) = tag 5 put (target, (place, r))
-body_tag (body.Get target place label) = tag 6 get (target, (place, label))
-body_tag body.Ended = tag 7 nothing tt
-body_tag body.Swept = tag 8 nothing tt
+abbrev pub body_tag : Version → Body → Behind
+body_tag v body.Begin = tag 1 nothing tt
+body_tag v (body.Token t) = tag 2 token t
+body_tag v (body.Mark target) = tag 3 (reference v) target
+body_tag v (body.Give label r) = tag 4 (give v) (label, r)
+body_tag v (body.Put target place r) = tag 5 (put v) (target, (place, r))
+body_tag v (body.Get target place label) = tag 6 (get v) (target, (place, label))
+body_tag v body.Ended = tag 7 nothing tt
+body_tag v body.Swept = tag 8 nothing tt
 
-unfoldable pub give_at : Reader Body
-give_at bytes = made_at give (λ x. body.Give x.0 x.1) bytes
+unfoldable pub give_at : Version → Reader Body
+give_at v bytes = made_at (give v) (λ x. body.Give x.0 x.1) bytes
 
-unfoldable pub put_at : Reader Body
-put_at bytes = made_at put (λ x. body.Put x.0 x.1.0 x.1.1) bytes
+unfoldable pub put_at : Version → Reader Body
+put_at v bytes = made_at (put v) (λ x. body.Put x.0 x.1.0 x.1.1) bytes
 
-unfoldable pub get_at : Reader Body
-get_at bytes = made_at get (λ x. body.Get x.0 x.1.0 x.1.1) bytes
+unfoldable pub get_at : Version → Reader Body
+get_at v bytes = made_at (get v) (λ x. body.Get x.0 x.1.0 x.1.1) bytes
 
-abbrev pub bodies : List (ℕ × Reader Body)
-bodies =
+abbrev pub bodies : Version → List (ℕ × Reader Body)
+bodies v =
     (1, made_at nothing (λ _. body.Begin))
     ∷ (2, made_at token body.Token)
-    ∷ (3, made_at reference body.Mark)
-    ∷ (4, give_at)
-    ∷ (5, put_at)
-    ∷ (6, get_at)
+    ∷ (3, made_at (reference v) body.Mark)
+    ∷ (4, give_at v)
+    ∷ (5, put_at v)
+    ∷ (6, get_at v)
     ∷ (7, made_at nothing (λ _. body.Ended))
     ∷ (8, made_at nothing (λ _. body.Swept))
     ∷ []
 
-unfoldable pub body_format : Format Body
-body_format = tagged body_tag bodies
+unfoldable pub body_format : Version → Format Body
+body_format v = tagged (body_tag v) (bodies v)
 
--- ---- what stands behind a frame's first byte
+-- ---- what stands behind a frame's first byte, in the second version
 
 -- from, to and number
 abbrev pub Head : Type 0
@@ -97,7 +104,7 @@ abbrev pub sent_fits : Sent → Bool
 sent_fits x = data_fits x.0.0 x.0.1.0 x.0.1.1 x.1.0 x.1.1
 
 unfoldable pub sent : Format Sent
-sent = kept (head & number8 & body_format) sent_fits
+sent = kept (head & number8 & body_format Second) sent_fits
 
 abbrev pub head_fits : Head → Bool
 head_fits x = ack_fits x.0 x.1.0 x.1.1

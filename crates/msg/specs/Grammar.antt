@@ -14,8 +14,8 @@ pub data Plain : Type 0 where
 
 abbrev pub frame_tag : Plain → Behind
 frame_tag (data_frame from to number stamp body) =
-    tag 0x44 sent ((from, (to, number)), (stamp, body))
-frame_tag (ack_frame from to number) = tag 0x41 known (from, (to, number))
+    tag 0x45 sent ((from, (to, number)), (stamp, body))
+frame_tag (ack_frame from to number) = tag 0x42 known (from, (to, number))
 
 unfoldable pub data_at : Reader Plain
 data_at bytes = made_at sent (λ x. data_frame x.0.0 x.0.1.0 x.0.1.1 x.1.0 x.1.1) bytes
@@ -24,7 +24,7 @@ unfoldable pub ack_at : Reader Plain
 ack_at bytes = made_at known (λ x. ack_frame x.0 x.1.0 x.1.1) bytes
 
 unfoldable pub frame : Format Plain
-frame = tagged frame_tag ((0x44, data_at) ∷ (0x41, ack_at) ∷ [])
+frame = tagged frame_tag ((0x45, data_at) ∷ (0x42, ack_at) ∷ [])
 
 unfoldable pub spelling : Plain → List ℕ
 spelling f = frame.spell f

@@ -1,13 +1,14 @@
 -- Parts that stand in lists have a byte at least.
 use Rattle.std.proofs.Common.{zero-le, suc-le-suc, Some, None}
 use Rattle.codec.specs.Reading.{IsLong}
+use Rattle.msg.specs.declared.version.Version.{Version}
 use Rattle.msg.specs.Formats.{reference, optional}
 
-pub reference_long : IsLong reference
+pub reference_long : (v : Version) → IsLong (reference v)
 unfolding reference
-reference_long r = suc-le-suc zero-le
+reference_long v r = suc-le-suc zero-le
 
-pub optional_long : IsLong optional
+pub optional_long : (v : Version) → IsLong (optional v)
 unfolding optional
-optional_long None = suc-le-suc zero-le
-optional_long (Some r) = suc-le-suc zero-le
+optional_long v None = suc-le-suc zero-le
+optional_long v (Some r) = suc-le-suc zero-le

@@ -1,8 +1,8 @@
 //! What nodes say to each other, and how it is spelled as bytes.
 //!
 //! A frame is the whole of its bytes, and its numbers are big-endian. An acknowledgement is the
-//! byte 41 hex, the node that acknowledges and the other node in a byte each, and a number in eight
-//! bytes. A message is the byte 44 hex, the sender, the receiver and the message's number likewise,
+//! byte 42 hex, the node that acknowledges and the other node in a byte each, and a number in eight
+//! bytes. A message is the byte 45 hex, the sender, the receiver and the message's number likewise,
 //! its stamp in eight bytes, and a body: a tag, and what the body says.
 //!
 //! | Tag | Body | What it says |
@@ -16,8 +16,9 @@
 //! | 7 | Ended | |
 //! | 8 | Swept | |
 //!
-//! A reference is its node in one byte, and its slot and its generation in four bytes each. An
-//! optional one is the byte 0, or the byte 1 and a reference.
+//! A reference is its node in one byte, its slot in four and its generation in eight. An optional
+//! one is the byte 0, or the byte 1 and a reference. In the first [`Version`], which images alone
+//! may still have, a generation had four bytes.
 #![tactic(auto)]
 
 mod body;
@@ -25,9 +26,11 @@ mod frame;
 pub mod reading;
 mod tags;
 mod text;
+mod version;
 pub mod writing;
 
 pub use body::{Body, Colour, Message, Token};
 pub use frame::{Ack, Data, Frame, body_fits, grammar, optional_fits};
 pub use reading::decode;
+pub use version::Version;
 pub use writing::encode;

@@ -2,8 +2,8 @@ ghost use Rattle.std.specs.Prelude.{◌≡◌, IfOk, IfErr};
 ghost use Rattle.std.specs.Option.{option_map};
 ghost use Rattle.std.specs.Result.{IsOkAnd};
 ghost use Rattle.ids.specs.declared.refusal.Refusal.TheVariants.{BadFrame};
-ghost use Rattle.msg.specs.Formats.{reference, optional, colour, token, give_at, put_at, get_at};
-ghost use Rattle.msg.specs.Formats.{body_format, head};
+ghost use Rattle.msg.specs.Formats.{generation, reference, optional, colour, token};
+ghost use Rattle.msg.specs.Formats.{give_at, put_at, get_at, body_format, head};
 ghost use Rattle.msg.specs.Grammar.{Plain, Fits, spelling, data_at, ack_at, frame};
 ghost use Rattle.codec.specs.Formats.{whole_at};
 ghost use Rattle.msg.specs.Frames.{plain, plain_data, plain_ack};
@@ -13,18 +13,31 @@ use crate::frame::{Ack, Data, Frame};
 use crate::tags::{
     ABSENT, ACK, BEGIN, BLACK, DATA, ENDED, GET, GIVE, MARK, PRESENT, PUT, SWEPT, TOKEN, WHITE,
 };
+use crate::version::Version;
 use codec::reading::{i64_at, u8_at, u32_at, u64_at};
-use ids::{Ref, Refusal};
+use ids::{Generation, Ref, Refusal};
 
-/// A reference, whose numbers may be any. None where there is no such thing at the front, and so
-/// for every call here.
+/// A generation. None where there is no such thing at the front, and so for every call here.
+pub fn generation_at(version: Version, bytes: &[u8]) -> Option<(Generation, &[u8])>
+    ensures { (generation version).read bytes.now ≡ option_map (λ x. (x.0, x.1.now)) result }
+{
+    match version {
+        Version::First => {
+            let (generation, rest) = u32_at(bytes)?;
+            Some((Generation::from(generation), rest))
+        }
+        Version::Second => u64_at(bytes),
+    }
+}
+
+/// A reference, whose numbers may be any.
 #[tactic(auto, unfolding(crate::specs::Formats::reference))]
-pub fn reference_at(bytes: &[u8]) -> Option<(Ref, &[u8])>
-    ensures { reference.read bytes.now ≡ option_map (λ x. (x.0, x.1.now)) result }
+pub fn reference_at(version: Version, bytes: &[u8]) -> Option<(Ref, &[u8])>
+    ensures { (reference version).read bytes.now ≡ option_map (λ x. (x.0, x.1.now)) result }
 {
     let (node, rest) = u8_at(bytes)?;
     let (slot, rest) = u32_at(rest)?;
-    let (generation, rest) = u32_at(rest)?;
+    let (generation, rest) = generation_at(version, rest)?;
     let reference = Ref {
         node,
         slot,
@@ -35,14 +48,14 @@ pub fn reference_at(bytes: &[u8]) -> Option<(Ref, &[u8])>
 
 /// A reference whose numbers may be any, or that there is none.
 #[tactic(auto, unfolding(crate::specs::Formats::optional))]
-pub fn optional_at(bytes: &[u8]) -> Option<(Option<Ref>, &[u8])>
-    ensures { optional.read bytes.now ≡ option_map (λ x. (x.0, x.1.now)) result }
+pub fn optional_at(version: Version, bytes: &[u8]) -> Option<(Option<Ref>, &[u8])>
+    ensures { (optional version).read bytes.now ≡ option_map (λ x. (x.0, x.1.now)) result }
 {
     let (flag, rest) = u8_at(bytes)?;
     match flag {
         ABSENT => Some((None, rest)),
         PRESENT => {
-            let (reference, rest) = reference_at(rest)?;
+            let (reference, rest) = reference_at(version, rest)?;
             Some((Some(reference), rest))
         }
         _ => None,
@@ -73,21 +86,21 @@ pub fn token_at(bytes: &[u8]) -> Option<(Token, &[u8])>
 }
 
 #[tactic(auto, unfolding(crate::specs::Formats::give_at))]
-fn give_at(bytes: &[u8]) -> Option<(Body, &[u8])>
-    ensures { give_at bytes.now ≡ option_map (λ x. (x.0, x.1.now)) result }
+fn give_at(version: Version, bytes: &[u8]) -> Option<(Body, &[u8])>
+    ensures { give_at version bytes.now ≡ option_map (λ x. (x.0, x.1.now)) result }
 {
     let (label, rest) = u32_at(bytes)?;
-    let (reference, rest) = optional_at(rest)?;
+    let (reference, rest) = optional_at(version, rest)?;
     Some((Body::Give { label, reference }, rest))
 }
 
 #[tactic(auto, unfolding(crate::specs::Formats::put_at))]
-fn put_at(bytes: &[u8]) -> Option<(Body, &[u8])>
-    ensures { put_at bytes.now ≡ option_map (λ x. (x.0, x.1.now)) result }
+fn put_at(version: Version, bytes: &[u8]) -> Option<(Body, &[u8])>
+    ensures { put_at version bytes.now ≡ option_map (λ x. (x.0, x.1.now)) result }
 {
-    let (target, rest) = reference_at(bytes)?;
+    let (target, rest) = reference_at(version, bytes)?;
     let (place, rest) = u8_at(rest)?;
-    let (reference, rest) = optional_at(rest)?;
+    let (reference, rest) = optional_at(version, rest)?;
     let body = Body::Put {
         target,
         place,
@@ -97,10 +110,10 @@ fn put_at(bytes: &[u8]) -> Option<(Body, &[u8])>
 }
 
 #[tactic(auto, unfolding(crate::specs::Formats::get_at))]
-fn get_at(bytes: &[u8]) -> Option<(Body, &[u8])>
-    ensures { get_at bytes.now ≡ option_map (λ x. (x.0, x.1.now)) result }
+fn get_at(version: Version, bytes: &[u8]) -> Option<(Body, &[u8])>
+    ensures { get_at version bytes.now ≡ option_map (λ x. (x.0, x.1.now)) result }
 {
-    let (target, rest) = reference_at(bytes)?;
+    let (target, rest) = reference_at(version, bytes)?;
     let (place, rest) = u8_at(rest)?;
     let (label, rest) = u32_at(rest)?;
     let body = Body::Get {
@@ -113,8 +126,8 @@ fn get_at(bytes: &[u8]) -> Option<(Body, &[u8])>
 
 /// What a message says, behind its tag; its references and places may be any.
 #[tactic(auto, unfolding(crate::specs::Formats::body_format))]
-pub fn body_at(bytes: &[u8]) -> Option<(Body, &[u8])>
-    ensures { body_format.read bytes.now ≡ option_map (λ x. (x.0, x.1.now)) result }
+pub fn body_at(version: Version, bytes: &[u8]) -> Option<(Body, &[u8])>
+    ensures { (body_format version).read bytes.now ≡ option_map (λ x. (x.0, x.1.now)) result }
 {
     let (tag, rest) = u8_at(bytes)?;
     match tag {
@@ -124,12 +137,12 @@ pub fn body_at(bytes: &[u8]) -> Option<(Body, &[u8])>
             Some((Body::Token(token), rest))
         }
         MARK => {
-            let (target, rest) = reference_at(rest)?;
+            let (target, rest) = reference_at(version, rest)?;
             Some((Body::Mark { target }, rest))
         }
-        GIVE => give_at(rest),
-        PUT => put_at(rest),
-        GET => get_at(rest),
+        GIVE => give_at(version, rest),
+        PUT => put_at(version, rest),
+        GET => get_at(version, rest),
         ENDED => Some((Body::Ended, rest)),
         SWEPT => Some((Body::Swept, rest)),
         _ => None,
@@ -152,7 +165,7 @@ fn data_at(bytes: &[u8]) -> Option<(Data, &[u8])>
 {
     let ((from, (to, number)), rest) = head_at(bytes)?;
     let (stamp, rest) = u64_at(rest)?;
-    let (body, rest) = body_at(rest)?;
+    let (body, rest) = body_at(Version::Second, rest)?;
     let data = Data::new(from, to, number, stamp, body)?;
     Some((data, rest))
 }

@@ -1,10 +1,10 @@
 //! The bytes that say what follows them.
 
 /// Before a message.
-pub const DATA: u8 = 0x44;
+pub const DATA: u8 = 0x45;
 
 /// Before an acknowledgement.
-pub const ACK: u8 = 0x41;
+pub const ACK: u8 = 0x42;
 
 /// Before the news that a collection cycle begins.
 pub const BEGIN: u8 = 1;

@@ -1,8 +1,9 @@
 ghost use Rattle.std.specs.Prelude.{◌≡◌, [], ◌∷◌, ◌++◌, IfOk, IfErr};
 ghost use Rattle.ids.specs.declared.refusal.Refusal.TheVariants.{Memory};
-ghost use Rattle.codec.specs.Formats.{number8};
+ghost use Rattle.codec.specs.Formats.{number4, number8};
 ghost use Rattle.codec.specs.Writing.{Puts};
 ghost use Rattle.msg.specs.Formats.{reference, optional, colour, token, body_format};
+ghost use Rattle.msg.specs.declared.version.Version.TheVariants.{Second};
 ghost use Rattle.msg.specs.Grammar.{Fits, spelling, frame};
 ghost use Rattle.msg.specs.Frames.{plain, plain_data, plain_ack};
 
@@ -17,24 +18,30 @@ use ids::{Ref, Refusal};
 use std::alloc::Global;
 
 /// The longest frame has so many bytes.
-const GREATEST_FRAME: u32 = 40;
+const GREATEST_FRAME: u32 = 48;
 
-/// Appends a reference.
-#[tactic(auto, unfolding(crate::specs::Formats::reference, crate::specs::Numbers::number4))]
-pub fn put_reference(out: &mut Writer, r: Ref)
-    ensures { Puts reference out.old out.new r }
+#[tactic(auto, unfolding(crate::specs::Numbers::number4, crate::specs::Numbers::number8))]
+fn reference_bytes(r: Ref) -> [u8; 13]
+    ensures { result ≡ r.node ∷ (number4.spell r.slot ++ number8.spell r.generation) }
 {
-    let mut part = [0; 9];
+    let mut part = [0; 13];
     part[0] = r.node;
     BigEndian::write_u32(&mut part[1..], r.slot);
-    BigEndian::write_u32(&mut part[5..], r.generation);
-    out.append(&part);
+    BigEndian::write_u64(&mut part[5..], r.generation);
+    part
+}
+
+/// Appends a reference.
+pub fn put_reference(out: &mut Writer, r: Ref)
+    ensures { Puts (reference Second) out.old out.new r }
+{
+    out.append(&reference_bytes(r));
 }
 
 /// Appends a reference, or that there is none.
 #[tactic(auto, unfolding(crate::specs::Formats::optional), using(crate::proofs::Joins::behind))]
 pub fn put_optional(out: &mut Writer, o: Option<Ref>)
-    ensures { Puts optional out.old out.new o }
+    ensures { Puts (optional Second) out.old out.new o }
 {
     match o {
         None => out.u8(ABSENT),
@@ -68,7 +75,7 @@ pub fn put_token(out: &mut Writer, t: Token)
 /// Appends what a message says, behind its tag.
 #[tactic(auto, unfolding(crate::specs::Formats::body_format), using(crate::proofs::Joins::behind, crate::proofs::Joins::both, crate::proofs::Joins::first))]
 pub fn put_body(out: &mut Writer, body: Body)
-    ensures { Puts body_format out.old out.new body }
+    ensures { Puts (body_format Second) out.old out.new body }
 {
     match body {
         Body::Begin => out.u8(BEGIN),
@@ -113,7 +120,7 @@ pub fn put_body(out: &mut Writer, body: Body)
 // What stands before a message's body.
 #[tactic(auto, unfolding(crate::specs::Numbers::number8))]
 fn head_of(message: Data) -> [u8; 19]
-    ensures { result ≡ (0x44 ∷ message.from ∷ message.to ∷ [])
+    ensures { result ≡ (0x45 ∷ message.from ∷ message.to ∷ [])
         ++ (number8.spell message.number ++ number8.spell message.stamp) }
 {
     let mut part = [0; 19];
