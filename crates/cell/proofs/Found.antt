@@ -8,8 +8,9 @@ use Rattle.std.proofs.lemmas.Slice.Eq.{bytes_eq-Decides}
 use Rattle.model.specs.State.{LocalState, NodeState, sent_to}
 use Rattle.model.specs.View.{Link, NodeView, Shows, ShowsSent, all_kept, kept_view, link_to, no_link, used}
 use Rattle.image.specs.Images.{image_of}
-use Rattle.image.specs.Nodes.{IsImageOf}
-use Rattle.image.proofs.Images.{image_kept, image_of_one, kept_is}
+use Rattle.image.specs.Nodes.{HasImage}
+use Rattle.image.proofs.Images.{kept_is}
+use Rattle.image.proofs.Later.{image_of_same}
 use Rattle.wire.specs.Views.{Known, Pair}
 use Rattle.wire.specs.Plays.{Happens}
 use Rattle.cell.specs.Desks.{IsSavedNode, StandsAt}
@@ -33,10 +34,10 @@ shows-kept n s h = record {
 
 -- one that is read from its image, and shows a state, stands where that is saved
 pub stands-read : (me width : ℕ) (s : NodeState) (n : NodeView) → n.local.own ≡ me
-    → n.local.shape.nodes ≡ width → Shows n s → IsImageOf (image_of n) n
+    → n.local.shape.nodes ≡ width → Shows n s → HasImage n
     → StandsAt me width (both_states s) n
 stands-read me width s n own nodes shows image =
-    let kept : kept_view n ≡ n = kept_is (image_of n) n image in
+    let kept : kept_view n ≡ n = kept_is image.0 n image.1 in
     record {
       own = own;
       nodes = nodes;
@@ -51,15 +52,10 @@ stands-read me width s n own nodes shows image =
     }
 
 pub saved-read : (me width : ℕ) (s : NodeState) (n : NodeView) → n.local.own ≡ me
-    → n.local.shape.nodes ≡ width → Shows n s → IsImageOf (image_of n) n
+    → n.local.shape.nodes ≡ width → Shows n s → HasImage n
     → IsSavedNode me width s n
 saved-read me width s n own nodes shows image =
     record { own = own; nodes = nodes; shows = shows; image = ∣ image ∣₁ }
-
--- the image of a node that is saved is that of the node as it is then
-pub image-kept : (n : NodeView) → IsImageOf (image_of n) (kept_view n)
-    → IsImageOf (image_of (kept_view n)) (kept_view n)
-image-kept n h = subst (λ (b : List ℕ). IsImageOf b (kept_view n)) (sym (image_kept n)) h
 
 -- what a reopening enters may happen
 pub found-happens : (same : Bool) (v : Known)
@@ -67,14 +63,11 @@ pub found-happens : (same : Bool) (v : Known)
 found-happens true v = (refl, refl)
 found-happens false v = (refl, refl)
 
--- nodes with the same image, which is read as each of them, are the same
-same-nodes : (m n : NodeView) → is_same_image m n ≡ true → IsImageOf (image_of m) m
-    → ∥ IsImageOf (image_of n) n ∥₁ → m ≡ n
+-- nodes that are written alike, each of which was read from an image, are the same
+same-nodes : (m n : NodeView) → is_same_image m n ≡ true → HasImage m → ∥ HasImage n ∥₁ → m ≡ n
 same-nodes m n same first second =
     let bytes : image_of m ≡ image_of n = (bytes_eq-Decides (image_of m) (image_of n)).0 same in
-    ∥∥₁_elim second (hlevel props)
-    (λ read.
-    image_of_one (image_of m) m n first (subst (λ (b : List ℕ). IsImageOf b n) (sym bytes) read))
+    ∥∥₁_elim second (hlevel props) (λ read. image_of_same m n first read bytes)
 
 -- the node that was found stands where the reopening leaves the seat
 pub record IsFound (me width : ℕ) (p : Pair) (found : NodeView) : Type 0 where
@@ -82,7 +75,7 @@ pub record IsFound (me width : ℕ) (p : Pair) (found : NodeView) : Type 0 where
   pub saved : IsSavedNode me width p.saved found
 
 pub found-read : (me width : ℕ) (s : NodeState) (n : NodeView) → n.local.own ≡ me
-    → n.local.shape.nodes ≡ width → Shows n s → IsImageOf (image_of n) n
+    → n.local.shape.nodes ≡ width → Shows n s → HasImage n
     → IsFound me width (both_states s) n
 found-read me width s n own nodes shows image = record {
   stands = stands-read me width s n own nodes shows image;
@@ -91,7 +84,7 @@ found-read me width s n own nodes shows image = record {
 
 found-by : (me width : ℕ) (p : Pair) (n was found : NodeView) (same : Bool)
     → is_same_image found was ≡ same → StandsAt me width p n → IsSavedNode me width p.saved was
-    → IsImageOf (image_of found) found → (same ≡ false → found ≡ kept_view n)
+    → HasImage found → (same ≡ false → found ≡ kept_view n)
     → IsFound me width (found_pair same p) found
 found-by me width p n was found true same stands saved image which =
     let is : found ≡ was = same-nodes found was same image saved.image in
@@ -106,7 +99,7 @@ found-by me width p n was found false same stands saved image which =
     (shows-kept n p.current stands.shows)) image
 
 pub is-found : (me width : ℕ) (p : Pair) (n was found : NodeView) → StandsAt me width p n
-    → IsSavedNode me width p.saved was → IsImageOf (image_of found) found
+    → IsSavedNode me width p.saved was → HasImage found
     → (is_same_image found was ≡ false → found ≡ kept_view n)
     → IsFound me width (found_pair (is_same_image found was) p) found
 is-found me width p n was found stands saved image which =

@@ -5,8 +5,8 @@ use Rattle.std.proofs.Props.{props}
 use Rattle.std.proofs.lemmas.Slice.Eq.{bytes_eq-Decides}
 use Rattle.model.specs.View.{NodeView, kept_view}
 use Rattle.image.specs.Images.{image_of}
-use Rattle.image.specs.Nodes.{IsImageOf}
-use Rattle.image.proofs.Images.{image_of_one, image_is}
+use Rattle.image.specs.Nodes.{HasImage, IsImageOf}
+use Rattle.image.proofs.Images.{image_of_one}
 use Rattle.disk.specs.Areas.{Areas}
 use Rattle.disk.specs.Crashes.{LeavesOnly, Only}
 use Rattle.disk.specs.Record.{areas_of, leaves}
@@ -30,10 +30,9 @@ same-found m n c first second =
     let bytes : second.0 ≡ first.0 = cc in
     image_of_one first.0 m n first.2 (subst (λ (b : List ℕ). IsImageOf b n) bytes second.2)
 
--- the image of a node that was found is read as it
-pub image-found : (n : NodeView) (c : Areas) → OpensTo n c → IsImageOf (image_of n) n
-image-found n c found =
-    subst (λ (b : List ℕ). IsImageOf b n) (sym (image_is found.0 n found.2)) found.2
+-- a node that was found was read from bytes
+pub image-found : (n : NodeView) (c : Areas) → OpensTo n c → HasImage n
+image-found n c found = (found.0, found.2)
 
 same-image : (m n : NodeView) → m ≡ n → is_same_image m n ≡ true
 same-image m n same = (bytes_eq-Decides (image_of m) (image_of n)).1 (ap image_of same)

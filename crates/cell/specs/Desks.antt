@@ -5,8 +5,7 @@ use Rattle.msg.specs.Grammar.{Plain}
 use Rattle.msg.specs.declared.frame.Data.{Data}
 use Rattle.model.specs.State.{NodeState, sent_to}
 use Rattle.model.specs.View.{NodeView, Shows, link_to}
-use Rattle.image.specs.Images.{image_of}
-use Rattle.image.specs.Nodes.{IsImageOf}
+use Rattle.image.specs.Nodes.{HasImage}
 use Rattle.node.specs.Keeping.{OfAll, Rings}
 use Rattle.wire.specs.Views.{Pair}
 use Rattle.wire.specs.Readers.{known, seat_node}
@@ -32,12 +31,12 @@ pub record StandsAt (me width : ℕ) (p : Pair) (n : NodeView) : Type 0 where
   pub acks : n.acks ≡ p.saved.local.got
   pub behind : IsBehind p.saved p.current
 
--- the node shows the state, and is read from the bytes of its image
+-- the node shows the state, and is read from bytes
 pub record IsSavedNode (me width : ℕ) (s : NodeState) (n : NodeView) : Type 0 where
   pub own : n.local.own ≡ me
   pub nodes : n.local.shape.nodes ≡ width
   pub shows : Shows n s
-  pub image : ∥ IsImageOf (image_of n) n ∥₁
+  pub image : ∥ HasImage n ∥₁
 
 -- where this is false, the current state is the saved one
 abbrev pub IsUnsaved : Bool → Pair → Type 0

@@ -21,7 +21,7 @@ OpensToNode n c = IsReadAs IsWholeOf (opened c) n
 abbrev pub OpensToEither : NodeView → NodeView → Areas → Type 0
 OpensToEither saved n c = OpensTo saved c ⊎ OpensTo (kept_view n) c
 
--- the nodes have the same image
+-- the nodes are written alike, so they are the same where each was read from an image
 abbrev pub is_same_image : NodeView → NodeView → Bool
 is_same_image m n = bytes_eq (image_of m) (image_of n)
 

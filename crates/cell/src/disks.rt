@@ -3,8 +3,7 @@ ghost use Rattle.std.specs.Prelude.{◌≡◌, false, replicate};
 ghost use Rattle.ids.specs.declared.limits.TheConstants.{GREATEST_NODES};
 ghost use Rattle.model.specs.View.{kept_view};
 ghost use Rattle.node.specs.Keeping.{alone, kept_whole};
-ghost use Rattle.image.specs.Images.{image_of};
-ghost use Rattle.image.specs.Nodes.{IsImageOf};
+ghost use Rattle.image.specs.Nodes.{HasImage};
 ghost use Rattle.wire.specs.Readers.{known, IsSeatOf, IsSame};
 ghost use Rattle.cell.specs.Desks.{IsAtSeat};
 ghost use Rattle.cell.specs.Disks.{is_same_image};
@@ -28,10 +27,10 @@ fn ended_by(node: &Node) -> Cycle
 }
 
 impl Desk {
-    // A node that is read from the bytes of its image, at its seat.
+    // A node that is read from bytes, at its seat.
     pub(crate) fn new(node: Node, seat: NodeSeat) -> Desk
         requires seat { IsAtSeat node.core seat }
-        requires image { IsImageOf (image_of node.core) node.core }
+        requires image { HasImage node.core }
         requires alone { node ≡ alone node.core }
         ensures node { result.node ≡ node }
         ensures seat { result.seat ≡ seat }
@@ -52,11 +51,10 @@ impl Desk {
         }
     }
 
-    // Its node was saved, and its image is read.
+    // Its node was saved, and is read from what was written.
     pub(crate) fn save(&mut self, wire: &Wire)
         requires wire { IsSeatOf wire.now self.old.seat }
-        requires image { IsImageOf (image_of self.old.node.core)
-            (kept_view self.old.node.core) }
+        requires image { HasImage (kept_view self.old.node.core) }
         ensures same { IsSame self.old.seat self.new.seat }
         ensures known { known self.new.seat ≡ saved_by (known self.old.seat) }
         ensures entered { Entered (step.Save (known self.old.seat).me)
@@ -76,7 +74,7 @@ impl Desk {
     // This node was found on its disk: the one that was saved last, or its own as it stands.
     pub(crate) fn reopen(&mut self, wire: &Wire, found: Node)
         requires wire { IsSeatOf wire.now self.old.seat }
-        requires image { IsImageOf (image_of found.core) found.core }
+        requires image { HasImage found.core }
         requires alone { found ≡ alone found.core }
         requires which { is_same_image found.core self.old.saved.value ≡ false
             → found.core ≡ kept_view self.old.node.core }

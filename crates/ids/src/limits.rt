@@ -4,6 +4,9 @@ pub const LEAST_NODES: u8 = 2;
 /// The greatest number of nodes in a space; a node's number is below it.
 pub const GREATEST_NODES: u8 = 64;
 
+/// The greatest number of nodes in a space whose nodes were saved in the first version of images.
+pub const FIRST_VERSION_NODES: u8 = 16;
+
 /// The greatest number of registers of a node; the least is 1.
 pub const GREATEST_REGISTERS: u16 = 256;
 

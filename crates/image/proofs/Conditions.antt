@@ -12,6 +12,7 @@ use Rattle.msg.specs.declared.body.Body.{Body}
 use Rattle.msg.specs.declared.body.Body.TheVariants as body
 use Rattle.msg.specs.declared.body.Message.{Message}
 use Rattle.msg.specs.Limits.{body_fits}
+use Rattle.msg.specs.declared.version.Version.{Version}
 use Rattle.link.specs.Senders.{IsLink}
 use Rattle.model.specs.References.{IsPlaced, no_message}
 use Rattle.model.specs.View.{Link, NodeView, no_link, used, all_kept, link_to}
@@ -19,7 +20,7 @@ use Rattle.model.specs.WellFormed.{AreReports}
 use Rattle.node.specs.Invariant.{AreLinked, links_of}
 use Rattle.safra.proofs.Sizes.{bounded-sizes, sizes-bounded}
 use Rattle.image.specs.Grammar.{Stored, Fits, message_format, link_format}
-use Rattle.image.specs.Grammar.{image_format, lists_format, told_format, others_format}
+use Rattle.image.specs.Grammar.{stored_format, lists_format, told_format, others_format}
 use Rattle.image.specs.Links.{StoredLink}
 use Rattle.image.specs.Nodes.{link_of, received_of, with_at, node_of, Spells, IsStanding}
 use Rattle.image.specs.Conditions.{IsSaved}
@@ -68,9 +69,10 @@ standing_saved n stands =
 
 -- ---- what a spelling says
 
-registers_count : (s : Stored) → Fits s → length s.registers ≡ s.head.registers
-unfolding image_format lists_format told_format
-registers_count s fits = fits.within.1.0.1.0
+registers_count : (v : Version) (s : Stored) → Fits v s
+    → length s.registers ≡ s.head.registers
+unfolding stored_format lists_format told_format
+registers_count v s fits = fits.within.1.0.1.0
 
 length_with : {A : Type 0} (k : ℕ) (a : A) (xs : List A) → k ≤ length xs
     → length (with_at k a xs) ≡ suc (length xs)
@@ -124,27 +126,29 @@ placed b fits = tt
 abbrev ArePlaced : Link → Type 0
 ArePlaced l = (k : ℕ) → IsPlaced (get_or l.unacknowledged k no_message).body
 
-messages_placed : (xs : List Message) → AllByRecursion message_format.IsWithin xs → (k : ℕ)
+messages_placed : (v : Version) (xs : List Message)
+    → AllByRecursion (message_format v).IsWithin xs → (k : ℕ)
     → IsPlaced (get_or xs k no_message).body
 unfolding message_format
-messages_placed [] all k = tt
-messages_placed (x ∷ xs) all zero = placed x.body all.0.1.1
-messages_placed (x ∷ xs) all (suc k) = messages_placed xs all.1 k
+messages_placed v [] all k = tt
+messages_placed v (x ∷ xs) all zero = placed x.body all.0.1.1
+messages_placed v (x ∷ xs) all (suc k) = messages_placed v xs all.1 k
 
-links_placed : (ls : List StoredLink) → AllByRecursion link_format.IsWithin ls
+links_placed : (v : Version) (ls : List StoredLink) → AllByRecursion (link_format v).IsWithin ls
     → AllByRecursion (λ l. ArePlaced (link_of l)) ls
 unfolding link_format
-links_placed [] all = tt
-links_placed (l ∷ ls) all =
-    (messages_placed l.unacknowledged all.0.1.0.1.1, links_placed ls all.1)
+links_placed v [] all = tt
+links_placed v (l ∷ ls) all =
+    (messages_placed v l.unacknowledged all.0.1.0.1.1, links_placed v ls all.1)
 
-links_within : (s : Stored) → Fits s → AllByRecursion link_format.IsWithin s.links
-unfolding image_format lists_format others_format
-links_within s fits = fits.within.1.1.1.1.1.1
+links_within : (v : Version) (s : Stored) → Fits v s
+    → AllByRecursion (link_format v).IsWithin s.links
+unfolding stored_format lists_format others_format
+links_within v s fits = fits.within.1.1.1.1.1.1
 
 -- ---- the node that is said
 
-module _ (s : Stored) (fits : Fits s) (saved : IsSaved (node_of s)) where
+module _ (v : Version) (s : Stored) (fits : Fits v s) (saved : IsSaved (node_of s)) where
   abbrev n : NodeView
   n = node_of s
 
@@ -152,7 +156,7 @@ module _ (s : Stored) (fits : Fits s) (saved : IsSaved (node_of s)) where
   own = s.head.own
 
   one_more : length s.links + 1 ≡ s.head.nodes
-  one_more = omega (arith, links_count s fits, own_below s fits)
+  one_more = omega (arith, links_count v s fits, own_below v s fits)
 
   width : {A : Type 0} (f : StoredLink → A) (a : A)
       → length (with_at own a (map f s.links)) ≡ s.head.nodes
@@ -162,8 +166,8 @@ module _ (s : Stored) (fits : Fits s) (saved : IsSaved (node_of s)) where
         arith,
         one_more,
         count,
-        own_below s fits,
-        length_with own a (map f s.links) (omega (arith, one_more, count, own_below s fits)),
+        own_below v s fits,
+        length_with own a (map f s.links) (omega (arith, one_more, count, own_below v s fits)),
       )
 
   kept_all : (i : ℕ) → link_to n i ≡ all_kept (link_to n i)
@@ -198,7 +202,7 @@ module _ (s : Stored) (fits : Fits s) (saved : IsSaved (node_of s)) where
           stamp = omega (arith, saved.numbers.stamps i k, saved.phases.within);
           references = saved.references.sent i k;
           place = with_at_each ArePlaced link_of no_link (λ j. tt) own s.links i
-              (links_placed s.links (links_within s fits)) k;
+              (links_placed v s.links (links_within v s fits)) k;
         };
         timely = record {
           unused = with_at_own own no_link (map link_of s.links);
@@ -209,15 +213,15 @@ module _ (s : Stored) (fits : Fits s) (saved : IsSaved (node_of s)) where
 
   pub saved_standing : IsStanding (node_of s)
   saved_standing =
-      let reports = reports_by own s.head.nodes s.reports (own == 0) refl (own_below s fits)
-      (reports_count s fits) in
+      let reports = reports_by own s.head.nodes s.reports (own == 0) refl (own_below v s fits)
+      (reports_count v s fits) in
       record {
         node = record {
           shape = saved.place.shape;
           own = saved.place.own;
           references = saved.references.held;
           stocked = record {
-            registers = registers_count s fits;
+            registers = registers_count v s fits;
             letters = saved.letters;
             slots = saved.slots.each;
             grey = saved.grey.marked;
@@ -254,10 +258,11 @@ module _ (s : Stored) (fits : Fits s) (saved : IsSaved (node_of s)) where
         };
       }
 
-pub saved_both : (bytes : List ℕ) (n : NodeView) → Spells bytes n → (IsSaved n ↔ IsStanding n)
-saved_both bytes n p = (
+pub saved_both : (v : Version) (bytes : List ℕ) (n : NodeView) → Spells v bytes n
+    → (IsSaved n ↔ IsStanding n)
+saved_both v bytes n p = (
   λ saved.
       subst IsStanding p.node
-      (saved_standing p.says p.image.fits (subst IsSaved (sym p.node) saved)),
+      (saved_standing v p.says p.image.fits (subst IsSaved (sym p.node) saved)),
   standing_saved n,
 )

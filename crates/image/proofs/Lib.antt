@@ -3,6 +3,7 @@ pub mod Formats
 pub mod Images
 pub mod Joins
 pub mod Kept
+pub mod Later
 pub mod Loops
 pub mod Made
 mod Rows

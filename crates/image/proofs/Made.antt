@@ -8,6 +8,7 @@ use Rattle.std.proofs.lemmas.Option.{same_Some}
 use Rattle.ids.specs.declared.limits.TheConstants.{GREATEST_IMAGE}
 use Rattle.ids.specs.declared.refusal.Refusal.{Refusal}
 use Rattle.ids.specs.declared.refusal.Refusal.TheVariants.{Memory, BadImage}
+use Rattle.msg.specs.declared.version.Version.{Version}
 use Rattle.model.specs.View.{NodeView}
 use Rattle.node.specs.Parts.{IsRestorable}
 use Rattle.node.proofs.Restorable.{restorable}
@@ -46,13 +47,14 @@ module _ (given said : NodeView) (same : given ≡ said) where
       )
 
 module _ (bytes : List ℕ) where
-  pub is_image : (s : Stored) (r : Result NodeView Refusal) → IsImage bytes s
+  pub is_image : (v : Version) (s : Stored) (r : Result NodeView Refusal) → IsImage bytes v s
       → IfOk r (λ n. n ≡ node_of s) → OnOk r (IsStanding (node_of s)) → IfOk r (IsImageOf bytes)
-  is_image s (Ok n) image made stands = record {
+  is_image v s (Ok n) image made stands = record {
+    version = v;
     spelled = record { says = s; image = image; node = sym made };
     saved = subst IsSaved (sym made) (standing_saved (node_of s) stands);
   }
-  is_image s (Err e) image made stands = tt
+  is_image v s (Err e) image made stands = tt
 
   abbrev IsOfNone : Refusal → Type 0
   IsOfNone e = e ≢ Memory → (e ≡ BadImage) × ((n : NodeView) → IsImageOf bytes n → ⊥)
@@ -66,21 +68,26 @@ module _ (bytes : List ℕ) where
       let h = refused other in (
         h.0,
         λ n is.
-            let some : ◌≡◌ {A = Option Stored} (Some is.spelled.says) None =
-            sym (again bytes is.spelled.says is.spelled.image) ∙ h.1 in
+            let p = is.spelled in
+            let some : ◌≡◌ {A = Option (Version × Stored)} (Some (is.version, p.says)) None =
+            sym (again bytes is.version p.says p.image) ∙ h.1 in
             absurd cc,
       )
 
-  pub is_none : (s : Stored) → Fits s → read bytes ≡ Some s → (r : Result NodeView Refusal)
+  pub is_none : (v : Version) (s : Stored) → Fits v s → read bytes ≡ Some (v, s)
+      → (r : Result NodeView Refusal)
       → IfErr r (λ e. e ≢ Memory → (e ≡ BadImage) × (IsStanding (node_of s) → ⊥))
       → IfErr r IsOfNone
-  is_none s fits says (Ok n) refused = tt
-  is_none s fits says (Err e) refused = λ other.
+  is_none v s fits says (Ok n) refused = tt
+  is_none v s fits says (Err e) refused = λ other.
       let h = refused other in (
         h.0,
         λ n is.
             let p = is.spelled in
-            let one : s ≡ p.says = same_Some s p.says (sym says ∙ again bytes p.says p.image) in
+            let both : ◌≡◌ {A = Version × Stored} (v, s) (is.version, p.says) =
+            same_Some (v, s) (is.version, p.says)
+            (sym says ∙ again bytes is.version p.says p.image) in
+            let one : s ≡ p.says = ap (λ (x : Version × Stored). x.1) both in
             let same : node_of s ≡ n = ap node_of one ∙ p.node in
-            h.1 (saved_standing s fits (subst IsSaved (sym same) is.saved)),
+            h.1 (saved_standing v s fits (subst IsSaved (sym same) is.saved)),
       )

@@ -3,9 +3,10 @@ use Rattle.std.proofs.Common.{◌≡◌, [], ◌∷◌, ◌++◌, replicate, ref
 use Rattle.model.specs.View.{NodeView, new_view}
 use Rattle.codec.specs.Formats.{number2, number4, number8, signed8}
 use Rattle.msg.specs.Formats.{colour, token, optional}
-use Rattle.image.specs.Grammar.{spelling, start_format, nodes_format, head_format, phases_format}
-use Rattle.image.specs.Grammar.{held_format, ring_format, link_format, front_format, told_format}
-use Rattle.image.specs.Grammar.{slots_format, others_format, lists_format, image_format}
+use Rattle.image.specs.Grammar.{spelling, version_format, start_format, nodes_format, head_format}
+use Rattle.image.specs.Grammar.{phases_format, held_format, ring_format, link_format, front_format}
+use Rattle.image.specs.Grammar.{told_format, slots_format, others_format, lists_format}
+use Rattle.image.specs.Grammar.{stored_format, image_format}
 use Rattle.image.specs.Images.{image_of, stored_by}
 use Rattle.image.specs.Nodes.{node_of}
 
@@ -17,6 +18,6 @@ is_said : node_of (stored_by new) ≡ new
 is_said = refl
 
 is_spelled : image_of new
-    ≡ (0x4D ∷ 0x52 ∷ 1 ∷ 2 ∷ 1 ∷ 0 ∷ 1 ∷ 0 ∷ 0 ∷ 0 ∷ 2 ∷ []) ++ replicate 87 0
-unfolding spelling image_format front_format head_format start_format nodes_format phases_format ring_format held_format lists_format told_format slots_format others_format link_format number2 number4 number8 signed8 colour token optional
+    ≡ (0x4D ∷ 0x52 ∷ 2 ∷ 2 ∷ 1 ∷ 0 ∷ 1 ∷ 0 ∷ 0 ∷ 0 ∷ 2 ∷ []) ++ replicate 87 0
+unfolding spelling image_format stored_format version_format front_format head_format start_format nodes_format phases_format ring_format held_format lists_format told_format slots_format others_format link_format number2 number4 number8 signed8 colour token optional
 is_spelled = refl

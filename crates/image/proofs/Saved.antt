@@ -24,6 +24,7 @@ use Rattle.model.specs.WellFormed.{IsSlotOf, AreReports}
 use Rattle.msg.specs.declared.body.Body.{Body}
 use Rattle.msg.specs.declared.body.Body.TheVariants as body
 use Rattle.msg.specs.declared.body.Message.{Message}
+use Rattle.msg.specs.declared.version.Version.TheVariants.{Second}
 use Rattle.msg.specs.Limits.{optional_fits, place_fits, body_fits}
 use Rattle.node.specs.Invariant.{IsNode}
 use Rattle.node.proofs.Restorable.{standing}
@@ -32,9 +33,9 @@ use Rattle.msg.proofs.Written.{any_colour, any_token, any_reference, any_optiona
 use Rattle.codec.specs.Formats.{number2, number4, number8, signed8}
 use Rattle.image.specs.Grammar.{Stored, Fits, near, near_optional, letter_format, slot_format}
 use Rattle.image.specs.Grammar.{object_format, places_format, width_format, message_format}
-use Rattle.image.specs.Grammar.{link_format, held_format, start_format, nodes_format, head_format}
+use Rattle.image.specs.Grammar.{link_format, held_format, nodes_format, head_format}
 use Rattle.image.specs.Grammar.{phases_format, ring_format, front_format, told_format, slots_format}
-use Rattle.image.specs.Grammar.{others_format, lists_format, image_format, front_of, told_of}
+use Rattle.image.specs.Grammar.{others_format, lists_format, stored_format, front_of, told_of}
 use Rattle.image.specs.Grammar.{slots_of, others_of}
 use Rattle.image.specs.Images.{stored_slot, stored_link, stored_links, without_at, stored_by}
 use Rattle.image.specs.Images.{image_of}
@@ -51,23 +52,23 @@ module _ (shape : Shaped) (sizes : IsShape shape) where
       (and_from _ _ (lt-ltb r.slot GREATEST_SLOTS (omega (arith, is.slot, sizes.most_slots)))
       (le-leb 1 r.generation is.generation))
 
-  optional : (o : Option Ref) → IfAny (IsWithin shape) o → near_optional.IsWithin o
-  optional None is = (any_optional None, refl)
-  optional (Some r) is = (any_optional (Some r), reference r is)
+  optional : (o : Option Ref) → IfAny (IsWithin shape) o → (near_optional Second).IsWithin o
+  optional None is = (any_optional Second None, refl)
+  optional (Some r) is = (any_optional Second (Some r), reference r is)
 
   optionals : (os : List (Option Ref)) → ((k : ℕ) → IfAny (IsWithin shape) (get_or os k None))
-      → AllByRecursion near_optional.IsWithin os
+      → AllByRecursion (near_optional Second).IsWithin os
   optionals [] is = tt
   optionals (o ∷ os) is = (optional o (is 0), optionals os (λ k. is (suc k)))
 
   references : (rs : List Ref) → AllByRecursion (IsWithin shape) rs
-      → AllByRecursion near.IsWithin rs
+      → AllByRecursion (near Second).IsWithin rs
   references [] is = tt
-  references (r ∷ rs) is = ((any_reference r, reference r is.0), references rs is.1)
+  references (r ∷ rs) is = ((any_reference Second r, reference r is.0), references rs is.1)
 
   letters : (ls : List Letter)
       → ((k : ℕ) → IfAny (IsWithin shape) (get_or ls k no_letter).reference)
-      → AllByRecursion letter_format.IsWithin ls
+      → AllByRecursion (letter_format Second).IsWithin ls
   unfolding letter_format number4
   letters [] is = tt
   letters (l ∷ ls) is =
@@ -81,7 +82,7 @@ module _ (shape : Shaped) (sizes : IsShape shape) where
         (g : ℕ) (o : Object) (j : ℕ) → s ≡ Occupied g o
         → IfAny (IsWithin shape) (get_or o.places j None)
 
-    one_slot : (s : Slot) → IsSlotOf cycle s → Places s → slot_format.IsWithin (stored_slot s)
+    one_slot : (s : Slot) → IsSlotOf cycle s → Places s → (slot_format Second).IsWithin (stored_slot s)
     unfolding slot_format object_format places_format width_format number4 number8
     one_slot (Free g) is places = tt
     one_slot (Occupied g o) is places = (
@@ -98,7 +99,7 @@ module _ (shape : Shaped) (sizes : IsShape shape) where
 
     each_slot : (ss : List Slot) → ((k : ℕ) → IsSlotOf cycle (get_or ss k Retired))
         → ((k : ℕ) → Places (get_or ss k Retired))
-        → AllByRecursion slot_format.IsWithin (map stored_slot ss)
+        → AllByRecursion (slot_format Second).IsWithin (map stored_slot ss)
     each_slot [] is places = tt
     each_slot (s ∷ ss) is places =
         (one_slot s (is 0) (places 0), each_slot ss (λ k. is (suc k)) (λ k. places (suc k)))
@@ -127,11 +128,11 @@ module _ (shape : Shaped) (sizes : IsShape shape) where
   one_body body.Swept is placed = refl
 
   messages : (xs : List Message) → ((k : ℕ) → IsSendable shape (get_or xs k no_message))
-      → AllByRecursion message_format.IsWithin xs
+      → AllByRecursion (message_format Second).IsWithin xs
   unfolding message_format number8
   messages [] is = tt
   messages (x ∷ xs) is = (
-    (tt, (any_body x.body, one_body x.body (is 0).references (is 0).place)),
+    (tt, (any_body Second x.body, one_body x.body (is 0).references (is 0).place)),
     messages xs (λ k. is (suc k)),
   )
 
@@ -140,19 +141,19 @@ module _ (shape : Shaped) (sizes : IsShape shape) where
   abbrev Sends : Link → Type 0
   Sends l = (k : ℕ) → IsSendable shape (get_or l.unacknowledged k no_message)
 
-  one_link : (l : Link) (g : ℕ) → Sends l → link_format.IsWithin (stored_link l g)
+  one_link : (l : Link) (g : ℕ) → Sends l → (link_format Second).IsWithin (stored_link l g)
   unfolding link_format number4 number8
   one_link l g is = (tt, ((tt, (refl, messages l.unacknowledged is)), tt))
 
   each_link : (links : List Link) (got : List ℕ) → ((i : ℕ) → Sends (get_or links i no_link))
-      → AllByRecursion link_format.IsWithin (stored_links links got)
+      → AllByRecursion (link_format Second).IsWithin (stored_links links got)
   each_link [] got is = tt
   each_link (l ∷ ls) [] is = tt
   each_link (l ∷ ls) (g ∷ gs) is = (one_link l g (is 0), each_link ls gs (λ i. is (suc i)))
 
   others : (own : ℕ) (links : List Link) (got : List ℕ)
       → ((i : ℕ) → Sends (get_or links i no_link))
-      → AllByRecursion link_format.IsWithin (without_at own (stored_links links got))
+      → AllByRecursion (link_format Second).IsWithin (without_at own (stored_links links got))
   others own [] got is = tt
   others own (l ∷ ls) [] is = tt
   others zero (l ∷ ls) (g ∷ gs) is = each_link ls gs (λ i. is (suc i))
@@ -282,14 +283,16 @@ module _ (n : NodeView) (is : IsNode n) where
       (omega (arith, is.own)) is.phases.heard in
       rw (slots, links, got, reports) refl
 
-  sized : front_format.IsWithin (front_of (stored_by n))
-  unfolding front_format head_format start_format nodes_format phases_format ring_format number2 number4 number8 signed8
-  sized = (
-    (((tt, (tt, tt)), refl), (((tt, tt), lt-ltb _ _ is.own), (tt, tt))),
-    ((tt, (tt, (tt, tt))), (any_colour n.local.ring.colour, (tt, (tt, any_held n.local.ring.token)))),
-  )
+  sized : (front_format Second).IsWithin (front_of (stored_by n))
+  unfolding front_format head_format nodes_format phases_format ring_format number2 number4 number8 signed8
+  sized =
+      let ring = n.local.ring in
+      let placed = and_from _ _ (lt-ltb _ _ is.own) (le-leb _ _ is.shape.most_nodes) in (
+        (((tt, tt), placed), (tt, tt)),
+        ((tt, (tt, (tt, tt))), (any_colour ring.colour, (tt, (tt, any_held ring.token)))),
+      )
 
-  listed : (lists_format (front_of (stored_by n))).IsWithin
+  listed : (lists_format Second (front_of (stored_by n))).IsWithin
       (told_of (stored_by n), (slots_of (stored_by n), others_of (stored_by n)))
   unfolding lists_format told_format slots_format others_format number4 number8
   listed =
@@ -311,23 +314,24 @@ module _ (n : NodeView) (is : IsNode n) where
       ∙ omega (arith, count, is.links.width) in
       let links =
       others p.shape is.shape p.own n.links p.got (λ i k. is.links.messages i k) in
-      let slots_within : slots_format.IsWithin (slots_of (stored_by n)) =
+      let slots_within : (slots_format Second).IsWithin (slots_of (stored_by n)) =
       ((tt, (refl, slots)), ((tt, (refl, free)), (tt, (refl, grey)))) in
-      let others_within : (others_format (stored_by n).head).IsWithin (others_of (stored_by n)) =
+      let others_within : (others_format Second (stored_by n).head).IsWithin (others_of (stored_by n)) =
       ((tt, (refl, asked)), ((tt, (refl, waiting)), (width, links))) in
       (((told, reports), (is.stocked.registers, registers)), (slots_within, others_within))
 
-  fits : image_format.IsWide (stored_by n) → Fits (stored_by n)
-  unfolding image_format
+  fits : (stored_format Second).IsWide (stored_by n) → Fits Second (stored_by n)
+  unfolding stored_format
   fits wide = record { wide = wide; within = (sized, listed) }
 
   -- what was written within the limit
   pub is_saved : {V : Type 0} (r : Result V Refusal) (is_open : Type 0) (limit : ℕ)
       → limit ≡ GREATEST_IMAGE
       → IsSlotted n.local.heap n.local.shape.slots → IsRestorable (kept_view n) → OnOk r is_open
-      → (is_open → image_format.IsWide (stored_by n))
+      → (is_open → (stored_format Second).IsWide (stored_by n))
       → OnOk r (length (image_of n) ≤ limit) → OnOk r (IsImageOf (image_of n) (kept_view n))
   is_saved (Ok v) is_open limit all slots restorable opened wide short = record {
+    version = Second;
     spelled = record {
       says = stored_by n;
       image = record {

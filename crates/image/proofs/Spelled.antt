@@ -3,6 +3,7 @@ use Rattle.std.proofs.Common.{◌≡◌, ℕ, zero, suc, ◌-◌, Bool, true, fa
 use Rattle.std.proofs.Common.{[], ◌∷◌, ◌++◌, length, map, drop, refl, sym, ap, subst, ◌∙◌}
 use Rattle.std.proofs.lemmas.List.{append-nil, nil_from_length}
 use Rattle.model.specs.View.{Link, NodeView, no_link, all_kept, kept_view}
+use Rattle.msg.specs.declared.version.Version.{Version}
 use Rattle.image.specs.declared.parts.Head.{Head}
 use Rattle.image.specs.Links.{StoredLink, StoredSlot}
 use Rattle.image.specs.Grammar.{Stored, Fits, spelling, reports_told}
@@ -50,31 +51,36 @@ same_stored : (s : Stored) (reports : List ℕ) (slots : List StoredSlot) (links
 same_stored s reports slots links r l k = rw (r, l, k) refl
 
 -- the image of the node that is said says the same
-pub says_back : (s : Stored) → Fits s → stored_by (node_of s) ≡ s
-says_back s fits =
+pub says_back : (v : Version) (s : Stored) → Fits v s → stored_by (node_of s) ≡ s
+says_back v s fits =
     same_stored s (told s.head.own (reports_of s.head s.reports))
     (map stored_slot (map slot_of s.slots))
     (without_at s.head.own (stored_links (with_at s.head.own no_link (map link_of s.links))
     (got_of s)))
-    (reports_back s.head s.reports (reports_count s fits)) (slots_back s.slots)
+    (reports_back s.head s.reports (reports_count v s fits)) (slots_back s.slots)
     (links_back s.head.own s.links)
 
 -- ---- the laws
 
-pub one_node : (bytes : List ℕ) (m n : NodeView) → Spells bytes m → Spells bytes n → m ≡ n
-one_node bytes m n p q =
-    let same : spelling p.says ++ [] ≡ spelling q.says =
-    append-nil (spelling p.says) ∙ sym p.image.spelled ∙ q.image.spelled in
-    let e = (no_spelling_begins_another p.says q.says [] p.image.fits q.image.fits same).1 in
+pub one_node : (v w : Version) (bytes : List ℕ) (m n : NodeView) → Spells v bytes m
+    → Spells w bytes n → m ≡ n
+one_node v w bytes m n p q =
+    let same : spelling v p.says ++ [] ≡ spelling w q.says =
+    append-nil (spelling v p.says) ∙ sym p.image.spelled ∙ q.image.spelled in
+    let e =
+    (no_spelling_begins_another v w p.says q.says [] p.image.fits q.image.fits same).2 in
     sym p.node ∙ ap node_of e ∙ q.node
 
-pub one_spelling : (n : NodeView) (bytes others : List ℕ) → Spells bytes n → Spells others n
-    → bytes ≡ others
-one_spelling n bytes others p q =
-    let e : p.says ≡ q.says =
-    sym (says_back p.says p.image.fits) ∙ ap stored_by (p.node ∙ sym q.node)
-    ∙ says_back q.says q.image.fits in
-    p.image.spelled ∙ ap spelling e ∙ sym q.image.spelled
+-- what is said of a node that is spelled
+pub said_by : (v : Version) (bytes : List ℕ) (n : NodeView) (p : Spells v bytes n)
+    → p.says ≡ stored_by n
+said_by v bytes n p = sym (says_back v p.says p.image.fits) ∙ ap stored_by p.node
+
+pub one_spelling : (v : Version) (n : NodeView) (bytes others : List ℕ) → Spells v bytes n
+    → Spells v others n → bytes ≡ others
+one_spelling v n bytes others p q =
+    let e : p.says ≡ q.says = said_by v bytes n p ∙ sym (said_by v others n q) in
+    p.image.spelled ∙ ap (spelling v) e ∙ sym q.image.spelled
 
 pub all_kept_at : (k : ℕ) (xs : List StoredLink)
     → map all_kept (with_at k no_link (map link_of xs)) ≡ with_at k no_link (map link_of xs)
@@ -85,8 +91,9 @@ all_kept_at zero xs = ap (λ (ls : List Link). no_link ∷ ls) (each xs) where
 all_kept_at (suc k) [] = refl
 all_kept_at (suc k) (x ∷ xs) = ap (λ (ls : List Link). link_of x ∷ ls) (all_kept_at k xs)
 
-pub all_saved : (bytes : List ℕ) (n : NodeView) → Spells bytes n → kept_view n ≡ n
-all_saved bytes n p =
+pub all_saved : (v : Version) (bytes : List ℕ) (n : NodeView) → Spells v bytes n
+    → kept_view n ≡ n
+all_saved v bytes n p =
     subst (λ (m : NodeView). kept_view m ≡ m) p.node
     (ap (λ (ls : List Link). record (node_of p.says) { links = ls })
     (all_kept_at p.says.head.own p.says.links))

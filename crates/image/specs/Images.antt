@@ -2,6 +2,7 @@
 use Rattle.std.specs.Prelude.{ℕ, zero, suc, ◌==◌, if◌then◌else◌, List, [], ◌∷◌, map, drop}
 use Rattle.arena.specs.declared.Slot.TheVariants as slot
 use Rattle.model.specs.State.{Slot, Free, Occupied, Retired}
+use Rattle.msg.specs.declared.version.Version.TheVariants.{Second}
 use Rattle.model.specs.View.{Link, NodeView}
 use Rattle.image.specs.Links.{StoredLink, StoredSlot}
 use Rattle.image.specs.Grammar.{Stored, spelling}
@@ -62,6 +63,6 @@ stored_by n = record {
   links = without_at n.local.own (stored_links n.links n.local.got);
 }
 
--- the bytes of the node's image
+-- the bytes of the node's image: those of the second version
 abbrev pub image_of : NodeView → List ℕ
-image_of n = spelling (stored_by n)
+image_of n = spelling Second (stored_by n)

@@ -4,6 +4,7 @@ use Rattle.std.specs.Prelude.{map, replicate}
 use Rattle.heap.specs.Heap.{slot_of, IsSlotted}
 use Rattle.node.specs.Invariant.{IsNode}
 use Rattle.model.specs.View.{Link, NodeView, no_link}
+use Rattle.msg.specs.declared.version.Version.{Version}
 use Rattle.image.specs.declared.parts.Head.{Head}
 use Rattle.image.specs.Links.{StoredLink}
 use Rattle.image.specs.Grammar.{Stored, IsImage}
@@ -71,10 +72,10 @@ node_of s = record {
   acks = got_of s;
 }
 
--- the bytes spell the node
-pub record Spells (bytes : List ℕ) (n : NodeView) : Type 0 where
+-- the bytes spell the node, in this version
+pub record Spells (v : Version) (bytes : List ℕ) (n : NodeView) : Type 0 where
   pub says : Stored
-  pub image : IsImage bytes says
+  pub image : IsImage bytes v says
   pub node : node_of says ≡ n
 
 -- a node that the code may have: it stands, and its heap is one of its shape
@@ -82,7 +83,12 @@ pub record IsStanding (n : NodeView) : Type 0 where
   pub node : IsNode n
   pub slots : IsSlotted n.local.heap n.local.shape.slots
 
--- the bytes are the image of the node: they spell it, and it is as a saved node is to be
+-- the bytes are an image of the node: they spell it, and it is as a saved node is to be
 pub record IsImageOf (bytes : List ℕ) (n : NodeView) : Type 0 where
-  pub spelled : Spells bytes n
+  pub version : Version
+  pub spelled : Spells version bytes n
   pub saved : IsSaved n
+
+-- some bytes are an image of the node
+abbrev pub HasImage : NodeView → Type 0
+HasImage n = (bytes : List ℕ) × IsImageOf bytes n

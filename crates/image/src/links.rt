@@ -3,6 +3,7 @@ ghost use Rattle.std.specs.Prelude.{◌≡◌, ◌<◌, ◌==◌, cond, [], ◌�
 ghost use Rattle.codec.specs.Formats.{number4, counted};
 ghost use Rattle.codec.specs.Writing.{Puts, PutsAll};
 ghost use Rattle.link.specs.Links.{link_at, got_at, IsLinks};
+ghost use Rattle.msg.specs.declared.version.Version.TheVariants.{Second};
 ghost use Rattle.image.specs.Grammar.{message_format, link_format};
 ghost use Rattle.image.specs.Images.{stored_link, stored_links, without_at};
 
@@ -37,7 +38,7 @@ fn message_at(links: &Links, to: u8, place: u64) -> Message
 
 #[tactic(auto, unfolding(crate::specs::Grammar::message_format), using(crate::proofs::Joins::both))]
 fn put_message(out: &mut Writer, message: Message)
-    ensures { Puts message_format out.old out.new message }
+    ensures { Puts (message_format Second) out.old out.new message }
 {
     out.u64(message.stamp);
     put_body(out, message.body);
@@ -46,7 +47,7 @@ fn put_message(out: &mut Writer, message: Message)
 #[tactic(auto, using(crate::proofs::Joins::unwritten))]
 fn put_each_message(out: &mut Writer, links: &Links, to: u8)
     requires { to < length links.now.links }
-    ensures { PutsAll message_format out.old out.new (link_at links.now to).unacknowledged }
+    ensures { PutsAll (message_format Second) out.old out.new (link_at links.now to).unacknowledged }
 {
     for place in 0..message_count(links, to) {
         put_message(out, message_at(links, to, place));
@@ -56,7 +57,7 @@ fn put_each_message(out: &mut Writer, links: &Links, to: u8)
 // Appends how many messages to the node are kept in four bytes, and the messages.
 fn put_messages(out: &mut Writer, links: &Links, to: u8)
     requires { to < length links.now.links }
-    ensures { Puts (counted number4 message_format) out.old out.new
+    ensures { Puts (counted number4 (message_format Second)) out.old out.new
         (link_at links.now to).unacknowledged }
 {
     let count = message_count(links, to);
@@ -72,7 +73,7 @@ fn put_messages(out: &mut Writer, links: &Links, to: u8)
 #[tactic(auto, unfolding(crate::specs::Grammar::link_format), using(crate::proofs::Joins::both))]
 fn put_link(out: &mut Writer, links: &Links, to: u8)
     requires { to < length links.now.links }
-    ensures { Puts link_format out.old out.new
+    ensures { Puts (link_format Second) out.old out.new
         (stored_link (link_at links.now to) (got_at links.now to)) }
 {
     out.u64(links.base(to));
@@ -84,7 +85,7 @@ fn put_link(out: &mut Writer, links: &Links, to: u8)
 #[tactic(auto, using(crate::proofs::Joins::unwritten, crate::proofs::Joins::alone))]
 fn put_other(out: &mut Writer, own: u8, links: &Links, to: u8)
     requires { to < length links.now.links }
-    ensures { PutsAll link_format out.old out.new (cond (to == own) []
+    ensures { PutsAll (link_format Second) out.old out.new (cond (to == own) []
         (stored_link (link_at links.now to) (got_at links.now to) ∷ [])) }
 {
     if to == own {
@@ -96,7 +97,7 @@ fn put_other(out: &mut Writer, own: u8, links: &Links, to: u8)
 /// Appends the links to all nodes but `own`.
 #[tactic(auto, using(crate::proofs::Joins::unwritten))]
 pub(crate) fn put_links(out: &mut Writer, own: u8, links: &Links)
-    ensures { PutsAll link_format out.old out.new
+    ensures { PutsAll (link_format Second) out.old out.new
         (without_at own (stored_links links.now.links links.now.got)) }
 {
     for to in 0..links.width() {

@@ -4,12 +4,15 @@ ghost use Rattle.codec.specs.Formats.{Format, number4, number8, many, counted};
 ghost use Rattle.codec.specs.Reading.{Gives, IsLong};
 ghost use Rattle.codec.specs.Writing.{Puts, PutsAll};
 ghost use Rattle.codec.specs.Lengths.{number4_long, number8_long};
+ghost use Rattle.msg.specs.declared.version.Version.{Version};
+ghost use Rattle.msg.specs.declared.version.Version.TheVariants.{Second};
 ghost use Rattle.msg.specs.Formats.{reference, optional};
 ghost use Rattle.msg.specs.Lengths.{reference_long, optional_long};
 
 use codec::Writer;
 use codec::reading::{u32_at, u64_at};
 use ids::{Ref, Refusal};
+use msg::Version;
 use msg::writing::{put_optional, put_reference};
 use std::alloc::Global;
 
@@ -27,13 +30,13 @@ pub(crate) trait Writable {
 
 /// A value that stands in lists, and is read.
 pub(crate) trait Readable: Sized + Drop {
-    /// How it is spelled.
-    ghost format: { Format Self };
+    /// How it is spelled in each version.
+    ghost format: { Version → Format Self };
 
     /// The value at the front of the bytes, and the bytes after it. `BadImage` where there is none,
     /// and `Memory` where a growth was refused.
-    fn read(alloc: Global, bytes: &[u8]) -> Result<(Self, &[u8]), Refusal>
-        ensures { Gives (λ x. (x.0, x.1.now)) result (format.read bytes.now) };
+    fn read(alloc: Global, version: Version, bytes: &[u8]) -> Result<(Self, &[u8]), Refusal>
+        ensures { Gives (λ x. (x.0, x.1.now)) result ((format version).read bytes.now) };
 }
 
 /// Appends the values one after another.
@@ -79,37 +82,37 @@ impl Writable for u64 {
 }
 
 impl Writable for Ref {
-    ghost written = { reference };
+    ghost written = { reference Second };
 
     fn put(&self, out: &mut Writer) {
         put_reference(out, *self);
     }
 
-    ghost long = { reference_long };
+    ghost long = { reference_long Second };
 }
 
 impl Writable for Option<Ref> {
-    ghost written = { optional };
+    ghost written = { optional Second };
 
     fn put(&self, out: &mut Writer) {
         put_optional(out, *self);
     }
 
-    ghost long = { optional_long };
+    ghost long = { optional_long Second };
 }
 
 impl Readable for u32 {
-    ghost format = { number4 };
+    ghost format = { λ _. number4 };
 
-    fn read(_alloc: Global, bytes: &[u8]) -> Result<(u32, &[u8]), Refusal> {
+    fn read(_alloc: Global, _version: Version, bytes: &[u8]) -> Result<(u32, &[u8]), Refusal> {
         u32_at(bytes).ok_or(Refusal::BadImage)
     }
 }
 
 impl Readable for u64 {
-    ghost format = { number8 };
+    ghost format = { λ _. number8 };
 
-    fn read(_alloc: Global, bytes: &[u8]) -> Result<(u64, &[u8]), Refusal> {
+    fn read(_alloc: Global, _version: Version, bytes: &[u8]) -> Result<(u64, &[u8]), Refusal> {
         u64_at(bytes).ok_or(Refusal::BadImage)
     }
 }
@@ -120,11 +123,12 @@ impl Readable for u64 {
 #[tactic(auto, unfolding(crate::specs::Numbers::many_at))]
 pub(crate) fn many<T: Readable>(
     alloc: Global,
+    version: Version,
     count: usize,
     bytes: &[u8],
 ) -> Result<(Vec<T>, &[u8]), Refusal>
     ensures value { Gives (λ x. (x.0.items, x.1.now)) result
-        ((many T.format count).read bytes.now) }
+        ((many (T.format version) count).read bytes.now) }
     ensures count { IfOk result (λ x. length x.0.items ≡ count) }
 {
     if count > bytes.len() {
@@ -133,7 +137,7 @@ pub(crate) fn many<T: Readable>(
     let mut parts = Vec::with_capacity(alloc, count)?;
     let mut rest = bytes;
     for _part in 0..count {
-        let (part, after) = T::read(alloc, rest)?;
+        let (part, after) = T::read(alloc, version, rest)?;
         parts.push(part)?;
         rest = after;
     }
@@ -141,9 +145,14 @@ pub(crate) fn many<T: Readable>(
 }
 
 /// A number in four bytes, so many values, and the bytes after them. It is refused as [`many`].
-pub(crate) fn counted<T: Readable>(alloc: Global, bytes: &[u8]) -> Result<(Vec<T>, &[u8]), Refusal>
-    ensures { Gives (λ x. (x.0.items, x.1.now)) result ((counted number4 T.format).read bytes.now) }
+pub(crate) fn counted<T: Readable>(
+    alloc: Global,
+    version: Version,
+    bytes: &[u8],
+) -> Result<(Vec<T>, &[u8]), Refusal>
+    ensures { Gives (λ x. (x.0.items, x.1.now)) result
+        ((counted number4 (T.format version)).read bytes.now) }
 {
     let (count, rest) = u32_at(bytes).ok_or(Refusal::BadImage)?;
-    many(alloc, count as usize, rest)
+    many(alloc, version, count as usize, rest)
 }

@@ -5,48 +5,71 @@ ghost use Rattle.ids.specs.declared.refusal.Refusal.TheVariants.{BadImage, Memor
 ghost use Rattle.ids.specs.declared.limits.TheConstants.{GREATEST_PLACES};
 ghost use Rattle.codec.specs.Formats.{whole_at};
 ghost use Rattle.codec.specs.Reading.{Gives};
-ghost use Rattle.image.specs.Grammar.{reports_told, start_format, nodes_format};
+ghost use Rattle.image.specs.Grammar.{reports_told, version_format, start_format, most_nodes};
+ghost use Rattle.image.specs.Grammar.{nodes_format};
 ghost use Rattle.image.specs.Grammar.{head_format, phases_format, held_format, ring_format, near};
 ghost use Rattle.image.specs.Grammar.{near_optional, width_format, places_format, object_format};
 ghost use Rattle.image.specs.Grammar.{occupied_at, slot_format, letter_format, message_format};
 ghost use Rattle.image.specs.Grammar.{link_format, front_format, told_format, slots_format};
-ghost use Rattle.image.specs.Grammar.{others_format, image_format};
+ghost use Rattle.image.specs.Grammar.{others_format, stored_format, image_format};
 ghost use Rattle.image.specs.Parts.{stored_of};
 
 use crate::lists::{Readable, counted, many};
 use crate::parts::{Head, NodeParts, PhasesParts, RingParts, StoredLink};
-use crate::tags::{ABSENT, FREE, OCCUPIED, PRESENT, RETIRED, START, VERSION};
+use crate::tags::{ABSENT, FIRST, FREE, OCCUPIED, PRESENT, RETIRED, SECOND, START};
 use codec::reading::{i64_at, u8_at, u16_at, u32_at, u64_at};
 use heap::{Object, Slot};
-use ids::{GREATEST_PLACES, Ref, Refusal};
+use ids::{FIRST_VERSION_NODES, GREATEST_NODES, GREATEST_PLACES, Ref, Refusal};
 use model::Letter;
-use msg::reading::{body_at, colour_at, optional_at, reference_at, token_at};
-use msg::{Message, Token, body_fits, optional_fits};
+use msg::reading::{body_at, colour_at, generation_at, optional_at, reference_at, token_at};
+use msg::{Message, Token, Version, body_fits, optional_fits};
 use std::alloc::Global;
 
 // ---- what stands before the lists
 
+#[tactic(auto, unfolding(crate::specs::Grammar::version_format))]
+fn version_at(bytes: &[u8]) -> Option<(Version, &[u8])>
+    ensures { version_format.read bytes.now ≡ option_map (λ x. (x.0, x.1.now)) result }
+{
+    let (number, rest) = u8_at(bytes)?;
+    match number {
+        FIRST => Some((Version::First, rest)),
+        SECOND => Some((Version::Second, rest)),
+        _ => None,
+    }
+}
+
 #[tactic(auto, unfolding(crate::specs::Grammar::start_format))]
-fn start_at(bytes: &[u8]) -> Option<((u8, (u8, u8)), &[u8])>
+fn start_at(bytes: &[u8]) -> Option<(Version, &[u8])>
     ensures { start_format.read bytes.now ≡ option_map (λ x. (x.0, x.1.now)) result }
 {
     let (first, rest) = u8_at(bytes)?;
     let (second, rest) = u8_at(rest)?;
-    let (version, rest) = u8_at(rest)?;
-    if first == START[0] && second == START[1] && version == VERSION {
-        Some(((first, (second, version)), rest))
+    let (version, rest) = version_at(rest)?;
+    if first == START[0] && second == START[1] {
+        Some((version, rest))
     } else {
         None
     }
 }
 
+// How many nodes a space has at most.
+fn most_nodes(version: Version) -> u8
+    ensures { result ≡ most_nodes version }
+{
+    match version {
+        Version::First => FIRST_VERSION_NODES,
+        Version::Second => GREATEST_NODES,
+    }
+}
+
 #[tactic(auto, unfolding(crate::specs::Grammar::nodes_format))]
-fn nodes_at(bytes: &[u8]) -> Option<((u8, u8), &[u8])>
-    ensures { nodes_format.read bytes.now ≡ option_map (λ x. (x.0, x.1.now)) result }
+fn nodes_at(version: Version, bytes: &[u8]) -> Option<((u8, u8), &[u8])>
+    ensures { (nodes_format version).read bytes.now ≡ option_map (λ x. (x.0, x.1.now)) result }
 {
     let (nodes, rest) = u8_at(bytes)?;
     let (own, rest) = u8_at(rest)?;
-    if own < nodes {
+    if own < nodes && nodes <= most_nodes(version) {
         Some(((nodes, own), rest))
     } else {
         None
@@ -54,11 +77,10 @@ fn nodes_at(bytes: &[u8]) -> Option<((u8, u8), &[u8])>
 }
 
 #[tactic(auto, unfolding(crate::specs::Grammar::head_format))]
-fn head_at(bytes: &[u8]) -> Option<(Head, &[u8])>
-    ensures { head_format.read bytes.now ≡ option_map (λ x. (x.0, x.1.now)) result }
+fn head_at(version: Version, bytes: &[u8]) -> Option<(Head, &[u8])>
+    ensures { (head_format version).read bytes.now ≡ option_map (λ x. (x.0, x.1.now)) result }
 {
-    let (_start, rest) = start_at(bytes)?;
-    let ((nodes, own), rest) = nodes_at(rest)?;
+    let ((nodes, own), rest) = nodes_at(version, bytes)?;
     let (registers, rest) = u16_at(rest)?;
     let (slots, rest) = u32_at(rest)?;
     let head = Head {
@@ -121,10 +143,10 @@ fn ring_at(bytes: &[u8]) -> Option<(RingParts, &[u8])>
 
 // ---- what stands in the lists
 
-fn limited_optional_at(bytes: &[u8]) -> Option<(Option<Ref>, &[u8])>
-    ensures { near_optional.read bytes.now ≡ option_map (λ x. (x.0, x.1.now)) result }
+fn limited_optional_at(version: Version, bytes: &[u8]) -> Option<(Option<Ref>, &[u8])>
+    ensures { (near_optional version).read bytes.now ≡ option_map (λ x. (x.0, x.1.now)) result }
 {
-    let (reference, rest) = optional_at(bytes)?;
+    let (reference, rest) = optional_at(version, bytes)?;
     if optional_fits(reference) {
         Some((reference, rest))
     } else {
@@ -146,24 +168,29 @@ fn width_at(bytes: &[u8]) -> Option<(u8, &[u8])>
 }
 
 #[tactic(auto, unfolding(crate::specs::Grammar::places_format))]
-fn places_at(alloc: Global, bytes: &[u8]) -> Result<(Vec<Option<Ref>>, &[u8]), Refusal>
-    ensures value { Gives (λ x. (x.0.items, x.1.now)) result (places_format.read bytes.now) }
+fn places_at(
+    alloc: Global,
+    version: Version,
+    bytes: &[u8],
+) -> Result<(Vec<Option<Ref>>, &[u8]), Refusal>
+    ensures value { Gives (λ x. (x.0.items, x.1.now)) result
+        ((places_format version).read bytes.now) }
     ensures count { IfOk result (λ x. length x.0.items ≤ GREATEST_PLACES) }
 {
     let Some((width, rest)) = width_at(bytes) else {
         return Err(Refusal::BadImage);
     };
-    let (places, rest) = many(alloc, usize::from(width), rest)?;
+    let (places, rest) = many(alloc, version, usize::from(width), rest)?;
     Ok((places, rest))
 }
 
 #[tactic(auto, unfolding(crate::specs::Grammar::object_format))]
-fn object_at(alloc: Global, bytes: &[u8]) -> Result<(Object, &[u8]), Refusal>
-    ensures { Gives (λ x. (x.0, x.1.now)) result (object_format.read bytes.now) }
+fn object_at(alloc: Global, version: Version, bytes: &[u8]) -> Result<(Object, &[u8]), Refusal>
+    ensures { Gives (λ x. (x.0, x.1.now)) result ((object_format version).read bytes.now) }
 {
     let (mark, rest) = u64_at(bytes).ok_or(Refusal::BadImage)?;
     let (word, rest) = u64_at(rest).ok_or(Refusal::BadImage)?;
-    let (places, rest) = places_at(alloc, rest)?;
+    let (places, rest) = places_at(alloc, version, rest)?;
     match Object::from_parts(word, mark, places) {
         Some(object) => Ok((object, rest)),
         None => Err(Refusal::BadImage),
@@ -171,19 +198,23 @@ fn object_at(alloc: Global, bytes: &[u8]) -> Result<(Object, &[u8]), Refusal>
 }
 
 #[tactic(auto, unfolding(crate::specs::Grammar::occupied_at))]
-fn occupied_at(alloc: Global, bytes: &[u8]) -> Result<(Slot<Object>, &[u8]), Refusal>
-    ensures { Gives (λ x. (x.0, x.1.now)) result (occupied_at bytes.now) }
+fn occupied_at(
+    alloc: Global,
+    version: Version,
+    bytes: &[u8],
+) -> Result<(Slot<Object>, &[u8]), Refusal>
+    ensures { Gives (λ x. (x.0, x.1.now)) result (occupied_at version bytes.now) }
 {
-    let (generation, rest) = u32_at(bytes).ok_or(Refusal::BadImage)?;
-    let (object, rest) = object_at(alloc, rest)?;
+    let (generation, rest) = generation_at(version, bytes).ok_or(Refusal::BadImage)?;
+    let (object, rest) = object_at(alloc, version, rest)?;
     Ok((Slot::Occupied(generation, object), rest))
 }
 
 impl Readable for Ref {
     ghost format = { near };
 
-    fn read(_alloc: Global, bytes: &[u8]) -> Result<(Ref, &[u8]), Refusal> {
-        let (reference, rest) = reference_at(bytes).ok_or(Refusal::BadImage)?;
+    fn read(_alloc: Global, version: Version, bytes: &[u8]) -> Result<(Ref, &[u8]), Refusal> {
+        let (reference, rest) = reference_at(version, bytes).ok_or(Refusal::BadImage)?;
         if reference.fits() {
             Ok((reference, rest))
         } else {
@@ -195,8 +226,12 @@ impl Readable for Ref {
 impl Readable for Option<Ref> {
     ghost format = { near_optional };
 
-    fn read(_alloc: Global, bytes: &[u8]) -> Result<(Option<Ref>, &[u8]), Refusal> {
-        limited_optional_at(bytes).ok_or(Refusal::BadImage)
+    fn read(
+        _alloc: Global,
+        version: Version,
+        bytes: &[u8],
+    ) -> Result<(Option<Ref>, &[u8]), Refusal> {
+        limited_optional_at(version, bytes).ok_or(Refusal::BadImage)
     }
 }
 
@@ -204,10 +239,10 @@ impl Readable for Letter {
     ghost format = { letter_format };
 
     #[tactic(auto, unfolding(crate::specs::Grammar::letter_format))]
-    fn read(_alloc: Global, bytes: &[u8]) -> Result<(Letter, &[u8]), Refusal> {
+    fn read(_alloc: Global, version: Version, bytes: &[u8]) -> Result<(Letter, &[u8]), Refusal> {
         let (from, rest) = u8_at(bytes).ok_or(Refusal::BadImage)?;
         let (label, rest) = u32_at(rest).ok_or(Refusal::BadImage)?;
-        let (reference, rest) = limited_optional_at(rest).ok_or(Refusal::BadImage)?;
+        let (reference, rest) = limited_optional_at(version, rest).ok_or(Refusal::BadImage)?;
         let letter = Letter {
             from,
             label,
@@ -221,9 +256,9 @@ impl Readable for Message {
     ghost format = { message_format };
 
     #[tactic(auto, unfolding(crate::specs::Grammar::message_format))]
-    fn read(_alloc: Global, bytes: &[u8]) -> Result<(Message, &[u8]), Refusal> {
+    fn read(_alloc: Global, version: Version, bytes: &[u8]) -> Result<(Message, &[u8]), Refusal> {
         let (stamp, rest) = u64_at(bytes).ok_or(Refusal::BadImage)?;
-        let (body, rest) = body_at(rest).ok_or(Refusal::BadImage)?;
+        let (body, rest) = body_at(version, rest).ok_or(Refusal::BadImage)?;
         if body_fits(body) {
             Ok((Message { stamp, body }, rest))
         } else {
@@ -236,14 +271,18 @@ impl Readable for Slot<Object> {
     ghost format = { slot_format };
 
     #[tactic(auto, unfolding(crate::specs::Grammar::slot_format))]
-    fn read(alloc: Global, bytes: &[u8]) -> Result<(Slot<Object>, &[u8]), Refusal> {
+    fn read(
+        alloc: Global,
+        version: Version,
+        bytes: &[u8],
+    ) -> Result<(Slot<Object>, &[u8]), Refusal> {
         let (tag, rest) = u8_at(bytes).ok_or(Refusal::BadImage)?;
         match tag {
             FREE => {
-                let (generation, rest) = u32_at(rest).ok_or(Refusal::BadImage)?;
+                let (generation, rest) = generation_at(version, rest).ok_or(Refusal::BadImage)?;
                 Ok((Slot::Free(generation), rest))
             }
-            OCCUPIED => occupied_at(alloc, rest),
+            OCCUPIED => occupied_at(alloc, version, rest),
             RETIRED => Ok((Slot::Retired, rest)),
             _ => Err(Refusal::BadImage),
         }
@@ -254,9 +293,9 @@ impl Readable for StoredLink {
     ghost format = { link_format };
 
     #[tactic(auto, unfolding(crate::specs::Grammar::link_format))]
-    fn read(alloc: Global, bytes: &[u8]) -> Result<(StoredLink, &[u8]), Refusal> {
+    fn read(alloc: Global, version: Version, bytes: &[u8]) -> Result<(StoredLink, &[u8]), Refusal> {
         let (base, rest) = u64_at(bytes).ok_or(Refusal::BadImage)?;
-        let (unacknowledged, rest) = counted(alloc, rest)?;
+        let (unacknowledged, rest) = counted(alloc, version, rest)?;
         let (received, rest) = u64_at(rest).ok_or(Refusal::BadImage)?;
         let link = StoredLink {
             base,
@@ -280,10 +319,13 @@ fn reports_told(head: Head) -> usize
 }
 
 #[tactic(auto, unfolding(crate::specs::Grammar::front_format))]
-fn front_at(bytes: &[u8]) -> Option<((Head, (PhasesParts, RingParts)), &[u8])>
-    ensures { front_format.read bytes.now ≡ option_map (λ x. (x.0, x.1.now)) result }
+fn front_at(
+    version: Version,
+    bytes: &[u8],
+) -> Option<((Head, (PhasesParts, RingParts)), &[u8])>
+    ensures { (front_format version).read bytes.now ≡ option_map (λ x. (x.0, x.1.now)) result }
 {
-    let (head, rest) = head_at(bytes)?;
+    let (head, rest) = head_at(version, bytes)?;
     let (phases, rest) = phases_at(rest)?;
     let (ring, rest) = ring_at(rest)?;
     Some(((head, (phases, ring)), rest))
@@ -293,14 +335,15 @@ fn front_at(bytes: &[u8]) -> Option<((Head, (PhasesParts, RingParts)), &[u8])>
 #[tactic(auto, unfolding(crate::specs::Grammar::told_format))]
 fn told_at(
     alloc: Global,
+    version: Version,
     head: Head,
     bytes: &[u8],
 ) -> Result<((Vec<u64>, Vec<Option<Ref>>), &[u8]), Refusal>
     ensures { Gives (λ x. ((x.0.0.items, x.0.1.items), x.1.now)) result
-        ((told_format head).read bytes.now) }
+        ((told_format version head).read bytes.now) }
 {
-    let (reports, rest) = many(alloc, reports_told(head), bytes)?;
-    let (registers, rest) = many(alloc, usize::from(head.registers), rest)?;
+    let (reports, rest) = many(alloc, version, reports_told(head), bytes)?;
+    let (registers, rest) = many(alloc, version, usize::from(head.registers), rest)?;
     Ok(((reports, registers), rest))
 }
 
@@ -308,14 +351,15 @@ fn told_at(
 #[tactic(auto, unfolding(crate::specs::Grammar::slots_format))]
 fn slots_at(
     alloc: Global,
+    version: Version,
     bytes: &[u8],
 ) -> Result<((Vec<Slot<Object>>, (Vec<u32>, Vec<u32>)), &[u8]), Refusal>
     ensures { Gives (λ x. ((x.0.0.items, (x.0.1.0.items, x.0.1.1.items)), x.1.now))
-        result (slots_format.read bytes.now) }
+        result ((slots_format version).read bytes.now) }
 {
-    let (slots, rest) = counted(alloc, bytes)?;
-    let (free, rest) = counted(alloc, rest)?;
-    let (grey, rest) = counted(alloc, rest)?;
+    let (slots, rest) = counted(alloc, version, bytes)?;
+    let (free, rest) = counted(alloc, version, rest)?;
+    let (grey, rest) = counted(alloc, version, rest)?;
     Ok(((slots, (free, grey)), rest))
 }
 
@@ -323,26 +367,28 @@ fn slots_at(
 #[tactic(auto, unfolding(crate::specs::Grammar::others_format))]
 fn others_at(
     alloc: Global,
+    version: Version,
     head: Head,
     bytes: &[u8],
 ) -> Result<((Vec<Ref>, (Vec<Letter>, Vec<StoredLink>)), &[u8]), Refusal>
     ensures { Gives (λ x. ((x.0.0.items, (x.0.1.0.items, x.0.1.1.items)), x.1.now))
-        result ((others_format head).read bytes.now) }
+        result ((others_format version head).read bytes.now) }
 {
-    let (asked, rest) = counted(alloc, bytes)?;
-    let (letters, rest) = counted(alloc, rest)?;
-    let (links, rest) = many(alloc, usize::from(head.nodes.saturating_sub(1)), rest)?;
+    let (asked, rest) = counted(alloc, version, bytes)?;
+    let (letters, rest) = counted(alloc, version, rest)?;
+    let (links, rest) = many(alloc, version, usize::from(head.nodes.saturating_sub(1)), rest)?;
     Ok(((asked, (letters, links)), rest))
 }
 
-#[tactic(auto, unfolding(crate::specs::Grammar::image_format, crate::specs::Grammar::lists_format))]
-fn image_at(alloc: Global, bytes: &[u8]) -> Result<(NodeParts, &[u8]), Refusal>
-    ensures { Gives (λ x. (stored_of x.0, x.1.now)) result (image_format.read bytes.now) }
+#[tactic(auto, unfolding(crate::specs::Grammar::stored_format, crate::specs::Grammar::lists_format))]
+fn stored_at(alloc: Global, version: Version, bytes: &[u8]) -> Result<(NodeParts, &[u8]), Refusal>
+    ensures { Gives (λ x. (stored_of x.0, x.1.now)) result
+        ((stored_format version).read bytes.now) }
 {
-    let ((head, (phases, ring)), rest) = front_at(bytes).ok_or(Refusal::BadImage)?;
-    let ((reports, registers), rest) = told_at(alloc, head, rest)?;
-    let ((slots, (free, grey)), rest) = slots_at(alloc, rest)?;
-    let ((asked, (letters, links)), rest) = others_at(alloc, head, rest)?;
+    let ((head, (phases, ring)), rest) = front_at(version, bytes).ok_or(Refusal::BadImage)?;
+    let ((reports, registers), rest) = told_at(alloc, version, head, rest)?;
+    let ((slots, (free, grey)), rest) = slots_at(alloc, version, rest)?;
+    let ((asked, (letters, links)), rest) = others_at(alloc, version, head, rest)?;
     let parts = NodeParts {
         head,
         phases,
@@ -359,16 +405,27 @@ fn image_at(alloc: Global, bytes: &[u8]) -> Result<(NodeParts, &[u8]), Refusal>
     Ok((parts, rest))
 }
 
-/// The parts that the bytes say, all of the bytes. What they say may still be no node's, since its
-/// parts may contradict each other. `BadImage` where the bytes spell none, `Memory` where a growth
-/// was refused. It takes memory in proportion to the bytes, and time likewise.
-#[tactic(auto, unfolding(crate::specs::Numbers::whole_at))]
-pub(crate) fn whole(alloc: Global, bytes: &[u8]) -> Result<NodeParts, Refusal>
-    ensures { Gives stored_of result (whole_at image_format.read bytes.now) }
+#[tactic(auto, unfolding(crate::specs::Grammar::image_format))]
+fn image_at(alloc: Global, bytes: &[u8]) -> Result<((Version, NodeParts), &[u8]), Refusal>
+    ensures { Gives (λ x. ((x.0.0, stored_of x.0.1), x.1.now)) result
+        (image_format.read bytes.now) }
 {
-    let (parts, rest) = image_at(alloc, bytes)?;
+    let (version, rest) = start_at(bytes).ok_or(Refusal::BadImage)?;
+    let (parts, rest) = stored_at(alloc, version, rest)?;
+    Ok(((version, parts), rest))
+}
+
+/// The version of the bytes, and the parts that they say, all of the bytes. What they say may still
+/// be no node's, since its parts may contradict each other. `BadImage` where the bytes spell none,
+/// `Memory` where a growth was refused. It takes memory in proportion to the bytes, and time
+/// likewise.
+#[tactic(auto, unfolding(crate::specs::Numbers::whole_at))]
+pub(crate) fn whole(alloc: Global, bytes: &[u8]) -> Result<(Version, NodeParts), Refusal>
+    ensures { Gives (λ x. (x.0, stored_of x.1)) result (whole_at image_format.read bytes.now) }
+{
+    let (image, rest) = image_at(alloc, bytes)?;
     if rest.is_empty() {
-        Ok(parts)
+        Ok(image)
     } else {
         Err(Refusal::BadImage)
     }

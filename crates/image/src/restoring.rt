@@ -1,6 +1,7 @@
 //! A node from what its image says.
 ghost use Rattle.std.specs.Prelude.{◌≡◌, ◌≢◌, ◌≤◌, length, map, IfOk, IfErr, OnOk};
 ghost use Rattle.ids.specs.declared.refusal.Refusal.TheVariants.{BadImage, Memory};
+ghost use Rattle.msg.specs.declared.version.Version.{Version};
 ghost use Rattle.model.specs.View.{NodeView, no_link};
 ghost use Rattle.link.specs.Parts.{link_given, taken_given, links_given};
 ghost use Rattle.node.specs.Keeping.{alone};
@@ -20,7 +21,7 @@ use safra::Ring;
 use std::alloc::Global;
 use std::collections::VecDeque;
 
-/// The node whose image the bytes are, all of the bytes. All of its messages count as held by a
+/// The node whose image the bytes are, all of the bytes, in either version. All of its messages count as held by a
 /// saved node, and so does all that it took in; it keeps no message before its turn. It takes
 /// memory in proportion to the bytes, and time likewise.
 ///
@@ -48,13 +49,13 @@ pub fn core_from_bytes(alloc: Global, bytes: &[u8]) -> Result<Core, Refusal>
     if bytes.len() > GREATEST_IMAGE as usize {
         return Err(Refusal::BadImage);
     }
-    let image = whole(alloc, bytes)?;
+    let (_version, image) = whole(alloc, bytes)?;
     restored(alloc, image)
 }
 
 // The node that is said.
 fn restored(alloc: Global, image: NodeParts) -> Result<Core, Refusal>
-    requires { Fits (stored_of image) }
+    requires { (v : Version) × Fits v (stored_of image) }
     ensures made { IfOk result (λ n. n ≡ node_of (stored_of image)) }
     ensures stands { OnOk result (IsStanding (node_of (stored_of image))) }
     ensures refused { IfErr result (λ e. e ≢ Memory

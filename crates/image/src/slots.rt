@@ -4,6 +4,7 @@ ghost use Rattle.arena.specs.Arena.{slot_read};
 ghost use Rattle.arena.specs.declared.Slot.TheVariants.{Occupied};
 ghost use Rattle.codec.specs.Formats.{number4, number8, counted};
 ghost use Rattle.codec.specs.Writing.{Puts, PutsAll};
+ghost use Rattle.msg.specs.declared.version.Version.TheVariants.{Second};
 ghost use Rattle.image.specs.Grammar.{slot_format, letter_format};
 ghost use Rattle.image.specs.Images.{stored_slot};
 
@@ -19,22 +20,22 @@ use msg::writing::put_optional;
 // ---- slots
 
 // What stands before an object's places.
-#[tactic(auto, unfolding(crate::specs::Numbers::number4, crate::specs::Numbers::number8))]
-fn occupied_head(generation: Generation, mark: u64, word: u64, places: u8) -> [u8; 22]
-    ensures { result ≡ 1 ∷ (number4.spell generation
+#[tactic(auto, unfolding(crate::specs::Numbers::number8))]
+fn occupied_head(generation: Generation, mark: u64, word: u64, places: u8) -> [u8; 26]
+    ensures { result ≡ 1 ∷ (number8.spell generation
         ++ (number8.spell mark ++ (number8.spell word ++ places ∷ []))) }
 {
-    let mut part = [0; 22];
+    let mut part = [0; 26];
     part[0] = OCCUPIED;
-    BigEndian::write_u32(&mut part[1..], generation);
-    BigEndian::write_u64(&mut part[5..], mark);
-    BigEndian::write_u64(&mut part[13..], word);
-    part[21] = places;
+    BigEndian::write_u64(&mut part[1..], generation);
+    BigEndian::write_u64(&mut part[9..], mark);
+    BigEndian::write_u64(&mut part[17..], word);
+    part[25] = places;
     part
 }
 
 fn put_occupied(out: &mut Writer, generation: Generation, object: &Object)
-    ensures { Puts slot_format out.old out.new (Occupied generation object.now) }
+    ensures { Puts (slot_format Second) out.old out.new (Occupied generation object.now) }
 {
     let places = object.contents();
     let (mark, word) = (object.marked_by(), object.word());
@@ -44,12 +45,12 @@ fn put_occupied(out: &mut Writer, generation: Generation, object: &Object)
 
 #[tactic(auto, unfolding(crate::specs::Grammar::slot_format), using(crate::proofs::Joins::behind))]
 fn put_slot(out: &mut Writer, slot: Slot<&Object>)
-    ensures { Puts slot_format out.old out.new (slot_read slot.entry) }
+    ensures { Puts (slot_format Second) out.old out.new (slot_read slot.entry) }
 {
     match slot {
         Slot::Free(generation) => {
             out.u8(FREE);
-            out.u32(generation);
+            out.u64(generation);
         }
         Slot::Occupied(generation, object) => put_occupied(out, generation, object),
         Slot::Retired => out.u8(RETIRED),
@@ -58,7 +59,7 @@ fn put_slot(out: &mut Writer, slot: Slot<&Object>)
 
 #[tactic(auto, using(crate::proofs::Joins::unwritten))]
 fn put_each_slot(out: &mut Writer, heap: &Heap)
-    ensures { PutsAll slot_format out.old out.new (map stored_slot heap.now.heap.slots) }
+    ensures { PutsAll (slot_format Second) out.old out.new (map stored_slot heap.now.heap.slots) }
 {
     for slot in 0..heap.slots() {
         put_slot(out, heap.slot(slot));
@@ -67,7 +68,7 @@ fn put_each_slot(out: &mut Writer, heap: &Heap)
 
 /// Appends how many slots there are in four bytes, and the slots.
 pub(crate) fn put_slot_list(out: &mut Writer, heap: &Heap)
-    ensures { Puts (counted number4 slot_format) out.old out.new
+    ensures { Puts (counted number4 (slot_format Second)) out.old out.new
         (map stored_slot heap.now.heap.slots) }
 {
     out.u32(heap.slots());
@@ -108,7 +109,7 @@ fn letter_at(heap: &Heap, number: usize) -> Letter
 
 #[tactic(auto, unfolding(crate::specs::Grammar::letter_format), using(crate::proofs::Joins::both, crate::proofs::Joins::first))]
 fn put_letter(out: &mut Writer, letter: Letter)
-    ensures { Puts letter_format out.old out.new letter }
+    ensures { Puts (letter_format Second) out.old out.new letter }
 {
     out.u8(letter.from);
     out.u32(letter.label);
@@ -117,7 +118,7 @@ fn put_letter(out: &mut Writer, letter: Letter)
 
 #[tactic(auto, using(crate::proofs::Joins::unwritten, crate::proofs::Joins::written_more))]
 fn put_each_letter(out: &mut Writer, heap: &Heap)
-    ensures { PutsAll letter_format out.old out.new heap.now.heap.letters }
+    ensures { PutsAll (letter_format Second) out.old out.new heap.now.heap.letters }
 {
     for number in 0..heap.letters() {
         put_letter(out, letter_at(heap, number));
@@ -127,7 +128,7 @@ fn put_each_letter(out: &mut Writer, heap: &Heap)
 /// Appends how many letters wait in four bytes, and the letters.
 #[tactic(auto, using(crate::proofs::Joins::both))]
 pub(crate) fn put_letters(out: &mut Writer, heap: &Heap)
-    ensures { Puts (counted number4 letter_format) out.old out.new heap.now.heap.letters }
+    ensures { Puts (counted number4 (letter_format Second)) out.old out.new heap.now.heap.letters }
 {
     if out.is_over(heap.letters()) {
         return;

@@ -3,8 +3,11 @@
 /// What an image begins with.
 pub const START: [u8; 2] = [0x4D, 0x52];
 
-/// The version of the format, behind the start.
-pub const VERSION: u8 = 1;
+/// The first version of the format, behind the start. It is read.
+pub const FIRST: u8 = 1;
+
+/// The second version of the format, behind the start. It is read and written.
+pub const SECOND: u8 = 2;
 
 /// In the place of a token that is not there.
 pub const ABSENT: u8 = 0;

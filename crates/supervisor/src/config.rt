@@ -40,7 +40,7 @@ struct Found<'a> {
 }
 
 impl Config {
-    /// What a TOML document says that has these keys at its top and no others: `nodes`, 2 to 16;
+    /// What a TOML document says that has these keys at its top and no others: `nodes`, 2 to 64;
     /// `registers`, 1 to 256; `slots`, 1 to 1,048,576; `turns`, 1 to 1,000,000; and, if it is
     /// there, `folder`, a text.
     ///

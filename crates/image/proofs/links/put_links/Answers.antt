@@ -1,6 +1,7 @@
 use Rattle.std.proofs.Common.{◌≡◌, ◌<◌, ◌≤◌, ℕ, List, take, length, sym, subst}
 use Rattle.codec.specs.Writing.{PutsAll}
 use Rattle.codec.proofs.Writing.{written_also}
+use Rattle.msg.specs.declared.version.Version.TheVariants.{Second}
 use Rattle.image.specs.Links.{StoredLink}
 use Rattle.image.specs.Grammar.{link_format}
 use Rattle.image.specs.Images.{stored_links, without_at}
@@ -16,8 +17,8 @@ loop-to-preserved c =
     subst (λ (n : ℕ). to < n) c.width-to-end.ensures.value c.loop-to-test.true in
     let more = others_more own to v.links v.got within c.width-to-end.ensures.sound.received in
     let before = without_at own (take to (stored_links v.links v.got)) in
-    subst (PutsAll link_format c.args.out.now c.put_other.new.out) (sym more)
-    (written_also link_format.spell link_format.IsWide before _ c.args.out.now c.loop-to.out
+    subst (PutsAll (link_format Second) c.args.out.now c.put_other.new.out) (sym more)
+    (written_also (link_format Second).spell (link_format Second).IsWide before _ c.args.out.now c.loop-to.out
     c.put_other.new.out c.loop-to.invariant c.put_other.ensures)
 
 pub returns : goal.returns
@@ -27,5 +28,5 @@ returns c =
     all_stored v.links v.got c.loop-to.to c.width-to-end.ensures.sound.received
     (subst (λ (n : ℕ). n ≤ c.loop-to.to) c.width-to-end.ensures.value c.loop-to-test.false) in
     subst (λ (xs : List StoredLink).
-    PutsAll link_format c.args.out.now c.loop-to.out (without_at c.args.own xs)) all
+    PutsAll (link_format Second) c.args.out.now c.loop-to.out (without_at c.args.own xs)) all
     c.loop-to.invariant

@@ -17,16 +17,16 @@ returns-in_err-part-clause-value g c =
     let sub = c.in_err-part.ensures other in (
       sub.0,
       rw there
-          (ends g.T.Readable.format.read c.loop-part.parts.items c.args.count c.loop-part._part
-          c.loop-part.rest.now (each_at g.T.Readable.format.read c.args.count c.args.bytes.now)
+          (ends (g.T.Readable.format c.args.version).read c.loop-part.parts.items c.args.count c.loop-part._part
+          c.loop-part.rest.now (each_at (g.T.Readable.format c.args.version).read c.args.count c.args.bytes.now)
           c.loop-part.invariant.read c.loop-part-test.true sub.1),
     ))
 
 pub loop-part-preserved : goal.loop-part-preserved
 loop-part-preserved g c = record {
   read = rw c.in_ok-push.ensures.items
-      (goes_on g.T.Readable.format.read c.loop-part.parts.items c.args.count c.loop-part._part
-      c.loop-part.rest.now (each_at g.T.Readable.format.read c.args.count c.args.bytes.now)
+      (goes_on (g.T.Readable.format c.args.version).read c.loop-part.parts.items c.args.count c.loop-part._part
+      c.loop-part.rest.now (each_at (g.T.Readable.format c.args.version).read c.args.count c.args.bytes.now)
       c.loop-part.invariant.read c.in_ok-part.part c.in_ok-part.after.now c.loop-part-test.true
       c.in_ok-part.ensures);
   count = grind (arith, common_steps);

@@ -6,7 +6,7 @@ use Rattle.image.proofs.lists.many.Given as goal
 abbrev pub invariant-loop-part : goal.invariant-loop-part
 invariant-loop-part g l =
     record {
-      read : with_front l.parts.items (each_at g.T.Readable.format.read (l.count - l._part) l.rest)
-          ≡ each_at g.T.Readable.format.read l.count l.bytes;
+      read : with_front l.parts.items (each_at (g.T.Readable.format l.version).read (l.count - l._part) l.rest)
+          ≡ each_at (g.T.Readable.format l.version).read l.count l.bytes;
       count : length l.parts.items ≡ l._part;
     }

@@ -15,22 +15,24 @@ returns-in_err-image-clause-refused c =
     rw (p.1, p.2) (unread c.args.bytes.now _ c.in_err-image.ensures)
 
 pub restored-requires : goal.restored-requires
-restored-requires c =
-    (spelled_so c.args.bytes.now (stored_of c.in_ok-image.image)
-    (λ i. omega (arith, c.type_inv.bytes i)) c.if-bytes.false c.in_ok-image.ensures).fits
+restored-requires c = (
+  c.in_ok-image._version,
+  (spelled_so c.args.bytes.now c.in_ok-image._version (stored_of c.in_ok-image.image)
+  (λ i. omega (arith, c.type_inv.bytes i)) c.if-bytes.false c.in_ok-image.ensures).fits,
+)
 
 pub returns-clause-read : goal.returns-clause-read
 returns-clause-read c =
     let s = stored_of c.in_ok-image.image in
-    is_image c.args.bytes.now s c.restored.result
-    (spelled_so c.args.bytes.now s (λ i. omega (arith, c.type_inv.bytes i)) c.if-bytes.false
+    is_image c.args.bytes.now c.in_ok-image._version s c.restored.result
+    (spelled_so c.args.bytes.now c.in_ok-image._version s (λ i. omega (arith, c.type_inv.bytes i)) c.if-bytes.false
     c.in_ok-image.ensures)
     c.restored.ensures.made c.restored.ensures.stands
 
 pub returns-clause-refused : goal.returns-clause-refused
 returns-clause-refused c =
     let s = stored_of c.in_ok-image.image in
-    let image = spelled_so c.args.bytes.now s (λ i. omega (arith, c.type_inv.bytes i))
-    c.if-bytes.false c.in_ok-image.ensures in
-    is_none c.args.bytes.now s image.fits c.in_ok-image.ensures c.restored.result
+    let image = spelled_so c.args.bytes.now c.in_ok-image._version s
+    (λ i. omega (arith, c.type_inv.bytes i)) c.if-bytes.false c.in_ok-image.ensures in
+    is_none c.args.bytes.now c.in_ok-image._version s image.fits c.in_ok-image.ensures c.restored.result
     c.restored.ensures.refused

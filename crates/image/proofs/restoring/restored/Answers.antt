@@ -27,7 +27,8 @@ returns-in_default-from_parts-clause-refused c = λ other. (
 pub every_link-requires : goal.every_link-requires
 every_link-requires c =
     let image = stored_of c.args.image in
-    omega (arith, own_below image c.requires, links_count image c.requires)
+    let v = c.requires.0 in
+    omega (arith, own_below v image c.requires.1, links_count v image c.requires.1)
 
 pub returns-clause-refused : goal.returns-clause-refused
 returns-clause-refused c =

@@ -2,7 +2,7 @@ use Rattle.std.proofs.Common.{◌≢◌, ◌≡◌, ◌<◌, ◌≤◌, ℕ, [],
 use Rattle.std.specs.Prelude.{IfErr}
 use Rattle.ids.specs.declared.refusal.Refusal.TheVariants.{Memory, ImageTooLarge}
 use Rattle.codec.specs.Writing.{IsOpen}
-use Rattle.image.specs.Grammar.{spelling}
+use Rattle.image.specs.Grammar.{spelling, image_format}
 use Rattle.image.specs.Images.{image_of}
 use Rattle.image.proofs.Saved.{is_saved}
 use Rattle.image.proofs.saving.core_to_bytes.Goals as goal
@@ -14,13 +14,13 @@ returns-clause-written c =
     (c.put_node.ensures.more [] c.new-out.ensures.empty)
 
 pub returns-clause-image : goal.returns-clause-image
-unfolding spelling
+unfolding spelling image_format
 returns-clause-image c =
     let n = c.args.core.now in
     let state = c.state-summary.ensures in
     is_saved n state.sound c.finish.result (IsOpen c.put_node.new.out) c.put_node.new.out.limit
     (c.put_node.ensures.limit ∙ c.new-out.ensures.limit) state.slots state.restorable
-    c.finish.ensures.within c.put_node.ensures.known
+    c.finish.ensures.within (λ is. let k = c.put_node.ensures.known is in k.1)
     (c.finish.ensures.fits (image_of n) (c.put_node.ensures.more [] c.new-out.ensures.empty))
 
 pub returns-clause-refused : goal.returns-clause-refused

@@ -3,15 +3,16 @@ use Rattle.std.specs.Prelude.{⊤}
 use Rattle.ids.specs.declared.names.Ref.{Ref}
 use Rattle.ids.specs.declared.limits.TheConstants.{GREATEST_PLACES}
 use Rattle.arena.specs.declared.Slot.TheVariants.{Occupied}
-use Rattle.codec.specs.Formats.{number4, number8}
+use Rattle.codec.specs.Formats.{number8}
 use Rattle.codec.specs.Writing.{Writes, Puts}
 use Rattle.codec.proofs.Writing.{both, so}
 use Rattle.model.specs.State.{Object}
+use Rattle.msg.specs.declared.version.Version.TheVariants.{Second}
 use Rattle.image.specs.Grammar.{slot_format, object_format, places_format, width_format}
 use Rattle.image.proofs.slots.put_occupied.Goals as goal
 
 pub returns : goal.returns
-unfolding slot_format object_format places_format width_format number4 number8
+unfolding slot_format object_format places_format width_format number8
 returns c =
     let made : Object = record {
       word = c.word-word.result;
@@ -30,6 +31,6 @@ returns c =
     subst (λ (t : List ℕ). Writes c.args.out.now c.append.new.self t ⊤) c.occupied_head.ensures
     c.append.ensures in
     subst (λ (o : Object).
-    Puts slot_format c.args.out.now c.put_all.new.out (Occupied c.args.generation o)) same
+    Puts (slot_format Second) c.args.out.now c.put_all.new.out (Occupied c.args.generation o)) same
     (so (λ k. (omega arith, (omega arith, (omega arith, (omega (arith, few), k.1)))))
     (both head c.put_all.ensures))

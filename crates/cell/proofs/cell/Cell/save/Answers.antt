@@ -9,6 +9,10 @@ use Rattle.cell.specs.Disks.{OpensTo, OpensToEither}
 use Rattle.cell.proofs.Opening.{failed-left, stays-open}
 use Rattle.cell.proofs.cell.Cell.save.Goals as goal
 
+pub save-requires-in-Ok-clause-image : goal.save-requires-in-Ok-clause-image
+save-requires-in-Ok-clause-image g c =
+    (image_of c.self.inside.desk.node.core, c.in-Ok.ensures.readable.0)
+
 pub invariant_of-self-inside-in-Err : goal.invariant_of-self-inside-in-Err
 invariant_of-self-inside-in-Err g c =
     let cell = c.self.inside in

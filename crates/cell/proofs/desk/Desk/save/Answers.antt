@@ -7,7 +7,7 @@ use Rattle.msg.specs.Grammar.{Plain}
 use Rattle.node.specs.Keeping.{WholeNode}
 use Rattle.cell.specs.Desks.{AreTaken, IsSavedNode, StandsAt}
 use Rattle.cell.specs.Events.{both_states}
-use Rattle.cell.proofs.Found.{found-read, image-kept, shows-kept}
+use Rattle.cell.proofs.Found.{found-read, shows-kept}
 use Rattle.cell.proofs.desk.Desk.save.Goals as goal
 
 pub invariant_of-self : goal.invariant_of-self
@@ -19,7 +19,7 @@ invariant_of-self c =
     ap (λ (v : Known). v.pair) c.enter_save.ensures.ticked in
     let found = found-read desk.own desk.nodes pair.current (kept_view n) desk.stands.own
     desk.stands.nodes (shows-kept n pair.current desk.stands.shows)
-    (image-kept n c.requires.image) in
+    c.requires.image in
     record {
       at = record {
         own = c.enter_save.ensures.same.2 ∙ desk.at.own;

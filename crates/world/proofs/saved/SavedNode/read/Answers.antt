@@ -2,7 +2,7 @@ use Rattle.std.proofs.Common.{◌≡◌, ◌∙◌}
 use Rattle.std.proofs.lemmas.Result.{IfOk-weaker}
 use Rattle.model.specs.View.{NodeView}
 use Rattle.image.specs.Nodes.{IsImageOf}
-use Rattle.image.proofs.Spelled.{one_node}
+use Rattle.image.proofs.Images.{image_of_one}
 use Rattle.world.proofs.saved.SavedNode.read.Goals as goal
 
 -- bytes say one node
@@ -12,6 +12,6 @@ returns-clause-same c =
     IfOk-weaker c.core_from_bytes.result (λ (n : NodeView). IsImageOf bytes n)
     (λ (n : NodeView). n ≡ c.args.self.now)
     (λ n is.
-    one_node bytes n c.self.inside.says.value is.spelled
-    (rw c.deref.ensures.value c.self.invariant.spelled) ∙ c.self.view_is)
+    image_of_one bytes n c.self.inside.says.value is (rw c.deref.ensures.value c.self.invariant)
+    ∙ c.self.view_is)
     c.core_from_bytes.ensures.read
