@@ -2,35 +2,11 @@
 use Rattle.std.proofs.Common.{List, [], ◌∷◌, ℕ, Option, Some, None, length}
 use Rattle.std.specs.Prelude.{Bool}
 use Rattle.std.specs.List.{AllByRecursion}
-use Rattle.codec.specs.Formats.{Format, mapped, joined, ◌&◌, kept, option, many, counted}
+use Rattle.codec.specs.Formats.{Format, kept, option, many, counted}
 
 pub record Widens {A : Type 0} (F G : Format A) : Type 0 where
   pub wide : (a : A) → F.IsWide a → G.IsWide a
   pub within : (a : A) → F.IsWithin a → G.IsWithin a
-
-pub unchanged : {A : Type 0} (F : Format A) → Widens F F
-unchanged F = record { wide = λ a is. is; within = λ a is. is }
-
-pub wider_joined : {A B : Type 0} (F K : Format A) (G L : A → Format B) → Widens F K
-    → ((a : A) → Widens (G a) (L a)) → Widens (joined F G) (joined K L)
-wider_joined F K G L first second = record {
-  wide = λ x is. (first.wide x.0 is.0, (second x.0).wide x.1 is.1);
-  within = λ x is. (first.within x.0 is.0, (second x.0).within x.1 is.1);
-}
-
--- one after another
-infixr 20 ◌⊳◌
-pub ◌⊳◌ : {A B : Type 0} {F K : Format A} {G L : Format B} → Widens F K → Widens G L
-    → Widens (F & G) (K & L)
-◌⊳◌ {F = F} {K = K} {G = G} {L = L} first second =
-    wider_joined F K (λ _. G) (λ _. L) first (λ _. second)
-
-pub wider_mapped : {A B : Type 0} (F K : Format A) (make : A → B) (parts : B → A) → Widens F K
-    → Widens (mapped F make parts) (mapped K make parts)
-wider_mapped F K make parts w = record {
-  wide = λ b is. w.wide (parts b) is;
-  within = λ b is. w.within (parts b) is;
-}
 
 pub wider_kept : {A : Type 0} (F K : Format A) (test : A → Bool) → Widens F K
     → Widens (kept F test) (kept K test)
@@ -44,6 +20,7 @@ wider_option {A = A} F K w = record { wide = wide; within = within } where
   wide : (o : Option A) → (option F).IsWide o → (option K).IsWide o
   wide None is = tt
   wide (Some a) is = w.wide a is
+
   within : (o : Option A) → (option F).IsWithin o → (option K).IsWithin o
   within None is = tt
   within (Some a) is = w.within a is
@@ -61,7 +38,7 @@ wider_many F K n w = record {
 
 pub wider_counted : {A : Type 0} (count : Format ℕ) (F K : Format A) → Widens F K
     → Widens (counted count F) (counted count K)
-wider_counted {A = A} count F K w =
-    wider_mapped (joined count (many F)) (joined count (many K)) (λ x. x.1)
-    (λ (xs : List A). (length xs, xs))
-    (wider_joined count count (many F) (many K) (unchanged count) (λ n. wider_many F K n w))
+wider_counted count F K w = record {
+  wide = λ xs is. (is.0, (wider_many F K (length xs) w).wide xs is.1);
+  within = λ xs is. (is.0, (wider_many F K (length xs) w).within xs is.1);
+}

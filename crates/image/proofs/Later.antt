@@ -2,25 +2,28 @@
 use Rattle.std.proofs.Common.{◌≡◌, ◌≤◌, ℕ, List, [], ◌++◌, length, sym, ap, ◌∙◌, arith}
 use Rattle.std.proofs.lemmas.Bool.{and_from, and_parts, le-leb, leb-true}
 use Rattle.std.proofs.lemmas.List.{append-nil}
+use Rattle.std.specs.Prelude.{nat_lt, nat_le}
+use Rattle.ids.specs.Limits.{reference_fits}
+use Rattle.ids.specs.declared.limits.TheConstants.{FIRST_VERSION_NODES, GREATEST_NODES}
 use Rattle.ids.specs.declared.limits.TheConstants.{GREATEST_IMAGE}
 use Rattle.arena.specs.declared.Slot.TheVariants as slot
-use Rattle.codec.specs.Formats.{number2, number4, number8}
-use Rattle.codec.proofs.Widening.{Widens, unchanged, wider_joined, ◌⊳◌, wider_mapped, wider_kept}
-use Rattle.codec.proofs.Widening.{wider_option, wider_many, wider_counted}
+use Rattle.codec.specs.Formats.{number2, number4, number8, counted}
+use Rattle.codec.proofs.Widening.{Widens, wider_kept, wider_option, wider_many, wider_counted}
 use Rattle.msg.specs.declared.body.Body.{Body}
 use Rattle.msg.specs.declared.body.Body.TheVariants as body
 use Rattle.msg.specs.declared.version.Version.{Version}
 use Rattle.msg.specs.declared.version.Version.TheVariants.{First, Second}
 use Rattle.msg.specs.Formats.{generation, reference, optional, body_format}
+use Rattle.msg.specs.Limits.{optional_fits, body_fits}
 use Rattle.model.specs.View.{NodeView}
 use Rattle.image.specs.declared.parts.Head.{Head}
 use Rattle.image.specs.Links.{StoredSlot}
-use Rattle.image.specs.Grammar.{Stored, Fits, spelling, nodes_format, head_format, phases_format}
-use Rattle.image.specs.Grammar.{ring_format, near, near_optional, near_body, width_format}
-use Rattle.image.specs.Grammar.{places_format, object_format, occupied, slot_format, letter_format}
-use Rattle.image.specs.Grammar.{message_format, link_format, reports_told, links_told, Front}
-use Rattle.image.specs.Grammar.{front_format, told_format, slots_format, others_format}
-use Rattle.image.specs.Grammar.{lists_format, stored_format}
+use Rattle.image.specs.Grammar.{Stored, Fits, spelling, nodes_format, head_format, near}
+use Rattle.image.specs.Grammar.{near_optional, near_body, width_format, places_format}
+use Rattle.image.specs.Grammar.{object_format, occupied, slot_format, letter_format}
+use Rattle.image.specs.Grammar.{message_format, link_format, links_told, front_format, told_format}
+use Rattle.image.specs.Grammar.{slots_format, others_format, lists_format, stored_format}
+use Rattle.image.specs.Grammar.{front_of, told_of, slots_of, others_of}
 use Rattle.image.specs.Images.{stored_by, image_of}
 use Rattle.image.specs.Nodes.{node_of, Spells, HasImage}
 use Rattle.image.proofs.Spelled.{said_by}
@@ -34,8 +37,10 @@ generation_later = record { wide = λ g is. omega (arith, is); within = λ g is.
 
 reference_later : Widens (reference First) (reference Second)
 unfolding reference
-reference_later =
-    wider_mapped _ _ _ _ (unchanged _ ⊳ unchanged _ ⊳ generation_later)
+reference_later = record {
+  wide = λ r is. (is.0, (is.1.0, generation_later.wide r.generation is.1.1));
+  within = λ r is. (is.0, (is.1.0, generation_later.within r.generation is.1.1));
+}
 
 optional_later : Widens (optional First) (optional Second)
 unfolding optional
@@ -71,94 +76,145 @@ body_later = record { wide = body_wide; within = body_within }
 -- ---- what stands in the lists
 
 near_later : Widens (near First) (near Second)
-near_later = wider_kept _ _ _ reference_later
+near_later = wider_kept (reference First) (reference Second) reference_fits reference_later
 
 near_optional_later : Widens (near_optional First) (near_optional Second)
-near_optional_later = wider_kept _ _ _ optional_later
+near_optional_later = wider_kept (optional First) (optional Second) optional_fits optional_later
+
+places_later : Widens (places_format First) (places_format Second)
+unfolding places_format
+places_later =
+    wider_counted width_format (near_optional First) (near_optional Second) near_optional_later
 
 object_later : Widens (object_format First) (object_format Second)
-unfolding object_format places_format
-object_later =
-    let places =
-    wider_counted width_format (near_optional First) (near_optional Second) near_optional_later in
-    wider_mapped _ _ _ _ (unchanged _ ⊳ unchanged _ ⊳ places)
+unfolding object_format
+object_later = record {
+  wide = λ o is. (is.0, (is.1.0, places_later.wide o.places is.1.1));
+  within = λ o is. (is.0, (is.1.0, places_later.within o.places is.1.1));
+}
 
 occupied_later : Widens (occupied First) (occupied Second)
-occupied_later = generation_later ⊳ object_later
+occupied_later = record {
+  wide = λ x is. (generation_later.wide x.0 is.0, object_later.wide x.1 is.1);
+  within = λ x is. (generation_later.within x.0 is.0, object_later.within x.1 is.1);
+}
+
+slot_wide : (x : StoredSlot) → (slot_format First).IsWide x → (slot_format Second).IsWide x
+unfolding slot_format
+slot_wide (slot.Free g) is = generation_later.wide g is
+slot_wide (slot.Occupied g o) is = occupied_later.wide (g, o) is
+slot_wide slot.Retired is = is
+
+slot_within : (x : StoredSlot) → (slot_format First).IsWithin x
+    → (slot_format Second).IsWithin x
+unfolding slot_format
+slot_within (slot.Free g) is = generation_later.within g is
+slot_within (slot.Occupied g o) is = occupied_later.within (g, o) is
+slot_within slot.Retired is = is
 
 slot_later : Widens (slot_format First) (slot_format Second)
-slot_later = record { wide = wide; within = within } where
-  wide : (x : StoredSlot) → (slot_format First).IsWide x → (slot_format Second).IsWide x
-  unfolding slot_format
-  wide (slot.Free g) is = generation_later.wide g is
-  wide (slot.Occupied g o) is = occupied_later.wide (g, o) is
-  wide slot.Retired is = is
-  within : (x : StoredSlot) → (slot_format First).IsWithin x → (slot_format Second).IsWithin x
-  unfolding slot_format
-  within (slot.Free g) is = generation_later.within g is
-  within (slot.Occupied g o) is = occupied_later.within (g, o) is
-  within slot.Retired is = is
+slot_later = record { wide = slot_wide; within = slot_within }
 
 letter_later : Widens (letter_format First) (letter_format Second)
 unfolding letter_format
-letter_later = wider_mapped _ _ _ _ (unchanged _ ⊳ unchanged _ ⊳ near_optional_later)
+letter_later = record {
+  wide = λ l is. (is.0, (is.1.0, near_optional_later.wide l.reference is.1.1));
+  within = λ l is. (is.0, (is.1.0, near_optional_later.within l.reference is.1.1));
+}
+
+near_body_later : Widens (near_body First) (near_body Second)
+near_body_later = wider_kept (body_format First) (body_format Second) body_fits body_later
 
 message_later : Widens (message_format First) (message_format Second)
 unfolding message_format
-message_later =
-    let said = wider_kept (body_format First) (body_format Second) _ body_later in
-    wider_mapped _ _ _ _ (unchanged _ ⊳ said)
+message_later = record {
+  wide = λ m is. (is.0, near_body_later.wide m.body is.1);
+  within = λ m is. (is.0, near_body_later.within m.body is.1);
+}
+
+messages_later : Widens (counted number4 (message_format First))
+    (counted number4 (message_format Second))
+messages_later =
+    wider_counted number4 (message_format First) (message_format Second) message_later
 
 link_later : Widens (link_format First) (link_format Second)
 unfolding link_format
-link_later =
-    let messages = wider_counted number4 (message_format First) (message_format Second)
-    message_later in
-    wider_mapped _ _ _ _ (unchanged _ ⊳ messages ⊳ unchanged _)
+link_later = record {
+  wide = λ l is. (is.0, (messages_later.wide l.unacknowledged is.1.0, is.1.1));
+  within = λ l is. (is.0, (messages_later.within l.unacknowledged is.1.0, is.1.1));
+}
 
 -- ---- the whole
 
-nodes_later : Widens (nodes_format First) (nodes_format Second)
+nodes_within : (p : ℕ × ℕ) → (nodes_format First).IsWithin p → (nodes_format Second).IsWithin p
 unfolding nodes_format
-nodes_later = record {
-  wide = λ p is. is;
-  within = λ p is.
-      let both = and_parts _ _ is.1 in
-      (is.0, and_from _ _ both.0 (le-leb _ _ (omega (arith, leb-true _ _ both.1))));
-}
+nodes_within p is =
+    let both = and_parts (nat_lt p.1 p.0) (nat_le p.0 FIRST_VERSION_NODES) is.1 in
+    let few : p.0 ≤ GREATEST_NODES = omega (arith, leb-true p.0 FIRST_VERSION_NODES both.1) in
+    (is.0, and_from (nat_lt p.1 p.0) (nat_le p.0 GREATEST_NODES) both.0 (le-leb _ _ few))
 
 front_later : Widens (front_format First) (front_format Second)
-unfolding front_format head_format
-front_later =
-    let head = wider_mapped _ _ _ _ (nodes_later ⊳ unchanged _ ⊳ unchanged _) in
-    head ⊳ unchanged _ ⊳ unchanged _
+unfolding front_format head_format nodes_format
+front_later = record {
+  wide = λ x is. is;
+  within = λ x is. ((nodes_within (x.0.nodes, x.0.own) is.0.0, is.0.1), is.1);
+}
 
 told_later : (h : Head) → Widens (told_format First h) (told_format Second h)
 unfolding told_format
 told_later h =
-    unchanged _
-    ⊳ wider_many (near_optional First) (near_optional Second) h.registers near_optional_later
+    let registers =
+    wider_many (near_optional First) (near_optional Second) h.registers near_optional_later in
+    record {
+      wide = λ x is. (is.0, registers.wide x.1 is.1);
+      within = λ x is. (is.0, registers.within x.1 is.1);
+    }
 
 slots_later : Widens (slots_format First) (slots_format Second)
 unfolding slots_format
 slots_later =
-    wider_counted number4 (slot_format First) (slot_format Second) slot_later
-    ⊳ unchanged _ ⊳ unchanged _
+    let slots = wider_counted number4 (slot_format First) (slot_format Second) slot_later in
+    record {
+      wide = λ x is. (slots.wide x.0 is.0, is.1);
+      within = λ x is. (slots.within x.0 is.0, is.1);
+    }
 
 others_later : (h : Head) → Widens (others_format First h) (others_format Second h)
 unfolding others_format
 others_later h =
-    wider_counted number4 (near First) (near Second) near_later
-    ⊳ wider_counted number4 (letter_format First) (letter_format Second) letter_later
-    ⊳ wider_many (link_format First) (link_format Second) (links_told h) link_later
+    let asked = wider_counted number4 (near First) (near Second) near_later in
+    let letters =
+    wider_counted number4 (letter_format First) (letter_format Second) letter_later in
+    let links =
+    wider_many (link_format First) (link_format Second) (links_told h) link_later in
+    record {
+      wide = λ x is.
+          (asked.wide x.0 is.0, (letters.wide x.1.0 is.1.0, links.wide x.1.1 is.1.1));
+      within = λ x is.
+          (asked.within x.0 is.0, (letters.within x.1.0 is.1.0, links.within x.1.1 is.1.1));
+    }
 
 stored_later : Widens (stored_format First) (stored_format Second)
 unfolding stored_format lists_format
-stored_later =
-    let lists = λ (f : Front). told_later f.0 ⊳ slots_later ⊳ others_later f.0 in
-    wider_mapped _ _ _ _
-    (wider_joined (front_format First) (front_format Second) (lists_format First)
-    (lists_format Second) front_later lists)
+stored_later = record {
+  wide = λ s is. (
+    front_later.wide (front_of s) is.0,
+    (
+      (told_later s.head).wide (told_of s) is.1.0,
+      (slots_later.wide (slots_of s) is.1.1.0, (others_later s.head).wide (others_of s) is.1.1.1),
+    ),
+  );
+  within = λ s is. (
+    front_later.within (front_of s) is.0,
+    (
+      (told_later s.head).within (told_of s) is.1.0,
+      (
+        slots_later.within (slots_of s) is.1.1.0,
+        (others_later s.head).within (others_of s) is.1.1.1,
+      ),
+    ),
+  );
+}
 
 fits_later : (v : Version) (s : Stored) → Fits v s → Fits Second s
 fits_later First s fits = record {

@@ -319,10 +319,7 @@ fn reports_told(head: Head) -> usize
 }
 
 #[tactic(auto, unfolding(crate::specs::Grammar::front_format))]
-fn front_at(
-    version: Version,
-    bytes: &[u8],
-) -> Option<((Head, (PhasesParts, RingParts)), &[u8])>
+fn front_at(version: Version, bytes: &[u8]) -> Option<((Head, (PhasesParts, RingParts)), &[u8])>
     ensures { (front_format version).read bytes.now ≡ option_map (λ x. (x.0, x.1.now)) result }
 {
     let (head, rest) = head_at(version, bytes)?;
@@ -376,7 +373,12 @@ fn others_at(
 {
     let (asked, rest) = counted(alloc, version, bytes)?;
     let (letters, rest) = counted(alloc, version, rest)?;
-    let (links, rest) = many(alloc, version, usize::from(head.nodes.saturating_sub(1)), rest)?;
+    let (links, rest) = many(
+        alloc,
+        version,
+        usize::from(head.nodes.saturating_sub(1)),
+        rest,
+    )?;
     Ok(((asked, (letters, links)), rest))
 }
 
