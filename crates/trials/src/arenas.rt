@@ -35,8 +35,8 @@ pub(crate) fn run(alloc: Global, lines: &[Line<'_>], out: &mut Out) -> Result<()
                 arena = Arena::with_limit(alloc, read(limit)?);
                 out.text("ok");
             }
-            ["last", word] => {
-                arena = at_last(alloc, read(word)?)?;
+            ["single", generation, word] => {
+                arena = single(alloc, generation, word)?;
                 out.text("ok");
             }
             ["drops", words @ ..] => take(alloc, words, out)?,
@@ -46,13 +46,14 @@ pub(crate) fn run(alloc: Global, lines: &[Line<'_>], out: &mut Out) -> Result<()
     Ok(())
 }
 
-// An arena of one slot that holds the word under the last generation.
-fn at_last(alloc: Global, word: u64) -> Result<Arena<u64>, Stop> {
+// An arena of one slot that holds the word under this generation.
+fn single(alloc: Global, generation: &str, word: &str) -> Result<Arena<u64>, Stop> {
     let mut slots = Vec::new(alloc);
-    slots.push(Slot::Occupied(u32::MAX, word))?;
+    slots.push(Slot::Occupied(read(generation)?, read(word)?))?;
     match Arena::from_slots(alloc, 1, slots, &[]) {
         Ok(arena) => Ok(arena),
-        Err(_) => Err(Stop::Memory),
+        Err(Fault::Memory) => Err(Stop::Memory),
+        Err(_) => Err(Stop::Unknown),
     }
 }
 
