@@ -1,3 +1,5 @@
+//! What is true of all images: none begins another, and bytes are the image of one node at most.
+//! Each law is the contract of a function that does nothing.
 ghost use Rattle.std.specs.Prelude.{◌≡◌, ◌++◌, ◌↔◌, [], ℕ, List};
 ghost use Rattle.model.specs.View.{NodeView, kept_view};
 ghost use Rattle.image.specs.Grammar.{Stored, Fits, spelling};
