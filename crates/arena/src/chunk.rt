@@ -1,4 +1,5 @@
-//! A row of items of fixed capacity, in one block, which never moves.
+//! A row of items of fixed capacity, in one block, which never moves. It is filled at its end and
+//! emptied only when it ends or moves its items into a larger one.
 ghost use Rattle.std.specs.Prelude.{◌≡◌, ◌+◌, ◌<◌, ◌≤◌, ◌++◌, ◌∷◌, [], length};
 ghost use Rattle.std.specs.Prelude.{slice_index_or, nat_le, IfOk, OnOk, OnErr};
 ghost use Rattle.std.specs.Borrow.{sem};

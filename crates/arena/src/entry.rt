@@ -1,4 +1,5 @@
-//! What a slot of an arena is in memory.
+//! What a slot of an arena is in memory. A free slot names the one that is used after it, in the
+//! place where a value would stand; so the free list takes no memory of its own.
 ghost use Rattle.std.specs.Prelude.{◌≡◌, IsSome, Some, option_copied};
 ghost use Rattle.std.specs.Borrow.{Lends, sem};
 ghost use Rattle.arena.specs.Arena.{IsFree, value_of, generation_of, generation_in, slot_generation};

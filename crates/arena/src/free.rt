@@ -1,4 +1,5 @@
-//! The list of the free slots, read in its order.
+//! The list of the free slots, read in its order. It is threaded through the slots, so it is
+//! followed and not searched.
 ghost use Rattle.std.specs.Prelude.{◌≡◌, ℕ};
 ghost use Rattle.arena.specs.Arena.{Has, IsFree};
 ghost use Rattle.arena.specs.Entry.{slot_of, chain};

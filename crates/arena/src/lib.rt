@@ -2,6 +2,32 @@
 //!
 //! An [`Arena`] keeps values of one type in numbered slots. A slot whose value was removed is used
 //! again, under the next generation, so a key that names an older generation finds nothing.
+//!
+//! ```text
+//! lib, free, made   Arena: keys, generations, the list of free slots
+//!     |
+//! store             Store: a row of items that grows at its end
+//!     |
+//! root              Root: the chunks, in a block of their own, which grows with them
+//!     |
+//! chunk             Chunk: a row of items of fixed capacity, in one block
+//!     |
+//! block             Block, Title: raw memory, the six functions that follow a pointer
+//! ```
+//!
+//! Items lie in chunks of 1,024, each in a block that never moves. Where all chunks are full, a
+//! push takes one more; the block with the chunks' own pointers doubles when it is full, and only
+//! they are moved. So an arena with one value takes one chunk and room for four, whatever its
+//! limit. A free slot keeps its next generation and the next free slot where a value would stand; a
+//! slot that was never used is raw memory. No chunk is given back before the arena ends.
+//!
+//! `block` is the only file with pointers, and its functions are proved by hand. The owner of a
+//! block knows three things that have no bytes: how many places at its beginning were emptied,
+//! which values stand behind those, and how many places behind the values were never filled
+//! (`arena/specs/Block.antt`). To fill takes a place of the last room, to take out gives one to the
+//! first, and to give the block back asks that there are no values and that both rooms together are
+//! the whole block. Neither the block nor the right to give it back can be let go, so a path that
+//! forgets one isn't accepted. Above `block` nothing knows of memory.
 #![tactic(auto)]
 
 ghost use Rattle.std.specs.Prelude.{◌≡◌, ◌<◌, ◌==◌, [], length, option_copied};

@@ -1,4 +1,6 @@
-//! The steps by which an arena is made of its slots and its free list.
+//! The steps by which an arena is made of its slots and its free list. Each free slot is to be
+//! named once: a slot that is linked already, or isn't free, is refused, and at the end none is
+//! left.
 ghost use Rattle.std.specs.Prelude.{◌≡◌, ◌≢◌, ℕ, ◌+◌, ◌^◌, ◌<◌, ◌≤◌, ◌++◌, ◌∷◌, [], true, false};
 ghost use Rattle.std.specs.Prelude.{length, map, count_by, cond, slice_set, slice_index_or, List};
 ghost use Rattle.std.specs.Prelude.{IfOk, IfErr, OnOk, IsTrue, ◌↔◌};

@@ -1,4 +1,5 @@
-//! Where the chunks of a row stand: in a block of their own, which grows with them.
+//! Where the chunks of a row stand: in a block of their own, which grows with them. Only the
+//! chunks' own pointers move then, never a value.
 ghost use Rattle.std.specs.Prelude.{◌≡◌, ◌<◌, ◌++◌, ◌∷◌, [], length};
 ghost use Rattle.std.specs.Prelude.{OnOk, OnErr, IfErr};
 ghost use Rattle.std.specs.Borrow.{sem};

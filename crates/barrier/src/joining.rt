@@ -1,3 +1,5 @@
+//! What a node's program holds is asked for when the node joins a cycle: its roots make a new set.
+//! The heap isn't touched here, so all that may be refused comes before anything is marked.
 ghost use Rattle.std.specs.Prelude.{◌≡◌, [], ◌<◌, ◌≤◌, ◌^◌, length, IfOk, IfErr, OnOk, OnErr};
 ghost use Rattle.std.specs.List.{AllByRecursion};
 ghost use Rattle.ids.specs.declared.limits.TheConstants.{GREATEST_NODES, GREATEST_SENT};

@@ -11,6 +11,20 @@
 //! neither memory nor a list of its own.
 //!
 //! Each reference costs one look-up in the set or in the heap. Nothing else is read.
+//!
+//! Why references are asked for once: a node can't see another's marks, so without the set it would
+//! ask again each time that it meets the reference; and a Load after marking has ended would send a
+//! Mark, which is work after the end.
+//!
+//! Why a reference of the node's own cycle is only vouched for: its sender had joined before it
+//! sent it, so the object is marked, or a Mark of it was sent in this cycle. To mark it again would
+//! find nothing new, and such a message may arrive when marking has ended everywhere; the Mark
+//! would be work after the end. It counts as asked for all the same, because its receiver can now
+//! send it on, and then vouches for it in turn.
+//!
+//! Why a late one is shaded: it was sent before its sender joined, by a node that had shaded
+//! nothing yet, and may be the only way to its object. It is counted, so marking doesn't end before
+//! it arrives.
 #![tactic(auto)]
 
 mod asking;

@@ -1,3 +1,5 @@
+//! Marks on links, appended for all of some references or for none. Those that were appended last
+//! can be retracted, which is how an event that is refused leaves the links as they were.
 ghost use Rattle.std.specs.Prelude.{◌≡◌, ℕ, true, [], ◌∷◌, ◌<◌, length, map, IfErr, OnOk, OnErr};
 ghost use Rattle.std.specs.List.{AllByRecursion};
 ghost use Rattle.model.specs.Shading.{mark_for, marks_for};

@@ -1,3 +1,5 @@
+//! A grey object is scanned: it leaves the list, and what its places hold is shaded, so it is
+//! black. If anything is refused, it stays grey.
 ghost use Rattle.std.specs.Prelude.{◌≡◌, false, ◌+◌, ◌<◌, ◌≤◌, ◌^◌, length, IfOk, IfErr, OnOk, OnErr};
 ghost use Rattle.std.specs.List.{AllByRecursion};
 ghost use Rattle.ids.specs.declared.limits.TheConstants.{GREATEST_COUNTED, GREATEST_NODES};

@@ -1,3 +1,6 @@
+//! Some references are shaded at once, each by marking the object here or by asking its owner. The
+//! owners are asked first, since that may be refused and can be taken back; to mark can't be
+//! refused.
 ghost use Rattle.std.specs.Prelude.{◌≡◌, [], cond, ◌==◌, ◌+◌, ◌<◌, ◌≤◌, ◌^◌, length, IfErr, OnOk, OnErr};
 ghost use Rattle.std.specs.List.{AllByRecursion};
 ghost use Rattle.ids.specs.declared.limits.TheConstants.{GREATEST_COUNTED, GREATEST_NODES};

@@ -1,4 +1,6 @@
-// A node with its disk, its seat and a trace.
+//! A node with its disk, its seat and a trace. What joins them stands in its type: each event
+//! entered the one history of the space, and while the cell is open its disk opens to the node that
+//! was saved last.
 ghost use Rattle.std.specs.Prelude.{◌≡◌, IsTrue};
 ghost use Rattle.disk.specs.Areas.{Areas};
 ghost use Rattle.cell.specs.Disks.{OpensTo, OpensToEither};

@@ -1,4 +1,5 @@
-// A node at its seat, without its disk.
+//! A node at its seat, without its disk. Each call that performs an event of the node enters it in
+//! the history too, so the node shows what its seat's events lead to.
 ghost use Rattle.std.specs.Prelude.{◌≡◌};
 ghost use Rattle.wire.specs.Readers.{known};
 ghost use Rattle.cell.specs.Desks.{AreTaken, IsSeatAt, IsSavedNode, IsUnsaved, StandsAt};

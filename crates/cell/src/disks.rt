@@ -1,4 +1,5 @@
-// What a disk does for the node at a desk.
+//! What a disk does for the node at a desk: it gives back the node that was saved. That enters the
+//! history as a restart, or as the save in which the disk failed.
 ghost use Rattle.std.specs.Prelude.{◌≡◌, false, replicate};
 ghost use Rattle.ids.specs.declared.limits.TheConstants.{GREATEST_NODES};
 ghost use Rattle.model.specs.View.{kept_view};

@@ -1,4 +1,5 @@
-// How an event enters the history of the space.
+//! How an event enters the history of the space. Which event it is, proofs alone know; these
+//! functions hand it from the node to the wire.
 ghost use Rattle.std.specs.Prelude.{◌≡◌};
 ghost use Rattle.model.specs.declared.step.Step.{Step as StepOf};
 ghost use Rattle.model.specs.declared.step.Step.TheVariants as step;

@@ -1,4 +1,5 @@
-// Events of the node at a desk.
+//! Events of the node at a desk. One that counts enters the history in the same call; what changes
+//! nothing, as a repeat or a word that is read, enters nothing.
 ghost use Rattle.std.specs.Prelude.{◌≡◌, ◌≢◌, true, IfErr, IsTrue};
 ghost use Rattle.ids.specs.declared.refusal.Refusal.TheVariants.{Memory};
 ghost use Rattle.model.specs.Steps.{is_memory_free, is_own};

@@ -1,3 +1,5 @@
+//! Why the cells of a space aren't opened: the disks aren't those of the space, or something was
+//! refused. The first cause that is found ends the opening.
 use ids::Refusal;
 
 /// Why the cells of a space aren't opened.

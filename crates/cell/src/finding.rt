@@ -1,4 +1,5 @@
-//! Nodes as their disks hold them.
+//! Nodes as their disks hold them. A blank disk gets a new node, any other tells the one that was
+//! saved last; what isn't a node of this place is refused.
 ghost use Rattle.std.specs.Prelude.{◌≡◌, ◌≢◌, ◌++◌, [], ◌∷◌, false, true, IfErr, IfOk, IsErrOf, IsTrue, OnOk};
 ghost use Rattle.std.specs.Prelude.{◌<◌, length, vec_len};
 ghost use Rattle.ids.specs.declared.refusal.Refusal.TheVariants.{Memory};

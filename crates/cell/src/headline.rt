@@ -1,3 +1,5 @@
+//! The theorems for node threads: what the contracts of cells come to, where a run reaches the
+//! world in which their wire was made. The function does nothing; its contract is the theorems.
 ghost use Rattle.ids.specs.Limits.{IsShape, Shaped};
 ghost use Rattle.model.specs.World.{new_world, World};
 ghost use Rattle.cell.specs.Laws.{

@@ -1,4 +1,5 @@
-//! The cells of nodes that lie on shelves, and the wire between them.
+//! The cells of nodes that lie on shelves, and the wire between them. The caller names the world in
+//! which the nodes stand; the theorems hold where a run reaches it.
 ghost use Rattle.std.specs.Prelude.{◌≡◌, ◌≢◌, true, All, IfErr, IfOk, IsErrOf, map, vec_len};
 ghost use Rattle.ids.specs.declared.refusal.Refusal.TheVariants.{Memory};
 ghost use Rattle.model.specs.World.{World};

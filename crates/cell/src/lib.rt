@@ -1,5 +1,6 @@
 //! A node at its seat on a wire, with the disk that it is saved on: each call is one event of the
-//! space, or none.
+//! space, or none. What the threads of all nodes do with their cells is thereby one run of the
+//! space, and every theorem over runs holds of it.
 #![tactic(auto)]
 
 mod cell;

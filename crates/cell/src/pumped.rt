@@ -1,3 +1,5 @@
+//! What came in from another node, and what went out to one. That a mailbox was empty, or full, is
+//! an answer and no refusal: nobody waits.
 use model::Answer;
 
 /// What came in from another node.

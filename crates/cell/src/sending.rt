@@ -1,4 +1,5 @@
-// Frames between the node at a desk and others.
+//! Frames between the node at a desk and others. What is due is told by the window and by what was
+//! saved, so nothing leaves that a restart could take back.
 ghost use Rattle.std.specs.Prelude.{
   ◌≡◌,
   ◌≢◌,

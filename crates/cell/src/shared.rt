@@ -1,4 +1,5 @@
-//! A cell that the threads of a program share.
+//! A cell that the threads of a program share. Each call locks for that call alone, so what is true
+//! of a cell between two calls is true whenever the lock is free.
 ghost use Rattle.std.specs.Prelude.{◌≡◌, ◌≢◌, ◌⊎◌, true, IfErr, IfOk};
 ghost use Rattle.std.specs.Arc.{arc_value};
 ghost use Rattle.ids.specs.declared.refusal.Refusal.TheVariants as refusal;

@@ -1,3 +1,5 @@
+//! Bytes that are written one after another, up to a limit. A writer that has failed keeps none any
+//! more and says so at its end, so who writes a value tests nothing in between.
 ghost use Rattle.std.specs.Prelude.{◌≡◌, ◌≢◌, ◌<◌, ◌≤◌, ◌^◌, [], List, ℕ, length, ⊤, true, false};
 ghost use Rattle.std.specs.Prelude.{OnOk, IfOk, IfErr};
 ghost use Rattle.codec.specs.Formats.{byte, number2, number4, number8, signed8};

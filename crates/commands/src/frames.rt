@@ -1,4 +1,5 @@
-//! Frames, read from the words that spell their bytes.
+//! Frames, read from the words that spell their bytes. Words that are no hexadecimal digits, and
+//! bytes that are no frame, are told apart by the status.
 ghost use Rattle.std.specs.Prelude.{◌≡◌, ◌≤◌, ◌∷◌, [], ◌++◌, ◌⊎◌, IfOk};
 ghost use Rattle.std.specs.Io.KnownBytes.{Appends};
 ghost use Rattle.commands.specs.Frames.{PrintsDecoded, PrintsSpelled};

@@ -1,4 +1,5 @@
-//! How many objects the sweeps of each cycle freed, in a script.
+//! How many objects the sweeps of each cycle freed, in a script. The sums are kept by what sweeps
+//! answered, so memory that is refused to them makes later reports fail and no sweep.
 ghost use Rattle.std.specs.Prelude.{◌≡◌, ◌≢◌, ℕ, ◌-◌, ◌+◌, ◌<◌, List, [], IfOk, IfErr, OnSome, slice_index, slice_set};
 ghost use Rattle.ids.specs.declared.refusal.Refusal.TheVariants.{Memory};
 ghost use Rattle.commands.specs.Freed.{KeepsSums, freed_in, freed_more, padded, sweeper};

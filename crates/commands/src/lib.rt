@@ -1,5 +1,6 @@
 //! What the words of the program `markring` ask for over one thread: scripts of a space, frames
-//! that words spell, and the texts of both.
+//! that words spell, and the texts of both. All that is written is what the definitions answer, and
+//! the contract says so of every writer that says what it holds.
 #![tactic(auto)]
 
 mod frames;

@@ -1,4 +1,5 @@
-//! One line of a script.
+//! One line of a script. A line is told apart by its words and how many they are; what isn't in the
+//! grammar is none.
 ghost use Rattle.std.specs.Prelude.{◌≡◌, ◌≤◌, ◌<◌, ◌∷◌, [], length, map, take, None, IfNone, IfSome, IsTrue, MatchOption};
 ghost use Rattle.std.specs.Char.{is_ascii_digit};
 ghost use Rattle.std.specs.List.{list_all};

@@ -1,4 +1,5 @@
-//! Runs a script over a space of nodes.
+//! Runs a script over a space of nodes. Line by line the space takes a step and the reply is
+//! written, through the first line that is none; the status is that of the worst.
 ghost use Rattle.std.specs.Prelude.{◌≡◌, ◌≤◌, ◌⊎◌, ℕ, List, IfOk, IfErr, OnOk, IsTrue, ◌≢◌};
 ghost use Rattle.std.specs.Io.KnownBytes.{Appends};
 ghost use Rattle.ids.specs.declared.refusal.Refusal.TheVariants.{Memory, ImageTooLarge};

@@ -1,4 +1,5 @@
-//! The texts of what a script's lines come to.
+//! The texts of what a script's lines come to. Each outcome has one text, which a definition gives
+//! too.
 ghost use Rattle.std.specs.Prelude.{◌≡◌, Some, IfOk, IfErr, string_bytes};
 ghost use Rattle.ids.specs.declared.refusal.Refusal.TheVariants.{Memory};
 ghost use Rattle.commands.specs.Text.{answer_text as said, counts_text, cycles_text, done_or_more, letter_text, outcome_text, ring_text, summary_text, yes_or_no};

@@ -1,3 +1,6 @@
+//! Where a node stands in the collection cycles: it joins one, hears that marking has ended,
+//! sweeps, and then may join the next. At node 0 there are the reports too, by which it knows that
+//! a cycle is swept everywhere.
 ghost use Rattle.std.specs.Prelude.{
   ◌≡◌,
   ◌==◌,
@@ -44,7 +47,7 @@ use std::marker::Model;
 /// Node 0 also keeps a report of each node: the last cycle that the node said it has swept. At
 /// other nodes these stay 0.
 ///
-/// No call but [`Phases::new`] and [`Phases::copy`] takes memory.
+/// No call but [`Phases::new`] takes memory.
 #[derive(Drop)]
 pub struct Phases {
     cycle: u64,

@@ -1,4 +1,5 @@
-// A disk as those who save on it see it: what a read gives, and what a crash may leave.
+//! A disk as those who save on it see it: what a read gives, and what a crash may leave. Only a
+//! sync that is Ok makes the two one.
 ghost use Rattle.std.specs.Prelude.{◌≡◌, ◌≤◌, ◌↔◌, ℕ, length, IfOk, IsErr, IsErrOf, OnOk, OnErr};
 ghost use Rattle.disk.specs.Areas.{Areas, part, Changes, Holds, Torn, Reads};
 ghost use Rattle.disk.specs.Crashes.{Follows, Reaches, Only, Elapses, HasCause};

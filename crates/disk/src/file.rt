@@ -1,4 +1,5 @@
-// A disk in three files of a folder.
+//! A disk in three files of a folder. It keeps what they hold and says only that; where something
+//! failed, it compares or writes again before a sync is Ok.
 ghost use Rattle.std.specs.Prelude.{◌≡◌, ◌⊎◌, ◌≤◌, length, IfErr, IfOk, OnOk};
 ghost use Rattle.disk.specs.Areas.{Areas, Changes, Torn, part};
 ghost use Rattle.disk.specs.Record.{areas_of, at_risk, leaves, moments, left_since, reads_left};

@@ -1,4 +1,5 @@
-// A disk in memory, which can be told to fail and to crash.
+//! A disk in memory, which can be told to fail and to crash. It keeps what areas held at the last
+//! sync only as long as a crash may bring that back.
 ghost use Rattle.std.specs.Prelude.{◌≡◌, ◌≤◌, ◌↔◌, length, IfOk, IfErr, IsErr, IsErrOf, OnOk};
 ghost use Rattle.std.specs.Prelude.{IsTrue, OnErr, ⊤};
 ghost use Rattle.disk.specs.Areas.{Areas, Changes, Holds, Reads, Torn, part};

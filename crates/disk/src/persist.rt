@@ -1,4 +1,5 @@
-// Values that a shelf keeps.
+//! Values that a shelf keeps: each is saved as bytes, its image. A value that is read again may
+//! differ from the one that was saved in what its image doesn't say.
 ghost use Rattle.std.specs.Prelude.{◌≡◌, ◌≢◌, ◌<◌, ◌≤◌, List, ℕ, length, IfErr, IfOk, OnOk};
 ghost use Rattle.ids.specs.declared.limits.TheConstants.{GREATEST_IMAGE};
 

@@ -1,4 +1,5 @@
-// Which calls of a disk in memory fail.
+//! Which calls of a disk in memory fail: all from one on, or one alone. So a case can make a device
+//! fail at each of its calls.
 ghost use Rattle.std.specs.Prelude.{◌≡◌};
 ghost use Rattle.disk.specs.Plan.{is_due, one_less};
 

@@ -1,5 +1,5 @@
-// The calls of a disk by which an image is saved and found again, without the value that it stands
-// for.
+//! The calls of a disk by which an image is saved and found again, without the value that it stands
+//! for. Each function makes few of them, so that its contract tells what a crash leaves after each.
 ghost use Rattle.std.specs.Prelude.{◌≡◌, ◌≢◌, ◌⊎◌, ◌%◌, ◌==◌, ◌≤◌, [], length, IfErr, IfOk, IsErr};
 ghost use Rattle.std.specs.Prelude.{IsErrOf, OnOk, Some, None, false, not};
 ghost use Rattle.ids.specs.declared.refusal.Refusal.TheVariants.{Disk as DiskRefused};

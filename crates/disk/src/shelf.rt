@@ -1,5 +1,6 @@
-// A place where one value is saved over and over, so that a crash leaves the old one or the new
-// one.
+//! A place where one value is saved over and over, so that a crash leaves the old one or the new
+//! one. The image goes into the area that isn't selected; one byte of the selector then makes it
+//! the one that counts.
 ghost use Rattle.std.specs.Prelude.{◌≡◌, ◌≢◌, ◌⊎◌, ◌↔◌, ◌<◌, ◌≤◌, List, ℕ, [], length};
 ghost use Rattle.std.specs.Prelude.{IfErr, IfOk, IsErr, IsErrOf, IsTrue, MatchResult, OnErr, OnOk};
 ghost use Rattle.std.specs.Prelude.{Some, true, false};

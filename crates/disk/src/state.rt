@@ -1,4 +1,5 @@
-// What a disk in memory keeps of itself: its state, and for proofs the states that it had.
+//! What a disk in memory keeps of itself, and for proofs the states that it had. Of each write
+//! since the last sync it knows the range, which is where a crash may leave any bytes.
 ghost use Rattle.std.specs.Prelude.{◌≡◌, ◌≤◌, ◌↔◌, [], length, IfOk, OnOk, OnErr};
 ghost use Rattle.disk.specs.Areas.{Areas, Changes, Torn, part, with_part, pasted};
 ghost use Rattle.disk.specs.Crashes.{Follows, Reaches};

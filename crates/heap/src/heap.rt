@@ -1,3 +1,6 @@
+//! What a node holds: objects in slots, registers, letters, and the marked objects that are still
+//! to be scanned. Each call is a definition on such a heap; they stand by subject in files of their
+//! own.
 ghost use Rattle.std.specs.Prelude.{◌≡◌, IfOk, IfErr};
 ghost use Rattle.ids.specs.declared.refusal.Refusal.TheVariants.{Memory};
 ghost use Rattle.model.specs.State.{new_heap};

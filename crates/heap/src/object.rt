@@ -1,3 +1,5 @@
+//! An object: the program's word, its places, and the cycle that marked it. The mark is a cycle's
+//! number, so a new cycle makes all objects white and touches none.
 ghost use Rattle.std.specs.Prelude.{◌≡◌, ℕ, ◌≤◌, ◌==◌, not, [], ◌∷◌, nat_lt, length};
 ghost use Rattle.std.specs.Prelude.{slice_index_or, slice_set};
 ghost use Rattle.std.specs.Prelude.{IfOk, IfErr, None, IsSome, IfSome, ◌↔◌};

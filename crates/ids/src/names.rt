@@ -1,3 +1,5 @@
+//! Names of nodes, objects and cycles. A reference has a generation, so it never comes to mean
+//! another object when its slot is used again.
 ghost use Rattle.std.specs.Prelude.{◌≡◌, ◌≤◌, ◌<◌, nat_lt, nat_le, Some, IsTrue, IsSome, IfSome, ◌↔◌};
 ghost use Rattle.ids.specs.Texts.{optional_text, reference_text};
 ghost use Rattle.ids.specs.declared.limits.TheConstants.{GREATEST_CYCLE, GREATEST_NODES};

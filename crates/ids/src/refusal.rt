@@ -1,3 +1,5 @@
+//! Why a call was refused: one list for all crates, with the numbers and names that texts print. So
+//! a refusal goes up through them as it is.
 ghost use Rattle.std.specs.Prelude.{◌≡◌, Some};
 ghost use Rattle.ids.specs.Refusals.{name_of, number_of, refusal_text};
 ghost use Rattle.ids.specs.declared.refusal.Refusal.TheVariants.{Memory};

@@ -1,3 +1,4 @@
+//! How large a space is. A shape that exists is within the limits, so nobody tests it again.
 ghost use Rattle.std.specs.Prelude.{◌≡◌, IsSome, IfSome, ◌↔◌};
 ghost use Rattle.ids.specs.Limits.{Shaped, IsShape};
 

@@ -1,3 +1,5 @@
+//! What is true of all images: none begins another, and bytes are the image of one node at most.
+//! Each law is the contract of a function that does nothing.
 ghost use Rattle.std.specs.Prelude.{◌≡◌, ◌≤◌, ◌++◌, ◌↔◌, [], ℕ, List, length};
 ghost use Rattle.ids.specs.declared.limits.TheConstants.{GREATEST_IMAGE};
 ghost use Rattle.msg.specs.declared.version.Version.{Version};

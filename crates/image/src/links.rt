@@ -1,4 +1,5 @@
-//! The links between a node and the others as bytes.
+//! The links between a node and the others as bytes. Of each link it is the messages that aren't
+//! acknowledged, and how much was taken in; never what the node keeps before its turn.
 ghost use Rattle.std.specs.Prelude.{◌≡◌, ◌<◌, ◌==◌, cond, [], ◌∷◌, length, slice_index_or};
 ghost use Rattle.codec.specs.Formats.{number4, counted};
 ghost use Rattle.codec.specs.Writing.{Puts, PutsAll};

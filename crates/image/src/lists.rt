@@ -1,4 +1,5 @@
-//! Lists of values of one format.
+//! Lists of values of one format. A list that tells more values than there are bytes is refused
+//! before memory is taken for it.
 ghost use Rattle.std.specs.Prelude.{◌≡◌, length, IfOk};
 ghost use Rattle.codec.specs.Formats.{Format, number4, number8, many, counted};
 ghost use Rattle.codec.specs.Reading.{Gives, IsLong};

@@ -1,4 +1,5 @@
-//! A node as the parts that its image says.
+//! A node as the parts that its image says. It may be no node's: which parts are one, the node
+//! itself says when it is made of them.
 use heap::{Object, Slot};
 use ids::Ref;
 use model::Letter;

@@ -1,4 +1,5 @@
-//! Bytes as the parts of a node.
+//! Bytes as the parts of a node. What is read is within the limits of its kind; whether the parts
+//! fit each other is seen later.
 ghost use Rattle.std.specs.Prelude.{◌≡◌, ◌≤◌, length, IfOk, IfSome};
 ghost use Rattle.std.specs.Option.{option_map};
 ghost use Rattle.ids.specs.declared.refusal.Refusal.TheVariants.{BadImage, Memory};

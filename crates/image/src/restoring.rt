@@ -1,4 +1,5 @@
-//! A node from what its image says.
+//! A node from what its image says. All that it sent and took in counts as saved, since an image is
+//! written of nodes that are being saved.
 ghost use Rattle.std.specs.Prelude.{◌≡◌, ◌≢◌, ◌≤◌, length, map, IfOk, IfErr, OnOk};
 ghost use Rattle.ids.specs.declared.refusal.Refusal.TheVariants.{BadImage, Memory};
 ghost use Rattle.msg.specs.declared.version.Version.{Version};

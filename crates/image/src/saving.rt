@@ -1,4 +1,5 @@
-//! The bytes of a node's image.
+//! The bytes of a node's image. They go into one writer, whose limit is that of an image; a node
+//! that needs more is refused, and nothing of it is kept.
 ghost use Rattle.std.specs.Prelude.{◌≡◌, ◌≢◌, ◌<◌, ◌≤◌, length, IfOk, IfErr, OnOk};
 ghost use Rattle.ids.specs.declared.limits.TheConstants.{GREATEST_IMAGE};
 ghost use Rattle.ids.specs.declared.refusal.Refusal.TheVariants.{ImageTooLarge, Memory};

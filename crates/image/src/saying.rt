@@ -1,4 +1,5 @@
-//! What the image of a node says before its lists.
+//! What the image of a node says before its lists. Each part is one value, which is spelled as a
+//! whole.
 ghost use Rattle.std.specs.Prelude.{◌≡◌};
 ghost use Rattle.image.specs.Images.{stored_by};
 

@@ -1,4 +1,5 @@
-//! The slots and the letters of a heap as bytes.
+//! The slots and the letters of a heap as bytes. They are written in the order of their numbers, so
+//! that the same heap has one spelling.
 ghost use Rattle.std.specs.Prelude.{◌≡◌, ◌<◌, [], ◌∷◌, ◌++◌, length, map, slice_index_or};
 ghost use Rattle.arena.specs.Arena.{slot_read};
 ghost use Rattle.arena.specs.declared.Slot.TheVariants.{Occupied};

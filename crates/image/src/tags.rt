@@ -1,4 +1,4 @@
-//! The bytes that say what follows them.
+//! The bytes that say what follows them. What may be one of several things begins with such a byte.
 
 /// What an image begins with.
 pub const START: [u8; 2] = [0x4D, 0x52];

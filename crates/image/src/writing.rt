@@ -1,4 +1,4 @@
-//! A node as bytes.
+//! A node as bytes. Its parts follow one another without gaps, each by its own format.
 ghost use Rattle.std.specs.Prelude.{◌≡◌, [], ◌∷◌, ◌++◌};
 ghost use Rattle.codec.specs.Formats.{number2, number4};
 ghost use Rattle.codec.specs.Writing.{Puts};

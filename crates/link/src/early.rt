@@ -1,3 +1,5 @@
+//! Messages that came before their turn, in places by their numbers. All room for them is made at
+//! the beginning, so none is refused for want of memory.
 ghost use Rattle.std.specs.Prelude.{◌≡◌, ◌<◌, replicate, IfOk, IfErr};
 ghost use Rattle.ids.specs.declared.limits.TheConstants.{WINDOW};
 ghost use Rattle.ids.specs.declared.refusal.Refusal.TheVariants.{Memory};

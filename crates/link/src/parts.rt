@@ -1,4 +1,5 @@
-//! The ends of links made from their parts.
+//! The ends of links made from their parts. All messages of such ends count as released, and all
+//! that was taken in may be acknowledged, as after a save.
 ghost use Rattle.std.specs.Prelude.{◌≡◌, ◌≢◌, ◌+◌, ◌≤◌, ◌↔◌, length, IsSome, IfSome, IfOk, IfErr, OnOk};
 ghost use Rattle.ids.specs.declared.limits.TheConstants.{GREATEST_NUMBER};
 ghost use Rattle.ids.specs.declared.refusal.Refusal.TheVariants.{BadImage, Memory};

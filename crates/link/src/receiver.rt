@@ -1,3 +1,5 @@
+//! The receiving end of a link: how much was taken in, and how much of that is saved. Two numbers
+//! tell it, since messages are taken in strictly in order.
 ghost use Rattle.std.specs.Prelude.{◌≡◌, ◌+◌, ◌<◌, ◌≤◌, ◌↔◌, IsSome, IfSome};
 ghost use Rattle.ids.specs.declared.limits.TheConstants.{GREATEST_NUMBER};
 ghost use Rattle.link.specs.Receivers.{IsReceived, new_received, offered, taken_next, all_saved};

@@ -1,4 +1,5 @@
-//! Runs a script over node threads.
+//! Runs a script over node threads. The main thread is the program of all nodes, beside a worker
+//! for each; it waits by looking again.
 ghost use Rattle.std.specs.Prelude.{◌≡◌, ◌≤◌, IfOk, true};
 ghost use Rattle.std.specs.Arc.{arc_value};
 ghost use Rattle.model.specs.Steps.{is_own};

@@ -1,3 +1,5 @@
+//! What a node may be asked, and what it answers. These enums are at once the program's own types
+//! and the data of the definitions.
 use ids::Ref;
 use msg::{Ack, Data, Token};
 

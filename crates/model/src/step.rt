@@ -1,3 +1,5 @@
+//! What may happen in a space of nodes, and what became of it. A run is a new space after any list
+//! of these steps.
 use crate::event::{Answer, Event};
 
 /// One step of a space of nodes in one thread.

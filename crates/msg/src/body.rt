@@ -1,3 +1,5 @@
+//! What nodes say to each other: programs' messages, and the collector's own. The numbers in them
+//! may be any; frames and nodes keep them within the limits.
 use ids::Ref;
 
 /// The colour of a node or of the token, as in EWD998: a white token that meets white nodes alone

@@ -1,3 +1,5 @@
+//! What goes from one node to another at once: a message with its addresses and number, or an
+//! acknowledgement. A frame that exists is within the limits, so it has a spelling.
 ghost use Rattle.std.specs.Prelude.{◌≡◌, ◌++◌, [], ℕ, List, IsTrue, IsSome, IfSome, ◌↔◌};
 ghost use Rattle.msg.specs.Limits.{nodes_fit, optional_fits, place_fits, body_fits};
 ghost use Rattle.msg.specs.Limits.{data_fits, ack_fits};

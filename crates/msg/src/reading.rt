@@ -1,3 +1,5 @@
+//! Frames from bytes. Each call reads something at the front and gives the bytes after it; what
+//! isn't spelled exactly so is refused.
 ghost use Rattle.std.specs.Prelude.{◌≡◌, IfOk, IfErr};
 ghost use Rattle.std.specs.Option.{option_map};
 ghost use Rattle.std.specs.Result.{IsOkAnd};

@@ -1,4 +1,4 @@
-//! The bytes that say what follows them.
+//! The bytes that say what follows them. What may be one of several things begins with such a byte.
 
 /// Before a message.
 pub const DATA: u8 = 0x45;

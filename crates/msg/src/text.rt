@@ -1,4 +1,5 @@
-//! The texts of messages and frames, as people read them.
+//! The texts of messages and frames, as people read them. They are what the program prints of a
+//! frame.
 ghost use Rattle.std.specs.Prelude.{Some};
 ghost use Rattle.msg.specs.Frames.{plain, plain_ack, plain_data};
 ghost use Rattle.msg.specs.Texts.{body_text, colour_text, frame_text, token_text};

@@ -1,3 +1,5 @@
+//! Frames as bytes. Each frame has one spelling, and the longest of them is the limit of the
+//! writer.
 ghost use Rattle.std.specs.Prelude.{◌≡◌, [], ◌∷◌, ◌++◌, IfOk, IfErr};
 ghost use Rattle.ids.specs.declared.refusal.Refusal.TheVariants.{Memory};
 ghost use Rattle.codec.specs.Formats.{number4, number8};

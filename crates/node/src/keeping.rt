@@ -1,4 +1,5 @@
-//! A node with the messages that it keeps until their turn.
+//! A node with the messages that it keeps until their turn. They stand beside what is saved and in
+//! no state: so each clause over the core speaks of the event that the node meets.
 ghost use Rattle.std.specs.Prelude.{◌≡◌, ◌≢◌, ◌<◌, ◌≤◌, IsTrue, Ok, Some, IfOk, IfErr, OnErr};
 ghost use Rattle.std.specs.Option.{option_map};
 ghost use Rattle.ids.specs.declared.refusal.Refusal.TheVariants.{Memory, NoNode};

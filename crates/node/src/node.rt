@@ -1,3 +1,5 @@
+//! What is saved of a node, and what tells its events apart. Each event has a small function of its
+//! own, by subject in the files below, with the tests in the order of the rules.
 ghost use Rattle.std.specs.Prelude.{◌≡◌, ◌≢◌, ◌<◌, ◌≤◌, IsTrue, IfOk, IfErr};
 ghost use Rattle.ids.specs.declared.refusal.Refusal.TheVariants.{Memory, NoNode};
 ghost use Rattle.model.specs.Steps.{is_addressed, is_memory_free, is_shading};

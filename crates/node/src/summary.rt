@@ -1,3 +1,4 @@
+//! A node in numbers, for who looks at it. They are those of the state that the node shows.
 use ids::Shape;
 use msg::Colour;
 

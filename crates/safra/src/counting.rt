@@ -1,3 +1,11 @@
+//! In which balance a message counts. Sender and receiver ask one function of body and stamp,
+//! whichever of the two joins a cycle first; so the balances of all nodes add up to what is on its
+//! way.
+//!
+//! What matters to the end of marking are Marks, which bring work, and references that were sent
+//! before their sender had joined, which nobody has shaded. References of the cycle itself bring no
+//! work and needn't have arrived. In the next cycle they will be such messages from before, so they
+//! are counted from the start, apart from the others.
 ghost use Rattle.std.specs.Prelude.{◌≡◌};
 ghost use Rattle.model.specs.Counting.{balance_of};
 

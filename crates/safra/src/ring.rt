@@ -1,3 +1,6 @@
+//! A node's colour, its balances, and the token while it has it. The token is handed on with the
+//! sum and the colour that EWD998 says, and node 0 sees the end where all is white and the sum is
+//! 0.
 ghost use Rattle.std.specs.Prelude.{◌≡◌, ◌≤◌, ◌^◌, IsSome};
 ghost use Rattle.ids.specs.declared.limits.TheConstants.{GREATEST_COUNTED};
 ghost use Rattle.model.specs.State.{new_ring};

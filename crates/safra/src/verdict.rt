@@ -1,3 +1,5 @@
+//! What node 0 makes of the token that has come round. Where it can't tell that marking has ended,
+//! it asks again.
 use msg::Token;
 
 /// What node 0 makes of the token that has come round.

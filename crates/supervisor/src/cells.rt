@@ -1,4 +1,5 @@
-//! The cells of a space, shared by its threads.
+//! The cells of a space, shared by its threads. Each stands under a lock of its own, and all know
+//! one wire.
 ghost use Rattle.std.specs.Prelude.{◌≡◌, ◌≢◌, IfErr, IfOk, IsErrOf, map, vec_len};
 ghost use Rattle.std.specs.Arc.{arc_value};
 ghost use Rattle.ids.specs.declared.refusal.Refusal.TheVariants.{Memory};

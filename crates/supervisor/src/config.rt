@@ -1,4 +1,5 @@
-//! The configuration of a space, as a TOML document says it.
+//! The configuration of a space, as a TOML document says it. It is read exactly: a key more, a key
+//! less or a number outside its limits makes it none.
 ghost use Rattle.std.specs.Prelude.{◌≡◌, ◌≤◌, ◌<◌, ◌⊎◌, None, Some, IfErr, IfOk, IfSome, cond};
 ghost use Rattle.std.specs.Prelude.{◌==◌, option_and_then, option_map};
 ghost use Rattle.toml.specs.Data.{as_integer, get_member};

@@ -1,4 +1,4 @@
-//! Why a space isn't opened.
+//! Why a space isn't opened. Either the text, the disks together, or one thing that was refused.
 use ids::Refusal;
 use thiserror::Error;
 

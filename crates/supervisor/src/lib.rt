@@ -1,5 +1,6 @@
 //! A space whose nodes run in threads of their own: how it is configured, opened from its disks,
-//! started and closed.
+//! started and closed. What is proved of a cell is proved of whoever calls it, so nothing of the
+//! theorems rests on this crate.
 #![tactic(auto)]
 
 mod cells;

@@ -1,4 +1,5 @@
-//! A space of nodes on their disks, and its workers.
+//! A space of nodes on their disks, and its workers. Programs get at each node through its cell,
+//! beside the worker; a space that is let go asks its workers to stop.
 ghost use Rattle.std.specs.Prelude.{◌≡◌, ◌≤◌, ◌<◌, ◌≢◌, ◌↔◌, ◌⊎◌, ◌+◌, false, true, Some, IfErr, IfNone};
 ghost use Rattle.std.specs.Prelude.{IfOk, IfSome, IsErrOf, IsSome, OnErr, OnOk, is_some, length, map};
 ghost use Rattle.std.specs.Prelude.{max, option_to_list, slice_get, vec_len};

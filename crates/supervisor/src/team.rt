@@ -1,4 +1,5 @@
-//! The threads of a space's workers.
+//! The threads of a space's workers. Each gets its order through a channel that was filled before
+//! the thread was made, and every thread is joined or asked to stop.
 ghost use Rattle.std.specs.Prelude.{◌≡◌, ◌≤◌, ◌<◌, ◌+◌, IfErr, IfOk, OnErr, OnOk, length};
 ghost use Rattle.std.specs.Prelude.{vec_capacity, vec_len};
 ghost use Rattle.std.specs.List.Sorted.{IsNonDecreasingBy};

@@ -1,3 +1,5 @@
+//! What was asked of a node's thread, and what came of it, each in a few bytes. Their words are
+//! those of scripts.
 ghost use Rattle.std.specs.Prelude.{◌≡◌, Some};
 ghost use Rattle.trace.specs.Lines.{call_of, outcome_text, word_of};
 

@@ -1,4 +1,5 @@
-//! The last events of a node's thread and what came of them, for who looks for a fault.
+//! The last events of a node's thread and what came of them, for who looks for a fault. It is of a
+//! fixed length, and adding to it takes no memory.
 #![tactic(auto)]
 
 mod call;

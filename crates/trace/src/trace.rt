@@ -1,3 +1,4 @@
+//! The last calls, in room that is made once. So a line can be added where no memory is left.
 ghost use Rattle.std.specs.Prelude.{◌≡◌, ◌++◌, [], ◌∷◌, map, Some, IfOk, IfErr, string_bytes};
 ghost use Rattle.circular_buffer.specs.Buffer.{keep_last};
 ghost use Rattle.ids.specs.declared.limits.TheConstants.{TRACE_EVENTS};

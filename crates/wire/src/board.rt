@@ -1,3 +1,5 @@
+//! The board, on which node 0 shows the last cycle that ended. It shows what node 0 counts as ended
+//! in its saved state, so no restart takes back what a watch saw.
 ghost use Rattle.std.specs.Prelude.{◌≡◌, ◌≤◌, max};
 ghost use Rattle.wire.specs.Views.{raises};
 ghost use Rattle.wire.specs.Plays.{HasEnded, WasEnded};

@@ -1,3 +1,5 @@
+//! A wire is made, and its seats and watches are dealt. Each node has one seat, the only right to
+//! act for it.
 ghost use Rattle.std.specs.Prelude.{
   ◌≡◌,
   ℕ,

@@ -1,3 +1,5 @@
+//! The history of a space: one word, which each event of any node counts up. The order of these
+//! steps is the order in which the events of all threads are a run.
 ghost use Rattle.std.specs.Prelude.{◌≡◌, ℕ};
 ghost use Rattle.model.specs.declared.step.Step.{Step};
 ghost use Rattle.wire.specs.Views.{Pair, ticks};

@@ -1,5 +1,6 @@
 //! Mailboxes between the threads of a space's nodes, the count of its events, and a board on which
-//! node 0 shows how far it is.
+//! node 0 shows how far it is. One rule over all of it holds between any two atomic steps of any
+//! threads, and says that what they do is one list of events of the space.
 #![tactic(auto)]
 
 mod board;

@@ -1,3 +1,5 @@
+//! A mailbox from each node to each other one: a word, and a slot for a frame. The word says with
+//! whom the slot is, and changes in one atomic step, so no two threads touch a slot.
 ghost use Rattle.std.specs.Prelude.{
   ◌≡◌,
   ◌≢◌,

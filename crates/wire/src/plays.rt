@@ -1,4 +1,5 @@
-// The rule of the table that a wire is, and what each kind of step on it tells.
+//! The rule of the table that a wire is, and the kinds of steps that may be taken on it. Of each
+//! kind it is proved that it keeps the rule, so no code can break it.
 use crate::views::{Opening, View};
 use atomic_table::{Play, Split, TableRule};
 use std::marker::Brand;

@@ -1,4 +1,5 @@
-// What threads hold of a wire.
+//! What threads hold of a wire: seats, watches, and mailboxes that they fill or empty. Such a
+//! mailbox can't be dropped, so none stays locked by a mistake.
 ghost use Rattle.std.specs.Prelude.{◌≡◌, ◌+◌, ◌*◌, ◌≤◌, length, vec_capacity};
 ghost use Rattle.ids.specs.declared.limits.TheConstants.{GREATEST_NODES};
 ghost use Rattle.wire.specs.Plays.{WasEnded};

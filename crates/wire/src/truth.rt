@@ -1,3 +1,5 @@
+//! That what a seat says of its steps on mailboxes is so, whichever code took them. The function
+//! does nothing; its contract is the theorem.
 ghost use Rattle.std.specs.Prelude.{Vec, ℕ};
 ghost use Rattle.std.specs.Global.{Global};
 ghost use Rattle.wire.specs.Laws.{VisitsAreTrue};

@@ -1,3 +1,5 @@
+//! What a seat knows of what was done with it, for proofs alone. No value of it is made, so the
+//! history takes no bytes.
 ghost use Rattle.std.specs.Prelude.{◌≡◌};
 ghost use Rattle.wire.specs.Views.{Known};
 ghost use Rattle.model.specs.World.{World};

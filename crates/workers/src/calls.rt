@@ -1,4 +1,5 @@
-//! What a worker did, for proofs alone.
+//! What a worker did, for proofs alone. It is a list without bytes, from which a turn's contract
+//! speaks.
 ghost use Rattle.std.specs.Prelude.{◌≡◌, [], Some};
 ghost use Rattle.workers.specs.Calls.{asked, freed_in, received_in, Adds};
 

@@ -1,4 +1,5 @@
-//! The points of a turn at which a gate is asked.
+//! The points of a turn at which a gate is asked. No lock is held there, so it may wait, look at
+//! the space, or end the worker.
 
 /// How far a turn is.
 #[derive(Clone, Copy, Debug, PartialEq, Eq)]

@@ -1,4 +1,5 @@
-//! The turns of a worker: what a thread does for its node, over and over.
+//! The turns of a worker: what a thread does for its node, over and over. A turn is the same calls
+//! in the same order, whatever they answer.
 #![tactic(auto)]
 
 mod calls;

@@ -1,4 +1,6 @@
-//! The turns of a worker, one after another.
+//! The turns of a worker, one after another. It ends at its limit, where the gate says so, or
+//! before the next turn once the workers are asked to stop; its report counts what the turns came
+//! to.
 ghost use Rattle.std.specs.Prelude.{◌≡◌};
 ghost use Rattle.workers.specs.Runs.{IsRun};
 ghost use Rattle.workers.specs.Turns.{is_whole, AddsTurn};

@@ -1,4 +1,5 @@
-//! What a worker's turn calls.
+//! What a worker's turn calls. Turns are proved over any such site, so nothing of them rests on how
+//! a cell is shared.
 ghost use Rattle.std.specs.Prelude.{◌≡◌, true};
 ghost use Rattle.model.specs.Steps.{is_own};
 

@@ -1,4 +1,5 @@
-// The steps of a turn. Each of the small functions makes one call and notes it.
+//! The steps of a turn: each of the small functions makes one call and notes it. What they note,
+//! proofs alone read, and from that a turn's contract says which calls it made.
 ghost use Rattle.std.specs.Prelude.{◌≡◌, ◌≤◌, ℕ, is_ok, Bool, IfErr};
 ghost use Rattle.workers.specs.Calls.{Adds, Makes};
 ghost use Rattle.workers.specs.Turns.{at, collects, raises, saves, scans, sends, takes};

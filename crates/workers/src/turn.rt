@@ -1,4 +1,5 @@
-//! One turn of a worker.
+//! One turn of a worker. Its contract says which calls it made, and not what they did: another
+//! thread may come between any two.
 ghost use Rattle.std.specs.Prelude.{◌≡◌};
 ghost use Rattle.std.specs.Result.{result_err};
 ghost use Rattle.workers.specs.Calls.{freed_in, received_in};

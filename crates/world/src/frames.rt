@@ -1,3 +1,5 @@
+//! Frames one after another in one buffer, each found by its place. All frames of a link are kept
+//! for good, so none has a block of its own.
 ghost use Rattle.std.specs.Prelude.{◌≡◌, ◌++◌, ◌<◌, ◌≤◌, [], ◌∷◌, length, take, slice_get, slice_index, Some, IfErr, OnOk, OnErr};
 ghost use Rattle.ids.specs.declared.refusal.Refusal.TheVariants.{Memory};
 

@@ -1,3 +1,5 @@
+//! The theorems over all runs, as the contract of one function that does nothing. `laws/specs` has
+//! the statements, docs/RULES.md the words in which they speak.
 ghost use Rattle.laws.specs.Sights.{CollectorIsUnseen};
 ghost use Rattle.laws.specs.Statements.{OnlyEventsChange, CutsExtend, ReachIsLive, SweepsFreeNoneReachable, NodesAgree, BalancesAddUp, OldGarbageGoes, TargetsAreLive, NetGrows, NoneRefusedInTurn, NoneBeyond, AcknowledgementsGoThrough, HandsGoThrough, AcknowledgedIsTakenIn};
 ghost use Rattle.world.specs.Answered.{AnswersAreUnseen};
@@ -11,12 +13,12 @@ ghost use Rattle.world.specs.Answered.{AnswersAreUnseen};
 ///
 /// No node frees an object that can be reached from a register, a letter or a message in flight
 /// (`frees_none_reachable`), whichever of their states, current or saved, the other nodes go on
-/// from: all that can be reached in such a choice is there (`live`). No two nodes disagree whether
-/// the marking of a cycle has ended, and none counts it as ended unless every node has joined the
-/// cycle, none that is in it has a grey object, and no message that the cycle counts is on its way
-/// (`agreement`); the nodes' balances add up to how many of these there are (`balances`). What was
-/// saved and garbage before a cycle began is gone where that cycle was swept, rings of objects
-/// across nodes included (`old_garbage`).
+/// from: all that can be reached in such a choice is there (`live`). No node counts the marking of
+/// a cycle as ended before it has, nor before node 0 does; a node that hasn't heard yet says so
+/// later. It has ended where every node has joined the cycle, none that is in it has a grey object,
+/// and no message that the cycle counts is on its way (`agreement`); the nodes' balances add up to
+/// how many of these there are (`balances`). What was saved and garbage before a cycle began is
+/// gone where that cycle was swept, rings of objects across nodes included (`old_garbage`).
 ///
 /// For a program that means: a reference that it holds, or is sent, names an object that is there;
 /// what it asks of another node's object finds the object (`targets`); and a frame that a node

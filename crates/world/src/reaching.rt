@@ -1,4 +1,5 @@
-//! What can be reached, for tests.
+//! What can be reached, for tests. It is worked out anew from all nodes and messages, by no means
+//! of the collector's.
 ghost use Rattle.std.specs.Prelude.{◌≡◌, ◌<◌, false, List, length, IfOk, IfErr, OnOk, Some, slice_index_or, ◌↔◌};
 ghost use Rattle.std.specs.List.{IsDistinct};
 ghost use Rattle.std.specs.List.Sorted.{IsSorted};

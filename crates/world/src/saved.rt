@@ -1,3 +1,5 @@
+//! A node as it was saved: the bytes of its image, and nothing else. Which node they say, proofs
+//! know by a snapshot that has no bytes.
 ghost use Rattle.std.specs.Prelude.{◌≡◌, IfOk, IfErr};
 ghost use Rattle.ids.specs.declared.refusal.Refusal.TheVariants.{Memory};
 ghost use Rattle.image.specs.Nodes.{IsImageOf};

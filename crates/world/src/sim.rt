@@ -1,3 +1,5 @@
+//! A space in one thread. It finds the nodes that a step names; what becomes of one node is the
+//! site's matter.
 ghost use Rattle.std.specs.Prelude.{◌≡◌, ◌<◌, length, slice_get, Err, IsTrue, IfOk, IfErr, OnErr, ◌≢◌, ◌↔◌, replicate};
 ghost use Rattle.std.specs.Option.{option_copied, option_map};
 ghost use Rattle.ids.specs.declared.refusal.Refusal.TheVariants.{Memory, ImageTooLarge};

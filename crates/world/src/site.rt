@@ -1,3 +1,5 @@
+//! One node of a space, the image of the one saved last, and the frames that were released. A
+//! restart reads the image and a delivery the frame, so what is proved of them holds of bytes.
 ghost use Rattle.std.specs.Prelude.{◌≡◌, ◌≢◌, ◌<◌, length, Err, IsTrue, IfOk, IfErr, OnOk, OnErr, slice_index_or, ◌↔◌};
 ghost use Rattle.std.specs.Option.{option_map};
 ghost use Rattle.ids.specs.declared.refusal.Refusal.TheVariants.{Memory, ImageTooLarge};

@@ -1,4 +1,5 @@
-//! Making a cell, and events of its node.
+//! Making a cell, and events of its node. While the cell is closed nothing is done, since its disk
+//! may hold another node than it has.
 ghost use Rattle.std.specs.Prelude.{
   ◌≡◌,
   ◌≢◌,

@@ -1,4 +1,5 @@
-//! Frames between a cell and others.
+//! Frames between a cell and others. A message that waits for its turn comes before the mailbox,
+//! and what is sent goes round the window until it is acknowledged.
 ghost use Rattle.std.specs.Prelude.{
   ◌≡◌,
   ◌↔◌,

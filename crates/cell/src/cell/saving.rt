@@ -1,4 +1,5 @@
-//! What a cell does with its disk.
+//! What a cell does with its disk. A save releases what the node sent and took in; one in which the
+//! disk failed closes the cell until its disk is opened again.
 ghost use Rattle.std.specs.Prelude.{
   ◌≡◌,
   ◌≢◌,

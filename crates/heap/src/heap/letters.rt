@@ -1,3 +1,5 @@
+//! Letters that wait for the program, oldest first. Room for one is made before its message is
+//! taken in, so a letter that is added can't be refused.
 ghost use Rattle.std.specs.Prelude.{◌≡◌, ◌<◌, ◌-◌, length, Ok, Err, OnErr, IfOk, IfErr};
 ghost use Rattle.model.specs.Heaps.{with_letter, heap_accept};
 ghost use Rattle.heap.specs.Heap.{KeepsRoom};

@@ -1,4 +1,5 @@
-//! Marking: the room that it wants, shading, the roots, and the grey objects.
+//! Marking: the room that it wants, shading, the roots, and the grey objects. What may be refused,
+//! the room, comes first; then marking can't fail.
 ghost use Rattle.std.specs.Prelude.{◌≡◌, ℕ, ◌+◌, ◌^◌, ◌<◌, ◌≤◌, length, slice_index_or};
 ghost use Rattle.std.specs.Prelude.{None, is_none, option_to_list, IsOk, IfSome, IfErr, OnOk};
 ghost use Rattle.std.specs.List.{list_any};

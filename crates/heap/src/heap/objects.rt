@@ -1,3 +1,5 @@
+//! Objects, found by a register or a reference. Where the generation of a reference isn't that of
+//! its slot's object, nothing is found.
 ghost use Rattle.std.specs.Prelude.{◌≡◌, ℕ, ◌<◌, ◌≤◌, length, count_by, is_some, IsTrue, option_copied};
 ghost use Rattle.std.specs.Prelude.{false, Ok, Err, OnOk, OnErr, IfOk, IfErr};
 ghost use Rattle.ids.specs.Limits.{reference_fits};

@@ -1,4 +1,5 @@
-//! A heap made from its parts, and read part by part.
+//! A heap made from its parts, and read part by part. Parts are refused only where no heap has
+//! them, so each saved heap is made again.
 ghost use Rattle.std.specs.Prelude.{◌≡◌, ◌≢◌, length, slice_get, OnOk, IfOk, IfErr};
 ghost use Rattle.ids.specs.declared.refusal.Refusal.TheVariants.{BadImage, Memory};
 ghost use Rattle.arena.specs.Arena.{slot_read};

@@ -1,3 +1,5 @@
+//! Registers: all by which a program names objects. Together with the letters they are the roots,
+//! from which marking starts.
 ghost use Rattle.std.specs.Prelude.{◌≡◌, ◌<◌, length, Ok, Err, OnOk, OnErr, IfErr};
 ghost use Rattle.model.specs.Checks.{guarded};
 ghost use Rattle.model.specs.Heaps.{named, with_register, heap_copy, heap_drop, heap_register};

@@ -1,4 +1,11 @@
-//! Sweeping: what isn't marked is freed.
+//! Sweeping: what isn't marked is freed. Here is the one line by which an object leaves a heap;
+//! `world::laws` (`frees_none_reachable`) says of it that nothing goes that anybody can reach.
+//!
+//! When marking has ended, what isn't marked can't be reached, and can't become so: no program
+//! holds a reference to it, no message carries one, and no marked object has one in a place. New
+//! objects are marked, so they stay, before the cursor and behind it; a sweep may therefore be
+//! taken in steps of any size. The generation keeps an old reference, which only unreachable
+//! objects can still have, from naming the slot's next object.
 ghost use Rattle.std.specs.Prelude.{◌≡◌, ℕ, ◌+◌, ◌≤◌, cond, length};
 ghost use Rattle.model.specs.State.{slot_at};
 ghost use Rattle.model.specs.Collecting.{is_garbage, sweep_one};

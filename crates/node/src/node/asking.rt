@@ -1,4 +1,5 @@
-//! The events that send a message to another node.
+//! The events that send a message to another node. Whether a number is left for the message is
+//! tested last, and the message is appended before anything else changes.
 ghost use Rattle.std.specs.Prelude.{◌≡◌, ◌≢◌, ◌+◌, ◌<◌, ◌≤◌, [], ◌∷◌, true, false, map, slice_index_or, IfOk, IfErr, OnErr};
 ghost use Rattle.ids.specs.declared.refusal.Refusal.TheVariants.{LinkSpent, Memory};
 ghost use Rattle.model.specs.References.{IsSendable};

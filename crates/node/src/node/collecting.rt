@@ -1,4 +1,5 @@
-//! A node's own steps of a collection cycle.
+//! A node's own steps of a collection cycle. Each may be asked for at any time and in any order,
+//! and is refused where there is nothing to do.
 ghost use Rattle.std.specs.Prelude.{◌≡◌, ◌≢◌, ◌<◌, ◌≤◌, [], ◌∷◌, true, false, not, length, map, None, IsTrue, IsSome, IfErr, OnOk, OnErr};
 ghost use Rattle.ids.specs.declared.limits.TheConstants.{GREATEST_CYCLE};
 ghost use Rattle.ids.specs.declared.refusal.Refusal.TheVariants.{LinkSpent, Memory};

@@ -1,4 +1,6 @@
-//! The frames that a node gives out.
+//! The frames that a node gives out. Only messages that a saved node holds are shown in a window,
+//! and only what a saved node took in is acknowledged; so no restart takes back what another node
+//! was told.
 ghost use Rattle.std.specs.Prelude.{◌≡◌, ◌≤◌, IsTrue, Some};
 ghost use Rattle.std.specs.Option.{option_map};
 ghost use Rattle.ids.specs.declared.limits.TheConstants.{GREATEST_NUMBER};

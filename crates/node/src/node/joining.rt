@@ -1,5 +1,12 @@
 //! What a message of a later cycle does: the node joins that cycle, and takes the message in as one
-//! that has joined.
+//! that has joined. Whoever gets anything from a node that has joined, joins; Begin only makes it
+//! sooner.
+//!
+//! What was counted for the next cycle counts from here on, since it is now from before. The node
+//! becomes black: until it joins it counts as black and active, as it hasn't shaded a thing, and
+//! this tells the token so. What was asked for in another cycle counts no more. Registers and
+//! letters are all that a program holds, and are shaded; a letter that isn't accepted yet is as
+//! good as a register.
 ghost use Rattle.std.specs.Prelude.{◌≡◌, ◌<◌, ◌≤◌, ◌^◌, [], ◌∷◌, true, false, length, None, IfOk, IfErr, OnOk, OnErr};
 ghost use Rattle.std.specs.List.{AllByRecursion};
 ghost use Rattle.ids.specs.declared.limits.TheConstants.{GREATEST_COUNTED, GREATEST_NODES};

@@ -1,4 +1,5 @@
-//! A node made from the parts of a saved one.
+//! A node made from the parts of a saved one. They are refused only where no node that is saved has
+//! them; all of its messages then count as released.
 ghost use Rattle.std.specs.Prelude.{◌≡◌, ◌≢◌, IfOk, IfErr, OnOk};
 ghost use Rattle.ids.specs.declared.refusal.Refusal.TheVariants.{BadImage, Memory};
 ghost use Rattle.node.specs.Inside.{view_of};

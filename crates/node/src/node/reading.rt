@@ -1,5 +1,5 @@
 //! What a node holds, for who looks at it from outside: the roots of its program, its objects, and
-//! how much it took in.
+//! how much it took in. Nothing here takes memory or changes the node.
 ghost use Rattle.std.specs.Prelude.{◌≡◌, ℕ, ◌<◌, length, slice_index_or, is_some, None};
 ghost use Rattle.model.specs.State.{got_from, slot_at};
 ghost use Rattle.model.specs.Heaps.{object_at};

@@ -1,4 +1,7 @@
-//! The events that come from other nodes: messages and acknowledgements.
+//! The events that come from other nodes: messages and acknowledgements. Whether a node may join is
+//! tested of the node as it is; what the ring and the end of marking ask, of the node that has
+//! joined, since a token may be the very message by which it joins. No message that a node released
+//! is refused by these tests in its turn.
 ghost use Rattle.std.specs.Prelude.{◌≡◌, ◌≢◌, ◌<◌, true, false, option_to_list, IsTrue, IfErr, OnErr};
 ghost use Rattle.ids.specs.declared.refusal.Refusal.TheVariants.{Memory};
 ghost use Rattle.model.proofs.Joining.{settles_joining};

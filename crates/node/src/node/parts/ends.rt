@@ -1,4 +1,5 @@
-//! What of a saved node's parts stands on its links, and how many messages they count.
+//! What of a saved node's parts stands on its links, and how many messages they count. A balance is
+//! no larger than that count, whatever its sign.
 ghost use Rattle.std.specs.Prelude.{◌≡◌, ◌↔◌, map, IsTrue};
 ghost use Rattle.std.specs.List.{list_all};
 ghost use Rattle.safra.specs.Balances.{IsBounded};

@@ -1,5 +1,5 @@
 //! What of a saved node's parts can be looked at without memory: all but the grey list, what was
-//! asked for, and the links.
+//! asked for, and the links. Each test is one part of what is true of every node.
 ghost use Rattle.std.specs.Prelude.{◌≡◌, ◌↔◌, map, is_some, true, false, IsTrue};
 ghost use Rattle.std.specs.List.{list_all};
 ghost use Rattle.ids.specs.Limits.{IsShape};
