@@ -1,6 +1,6 @@
 //! References that their owners are asked to mark. What was asked for stands in one ordered set, so
-//! an owner gets one Mark of an object in a cycle; and the end of the set is the record by which
-//! all of it is taken back.
+//! a node sends one Mark of an object in a cycle; and the end of the set is the record by which all
+//! of it is taken back.
 ghost use Rattle.std.specs.Prelude.{◌≡◌, ℕ, List, ◌++◌, ◌+◌, ◌<◌, ◌≤◌, ◌^◌, length, take, option_to_list, IfOk, IfErr, OnOk, OnErr};
 ghost use Rattle.std.specs.List.{AllByRecursion};
 ghost use Rattle.ids.specs.declared.limits.TheConstants.{GREATEST_NODES, GREATEST_SENT};

@@ -1,5 +1,17 @@
 //! Nodes as their disks hold them. A blank disk gets a new node, any other tells the one that was
 //! saved last; what isn't a node of this place is refused.
+//!
+//! ```text
+//! the disk of node k                                  the node, or why there is none
+//! nothing was ever created on it                      a new node, which is created there first
+//! it opens to node k of a space of this shape         that node as it was saved last
+//! it opens to another node, or of another space       Disks
+//! something was created on it, and it opens to none   BadImage
+//! a call of it failed in this one                     Disk
+//! ```
+//!
+//! The first refusal ends the opening, and all disks are given up; so does another number of disks
+//! than nodes, before any is looked at.
 ghost use Rattle.std.specs.Prelude.{◌≡◌, ◌≢◌, ◌++◌, [], ◌∷◌, false, true, IfErr, IfOk, IsErrOf, IsTrue, OnOk};
 ghost use Rattle.std.specs.Prelude.{◌<◌, length, vec_len};
 ghost use Rattle.ids.specs.declared.refusal.Refusal.TheVariants.{Memory};

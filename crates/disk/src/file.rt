@@ -1,5 +1,13 @@
 //! A disk in three files of a folder. It keeps what they hold and says only that; where something
 //! failed, it compares or writes again before a sync is Ok.
+//!
+//! A read compares the file with what is kept, also where the file ends; other bytes are a failure.
+//! A write is noted before the file is touched; short writes are gone on with, interrupted calls
+//! made again. Where the write fails, its range is read anew and taken as it is found, and the next
+//! sync first compares all files, and fails while they differ. After a sync that failed, the next
+//! one first writes each range again that was written since the last good one: the system may have
+//! dropped what it couldn't write, and would answer Ok. The file `select` is locked as long as the
+//! disk is there.
 ghost use Rattle.std.specs.Prelude.{◌≡◌, ◌⊎◌, ◌≤◌, length, IfErr, IfOk, OnOk};
 ghost use Rattle.disk.specs.Areas.{Areas, Changes, Torn, part};
 ghost use Rattle.disk.specs.Record.{areas_of, at_risk, leaves, moments, left_since, reads_left};

@@ -1,5 +1,5 @@
-//! The limits of a space, which stand here and nowhere else. How many messages are sent and counted
-//! at most follows from the others; so no count of them wraps.
+//! The limits of a space, a constant each. How many messages are sent and counted at most follows
+//! from the others, so no count of them wraps.
 /// The least number of nodes in a space.
 pub const LEAST_NODES: u8 = 2;
 

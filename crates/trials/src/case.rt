@@ -1,4 +1,4 @@
-//! A case as lines of words, and what words say.
+//! A case as lines of words, and what words say. The first line that is no command ends it.
 use hex::FromHexError;
 use std::alloc::{AllocError, AllocFailed, Global};
 use std::str::FromStr;

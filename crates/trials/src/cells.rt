@@ -1,4 +1,5 @@
-//! Cells of new nodes on a wire, which are saved in memory.
+//! Cells of new nodes on a wire, which are saved in memory. Their disks can be told to fail and to
+//! crash.
 ghost use Rattle.std.specs.Prelude.{◌≡◌, true, map, IfOk};
 ghost use Rattle.model.specs.Steps.{is_own};
 ghost use Rattle.wire.specs.Readers.{IsSeatOf, IsWatchOf};

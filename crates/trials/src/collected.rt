@@ -1,5 +1,5 @@
 //! A whole cycle frees what can't be reached and nothing else, after lists of steps of programs
-//! that look random.
+//! that look random. What can be reached is worked out anew, by no means of the collector's.
 use crate::out::Out;
 use crate::random::{Dice, NODES, new_space, next_delivery, next_program_turn};
 use crate::reaching::is_own;

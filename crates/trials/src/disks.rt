@@ -1,4 +1,5 @@
-//! A disk in memory, which can be told to fail and to crash.
+//! A disk in memory, which can be told to fail and to crash. A case sees what an opening finds
+//! after each of the crashes that may come.
 use crate::case::{Line, Stop, read};
 use crate::out::{Out, Tally};
 use crate::shelves::{Bench, Held, node_on};

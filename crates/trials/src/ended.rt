@@ -1,5 +1,6 @@
 //! Workers that end at random points of random turns, and come back, over disks in files, while
-//! programs do what the dice say.
+//! programs do what the dice say. At the end all letters came once and in order, and what is there
+//! is what was reached.
 ghost use Rattle.std.specs.Prelude.{◌≡◌, IfSome, false, is_some, true};
 
 use crate::case::{Line, Stop, read};

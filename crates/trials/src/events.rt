@@ -1,4 +1,5 @@
-//! Events of a node, read from the words that scripts have for them.
+//! Events of a node, read from the words that scripts have for them. Cases of nodes, cells and
+//! disks have them alike.
 ghost use Rattle.std.specs.Prelude.{◌≡◌, true, IfOk};
 ghost use Rattle.model.specs.Steps.{is_own};
 

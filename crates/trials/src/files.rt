@@ -1,4 +1,5 @@
-//! Disks in files of a folder, some of which fail as they are told to.
+//! Disks in files of a folder, some of which fail as they are told to. Those that fail stand in for
+//! files of the system, call by call.
 use crate::case::{Line, Stop, bytes_of};
 use crate::out::Out;
 use crate::shelves::{Bench, area_of};

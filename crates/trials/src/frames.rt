@@ -1,4 +1,5 @@
-//! Bytes that are cut or changed: what is still read as a frame or as a node.
+//! Bytes that are cut or changed: what is still read as a frame or as a node. What is read is to be
+//! spelled so again.
 use crate::case::{Line, Stop, bytes_of};
 use crate::out::{Out, Tally};
 use ids::Refusal;

@@ -1,4 +1,5 @@
 //! The steps of a wire between two new nodes, on which node 0 sends its acknowledgement of nothing.
+//! A case can look at a mailbox while it is being filled or emptied.
 ghost use Rattle.std.specs.Prelude.{◌≡◌, ℕ, Some, length, slice_get, IfOk};
 ghost use Rattle.msg.specs.Grammar.{ack_frame};
 ghost use Rattle.node.specs.Keeping.{WholeNode, new_whole};

@@ -1,4 +1,4 @@
-//! The limit of cycles, and laws.
+//! The limit of cycles, and laws. A law does nothing when it is called.
 use crate::case::{Line, Stop, read};
 use crate::out::Out;
 use ids::Cycle;

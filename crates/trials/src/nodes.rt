@@ -1,4 +1,5 @@
-//! One node: its events, its frames and its image.
+//! One node: its events, its frames and its image. It may be made of any image, so a case reaches
+//! nodes that no short run does.
 use crate::case::{Line, Stop, bytes_of, read};
 use crate::events::event_of;
 use crate::out::Out;

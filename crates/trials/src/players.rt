@@ -1,5 +1,6 @@
 //! Programs that do what the dice say, and know which of their letters are to come, whatever the
-//! restarts of their nodes lose.
+//! restarts of their nodes lose. A program writes the label of its last letter into an object, so
+//! that a restart tells it which letters are still known.
 ghost use Rattle.std.specs.Prelude.{◌≡◌, true};
 ghost use Rattle.model.specs.Steps.{is_own};
 

@@ -1,4 +1,5 @@
-//! A space after all programs are over: a cycle on one thread, and what the disks then hold.
+//! A space after all programs are over: a cycle on one thread, and what the disks then hold. By
+//! then nothing is on its way, so what isn't reached is to be gone.
 use crate::ended::Found;
 use disk::Disk;
 use ids::{Ref, Refusal};

@@ -1,4 +1,5 @@
-//! Lists of steps that look random, the same ones for each seed.
+//! Lists of steps that look random, the same ones for each seed. So a run that failed can be run
+//! again.
 use ids::{Refusal, Shape};
 use model::{Event, Step};
 use std::alloc::Global;

@@ -1,4 +1,5 @@
 //! What can be reached in a space is there after each sweep, over lists of steps that look random.
+//! Every choice of current and saved nodes is looked at.
 ghost use Rattle.std.specs.Prelude.{◌≡◌};
 ghost use Rattle.model.specs.World.{is_own_step};
 

@@ -1,4 +1,5 @@
-//! A worker that its gate ends at a stage, and that comes back.
+//! A worker that its gate ends at a stage, and that comes back. What it had saved is there, and
+//! what it hadn't acknowledged comes again.
 ghost use Rattle.std.specs.Prelude.{◌≡◌, is_some, true};
 
 use crate::spaces::{MANY, Size, await_flag, opened, pause};

@@ -1,4 +1,5 @@
-//! Cells of new nodes that are shared, on one wire, and a watch that hears of what they raise.
+//! Cells of new nodes that are shared, on one wire, and a watch that hears of what they raise. What
+//! a call did is seen from outside the lock.
 ghost use Rattle.std.specs.Prelude.{◌≡◌, map, IfOk, Some};
 ghost use Rattle.std.specs.Arc.{arc_value};
 ghost use Rattle.cell.specs.Names.{name_of, IsNamed};

@@ -1,4 +1,5 @@
-//! A disk, and a shelf over it that keeps the node of the case.
+//! A disk, and a shelf over it that keeps the node of the case. In memory and in files it takes the
+//! same commands.
 use crate::case::{Stop, bytes_of, read};
 use crate::nodes::Nodes;
 use crate::out::Out;

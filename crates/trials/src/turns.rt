@@ -1,4 +1,5 @@
-//! Turns of a worker over a site that notes what it is asked, and answers from a script.
+//! Turns of a worker over a site that notes what it is asked, and answers from a script. So the
+//! calls of a turn are seen in their order.
 use crate::case::{Line, Stop, read};
 use crate::out::Out;
 use cell::{Inbound, Outbound};
