@@ -14,10 +14,10 @@ mod settling;
 mod taking;
 
 use crate::summary::Summary;
+use barrier::RefSet;
 use control::Phases;
 use heap::Heap;
 use ids::{NodeId, Ref, Refusal, Shape};
-use indexmap::IndexSet;
 use link::Links;
 use model::{Answer, Event};
 pub use parts::NodeParts;
@@ -34,7 +34,7 @@ pub struct Core {
     own: u8,
     heap: Heap,
     // References of other nodes that were asked for in this cycle, in order.
-    asked: IndexSet<Ref>,
+    asked: RefSet,
     phases: Phases,
     ring: Ring,
     links: Links,
@@ -74,7 +74,7 @@ impl Core {
             shape,
             own: own.number,
             heap: Heap::new(alloc, shape)?,
-            asked: IndexSet::new(alloc),
+            asked: RefSet::new(alloc),
             phases: Phases::new(alloc, shape.nodes())?,
             ring: Ring::new(),
             links: Links::new(alloc, shape.nodes())?,
