@@ -1,3 +1,4 @@
+pub mod Indexed
 pub mod Sent
 pub mod InTurn
 pub mod Shaded

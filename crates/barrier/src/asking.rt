@@ -11,8 +11,8 @@ ghost use Rattle.link.specs.Links.{LinksView, IsLinks};
 ghost use Rattle.barrier.specs.Asked.{IsAsked, IsRefused};
 
 use crate::marks::{append_marks, retract_marks};
+use crate::ref_set::RefSet;
 use ids::{Ref, Refusal};
-use indexmap::IndexSet;
 use link::Links;
 
 /// Asks the owners of these references to mark them: each that is another node's and isn't among
@@ -23,7 +23,7 @@ use link::Links;
 /// [`Refusal::Memory`] where a growth was refused; [`Refusal::LinkSpent`] where a Mark gets no
 /// number, which may show only after memory was wanted for others. All is then as it was.
 pub fn ask(
-    asked: &mut IndexSet<Ref>,
+    asked: &mut RefSet,
     links: &mut Links,
     own: u8,
     cycle: u64,
@@ -55,7 +55,7 @@ pub fn ask(
 /// first so many are no longer asked for, and the Mark of each, which was appended last for its
 /// node, is retracted. All of them are to have Marks: what was vouched for after them is to be
 /// taken back first, by [`unvouch`]. It takes no memory, and time for each reference that goes.
-pub fn unask(asked: &mut IndexSet<Ref>, links: &mut Links, before: usize)
+pub fn unask(asked: &mut RefSet, links: &mut Links, before: usize)
     ensures back { (keys new : List Reference) (cycle : ℕ) (was : LinksView) →
         before ≡ length keys → IsLinks was →
         IsAsked keys new cycle was asked.old.keys links.old →
@@ -73,11 +73,7 @@ pub fn unask(asked: &mut IndexSet<Ref>, links: &mut Links, before: usize)
 /// them, once. The node's own are passed over. It gives how many were asked for before.
 ///
 /// [`Refusal::Memory`] where a growth was refused; what was asked for is then as it was.
-pub fn vouch(
-    asked: &mut IndexSet<Ref>,
-    own: u8,
-    references: &[Option<Ref>],
-) -> Result<usize, Refusal>
+pub fn vouch(asked: &mut RefSet, own: u8, references: &[Option<Ref>]) -> Result<usize, Refusal>
     ensures before { IfOk result (λ before. before ≡ length asked.old.keys) }
     ensures done { let new = unasked own asked.old.keys (filled references.now) in
         OnOk result (asked.new.keys ≡ asked.old.keys ++ new) }
@@ -95,7 +91,7 @@ pub fn vouch(
 }
 
 /// Counts a reference as asked for, as [`vouch`] does; where there is none, nothing changes.
-pub fn include(asked: &mut IndexSet<Ref>, own: u8, reference: Option<Ref>) -> Result<(), Refusal>
+pub fn include(asked: &mut RefSet, own: u8, reference: Option<Ref>) -> Result<(), Refusal>
     ensures done { let new = unasked own asked.old.keys (option_to_list reference) in
         OnOk result (asked.new.keys ≡ asked.old.keys ++ new) }
     ensures refused { IfErr result (λ e. e ≡ Memory) }
@@ -111,7 +107,7 @@ pub fn include(asked: &mut IndexSet<Ref>, own: u8, reference: Option<Ref>) -> Re
 
 /// Takes back what [`vouch`] did, or more than one call of it in turn: the references after the
 /// first so many no longer count as asked for. It takes no memory, and time for each that goes.
-pub fn unvouch(asked: &mut IndexSet<Ref>, before: usize)
+pub fn unvouch(asked: &mut RefSet, before: usize)
     ensures rest { asked.new.keys ≡ take before asked.old.keys }
     ensures back { (keys new : List Reference) → before ≡ length keys →
         asked.old.keys ≡ keys ++ new → asked.new.keys ≡ keys }

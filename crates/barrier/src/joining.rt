@@ -9,9 +9,9 @@ ghost use Rattle.barrier.specs.Asked.{IsAsked, IsRefused};
 
 use crate::asking::include;
 use crate::marks::append_marks;
+use crate::ref_set::RefSet;
 use heap::Heap;
 use ids::{Ref, Refusal};
-use indexmap::IndexSet;
 use link::Links;
 use std::alloc::Global;
 
@@ -28,7 +28,7 @@ pub fn ask_for_roots(
     links: &mut Links,
     own: u8,
     cycle: u64,
-) -> Result<IndexSet<Ref>, Refusal>
+) -> Result<RefSet, Refusal>
     requires nodes { AllByRecursion (λ r. r.node < length links.old.links)
         (filled (roots heap.now.heap)) }
     ensures done { let new = unasked own [] (filled (roots heap.now.heap)) in
@@ -41,7 +41,7 @@ pub fn ask_for_roots(
     ensures width { length links.new.links ≡ length links.old.links }
     ensures sound { OnOk result (IsLinks links.new) }
 {
-    let mut asked = IndexSet::new(alloc);
+    let mut asked = RefSet::new(alloc);
     for number in 0..heap.root_count() {
         include(&mut asked, own, heap.root(number))?;
     }

@@ -6,9 +6,9 @@
 //! [`unask`] and [`unvouch`] take back where something after them is. Marking objects and counting
 //! Marks comes last and can't be refused. [`shade_all`] and [`scan`] do both.
 //!
-//! The references that were asked for are an [`IndexSet`](indexmap::IndexSet), the oldest first: so
-//! what comes after the first so many tells which Marks were sent since, and taking back needs
-//! neither memory nor a list of its own.
+//! The references that were asked for are a [`RefSet`], the oldest first: so what comes after the
+//! first so many tells which Marks were sent since, and taking back needs neither memory nor a list
+//! of its own.
 //!
 //! Each reference costs one look-up in the set or in the heap. Nothing else is read.
 //!
@@ -30,10 +30,12 @@
 mod asking;
 mod joining;
 mod marks;
+mod ref_set;
 mod scanning;
 mod shading;
 
 pub use asking::{ask, unask, unvouch, vouch};
 pub use joining::ask_for_roots;
+pub use ref_set::RefSet;
 pub use scanning::scan;
 pub use shading::shade_all;

@@ -12,10 +12,10 @@ ghost use Rattle.barrier.specs.Asked.{IsRefused};
 ghost use Rattle.barrier.specs.Parts.{part_of, IsAt, IsDone};
 
 use crate::asking::ask;
+use crate::ref_set::RefSet;
 use crate::shading::while_marking;
 use heap::Heap;
 use ids::{Ref, Refusal};
-use indexmap::IndexSet;
 use link::Links;
 use safra::Ring;
 
@@ -29,7 +29,7 @@ use safra::Ring;
 /// room on the heap.
 pub fn scan(
     heap: &mut Heap,
-    asked: &mut IndexSet<Ref>,
+    asked: &mut RefSet,
     ring: &mut Ring,
     links: &mut Links,
     own: u8,

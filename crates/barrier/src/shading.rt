@@ -12,9 +12,9 @@ ghost use Rattle.barrier.specs.Asked.{IsRefused};
 ghost use Rattle.barrier.specs.Parts.{part_of, work_of, IsAt, IsDone};
 
 use crate::asking::ask;
+use crate::ref_set::RefSet;
 use heap::Heap;
 use ids::{Ref, Refusal};
-use indexmap::IndexSet;
 use link::Links;
 use safra::Ring;
 
@@ -27,7 +27,7 @@ use safra::Ring;
 /// room on the heap.
 pub fn shade_all(
     heap: &mut Heap,
-    asked: &mut IndexSet<Ref>,
+    asked: &mut RefSet,
     ring: &mut Ring,
     links: &mut Links,
     own: u8,

@@ -16,10 +16,10 @@ mod settling;
 mod taking;
 
 use crate::summary::Summary;
+use barrier::RefSet;
 use control::Phases;
 use heap::Heap;
 use ids::{NodeId, Ref, Refusal, Shape};
-use indexmap::IndexSet;
 use link::Links;
 use model::{Answer, Event};
 pub use parts::NodeParts;
@@ -36,7 +36,7 @@ pub struct Core {
     own: u8,
     heap: Heap,
     // References of other nodes that were asked for in this cycle, in order.
-    asked: IndexSet<Ref>,
+    asked: RefSet,
     phases: Phases,
     ring: Ring,
     links: Links,
@@ -76,7 +76,7 @@ impl Core {
             shape,
             own: own.number,
             heap: Heap::new(alloc, shape)?,
-            asked: IndexSet::new(alloc),
+            asked: RefSet::new(alloc),
             phases: Phases::new(alloc, shape.nodes())?,
             ring: Ring::new(),
             links: Links::new(alloc, shape.nodes())?,

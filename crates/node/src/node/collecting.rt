@@ -37,7 +37,7 @@ impl Core {
         let cycle = self.phases.cycle() + 1;
         let roots = self.heap.root_count();
         self.heap.make_room(roots, 0)?;
-        let alloc = *self.asked.allocator();
+        let alloc = self.asked.allocator();
         let mut asked = ask_for_roots(alloc, &self.heap, &mut self.links, own, cycle)?;
         let mut ring = self.ring;
         ring.join();

@@ -24,10 +24,9 @@ ghost use Rattle.node.specs.Taking.{
 
 use super::Core;
 use super::settling::{Errand, brought_by, follow, follow_on_heap, met_by, reply_of, send_for};
-use barrier::{ask_for_roots, unask};
+use barrier::{RefSet, ask_for_roots, unask};
 use heap::Heap;
 use ids::{Ref, Refusal};
-use indexmap::IndexSet;
 use link::Links;
 use model::Answer;
 use msg::Body;
@@ -36,7 +35,7 @@ use std::alloc::Global;
 /// What a node that joins a cycle has asked for, and how many Marks it has sent.
 #[derive(Drop)]
 struct Sought {
-    asked: IndexSet<Ref>,
+    asked: RefSet,
     marks: usize,
 }
 
@@ -96,7 +95,7 @@ impl Core {
         ensures { Performed true result self.old self.new (view_taken self.old from stamp body) }
     {
         let own = self.own;
-        let alloc = *self.asked.allocator();
+        let alloc = self.asked.allocator();
         let brought = brought_by(&self.heap, body);
         let met = met_by(true, stamp, stamp, brought, body);
         let reply = reply_of(stamp, brought, body);

@@ -10,12 +10,12 @@ mod home;
 mod lists;
 
 use super::Core;
+use barrier::RefSet;
 use control::Phases;
 use ends::{are_at_ends, is_bounded, number_sum};
 use heap::{Heap, HeapParts};
 use home::is_at_home;
 use ids::{Ref, Refusal, Shape};
-use indexmap::IndexSet;
 use link::{LinkParts, Links};
 use lists::{are_grey, asked_once};
 use safra::Ring;
@@ -38,7 +38,7 @@ pub struct NodeParts {
 
 /// What was asked for, where all that can be tested of the parts by themselves may be a saved
 /// node's.
-fn tested(alloc: Global, parts: &NodeParts) -> Result<IndexSet<Ref>, Refusal>
+fn tested(alloc: Global, parts: &NodeParts) -> Result<RefSet, Refusal>
     ensures asked { IfOk result (λ s. s.keys ≡ parts.now.asked.items) }
     ensures right { OnOk result (AreParts parts.now) }
     ensures refused { IfErr result (λ e.
@@ -92,7 +92,7 @@ impl Core {
         shape: Shape,
         own: u8,
         heap: Heap,
-        asked: IndexSet<Ref>,
+        asked: RefSet,
         phases: Phases,
         ring: Ring,
         links: Links,

@@ -28,11 +28,10 @@ ghost use Rattle.node.specs.Taking.{
 };
 
 use super::Core;
-use barrier::{ask, unask, vouch};
+use barrier::{RefSet, ask, unask, vouch};
 use control::Phases;
 use heap::Heap;
 use ids::{Ref, Refusal};
-use indexmap::IndexSet;
 use link::Links;
 use model::{Answer, Balance, Letter};
 use msg::{Body, Message};
@@ -127,7 +126,7 @@ pub(super) fn reply_of(cycle: u64, brought: Option<Ref>, body: Body) -> Option<M
 /// Asks for what a message brings, or vouches for it, and appends the answer of a Get: all or
 /// nothing. It gives how many Marks were sent.
 pub(super) fn send_for(
-    asked: &mut IndexSet<Ref>,
+    asked: &mut RefSet,
     links: &mut Links,
     own: u8,
     cycle: u64,

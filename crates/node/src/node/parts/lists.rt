@@ -6,9 +6,9 @@ ghost use Rattle.heap.specs.Heap.{slot_of};
 ghost use Rattle.node.specs.Parts.{is_foreign, is_marked_in, AreAsked, AreGreyIn};
 
 use super::home::is_named;
+use barrier::RefSet;
 use heap::{Object, Slot};
 use ids::{Ref, Refusal, Shape};
-use indexmap::IndexSet;
 use std::alloc::{AllocError, Global};
 
 fn is_foreign(shape: Shape, own: u8, reference: Ref) -> bool
@@ -24,13 +24,13 @@ pub(super) fn asked_once(
     shape: Shape,
     own: u8,
     references: &[Ref],
-) -> Result<IndexSet<Ref>, Refusal>
+) -> Result<RefSet, Refusal>
     ensures made { IfOk result (λ s. s.keys ≡ references.now) }
     ensures right { OnOk result (AreAsked shape own references.now) }
     ensures refused { IfErr result (λ e.
         e ≢ Memory → (e ≡ BadImage) × (AreAsked shape own references.now → ⊥)) }
 {
-    let mut asked = IndexSet::new(alloc);
+    let mut asked = RefSet::new(alloc);
     for reference in references {
         if !is_foreign(shape, own, *reference) {
             return Err(Refusal::BadImage);

@@ -1,0 +1,14 @@
+-- What a set of references in order shows, and what ties its index to it.
+use Rattle.std.specs.Prelude.{◌≡◌, List}
+use Rattle.std.specs.List.{IsDistinct}
+use Rattle.ids.specs.declared.names.Ref.{Ref}
+use Rattle.model.specs.Shading.{is_in, is_same}
+
+-- the references, the oldest first
+pub record RefSetView : Type 0 where
+  pub keys : List Ref
+
+-- the index has the references of the list and no others, and the list has each of them once
+pub record IsIndexed (index order : List Ref) : Type 0 where
+  pub same : (r : Ref) → is_in r index ≡ is_in r order
+  pub once : IsDistinct is_same order
