@@ -1,5 +1,5 @@
-//! Sweeping: what isn't marked is freed. Here is the one line by which an object leaves a heap;
-//! `world::laws` (`frees_none_reachable`) says of it that nothing goes that anybody can reach.
+//! Sweeping: what isn't marked is freed. Here is the one line that frees an object; `world::laws`
+//! (`frees_none_reachable`) says of it that nothing goes that anybody can reach.
 //!
 //! When marking has ended, what isn't marked can't be reached, and can't become so: no program
 //! holds a reference to it, no message carries one, and no marked object has one in a place. New

@@ -1,5 +1,5 @@
-//! The lists of a saved node that name each thing once. They are looked at by marks and by hashing,
-//! in time for each entry.
+//! The lists of a saved node that name each thing once. Each entry is looked at once, and none is
+//! compared with all others.
 ghost use Rattle.std.specs.Prelude.{◌≡◌, ◌≢◌, ◌↔◌, ℕ, ◌<◌, length, map, true, IsTrue, IfOk, IfErr, OnOk};
 ghost use Rattle.ids.specs.declared.refusal.Refusal.TheVariants.{BadImage, Memory};
 ghost use Rattle.heap.specs.Heap.{slot_of};
