@@ -99,10 +99,14 @@ in-updated was now r b updates q =
 pub indexed-none : {index order : List Ref} → index ≡ [] → order ≡ [] → IsIndexed index order
 indexed-none none empty = rw (none, empty) (record { same = λ r. refl; once = distinct-none })
 
--- what wasn't found in the index isn't in the list
+-- what is found in the index is in the list, and what isn't isn't
+pub found : {was : BTreeSet Ref} {order : List Ref} (r : Ref) → IsIndexed was.keys order
+    → contains by_parts was r ≡ is_in r order
+found {was = was} r indexed = contains-in was r ∙ indexed.same r
+
 pub absent : {was : BTreeSet Ref} {order : List Ref} (r : Ref) → IsIndexed was.keys order
     → contains by_parts was r ≡ false → is_in r order ≡ false
-absent {was = was} r indexed none = sym (indexed.same r) ∙ sym (contains-in was r) ∙ none
+absent r indexed none = sym (found r indexed) ∙ none
 
 pub inserted : {was now : BTreeSet Ref} {order : List Ref} (r : Ref) → IsIndexed was.keys order
     → is_in r order ≡ false → Updates by_parts was now r true

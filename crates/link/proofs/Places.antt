@@ -1,5 +1,5 @@
 -- Reads and writes of a place that may be past the end.
-use Rattle.std.proofs.Common.{◌≡◌, ℕ, zero, suc, List, [], ◌∷◌, Option, Some, None, get_or, set, slice_get, refl, ap}
+use Rattle.std.proofs.Common.{◌≡◌, ℕ, zero, suc, List, [], ◌∷◌, Option, None, get_or, set, slice_get, refl, ap}
 use Rattle.std.specs.Option.{option_flatten}
 use Rattle.msg.specs.declared.frame.Data.{Data}
 

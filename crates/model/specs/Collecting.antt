@@ -1,6 +1,6 @@
 -- A node's own steps of a collection cycle ("Cycles" in docs/RULES.md): it begins, grey objects are
 -- scanned, the token goes round as in EWD998, and what isn't marked is swept.
-use Rattle.std.specs.Prelude.{ℕ, zero, suc, min, ◌+◌, ◌-◌, ◌+ℤ◌, ◌%◌, ◌^◌, pos, ℤ, Bool, true, false, cond, not, nat_lt, ◌==◌, ◌&&◌, List, [], ◌∷◌, length, drop, Option, None, is_some, slice_set}
+use Rattle.std.specs.Prelude.{ℕ, zero, suc, min, ◌+◌, ◌-◌, ◌+ℤ◌, ◌%◌, pos, ℤ, Bool, true, false, cond, not, nat_lt, ◌==◌, ◌&&◌, List, [], ◌∷◌, length, drop, Option, None, is_some, slice_set}
 use Rattle.std.specs.Int.{w64, int_wrap}
 use Rattle.std.specs.List.{list_all}
 use Rattle.std.specs.Option.{unwrap_or}
