@@ -1,5 +1,5 @@
 -- Every node's balances stay within the number of its messages.
-use Rattle.std.proofs.Common.{◌≡◌, ℕ, ◌+◌, ◌*◌, ◌^◌, ◌<◌, ◌≤◌, List, [], ◌∷◌, length, map, get_or, set, sym, ap, ◌∙◌, subst, refl, arith}
+use Rattle.std.proofs.Common.{◌≡◌, ℕ, ◌+◌, ◌*◌, ◌<◌, ◌≤◌, List, [], ◌∷◌, length, map, get_or, set, sym, ap, ◌∙◌, subst, refl, arith}
 use Rattle.std.specs.List.{sum, sum_by}
 use Rattle.std.proofs.lemmas.List.Sums.{sum_by-set, sum_by-le, sum-map}
 use Rattle.std.proofs.lemmas.List.Elements.{All-from_get_or}

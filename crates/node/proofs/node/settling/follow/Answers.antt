@@ -1,4 +1,4 @@
-use Rattle.std.proofs.Common.{◌-◌, ◌^◌}
+use Rattle.std.proofs.Common.{◌-◌}
 use Rattle.ids.specs.declared.limits.TheConstants.{GREATEST_COUNTED}
 use Rattle.safra.proofs.Bounds.{bounded_down}
 use Rattle.node.proofs.node.settling.follow.Goals as goal
