@@ -15,7 +15,7 @@ use Rattle.msg.specs.Limits.{body_fits}
 use Rattle.msg.specs.declared.version.Version.{Version}
 use Rattle.link.specs.Senders.{IsLink}
 use Rattle.model.specs.References.{IsPlaced, no_message}
-use Rattle.model.specs.View.{Link, NodeView, no_link, used, all_kept, link_to}
+use Rattle.model.specs.View.{Link, NodeView, no_link, all_kept, link_to}
 use Rattle.model.specs.WellFormed.{AreReports}
 use Rattle.node.specs.Invariant.{AreLinked, links_of}
 use Rattle.safra.proofs.Sizes.{bounded-sizes, sizes-bounded}

@@ -7,7 +7,7 @@ use Rattle.ids.specs.Limits.{reference_fits}
 use Rattle.ids.specs.declared.limits.TheConstants.{FIRST_VERSION_NODES, GREATEST_NODES}
 use Rattle.ids.specs.declared.limits.TheConstants.{GREATEST_IMAGE}
 use Rattle.arena.specs.declared.Slot.TheVariants as slot
-use Rattle.codec.specs.Formats.{number2, number4, number8, counted}
+use Rattle.codec.specs.Formats.{number4, number8, counted}
 use Rattle.codec.proofs.Widening.{Widens, wider_kept, wider_option, wider_many, wider_counted}
 use Rattle.msg.specs.declared.body.Body.{Body}
 use Rattle.msg.specs.declared.body.Body.TheVariants as body
@@ -24,7 +24,7 @@ use Rattle.image.specs.Grammar.{object_format, occupied, slot_format, letter_for
 use Rattle.image.specs.Grammar.{message_format, link_format, links_told, front_format, told_format}
 use Rattle.image.specs.Grammar.{slots_format, others_format, lists_format, stored_format}
 use Rattle.image.specs.Grammar.{front_of, told_of, slots_of, others_of}
-use Rattle.image.specs.Images.{stored_by, image_of}
+use Rattle.image.specs.Images.{image_of}
 use Rattle.image.specs.Nodes.{node_of, Spells, HasImage}
 use Rattle.image.proofs.Spelled.{said_by}
 use Rattle.image.proofs.Whole.{no_spelling_begins_another}
