@@ -2,6 +2,7 @@
 //! that words spell, and the texts of both.
 #![tactic(auto)]
 
+mod ending;
 mod frames;
 mod freed;
 mod line;

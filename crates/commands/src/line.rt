@@ -341,22 +341,23 @@ fn read_u32(word: &str) -> Option<u32>
 fn read_u64(word: &str) -> Option<u64>
     ensures { result ≡ u64_of word.now }
 {
-    if !is_number(word) {
+    let digits = word.as_bytes();
+    if digits.is_empty() || digits.len() > MOST_DIGITS {
         return None;
     }
-    word.parse::<u64>().ok()
+    value_of(digits)
 }
 
-/// Whether the word is one digit or more, but not too many, and nothing else.
-#[tactic(auto, unfolding(crate::specs::Grammar::is_number))]
-fn is_number(word: &str) -> bool
-    ensures { result ≡ is_number word.now }
+/// The number that digits spell, where it fits.
+fn value_of(digits: &[u8]) -> Option<u64>
+    ensures { result ≡ below_2_64 digits.now }
 {
-    !word.is_empty() && word.len() <= MOST_DIGITS && are_digits(word.as_bytes())
-}
-
-fn are_digits(word: &[u8]) -> bool
-    ensures { result ≡ list_all is_ascii_digit word.now }
-{
-    word.iter().all(|byte| byte.is_ascii_digit())
+    let mut number: u64 = 0;
+    for byte in digits {
+        if !byte.is_ascii_digit() {
+            return None;
+        }
+        number = number.checked_mul(10)?.checked_add(u64::from(*byte - b'0'))?;
+    }
+    Some(number)
 }

@@ -15,7 +15,7 @@ ghost use Rattle.commands.specs.Text.{cycle_line, report_text};
 
 use crate::freed::{Freed, freed_in, sweeper};
 use crate::line::Line;
-use crate::text::{OutcomeText, SummaryText};
+use crate::text::{SummaryText, outcome_line};
 use ids::{Refusal, Shape};
 use model::{Outcome, Step};
 use node::Summary;
@@ -186,7 +186,7 @@ fn print_reply<W: Write>(out: &mut W, number: usize, reply: &Reply) -> io::Resul
 {
     match reply {
         Reply::Nothing => Ok(()),
-        Reply::Outcome(outcome) => writeln!(out, "{}", OutcomeText(*outcome)),
+        Reply::Outcome(outcome) => out.write_all(outcome_line(*outcome).as_bytes()),
         Reply::Summary(summary) => writeln!(out, "{}", SummaryText(*summary)),
         Reply::Report(sums) => print_report(out, sums),
         Reply::Refused(refusal) => writeln!(out, "refused {refusal}"),
