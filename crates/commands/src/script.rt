@@ -6,7 +6,7 @@ ghost use Rattle.model.specs.World.{World, FollowsStep, new_world, is_own_step, 
 ghost use Rattle.node.specs.Keeping.{Rings};
 ghost use Rattle.world.specs.Shows.{summary_at};
 ghost use Rattle.world.specs.Spaces.{KeepsAfter, ShowsSpace, step_met};
-ghost use Rattle.commands.specs.Freed.{KeepsSums, freed_after};
+ghost use Rattle.commands.specs.Freed.{KeepsSums, freed_with};
 ghost use Rattle.commands.specs.Grammar.{line_of, words_of};
 ghost use Rattle.commands.specs.Script.{MayBeTooLarge, Moves, PrintsNoScript, PrintsReplies};
 ghost use Rattle.commands.specs.Script.{RunsScript, TakesLine, TakesReport, TakesSpace};
@@ -281,22 +281,25 @@ fn take_step<S: Space>(state: &mut State<S>, step: Step) -> Reply
     match state {
         State::Unopened => Reply::NoCommand,
         State::Refused(refusal) => Reply::Refused(*refusal),
-        State::Open { space, freed } => match space.step(step) {
-            Ok(outcome) => {
-                note(space, freed, step, outcome);
-                Reply::Outcome(outcome)
+        State::Open { space, freed } => {
+            let swept = sweeper(&step);
+            match space.step(step) {
+                Ok(outcome) => {
+                    note(space, freed, swept, freed_in(&outcome));
+                    Reply::Outcome(outcome)
+                }
+                Err(refusal) => Reply::Refused(refusal),
             }
-            Err(refusal) => Reply::Refused(refusal),
-        },
+        }
     }
 }
 
-/// Adds what a sweep freed to the sum of its node's cycle.
-fn note<S: Space>(space: &S, freed: &mut Freed, step: Step, outcome: Outcome)
+/// Adds what a sweep of this node freed to the sum of the node's cycle.
+fn note<S: Space>(space: &S, freed: &mut Freed, swept: Option<u8>, count: Option<u32>)
     ensures { (w : World) (sums : List ℕ) → S.shows space.now w → KeepsSums freed.old.sums sums
-        → KeepsSums freed.new.sums (freed_after w step outcome sums) }
+        → KeepsSums freed.new.sums (freed_with w swept count sums) }
 {
-    let (Some(node), Some(count)) = (sweeper(&step), freed_in(&outcome)) else {
+    let (Some(node), Some(count)) = (swept, count) else {
         return;
     };
     if let Some(summary) = space.state(node) {
