@@ -1,9 +1,9 @@
 -- The number that a word of digits spells.
-use Rattle.std.proofs.Common.{◌≡◌, ℕ, ◌+◌, ◌-◌, ◌*◌, ◌^◌, ◌<◌, ◌≤◌, ⊎_elim, ◌&&◌, Bool, true, false, cond, nat_lt, List, [], ◌∷◌, length, Option, Some, None, refl, ◌∙◌, ap, sym, arith, rules, tests, cases_lt}
+use Rattle.std.proofs.Common.{◌≡◌, ℕ, ◌+◌, ◌-◌, ◌*◌, ◌^◌, ◌<◌, ◌≤◌, ⊎_elim, ◌&&◌, Bool, true, false, cond, nat_le, nat_lt, List, [], ◌∷◌, length, Option, Some, None, refl, ◌∙◌, ap, sym, arith, rules, tests}
 use Rattle.std.specs.Char.{digit_value, is_ascii_digit}
 use Rattle.std.specs.List.{list_all}
 use Rattle.std.specs.Str.Parse.{digits_value, digits_value_after}
-use Rattle.std.proofs.lemmas.Bool.{lt-ltb, le-ltb, lt-leb, le-leb, cond-true, cond-false, and-false}
+use Rattle.std.proofs.lemmas.Bool.{and_left, and_right, cases_lt, cond-false, cond-true, le-leb, le-ltb, lt-leb, lt-ltb}
 use Rattle.std.proofs.lemmas.Str.{digit_value_digit}
 use Rattle.commands.specs.declared.line.TheConstants.{MOST_DIGITS}
 use Rattle.commands.specs.Grammar.{is_number, u64_of, value_after}
@@ -21,10 +21,10 @@ grows n (c ∷ cs) = omega (arith, grows (n * 10 + digit_value c) cs)
 
 too_large : (n : ℕ) (ds : List ℕ) → 2 ^ 64 ≤ n → checked n ds ≡ None
 too_large n ds large =
-    let above : nat_lt (digits_value_after 10 n ds) (2 ^ 64) ≡ false =
-    le-ltb _ _ (omega (arith, grows n ds)) in
+    let value : ℕ = digits_value_after 10 n ds in
+    let above : nat_lt value (2 ^ 64) ≡ false = le-ltb value (2 ^ 64) (omega (arith, grows n ds)) in
     elim (list_all is_ascii_digit ds)
-    as (λ b. cond b (cond (nat_lt (digits_value_after 10 n ds) (2 ^ 64)) (Some _) None) None ≡ None) [
+    as (λ b. cond b (cond (nat_lt value (2 ^ 64)) (Some value) None) None ≡ None) [
       | true ↦ cond-false _ _ _ above
       | false ↦ refl
     ]
@@ -77,8 +77,8 @@ u64_of-none (c ∷ cs) empty = absurd (omega arith)
 pub u64_of-long : (word : List ℕ) → MOST_DIGITS < length word → None ≡ u64_of word
 unfolding u64_of is_number
 u64_of-long word long =
-    sym (cond-false _ _ _ (ap (λ b. nat_lt 0 (length word) && (b && list_all is_ascii_digit word))
-    (lt-leb MOST_DIGITS (length word) long) ∙ and-false (nat_lt 0 (length word))))
+    sym (cond-false _ _ _ (and_right (nat_lt 0 (length word)) _
+    (and_left (nat_le (length word) MOST_DIGITS) _ (lt-leb (length word) MOST_DIGITS long))))
 
 -- from one digit to the next
 pub goes_on : (n c : ℕ) (cs : List ℕ) → is_ascii_digit c ≡ true → n * 10 + (c - 48) < 2 ^ 64

@@ -37,24 +37,21 @@ impl Line {
         ensures reads { result ≡ line_of (words_of text.now) }
         ensures own { IfSome result (λ l. IsTrue (is_own_line l)) }
     {
-        line_in(text.as_bytes())
+        line_in(text)
     }
 }
 
-fn line_in(text: &[u8]) -> Option<Line>
+fn line_in(text: &str) -> Option<Line>
     ensures { result ≡ line_of (words_of text.now) }
 {
-    let mut words = text
-        .split(|byte| *byte == b' ')
-        .filter(|word| !word.is_empty());
+    let mut words = text.split(' ').filter(|word| !word.is_empty());
     let Some(first) = words.next() else {
         return Some(Line::Blank);
     };
-    if first.starts_with(b"#") {
+    if first.starts_with('#') {
         return Some(Line::Blank);
     }
-    let none: &[u8] = b"";
-    let mut operands = [none; MOST_OPERANDS];
+    let mut operands = [""; MOST_OPERANDS];
     let mut count = 0;
     for word in words {
         if count == operands.len() {
@@ -67,59 +64,59 @@ fn line_in(text: &[u8]) -> Option<Line>
 }
 
 #[tactic(auto, unfolding(crate::specs::Grammar::command_of))]
-fn command(first: &[u8], words: &[&[u8]]) -> Option<Line>
+fn command(first: &str, words: &[&str]) -> Option<Line>
     ensures { result ≡ command_of first.now (map (λ w. w.now) words.now) }
 {
     match first {
-        b"space" => space(words),
-        b"deliver" => delivery(words),
-        b"ack" => hand(words),
-        b"report" => report(words),
-        node => node_line(u8_in(node)?, words),
+        "space" => space(words),
+        "deliver" => delivery(words),
+        "ack" => hand(words),
+        "report" => report(words),
+        node => node_line(read_u8(node)?, words),
     }
 }
 
 #[tactic(auto, unfolding(crate::specs::Grammar::space_of))]
-fn space(words: &[&[u8]]) -> Option<Line>
+fn space(words: &[&str]) -> Option<Line>
     ensures { result ≡ space_of (map (λ w. w.now) words.now) }
 {
     let [nodes, registers, slots] = words else {
         return None;
     };
     Some(Line::Space {
-        nodes: u8_in(nodes)?,
-        registers: u16_in(registers)?,
-        slots: u32_in(slots)?,
+        nodes: read_u8(nodes)?,
+        registers: read_u16(registers)?,
+        slots: read_u32(slots)?,
     })
 }
 
 #[tactic(auto, unfolding(crate::specs::Grammar::delivery_of))]
-fn delivery(words: &[&[u8]]) -> Option<Line>
+fn delivery(words: &[&str]) -> Option<Line>
     ensures { result ≡ stepped (delivery_of (map (λ w. w.now) words.now)) }
 {
     let [from, to, number] = words else {
         return None;
     };
     Some(Line::Step(Step::Deliver {
-        from: u8_in(from)?,
-        to: u8_in(to)?,
-        number: u64_in(number)?,
+        from: read_u8(from)?,
+        to: read_u8(to)?,
+        number: read_u64(number)?,
     }))
 }
 
 #[tactic(auto, unfolding(crate::specs::Grammar::hand_of))]
-fn hand(words: &[&[u8]]) -> Option<Line>
+fn hand(words: &[&str]) -> Option<Line>
     ensures { result ≡ stepped (hand_of (map (λ w. w.now) words.now)) }
 {
     let [from, to] = words else {
         return None;
     };
-    let (from, to) = (u8_in(from)?, u8_in(to)?);
+    let (from, to) = (read_u8(from)?, read_u8(to)?);
     Some(Line::Step(Step::Hand { from, to }))
 }
 
 #[tactic(auto, unfolding(crate::specs::Grammar::report_of))]
-fn report(words: &[&[u8]]) -> Option<Line>
+fn report(words: &[&str]) -> Option<Line>
     ensures { result ≡ report_of (map (λ w. w.now) words.now) }
 {
     match words {
@@ -131,7 +128,7 @@ fn report(words: &[&[u8]]) -> Option<Line>
 /// What stands after a node's number. Each event's line is made in the function of its verb, as a
 /// whole: a part that was handed on would be copied there.
 #[tactic(auto, unfolding(crate::specs::Grammar::node_line_of))]
-fn node_line(node: u8, words: &[&[u8]]) -> Option<Line>
+fn node_line(node: u8, words: &[&str]) -> Option<Line>
     ensures { result ≡ node_line_of node (map (λ w. w.now) words.now) }
 {
     match words {
@@ -145,13 +142,13 @@ fn node_line(node: u8, words: &[&[u8]]) -> Option<Line>
 
 /// What a verb says that stands alone after a node's number.
 #[tactic(auto, unfolding(crate::specs::Grammar::alone))]
-fn alone(node: u8, verb: &[u8]) -> Option<Line>
+fn alone(node: u8, verb: &str) -> Option<Line>
     ensures { result ≡ alone node verb.now }
 {
     match verb {
-        b"save" => Some(Line::Step(Step::Save(node))),
-        b"restart" => Some(Line::Step(Step::Restart(node))),
-        b"state" => Some(Line::State(node)),
+        "save" => Some(Line::Step(Step::Save(node))),
+        "restart" => Some(Line::Step(Step::Restart(node))),
+        "state" => Some(Line::State(node)),
         verb => with_none(node, verb),
     }
 }
@@ -165,138 +162,138 @@ fn act(node: u8, event: Event) -> Option<Line>
 
 /// What a verb says with no operand.
 #[tactic(auto, unfolding(crate::specs::Grammar::with_none))]
-fn with_none(node: u8, verb: &[u8]) -> Option<Line>
+fn with_none(node: u8, verb: &str) -> Option<Line>
     ensures { result ≡ acted node (with_none verb.now) }
 {
     match verb {
-        b"begin" => act(node, Event::Begin),
-        b"scan" => act(node, Event::Scan),
-        b"pass" => act(node, Event::Pass),
+        "begin" => act(node, Event::Begin),
+        "scan" => act(node, Event::Scan),
+        "pass" => act(node, Event::Pass),
         _ => None,
     }
 }
 
 /// What a verb says with one operand.
 #[tactic(auto, unfolding(crate::specs::Grammar::with_one))]
-fn with_one(node: u8, verb: &[u8], a: &[u8]) -> Option<Line>
+fn with_one(node: u8, verb: &str, a: &str) -> Option<Line>
     ensures { result ≡ acted node (with_one verb.now a.now) }
 {
     match verb {
-        b"drop" => drop(node, a),
-        b"accept" => accept(node, a),
-        b"word" => word(node, a),
-        b"sweep" => sweep(node, a),
-        b"next" => next(node, a),
+        "drop" => drop(node, a),
+        "accept" => accept(node, a),
+        "word" => word(node, a),
+        "sweep" => sweep(node, a),
+        "next" => next(node, a),
         _ => None,
     }
 }
 
-fn drop(node: u8, register: &[u8]) -> Option<Line>
+fn drop(node: u8, register: &str) -> Option<Line>
     ensures { result
         ≡ acted node (option_map (λ register. event.Drop register) (u16_of register.now)) }
 {
-    let register = u16_in(register)?;
+    let register = read_u16(register)?;
     act(node, Event::Drop { register })
 }
 
-fn accept(node: u8, register: &[u8]) -> Option<Line>
+fn accept(node: u8, register: &str) -> Option<Line>
     ensures { result
         ≡ acted node (option_map (λ register. event.Accept register) (u16_of register.now)) }
 {
-    let register = u16_in(register)?;
+    let register = read_u16(register)?;
     act(node, Event::Accept { register })
 }
 
-fn word(node: u8, object: &[u8]) -> Option<Line>
+fn word(node: u8, object: &str) -> Option<Line>
     ensures { result
         ≡ acted node (option_map (λ object. event.Word object) (u16_of object.now)) }
 {
-    let object = u16_in(object)?;
+    let object = read_u16(object)?;
     act(node, Event::Word { object })
 }
 
-fn sweep(node: u8, count: &[u8]) -> Option<Line>
+fn sweep(node: u8, count: &str) -> Option<Line>
     ensures { result
         ≡ acted node (option_map (λ count. event.Sweep count) (u32_of count.now)) }
 {
-    let count = u32_in(count)?;
+    let count = read_u32(count)?;
     act(node, Event::Sweep { count })
 }
 
-fn next(node: u8, from: &[u8]) -> Option<Line>
+fn next(node: u8, from: &str) -> Option<Line>
     ensures { result
         ≡ acted node (option_map (λ from. event.Next from) (u8_of from.now)) }
 {
-    let from = u8_in(from)?;
+    let from = read_u8(from)?;
     act(node, Event::Next { from })
 }
 
 /// What a verb says with two operands.
 #[tactic(auto, unfolding(crate::specs::Grammar::with_two))]
-fn with_two(node: u8, verb: &[u8], a: &[u8], b: &[u8]) -> Option<Line>
+fn with_two(node: u8, verb: &str, a: &str, b: &str) -> Option<Line>
     ensures { result ≡ acted node (with_two verb.now a.now b.now) }
 {
     match verb {
-        b"alloc" => alloc(node, a, b),
-        b"copy" => copy(node, a, b),
-        b"clear" => clear(node, a, b),
-        b"setword" => set_word(node, a, b),
+        "alloc" => alloc(node, a, b),
+        "copy" => copy(node, a, b),
+        "clear" => clear(node, a, b),
+        "setword" => set_word(node, a, b),
         _ => None,
     }
 }
 
-fn alloc(node: u8, register: &[u8], places: &[u8]) -> Option<Line>
+fn alloc(node: u8, register: &str, places: &str) -> Option<Line>
     ensures { result ≡ acted node (of_two u16_of u8_of
         (λ register places. event.Alloc register places) register.now places.now) }
 {
-    let (register, places) = (u16_in(register)?, u8_in(places)?);
+    let (register, places) = (read_u16(register)?, read_u8(places)?);
     act(node, Event::Alloc { register, places })
 }
 
-fn copy(node: u8, register: &[u8], source: &[u8]) -> Option<Line>
+fn copy(node: u8, register: &str, source: &str) -> Option<Line>
     ensures { result ≡ acted node (of_two u16_of u16_of
         (λ register source. event.Copy register source) register.now source.now) }
 {
-    let (register, source) = (u16_in(register)?, u16_in(source)?);
+    let (register, source) = (read_u16(register)?, read_u16(source)?);
     act(node, Event::Copy { register, source })
 }
 
-fn clear(node: u8, object: &[u8], place: &[u8]) -> Option<Line>
+fn clear(node: u8, object: &str, place: &str) -> Option<Line>
     ensures { result ≡ acted node (of_two u16_of u8_of
         (λ object place. event.Clear object place) object.now place.now) }
 {
-    let (object, place) = (u16_in(object)?, u8_in(place)?);
+    let (object, place) = (read_u16(object)?, read_u8(place)?);
     act(node, Event::Clear { object, place })
 }
 
-fn set_word(node: u8, object: &[u8], word: &[u8]) -> Option<Line>
+fn set_word(node: u8, object: &str, word: &str) -> Option<Line>
     ensures { result ≡ acted node (of_two u16_of u64_of
         (λ object word. event.SetWord object word) object.now word.now) }
 {
-    let (object, word) = (u16_in(object)?, u64_in(word)?);
+    let (object, word) = (read_u16(object)?, read_u64(word)?);
     act(node, Event::SetWord { object, word })
 }
 
 /// What a verb says with three operands.
 #[tactic(auto, unfolding(crate::specs::Grammar::with_three))]
-fn with_three(node: u8, verb: &[u8], a: &[u8], b: &[u8], c: &[u8]) -> Option<Line>
+fn with_three(node: u8, verb: &str, a: &str, b: &str, c: &str) -> Option<Line>
     ensures { result ≡ acted node (with_three verb.now a.now b.now c.now) }
 {
     match verb {
-        b"give" => give(node, a, b, c),
-        b"load" => load(node, a, b, c),
-        b"store" => store(node, a, b, c),
-        b"put" => put(node, a, b, c),
-        b"get" => get(node, a, b, c),
+        "give" => give(node, a, b, c),
+        "load" => load(node, a, b, c),
+        "store" => store(node, a, b, c),
+        "put" => put(node, a, b, c),
+        "get" => get(node, a, b, c),
         _ => None,
     }
 }
 
-fn give(node: u8, to: &[u8], label: &[u8], register: &[u8]) -> Option<Line>
+fn give(node: u8, to: &str, label: &str, register: &str) -> Option<Line>
     ensures { result ≡ acted node (of_three u8_of u32_of u16_of
         (λ to label register. event.Give to label register) to.now label.now register.now) }
 {
-    let (to, label, register) = (u8_in(to)?, u32_in(label)?, u16_in(register)?);
+    let (to, label, register) = (read_u8(to)?, read_u32(label)?, read_u16(register)?);
     act(
         node,
         Event::Give {
@@ -307,11 +304,11 @@ fn give(node: u8, to: &[u8], label: &[u8], register: &[u8]) -> Option<Line>
     )
 }
 
-fn load(node: u8, register: &[u8], object: &[u8], place: &[u8]) -> Option<Line>
+fn load(node: u8, register: &str, object: &str, place: &str) -> Option<Line>
     ensures { result ≡ acted node (of_three u16_of u16_of u8_of
         (λ register object place. event.Load register object place) register.now object.now place.now) }
 {
-    let (register, object, place) = (u16_in(register)?, u16_in(object)?, u8_in(place)?);
+    let (register, object, place) = (read_u16(register)?, read_u16(object)?, read_u8(place)?);
     act(
         node,
         Event::Load {
@@ -322,11 +319,11 @@ fn load(node: u8, register: &[u8], object: &[u8], place: &[u8]) -> Option<Line>
     )
 }
 
-fn store(node: u8, object: &[u8], place: &[u8], register: &[u8]) -> Option<Line>
+fn store(node: u8, object: &str, place: &str, register: &str) -> Option<Line>
     ensures { result ≡ acted node (of_three u16_of u8_of u16_of
         (λ object place register. event.Store object place register) object.now place.now register.now) }
 {
-    let (object, place, register) = (u16_in(object)?, u8_in(place)?, u16_in(register)?);
+    let (object, place, register) = (read_u16(object)?, read_u8(place)?, read_u16(register)?);
     act(
         node,
         Event::Store {
@@ -337,11 +334,11 @@ fn store(node: u8, object: &[u8], place: &[u8], register: &[u8]) -> Option<Line>
     )
 }
 
-fn put(node: u8, object: &[u8], place: &[u8], register: &[u8]) -> Option<Line>
+fn put(node: u8, object: &str, place: &str, register: &str) -> Option<Line>
     ensures { result ≡ acted node (of_three u16_of u8_of u16_of
         (λ object place register. event.Put object place register) object.now place.now register.now) }
 {
-    let (object, place, register) = (u16_in(object)?, u8_in(place)?, u16_in(register)?);
+    let (object, place, register) = (read_u16(object)?, read_u8(place)?, read_u16(register)?);
     act(
         node,
         Event::Put {
@@ -352,11 +349,11 @@ fn put(node: u8, object: &[u8], place: &[u8], register: &[u8]) -> Option<Line>
     )
 }
 
-fn get(node: u8, object: &[u8], place: &[u8], label: &[u8]) -> Option<Line>
+fn get(node: u8, object: &str, place: &str, label: &str) -> Option<Line>
     ensures { result ≡ acted node (of_three u16_of u8_of u32_of
         (λ object place label. event.Get object place label) object.now place.now label.now) }
 {
-    let (object, place, label) = (u16_in(object)?, u8_in(place)?, u32_in(label)?);
+    let (object, place, label) = (read_u16(object)?, read_u8(place)?, read_u32(label)?);
     act(
         node,
         Event::Get {
@@ -368,48 +365,41 @@ fn get(node: u8, object: &[u8], place: &[u8], label: &[u8]) -> Option<Line>
 }
 
 /// The number that the word spells, where it fits.
+#[tactic(auto, unfolding(crate::specs::Grammar::u8_of, crate::specs::Grammar::u64_of))]
 pub fn read_u8(word: &str) -> Option<u8>
     ensures { result ≡ u8_of word.now }
 {
-    u8_in(word.as_bytes())
+    u8::try_from(read_u64(word)?).ok()
 }
 
 /// The number that the word spells, where it fits.
+#[tactic(auto, unfolding(crate::specs::Grammar::u16_of, crate::specs::Grammar::u64_of))]
 pub fn read_u16(word: &str) -> Option<u16>
     ensures { result ≡ u16_of word.now }
 {
-    u16_in(word.as_bytes())
+    u16::try_from(read_u64(word)?).ok()
 }
 
-#[tactic(auto, unfolding(crate::specs::Grammar::u8_of, crate::specs::Grammar::u64_of))]
-fn u8_in(word: &[u8]) -> Option<u8>
-    ensures { result ≡ u8_of word.now }
-{
-    u8::try_from(u64_in(word)?).ok()
-}
-
-#[tactic(auto, unfolding(crate::specs::Grammar::u16_of, crate::specs::Grammar::u64_of))]
-fn u16_in(word: &[u8]) -> Option<u16>
-    ensures { result ≡ u16_of word.now }
-{
-    u16::try_from(u64_in(word)?).ok()
-}
-
+/// The number that the word spells, where it fits.
 #[tactic(auto, unfolding(crate::specs::Grammar::u32_of, crate::specs::Grammar::u64_of))]
-fn u32_in(word: &[u8]) -> Option<u32>
+fn read_u32(word: &str) -> Option<u32>
     ensures { result ≡ u32_of word.now }
 {
-    u32::try_from(u64_in(word)?).ok()
+    u32::try_from(read_u64(word)?).ok()
 }
 
-#[tactic(auto, unfolding(crate::specs::Grammar::u64_of))]
-fn u64_in(word: &[u8]) -> Option<u64>
+/// The number that the word spells, where it fits.
+fn read_u64(word: &str) -> Option<u64>
     ensures { result ≡ u64_of word.now }
 {
-    if word.is_empty() || word.len() > MOST_DIGITS {
+    let digits = word.as_bytes();
+    if digits.is_empty() {
         return None;
     }
-    value_of(word)
+    if digits.len() > MOST_DIGITS {
+        return None;
+    }
+    value_of(digits)
 }
 
 /// The number that digits spell, where it fits.

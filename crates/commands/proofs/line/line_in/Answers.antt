@@ -1,8 +1,8 @@
-use Rattle.std.proofs.Common.{codes, ◌==◌, rules, tests, arith, ◌≡◌, List, [], ◌∷◌, ℕ, ◌<◌, length, map, Some, Bor, nat_lt, ap, sym, ◌∙◌, refl, subst}
+use Rattle.std.proofs.Common.{codes, ◌==◌, rules, tests, arith, ◌≡◌, List, [], ◌∷◌, ℕ, ◌<◌, length, map, Some, Bor, lit<, nat_lt, ap, sym, ◌∙◌, refl, subst}
 use Rattle.std.specs.List.{starts_with}
 use Rattle.std.proofs.lemmas.Iterator.{YieldsList}
 use Rattle.std.proofs.lemmas.Iterator.Consumers.{YieldsList-at, YieldsList-from_filter, YieldsList-turn, YieldsList-end}
-use Rattle.std.proofs.lemmas.Iterator.Splits.{YieldsList-from_slice_split}
+use Rattle.std.proofs.lemmas.Iterator.Splits.{YieldsList-from_str_split}
 use Rattle.commands.specs.declared.line.TheConstants.{MOST_OPERANDS}
 use Rattle.commands.specs.Grammar.{command_of, line_of, words_of}
 use Rattle.commands.proofs.Chains.{first_and_rest}
@@ -18,9 +18,8 @@ unfolding words_of
 words c =
     YieldsList-from_filter _ (λ w. nat_lt 0 (length w))
     (YieldsList-at c.filter-words.ensures.source
-    (YieldsList-from_slice_split _ (λ byte. byte == 32) c.args.text.now
-    c.split.ensures.rest c.split.ensures.done c.split.ensures.closure
-    (λ x r q k. search (rules, tests))))
+    (YieldsList-from_str_split 32 c.args.text.now (lit< tt)
+    c.split.ensures.text c.split.ensures.has_more c.split.ensures.pattern))
     c.filter-words.ensures.closure (λ x b q k. search (rules, tests))
 
 -- no word
