@@ -1,5 +1,5 @@
 -- Texts that are put before others.
-use Rattle.std.proofs.Common.{◌≡◌, ℕ, List, ◌++◌, ap, sym, ◌∙◌, append_assoc}
+use Rattle.std.proofs.Common.{ℕ, List, ◌++◌, ap, sym, ◌∙◌, append_assoc}
 use Rattle.commands.specs.declared.ending.Ending.{Ending}
 use Rattle.commands.specs.Endings.{Grows, held}
 
