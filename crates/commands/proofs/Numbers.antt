@@ -67,7 +67,8 @@ pub u64_of-value : (word : List ℕ) → 0 < length word → length word ≤ MOS
     → value_after 0 word ≡ u64_of word
 unfolding u64_of is_number
 u64_of-value word filled short =
-    value_checked 0 word (omega arith) ∙ rw (lt-ltb 0 (length word) filled, le-leb _ MOST_DIGITS short)
+    value_checked 0 word (omega arith)
+    ∙ rw (lt-ltb 0 (length word) filled, le-leb _ MOST_DIGITS short)
 
 pub u64_of-none : (word : List ℕ) → length word ≡ 0 → None ≡ u64_of word
 unfolding u64_of is_number

@@ -306,7 +306,8 @@ fn give(node: u8, to: &str, label: &str, register: &str) -> Option<Line>
 
 fn load(node: u8, register: &str, object: &str, place: &str) -> Option<Line>
     ensures { result ≡ acted node (of_three u16_of u16_of u8_of
-        (λ register object place. event.Load register object place) register.now object.now place.now) }
+        (λ register object place. event.Load register object place)
+        register.now object.now place.now) }
 {
     let (register, object, place) = (read_u16(register)?, read_u16(object)?, read_u8(place)?);
     act(
@@ -321,7 +322,8 @@ fn load(node: u8, register: &str, object: &str, place: &str) -> Option<Line>
 
 fn store(node: u8, object: &str, place: &str, register: &str) -> Option<Line>
     ensures { result ≡ acted node (of_three u16_of u8_of u16_of
-        (λ object place register. event.Store object place register) object.now place.now register.now) }
+        (λ object place register. event.Store object place register)
+        object.now place.now register.now) }
 {
     let (object, place, register) = (read_u16(object)?, read_u8(place)?, read_u16(register)?);
     act(
@@ -336,7 +338,8 @@ fn store(node: u8, object: &str, place: &str, register: &str) -> Option<Line>
 
 fn put(node: u8, object: &str, place: &str, register: &str) -> Option<Line>
     ensures { result ≡ acted node (of_three u16_of u8_of u16_of
-        (λ object place register. event.Put object place register) object.now place.now register.now) }
+        (λ object place register. event.Put object place register)
+        object.now place.now register.now) }
 {
     let (object, place, register) = (read_u16(object)?, read_u8(place)?, read_u16(register)?);
     act(

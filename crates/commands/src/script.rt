@@ -115,8 +115,8 @@ enum Reply {
 /// script can't be read, or a line is outside the grammar. The script is read to its end before its
 /// first line is run, and a line outside the grammar is the last one that is looked at.
 ///
-/// Each line is written in several calls, so a writer whose calls cost much is passed in a buffer;
-/// the output is flushed at the end. Where output failed, some of the text may have been written.
+/// What became of a step is written in one call, any other line in several, so a writer whose calls
+/// cost much is passed in a buffer; the output is flushed at the end. Where output failed, some of the text may have been written.
 pub fn sim<R: Read + Drop, W: Write>(alloc: Global, script: R, out: &mut W) -> u8
     ensures status { RunsScript (R.remaining script) result
         (W.contents out.old) (W.contents out.new) ⊎ (result ≡ 1) }

@@ -42,6 +42,7 @@ impl fmt::Display for OutcomeText {
     fn fmt<W: fmt::Write>(&self, f: &mut fmt::Formatter<W>) -> fmt::Result {
         let mut text = Ending::new();
         put_outcome(&mut text, self.0);
+        // (each of these texts is ASCII, but no clause says that)
         match str::from_utf8(text.as_bytes()) {
             Ok(text) => f.write_str(text),
             Err(_) => Err(fmt::Error),
