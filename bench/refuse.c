@@ -1,9 +1,10 @@
-/* Stands before the C library's allocator, and refuses requests for memory that a program makes of it: the one numbered
- * $REFUSE, counted from 1, or with $REFUSE_ALL that one and all later ones. At the program's end it writes how many there
- * were into the file $REQUESTS. A program is run with it by LD_PRELOAD; tests/memory does so. */
+/* Stands before the C library's allocator, and refuses requests for memory that a program's first thread makes of it: the
+ * one numbered $REFUSE, counted from 1, or with $REFUSE_ALL that one and all later ones. At the program's end it writes how
+ * many there were into the file $REQUESTS. A program is run with it by LD_PRELOAD; tests/memory does so. */
 #define _GNU_SOURCE
 #include <errno.h>
 #include <fcntl.h>
+#include <pthread.h>
 #include <stdio.h>
 #include <stdlib.h>
 #include <sys/syscall.h>
@@ -16,18 +17,23 @@ extern void *__libc_memalign(size_t align, size_t size);
 
 static unsigned long requests, refused;
 static int all;
+static pthread_t first;
 
 __attribute__((constructor)) static void begin(void) {
     const char *number = getenv("REFUSE");
     refused = number ? strtoul(number, NULL, 10) : 0;
     all = getenv("REFUSE_ALL") != NULL;
     requests = 0;
+    first = pthread_self();
 }
 
-/* Whether the request that comes now is refused. The program has one thread. */
+/* Whether the request that comes now is refused. Those of other threads come in any order, and none of them is. */
 static int refuses(void) {
+    if (!pthread_equal(pthread_self(), first)) return 0;
     requests++;
-    return refused && (all ? requests >= refused : requests == refused);
+    if (!refused || (all ? requests < refused : requests != refused)) return 0;
+    errno = ENOMEM;
+    return 1;
 }
 
 void *malloc(size_t size) { return refuses() ? NULL : __libc_malloc(size); }

@@ -1,5 +1,6 @@
 pub mod Calls
 pub mod Chains
+pub mod Endings
 pub mod Found
 pub mod Numbers
 pub mod Own

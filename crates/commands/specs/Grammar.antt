@@ -1,5 +1,5 @@
 -- The grammar of a script's lines.
-use Rattle.std.specs.Prelude.{ℕ, ◌^◌, Bool, true, ◌&&◌, nat_lt, nat_le, cond, ◌==◌, List, [], ◌∷◌, length, filter, Option, Some, None, codes, option_map, option_and_then}
+use Rattle.std.specs.Prelude.{ℕ, ◌+◌, ◌-◌, ◌*◌, ◌^◌, Bool, true, ◌&&◌, nat_lt, nat_le, cond, ◌==◌, List, [], ◌∷◌, length, filter, Option, Some, None, codes, option_map, option_and_then}
 use Rattle.std.specs.Char.{is_ascii_digit}
 use Rattle.std.specs.List.{slice_split, list_all, starts_with}
 use Rattle.std.specs.Str.{bytes_eq}
@@ -21,6 +21,13 @@ words_of text = filter (λ word. nat_lt 0 (length word)) (slice_split (λ byte. 
 unfoldable pub is_number : List ℕ → Bool
 is_number word =
     nat_lt 0 (length word) && (nat_le (length word) MOST_DIGITS && list_all is_ascii_digit word)
+
+-- the number that digits spell which follow those of n, where it is below 2 ^ 64
+abbrev pub value_after : ℕ → List ℕ → Option ℕ
+value_after n [] = Some n
+value_after n (c ∷ cs) =
+    let more = n * 10 + (c - 48) in
+    cond (is_ascii_digit c) (cond (nat_lt more (2 ^ 64)) (value_after more cs) None) None
 
 -- the number that a word spells, where it is below the limit
 abbrev pub number_below : ℕ → List ℕ → Option ℕ

@@ -1,4 +1,5 @@
 pub mod Called
+pub mod Endings
 pub mod Frames
 pub mod Freed
 pub mod Grammar

@@ -3,6 +3,7 @@
 //! the contract says so of every writer that says what it holds.
 #![tactic(auto)]
 
+mod ending;
 mod frames;
 mod freed;
 mod line;

@@ -1,10 +1,8 @@
 //! One line of a script. A line is told apart by its words and how many they are; what isn't in the
 //! grammar is none.
-ghost use Rattle.std.specs.Prelude.{◌≡◌, ◌≤◌, ◌<◌, ◌∷◌, [], length, map, take, None, IfNone, IfSome, IsTrue, MatchOption};
-ghost use Rattle.std.specs.Char.{is_ascii_digit};
-ghost use Rattle.std.specs.List.{list_all};
+ghost use Rattle.std.specs.Prelude.{◌≡◌, ◌≤◌, ◌<◌, ◌∷◌, [], length, map, take, None, Some, IfNone, IfSome, IsTrue, MatchOption, option_map};
 ghost use Rattle.model.specs.declared.event.Event.TheVariants as event;
-ghost use Rattle.commands.specs.Grammar.{alone, of_two, of_three, u8_of, delivery_of, hand_of, is_number, is_own_line, line_of, command_of, report_of, u64_of, u16_of, node_line_of, space_of, with_none, with_one, with_three, with_two, u32_of, words_of};
+ghost use Rattle.commands.specs.Grammar.{acted, alone, of_two, of_three, u8_of, delivery_of, hand_of, is_own_line, line_of, command_of, report_of, stepped, u64_of, u16_of, node_line_of, space_of, value_after, with_none, with_one, with_three, with_two, u32_of, words_of};
 
 use model::{Event, Step};
 
@@ -72,8 +70,8 @@ fn command(first: &str, words: &[&str]) -> Option<Line>
 {
     match first {
         "space" => space(words),
-        "deliver" => Some(Line::Step(delivery(words)?)),
-        "ack" => Some(Line::Step(hand(words)?)),
+        "deliver" => delivery(words),
+        "ack" => hand(words),
         "report" => report(words),
         node => node_line(read_u8(node)?, words),
     }
@@ -94,28 +92,28 @@ fn space(words: &[&str]) -> Option<Line>
 }
 
 #[tactic(auto, unfolding(crate::specs::Grammar::delivery_of))]
-fn delivery(words: &[&str]) -> Option<Step>
-    ensures { result ≡ delivery_of (map (λ w. w.now) words.now) }
+fn delivery(words: &[&str]) -> Option<Line>
+    ensures { result ≡ stepped (delivery_of (map (λ w. w.now) words.now)) }
 {
     let [from, to, number] = words else {
         return None;
     };
-    Some(Step::Deliver {
+    Some(Line::Step(Step::Deliver {
         from: read_u8(from)?,
         to: read_u8(to)?,
         number: read_u64(number)?,
-    })
+    }))
 }
 
 #[tactic(auto, unfolding(crate::specs::Grammar::hand_of))]
-fn hand(words: &[&str]) -> Option<Step>
-    ensures { result ≡ hand_of (map (λ w. w.now) words.now) }
+fn hand(words: &[&str]) -> Option<Line>
+    ensures { result ≡ stepped (hand_of (map (λ w. w.now) words.now)) }
 {
     let [from, to] = words else {
         return None;
     };
     let (from, to) = (read_u8(from)?, read_u8(to)?);
-    Some(Step::Hand { from, to })
+    Some(Line::Step(Step::Hand { from, to }))
 }
 
 #[tactic(auto, unfolding(crate::specs::Grammar::report_of))]
@@ -128,19 +126,19 @@ fn report(words: &[&str]) -> Option<Line>
     }
 }
 
-/// What stands after a node's number.
+/// What stands after a node's number. Each event's line is made in the function of its verb, as a
+/// whole: a part that was handed on would be copied there.
 #[tactic(auto, unfolding(crate::specs::Grammar::node_line_of))]
 fn node_line(node: u8, words: &[&str]) -> Option<Line>
     ensures { result ≡ node_line_of node (map (λ w. w.now) words.now) }
 {
-    let event = match words {
-        [verb] => return alone(node, verb),
-        [verb, a] => with_one(verb, a)?,
-        [verb, a, b] => with_two(verb, a, b)?,
-        [verb, a, b, c] => with_three(verb, a, b, c)?,
-        _ => return None,
-    };
-    Some(Line::Step(Step::Act(node, event)))
+    match words {
+        [verb] => alone(node, verb),
+        [verb, a] => with_one(node, verb, a),
+        [verb, a, b] => with_two(node, verb, a, b),
+        [verb, a, b, c] => with_three(node, verb, a, b, c),
+        _ => None,
+    }
 }
 
 /// What a verb says that stands alone after a node's number.
@@ -152,165 +150,222 @@ fn alone(node: u8, verb: &str) -> Option<Line>
         "save" => Some(Line::Step(Step::Save(node))),
         "restart" => Some(Line::Step(Step::Restart(node))),
         "state" => Some(Line::State(node)),
-        verb => Some(Line::Step(Step::Act(node, with_none(verb)?))),
+        verb => with_none(node, verb),
     }
+}
+
+/// The line that asks a node for an event.
+fn act(node: u8, event: Event) -> Option<Line>
+    ensures { result ≡ acted node (Some event) }
+{
+    Some(Line::Step(Step::Act(node, event)))
 }
 
 /// What a verb says with no operand.
 #[tactic(auto, unfolding(crate::specs::Grammar::with_none))]
-fn with_none(verb: &str) -> Option<Event>
-    ensures { result ≡ with_none verb.now }
+fn with_none(node: u8, verb: &str) -> Option<Line>
+    ensures { result ≡ acted node (with_none verb.now) }
 {
     match verb {
-        "begin" => Some(Event::Begin),
-        "scan" => Some(Event::Scan),
-        "pass" => Some(Event::Pass),
+        "begin" => act(node, Event::Begin),
+        "scan" => act(node, Event::Scan),
+        "pass" => act(node, Event::Pass),
         _ => None,
     }
 }
 
 /// What a verb says with one operand.
 #[tactic(auto, unfolding(crate::specs::Grammar::with_one))]
-fn with_one(verb: &str, a: &str) -> Option<Event>
-    ensures { result ≡ with_one verb.now a.now }
+fn with_one(node: u8, verb: &str, a: &str) -> Option<Line>
+    ensures { result ≡ acted node (with_one verb.now a.now) }
 {
     match verb {
-        "drop" => read_u16(a).map(|register| Event::Drop { register }),
-        "accept" => read_u16(a).map(|register| Event::Accept { register }),
-        "word" => read_u16(a).map(|object| Event::Word { object }),
-        "sweep" => read_u32(a).map(|count| Event::Sweep { count }),
-        "next" => read_u8(a).map(|from| Event::Next { from }),
+        "drop" => drop(node, a),
+        "accept" => accept(node, a),
+        "word" => word(node, a),
+        "sweep" => sweep(node, a),
+        "next" => next(node, a),
         _ => None,
     }
+}
+
+fn drop(node: u8, register: &str) -> Option<Line>
+    ensures { result
+        ≡ acted node (option_map (λ register. event.Drop register) (u16_of register.now)) }
+{
+    let register = read_u16(register)?;
+    act(node, Event::Drop { register })
+}
+
+fn accept(node: u8, register: &str) -> Option<Line>
+    ensures { result
+        ≡ acted node (option_map (λ register. event.Accept register) (u16_of register.now)) }
+{
+    let register = read_u16(register)?;
+    act(node, Event::Accept { register })
+}
+
+fn word(node: u8, object: &str) -> Option<Line>
+    ensures { result
+        ≡ acted node (option_map (λ object. event.Word object) (u16_of object.now)) }
+{
+    let object = read_u16(object)?;
+    act(node, Event::Word { object })
+}
+
+fn sweep(node: u8, count: &str) -> Option<Line>
+    ensures { result
+        ≡ acted node (option_map (λ count. event.Sweep count) (u32_of count.now)) }
+{
+    let count = read_u32(count)?;
+    act(node, Event::Sweep { count })
+}
+
+fn next(node: u8, from: &str) -> Option<Line>
+    ensures { result
+        ≡ acted node (option_map (λ from. event.Next from) (u8_of from.now)) }
+{
+    let from = read_u8(from)?;
+    act(node, Event::Next { from })
 }
 
 /// What a verb says with two operands.
 #[tactic(auto, unfolding(crate::specs::Grammar::with_two))]
-fn with_two(verb: &str, a: &str, b: &str) -> Option<Event>
-    ensures { result ≡ with_two verb.now a.now b.now }
+fn with_two(node: u8, verb: &str, a: &str, b: &str) -> Option<Line>
+    ensures { result ≡ acted node (with_two verb.now a.now b.now) }
 {
     match verb {
-        "alloc" => alloc(a, b),
-        "copy" => copy(a, b),
-        "clear" => clear(a, b),
-        "setword" => set_word(a, b),
+        "alloc" => alloc(node, a, b),
+        "copy" => copy(node, a, b),
+        "clear" => clear(node, a, b),
+        "setword" => set_word(node, a, b),
         _ => None,
     }
 }
 
-fn alloc(register: &str, places: &str) -> Option<Event>
-    ensures { result ≡ of_two u16_of u8_of (λ register places. event.Alloc register places)
-        register.now places.now }
+fn alloc(node: u8, register: &str, places: &str) -> Option<Line>
+    ensures { result ≡ acted node (of_two u16_of u8_of
+        (λ register places. event.Alloc register places) register.now places.now) }
 {
-    Some(Event::Alloc {
-        register: read_u16(register)?,
-        places: read_u8(places)?,
-    })
+    let (register, places) = (read_u16(register)?, read_u8(places)?);
+    act(node, Event::Alloc { register, places })
 }
 
-fn copy(register: &str, source: &str) -> Option<Event>
-    ensures { result ≡ of_two u16_of u16_of (λ register source. event.Copy register source)
-        register.now source.now }
+fn copy(node: u8, register: &str, source: &str) -> Option<Line>
+    ensures { result ≡ acted node (of_two u16_of u16_of
+        (λ register source. event.Copy register source) register.now source.now) }
 {
-    Some(Event::Copy {
-        register: read_u16(register)?,
-        source: read_u16(source)?,
-    })
+    let (register, source) = (read_u16(register)?, read_u16(source)?);
+    act(node, Event::Copy { register, source })
 }
 
-fn clear(object: &str, place: &str) -> Option<Event>
-    ensures { result ≡ of_two u16_of u8_of (λ object place. event.Clear object place)
-        object.now place.now }
+fn clear(node: u8, object: &str, place: &str) -> Option<Line>
+    ensures { result ≡ acted node (of_two u16_of u8_of
+        (λ object place. event.Clear object place) object.now place.now) }
 {
-    Some(Event::Clear {
-        object: read_u16(object)?,
-        place: read_u8(place)?,
-    })
+    let (object, place) = (read_u16(object)?, read_u8(place)?);
+    act(node, Event::Clear { object, place })
 }
 
-fn set_word(object: &str, word: &str) -> Option<Event>
-    ensures { result ≡ of_two u16_of u64_of (λ object word. event.SetWord object word)
-        object.now word.now }
+fn set_word(node: u8, object: &str, word: &str) -> Option<Line>
+    ensures { result ≡ acted node (of_two u16_of u64_of
+        (λ object word. event.SetWord object word) object.now word.now) }
 {
-    Some(Event::SetWord {
-        object: read_u16(object)?,
-        word: read_u64(word)?,
-    })
+    let (object, word) = (read_u16(object)?, read_u64(word)?);
+    act(node, Event::SetWord { object, word })
 }
 
 /// What a verb says with three operands.
 #[tactic(auto, unfolding(crate::specs::Grammar::with_three))]
-fn with_three(verb: &str, a: &str, b: &str, c: &str) -> Option<Event>
-    ensures { result ≡ with_three verb.now a.now b.now c.now }
+fn with_three(node: u8, verb: &str, a: &str, b: &str, c: &str) -> Option<Line>
+    ensures { result ≡ acted node (with_three verb.now a.now b.now c.now) }
 {
     match verb {
-        "give" => give(a, b, c),
-        "load" => load(a, b, c),
-        "store" => store(a, b, c),
-        "put" => put(a, b, c),
-        "get" => get(a, b, c),
+        "give" => give(node, a, b, c),
+        "load" => load(node, a, b, c),
+        "store" => store(node, a, b, c),
+        "put" => put(node, a, b, c),
+        "get" => get(node, a, b, c),
         _ => None,
     }
 }
 
-fn give(to: &str, label: &str, register: &str) -> Option<Event>
-    ensures { result ≡ of_three u8_of u32_of u16_of
-        (λ to label register. event.Give to label register)
-        to.now label.now register.now }
+fn give(node: u8, to: &str, label: &str, register: &str) -> Option<Line>
+    ensures { result ≡ acted node (of_three u8_of u32_of u16_of
+        (λ to label register. event.Give to label register) to.now label.now register.now) }
 {
-    Some(Event::Give {
-        to: read_u8(to)?,
-        label: read_u32(label)?,
-        register: read_u16(register)?,
-    })
+    let (to, label, register) = (read_u8(to)?, read_u32(label)?, read_u16(register)?);
+    act(
+        node,
+        Event::Give {
+            to,
+            label,
+            register,
+        },
+    )
 }
 
-fn load(register: &str, object: &str, place: &str) -> Option<Event>
-    ensures { result ≡ of_three u16_of u16_of u8_of
+fn load(node: u8, register: &str, object: &str, place: &str) -> Option<Line>
+    ensures { result ≡ acted node (of_three u16_of u16_of u8_of
         (λ register object place. event.Load register object place)
-        register.now object.now place.now }
+        register.now object.now place.now) }
 {
-    Some(Event::Load {
-        register: read_u16(register)?,
-        object: read_u16(object)?,
-        place: read_u8(place)?,
-    })
+    let (register, object, place) = (read_u16(register)?, read_u16(object)?, read_u8(place)?);
+    act(
+        node,
+        Event::Load {
+            register,
+            object,
+            place,
+        },
+    )
 }
 
-fn store(object: &str, place: &str, register: &str) -> Option<Event>
-    ensures { result ≡ of_three u16_of u8_of u16_of
+fn store(node: u8, object: &str, place: &str, register: &str) -> Option<Line>
+    ensures { result ≡ acted node (of_three u16_of u8_of u16_of
         (λ object place register. event.Store object place register)
-        object.now place.now register.now }
+        object.now place.now register.now) }
 {
-    Some(Event::Store {
-        object: read_u16(object)?,
-        place: read_u8(place)?,
-        register: read_u16(register)?,
-    })
+    let (object, place, register) = (read_u16(object)?, read_u8(place)?, read_u16(register)?);
+    act(
+        node,
+        Event::Store {
+            object,
+            place,
+            register,
+        },
+    )
 }
 
-fn put(object: &str, place: &str, register: &str) -> Option<Event>
-    ensures { result ≡ of_three u16_of u8_of u16_of
+fn put(node: u8, object: &str, place: &str, register: &str) -> Option<Line>
+    ensures { result ≡ acted node (of_three u16_of u8_of u16_of
         (λ object place register. event.Put object place register)
-        object.now place.now register.now }
+        object.now place.now register.now) }
 {
-    Some(Event::Put {
-        object: read_u16(object)?,
-        place: read_u8(place)?,
-        register: read_u16(register)?,
-    })
+    let (object, place, register) = (read_u16(object)?, read_u8(place)?, read_u16(register)?);
+    act(
+        node,
+        Event::Put {
+            object,
+            place,
+            register,
+        },
+    )
 }
 
-fn get(object: &str, place: &str, label: &str) -> Option<Event>
-    ensures { result ≡ of_three u16_of u8_of u32_of
-        (λ object place label. event.Get object place label)
-        object.now place.now label.now }
+fn get(node: u8, object: &str, place: &str, label: &str) -> Option<Line>
+    ensures { result ≡ acted node (of_three u16_of u8_of u32_of
+        (λ object place label. event.Get object place label) object.now place.now label.now) }
 {
-    Some(Event::Get {
-        object: read_u16(object)?,
-        place: read_u8(place)?,
-        label: read_u32(label)?,
-    })
+    let (object, place, label) = (read_u16(object)?, read_u8(place)?, read_u32(label)?);
+    act(
+        node,
+        Event::Get {
+            object,
+            place,
+            label,
+        },
+    )
 }
 
 /// The number that the word spells, where it fits.
@@ -338,26 +393,31 @@ fn read_u32(word: &str) -> Option<u32>
 }
 
 /// The number that the word spells, where it fits.
-#[tactic(auto, unfolding(crate::specs::Grammar::u64_of))]
 fn read_u64(word: &str) -> Option<u64>
     ensures { result ≡ u64_of word.now }
 {
-    if !is_number(word) {
+    let digits = word.as_bytes();
+    if digits.is_empty() {
         return None;
     }
-    word.parse::<u64>().ok()
+    if digits.len() > MOST_DIGITS {
+        return None;
+    }
+    value_of(digits)
 }
 
-/// Whether the word is one digit or more, but not too many, and nothing else.
-#[tactic(auto, unfolding(crate::specs::Grammar::is_number))]
-fn is_number(word: &str) -> bool
-    ensures { result ≡ is_number word.now }
+/// The number that digits spell, where it fits.
+fn value_of(digits: &[u8]) -> Option<u64>
+    ensures { result ≡ value_after 0 digits.now }
 {
-    !word.is_empty() && word.len() <= MOST_DIGITS && are_digits(word.as_bytes())
-}
-
-fn are_digits(word: &[u8]) -> bool
-    ensures { result ≡ list_all is_ascii_digit word.now }
-{
-    word.iter().all(|byte| byte.is_ascii_digit())
+    let mut number: u64 = 0;
+    for byte in digits {
+        if !byte.is_ascii_digit() {
+            return None;
+        }
+        number = number
+            .checked_mul(10)?
+            .checked_add(u64::from(*byte - b'0'))?;
+    }
+    Some(number)
 }

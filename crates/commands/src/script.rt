@@ -7,7 +7,7 @@ ghost use Rattle.model.specs.World.{World, FollowsStep, new_world, is_own_step, 
 ghost use Rattle.node.specs.Keeping.{Rings};
 ghost use Rattle.world.specs.Shows.{summary_at};
 ghost use Rattle.world.specs.Spaces.{KeepsAfter, ShowsSpace, step_met};
-ghost use Rattle.commands.specs.Freed.{KeepsSums, freed_after};
+ghost use Rattle.commands.specs.Freed.{KeepsSums, freed_with};
 ghost use Rattle.commands.specs.Grammar.{line_of, words_of};
 ghost use Rattle.commands.specs.Script.{MayBeTooLarge, Moves, PrintsNoScript, PrintsReplies};
 ghost use Rattle.commands.specs.Script.{RunsScript, TakesLine, TakesReport, TakesSpace};
@@ -16,7 +16,7 @@ ghost use Rattle.commands.specs.Text.{cycle_line, report_text};
 
 use crate::freed::{Freed, freed_in, sweeper};
 use crate::line::Line;
-use crate::text::{OutcomeText, SummaryText};
+use crate::text::{SummaryText, outcome_line};
 use ids::{Refusal, Shape};
 use model::{Outcome, Step};
 use node::Summary;
@@ -116,8 +116,8 @@ enum Reply {
 /// script can't be read, or a line is outside the grammar. The script is read to its end before its
 /// first line is run, and a line outside the grammar is the last one that is looked at.
 ///
-/// Each line is written in several calls, so a writer whose calls cost much is passed in a buffer;
-/// the output is flushed at the end. Where output failed, some of the text may have been written.
+/// What became of a step is written in one call, any other line in several, so a writer whose calls
+/// cost much is passed in a buffer; the output is flushed at the end. Where output failed, some of the text may have been written.
 pub fn sim<R: Read + Drop, W: Write>(alloc: Global, script: R, out: &mut W) -> u8
     ensures status { RunsScript (R.remaining script) result
         (W.contents out.old) (W.contents out.new) ⊎ (result ≡ 1) }
@@ -187,7 +187,7 @@ fn print_reply<W: Write>(out: &mut W, number: usize, reply: &Reply) -> io::Resul
 {
     match reply {
         Reply::Nothing => Ok(()),
-        Reply::Outcome(outcome) => writeln!(out, "{}", OutcomeText(*outcome)),
+        Reply::Outcome(outcome) => out.write_all(outcome_line(*outcome).as_bytes()),
         Reply::Summary(summary) => writeln!(out, "{}", SummaryText(*summary)),
         Reply::Report(sums) => print_report(out, sums),
         Reply::Refused(refusal) => writeln!(out, "refused {refusal}"),
@@ -282,22 +282,25 @@ fn take_step<S: Space>(state: &mut State<S>, step: Step) -> Reply
     match state {
         State::Unopened => Reply::NoCommand,
         State::Refused(refusal) => Reply::Refused(*refusal),
-        State::Open { space, freed } => match space.step(step) {
-            Ok(outcome) => {
-                note(space, freed, step, outcome);
-                Reply::Outcome(outcome)
+        State::Open { space, freed } => {
+            let swept = sweeper(&step);
+            match space.step(step) {
+                Ok(outcome) => {
+                    note(space, freed, swept, freed_in(&outcome));
+                    Reply::Outcome(outcome)
+                }
+                Err(refusal) => Reply::Refused(refusal),
             }
-            Err(refusal) => Reply::Refused(refusal),
-        },
+        }
     }
 }
 
-/// Adds what a sweep freed to the sum of its node's cycle.
-fn note<S: Space>(space: &S, freed: &mut Freed, step: Step, outcome: Outcome)
+/// Adds what a sweep of this node freed to the sum of the node's cycle.
+fn note<S: Space>(space: &S, freed: &mut Freed, swept: Option<u8>, count: Option<u32>)
     ensures { (w : World) (sums : List ℕ) → S.shows space.now w → KeepsSums freed.old.sums sums
-        → KeepsSums freed.new.sums (freed_after w step outcome sums) }
+        → KeepsSums freed.new.sums (freed_with w swept count sums) }
 {
-    let (Some(node), Some(count)) = (sweeper(&step), freed_in(&outcome)) else {
+    let (Some(node), Some(count)) = (swept, count) else {
         return;
     };
     if let Some(summary) = space.state(node) {

@@ -1,15 +1,23 @@
 //! The texts of what a script's lines come to. Each outcome has one text, which a definition gives
 //! too.
-ghost use Rattle.std.specs.Prelude.{◌≡◌, Some, IfOk, IfErr, string_bytes};
+ghost use Rattle.std.specs.Prelude.{◌≡◌, ◌≤◌, ◌+◌, ◌∷◌, [], ◌++◌, Some, IfOk, IfErr, codes, decimal, length, string_bytes};
+ghost use Rattle.ids.specs.Texts.{reference_text};
 ghost use Rattle.ids.specs.declared.refusal.Refusal.TheVariants.{Memory};
-ghost use Rattle.commands.specs.Text.{answer_text as said, counts_text, cycles_text, done_or_more, letter_text, outcome_text, ring_text, summary_text, yes_or_no};
+ghost use Rattle.commands.specs.Endings.{Grows, held};
+ghost use Rattle.commands.specs.declared.ending.TheConstants.{ROOM};
+ghost use Rattle.commands.specs.declared.text.TheConstants.{LONGEST};
+ghost use Rattle.commands.specs.Text.{answer_text as said, counts_text, cycles_text, done_or_more, freed_text, letter_text, outcome_text, passed_text, ring_text, summary_text, yes_or_no};
 
-use ids::{RefOrDash, Refusal};
+use crate::ending::Ending;
+use ids::{Ref, Refusal};
 use model::{Answer, Letter, Outcome};
-use msg::Token;
+use msg::{Colour, Token};
 use node::Summary;
 use std::alloc::Global;
-use std::fmt;
+use std::{fmt, str};
+
+/// The most bytes that what became of a step takes.
+const LONGEST: usize = 120;
 
 /// The text of what became of a step: a reference, a reference or `-` for what stood in a place, an
 /// object's word, `ok`, `sent` and the message's number, `from`, the sender, `label`, the label and
@@ -33,58 +41,129 @@ impl fmt::Display for OutcomeText {
     ghost output = { λ t. Some (outcome_text t.0) };
 
     fn fmt<W: fmt::Write>(&self, f: &mut fmt::Formatter<W>) -> fmt::Result {
-        match self.0 {
-            Outcome::Answer(answer) => write!(f, "{}", AnswerText(answer)),
-            Outcome::Done => write!(f, "ok"),
-            Outcome::Handed(number) => write!(f, "ack {number}"),
-            Outcome::NoFrame => write!(f, "no frame"),
+        let mut text = Ending::new();
+        put_outcome(&mut text, self.0);
+        // (each of these texts is ASCII, but no clause says that)
+        match str::from_utf8(text.as_bytes()) {
+            Ok(text) => f.write_str(text),
+            Err(_) => Err(fmt::Error),
         }
     }
 }
 
-/// Writes what a node answered.
-#[derive(Clone, Copy)]
-struct AnswerText(Answer);
+/// The line of what became of a step that was not refused.
+pub(crate) fn outcome_line(outcome: Outcome) -> Ending
+    ensures line { held result ≡ outcome_text outcome ++ 10 ∷ [] }
+    ensures room { result.start ≤ ROOM }
+{
+    let mut line = Ending::new();
+    line.put_byte(b'\n');
+    put_outcome(&mut line, outcome);
+    line
+}
 
-impl fmt::Display for AnswerText {
-    ghost output = { λ t. Some (said t.0) };
-
-    fn fmt<W: fmt::Write>(&self, f: &mut fmt::Formatter<W>) -> fmt::Result {
-        match self.0 {
-            Answer::New(reference) => write!(f, "{reference}"),
-            Answer::Done => write!(f, "ok"),
-            Answer::Value(value) => write!(f, "{}", RefOrDash(value)),
-            Answer::Word(word) => write!(f, "{word}"),
-            Answer::Sent(number) => write!(f, "sent {number}"),
-            Answer::Letter(letter) => write!(f, "{}", LetterText(letter)),
-            Answer::Begun(cycle) => write!(f, "cycle {cycle}"),
-            Answer::Scanned(reference) => write!(f, "scanned {reference}"),
-            Answer::Passed(Token { colour, q }) => write!(f, "passed {q} {colour}"),
-            Answer::ProbeAgain => write!(f, "probe again"),
-            Answer::Ended(cycle) => write!(f, "ended {cycle}"),
-            Answer::Freed { count, done } => write!(f, "freed {count} {}", done_or_more(done)),
-            Answer::Received => write!(f, "received"),
-            Answer::Repeat => write!(f, "repeat"),
-            Answer::Early => write!(f, "early"),
-        }
+/// Puts what became of a step that was not refused before a text.
+#[tactic(auto, using(crate::proofs::Endings::both))]
+fn put_outcome(text: &mut Ending, outcome: Outcome)
+    requires { (LONGEST ≤ text.old.start) × (text.old.start ≤ ROOM) }
+    ensures grows { Grows (outcome_text outcome) text.old text.new }
+    ensures room { text.new.start ≤ text.old.start }
+{
+    match outcome {
+        Outcome::Answer(answer) => put_answer(text, answer),
+        Outcome::Done => text.put(b"ok"),
+        Outcome::Handed(number) => put_named(text, b"ack ", number),
+        Outcome::NoFrame => text.put(b"no frame"),
     }
 }
 
-/// Writes a letter that a program took.
-#[derive(Clone, Copy)]
-struct LetterText(Letter);
-
-impl fmt::Display for LetterText {
-    ghost output = { λ t. Some (letter_text t.0) };
-
-    fn fmt<W: fmt::Write>(&self, f: &mut fmt::Formatter<W>) -> fmt::Result {
-        let Letter {
-            from,
-            label,
-            reference,
-        } = self.0;
-        write!(f, "from {from} label {label} {}", RefOrDash(reference))
+/// Puts what a node answered before a text.
+#[tactic(auto, using(crate::proofs::Endings::both))]
+fn put_answer(text: &mut Ending, answer: Answer)
+    requires { (LONGEST ≤ text.old.start) × (text.old.start ≤ ROOM) }
+    ensures grows { Grows (said answer) text.old text.new }
+    ensures room { text.new.start ≤ text.old.start }
+{
+    match answer {
+        Answer::New(reference) => text.put_reference(reference),
+        Answer::Done => text.put(b"ok"),
+        Answer::Value(value) => text.put_optional(value),
+        Answer::Word(word) => text.put_number(word),
+        Answer::Sent(number) => put_named(text, b"sent ", number),
+        Answer::Letter(letter) => put_letter(text, letter),
+        Answer::Begun(cycle) => put_named(text, b"cycle ", cycle),
+        Answer::Scanned(reference) => put_scanned(text, reference),
+        Answer::Passed(token) => put_passed(text, token),
+        Answer::ProbeAgain => text.put(b"probe again"),
+        Answer::Ended(cycle) => put_named(text, b"ended ", cycle),
+        Answer::Freed { count, done } => put_freed(text, count, done),
+        Answer::Received => text.put(b"received"),
+        Answer::Repeat => text.put(b"repeat"),
+        Answer::Early => text.put(b"early"),
     }
+}
+
+/// Puts a number, and its name before that.
+#[tactic(auto, using(crate::proofs::Endings::both))]
+fn put_named(text: &mut Ending, name: &[u8], number: u64)
+    requires { (length name.now + 20 ≤ text.old.start) × (text.old.start ≤ ROOM) }
+    ensures grows { Grows (name.now ++ decimal number) text.old text.new }
+    ensures room { text.new.start ≤ text.old.start }
+{
+    text.put_number(number);
+    text.put(name);
+}
+
+/// Puts a letter that a program took before a text.
+#[tactic(auto, using(crate::proofs::Endings::both))]
+fn put_letter(text: &mut Ending, letter: Letter)
+    requires { (LONGEST ≤ text.old.start) × (text.old.start ≤ ROOM) }
+    ensures grows { Grows (letter_text letter) text.old text.new }
+    ensures room { text.new.start ≤ text.old.start }
+{
+    text.put_optional(letter.reference);
+    text.put_byte(b' ');
+    text.put_number(u64::from(letter.label));
+    text.put(b" label ");
+    text.put_number(u64::from(letter.from));
+    text.put(b"from ");
+}
+
+#[tactic(auto, using(crate::proofs::Endings::both))]
+fn put_scanned(text: &mut Ending, reference: Ref)
+    requires { (LONGEST ≤ text.old.start) × (text.old.start ≤ ROOM) }
+    ensures grows { Grows (codes "scanned " ++ reference_text reference) text.old text.new }
+    ensures room { text.new.start ≤ text.old.start }
+{
+    text.put_reference(reference);
+    text.put(b"scanned ");
+}
+
+#[tactic(auto, using(crate::proofs::Endings::both))]
+fn put_passed(text: &mut Ending, token: Token)
+    requires { (LONGEST ≤ text.old.start) × (text.old.start ≤ ROOM) }
+    ensures grows { Grows (passed_text token) text.old text.new }
+    ensures room { text.new.start ≤ text.old.start }
+{
+    match token.colour {
+        Colour::White => text.put(b"white"),
+        Colour::Black => text.put(b"black"),
+    }
+    text.put_byte(b' ');
+    text.put_signed(token.q);
+    text.put(b"passed ");
+}
+
+#[tactic(auto, using(crate::proofs::Endings::both))]
+fn put_freed(text: &mut Ending, count: u32, done: bool)
+    requires { (LONGEST ≤ text.old.start) × (text.old.start ≤ ROOM) }
+    ensures grows { Grows (freed_text count done) text.old text.new }
+    ensures room { text.new.start ≤ text.old.start }
+{
+    text.put(done_or_more(done).as_bytes());
+    text.put_byte(b' ');
+    text.put_number(u64::from(count));
+    text.put(b"freed ");
 }
 
 /// Writes a node in numbers.

@@ -1,4 +1,5 @@
 use Rattle.std.proofs.Common.{subst, rules}
+use Rattle.commands.specs.Freed.{KeepsSums, freed_in, freed_with}
 use Rattle.commands.specs.Script.{ShowsHeld}
 use Rattle.commands.proofs.Replies.{outcome_shows, refusal_shows}
 use Rattle.commands.proofs.script.take_step.Goals as goal
@@ -9,7 +10,11 @@ returns-in-Ok g c =
     let keeps = g.S.Space.keeps in
     λ h shown. outcome_shows shows keeps h c.args.step c.in-Open.space _ c.in-Open.freed _ _
     (subst (λ s. ShowsHeld shows keeps s h) c.in-Open.is shown) c.in-Ok.ensures.follows
-    c.in-Ok.ensures.early c.note.ensures
+    c.in-Ok.ensures.early
+    (λ w sums there kept. subst (λ s. KeepsSums c.note.new.freed.sums
+    (freed_with w s (freed_in c.in-Ok.outcome) sums)) c.sweeper-swept.ensures
+    (subst (λ o. KeepsSums c.note.new.freed.sums (freed_with w c.sweeper-swept.result o sums))
+    c.freed_in.ensures (c.note.ensures w sums there kept)))
 
 -- what has to hold of the refusal is searched for, so that another one fails at the fact that it
 -- breaks
