@@ -11,9 +11,11 @@ mod ended;
 mod events;
 mod files;
 mod frames;
+mod lent;
 mod mailboxes;
 mod names;
 mod nodes;
+mod openings;
 mod out;
 mod players;
 mod programs;
@@ -162,6 +164,7 @@ fn take_simple(
     match subject {
         "node" => nodes::run(alloc, lines, out),
         "disk" => disks::run(alloc, lines, out),
+        "opening" => openings::run(alloc, lines, out),
         "bytes" => frames::run(alloc, lines, out),
         "names" => names::run(lines, out),
         "lists" => reaching::run(alloc, lines, out),

@@ -133,7 +133,8 @@ fn gate<R: Clone + Drop>(
     Ok(Arc::new(alloc, held)?)
 }
 
-fn text_of(alloc: Global, size: Size) -> Result<String, AllocError> {
+/// The text of a configuration of this size, on disks in memory.
+pub(crate) fn text_of(alloc: Global, size: Size) -> Result<String, AllocError> {
     let Size {
         nodes,
         slots,
@@ -142,7 +143,8 @@ fn text_of(alloc: Global, size: Size) -> Result<String, AllocError> {
     format!(in alloc; "nodes = {nodes}\nregisters = 3\nslots = {slots}\nturns = {turns}\n")
 }
 
-fn disks(alloc: Global, nodes: u8) -> Result<Vec<MemoryDisk>, AllocError> {
+/// So many new disks in memory.
+pub(crate) fn disks(alloc: Global, nodes: u8) -> Result<Vec<MemoryDisk>, AllocError> {
     let mut disks = Vec::new(alloc);
     for _ in 0..nodes {
         disks.push(MemoryDisk::new(alloc))?;
