@@ -59,7 +59,8 @@ fn open(alloc: Global, held: &mut [MemoryDisk], out: &mut Out) {
 fn opened(alloc: Global, held: &mut [MemoryDisk]) -> Result<(), OpenFault> {
     let config = config_of(alloc, held.len())?;
     let mut lent = Vec::new(alloc);
-    for disk in held.iter_mut() {
+    let disks = held.iter_mut();
+    for disk in disks {
         if lent.push(Lent { disk }).is_err() {
             return Err(OpenFault::Refused(Refusal::Memory));
         }
