@@ -117,7 +117,8 @@ enum Reply {
 /// first line is run, and a line outside the grammar is the last one that is looked at.
 ///
 /// What became of a step is written in one call, any other line in several, so a writer whose calls
-/// cost much is passed in a buffer; the output is flushed at the end. Where output failed, some of the text may have been written.
+/// cost much is passed in a buffer; the output is flushed at the end. Where output failed, some of
+/// the text may have been written.
 pub fn sim<R: Read + Drop, W: Write>(alloc: Global, script: R, out: &mut W) -> u8
     ensures status { RunsScript (R.remaining script) result
         (W.contents out.old) (W.contents out.new) ⊎ (result ≡ 1) }

@@ -82,7 +82,8 @@ module _ (shape : Shaped) (sizes : IsShape shape) where
         (g : ℕ) (o : Object) (j : ℕ) → s ≡ Occupied g o
         → IfAny (IsWithin shape) (get_or o.places j None)
 
-    one_slot : (s : Slot) → IsSlotOf cycle s → Places s → (slot_format Second).IsWithin (stored_slot s)
+    one_slot : (s : Slot) → IsSlotOf cycle s → Places s
+        → (slot_format Second).IsWithin (stored_slot s)
     unfolding slot_format object_format places_format width_format number4 number8
     one_slot (Free g) is places = tt
     one_slot (Occupied g o) is places = (
@@ -316,7 +317,8 @@ module _ (n : NodeView) (is : IsNode n) where
       others p.shape is.shape p.own n.links p.got (λ i k. is.links.messages i k) in
       let slots_within : (slots_format Second).IsWithin (slots_of (stored_by n)) =
       ((tt, (refl, slots)), ((tt, (refl, free)), (tt, (refl, grey)))) in
-      let others_within : (others_format Second (stored_by n).head).IsWithin (others_of (stored_by n)) =
+      let said : Stored = stored_by n in
+      let others_within : (others_format Second said.head).IsWithin (others_of said) =
       ((tt, (refl, asked)), ((tt, (refl, waiting)), (width, links))) in
       (((told, reports), (is.stocked.registers, registers)), (slots_within, others_within))
 

@@ -48,7 +48,8 @@ fn put_message(out: &mut Writer, message: Message)
 #[tactic(auto, using(crate::proofs::Joins::unwritten))]
 fn put_each_message(out: &mut Writer, links: &Links, to: u8)
     requires { to < length links.now.links }
-    ensures { PutsAll (message_format Second) out.old out.new (link_at links.now to).unacknowledged }
+    ensures { PutsAll (message_format Second) out.old out.new
+        (link_at links.now to).unacknowledged }
 {
     for place in 0..message_count(links, to) {
         put_message(out, message_at(links, to, place));

@@ -22,9 +22,9 @@ use safra::Ring;
 use std::alloc::Global;
 use std::collections::VecDeque;
 
-/// The node whose image the bytes are, all of the bytes, in either version. All of its messages count as held by a
-/// saved node, and so does all that it took in; it keeps no message before its turn. It takes
-/// memory in proportion to the bytes, and time likewise.
+/// The node whose image the bytes are, all of the bytes, in either version. All of its messages
+/// count as held by a saved node, and so does all that it took in; it keeps no message before its
+/// turn. It takes memory in proportion to the bytes, and time likewise.
 ///
 /// # Errors
 ///

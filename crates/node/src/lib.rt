@@ -1,3 +1,4 @@
+#![tactic(auto)]
 //! One node of the space: an event is one step of the definitions in `model`, for every state that
 //! the node shows, and a refused event changes no state. [`Core`] is what is saved of a node;
 //! [`Node`] keeps besides it the messages that came before their turn.
@@ -99,7 +100,6 @@
 //! registers, letters and messages of programs, and in every object that a node still has the same
 //! word and places. Where a program asks for an object it has a reference, so the object is
 //! reachable, hence live: both make the same tests and give the same answer.
-#![tactic(auto)]
 
 mod keeping;
 mod node;

@@ -11,6 +11,7 @@ loop-place-preserved c =
     let k = c.loop-place.place in
     let within : k < length messages =
     subst (λ (n : ℕ). k < n) c.message_count-place-end.ensures.value c.loop-place-test.true in
-    written_more (message_format Second).spell (message_format Second).IsWide messages k c.message_at.result within
+    written_more (message_format Second).spell (message_format Second).IsWide messages k
+    c.message_at.result within
     c.message_at.ensures c.args.out.now c.loop-place.out c.put_message.new.out
     c.loop-place.invariant c.put_message.ensures

@@ -7,4 +7,5 @@ use Rattle.image.proofs.links.put_each_message.Given as goal
 
 abbrev pub invariant-loop-place : goal.invariant-loop-place
 invariant-loop-place l =
-    PutsAll (message_format Second) l.fn.out l.out (take l.place (link_at l.links l.to).unacknowledged)
+    PutsAll (message_format Second) l.fn.out l.out
+    (take l.place (link_at l.links l.to).unacknowledged)

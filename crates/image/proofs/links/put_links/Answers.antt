@@ -18,7 +18,8 @@ loop-to-preserved c =
     let more = others_more own to v.links v.got within c.width-to-end.ensures.sound.received in
     let before = without_at own (take to (stored_links v.links v.got)) in
     subst (PutsAll (link_format Second) c.args.out.now c.put_other.new.out) (sym more)
-    (written_also (link_format Second).spell (link_format Second).IsWide before _ c.args.out.now c.loop-to.out
+    (written_also (link_format Second).spell (link_format Second).IsWide before _
+    c.args.out.now c.loop-to.out
     c.put_other.new.out c.loop-to.invariant c.put_other.ensures)
 
 pub returns : goal.returns

@@ -9,6 +9,7 @@ use Rattle.image.proofs.lists.many.Goals as goal
 pub returns-in_err-part-clause-value : goal.returns-in_err-part-clause-value
 unfolding many_at
 returns-in_err-part-clause-value g c =
+    let read = (g.T.Readable.format c.args.version).read in
     let there : ltb (length c.args.bytes.now) c.args.count ≡ false =
     le-ltb _ _ c.if-count-bytes.false in
     let p =
@@ -17,17 +18,19 @@ returns-in_err-part-clause-value g c =
     let sub = c.in_err-part.ensures other in (
       sub.0,
       rw there
-          (ends (g.T.Readable.format c.args.version).read c.loop-part.parts.items c.args.count c.loop-part._part
-          c.loop-part.rest.now (each_at (g.T.Readable.format c.args.version).read c.args.count c.args.bytes.now)
+          (ends read c.loop-part.parts.items c.args.count c.loop-part._part
+          c.loop-part.rest.now (each_at read c.args.count c.args.bytes.now)
           c.loop-part.invariant.read c.loop-part-test.true sub.1),
     ))
 
 pub loop-part-preserved : goal.loop-part-preserved
-loop-part-preserved g c = record {
-  read = rw c.in_ok-push.ensures.items
-      (goes_on (g.T.Readable.format c.args.version).read c.loop-part.parts.items c.args.count c.loop-part._part
-      c.loop-part.rest.now (each_at (g.T.Readable.format c.args.version).read c.args.count c.args.bytes.now)
-      c.loop-part.invariant.read c.in_ok-part.part c.in_ok-part.after.now c.loop-part-test.true
-      c.in_ok-part.ensures);
-  count = grind (arith, common_steps);
-}
+loop-part-preserved g c =
+    let read = (g.T.Readable.format c.args.version).read in
+    record {
+      read = rw c.in_ok-push.ensures.items
+          (goes_on read c.loop-part.parts.items c.args.count c.loop-part._part
+          c.loop-part.rest.now (each_at read c.args.count c.args.bytes.now)
+          c.loop-part.invariant.read c.in_ok-part.part c.in_ok-part.after.now c.loop-part-test.true
+          c.in_ok-part.ensures);
+      count = grind (arith, common_steps);
+    }

@@ -25,7 +25,8 @@ pub returns-clause-read : goal.returns-clause-read
 returns-clause-read c =
     let s = stored_of c.in_ok-_version.image in
     is_image c.args.bytes.now c.in_ok-_version._version s c.restored.result
-    (spelled_so c.args.bytes.now c.in_ok-_version._version s (λ i. omega (arith, c.type_inv.bytes i)) c.if-bytes.false
+    (spelled_so c.args.bytes.now c.in_ok-_version._version s
+    (λ i. omega (arith, c.type_inv.bytes i)) c.if-bytes.false
     c.in_ok-_version.ensures)
     c.restored.ensures.made c.restored.ensures.stands
 
@@ -34,5 +35,6 @@ returns-clause-refused c =
     let s = stored_of c.in_ok-_version.image in
     let image = spelled_so c.args.bytes.now c.in_ok-_version._version s
     (λ i. omega (arith, c.type_inv.bytes i)) c.if-bytes.false c.in_ok-_version.ensures in
-    is_none c.args.bytes.now c.in_ok-_version._version s image.fits c.in_ok-_version.ensures c.restored.result
+    is_none c.args.bytes.now c.in_ok-_version._version s image.fits c.in_ok-_version.ensures
+    c.restored.result
     c.restored.ensures.refused

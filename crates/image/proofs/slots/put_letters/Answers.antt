@@ -9,5 +9,6 @@ use Rattle.image.proofs.slots.put_letters.Goals as goal
 
 pub returns-then-is_over : goal.returns-then-is_over
 returns-then-is_over c =
-    let letters = no_more number4 (letter_format Second) (letter_long Second) c.args.heap.now.heap.letters in
+    let letters =
+    no_more number4 (letter_format Second) (letter_long Second) c.args.heap.now.heap.letters in
     beyond (c.is_over.ensures.over c.if-is_over.true _ (omega (arith, letters, c.letters.ensures)))
