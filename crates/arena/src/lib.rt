@@ -91,7 +91,6 @@ pub enum Fault {
 ///
 /// A slot is fresh until its first value comes, and free once its value was removed. The free slots
 /// are linked through themselves, so to remove a value takes no memory.
-#[derive(Drop)]
 pub struct Arena<T> {
     entries: Store<Entry<T>>,
     // How many slots are free.
@@ -101,6 +100,18 @@ pub struct Arena<T> {
     first: u32,
     // How many slots are occupied.
     len: u32,
+}
+
+// Written out, so that the crates above need not prove anew how each field is dropped.
+impl<T: Drop> Drop for Arena<T> {
+    fn drop(self) {
+        let Arena {
+            entries: _,
+            vacant: _,
+            first: _,
+            len: _,
+        } = self;
+    }
 }
 
 impl<T> Model for Arena<T> {

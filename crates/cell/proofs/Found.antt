@@ -9,8 +9,7 @@ use Rattle.model.specs.State.{LocalState, NodeState, sent_to}
 use Rattle.model.specs.View.{Link, NodeView, Shows, ShowsSent, all_kept, kept_view, link_to, no_link, used}
 use Rattle.image.specs.Images.{image_of}
 use Rattle.image.specs.Nodes.{HasImage}
-use Rattle.image.proofs.Images.{kept_is}
-use Rattle.image.proofs.Later.{image_of_same}
+use Rattle.image.proofs.Spelled.{kept_is, image_of_same}
 use Rattle.wire.specs.Views.{Known, Pair}
 use Rattle.wire.specs.Plays.{Happens}
 use Rattle.cell.specs.Desks.{IsSavedNode, StandsAt}

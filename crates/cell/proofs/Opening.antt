@@ -6,7 +6,7 @@ use Rattle.std.proofs.lemmas.Slice.Eq.{bytes_eq-Decides}
 use Rattle.model.specs.View.{NodeView, kept_view}
 use Rattle.image.specs.Images.{image_of}
 use Rattle.image.specs.Nodes.{HasImage, IsImageOf}
-use Rattle.image.proofs.Images.{image_of_one}
+use Rattle.image.proofs.Spelled.{image_of_one}
 use Rattle.disk.specs.Areas.{Areas}
 use Rattle.disk.specs.Crashes.{LeavesOnly, Only}
 use Rattle.disk.specs.Record.{areas_of, leaves}

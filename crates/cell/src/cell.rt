@@ -30,7 +30,6 @@ use trace::Trace;
 ///
 /// Each message that the node keeps until its turn is one that the seat took from the wire. No save
 /// holds it, and a reopening loses it.
-#[derive(Drop)]
 pub struct Cell<D: Disk> {
     alloc: Global,
     desk: Desk,
@@ -39,6 +38,18 @@ pub struct Cell<D: Disk> {
     ghost while_open: { IsTrue shelf.ready → ∥ OpensTo desk.saved.value (D.seen shelf.disk) ∥₁ },
     ghost left: { (c : Areas) → D.may_leave shelf.disk c
         → ∥ OpensToEither desk.saved.value desk.node.core c ∥₁ },
+}
+
+// Written out, so that the crates above need not prove anew how each field is dropped.
+impl<D: Disk + Drop> Drop for Cell<D> {
+    fn drop(self) {
+        let Cell {
+            alloc: _,
+            desk: _,
+            shelf: _,
+            trace: _,
+        } = self;
+    }
 }
 
 impl<D: Disk> Model for Cell<D> {

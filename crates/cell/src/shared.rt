@@ -54,9 +54,15 @@ struct Held<D: Disk, W: Naming> {
 /// A cell that threads share, with its wire: each call locks it for that call alone. Between two
 /// calls all that the cell keeps of its node, seat and disk holds, and the seat is one of the wire.
 /// No clause says what a call did to the cell, since another thread's call may come next.
-#[derive(Drop)]
 pub struct SharedOn<D: Disk, W: Naming> {
     held: Mutex<Held<D, W>>,
+}
+
+// Written out, so that the crates above need not prove anew how each field is dropped.
+impl<D: Disk + Drop, W: Naming> Drop for SharedOn<D, W> {
+    fn drop(self) {
+        let SharedOn { held: _ } = self;
+    }
 }
 
 /// A shared cell whose wire has no name in proofs.

@@ -1,5 +1,5 @@
 -- What is made of sound formats is sound.
-use Rattle.std.proofs.Common.{◌≡◌, ℕ, zero, suc, ◌≤◌, Bool, true, false, cond, ltb, eqb}
+use Rattle.std.proofs.Common.{◌≡◌, ℕ, zero, suc, ◌≤◌, ◌<◌, Bool, true, false, cond, ltb, eqb}
 use Rattle.std.proofs.Common.{List, [], ◌∷◌, ◌++◌, length, Option, Some, None, ◌⊎◌, inl, inr, refl}
 use Rattle.std.proofs.Common.{sym, ap, subst, ◌∙◌, append_assoc, arith}
 use Rattle.std.specs.Prelude.{⊤}
@@ -213,19 +213,13 @@ module _ {A : Type 0} (F : Format A) (sound : IsSound F) where
 
 -- ---- lists
 
-pub longer : {A : Type 0} (F : Format A) → IsLong F → (xs : List A)
-    → length xs ≤ length (flat_map F.spell xs)
-longer F long [] = omega arith
-longer F long (x ∷ xs) =
-    let others = longer F long xs in
-    rw flat_map-cons (omega (arith, length-append (F.spell x) (flat_map F.spell xs), others, long x))
-
 -- a list has no more values than its spelling has bytes
-pub no_more : {A : Type 0} (count : Format ℕ) (F : Format A) → IsLong F → (xs : List A)
-    → length xs ≤ length ((counted count F).spell xs)
-no_more count F long xs =
-    let all = length-append (count.spell (length xs)) (flat_map F.spell xs) in
-    omega (arith, longer F long xs, all)
+pub longer : {A : Type 0} (spell : A → List ℕ) → ((a : A) → 0 < length (spell a)) → (xs : List A)
+    → length xs ≤ length (flat_map spell xs)
+longer spell long [] = omega arith
+longer spell long (x ∷ xs) =
+    let others = longer spell long xs in
+    rw flat_map-cons (omega (arith, length-append (spell x) (flat_map spell xs), others, long x))
 
 module _ {A : Type 0} (F : Format A) (sound : IsSound F) (long : IsLong F) where
   each_takes : (n : ℕ) (bytes : List ℕ) (x : List A × List ℕ) → IsBytes bytes
@@ -281,7 +275,7 @@ module _ {A : Type 0} (F : Format A) (sound : IsSound F) (long : IsLong F) where
       → many_at F.read n (flat_map F.spell xs ++ rest) ≡ Some (xs, rest)
   unfolding many_at
   many_again n xs rest fits =
-      let count = longer F long xs in
+      let count = longer F.spell long xs in
       let len = length-append (flat_map F.spell xs) rest in
       let there : ltb (length (flat_map F.spell xs ++ rest)) n ≡ false =
       le-ltb _ _ (omega (arith, count, len, fits.within.0)) in

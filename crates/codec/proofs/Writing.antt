@@ -1,13 +1,15 @@
 -- One text after another.
 use Rattle.std.proofs.Common.{◌≡◌, ℕ, ◌+◌, ◌<◌, List, [], ◌∷◌, ◌++◌, length, take, get_or, refl, sym, ap}
-use Rattle.std.proofs.Common.{subst, ◌∙◌, append_assoc}
+use Rattle.std.proofs.Common.{subst, ◌∙◌, append_assoc, arith}
 use Rattle.std.specs.Prelude.{⊤}
 use Rattle.std.specs.List.{flat_map, AllByRecursion}
-use Rattle.std.proofs.lemmas.List.{append-nil, take_more}
+use Rattle.std.proofs.lemmas.List.{append-nil, take_more, length-append}
 use Rattle.std.proofs.lemmas.List.Concat.{flat_map-cons}
 use Rattle.std.proofs.lemmas.Grind.{flat_map-append}
 use Rattle.codec.specs.declared.writer.Writer.{Writer}
-use Rattle.codec.specs.Writing.{Says, Writes}
+use Rattle.codec.specs.Formats.{number4}
+use Rattle.codec.specs.Writing.{Says, Writes, IsBeyond}
+use Rattle.codec.proofs.Laws.{longer}
 
 pub both : {a b c : Writer} {x y : List ℕ} {P Q : Type 0} → Writes a b x P → Writes b c y Q
     → Writes a c (x ++ y) (P × Q)
@@ -36,10 +38,6 @@ so follows w = record {
   more = w.more;
   known = λ is. follows (w.known is);
 }
-
--- a text that can't be within the limit
-pub beyond : {a b : Writer} {x : List ℕ} {P : Type 0} → Writes a b x ⊥ → Writes a b x P
-beyond w = so (λ never. absurd never) w
 
 -- ---- one of a list more
 
@@ -98,3 +96,14 @@ behind first second = so (λ k. k.1) (both first second)
 pub first : {a b c : Writer} {n : ℕ} {y : List ℕ} {P Q : Type 0} → Writes a b (n ∷ []) P
     → Writes b c y Q → Writes a c (n ∷ y) (P × Q)
 first one others = both one others
+
+-- a list of more values than may come
+pub uncounted : {A : Type 0} (spell : A → List ℕ) (P : A → Type 0) (xs : List A) (n : ℕ)
+    (a b : Writer) → IsBeyond n a b → n ≡ length xs → ((x : A) → 0 < length (spell x))
+    → Writes a b (number4.spell (length xs) ++ flat_map spell xs)
+    (number4.IsWide (length xs) × AllByRecursion P xs)
+uncounted spell P xs n a b is count long =
+    let sum = length-append (number4.spell (length xs)) (flat_map spell xs) in
+    so (λ never. absurd never)
+    (is.any (number4.spell (length xs) ++ flat_map spell xs)
+    (omega (arith, count, sum, longer spell long xs)))

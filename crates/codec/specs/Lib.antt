@@ -2,3 +2,4 @@ pub mod Formats
 pub mod Reading
 pub mod Writing
 pub mod Lengths
+pub mod Readers

@@ -1,5 +1,5 @@
 -- What a writer was given.
-use Rattle.std.specs.Prelude.{◌≡◌, ◌<◌, ◌+◌, ℕ, List, ◌++◌, length, true, Option, Some, None, IsSome}
+use Rattle.std.specs.Prelude.{◌≡◌, ◌<◌, ◌≤◌, ◌+◌, ℕ, List, ◌++◌, length, true, Option, Some, None, IsSome}
 use Rattle.std.specs.List.{flat_map, AllByRecursion}
 use Rattle.codec.specs.declared.writer.Writer.{Writer}
 use Rattle.codec.specs.Formats.{Format}
@@ -25,6 +25,10 @@ pub record Writes (old new : Writer) (text : List ℕ) (fact : Type 0) : Type 0 
   pub back : IsOpen new → IsOpen old
   pub more : (before : List ℕ) → Says old before → Says new (before ++ text)
   pub known : IsOpen new → fact
+
+-- it was given a text of so many bytes at least, which is longer than the limit
+pub record IsBeyond (least : ℕ) (old new : Writer) : Type 0 where
+  pub any : (text : List ℕ) → least ≤ length text → Writes old new text ⊥
 
 -- it was given the spelling of a value
 abbrev pub Puts : {A : Type 0} → Format A → Writer → Writer → A → Type 0

@@ -2,12 +2,13 @@
 //! of a format begins another.
 //!
 //! `specs/Formats.antt` has the formats of numbers, and of what is made of other values: one after
-//! another, one that may be missing, one of several behind a tag, a list. [`reading`] takes values
+//! another, one that may be missing, one of several behind a tag, a list. A [`Reader`] takes values
 //! from the front of bytes, and a [`Writer`] is given them one after another, up to a limit. So a
 //! record is described by one line, and read and written by one function each.
 #![tactic(auto)]
 
-pub mod reading;
+mod reader;
 mod writer;
 
+pub use reader::Reader;
 pub use writer::Writer;

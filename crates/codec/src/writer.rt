@@ -1,9 +1,9 @@
 //! Bytes that are written one after another, up to a limit. A writer that has failed keeps none any
 //! more and says so at its end, so who writes a value tests nothing in between.
-ghost use Rattle.std.specs.Prelude.{◌≡◌, ◌≢◌, ◌<◌, ◌≤◌, ◌^◌, [], List, ℕ, length, ⊤, true, false};
+ghost use Rattle.std.specs.Prelude.{◌≡◌, ◌≢◌, ◌<◌, ◌≤◌, [], List, ℕ, length, ⊤, true, false};
 ghost use Rattle.std.specs.Prelude.{OnOk, IfOk, IfErr};
 ghost use Rattle.codec.specs.Formats.{byte, number2, number4, number8, signed8};
-ghost use Rattle.codec.specs.Writing.{Says, IsOpen, Writes, Puts};
+ghost use Rattle.codec.specs.Writing.{Says, IsOpen, Writes, IsBeyond, Puts};
 ghost use Rattle.ids.specs.declared.refusal.Refusal.TheVariants.{Memory, ImageTooLarge};
 
 use ids::Refusal;
@@ -52,21 +52,6 @@ impl Writer {
             }
             Some(_) => self.room = None,
         }
-    }
-
-    /// Whether so many bytes are beyond the limit. If so, it is as if a text of so many at least had
-    /// come.
-    pub fn is_over(&mut self, least: usize) -> bool
-        ensures count { result ≡ false → least < 2 ^ 32 }
-        ensures same { result ≡ false → self.new ≡ self.old }
-        ensures over { result ≡ true → (text : List ℕ) → least ≤ length text
-            → Writes self.old self.new text ⊥ }
-    {
-        if least <= self.limit as usize {
-            return false;
-        }
-        self.room = None;
-        true
     }
 
     /// The bytes that were written.
@@ -121,6 +106,21 @@ impl Writer {
         ensures { Puts number4 self.old self.new number }
     {
         self.append(&number.to_be_bytes());
+    }
+
+    /// Appends how many values follow in four bytes, and tells whether they may come. If not, it is
+    /// as if a text had come that is too long, with so many bytes at least.
+    #[tactic(auto, unfolding(crate::specs::Formats::number4))]
+    pub fn count(&mut self, count: usize) -> bool
+        ensures fits { result ≡ true → Puts number4 self.old self.new count }
+        ensures over { result ≡ false → IsBeyond count self.old self.new }
+    {
+        if count > self.limit as usize {
+            self.room = None;
+            return false;
+        }
+        self.u32(count as u32);
+        true
     }
 
     /// Appends a number in eight bytes.

@@ -1,12 +1,6 @@
 pub mod Calls
-pub mod Chains
-pub mod Endings
 pub mod Found
-pub mod Numbers
-pub mod Own
 pub mod Printing
 pub mod Replies
-pub mod Reports
-pub mod Shapes
 pub mod Files
 pub mod Sizes

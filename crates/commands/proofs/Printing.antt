@@ -16,9 +16,9 @@ use Rattle.commands.specs.declared.script.Reply.{Reply}
 use Rattle.commands.specs.declared.script.Reply.TheVariants as reply
 use Rattle.commands.specs.declared.script.State.{State}
 use Rattle.commands.specs.declared.script.State.TheVariants as state
-use Rattle.commands.specs.Grammar.{line_of, words_of}
+use Rattle.lines.specs.Grammar.{line_of, words_of}
 use Rattle.commands.specs.Script.{Held, awaited, ShowsHeld, Moves, TakesLine, GoesOn, Replies, PrintsNoScript, PrintsReplies, RunsScript, replied, unread, printed, reply_text, status_after, status_of}
-use Rattle.commands.proofs.Chains.{first_and_rest}
+use Rattle.lines.proofs.Chains.{first_and_rest}
 
 -- a reply after others
 printed_push : (n : ℕ) (rs : List Reply) (r : Reply)

@@ -7,7 +7,7 @@ use Rattle.hex.specs.declared.error.FromHexError.{FromHexError}
 use Rattle.ids.specs.declared.refusal.Refusal.TheVariants.{Memory, BadFrame}
 use Rattle.msg.specs.Grammar.{Plain, Fits, spelling}
 use Rattle.msg.specs.Texts.{frame_text}
-use Rattle.commands.specs.Text.{refused_text}
+use Rattle.lines.specs.Text.{refused_text}
 
 -- for bytes
 pub data PrintsSpelled (bytes : List ℕ) (status : ℕ) (old new : Option (List ℕ)) : Type 0 where

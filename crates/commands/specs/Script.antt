@@ -13,17 +13,17 @@ use Rattle.model.specs.declared.step.Step.TheVariants as step
 use Rattle.model.specs.State.{node_at}
 use Rattle.model.specs.View.{NodeView}
 use Rattle.image.specs.Images.{image_of}
-use Rattle.commands.specs.declared.line.Line.{Line}
-use Rattle.commands.specs.declared.line.Line.TheVariants as line
+use Rattle.lines.specs.declared.line.Line.{Line}
+use Rattle.lines.specs.declared.line.Line.TheVariants as line
 use Rattle.commands.specs.declared.script.Reply.{Reply}
 use Rattle.commands.specs.declared.script.Reply.TheVariants as reply
 use Rattle.commands.specs.declared.script.State.{State}
 use Rattle.commands.specs.declared.script.State.TheVariants as state
 use Rattle.commands.specs.Freed.{KeepsSums, freed_after}
-use Rattle.commands.specs.Grammar.{line_of, words_of}
+use Rattle.lines.specs.Grammar.{line_of, words_of}
 use Rattle.world.specs.Shows.{ShowsNode, summary_at}
 use Rattle.world.specs.Spaces.{KeepsAfter, step_met}
-use Rattle.commands.specs.Text.{outcome_text, refused_text, report_text, summary_text}
+use Rattle.lines.specs.Text.{outcome_text, refused_text, report_text, summary_text}
 use Rattle.node.specs.Keeping.{Rings, no_rings}
 use Rattle.node.specs.declared.summary.Summary.{Summary}
 

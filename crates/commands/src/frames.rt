@@ -3,7 +3,7 @@
 ghost use Rattle.std.specs.Prelude.{◌≡◌, ◌≤◌, ◌∷◌, [], ◌++◌, ◌⊎◌, IfOk};
 ghost use Rattle.std.specs.Io.KnownBytes.{Appends};
 ghost use Rattle.commands.specs.Frames.{PrintsDecoded, PrintsSpelled};
-ghost use Rattle.commands.specs.Text.{refused_text};
+ghost use Rattle.lines.specs.Text.{refused_text};
 
 use crate::script::{DONE, REFUSED};
 use crate::words::{WordsError, print_refused_words};

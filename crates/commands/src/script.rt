@@ -8,16 +8,14 @@ ghost use Rattle.node.specs.Keeping.{Rings};
 ghost use Rattle.world.specs.Shows.{summary_at};
 ghost use Rattle.world.specs.Spaces.{KeepsAfter, ShowsSpace, step_met};
 ghost use Rattle.commands.specs.Freed.{KeepsSums, freed_with};
-ghost use Rattle.commands.specs.Grammar.{line_of, words_of};
+ghost use Rattle.lines.specs.Grammar.{line_of, words_of};
 ghost use Rattle.commands.specs.Script.{MayBeTooLarge, Moves, PrintsNoScript, PrintsReplies};
 ghost use Rattle.commands.specs.Script.{RunsScript, TakesLine, TakesReport, TakesSpace};
 ghost use Rattle.commands.specs.Script.{TakesState, TakesStep, none_kept, reply_text, status_after};
-ghost use Rattle.commands.specs.Text.{cycle_line, report_text};
 
 use crate::freed::{Freed, freed_in, sweeper};
-use crate::line::Line;
-use crate::text::{SummaryText, outcome_line};
 use ids::{Refusal, Shape};
+use lines::{Line, SummaryText, print_outcome, print_report};
 use model::{Outcome, Step};
 use node::Summary;
 use std::alloc::Global;
@@ -188,34 +186,12 @@ fn print_reply<W: Write>(out: &mut W, number: usize, reply: &Reply) -> io::Resul
 {
     match reply {
         Reply::Nothing => Ok(()),
-        Reply::Outcome(outcome) => out.write_all(outcome_line(*outcome).as_bytes()),
+        Reply::Outcome(outcome) => print_outcome(out, *outcome),
         Reply::Summary(summary) => writeln!(out, "{}", SummaryText(*summary)),
         Reply::Report(sums) => print_report(out, sums),
         Reply::Refused(refusal) => writeln!(out, "refused {refusal}"),
         Reply::NoCommand => writeln!(out, "line {number}: not a command"),
     }
-}
-
-/// Prints how many objects the sweeps of each cycle freed, a line for each.
-fn print_report<W: Write>(out: &mut W, sums: &[u64]) -> io::Result<()>
-    ensures { OnOk result
-        (Appends (W.contents out.old) (W.contents out.new) (report_text sums.now)) }
-{
-    if sums.is_empty() {
-        return writeln!(out, "no sweep");
-    }
-    for (place, freed) in sums.iter().enumerate() {
-        print_cycle(out, place + 1, *freed)?;
-    }
-    Ok(())
-}
-
-/// Prints how many objects the sweeps of a cycle freed.
-fn print_cycle<W: Write>(out: &mut W, cycle: usize, freed: u64) -> io::Result<()>
-    ensures { OnOk result
-        (Appends (W.contents out.old) (W.contents out.new) (cycle_line cycle freed)) }
-{
-    writeln!(out, "cycle {cycle} freed {freed}")
 }
 
 /// The status that a script has at least where a line comes to this.

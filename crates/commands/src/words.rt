@@ -18,7 +18,7 @@ use std::io;
 use std::io::Write;
 
 /// What the program is asked to do.
-#[derive(Clone, Copy, Debug, PartialEq, Eq)]
+#[derive(Clone, Copy)]
 pub enum Command<'a> {
     /// Runs the script of this file, or of standard input.
     Sim { script: Option<&'a str> },
@@ -29,7 +29,7 @@ pub enum Command<'a> {
 }
 
 /// Why words are no command.
-#[derive(Clone, Copy, Debug, PartialEq, Eq)]
+#[derive(Clone, Copy)]
 pub enum WordsError {
     /// Memory was wanted and refused.
     OutOfMemory,

@@ -20,7 +20,6 @@ use std::alloc::Global;
 /// A save writes the other area, syncs, writes the selector, and syncs. A failure of the disk, and
 /// a refused [`reopen`](Shelf::reopen), close the shelf: saves are then refused Closed until a
 /// `reopen` is Ok, which tells whether the old value is there or the new one.
-#[derive(Drop)]
 pub struct Shelf<D: Disk> {
     alloc: Global,
     disk: D,
@@ -28,6 +27,18 @@ pub struct Shelf<D: Disk> {
     in_b: bool,
     ready: bool,
     ghost settled: { IsTrue ready → IsSettled D.seen D.may_leave disk in_b },
+}
+
+// Written out, so that the crates above need not prove anew how each field is dropped.
+impl<D: Disk + Drop> Drop for Shelf<D> {
+    fn drop(self) {
+        let Shelf {
+            alloc: _,
+            disk: _,
+            in_b: _,
+            ready: _,
+        } = self;
+    }
 }
 
 /// Syncs a disk, and tells which side is selected.

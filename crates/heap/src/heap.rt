@@ -23,7 +23,6 @@ use std::marker::Model;
 
 /// What a node holds: objects in at most as many slots as the shape of its space allows, registers,
 /// letters that wait for the program, and the marked objects that are still to be scanned.
-#[derive(Drop)]
 pub struct Heap {
     objects: Arena<Object>,
     registers: Vec<Option<Ref>>,
@@ -31,6 +30,18 @@ pub struct Heap {
     letters: VecDeque<Letter>,
     // By slot; the last is scanned first.
     grey: Vec<u32>,
+}
+
+// Written out, so that the crates above need not prove anew how each field is dropped.
+impl Drop for Heap {
+    fn drop(self) {
+        let Heap {
+            objects: _,
+            registers: _,
+            letters: _,
+            grey: _,
+        } = self;
+    }
 }
 
 impl Model for Heap {

@@ -1,35 +1,40 @@
--- The formats of the parts of an image are sound.
-use Rattle.std.proofs.Common.{◌≡◌, ℕ, List, ◌++◌, Some, true, refl, sym, lit<}
-use Rattle.std.proofs.lemmas.Bool.{and_parts, eqb-true}
-use Rattle.std.specs.Prelude.{[], ◌∷◌, ◌&&◌, nat_lt, nat_le}
-use Rattle.codec.specs.Formats.{Fits, number4, number8, nothing, made_at}
+-- The formats of the parts of an image are sound. What the first version spells of a part, the
+-- second spells too.
+use Rattle.std.proofs.Common.{zero-le, suc-le-suc}
+use Rattle.std.proofs.Common.{◌≡◌, ℕ, List, ◌++◌, Some, true, refl, sym, ap, ◌∙◌, lit<, arith}
+use Rattle.std.proofs.lemmas.Bool.{and_parts, and_from, eqb-true, le-leb, leb-true}
+use Rattle.std.specs.Prelude.{Bool, [], ◌∷◌, ◌&&◌, nat_lt, nat_le}
+use Rattle.codec.specs.Formats.{Format, Fits, number4, number8, nothing, made_at, counted}
 use Rattle.codec.specs.Lengths.{number4_long, number8_long}
-use Rattle.codec.specs.Reading.{IsSound}
+use Rattle.codec.specs.Reading.{IsSound, IsLong}
 use Rattle.codec.proofs.Laws.{nothing_sound, mapped_sound, joined_sound, ◌⊗◌, kept_sound, ◌⊕◌, found}
 use Rattle.codec.proofs.Laws.{tagged_takes, made_again, option_sound, many_sound, counted_sound}
 use Rattle.codec.proofs.Numbers.{byte_sound, number2_sound, number4_sound, number8_sound}
 use Rattle.codec.proofs.Numbers.{signed8_sound}
+use Rattle.codec.proofs.Growing.{Later, Grows, same, mapped_grows, joined_grows, ◌⊛◌, kept_grows}
+use Rattle.codec.proofs.Growing.{option_grows, many_grows, counted_grows}
+use Rattle.ids.specs.declared.limits.TheConstants.{FIRST_VERSION_NODES, GREATEST_NODES}
+use Rattle.msg.specs.declared.body.Body.{Body}
+use Rattle.msg.specs.declared.body.Body.TheVariants as body
 use Rattle.msg.specs.declared.version.Version.{Version}
 use Rattle.msg.specs.declared.version.Version.TheVariants.{First, Second}
-use Rattle.msg.specs.Formats.{generation}
-use Rattle.msg.proofs.Formats.{generation_sound, reference_sound, optional_sound, colour_sound}
+use Rattle.msg.specs.Formats.{generation, reference, optional, put, body_format}
+use Rattle.msg.proofs.Formats.{generation_sound, colour_sound}
 use Rattle.msg.proofs.Formats.{token_sound, body_sound}
 use Rattle.msg.specs.Lengths.{reference_long, optional_long}
 use Rattle.arena.specs.declared.Slot.TheVariants as slot
 use Rattle.model.specs.State.{Object}
 use Rattle.image.specs.Links.{StoredSlot}
-use Rattle.image.specs.Lengths.{slot_long, letter_long, message_long, link_long}
 use Rattle.image.specs.Grammar.{version_format, Start, is_start, start_format, most_nodes}
 use Rattle.image.specs.Grammar.{nodes_format, head_format}
 use Rattle.image.specs.Grammar.{phases_format, held_format, ring_format, near, near_optional}
-use Rattle.image.specs.Grammar.{width_format, places_format, object_format, occupied}
+use Rattle.image.specs.Grammar.{near_body, width_format, places_format, object_format, occupied}
 use Rattle.image.specs.Grammar.{occupied_at, slots_at, slot_format, letter_format, message_format}
 use Rattle.image.specs.Grammar.{link_format, reports_told, links_told, Front, front_format}
 use Rattle.image.specs.Grammar.{told_format, slots_format, others_format, lists_format, stored}
 use Rattle.image.specs.Grammar.{stored_format, image_format}
-use Rattle.image.specs.declared.parts.Head.{Head}
 
--- ---- what stands before the lists
+-- ---- the start
 
 version_again : (v : Version) (rest : List ℕ) → Fits version_format v
     → version_format.read (version_format.spell v ++ rest) ≡ Some (v, rest)
@@ -53,10 +58,8 @@ version_sound = record {
 is_start_is : (x : Start) → is_start x ≡ true → x ≡ (0x4D, (0x52, x.1.1))
 is_start_is x h =
     let a = and_parts _ _ h in
-    let p : x.0 ≡ 0x4D = eqb-true _ _ a.0 in
-    let q : x.1.0 ≡ 0x52 = eqb-true _ _ a.1 in
-    let e : ◌≡◌ {A = Start} (x.0, (x.1.0, x.1.1)) (0x4D, (0x52, x.1.1)) = cc in
-    e
+    ap (λ (n : ℕ). (n, x.1)) (eqb-true _ _ a.0)
+    ∙ ap (λ (n : ℕ). (0x4D, (n, x.1.1))) (eqb-true _ _ a.1)
 
 start_sound : IsSound start_format
 unfolding start_format
@@ -64,13 +67,147 @@ start_sound =
     mapped_sound _ _ _ (kept_sound _ is_start (byte_sound ⊗ byte_sound ⊗ version_sound))
     (λ a fits. sym (is_start_is a fits.within.1)) (λ v. refl)
 
-head_sound : (v : Version) → IsSound (head_format v)
-unfolding head_format nodes_format
-head_sound v =
-    let nodes =
-    kept_sound _ (λ (p : ℕ × ℕ). nat_lt p.1 p.0 && nat_le p.0 (most_nodes v))
-    (byte_sound ⊗ byte_sound) in
-    mapped_sound _ _ _ (nodes ⊗ number2_sound ⊗ number4_sound) (λ a fits. refl) (λ h. refl)
+-- ---- what messages say
+
+generation_grows : Grows (generation First) (generation Second)
+unfolding number4 number8
+generation_grows = record {
+  first = number4_sound;
+  second = number8_sound;
+  later = λ g. (λ is. omega (arith, is), λ is. tt);
+}
+
+reference_grows : Grows (reference First) (reference Second)
+unfolding reference
+reference_grows =
+    mapped_grows _ _ (same byte_sound ⊛ same number4_sound ⊛ generation_grows) (λ _. refl) (λ _. refl)
+
+optional_grows : Grows (optional First) (optional Second)
+unfolding optional
+optional_grows = option_grows reference_grows
+
+put_grows : Grows (put First) (put Second)
+put_grows = reference_grows ⊛ same byte_sound ⊛ optional_grows
+
+body_later : (b : Body) → Later (body_format First) (body_format Second) b
+unfolding body_format
+body_later (body.Mark target) = reference_grows.later target
+body_later (body.Give label o) = (same number4_sound ⊛ optional_grows).later (label, o)
+body_later (body.Put target place o) = put_grows.later (target, (place, o))
+body_later (body.Get target place label) =
+    (reference_grows ⊛ same byte_sound ⊛ same number4_sound).later (target, (place, label))
+body_later b = (λ is. is, λ is. is)
+
+-- ---- each value of a list has a byte at least
+
+pub slot_long : (v : Version) → IsLong (slot_format v)
+unfolding slot_format
+slot_long v (slot.Free generation) = suc-le-suc zero-le
+slot_long v (slot.Occupied generation object) = suc-le-suc zero-le
+slot_long v slot.Retired = suc-le-suc zero-le
+
+pub letter_long : (v : Version) → IsLong (letter_format v)
+unfolding letter_format
+letter_long v l = suc-le-suc zero-le
+
+pub message_long : (v : Version) → IsLong (message_format v)
+unfolding message_format number8
+message_long v m = suc-le-suc zero-le
+
+pub link_long : (v : Version) → IsLong (link_format v)
+unfolding link_format number8
+link_long v l = suc-le-suc zero-le
+
+-- ---- what stands in the lists
+
+near_grows : Grows (near First) (near Second)
+near_grows = kept_grows _ _ reference_grows (λ _ is. is)
+
+near_optional_grows : Grows (near_optional First) (near_optional Second)
+near_optional_grows = kept_grows _ _ optional_grows (λ _ is. is)
+
+near_body_grows : Grows (near_body First) (near_body Second)
+near_body_grows =
+    kept_grows _ _
+    (record { first = body_sound First; second = body_sound Second; later = body_later })
+    (λ _ is. is)
+
+object_grows : Grows (object_format First) (object_format Second)
+unfolding object_format places_format width_format
+object_grows =
+    mapped_grows _ _
+    (same number8_sound ⊛ same number8_sound
+    ⊛ counted_grows near_optional_grows (optional_long First) (optional_long Second) _
+    (kept_sound _ _ byte_sound))
+    (λ _. refl) (λ _. refl)
+
+occupied_grows : Grows (occupied First) (occupied Second)
+occupied_grows = generation_grows ⊛ object_grows
+
+any : {A : Type 0} (F : Version → Format A) → Grows (F First) (F Second) → (v : Version)
+    → IsSound (F v)
+any F g First = g.first
+any F g Second = g.second
+
+slot_again : (v : Version) (x : StoredSlot) (rest : List ℕ) → Fits (slot_format v) x
+    → (slot_format v).read ((slot_format v).spell x ++ rest) ≡ Some (x, rest)
+unfolding slot_format occupied_at
+slot_again v (slot.Free g) rest fits =
+    made_again (generation v) slot.Free (generation_sound v) g rest fits.wide fits.within
+slot_again v (slot.Occupied g o) rest fits =
+    made_again (occupied v) (λ x. slot.Occupied x.0 x.1) (any occupied occupied_grows v) (g, o) rest
+    fits.wide fits.within
+slot_again v slot.Retired rest fits = refl
+
+slot_sound : (v : Version) → IsSound (slot_format v)
+unfolding slot_format occupied_at
+slot_sound v =
+    let F = slot_format v in
+    let occupied_slot = λ (x : ℕ × Object). slot.Occupied x.0 x.1 in
+    record {
+      takes = tagged_takes F (slots_at v) (
+          found (generation v) F 0 slot.Free (generation_sound v)
+          (λ _. refl) (λ _ w. w) (λ _ w. w)
+          ⊕ found (occupied v) F 1 occupied_slot (any occupied occupied_grows v)
+          (λ _. refl) (λ _ w. w) (λ _ w. w)
+          ⊕ found nothing F 2 (λ _. slot.Retired) nothing_sound (λ _. refl) (λ _ w. w) (λ _ w. w)
+          ⊕ tt
+          );
+      again = slot_again v;
+    }
+
+slot_later : (x : StoredSlot) → Later (slot_format First) (slot_format Second) x
+unfolding slot_format
+slot_later (slot.Free g) = generation_grows.later g
+slot_later (slot.Occupied g o) = occupied_grows.later (g, o)
+slot_later slot.Retired = (λ is. is, λ is. is)
+
+slot_grows : Grows (slot_format First) (slot_format Second)
+slot_grows = record { first = slot_sound First; second = slot_sound Second; later = slot_later }
+
+letter_grows : Grows (letter_format First) (letter_format Second)
+unfolding letter_format
+letter_grows =
+    mapped_grows _ _ (same byte_sound ⊛ same number4_sound ⊛ near_optional_grows)
+    (λ _. refl) (λ _. refl)
+
+message_grows : Grows (message_format First) (message_format Second)
+unfolding message_format
+message_grows = mapped_grows _ _ (same number8_sound ⊛ near_body_grows) (λ _. refl) (λ _. refl)
+
+-- how many, and each
+all : {A : Type 0} (F : Version → Format A) → Grows (F First) (F Second)
+    → ((v : Version) → IsLong (F v)) → Grows (counted number4 (F First)) (counted number4 (F Second))
+all F g long = counted_grows g (long First) (long Second) number4 number4_sound
+
+link_grows : Grows (link_format First) (link_format Second)
+unfolding link_format
+link_grows =
+    mapped_grows _ _
+    (same number8_sound ⊛ all message_format message_grows message_long ⊛ same number8_sound)
+    (λ _. refl) (λ _. refl)
+
+-- ---- the whole
 
 phases_sound : IsSound phases_format
 unfolding phases_format
@@ -84,111 +221,36 @@ ring_sound =
     mapped_sound _ _ _ (colour_sound ⊗ signed8_sound ⊗ signed8_sound ⊗ option_sound _ token_sound)
     (λ a fits. refl) (λ r. refl)
 
--- ---- what stands in the lists
+abbrev are_nodes : Version → ℕ × ℕ → Bool
+are_nodes v p = nat_lt p.1 p.0 && nat_le p.0 (most_nodes v)
 
-near_sound : (v : Version) → IsSound (near v)
-near_sound v = kept_sound _ _ (reference_sound v)
+more_nodes : (p : ℕ × ℕ) → are_nodes First p ≡ true → are_nodes Second p ≡ true
+more_nodes p is =
+    let both = and_parts (nat_lt p.1 p.0) (nat_le p.0 FIRST_VERSION_NODES) is in
+    and_from _ _ both.0 (le-leb p.0 GREATEST_NODES (omega (arith, leb-true p.0 _ both.1)))
 
-near_optional_sound : (v : Version) → IsSound (near_optional v)
-near_optional_sound v = kept_sound _ _ (optional_sound v)
+front_grows : Grows (front_format First) (front_format Second)
+unfolding front_format head_format nodes_format
+front_grows =
+    let nodes = kept_grows (are_nodes First) (are_nodes Second) (same (byte_sound ⊗ byte_sound))
+    more_nodes in
+    mapped_grows _ _ (nodes ⊛ same number2_sound ⊛ same number4_sound) (λ _. refl) (λ _. refl)
+    ⊛ same phases_sound ⊛ same ring_sound
 
-places_sound : (v : Version) → IsSound (places_format v)
-unfolding places_format width_format
-places_sound v =
-    counted_sound (near_optional v) (near_optional_sound v) (optional_long v) width_format
-    (kept_sound _ _ byte_sound)
-
-object_sound : (v : Version) → IsSound (object_format v)
-unfolding object_format
-object_sound v =
-    mapped_sound _ _ _ (number8_sound ⊗ number8_sound ⊗ places_sound v) (λ a fits. refl)
-    (λ o. refl)
-
-occupied_sound : (v : Version) → IsSound (occupied v)
-occupied_sound v = generation_sound v ⊗ object_sound v
-
-slot_again : (v : Version) (x : StoredSlot) (rest : List ℕ) → Fits (slot_format v) x
-    → (slot_format v).read ((slot_format v).spell x ++ rest) ≡ Some (x, rest)
-unfolding slot_format occupied_at
-slot_again v (slot.Free g) rest fits =
-    made_again (generation v) slot.Free (generation_sound v) g rest fits.wide fits.within
-slot_again v (slot.Occupied g o) rest fits =
-    made_again (occupied v) (λ x. slot.Occupied x.0 x.1) (occupied_sound v) (g, o) rest
-    fits.wide fits.within
-slot_again v slot.Retired rest fits = refl
-
-slot_sound : (v : Version) → IsSound (slot_format v)
-unfolding slot_format occupied_at
-slot_sound v =
-    let F = slot_format v in
-    let occupied_slot = λ (x : ℕ × Object). slot.Occupied x.0 x.1 in
-    record {
-      takes = tagged_takes F (slots_at v) (
-          found (generation v) F 0 slot.Free (generation_sound v)
-          (λ _. refl) (λ _ w. w) (λ _ w. w)
-          ⊕ found (occupied v) F 1 occupied_slot (occupied_sound v)
-          (λ _. refl) (λ _ w. w) (λ _ w. w)
-          ⊕ found nothing F 2 (λ _. slot.Retired) nothing_sound (λ _. refl) (λ _ w. w) (λ _ w. w)
-          ⊕ tt
-          );
-      again = slot_again v;
-    }
-
-letter_sound : (v : Version) → IsSound (letter_format v)
-unfolding letter_format
-letter_sound v =
-    mapped_sound _ _ _ (byte_sound ⊗ number4_sound ⊗ near_optional_sound v) (λ a fits. refl)
-    (λ l. refl)
-
-message_sound : (v : Version) → IsSound (message_format v)
-unfolding message_format
-message_sound v =
-    mapped_sound _ _ _ (number8_sound ⊗ kept_sound _ _ (body_sound v)) (λ a fits. refl)
-    (λ m. refl)
-
-link_sound : (v : Version) → IsSound (link_format v)
-unfolding link_format
-link_sound v =
-    let messages =
-    counted_sound (message_format v) (message_sound v) (message_long v) number4 number4_sound in
-    mapped_sound _ _ _ (number8_sound ⊗ messages ⊗ number8_sound) (λ a fits. refl) (λ l. refl)
-
--- ---- the whole
-
-front_sound : (v : Version) → IsSound (front_format v)
-unfolding front_format
-front_sound v = head_sound v ⊗ phases_sound ⊗ ring_sound
-
-told_sound : (v : Version) (h : Head) → IsSound (told_format v h)
-unfolding told_format
-told_sound v h =
-    many_sound number8 number8_sound number8_long (reports_told h)
-    ⊗ many_sound (near_optional v) (near_optional_sound v) (optional_long v) h.registers
-
-slots_sound : (v : Version) → IsSound (slots_format v)
-unfolding slots_format
-slots_sound v =
+lists_grows : (f : Front) → Grows (lists_format First f) (lists_format Second f)
+unfolding lists_format told_format slots_format others_format
+lists_grows f =
     let numbers = counted_sound number4 number4_sound number4_long number4 number4_sound in
-    counted_sound (slot_format v) (slot_sound v) (slot_long v) number4 number4_sound
-    ⊗ numbers ⊗ numbers
+    (same (many_sound number8 number8_sound number8_long (reports_told f.0))
+    ⊛ many_grows near_optional_grows (optional_long First) (optional_long Second) f.0.registers)
+    ⊛ (all slot_format slot_grows slot_long ⊛ same numbers ⊛ same numbers)
+    ⊛ all near near_grows reference_long ⊛ all letter_format letter_grows letter_long
+    ⊛ many_grows link_grows (link_long First) (link_long Second) (links_told f.0)
 
-others_sound : (v : Version) (h : Head) → IsSound (others_format v h)
-unfolding others_format
-others_sound v h =
-    counted_sound (near v) (near_sound v) (reference_long v) number4 number4_sound
-    ⊗ counted_sound (letter_format v) (letter_sound v) (letter_long v) number4 number4_sound
-    ⊗ many_sound (link_format v) (link_sound v) (link_long v) (links_told h)
-
-lists_sound : (v : Version) (f : Front) → IsSound (lists_format v f)
-unfolding lists_format
-lists_sound v f = told_sound v f.0 ⊗ slots_sound v ⊗ others_sound v f.0
-
-stored_sound : (v : Version) → IsSound (stored_format v)
+pub stored_grows : Grows (stored_format First) (stored_format Second)
 unfolding stored_format
-stored_sound v =
-    mapped_sound _ stored _
-    (joined_sound (front_format v) (lists_format v) (front_sound v) (lists_sound v))
-    (λ a fits. refl) (λ s. refl)
+stored_grows =
+    mapped_grows stored _ (joined_grows front_grows lists_grows) (λ _. refl) (λ _. refl)
 
 -- any version may stand at the start
 pub any_start : (v : Version) → Fits start_format v
@@ -204,4 +266,4 @@ any_start Second = record {
 
 pub image_sound : IsSound image_format
 unfolding image_format
-image_sound = joined_sound start_format stored_format start_sound stored_sound
+image_sound = joined_sound start_format stored_format start_sound (any stored_format stored_grows)

@@ -1,12 +1,9 @@
 pub mod Conditions
 pub mod Formats
-pub mod Images
 pub mod Joins
 pub mod Kept
-pub mod Later
-pub mod Loops
+pub mod Elements
 pub mod Made
 mod Rows
 pub mod Saved
 pub mod Spelled
-pub mod Whole

@@ -1,9 +1,8 @@
 -- The node that an image says is made of what the image says.
-use Rattle.std.proofs.Common.{◌≡◌, ◌≢◌, ℕ, zero, suc, ◌≤◌, List, [], ◌∷◌, ◌++◌, length, map, ◌<◌}
+use Rattle.std.proofs.Common.{◌≡◌, ◌≢◌, ℕ, List, [], ◌∷◌, ◌++◌, length, map, ◌<◌}
 use Rattle.std.proofs.Common.{Option, Some, None, Result, Ok, Err, refl, sym, ap, ◌∙◌, subst, arith}
 use Rattle.std.specs.Prelude.{IfOk, IfErr, OnOk}
-use Rattle.std.specs.List.{insert}
-use Rattle.std.proofs.lemmas.List.{map-append}
+use Rattle.std.proofs.lemmas.List.{map_push}
 use Rattle.std.proofs.lemmas.Option.{same_Some}
 use Rattle.ids.specs.declared.limits.TheConstants.{GREATEST_IMAGE}
 use Rattle.ids.specs.declared.refusal.Refusal.{Refusal}
@@ -14,37 +13,27 @@ use Rattle.node.specs.Parts.{IsRestorable}
 use Rattle.node.proofs.Restorable.{restorable}
 use Rattle.image.specs.Grammar.{Stored, Fits, IsImage}
 use Rattle.image.specs.Conditions.{IsSaved}
-use Rattle.image.specs.Nodes.{with_at, node_of, IsStanding, IsImageOf}
+use Rattle.image.specs.Nodes.{node_of, IsStanding, IsImageOf}
 use Rattle.image.proofs.Conditions.{standing_saved, saved_standing}
-use Rattle.image.proofs.Whole.{read, again}
-
-pub map-insert : {A B : Type 0} (f : A → B) (k : ℕ) (xs : List A) (x : A) → k ≤ length xs
-    → map f (insert xs k x) ≡ with_at k (f x) (map f xs)
-map-insert f zero xs x within = refl
-map-insert f (suc k) [] x within = absurd (omega (arith, within))
-map-insert {B = B} f (suc k) (y ∷ ys) x within =
-    ap (λ (zs : List B). f y ∷ zs) (map-insert f k ys x (omega (arith, within)))
+use Rattle.image.proofs.Spelled.{read, again}
 
 -- one more in each of two lists that say the same
 pub same_more : {A B C : Type 0} (f : A → C) (g : B → C) (xs : List A) (ys : List B) (x : A) (y : B)
     → map f xs ≡ map g ys → f x ≡ g y → map f (xs ++ x ∷ []) ≡ map g (ys ++ y ∷ [])
-same_more {C = C} f g xs ys x y same one =
-    map-append f xs (x ∷ []) ∙ ap (λ (zs : List C). zs ++ f x ∷ []) same
-    ∙ ap (λ (z : C). map g ys ++ z ∷ []) one ∙ sym (map-append g ys (y ∷ []))
+same_more f g xs ys x y same one = rw (map_push f xs x, map_push g ys y, same, one) refl
 
 -- what the call of the node gave, said of the node that it stands for
-module _ (given said : NodeView) (same : given ≡ said) where
-  pub said_refused : (r : Result NodeView Refusal)
-      → IfErr r (λ e. e ≢ Memory → (e ≡ BadImage) × (IsRestorable given → ⊥))
-      → IfErr r (λ e. e ≢ Memory → (e ≡ BadImage) × (IsStanding said → ⊥))
-  said_refused (Ok n) refused = tt
-  said_refused (Err e) refused = λ other.
-      let h = refused other in (
-        h.0,
-        λ is.
-            let there : IsStanding given = subst IsStanding (sym same) is in
-            h.1 (restorable given there.node there.slots),
-      )
+pub said_refused : {given : NodeView} (said : NodeView) (r : Result NodeView Refusal)
+    → IfErr r (λ e. e ≢ Memory → (e ≡ BadImage) × (IsRestorable given → ⊥)) → given ≡ said
+    → IfErr r (λ e. e ≢ Memory → (e ≡ BadImage) × (IsStanding said → ⊥))
+said_refused said (Ok n) refused same = tt
+said_refused said (Err e) refused same = λ other.
+    let h = refused other in (
+      h.0,
+      λ is.
+          let there = subst IsStanding (sym same) is in
+          h.1 (restorable _ there.node there.slots),
+    )
 
 module _ (bytes : List ℕ) where
   pub is_image : (v : Version) (s : Stored) (r : Result NodeView Refusal) → IsImage bytes v s

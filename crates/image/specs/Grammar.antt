@@ -70,9 +70,12 @@ abbrev pub most_nodes : Version → ℕ
 most_nodes First = FIRST_VERSION_NODES
 most_nodes Second = GREATEST_NODES
 
+abbrev pub nodes_fit : Version → ℕ × ℕ → Bool
+nodes_fit v p = nat_lt p.1 p.0 && nat_le p.0 (most_nodes v)
+
 -- the number of nodes, and the own number below it
 unfoldable pub nodes_format : Version → Format (ℕ × ℕ)
-nodes_format v = kept (byte & byte) (λ p. nat_lt p.1 p.0 && nat_le p.0 (most_nodes v))
+nodes_format v = kept (byte & byte) (nodes_fit v)
 
 -- the sizes of the space, with the node's own number
 unfoldable pub head_format : Version → Format Head

@@ -1,7 +1,6 @@
 pub mod Links
 pub mod Grammar
 pub mod Images
-pub mod Lengths
 pub mod Nodes
 pub mod Numbers
 pub mod Conditions

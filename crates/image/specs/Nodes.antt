@@ -1,6 +1,6 @@
 -- Which node an image says.
-use Rattle.std.specs.Prelude.{◌≡◌, ℕ, zero, suc, ◌+◌, ◌==◌, if◌then◌else◌, List, [], ◌∷◌, length}
-use Rattle.std.specs.Prelude.{map, replicate}
+use Rattle.std.specs.Prelude.{◌≡◌, ℕ, ◌+◌, ◌==◌, if◌then◌else◌, List, ◌∷◌, length, map, replicate}
+use Rattle.std.specs.List.{insert}
 use Rattle.heap.specs.Heap.{slot_of, IsSlotted}
 use Rattle.node.specs.Invariant.{IsNode}
 use Rattle.model.specs.View.{Link, NodeView, no_link}
@@ -21,19 +21,13 @@ link_of l = record {
 abbrev pub received_of : StoredLink → ℕ
 received_of l = l.received
 
--- a list that has an element more, at this place
-abbrev pub with_at : {A : Type 0} → ℕ → A → List A → List A
-with_at zero a xs = a ∷ xs
-with_at (suc k) a [] = []
-with_at (suc k) a (x ∷ xs) = x ∷ with_at k a xs
-
 -- for each node a report: node 0 has none of itself, and the other nodes have none
 abbrev pub reports_of : Head → List ℕ → List ℕ
 reports_of h told = if h.own == 0 then 0 ∷ told else replicate h.nodes 0
 
 -- for each node how many of its messages were taken in: none of its own
 abbrev pub got_of : Stored → List ℕ
-got_of s = with_at s.head.own 0 (map received_of s.links)
+got_of s = insert (map received_of s.links) s.head.own 0
 
 -- The node that is said, all of whose messages and numbers count as saved. It sends itself nothing.
 abbrev pub node_of : Stored → NodeView
@@ -68,7 +62,7 @@ node_of s = record {
     };
     got = got_of s;
   };
-  links = with_at s.head.own no_link (map link_of s.links);
+  links = insert (map link_of s.links) s.head.own no_link;
   acks = got_of s;
 }
 

@@ -12,6 +12,7 @@ ghost use Rattle.image.specs.Nodes.{IsStanding, Spells};
 
 /// No spelling of an image, of whichever version, begins another, so bytes are one image at most.
 /// This does nothing: its contract is the law.
+#[tactic(auto, using(crate::proofs::Spelled::no_spelling_begins_another))]
 pub fn grammar()
     ensures { (v w : Version) (s t : Stored) (rest : List ℕ) → Fits v s → Fits w t
         → spelling v s ++ rest ≡ spelling w t → (rest ≡ []) × (v ≡ w) × (s ≡ t) }

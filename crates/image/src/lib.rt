@@ -11,7 +11,6 @@ mod parts;
 mod reading;
 mod restoring;
 mod saving;
-mod saying;
 mod slots;
 mod tags;
 mod writing;

@@ -1,12 +1,13 @@
 //! The links between a node and the others as bytes. Of each link it is the messages that aren't
 //! acknowledged, and how much was taken in; never what the node keeps before its turn.
 ghost use Rattle.std.specs.Prelude.{◌≡◌, ◌<◌, ◌==◌, cond, [], ◌∷◌, length, slice_index_or};
+ghost use Rattle.std.specs.List.{remove};
 ghost use Rattle.codec.specs.Formats.{number4, counted};
 ghost use Rattle.codec.specs.Writing.{Puts, PutsAll};
 ghost use Rattle.link.specs.Links.{link_at, got_at, IsLinks};
 ghost use Rattle.msg.specs.declared.version.Version.TheVariants.{Second};
 ghost use Rattle.image.specs.Grammar.{message_format, link_format};
-ghost use Rattle.image.specs.Images.{stored_link, stored_links, without_at};
+ghost use Rattle.image.specs.Images.{stored_link, stored_links};
 
 use codec::Writer;
 use link::Links;
@@ -45,29 +46,19 @@ fn put_message(out: &mut Writer, message: Message)
     put_body(out, message.body);
 }
 
-#[tactic(auto, using(crate::proofs::Joins::unwritten))]
-fn put_each_message(out: &mut Writer, links: &Links, to: u8)
-    requires { to < length links.now.links }
-    ensures { PutsAll (message_format Second) out.old out.new
-        (link_at links.now to).unacknowledged }
-{
-    for place in 0..message_count(links, to) {
-        put_message(out, message_at(links, to, place));
-    }
-}
-
 // Appends how many messages to the node are kept in four bytes, and the messages.
+#[tactic(auto, using(crate::proofs::Joins::both, crate::proofs::Joins::unwritten, crate::proofs::Joins::written_more))]
 fn put_messages(out: &mut Writer, links: &Links, to: u8)
     requires { to < length links.now.links }
     ensures { Puts (counted number4 (message_format Second)) out.old out.new
         (link_at links.now to).unacknowledged }
 {
     let count = message_count(links, to);
-    if out.is_over(count as usize) {
-        return;
+    if out.count(count as usize) {
+        for place in 0..count {
+            put_message(out, message_at(links, to, place));
+        }
     }
-    out.u32(count as u32);
-    put_each_message(out, links, to);
 }
 
 // ---- links
@@ -76,7 +67,7 @@ fn put_messages(out: &mut Writer, links: &Links, to: u8)
 fn put_link(out: &mut Writer, links: &Links, to: u8)
     requires { to < length links.now.links }
     ensures { Puts (link_format Second) out.old out.new
-        (stored_link (link_at links.now to) (got_at links.now to)) }
+        (stored_link (link_at links.now to, got_at links.now to)) }
 {
     out.u64(links.base(to));
     put_messages(out, links, to);
@@ -88,7 +79,7 @@ fn put_link(out: &mut Writer, links: &Links, to: u8)
 fn put_other(out: &mut Writer, own: u8, links: &Links, to: u8)
     requires { to < length links.now.links }
     ensures { PutsAll (link_format Second) out.old out.new (cond (to == own) []
-        (stored_link (link_at links.now to) (got_at links.now to) ∷ [])) }
+        (stored_link (link_at links.now to, got_at links.now to) ∷ [])) }
 {
     if to == own {
         return;
@@ -100,7 +91,7 @@ fn put_other(out: &mut Writer, own: u8, links: &Links, to: u8)
 #[tactic(auto, using(crate::proofs::Joins::unwritten))]
 pub(crate) fn put_links(out: &mut Writer, own: u8, links: &Links)
     ensures { PutsAll (link_format Second) out.old out.new
-        (without_at own (stored_links links.now.links links.now.got)) }
+        (remove (stored_links links.now.links links.now.got) own) }
 {
     for to in 0..links.width() {
         put_other(out, own, links, to);

@@ -1,8 +1,10 @@
 //! Lists of values of one format. A list that tells more values than there are bytes is refused
 //! before memory is taken for it.
-ghost use Rattle.std.specs.Prelude.{◌≡◌, length, IfOk};
+ghost use Rattle.std.specs.Prelude.{◌≡◌, ◌≤◌, length, IfOk, IfErr};
+ghost use Rattle.ids.specs.declared.refusal.Refusal.TheVariants.{Memory};
 ghost use Rattle.codec.specs.Formats.{Format, number4, number8, many, counted};
-ghost use Rattle.codec.specs.Reading.{Gives, IsLong};
+ghost use Rattle.codec.specs.Readers.{Reads};
+ghost use Rattle.codec.specs.Reading.{IsLong};
 ghost use Rattle.codec.specs.Writing.{Puts, PutsAll};
 ghost use Rattle.codec.specs.Lengths.{number4_long, number8_long};
 ghost use Rattle.msg.specs.declared.version.Version.{Version};
@@ -10,8 +12,7 @@ ghost use Rattle.msg.specs.declared.version.Version.TheVariants.{Second};
 ghost use Rattle.msg.specs.Formats.{reference, optional};
 ghost use Rattle.msg.specs.Lengths.{reference_long, optional_long};
 
-use codec::Writer;
-use codec::reading::{u32_at, u64_at};
+use codec::{Reader, Writer};
 use ids::{Ref, Refusal};
 use msg::Version;
 use msg::writing::{put_optional, put_reference};
@@ -34,10 +35,11 @@ pub(crate) trait Readable: Sized + Drop {
     /// How it is spelled in each version.
     ghost format: { Version → Format Self };
 
-    /// The value at the front of the bytes, and the bytes after it. `BadImage` where there is none,
-    /// and `Memory` where a growth was refused.
-    fn read(alloc: Global, version: Version, bytes: &[u8]) -> Result<(Self, &[u8]), Refusal>
-        ensures { Gives (λ x. (x.0, x.1.now)) result ((format version).read bytes.now) };
+    /// The value at the front of what is left. `Memory` where a growth was refused, and no other
+    /// refusal: where there is no such value, the reader has failed.
+    fn read(alloc: Global, version: Version, reader: &mut Reader) -> Result<Self, Refusal>
+        ensures value { IfOk result (Reads (format version) reader.old reader.new) }
+        ensures refused { IfErr result (λ e. e ≡ Memory) };
 }
 
 /// Appends the values one after another.
@@ -51,15 +53,13 @@ pub(crate) fn put_all<T: Writable>(out: &mut Writer, parts: &[T])
 }
 
 /// Appends how many values there are in four bytes, and the values.
-#[tactic(auto, using(crate::proofs::Joins::both, crate::proofs::Joins::beyond))]
+#[tactic(auto, using(crate::proofs::Joins::both))]
 pub(crate) fn put_counted<T: Writable>(out: &mut Writer, parts: &[T])
     ensures { Puts (counted number4 T.written) out.old out.new parts.now }
 {
-    if out.is_over(parts.len()) {
-        return;
+    if out.count(parts.len()) {
+        put_all(out, parts);
     }
-    out.u32(parts.len() as u32);
-    put_all(out, parts);
 }
 
 impl Writable for u32 {
@@ -105,55 +105,54 @@ impl Writable for Option<Ref> {
 impl Readable for u32 {
     ghost format = { λ _. number4 };
 
-    fn read(_alloc: Global, _version: Version, bytes: &[u8]) -> Result<(u32, &[u8]), Refusal> {
-        u32_at(bytes).ok_or(Refusal::BadImage)
+    fn read(_alloc: Global, _version: Version, reader: &mut Reader) -> Result<u32, Refusal> {
+        Ok(reader.u32())
     }
 }
 
 impl Readable for u64 {
     ghost format = { λ _. number8 };
 
-    fn read(_alloc: Global, _version: Version, bytes: &[u8]) -> Result<(u64, &[u8]), Refusal> {
-        u64_at(bytes).ok_or(Refusal::BadImage)
+    fn read(_alloc: Global, _version: Version, reader: &mut Reader) -> Result<u64, Refusal> {
+        Ok(reader.u64())
     }
 }
 
-/// So many values from the front of the bytes, and the bytes after them. `BadImage` where they are
-/// not there, and that without taking memory where the bytes are fewer than the values; `Memory`
-/// where a growth was refused.
-#[tactic(auto, unfolding(crate::specs::Numbers::many_at))]
+/// So many values from the front of what is left. Where the bytes are fewer than the values, the
+/// reader fails without taking memory; `Memory` where a growth was refused.
+#[tactic(auto, using(crate::proofs::Joins::lists))]
 pub(crate) fn many<T: Readable>(
     alloc: Global,
     version: Version,
     count: usize,
-    bytes: &[u8],
-) -> Result<(Vec<T>, &[u8]), Refusal>
-    ensures value { Gives (λ x. (x.0.items, x.1.now)) result
-        ((many (T.format version) count).read bytes.now) }
-    ensures count { IfOk result (λ x. length x.0.items ≡ count) }
+    reader: &mut Reader,
+) -> Result<Vec<T>, Refusal>
+    ensures value { IfOk result
+        (λ v. Reads (many (T.format version) count) reader.old reader.new v.items) }
+    ensures few { IfOk result (λ v. length v.items ≤ count) }
+    ensures refused { IfErr result (λ e. e ≡ Memory) }
 {
-    if count > bytes.len() {
-        return Err(Refusal::BadImage);
+    if !reader.has(count) {
+        return Ok(Vec::new(alloc));
     }
     let mut parts = Vec::with_capacity(alloc, count)?;
-    let mut rest = bytes;
     for _part in 0..count {
-        let (part, after) = T::read(alloc, version, rest)?;
-        parts.push(part)?;
-        rest = after;
+        parts.push(T::read(alloc, version, reader)?)?;
     }
-    Ok((parts, rest))
+    Ok(parts)
 }
 
-/// A number in four bytes, so many values, and the bytes after them. It is refused as [`many`].
+/// A number in four bytes, and so many values. It fails, or is refused, as [`many`].
+#[tactic(auto, using(crate::proofs::Joins::counted_read))]
 pub(crate) fn counted<T: Readable>(
     alloc: Global,
     version: Version,
-    bytes: &[u8],
-) -> Result<(Vec<T>, &[u8]), Refusal>
-    ensures { Gives (λ x. (x.0.items, x.1.now)) result
-        ((counted number4 (T.format version)).read bytes.now) }
+    reader: &mut Reader,
+) -> Result<Vec<T>, Refusal>
+    ensures value { IfOk result
+        (λ v. Reads (counted number4 (T.format version)) reader.old reader.new v.items) }
+    ensures refused { IfErr result (λ e. e ≡ Memory) }
 {
-    let (count, rest) = u32_at(bytes).ok_or(Refusal::BadImage)?;
-    many(alloc, version, count as usize, rest)
+    let count = reader.u32();
+    many(alloc, version, count as usize, reader)
 }

@@ -1,13 +1,13 @@
 //! Bytes as the parts of a node. What is read is within the limits of its kind; whether the parts
 //! fit each other is seen later.
-ghost use Rattle.std.specs.Prelude.{◌≡◌, ◌≤◌, length, IfOk, IfSome};
-ghost use Rattle.std.specs.Option.{option_map};
+ghost use Rattle.std.specs.Prelude.{◌≡◌, ◌≤◌, ◌==◌, ◌&&◌, length, Some, IfOk, IfErr};
 ghost use Rattle.ids.specs.declared.refusal.Refusal.TheVariants.{BadImage, Memory};
 ghost use Rattle.ids.specs.declared.limits.TheConstants.{GREATEST_PLACES};
 ghost use Rattle.codec.specs.Formats.{whole_at};
 ghost use Rattle.codec.specs.Reading.{Gives};
+ghost use Rattle.codec.specs.Readers.{Reads, Takes};
 ghost use Rattle.image.specs.Grammar.{reports_told, version_format, start_format, most_nodes};
-ghost use Rattle.image.specs.Grammar.{nodes_format};
+ghost use Rattle.image.specs.Grammar.{nodes_fit, nodes_format};
 ghost use Rattle.image.specs.Grammar.{head_format, phases_format, held_format, ring_format, near};
 ghost use Rattle.image.specs.Grammar.{near_optional, width_format, places_format, object_format};
 ghost use Rattle.image.specs.Grammar.{occupied_at, slot_format, letter_format, message_format};
@@ -18,40 +18,47 @@ ghost use Rattle.image.specs.Parts.{stored_of};
 use crate::lists::{Readable, counted, many};
 use crate::parts::{Head, NodeParts, PhasesParts, RingParts, StoredLink};
 use crate::tags::{ABSENT, FIRST, FREE, OCCUPIED, PRESENT, RETIRED, SECOND, START};
-use codec::reading::{i64_at, u8_at, u16_at, u32_at, u64_at};
+use codec::Reader;
 use heap::{Object, Slot};
 use ids::{FIRST_VERSION_NODES, GREATEST_NODES, GREATEST_PLACES, Ref, Refusal};
 use model::Letter;
-use msg::reading::{body_at, colour_at, generation_at, optional_at, reference_at, token_at};
+use msg::reading::{
+    read_body, read_colour, read_generation, read_optional, read_reference, read_token,
+};
 use msg::{Message, Token, Version, body_fits, optional_fits};
 use std::alloc::Global;
 
 // ---- what stands before the lists
 
-#[tactic(auto, unfolding(crate::specs::Grammar::version_format))]
-fn version_at(bytes: &[u8]) -> Option<(Version, &[u8])>
-    ensures { version_format.read bytes.now ≡ option_map (λ x. (x.0, x.1.now)) result }
+#[tactic(auto, unfolding(crate::specs::Grammar::version_format), using(crate::proofs::Joins::tags))]
+fn read_version(reader: &mut Reader) -> Version
+    ensures { Reads version_format reader.old reader.new result }
 {
-    let (number, rest) = u8_at(bytes)?;
-    match number {
-        FIRST => Some((Version::First, rest)),
-        SECOND => Some((Version::Second, rest)),
-        _ => None,
+    match reader.u8() {
+        FIRST => Version::First,
+        SECOND => Version::Second,
+        _ => {
+            reader.fail();
+            Version::First
+        }
     }
 }
 
-#[tactic(auto, unfolding(crate::specs::Grammar::start_format))]
-fn start_at(bytes: &[u8]) -> Option<(Version, &[u8])>
-    ensures { start_format.read bytes.now ≡ option_map (λ x. (x.0, x.1.now)) result }
+fn is_start(first: u8, second: u8) -> bool
+    ensures { result ≡ (first == 0x4D && second == 0x52) }
 {
-    let (first, rest) = u8_at(bytes)?;
-    let (second, rest) = u8_at(rest)?;
-    let (version, rest) = version_at(rest)?;
-    if first == START[0] && second == START[1] {
-        Some((version, rest))
-    } else {
-        None
-    }
+    first == START[0] && second == START[1]
+}
+
+#[tactic(auto, unfolding(crate::specs::Grammar::start_format), using(crate::proofs::Joins::both_read, crate::proofs::Joins::passed, crate::proofs::Joins::made))]
+fn read_start(reader: &mut Reader) -> Version
+    ensures { Reads start_format reader.old reader.new result }
+{
+    let first = reader.u8();
+    let second = reader.u8();
+    let version = read_version(reader);
+    reader.check(is_start(first, second));
+    version
 }
 
 // How many nodes a space has at most.
@@ -64,228 +71,208 @@ fn most_nodes(version: Version) -> u8
     }
 }
 
-#[tactic(auto, unfolding(crate::specs::Grammar::nodes_format))]
-fn nodes_at(version: Version, bytes: &[u8]) -> Option<((u8, u8), &[u8])>
-    ensures { (nodes_format version).read bytes.now ≡ option_map (λ x. (x.0, x.1.now)) result }
+fn nodes_fit(version: Version, nodes: u8, own: u8) -> bool
+    ensures { result ≡ nodes_fit version (nodes, own) }
 {
-    let (nodes, rest) = u8_at(bytes)?;
-    let (own, rest) = u8_at(rest)?;
-    if own < nodes && nodes <= most_nodes(version) {
-        Some(((nodes, own), rest))
-    } else {
-        None
-    }
+    own < nodes && nodes <= most_nodes(version)
 }
 
-#[tactic(auto, unfolding(crate::specs::Grammar::head_format))]
-fn head_at(version: Version, bytes: &[u8]) -> Option<(Head, &[u8])>
-    ensures { (head_format version).read bytes.now ≡ option_map (λ x. (x.0, x.1.now)) result }
+#[tactic(auto, unfolding(crate::specs::Grammar::nodes_format), using(crate::proofs::Joins::both_read, crate::proofs::Joins::passed))]
+fn read_nodes(version: Version, reader: &mut Reader) -> (u8, u8)
+    ensures { Reads (nodes_format version) reader.old reader.new result }
 {
-    let ((nodes, own), rest) = nodes_at(version, bytes)?;
-    let (registers, rest) = u16_at(rest)?;
-    let (slots, rest) = u32_at(rest)?;
-    let head = Head {
+    let nodes = reader.u8();
+    let own = reader.u8();
+    reader.check(nodes_fit(version, nodes, own));
+    (nodes, own)
+}
+
+#[tactic(auto, unfolding(crate::specs::Grammar::head_format), using(crate::proofs::Joins::both_read, crate::proofs::Joins::made))]
+fn read_head(version: Version, reader: &mut Reader) -> Head
+    ensures { Reads (head_format version) reader.old reader.new result }
+{
+    let (nodes, own) = read_nodes(version, reader);
+    let registers = reader.u16();
+    let slots = reader.u32();
+    Head {
         nodes,
         own,
         registers,
         slots,
-    };
-    Some((head, rest))
+    }
 }
 
-#[tactic(auto, unfolding(crate::specs::Grammar::phases_format))]
-fn phases_at(bytes: &[u8]) -> Option<(PhasesParts, &[u8])>
-    ensures { phases_format.read bytes.now ≡ option_map (λ x. (x.0, x.1.now)) result }
+#[tactic(auto, unfolding(crate::specs::Grammar::phases_format), using(crate::proofs::Joins::both_read, crate::proofs::Joins::made))]
+fn read_phases(reader: &mut Reader) -> PhasesParts
+    ensures { Reads phases_format reader.old reader.new result }
 {
-    let (cycle, rest) = u64_at(bytes)?;
-    let (ended, rest) = u64_at(rest)?;
-    let (swept, rest) = u64_at(rest)?;
-    let (cursor, rest) = u32_at(rest)?;
-    let phases = PhasesParts {
+    let cycle = reader.u64();
+    let ended = reader.u64();
+    let swept = reader.u64();
+    let cursor = reader.u32();
+    PhasesParts {
         cycle,
         ended,
         swept,
         cursor,
-    };
-    Some((phases, rest))
-}
-
-#[tactic(auto, unfolding(crate::specs::Grammar::held_format))]
-fn held_at(bytes: &[u8]) -> Option<(Option<Token>, &[u8])>
-    ensures { held_format.read bytes.now ≡ option_map (λ x. (x.0, x.1.now)) result }
-{
-    let (flag, rest) = u8_at(bytes)?;
-    match flag {
-        ABSENT => Some((None, rest)),
-        PRESENT => {
-            let (token, rest) = token_at(rest)?;
-            Some((Some(token), rest))
-        }
-        _ => None,
     }
 }
 
-#[tactic(auto, unfolding(crate::specs::Grammar::ring_format))]
-fn ring_at(bytes: &[u8]) -> Option<(RingParts, &[u8])>
-    ensures { ring_format.read bytes.now ≡ option_map (λ x. (x.0, x.1.now)) result }
+#[tactic(auto, unfolding(crate::specs::Grammar::held_format), using(crate::proofs::Joins::tags))]
+fn read_held(reader: &mut Reader) -> Option<Token>
+    ensures { Reads held_format reader.old reader.new result }
 {
-    let (colour, rest) = colour_at(bytes)?;
-    let (earlier, rest) = i64_at(rest)?;
-    let (recent, rest) = i64_at(rest)?;
-    let (token, rest) = held_at(rest)?;
-    let ring = RingParts {
+    match reader.u8() {
+        ABSENT => None,
+        PRESENT => Some(read_token(reader)),
+        _ => {
+            reader.fail();
+            None
+        }
+    }
+}
+
+#[tactic(auto, unfolding(crate::specs::Grammar::ring_format), using(crate::proofs::Joins::both_read, crate::proofs::Joins::made))]
+fn read_ring(reader: &mut Reader) -> RingParts
+    ensures { Reads ring_format reader.old reader.new result }
+{
+    let colour = read_colour(reader);
+    let earlier = reader.i64();
+    let recent = reader.i64();
+    let token = read_held(reader);
+    RingParts {
         colour,
         earlier,
         recent,
         token,
-    };
-    Some((ring, rest))
+    }
 }
 
 // ---- what stands in the lists
 
-fn limited_optional_at(version: Version, bytes: &[u8]) -> Option<(Option<Ref>, &[u8])>
-    ensures { (near_optional version).read bytes.now ≡ option_map (λ x. (x.0, x.1.now)) result }
+#[tactic(auto, using(crate::proofs::Joins::passed))]
+fn read_near_optional(version: Version, reader: &mut Reader) -> Option<Ref>
+    ensures { Reads (near_optional version) reader.old reader.new result }
 {
-    let (reference, rest) = optional_at(version, bytes)?;
-    if optional_fits(reference) {
-        Some((reference, rest))
-    } else {
-        None
-    }
+    let reference = read_optional(reader, version);
+    reader.check(optional_fits(reference));
+    reference
 }
 
-#[tactic(auto, unfolding(crate::specs::Grammar::width_format))]
-fn width_at(bytes: &[u8]) -> Option<(u8, &[u8])>
-    ensures value { width_format.read bytes.now ≡ option_map (λ x. (x.0, x.1.now)) result }
-    ensures within { IfSome result (λ x. x.0 ≤ GREATEST_PLACES) }
+#[tactic(auto, unfolding(crate::specs::Grammar::width_format), using(crate::proofs::Joins::tests))]
+fn read_width(reader: &mut Reader) -> u8
+    ensures value { Reads width_format reader.old reader.new result }
+    ensures within { result ≤ GREATEST_PLACES }
 {
-    let (width, rest) = u8_at(bytes)?;
+    let width = reader.u8();
     if width <= GREATEST_PLACES {
-        Some((width, rest))
-    } else {
-        None
+        return width;
     }
+    reader.fail();
+    0
 }
 
-#[tactic(auto, unfolding(crate::specs::Grammar::places_format))]
-fn places_at(
+#[tactic(auto, unfolding(crate::specs::Grammar::places_format), using(crate::proofs::Joins::counted_read))]
+fn read_places(
     alloc: Global,
     version: Version,
-    bytes: &[u8],
-) -> Result<(Vec<Option<Ref>>, &[u8]), Refusal>
-    ensures value { Gives (λ x. (x.0.items, x.1.now)) result
-        ((places_format version).read bytes.now) }
-    ensures count { IfOk result (λ x. length x.0.items ≤ GREATEST_PLACES) }
+    reader: &mut Reader,
+) -> Result<Vec<Option<Ref>>, Refusal>
+    ensures value { IfOk result
+        (λ v. Reads (places_format version) reader.old reader.new v.items) }
+    ensures count { IfOk result (λ v. length v.items ≤ GREATEST_PLACES) }
+    ensures refused { IfErr result (λ e. e ≡ Memory) }
 {
-    let Some((width, rest)) = width_at(bytes) else {
-        return Err(Refusal::BadImage);
-    };
-    let (places, rest) = many(alloc, version, usize::from(width), rest)?;
-    Ok((places, rest))
+    let width = read_width(reader);
+    many(alloc, version, width as usize, reader)
 }
 
-#[tactic(auto, unfolding(crate::specs::Grammar::object_format))]
-fn object_at(alloc: Global, version: Version, bytes: &[u8]) -> Result<(Object, &[u8]), Refusal>
-    ensures { Gives (λ x. (x.0, x.1.now)) result ((object_format version).read bytes.now) }
+#[tactic(auto, unfolding(crate::specs::Grammar::object_format), using(crate::proofs::Joins::both_read, crate::proofs::Joins::made))]
+fn read_object(alloc: Global, version: Version, reader: &mut Reader) -> Result<Object, Refusal>
+    ensures value { IfOk result (Reads (object_format version) reader.old reader.new) }
+    ensures refused { IfErr result (λ e. e ≡ Memory) }
 {
-    let (mark, rest) = u64_at(bytes).ok_or(Refusal::BadImage)?;
-    let (word, rest) = u64_at(rest).ok_or(Refusal::BadImage)?;
-    let (places, rest) = places_at(alloc, version, rest)?;
-    match Object::from_parts(word, mark, places) {
-        Some(object) => Ok((object, rest)),
-        None => Err(Refusal::BadImage),
-    }
+    let mark = reader.u64();
+    let word = reader.u64();
+    let places = read_places(alloc, version, reader)?;
+    Object::from_parts(word, mark, places).ok_or(Refusal::BadImage)
 }
 
-#[tactic(auto, unfolding(crate::specs::Grammar::occupied_at))]
-fn occupied_at(
+#[tactic(auto, unfolding(crate::specs::Grammar::occupied_at), using(crate::proofs::Joins::both_read, crate::proofs::Joins::made_of))]
+fn read_occupied(
     alloc: Global,
     version: Version,
-    bytes: &[u8],
-) -> Result<(Slot<Object>, &[u8]), Refusal>
-    ensures { Gives (λ x. (x.0, x.1.now)) result (occupied_at version bytes.now) }
+    reader: &mut Reader,
+) -> Result<Slot<Object>, Refusal>
+    ensures value { IfOk result
+        (λ s. Takes (occupied_at version) reader.old reader.new (Some s)) }
+    ensures refused { IfErr result (λ e. e ≡ Memory) }
 {
-    let (generation, rest) = generation_at(version, bytes).ok_or(Refusal::BadImage)?;
-    let (object, rest) = object_at(alloc, version, rest)?;
-    Ok((Slot::Occupied(generation, object), rest))
+    let generation = read_generation(reader, version);
+    let object = read_object(alloc, version, reader)?;
+    Ok(Slot::Occupied(generation, object))
 }
 
 impl Readable for Ref {
     ghost format = { near };
 
-    fn read(_alloc: Global, version: Version, bytes: &[u8]) -> Result<(Ref, &[u8]), Refusal> {
-        let (reference, rest) = reference_at(version, bytes).ok_or(Refusal::BadImage)?;
-        if reference.fits() {
-            Ok((reference, rest))
-        } else {
-            Err(Refusal::BadImage)
-        }
+    #[tactic(auto, using(crate::proofs::Joins::passed))]
+    fn read(_alloc: Global, version: Version, reader: &mut Reader) -> Result<Ref, Refusal> {
+        let reference = read_reference(reader, version);
+        reader.check(reference.fits());
+        Ok(reference)
     }
 }
 
 impl Readable for Option<Ref> {
     ghost format = { near_optional };
 
-    fn read(
-        _alloc: Global,
-        version: Version,
-        bytes: &[u8],
-    ) -> Result<(Option<Ref>, &[u8]), Refusal> {
-        limited_optional_at(version, bytes).ok_or(Refusal::BadImage)
+    fn read(_alloc: Global, version: Version, reader: &mut Reader) -> Result<Option<Ref>, Refusal> {
+        Ok(read_near_optional(version, reader))
     }
 }
 
 impl Readable for Letter {
     ghost format = { letter_format };
 
-    #[tactic(auto, unfolding(crate::specs::Grammar::letter_format))]
-    fn read(_alloc: Global, version: Version, bytes: &[u8]) -> Result<(Letter, &[u8]), Refusal> {
-        let (from, rest) = u8_at(bytes).ok_or(Refusal::BadImage)?;
-        let (label, rest) = u32_at(rest).ok_or(Refusal::BadImage)?;
-        let (reference, rest) = limited_optional_at(version, rest).ok_or(Refusal::BadImage)?;
-        let letter = Letter {
+    #[tactic(auto, unfolding(crate::specs::Grammar::letter_format), using(crate::proofs::Joins::both_read, crate::proofs::Joins::made))]
+    fn read(_alloc: Global, version: Version, reader: &mut Reader) -> Result<Letter, Refusal> {
+        let from = reader.u8();
+        let label = reader.u32();
+        let reference = read_near_optional(version, reader);
+        Ok(Letter {
             from,
             label,
             reference,
-        };
-        Ok((letter, rest))
+        })
     }
 }
 
 impl Readable for Message {
     ghost format = { message_format };
 
-    #[tactic(auto, unfolding(crate::specs::Grammar::message_format))]
-    fn read(_alloc: Global, version: Version, bytes: &[u8]) -> Result<(Message, &[u8]), Refusal> {
-        let (stamp, rest) = u64_at(bytes).ok_or(Refusal::BadImage)?;
-        let (body, rest) = body_at(version, rest).ok_or(Refusal::BadImage)?;
-        if body_fits(body) {
-            Ok((Message { stamp, body }, rest))
-        } else {
-            Err(Refusal::BadImage)
-        }
+    #[tactic(auto, unfolding(crate::specs::Grammar::message_format), using(crate::proofs::Joins::both_read, crate::proofs::Joins::passed, crate::proofs::Joins::made))]
+    fn read(_alloc: Global, version: Version, reader: &mut Reader) -> Result<Message, Refusal> {
+        let stamp = reader.u64();
+        let body = read_body(reader, version);
+        reader.check(body_fits(body));
+        Ok(Message { stamp, body })
     }
 }
 
 impl Readable for Slot<Object> {
     ghost format = { slot_format };
 
-    #[tactic(auto, unfolding(crate::specs::Grammar::slot_format))]
-    fn read(
-        alloc: Global,
-        version: Version,
-        bytes: &[u8],
-    ) -> Result<(Slot<Object>, &[u8]), Refusal> {
-        let (tag, rest) = u8_at(bytes).ok_or(Refusal::BadImage)?;
-        match tag {
-            FREE => {
-                let (generation, rest) = generation_at(version, rest).ok_or(Refusal::BadImage)?;
-                Ok((Slot::Free(generation), rest))
+    #[tactic(auto, unfolding(crate::specs::Grammar::slot_format), using(crate::proofs::Joins::tags))]
+    fn read(alloc: Global, version: Version, reader: &mut Reader) -> Result<Slot<Object>, Refusal> {
+        match reader.u8() {
+            FREE => Ok(Slot::Free(read_generation(reader, version))),
+            OCCUPIED => read_occupied(alloc, version, reader),
+            RETIRED => Ok(Slot::Retired),
+            _ => {
+                reader.fail();
+                Ok(Slot::Retired)
             }
-            OCCUPIED => occupied_at(alloc, version, rest),
-            RETIRED => Ok((Slot::Retired, rest)),
-            _ => Err(Refusal::BadImage),
         }
     }
 }
@@ -293,17 +280,16 @@ impl Readable for Slot<Object> {
 impl Readable for StoredLink {
     ghost format = { link_format };
 
-    #[tactic(auto, unfolding(crate::specs::Grammar::link_format))]
-    fn read(alloc: Global, version: Version, bytes: &[u8]) -> Result<(StoredLink, &[u8]), Refusal> {
-        let (base, rest) = u64_at(bytes).ok_or(Refusal::BadImage)?;
-        let (unacknowledged, rest) = counted(alloc, version, rest)?;
-        let (received, rest) = u64_at(rest).ok_or(Refusal::BadImage)?;
-        let link = StoredLink {
+    #[tactic(auto, unfolding(crate::specs::Grammar::link_format), using(crate::proofs::Joins::both_read, crate::proofs::Joins::made))]
+    fn read(alloc: Global, version: Version, reader: &mut Reader) -> Result<StoredLink, Refusal> {
+        let base = reader.u64();
+        let unacknowledged = counted(alloc, version, reader)?;
+        let received = reader.u64();
+        Ok(StoredLink {
             base,
             unacknowledged,
             received,
-        };
-        Ok((link, rest))
+        })
     }
 }
 
@@ -319,80 +305,80 @@ fn reports_told(head: Head) -> usize
     }
 }
 
-#[tactic(auto, unfolding(crate::specs::Grammar::front_format))]
-fn front_at(version: Version, bytes: &[u8]) -> Option<((Head, (PhasesParts, RingParts)), &[u8])>
-    ensures { (front_format version).read bytes.now ≡ option_map (λ x. (x.0, x.1.now)) result }
+#[tactic(auto, unfolding(crate::specs::Grammar::front_format), using(crate::proofs::Joins::both_read))]
+fn read_front(version: Version, reader: &mut Reader) -> (Head, (PhasesParts, RingParts))
+    ensures { Reads (front_format version) reader.old reader.new result }
 {
-    let (head, rest) = head_at(version, bytes)?;
-    let (phases, rest) = phases_at(rest)?;
-    let (ring, rest) = ring_at(rest)?;
-    Some(((head, (phases, ring)), rest))
+    let head = read_head(version, reader);
+    let phases = read_phases(reader);
+    let ring = read_ring(reader);
+    (head, (phases, ring))
 }
 
 /// What the other nodes reported, and the registers.
-#[tactic(auto, unfolding(crate::specs::Grammar::told_format))]
-fn told_at(
+#[tactic(auto, unfolding(crate::specs::Grammar::told_format), using(crate::proofs::Joins::both_read))]
+fn read_told(
     alloc: Global,
     version: Version,
     head: Head,
-    bytes: &[u8],
-) -> Result<((Vec<u64>, Vec<Option<Ref>>), &[u8]), Refusal>
-    ensures { Gives (λ x. ((x.0.0.items, x.0.1.items), x.1.now)) result
-        ((told_format version head).read bytes.now) }
+    reader: &mut Reader,
+) -> Result<(Vec<u64>, Vec<Option<Ref>>), Refusal>
+    ensures value { IfOk result (λ x. Reads (told_format version head) reader.old reader.new
+        (x.0.items, x.1.items)) }
+    ensures refused { IfErr result (λ e. e ≡ Memory) }
 {
-    let (reports, rest) = many(alloc, version, reports_told(head), bytes)?;
-    let (registers, rest) = many(alloc, version, usize::from(head.registers), rest)?;
-    Ok(((reports, registers), rest))
+    let reports = many(alloc, version, reports_told(head), reader)?;
+    let registers = many(alloc, version, usize::from(head.registers), reader)?;
+    Ok((reports, registers))
 }
 
 /// The slots, and which of them are free and which grey.
-#[tactic(auto, unfolding(crate::specs::Grammar::slots_format))]
-fn slots_at(
+#[tactic(auto, unfolding(crate::specs::Grammar::slots_format), using(crate::proofs::Joins::both_read))]
+fn read_slots(
     alloc: Global,
     version: Version,
-    bytes: &[u8],
-) -> Result<((Vec<Slot<Object>>, (Vec<u32>, Vec<u32>)), &[u8]), Refusal>
-    ensures { Gives (λ x. ((x.0.0.items, (x.0.1.0.items, x.0.1.1.items)), x.1.now))
-        result ((slots_format version).read bytes.now) }
+    reader: &mut Reader,
+) -> Result<(Vec<Slot<Object>>, (Vec<u32>, Vec<u32>)), Refusal>
+    ensures value { IfOk result (λ x. Reads (slots_format version) reader.old reader.new
+        (x.0.items, (x.1.0.items, x.1.1.items))) }
+    ensures refused { IfErr result (λ e. e ≡ Memory) }
 {
-    let (slots, rest) = counted(alloc, version, bytes)?;
-    let (free, rest) = counted(alloc, version, rest)?;
-    let (grey, rest) = counted(alloc, version, rest)?;
-    Ok(((slots, (free, grey)), rest))
+    let slots = counted(alloc, version, reader)?;
+    let free = counted(alloc, version, reader)?;
+    let grey = counted(alloc, version, reader)?;
+    Ok((slots, (free, grey)))
 }
 
 /// The references that were asked for, the letters and the links.
-#[tactic(auto, unfolding(crate::specs::Grammar::others_format))]
-fn others_at(
+#[tactic(auto, unfolding(crate::specs::Grammar::others_format), using(crate::proofs::Joins::both_read))]
+fn read_others(
     alloc: Global,
     version: Version,
     head: Head,
-    bytes: &[u8],
-) -> Result<((Vec<Ref>, (Vec<Letter>, Vec<StoredLink>)), &[u8]), Refusal>
-    ensures { Gives (λ x. ((x.0.0.items, (x.0.1.0.items, x.0.1.1.items)), x.1.now))
-        result ((others_format version head).read bytes.now) }
+    reader: &mut Reader,
+) -> Result<(Vec<Ref>, (Vec<Letter>, Vec<StoredLink>)), Refusal>
+    ensures value { IfOk result (λ x. Reads (others_format version head) reader.old reader.new
+        (x.0.items, (x.1.0.items, x.1.1.items))) }
+    ensures refused { IfErr result (λ e. e ≡ Memory) }
 {
-    let (asked, rest) = counted(alloc, version, bytes)?;
-    let (letters, rest) = counted(alloc, version, rest)?;
-    let (links, rest) = many(
-        alloc,
-        version,
-        usize::from(head.nodes.saturating_sub(1)),
-        rest,
-    )?;
-    Ok(((asked, (letters, links)), rest))
+    let asked = counted(alloc, version, reader)?;
+    let letters = counted(alloc, version, reader)?;
+    let others = usize::from(head.nodes.saturating_sub(1));
+    let links = many(alloc, version, others, reader)?;
+    Ok((asked, (letters, links)))
 }
 
-#[tactic(auto, unfolding(crate::specs::Grammar::stored_format, crate::specs::Grammar::lists_format))]
-fn stored_at(alloc: Global, version: Version, bytes: &[u8]) -> Result<(NodeParts, &[u8]), Refusal>
-    ensures { Gives (λ x. (stored_of x.0, x.1.now)) result
-        ((stored_format version).read bytes.now) }
+#[tactic(auto, unfolding(crate::specs::Grammar::stored_format, crate::specs::Grammar::lists_format), using(crate::proofs::Joins::both_read, crate::proofs::Joins::joined_read, crate::proofs::Joins::made))]
+fn read_stored(alloc: Global, version: Version, reader: &mut Reader) -> Result<NodeParts, Refusal>
+    ensures value { IfOk result
+        (λ x. Reads (stored_format version) reader.old reader.new (stored_of x)) }
+    ensures refused { IfErr result (λ e. e ≡ Memory) }
 {
-    let ((head, (phases, ring)), rest) = front_at(version, bytes).ok_or(Refusal::BadImage)?;
-    let ((reports, registers), rest) = told_at(alloc, version, head, rest)?;
-    let ((slots, (free, grey)), rest) = slots_at(alloc, version, rest)?;
-    let ((asked, (letters, links)), rest) = others_at(alloc, version, head, rest)?;
-    let parts = NodeParts {
+    let (head, (phases, ring)) = read_front(version, reader);
+    let (reports, registers) = read_told(alloc, version, head, reader)?;
+    let (slots, (free, grey)) = read_slots(alloc, version, reader)?;
+    let (asked, (letters, links)) = read_others(alloc, version, head, reader)?;
+    Ok(NodeParts {
         head,
         phases,
         ring,
@@ -404,30 +390,31 @@ fn stored_at(alloc: Global, version: Version, bytes: &[u8]) -> Result<(NodeParts
         asked,
         letters,
         links,
-    };
-    Ok((parts, rest))
+    })
 }
 
-#[tactic(auto, unfolding(crate::specs::Grammar::image_format))]
-fn image_at(alloc: Global, bytes: &[u8]) -> Result<((Version, NodeParts), &[u8]), Refusal>
-    ensures { Gives (λ x. ((x.0.0, stored_of x.0.1), x.1.now)) result
-        (image_format.read bytes.now) }
+#[tactic(auto, unfolding(crate::specs::Grammar::image_format), using(crate::proofs::Joins::joined_read))]
+fn read_image(alloc: Global, reader: &mut Reader) -> Result<(Version, NodeParts), Refusal>
+    ensures value { IfOk result
+        (λ x. Reads image_format reader.old reader.new (x.0, stored_of x.1)) }
+    ensures refused { IfErr result (λ e. e ≡ Memory) }
 {
-    let (version, rest) = start_at(bytes).ok_or(Refusal::BadImage)?;
-    let (parts, rest) = stored_at(alloc, version, rest)?;
-    Ok(((version, parts), rest))
+    let version = read_start(reader);
+    let parts = read_stored(alloc, version, reader)?;
+    Ok((version, parts))
 }
 
 /// The version of the bytes, and the parts that they say, all of the bytes. What they say may still
 /// be no node's, since its parts may contradict each other. `BadImage` where the bytes spell none,
 /// `Memory` where a growth was refused. It takes memory in proportion to the bytes, and time
 /// likewise.
-#[tactic(auto, unfolding(crate::specs::Numbers::whole_at))]
+#[tactic(auto, using(crate::proofs::Joins::whole_read))]
 pub(crate) fn whole(alloc: Global, bytes: &[u8]) -> Result<(Version, NodeParts), Refusal>
     ensures { Gives (λ x. (x.0, stored_of x.1)) result (whole_at image_format.read bytes.now) }
 {
-    let (image, rest) = image_at(alloc, bytes)?;
-    if rest.is_empty() {
+    let mut reader = Reader::new(bytes);
+    let image = read_image(alloc, &mut reader)?;
+    if reader.finish() {
         Ok(image)
     } else {
         Err(Refusal::BadImage)

@@ -1,13 +1,14 @@
 //! A node from what its image says. All that it sent and took in counts as saved, since an image is
 //! written of nodes that are being saved.
 ghost use Rattle.std.specs.Prelude.{◌≡◌, ◌≢◌, ◌≤◌, length, map, IfOk, IfErr, OnOk};
+ghost use Rattle.std.specs.List.{insert};
 ghost use Rattle.ids.specs.declared.refusal.Refusal.TheVariants.{BadImage, Memory};
 ghost use Rattle.msg.specs.declared.version.Version.{Version};
 ghost use Rattle.model.specs.View.{NodeView, no_link};
-ghost use Rattle.link.specs.Parts.{link_given, taken_given, links_given};
+ghost use Rattle.link.specs.Parts.{link_given, taken_given};
 ghost use Rattle.node.specs.Keeping.{alone};
 ghost use Rattle.image.specs.Grammar.{Fits};
-ghost use Rattle.image.specs.Nodes.{link_of, received_of, with_at, reports_of, node_of};
+ghost use Rattle.image.specs.Nodes.{link_of, received_of, reports_of, node_of};
 ghost use Rattle.image.specs.Nodes.{IsStanding, IsImageOf};
 ghost use Rattle.image.specs.Parts.{stored_of};
 
@@ -118,32 +119,22 @@ fn every_report(alloc: Global, head: Head, told: Vec<u64>) -> Result<Vec<u64>, R
 // The links to all nodes of the space, the node itself among them.
 fn every_link(alloc: Global, own: u8, stored: Vec<StoredLink>) -> Result<Vec<LinkParts>, Refusal>
     requires { own ≤ length stored.items }
-    ensures made { IfOk result (λ v. links_given v.items ≡ record {
-      links = with_at own no_link (map link_of stored.items);
-      got = with_at own 0 (map received_of stored.items);
-      acks = with_at own 0 (map received_of stored.items);
-    }) }
-    ensures refused { IfErr result (λ e. e ≡ Memory) }
-{
-    let mut links = given_links(alloc, stored)?;
-    let none = LinkParts {
-        base: 0,
-        messages: VecDeque::new(alloc),
-        taken: 0,
-    };
-    links.insert(usize::from(own), none)?;
-    Ok(links)
-}
-
-fn given_links(alloc: Global, stored: Vec<StoredLink>) -> Result<Vec<LinkParts>, Refusal>
-    ensures sent { IfOk result (λ v. map link_given v.items ≡ map link_of stored.items) }
-    ensures taken { IfOk result (λ v. map taken_given v.items ≡ map received_of stored.items) }
+    ensures sent { IfOk result
+        (λ v. map link_given v.items ≡ insert (map link_of stored.items) own no_link) }
+    ensures taken { IfOk result
+        (λ v. map taken_given v.items ≡ insert (map received_of stored.items) own 0) }
     ensures refused { IfErr result (λ e. e ≡ Memory) }
 {
     let mut links = Vec::with_capacity(alloc, stored.len())?;
     for link in stored {
         links.push(given_link(link))?;
     }
+    let none = LinkParts {
+        base: 0,
+        messages: VecDeque::new(alloc),
+        taken: 0,
+    };
+    links.insert(usize::from(own), none)?;
     Ok(links)
 }
 

@@ -58,42 +58,29 @@ fn put_slot(out: &mut Writer, slot: Slot<&Object>)
     }
 }
 
-#[tactic(auto, using(crate::proofs::Joins::unwritten))]
-fn put_each_slot(out: &mut Writer, heap: &Heap)
-    ensures { PutsAll (slot_format Second) out.old out.new (map stored_slot heap.now.heap.slots) }
-{
-    for slot in 0..heap.slots() {
-        put_slot(out, heap.slot(slot));
-    }
-}
-
 /// Appends how many slots there are in four bytes, and the slots.
+#[tactic(auto, using(crate::proofs::Joins::unwritten))]
 pub(crate) fn put_slot_list(out: &mut Writer, heap: &Heap)
     ensures { Puts (counted number4 (slot_format Second)) out.old out.new
         (map stored_slot heap.now.heap.slots) }
 {
     out.u32(heap.slots());
-    put_each_slot(out, heap);
+    for slot in 0..heap.slots() {
+        put_slot(out, heap.slot(slot));
+    }
 }
 
 // ---- free slots
 
-#[tactic(auto, using(crate::proofs::Joins::unwritten))]
-fn put_each_free(out: &mut Writer, heap: &Heap)
-    ensures { PutsAll number4 out.old out.new heap.now.heap.free }
-{
-    for slot in heap.free_slots() {
-        out.u32(slot);
-    }
-}
-
 /// Appends how many slots are free in four bytes, and each of them in four.
-#[tactic(auto, using(crate::proofs::Joins::both))]
+#[tactic(auto, using(crate::proofs::Joins::both, crate::proofs::Joins::unwritten))]
 pub(crate) fn put_free_list(out: &mut Writer, heap: &Heap)
     ensures { Puts (counted number4 number4) out.old out.new heap.now.heap.free }
 {
     out.u32(heap.vacant());
-    put_each_free(out, heap);
+    for slot in heap.free_slots() {
+        out.u32(slot);
+    }
 }
 
 // ---- letters
@@ -117,23 +104,14 @@ fn put_letter(out: &mut Writer, letter: Letter)
     put_optional(out, letter.reference);
 }
 
-#[tactic(auto, using(crate::proofs::Joins::unwritten, crate::proofs::Joins::written_more))]
-fn put_each_letter(out: &mut Writer, heap: &Heap)
-    ensures { PutsAll (letter_format Second) out.old out.new heap.now.heap.letters }
-{
-    for number in 0..heap.letters() {
-        put_letter(out, letter_at(heap, number));
-    }
-}
-
 /// Appends how many letters wait in four bytes, and the letters.
-#[tactic(auto, using(crate::proofs::Joins::both))]
+#[tactic(auto, using(crate::proofs::Joins::both, crate::proofs::Joins::unwritten, crate::proofs::Joins::written_more))]
 pub(crate) fn put_letters(out: &mut Writer, heap: &Heap)
     ensures { Puts (counted number4 (letter_format Second)) out.old out.new heap.now.heap.letters }
 {
-    if out.is_over(heap.letters()) {
-        return;
+    if out.count(heap.letters()) {
+        for number in 0..heap.letters() {
+            put_letter(out, letter_at(heap, number));
+        }
     }
-    out.u32(heap.letters() as u32);
-    put_each_letter(out, heap);
 }

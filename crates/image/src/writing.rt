@@ -1,53 +1,43 @@
 //! A node as bytes. Its parts follow one another without gaps, each by its own format.
-ghost use Rattle.std.specs.Prelude.{◌≡◌, [], ◌∷◌, ◌++◌};
-ghost use Rattle.codec.specs.Formats.{number2, number4};
+ghost use Rattle.std.specs.Prelude.{◌≡◌};
+ghost use Rattle.codec.specs.Formats.{signed8, ◌&◌};
 ghost use Rattle.codec.specs.Writing.{Puts};
 ghost use Rattle.msg.specs.declared.version.Version.TheVariants.{Second};
-ghost use Rattle.image.specs.Grammar.{start_format, head_format, phases_format, held_format};
+ghost use Rattle.image.specs.Grammar.{head_format, phases_format, held_format};
 ghost use Rattle.image.specs.Grammar.{ring_format, front_format, told_format, slots_format};
 ghost use Rattle.image.specs.Grammar.{others_format, stored_format, image_format};
 ghost use Rattle.image.specs.Grammar.{front_of, told_of, slots_of, others_of};
-ghost use Rattle.image.specs.Images.{stored_by};
+ghost use Rattle.image.specs.Images.{phases_by, ring_by, stored_by};
 
 use crate::links::put_links;
 use crate::lists::{put_all, put_counted};
-use crate::parts::{Head, PhasesParts, RingParts};
-use crate::saying::{head_of, phases_of, reports_of, ring_of};
+use crate::parts::Head;
 use crate::slots::{put_free_list, put_letters, put_slot_list};
 use crate::tags::{ABSENT, PRESENT, SECOND, START};
-use byteorder::{BigEndian, ByteOrder};
 use codec::Writer;
+use control::Phases;
 use msg::Token;
 use msg::writing::{put_colour, put_token};
 use node::Core;
-
-#[tactic(auto, unfolding(crate::specs::Numbers::number2, crate::specs::Numbers::number4))]
-fn head_bytes(head: Head) -> [u8; 8]
-    ensures { result ≡ (head.nodes ∷ head.own ∷ [])
-        ++ (number2.spell head.registers ++ number4.spell head.slots) }
-{
-    let mut part = [0; 8];
-    part[0] = head.nodes;
-    part[1] = head.own;
-    BigEndian::write_u16(&mut part[2..], head.registers);
-    BigEndian::write_u32(&mut part[4..], head.slots);
-    part
-}
+use safra::Ring;
 
 fn put_head(out: &mut Writer, head: Head)
     ensures { Puts (head_format Second) out.old out.new head }
 {
-    out.append(&head_bytes(head));
+    out.u8(head.nodes);
+    out.u8(head.own);
+    out.u16(head.registers);
+    out.u32(head.slots);
 }
 
 #[tactic(auto, unfolding(crate::specs::Grammar::phases_format), using(crate::proofs::Joins::both))]
-fn put_phases(out: &mut Writer, p: PhasesParts)
-    ensures { Puts phases_format out.old out.new p }
+fn put_phases(out: &mut Writer, p: &Phases)
+    ensures { Puts phases_format out.old out.new (phases_by p.now) }
 {
-    out.u64(p.cycle);
-    out.u64(p.ended);
-    out.u64(p.swept);
-    out.u32(p.cursor);
+    out.u64(p.cycle());
+    out.u64(p.ended());
+    out.u64(p.swept());
+    out.u32(p.cursor());
 }
 
 #[tactic(auto, unfolding(crate::specs::Grammar::held_format), using(crate::proofs::Joins::behind))]
@@ -63,22 +53,50 @@ fn put_held(out: &mut Writer, held: Option<Token>)
     }
 }
 
-fn put_ring(out: &mut Writer, r: RingParts)
-    ensures { Puts ring_format out.old out.new r }
+// Appends the balance of the messages that the next cycle counts, and the token.
+#[tactic(auto, using(crate::proofs::Joins::both))]
+fn put_recent(out: &mut Writer, ring: Ring)
+    ensures { Puts (signed8 & held_format) out.old out.new (ring.recent, ring.token) }
 {
-    put_colour(out, r.colour);
-    out.i64(r.earlier);
-    out.i64(r.recent);
-    put_held(out, r.token);
+    out.i64(ring.recent());
+    put_held(out, ring.token());
+}
+
+#[tactic(auto, unfolding(crate::specs::Grammar::ring_format), using(crate::proofs::Joins::both))]
+fn put_ring(out: &mut Writer, ring: Ring)
+    ensures { Puts ring_format out.old out.new (ring_by ring) }
+{
+    put_colour(out, ring.colour());
+    out.i64(ring.earlier());
+    put_recent(out, ring);
 }
 
 #[tactic(auto, unfolding(crate::specs::Grammar::front_format), using(crate::proofs::Joins::both))]
 fn put_front(out: &mut Writer, node: &Core)
     ensures { Puts (front_format Second) out.old out.new (front_of (stored_by node.now)) }
 {
-    put_head(out, head_of(node));
-    put_phases(out, phases_of(node));
-    put_ring(out, ring_of(node));
+    let state = node.state();
+    let head = Head {
+        nodes: state.shape.nodes(),
+        own: state.own,
+        registers: state.shape.registers(),
+        slots: state.shape.slots(),
+    };
+    put_head(out, head);
+    put_phases(out, node.phases());
+    put_ring(out, node.ring());
+}
+
+// The reports of the other nodes in ascending order, at node 0; at another node none.
+fn reports_of(node: &Core) -> &[u64]
+    ensures { result.now ≡ (stored_by node.now).reports }
+{
+    let reports = node.phases().reports();
+    if node.state().own == 0 && !reports.is_empty() {
+        &reports[1..]
+    } else {
+        &[]
+    }
 }
 
 #[tactic(auto, unfolding(crate::specs::Grammar::told_format), using(crate::proofs::Joins::both))]
@@ -121,18 +139,11 @@ fn put_stored(out: &mut Writer, node: &Core)
     put_others(out, node, node.state().own);
 }
 
-#[tactic(auto, unfolding(crate::specs::Grammar::start_format, crate::specs::Grammar::version_format))]
-fn put_start(out: &mut Writer)
-    ensures { Puts start_format out.old out.new Second }
-{
-    out.append(&[START[0], START[1], SECOND]);
-}
-
 /// Appends the image of the node.
-#[tactic(auto, unfolding(crate::specs::Grammar::image_format), using(crate::proofs::Joins::both))]
+#[tactic(auto, unfolding(crate::specs::Grammar::image_format, crate::specs::Grammar::start_format, crate::specs::Grammar::version_format), using(crate::proofs::Joins::both))]
 pub(crate) fn put_node(out: &mut Writer, node: &Core)
     ensures { Puts image_format out.old out.new (Second, stored_by node.now) }
 {
-    put_start(out);
+    out.append(&[START[0], START[1], SECOND]);
     put_stored(out, node);
 }

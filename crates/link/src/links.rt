@@ -65,9 +65,15 @@ impl Ends {
 /// each a [`Sender`] and a [`Receiver`]. A call names a node by its number, which is to be below
 /// the width, and finds its ends by that number alone. Room that was made for messages is kept for
 /// later ones.
-#[derive(Drop)]
 pub struct Links {
     pub(crate) by_node: Vec<Ends>,
+}
+
+// Written out, so that the crates above need not prove anew how each field is dropped.
+impl Drop for Links {
+    fn drop(self) {
+        let Links { by_node: _ } = self;
+    }
 }
 
 impl Model for Links {

@@ -1,7 +1,7 @@
 -- What the lines of a script say that runs over node threads.
 use Rattle.std.specs.Prelude.{◌≡◌, Bool, true, false, cond, Option, Some, None, IfSome, IsTrue}
-use Rattle.commands.specs.declared.line.Line.{Line}
-use Rattle.commands.specs.declared.line.Line.TheVariants as line
+use Rattle.lines.specs.declared.line.Line.{Line}
+use Rattle.lines.specs.declared.line.Line.TheVariants as line
 use Rattle.markring.specs.declared.run_line.RunLine.{RunLine}
 use Rattle.markring.specs.declared.run_line.RunLine.TheVariants as said
 use Rattle.model.specs.Steps.{is_own}

@@ -1,14 +1,14 @@
 //! One line of a script that runs over node threads. It is a line of a script over one thread, less
 //! what the workers do by themselves, and three lines more.
 ghost use Rattle.std.specs.Prelude.{◌≡◌, IfSome, IsTrue};
-ghost use Rattle.commands.specs.Grammar.{is_own_line, line_of, words_of};
+ghost use Rattle.lines.specs.Grammar.{is_own_line, line_of, words_of};
 ghost use Rattle.markring.specs.Running.{is_for_workers, is_own_said, is_of_runs, shared_of, IsSaid};
 
-use commands::{Line, read_u8, read_u16};
+use lines::{Line, read_u8, read_u16};
 use model::{Event, Step};
 
 /// What one line of such a script says.
-#[derive(Clone, Copy, Debug, PartialEq, Eq)]
+#[derive(Clone, Copy)]
 pub enum RunLine {
     /// Nothing: no word stands there, or a comment.
     Blank,

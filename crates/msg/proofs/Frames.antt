@@ -14,7 +14,7 @@ use Rattle.msg.specs.Frames.{plain}
 use Rattle.msg.specs.Formats.{Sent, Head, sent, known}
 use Rattle.msg.proofs.Formats.{sent_sound, known_sound}
 
-abbrev data_of : Sent → Plain
+abbrev pub data_of : Sent → Plain
 data_of x = data_frame x.0.0 x.0.1.0 x.0.1.1 x.1.0 x.1.1
 
 abbrev ack_of : Head → Plain

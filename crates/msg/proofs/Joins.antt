@@ -1,2 +1,3 @@
 -- One text after another.
 pub use Rattle.codec.proofs.Writing.{both, behind, first}
+pub use Rattle.codec.proofs.Readers.{both_read, made, made_of, tested, tags, whole_taken}

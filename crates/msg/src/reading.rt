@@ -1,6 +1,6 @@
-//! Frames from bytes. Each call reads something at the front and gives the bytes after it; what
-//! isn't spelled exactly so is refused.
-ghost use Rattle.std.specs.Prelude.{◌≡◌, IfOk, IfErr};
+//! Frames from bytes. Each call reads something at the front of what is left; where it isn't
+//! spelled exactly so, the reader has failed.
+ghost use Rattle.std.specs.Prelude.{◌≡◌, Some, IfOk, IfErr};
 ghost use Rattle.std.specs.Option.{option_map};
 ghost use Rattle.std.specs.Result.{IsOkAnd};
 ghost use Rattle.ids.specs.declared.refusal.Refusal.TheVariants.{BadFrame};
@@ -8,6 +8,7 @@ ghost use Rattle.msg.specs.Formats.{generation, reference, optional, colour, tok
 ghost use Rattle.msg.specs.Formats.{give_at, put_at, get_at, body_format, head};
 ghost use Rattle.msg.specs.Grammar.{Plain, Fits, spelling, data_at, ack_at, frame};
 ghost use Rattle.codec.specs.Formats.{whole_at};
+ghost use Rattle.codec.specs.Readers.{Reads, Takes};
 ghost use Rattle.msg.specs.Frames.{plain, plain_data, plain_ack};
 
 use crate::body::{Body, Colour, Token};
@@ -16,195 +17,179 @@ use crate::tags::{
     ABSENT, ACK, BEGIN, BLACK, DATA, ENDED, GET, GIVE, MARK, PRESENT, PUT, SWEPT, TOKEN, WHITE,
 };
 use crate::version::Version;
-use codec::reading::{i64_at, u8_at, u32_at, u64_at};
+use codec::Reader;
 use ids::{Generation, Ref, Refusal};
 
-/// A generation. None where there is no such thing at the front, and so for every call here.
-pub fn generation_at(version: Version, bytes: &[u8]) -> Option<(Generation, &[u8])>
-    ensures { (generation version).read bytes.now ≡ option_map (λ x. (x.0, x.1.now)) result }
+/// A generation.
+pub fn read_generation(reader: &mut Reader, version: Version) -> Generation
+    ensures { Reads (generation version) reader.old reader.new result }
 {
     match version {
-        Version::First => {
-            let (generation, rest) = u32_at(bytes)?;
-            Some((Generation::from(generation), rest))
-        }
-        Version::Second => u64_at(bytes),
+        Version::First => Generation::from(reader.u32()),
+        Version::Second => reader.u64(),
     }
 }
 
 /// A reference, whose numbers may be any.
-#[tactic(auto, unfolding(crate::specs::Formats::reference))]
-pub fn reference_at(version: Version, bytes: &[u8]) -> Option<(Ref, &[u8])>
-    ensures { (reference version).read bytes.now ≡ option_map (λ x. (x.0, x.1.now)) result }
+#[tactic(auto, unfolding(crate::specs::Formats::reference), using(crate::proofs::Joins::both_read, crate::proofs::Joins::made))]
+pub fn read_reference(reader: &mut Reader, version: Version) -> Ref
+    ensures { Reads (reference version) reader.old reader.new result }
 {
-    let (node, rest) = u8_at(bytes)?;
-    let (slot, rest) = u32_at(rest)?;
-    let (generation, rest) = generation_at(version, rest)?;
-    let reference = Ref {
+    let node = reader.u8();
+    let slot = reader.u32();
+    let generation = read_generation(reader, version);
+    Ref {
         node,
         slot,
         generation,
-    };
-    Some((reference, rest))
+    }
 }
 
 /// A reference whose numbers may be any, or that there is none.
-#[tactic(auto, unfolding(crate::specs::Formats::optional))]
-pub fn optional_at(version: Version, bytes: &[u8]) -> Option<(Option<Ref>, &[u8])>
-    ensures { (optional version).read bytes.now ≡ option_map (λ x. (x.0, x.1.now)) result }
+#[tactic(auto, unfolding(crate::specs::Formats::optional), using(crate::proofs::Joins::tags))]
+pub fn read_optional(reader: &mut Reader, version: Version) -> Option<Ref>
+    ensures { Reads (optional version) reader.old reader.new result }
 {
-    let (flag, rest) = u8_at(bytes)?;
-    match flag {
-        ABSENT => Some((None, rest)),
-        PRESENT => {
-            let (reference, rest) = reference_at(version, rest)?;
-            Some((Some(reference), rest))
+    match reader.u8() {
+        ABSENT => None,
+        PRESENT => Some(read_reference(reader, version)),
+        _ => {
+            reader.fail();
+            None
         }
-        _ => None,
     }
 }
 
 /// A colour.
-#[tactic(auto, unfolding(crate::specs::Formats::colour))]
-pub fn colour_at(bytes: &[u8]) -> Option<(Colour, &[u8])>
-    ensures { colour.read bytes.now ≡ option_map (λ x. (x.0, x.1.now)) result }
+#[tactic(auto, unfolding(crate::specs::Formats::colour), using(crate::proofs::Joins::tags))]
+pub fn read_colour(reader: &mut Reader) -> Colour
+    ensures { Reads colour reader.old reader.new result }
 {
-    let (flag, rest) = u8_at(bytes)?;
-    match flag {
-        WHITE => Some((Colour::White, rest)),
-        BLACK => Some((Colour::Black, rest)),
-        _ => None,
+    match reader.u8() {
+        WHITE => Colour::White,
+        BLACK => Colour::Black,
+        _ => {
+            reader.fail();
+            Colour::White
+        }
     }
 }
 
 /// A token.
-#[tactic(auto, unfolding(crate::specs::Formats::token))]
-pub fn token_at(bytes: &[u8]) -> Option<(Token, &[u8])>
-    ensures { token.read bytes.now ≡ option_map (λ x. (x.0, x.1.now)) result }
+#[tactic(auto, unfolding(crate::specs::Formats::token), using(crate::proofs::Joins::both_read, crate::proofs::Joins::made))]
+pub fn read_token(reader: &mut Reader) -> Token
+    ensures { Reads token reader.old reader.new result }
 {
-    let (colour, rest) = colour_at(bytes)?;
-    let (q, rest) = i64_at(rest)?;
-    Some((Token { colour, q }, rest))
+    let colour = read_colour(reader);
+    let q = reader.i64();
+    Token { colour, q }
 }
 
-#[tactic(auto, unfolding(crate::specs::Formats::give_at))]
-fn give_at(version: Version, bytes: &[u8]) -> Option<(Body, &[u8])>
-    ensures { give_at version bytes.now ≡ option_map (λ x. (x.0, x.1.now)) result }
+#[tactic(auto, unfolding(crate::specs::Formats::give_at), using(crate::proofs::Joins::both_read, crate::proofs::Joins::made_of))]
+fn read_give(reader: &mut Reader, version: Version) -> Body
+    ensures { Takes (give_at version) reader.old reader.new (Some result) }
 {
-    let (label, rest) = u32_at(bytes)?;
-    let (reference, rest) = optional_at(version, rest)?;
-    Some((Body::Give { label, reference }, rest))
+    let label = reader.u32();
+    let reference = read_optional(reader, version);
+    Body::Give { label, reference }
 }
 
-#[tactic(auto, unfolding(crate::specs::Formats::put_at))]
-fn put_at(version: Version, bytes: &[u8]) -> Option<(Body, &[u8])>
-    ensures { put_at version bytes.now ≡ option_map (λ x. (x.0, x.1.now)) result }
+#[tactic(auto, unfolding(crate::specs::Formats::put_at), using(crate::proofs::Joins::both_read, crate::proofs::Joins::made_of))]
+fn read_put(reader: &mut Reader, version: Version) -> Body
+    ensures { Takes (put_at version) reader.old reader.new (Some result) }
 {
-    let (target, rest) = reference_at(version, bytes)?;
-    let (place, rest) = u8_at(rest)?;
-    let (reference, rest) = optional_at(version, rest)?;
-    let body = Body::Put {
+    let target = read_reference(reader, version);
+    let place = reader.u8();
+    let reference = read_optional(reader, version);
+    Body::Put {
         target,
         place,
         reference,
-    };
-    Some((body, rest))
+    }
 }
 
-#[tactic(auto, unfolding(crate::specs::Formats::get_at))]
-fn get_at(version: Version, bytes: &[u8]) -> Option<(Body, &[u8])>
-    ensures { get_at version bytes.now ≡ option_map (λ x. (x.0, x.1.now)) result }
+#[tactic(auto, unfolding(crate::specs::Formats::get_at), using(crate::proofs::Joins::both_read, crate::proofs::Joins::made_of))]
+fn read_get(reader: &mut Reader, version: Version) -> Body
+    ensures { Takes (get_at version) reader.old reader.new (Some result) }
 {
-    let (target, rest) = reference_at(version, bytes)?;
-    let (place, rest) = u8_at(rest)?;
-    let (label, rest) = u32_at(rest)?;
-    let body = Body::Get {
+    let target = read_reference(reader, version);
+    let place = reader.u8();
+    let label = reader.u32();
+    Body::Get {
         target,
         place,
         label,
-    };
-    Some((body, rest))
+    }
 }
 
 /// What a message says, behind its tag; its references and places may be any.
-#[tactic(auto, unfolding(crate::specs::Formats::body_format))]
-pub fn body_at(version: Version, bytes: &[u8]) -> Option<(Body, &[u8])>
-    ensures { (body_format version).read bytes.now ≡ option_map (λ x. (x.0, x.1.now)) result }
+#[tactic(auto, unfolding(crate::specs::Formats::body_format), using(crate::proofs::Joins::tags))]
+pub fn read_body(reader: &mut Reader, version: Version) -> Body
+    ensures { Reads (body_format version) reader.old reader.new result }
 {
-    let (tag, rest) = u8_at(bytes)?;
-    match tag {
-        BEGIN => Some((Body::Begin, rest)),
-        TOKEN => {
-            let (token, rest) = token_at(rest)?;
-            Some((Body::Token(token), rest))
+    match reader.u8() {
+        BEGIN => Body::Begin,
+        TOKEN => Body::Token(read_token(reader)),
+        MARK => Body::Mark {
+            target: read_reference(reader, version),
+        },
+        GIVE => read_give(reader, version),
+        PUT => read_put(reader, version),
+        GET => read_get(reader, version),
+        ENDED => Body::Ended,
+        SWEPT => Body::Swept,
+        _ => {
+            reader.fail();
+            Body::Begin
         }
-        MARK => {
-            let (target, rest) = reference_at(version, rest)?;
-            Some((Body::Mark { target }, rest))
-        }
-        GIVE => give_at(version, rest),
-        PUT => put_at(version, rest),
-        GET => get_at(version, rest),
-        ENDED => Some((Body::Ended, rest)),
-        SWEPT => Some((Body::Swept, rest)),
+    }
+}
+
+#[tactic(auto, unfolding(crate::specs::Formats::head), using(crate::proofs::Joins::both_read))]
+fn read_head(reader: &mut Reader) -> (u8, (u8, u64))
+    ensures { Reads head reader.old reader.new result }
+{
+    let from = reader.u8();
+    let to = reader.u8();
+    let number = reader.u64();
+    (from, (to, number))
+}
+
+fn read_data(reader: &mut Reader) -> Option<Data>
+    ensures { Takes data_at reader.old reader.new (option_map plain_data result) }
+{
+    let (from, (to, number)) = read_head(reader);
+    let stamp = reader.u64();
+    let body = read_body(reader, Version::Second);
+    Data::new(from, to, number, stamp, body)
+}
+
+#[tactic(auto, unfolding(crate::specs::Grammar::ack_at, crate::specs::Formats::known), using(crate::proofs::Joins::tested))]
+fn read_ack(reader: &mut Reader) -> Option<Ack>
+    ensures { Takes ack_at reader.old reader.new (option_map plain_ack result) }
+{
+    let (from, (to, number)) = read_head(reader);
+    Ack::new(from, to, number)
+}
+
+#[tactic(auto, unfolding(crate::specs::Grammar::frame), using(crate::proofs::Joins::tags))]
+fn read_frame(reader: &mut Reader) -> Option<Frame>
+    ensures { Takes frame.read reader.old reader.new (option_map plain result) }
+{
+    match reader.u8() {
+        DATA => read_data(reader).map(Frame::Data),
+        ACK => read_ack(reader).map(Frame::Ack),
         _ => None,
     }
 }
 
-#[tactic(auto, unfolding(crate::specs::Formats::head))]
-fn head_at(bytes: &[u8]) -> Option<((u8, (u8, u64)), &[u8])>
-    ensures { head.read bytes.now ≡ option_map (λ x. (x.0, x.1.now)) result }
-{
-    let (from, rest) = u8_at(bytes)?;
-    let (to, rest) = u8_at(rest)?;
-    let (number, rest) = u64_at(rest)?;
-    Some(((from, (to, number)), rest))
-}
-
-#[tactic(auto, unfolding(crate::specs::Grammar::data_at, crate::specs::Formats::sent))]
-fn data_at(bytes: &[u8]) -> Option<(Data, &[u8])>
-    ensures { data_at bytes.now ≡ option_map (λ x. (plain_data x.0, x.1.now)) result }
-{
-    let ((from, (to, number)), rest) = head_at(bytes)?;
-    let (stamp, rest) = u64_at(rest)?;
-    let (body, rest) = body_at(Version::Second, rest)?;
-    let data = Data::new(from, to, number, stamp, body)?;
-    Some((data, rest))
-}
-
-#[tactic(auto, unfolding(crate::specs::Grammar::ack_at, crate::specs::Formats::known))]
-fn ack_at(bytes: &[u8]) -> Option<(Ack, &[u8])>
-    ensures { ack_at bytes.now ≡ option_map (λ x. (plain_ack x.0, x.1.now)) result }
-{
-    let ((from, (to, number)), rest) = head_at(bytes)?;
-    let ack = Ack::new(from, to, number)?;
-    Some((ack, rest))
-}
-
-#[tactic(auto, unfolding(crate::specs::Grammar::frame))]
-fn frame_at(bytes: &[u8]) -> Option<(Frame, &[u8])>
-    ensures { frame.read bytes.now ≡ option_map (λ x. (plain x.0, x.1.now)) result }
-{
-    let (kind, rest) = u8_at(bytes)?;
-    match kind {
-        DATA => {
-            let (data, rest) = data_at(rest)?;
-            Some((Frame::Data(data), rest))
-        }
-        ACK => {
-            let (ack, rest) = ack_at(rest)?;
-            Some((Frame::Ack(ack), rest))
-        }
-        _ => None,
-    }
-}
-
-#[tactic(auto, unfolding(crate::specs::Numbers::whole_at))]
+#[tactic(auto, using(crate::proofs::Joins::whole_taken))]
 fn whole(bytes: &[u8]) -> Option<Frame>
     ensures { whole_at frame.read bytes.now ≡ option_map plain result }
 {
-    let (frame, rest) = frame_at(bytes)?;
-    if rest.is_empty() { Some(frame) } else { None }
+    let mut reader = Reader::new(bytes);
+    let frame = read_frame(&mut reader);
+    if reader.finish() { frame } else { None }
 }
 
 /// The frame that the bytes spell, all of the bytes. It takes no memory.

@@ -39,11 +39,17 @@ use std::marker::Model;
 /// One node: its core, which is what is saved of it, and for each other node a ring of
 /// [`WINDOW`](ids::WINDOW) places with the messages from there that came before their turn. What
 /// the rings hold is in no state and in no image, and a restart loses it.
-#[derive(Drop)]
 pub struct Node {
     core: Core,
     // For each node of the space, itself among them, in order of their numbers.
     early: Vec<EarlyFrames>,
+}
+
+// Written out, so that the crates above need not prove anew how each field is dropped.
+impl Drop for Node {
+    fn drop(self) {
+        let Node { core: _, early: _ } = self;
+    }
 }
 
 impl Model for Node {

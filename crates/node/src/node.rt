@@ -30,7 +30,6 @@ use std::marker::Model;
 /// What is saved of a node: its heap, its part in the collection cycles and in the ring, and for
 /// each other node its messages to there that aren't acknowledged and how much it took in from
 /// there. It keeps no messages before their turn.
-#[derive(Drop)]
 pub struct Core {
     shape: Shape,
     own: u8,
@@ -40,6 +39,21 @@ pub struct Core {
     phases: Phases,
     ring: Ring,
     links: Links,
+}
+
+// Written out, so that the crates above need not prove anew how each field is dropped.
+impl Drop for Core {
+    fn drop(self) {
+        let Core {
+            shape: _,
+            own: _,
+            heap: _,
+            asked: _,
+            phases: _,
+            ring: _,
+            links: _,
+        } = self;
+    }
 }
 
 impl Model for Core {

@@ -1,3 +1,2 @@
-pub mod Settings
 pub mod Opened
 pub mod Teams

@@ -6,8 +6,8 @@ use Rattle.wire.specs.Readers.{IsSeatOf, IsWatchOf}
 use Rattle.wire.specs.declared.seats.NodeSeat.{NodeSeat}
 use Rattle.wire.specs.declared.seats.Wire.{Wire}
 use Rattle.wire.specs.declared.seats.Watch.{Watch}
-use Rattle.supervisor.specs.declared.fault.OpenFault.{OpenFault}
-use Rattle.supervisor.specs.declared.fault.OpenFault.TheVariants.{Config, Disks, Refused}
+use Rattle.settings.specs.declared.fault.OpenFault.{OpenFault}
+use Rattle.settings.specs.declared.fault.OpenFault.TheVariants.{Config, Disks, Refused}
 use Rattle.supervisor.specs.declared.team.Team.{Team}
 
 -- watches of this wire

@@ -5,14 +5,14 @@ ghost use Rattle.std.specs.Arc.{arc_value};
 ghost use Rattle.ids.specs.declared.refusal.Refusal.TheVariants.{Memory};
 ghost use Rattle.wire.specs.Readers.{IsSeatOf};
 ghost use Rattle.cell.specs.Opened.{HasPlace, HoldsAnother, IsCause};
+ghost use Rattle.settings.specs.declared.fault.OpenFault.TheVariants as fault;
 ghost use Rattle.supervisor.specs.Opened.{AreSeats, AreWatches, IfRefused};
 ghost use Rattle.supervisor.specs.declared.cells.TheConstants.{WATCHES};
-ghost use Rattle.supervisor.specs.declared.fault.OpenFault.TheVariants as fault;
 
-use crate::fault::OpenFault;
 use cell::{Cell, Shared, Unopened};
 use disk::Disk;
 use ids::{Refusal, Shape};
+use settings::OpenFault;
 use std::alloc::Global;
 use std::sync::Arc;
 use wire::{Watch, Wire};

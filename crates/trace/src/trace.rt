@@ -29,9 +29,15 @@ impl fmt::Display for Line {
 }
 
 /// The last [`TRACE_EVENTS`] calls.
-#[derive(Drop)]
 pub struct Trace {
     lines: HeapCircularBuffer<Line, Global>,
+}
+
+// Written out, so that the crates above need not prove anew how each field is dropped.
+impl Drop for Trace {
+    fn drop(self) {
+        let Trace { lines: _ } = self;
+    }
 }
 
 impl Model for Trace {

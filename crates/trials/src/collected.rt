@@ -1,8 +1,11 @@
 //! A whole cycle frees what can't be reached and nothing else, after lists of steps of programs
 //! that look random. What can be reached is worked out anew, by no means of the collector's.
+ghost use Rattle.std.specs.Prelude.{◌≡◌};
+ghost use Rattle.model.specs.World.{is_own_step};
+
+use crate::case::{Line, Stop, read};
 use crate::out::Out;
 use crate::random::{Dice, NODES, new_space, next_delivery, next_program_turn};
-use crate::reaching::is_own;
 use ids::{Ref, Refusal};
 use model::{Answer, Event, Outcome, Step};
 use std::alloc::Global;
@@ -14,8 +17,19 @@ const ROUNDS: u32 = 100;
 /// More messages than a list sends from one node to another, and more slots than a node has.
 const MANY: u32 = 10_000;
 
-/// So many lists of so many turns, each with a cycle after it.
-pub(crate) fn run(alloc: Global, lists: u64, turns: u32, least: u64, out: &mut Out) {
+/// A case over lists of steps.
+pub(crate) fn run(alloc: Global, lines: &[Line<'_>], out: &mut Out) -> Result<(), Stop> {
+    for line in lines {
+        let ["collect", lists, turns, least] = out.at(line) else {
+            return Err(Stop::Unknown);
+        };
+        collect(alloc, read(lists)?, read(turns)?, read(least)?, out);
+    }
+    Ok(())
+}
+
+// So many lists of so many turns, each with a cycle after it.
+fn collect(alloc: Global, lists: u64, turns: u32, least: u64, out: &mut Out) {
     let mut found = Found {
         freed: 0,
         kept: 0,
@@ -66,6 +80,13 @@ fn run_list(alloc: Global, mut dice: Dice, turns: u32, found: &mut Found) -> Res
     let done = walk.collect(alloc, found);
     drop(walk);
     done
+}
+
+// Whether the step may be asked of a space, which itself hands messages to nodes.
+fn is_own(step: Step) -> bool
+    ensures { result ≡ is_own_step step }
+{
+    !matches!(step, Step::Act(_, Event::Data(_) | Event::Ack(_)))
 }
 
 /// A space in which no cycle has begun yet.

@@ -21,7 +21,6 @@ mod players;
 mod programs;
 mod quiet;
 mod random;
-mod reaching;
 mod revived;
 mod shared;
 mod shelves;
@@ -167,7 +166,7 @@ fn take_simple(
         "opening" => openings::run(alloc, lines, out),
         "bytes" => frames::run(alloc, lines, out),
         "names" => names::run(lines, out),
-        "lists" => reaching::run(alloc, lines, out),
+        "lists" => collected::run(alloc, lines, out),
         "wire" => mailboxes::run(alloc, lines, out),
         "arena" => arenas::run(alloc, lines, out),
         _ => Err(Stop::Unknown),

@@ -12,7 +12,7 @@ const REGISTERS: u8 = 3;
 const PLACES: u8 = 2;
 
 /// The most steps of a turn.
-pub(crate) const MOST: usize = 5;
+const MOST: usize = 5;
 
 /// Numbers that look random, the same ones for each seed.
 #[derive(Drop)]
@@ -102,18 +102,6 @@ fn sent_event(dice: &mut Dice) -> Event {
     }
 }
 
-// What a node may do for the collector, in turn.
-fn collector_events(dice: &mut Dice) -> [Event; MOST] {
-    let count = u32::from(dice.below(4));
-    [
-        Event::Begin,
-        Event::Scan,
-        Event::Scan,
-        Event::Pass,
-        Event::Sweep { count },
-    ]
-}
-
 // How many messages the receiver has taken in from the sender.
 fn taken(sim: &Sim, from: u8, to: u8) -> u64 {
     match sim.node(to) {
@@ -143,25 +131,6 @@ fn saved_and_sent(dice: &mut Dice, sim: &Sim, from: u8) -> [Option<Step>; MOST] 
 // A turn of a single step.
 fn single(step: Step) -> [Option<Step>; MOST] {
     [Some(step), None, None, None, None]
-}
-
-/// What happens next: a step of a program, what the collector may do at a node, a save with
-/// deliveries, and now and then a restart or an acknowledgement.
-pub(crate) fn next_turn(dice: &mut Dice, sim: &Sim) -> [Option<Step>; MOST] {
-    let node = dice.node();
-    match dice.below(16) {
-        0..=3 => single(Step::Act(node, own_event(dice))),
-        4 | 5 => single(Step::Act(node, sent_event(dice))),
-        6..=9 => collector_events(dice).map(|event| Some(Step::Act(node, event))),
-        10 => match dice.below(4) {
-            0 => single(Step::Restart(node)),
-            _ => single(Step::Hand {
-                from: dice.other_than(node),
-                to: node,
-            }),
-        },
-        _ => saved_and_sent(dice, sim, node),
-    }
 }
 
 /// What happens next where no collection runs: a step of a program, a save with deliveries, or an

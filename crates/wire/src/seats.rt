@@ -16,7 +16,6 @@ use std::snapshot::Snapshot;
 /// What the threads of a space's nodes share: a mailbox from each node to each other one, the count
 /// of the events of all nodes, and a board with the last cycle that node 0 showed as ended. Every
 /// call is on `&self`, and takes no memory and never waits.
-#[derive(Drop)]
 pub struct Wire {
     // The mailboxes, then the count, then the board.
     pub(crate) table: Table<Vec<u8>, View, Opening, WireRule, Global>,
@@ -28,9 +27,19 @@ pub struct Wire {
     ghost few: { nodes ≤ GREATEST_NODES },
 }
 
+// Written out, so that the crates above need not prove anew how each field is dropped.
+impl Drop for Wire {
+    fn drop(self) {
+        let Wire {
+            table: _,
+            nodes: _,
+            alloc: _,
+        } = self;
+    }
+}
+
 /// The right of one node to act on a wire: to send and receive its frames, and to enter its events.
 /// A node has one.
-#[derive(Drop)]
 pub struct NodeSeat {
     pub(crate) seat: Seat<Vec<u8>, View>,
     pub(crate) node: usize,
@@ -42,15 +51,33 @@ pub struct NodeSeat {
     ghost room: { 2 * nodes ≤ vec_capacity held },
 }
 
+// Written out, so that the crates above need not prove anew how each field is dropped.
+impl Drop for NodeSeat {
+    fn drop(self) {
+        let NodeSeat {
+            seat: _,
+            node: _,
+            nodes: _,
+            held: _,
+        } = self;
+    }
+}
+
 /// A right to look at a wire's board, and what was seen there and heard of it. Node 0 had ended all
 /// of that, and was saved so.
-#[derive(Drop)]
 pub struct Watch {
     pub(crate) seat: Seat<Vec<u8>, View>,
     pub(crate) heard: Cycle,
     ghost watches: { IsWatching seat.me.0.role },
     ghost loaded: { WasEnded seat.me.0.opening seat.me.0.number },
     ghost told: { WasEnded seat.me.0.opening heard.number },
+}
+
+// Written out, so that the crates above need not prove anew how each field is dropped.
+impl Drop for Watch {
+    fn drop(self) {
+        let Watch { seat: _, heard: _ } = self;
+    }
 }
 
 /// A mailbox that its holder's seat has claimed, to be filled by [`Wire::post`]. It can't be

@@ -14,7 +14,7 @@ use Rattle.model.specs.Shading.{filled}
 use Rattle.model.specs.Steps.{carried}
 use Rattle.model.specs.View.{Link, NodeView, link_to, used, message_of}
 use Rattle.model.specs.Cuts.{Among}
-use Rattle.world.specs.Sites.{SiteView}
+use Rattle.site.specs.Sites.{SiteView}
 use Rattle.world.specs.Shows.{site_at, no_site}
 use Rattle.world.specs.Reach.{Adds, Follows, IsFound, given, standing, IsCarriedAt, Standing, carried_by, places_of, chosen}
 use Rattle.world.proofs.Finding.{Below, no_ref, adds-as, adds-kept, below-more, among-place, place-among, slice_read}

@@ -1,9 +1,5 @@
-pub mod Cuts
-pub mod OutboxLemmas
-pub mod SiteLemmas
 pub mod Refusals
 pub mod NeverTooLarge
-pub mod NewImages
 pub mod Shows
 pub mod Steps
 pub mod Deliveries

@@ -24,7 +24,7 @@ use Rattle.laws.proofs.Invariant.{Base}
 use Rattle.laws.proofs.Base.{all-base, inside-where}
 use Rattle.laws.proofs.Net.{run-heard}
 use Rattle.laws.proofs.KeepsSent.{run-count}
-use Rattle.world.specs.Sites.{SiteView}
+use Rattle.site.specs.Sites.{SiteView}
 use Rattle.world.specs.Shows.{ShowsNode, ShowsWorld, site_at}
 use Rattle.world.specs.Reach.{Adds, AreRead, Follows, node_or, IsFound, given, standing, IsCarried, IsRoot, places_of, chosen}
 use Rattle.world.proofs.Finding.{no_ref, among-filled, filled-among, among-place, place-among}

@@ -7,7 +7,7 @@ use Rattle.std.proofs.lemmas.List.FromFn.{get_or-map-range_with_len, length-map-
 use Rattle.model.specs.View.{NodeView}
 use Rattle.world.specs.Reach.{AreRead}
 use Rattle.world.specs.Shows.{site_at}
-use Rattle.world.specs.Sites.{SiteView}
+use Rattle.site.specs.Sites.{SiteView}
 
 module _ (sites : List SiteView) (saved : List Bool) where
   -- the saved node of a number, where it was chosen

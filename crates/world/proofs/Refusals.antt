@@ -1,5 +1,5 @@
 -- Refusals that are the first to apply.
-use Rattle.std.proofs.Common.{◌≡◌, ◌≢◌, Bool, true, false, Result, Ok, Err, ◌⊎◌, inl, inr, ⊎_elim, refl}
+use Rattle.std.proofs.Common.{◌≡◌, ◌≢◌, Bool, true, false, Result, Ok, Err, refl}
 use Rattle.std.specs.Prelude.{IsOk}
 use Rattle.ids.specs.declared.refusal.Refusal.{Refusal}
 use Rattle.ids.specs.declared.refusal.Refusal.TheVariants.{Memory, ImageTooLarge}
@@ -40,15 +40,6 @@ first-by shading x y e refuses answers h =
 pub refused-as : {Y : Type 0} (shading : Bool) (r : Result Y Refusal) (e : Refusal)
     → IsFirstRefusal shading e r → e ≢ Memory → r ≡ Err e
 refused-as shading r e h other = h.0 other
-
--- for want of memory, or for something else
-pub memory-or : (e : Refusal) → (e ≡ Memory) ⊎ (e ≢ Memory)
-memory-or Memory = inl refl
-memory-or e = inr (λ is. absurd cc)
-
-pub memory-alone : (e : Refusal) → (e ≢ Memory → ⊥) → e ≡ Memory
-memory-alone e never =
-    ⊎_elim {C = e ≡ Memory} (λ is. is) (λ other. absurd (never other)) (memory-or e)
 
 -- ---- of a step
 

@@ -1,9 +1,3 @@
-pub mod InsideFrames
-pub mod Outboxes
-pub mod InsideOutbox
-pub mod InsideSaved
-pub mod Sites
-pub mod InsideSite
 pub mod Shows
 pub mod Reach
 pub mod Spaces

@@ -12,7 +12,7 @@ use Rattle.model.specs.Shading.{roots, filled}
 use Rattle.model.specs.Steps.{carried}
 use Rattle.model.specs.View.{NodeView, link_to, message_of}
 use Rattle.model.specs.Cuts.{Among}
-use Rattle.world.specs.Sites.{SiteView}
+use Rattle.site.specs.Sites.{SiteView}
 use Rattle.world.specs.Shows.{site_at}
 
 -- the order of references: by node, slot and generation

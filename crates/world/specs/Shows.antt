@@ -18,8 +18,8 @@ use Rattle.model.specs.World.{World, KeepsSent, FollowsStep, acknowledged, new_w
 use Rattle.image.specs.Images.{image_of}
 use Rattle.node.specs.Summaries.{summary_of}
 use Rattle.node.specs.declared.summary.Summary.{Summary}
-use Rattle.world.specs.Outboxes.{IsFrameOf, numbered_bytes}
-use Rattle.world.specs.Sites.{SiteView, Acted, frames_to, new_site, bases, bases_to}
+use Rattle.site.specs.Outboxes.{IsFrameOf, numbered_bytes}
+use Rattle.site.specs.Sites.{SiteView, Acted, frames_to, new_site, bases, bases_to}
 
 -- the site of a node, and past the last one one that no space has
 abbrev pub no_site : SiteView

@@ -3,13 +3,9 @@
 //! therefore a run, and the theorems speak of what the space then shows.
 #![tactic(auto)]
 
-mod frames;
 mod headline;
-mod outbox;
 mod reaching;
-mod saved;
 mod sim;
-mod site;
 
 pub use headline::laws;
 pub use model::{Answer, Event, Letter, Outcome, Step};

@@ -30,21 +30,27 @@ ghost use Rattle.world.specs.Spaces.{
   step_met,
 };
 
-use crate::site::Site;
 use ids::{NodeId, Refusal, Shape};
 use model::{Answer, Event, Outcome, Step};
 use msg::{Ack, Frame, decode};
 use node::{Node, Summary};
+use site::Site;
 use std::alloc::Global;
 use std::marker::Model;
 
 /// A space of nodes in one thread. It keeps for each node the current one and the image of the one
 /// last saved, and for each ordered pair of nodes the bytes of all frames that were ever released.
 /// The current ones keep messages that came before their turn, each of which was released.
-#[derive(Drop)]
 pub struct Sim {
     alloc: Global,
     sites: Vec<Site>,
+}
+
+// Written out, so that the crates above need not prove anew how each field is dropped.
+impl Drop for Sim {
+    fn drop(self) {
+        let Sim { alloc: _, sites: _ } = self;
+    }
 }
 
 impl Model for Sim {

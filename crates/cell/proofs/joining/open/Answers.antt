@@ -1,6 +1,6 @@
 use Rattle.std.proofs.Common.{List, subst, sym}
 use Rattle.node.specs.Keeping.{WholeNode}
-use Rattle.image.proofs.Images.{kept_is}
+use Rattle.image.proofs.Spelled.{kept_is}
 use Rattle.cell.specs.Opened.{AreBeside, IsReadFrom}
 use Rattle.cell.proofs.OnShelves.{found-kept}
 use Rattle.cell.proofs.Ready.{opened}

@@ -1,5 +1,4 @@
-use Rattle.image.proofs.Later.{spelled_later}
-use Rattle.image.proofs.Spelled.{one_node, one_spelling, all_saved}
+use Rattle.image.proofs.Spelled.{one_node, one_spelling, all_saved, spelled_later}
 use Rattle.image.proofs.law.nodes_spelled.Goals as goal
 
 pub returns : goal.returns

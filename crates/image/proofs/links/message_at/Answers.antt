@@ -1,6 +1,9 @@
-use Rattle.std.proofs.Common.{◌∙◌, ◌+◌, ℕ, sym, ap, arith}
+use Rattle.std.proofs.Common.{◌≡◌, ◌∙◌, None, sym, arith}
+use Rattle.std.proofs.lemmas.List.{get_or_default}
+use Rattle.std.proofs.lemmas.Option.{same_Some}
 use Rattle.link.specs.Links.{link_at}
-use Rattle.image.proofs.Kept.{message_there, message_missing}
+use Rattle.model.specs.References.{no_message}
+use Rattle.image.proofs.Kept.{message_kept}
 use Rattle.image.proofs.links.message_at.Goals as goal
 
 pub overflow_add-base : goal.overflow_add-base
@@ -15,12 +18,15 @@ overflow_add-base-2 c =
 
 pub unreachable-requires : goal.unreachable-requires
 unreachable-requires c =
-    message_missing (link_at c.args.links.now c.args.to) (c.base.result + 1 + c.args.place)
-    c.args.place (ap (λ (n : ℕ). n + 1 + c.args.place) c.base.ensures) c.requires.kept
-    (sym c.message.ensures.value ∙ c.in-None.is)
+    let there = message_kept (link_at c.args.links.now c.args.to) c.base.result c.args.place
+    c.message.result c.base.ensures c.requires.kept c.message.ensures.value in
+    let none : c.message.result ≡ None = c.in-None.is in
+    absurd cc
 
 pub returns : goal.returns
 returns c =
-    message_there (link_at c.args.links.now c.args.to) (c.base.result + 1 + c.args.place)
-    c.args.place c.in-Some.message (ap (λ (n : ℕ). n + 1 + c.args.place) c.base.ensures)
-    (sym c.message.ensures.value ∙ c.in-Some.is)
+    let messages = (link_at c.args.links.now c.args.to).unacknowledged in
+    same_Some _ _ (sym c.in-Some.is
+    ∙ message_kept (link_at c.args.links.now c.args.to) c.base.result c.args.place
+    c.message.result c.base.ensures c.requires.kept c.message.ensures.value)
+    ∙ get_or_default messages c.args.place no_message c.in-Some.message c.requires.kept

@@ -1,10 +1,11 @@
 use Rattle.std.proofs.Common.{◌≡◌, ◌<◌, ◌≤◌, ℕ, List, take, length, sym, subst}
+use Rattle.std.specs.List.{remove}
 use Rattle.codec.specs.Writing.{PutsAll}
 use Rattle.codec.proofs.Writing.{written_also}
 use Rattle.msg.specs.declared.version.Version.TheVariants.{Second}
 use Rattle.image.specs.Links.{StoredLink}
 use Rattle.image.specs.Grammar.{link_format}
-use Rattle.image.specs.Images.{stored_links, without_at}
+use Rattle.image.specs.Images.{stored_links}
 use Rattle.image.proofs.Kept.{others_more, all_stored}
 use Rattle.image.proofs.links.put_links.Goals as goal
 
@@ -16,7 +17,7 @@ loop-to-preserved c =
     let within : to < length v.links =
     subst (λ (n : ℕ). to < n) c.width-to-end.ensures.value c.loop-to-test.true in
     let more = others_more own to v.links v.got within c.width-to-end.ensures.sound.received in
-    let before = without_at own (take to (stored_links v.links v.got)) in
+    let before = remove (take to (stored_links v.links v.got)) own in
     subst (PutsAll (link_format Second) c.args.out.now c.put_other.new.out) (sym more)
     (written_also (link_format Second).spell (link_format Second).IsWide before _
     c.args.out.now c.loop-to.out
@@ -29,5 +30,5 @@ returns c =
     all_stored v.links v.got c.loop-to.to c.width-to-end.ensures.sound.received
     (subst (λ (n : ℕ). n ≤ c.loop-to.to) c.width-to-end.ensures.value c.loop-to-test.false) in
     subst (λ (xs : List StoredLink).
-    PutsAll (link_format Second) c.args.out.now c.loop-to.out (without_at c.args.own xs)) all
+    PutsAll (link_format Second) c.args.out.now c.loop-to.out (remove xs c.args.own)) all
     c.loop-to.invariant

@@ -1,11 +1,12 @@
 use Rattle.std.proofs.Common.{take}
+use Rattle.std.specs.List.{remove}
 use Rattle.codec.specs.Writing.{PutsAll}
 use Rattle.msg.specs.declared.version.Version.TheVariants.{Second}
 use Rattle.image.specs.Grammar.{link_format}
-use Rattle.image.specs.Images.{stored_links, without_at}
+use Rattle.image.specs.Images.{stored_links}
 use Rattle.image.proofs.links.put_links.Given as goal
 
 abbrev pub invariant-loop-to : goal.invariant-loop-to
 invariant-loop-to l =
     PutsAll (link_format Second) l.fn.out l.out
-    (without_at l.own (take l.to (stored_links l.links.links l.links.got)))
+    (remove (take l.to (stored_links l.links.links l.links.got)) l.own)

@@ -1,32 +1,55 @@
-use Rattle.std.proofs.Common.{◌≡◌, ◌∙◌, ◌≤◌, ℕ, refl, ap, map, length, List, arith}
+use Rattle.std.proofs.Common.{◌≡◌, ◌++◌, ◌∙◌, refl, sym, ap, length, arith, append_assoc}
+use Rattle.std.proofs.lemmas.Grind.{common_steps}
 use Rattle.std.proofs.lemmas.List.{length-map}
-use Rattle.std.specs.List.{insert}
-use Rattle.model.specs.View.{Link, no_link}
 use Rattle.link.specs.Parts.{link_given, taken_given}
-use Rattle.link.specs.declared.parts.LinkParts.{LinkParts}
-use Rattle.image.specs.Nodes.{link_of, received_of, with_at}
-use Rattle.image.proofs.Made.{map-insert}
+use Rattle.image.specs.Nodes.{link_of}
+use Rattle.image.proofs.Elements.{map-insert}
+use Rattle.image.proofs.Made.{same_more}
 use Rattle.image.proofs.restoring.every_link.Goals as goal
 
-pub returns-clause-made : goal.returns-clause-made
-returns-clause-made c =
-    let stored = c.args.stored.items in
-    let own = c.args.own in
-    let links = c.in_ok-links.links.items in
-    let within : own ≤ length links = omega (
+pub loop-link-preserved : goal.loop-link-preserved
+loop-link-preserved c =
+    let old = c.loop-link.invariant in
+    let one = c.given_link.ensures in
+    record {
+      came = append_assoc c.loop-link.yielded _ _
+          ∙ ap (λ xs. c.loop-link.yielded ++ xs) (sym c.in-Some.ensures.steps.0) ∙ old.came;
+      sent = rw c.in_ok-push.ensures.items (same_more _ _ _ c.loop-link.yielded _ _ old.sent one.sent);
+      taken = rw c.in_ok-push.ensures.items
+          (same_more _ _ _ c.loop-link.yielded _ _ old.taken one.taken);
+    }
+
+pub insert-requires : goal.insert-requires
+insert-requires c =
+    let all : c.loop-link.yielded ≡ c.args.stored.items = grind (arith, common_steps) in
+    omega (
       arith,
       c.requires,
-      ap length c.in_ok-links.ensures.sent,
-      length-map links link_given,
-      length-map stored link_of,
-    ) in
-    let none : LinkParts = record { base = 0; messages = c.new.result; taken = 0 } in
-    let empty : link_given none ≡ no_link = rw c.new.ensures.items refl in
-    let sent : map link_given (insert links own none) ≡ with_at own no_link (map link_of stored) =
-    map-insert link_given own links none within
-    ∙ ap (λ (l : Link). with_at own l (map link_given links)) empty
-    ∙ ap (λ (ls : List Link). with_at own no_link ls) c.in_ok-links.ensures.sent in
-    let taken : map taken_given (insert links own none) ≡ with_at own 0 (map received_of stored) =
-    map-insert taken_given own links none within
-    ∙ ap (λ (ks : List ℕ). with_at own 0 ks) c.in_ok-links.ensures.taken in
-    rw (c.in_ok-insert.ensures.items, c.from.ensures, sent, taken) refl
+      ap length c.loop-link.invariant.sent,
+      ap length all,
+      length-map c.loop-link.links.items link_given,
+      length-map c.loop-link.yielded link_of,
+    )
+
+pub returns-clause-sent : goal.returns-clause-sent
+returns-clause-sent c =
+    let all : c.loop-link.yielded ≡ c.args.stored.items = grind (arith, common_steps) in
+    rw (
+      c.in_ok-insert.ensures.items,
+      c.from.ensures,
+      map-insert link_given c.loop-link.links.items c.args.own _,
+      c.new.ensures.items,
+      c.loop-link.invariant.sent,
+      all,
+    ) refl
+
+pub returns-clause-taken : goal.returns-clause-taken
+returns-clause-taken c =
+    let all : c.loop-link.yielded ≡ c.args.stored.items = grind (arith, common_steps) in
+    rw (
+      c.in_ok-insert.ensures.items,
+      c.from.ensures,
+      map-insert taken_given c.loop-link.links.items c.args.own _,
+      c.loop-link.invariant.taken,
+      all,
+    ) refl

@@ -1,6 +1,4 @@
-use Rattle.std.proofs.Common.{◌≢◌, ◌≡◌, ◌<◌, ◌≤◌, ℕ, [], ◌∙◌, length, subst}
-use Rattle.std.specs.Prelude.{IfErr}
-use Rattle.ids.specs.declared.refusal.Refusal.TheVariants.{Memory, ImageTooLarge}
+use Rattle.std.proofs.Common.{[], ◌∙◌}
 use Rattle.codec.specs.Writing.{IsOpen}
 use Rattle.image.specs.Grammar.{spelling, image_format}
 use Rattle.image.specs.Images.{image_of}
@@ -26,16 +24,13 @@ returns-clause-image c =
 pub returns-clause-refused : goal.returns-clause-refused
 unfolding spelling
 returns-clause-refused c =
-    let text = image_of c.args.core.now in
-    subst (λ (limit : ℕ). IfErr c.finish.result (λ e. e ≢ Memory
-    → (e ≡ ImageTooLarge) × (limit < length text)))
-    (c.put_node.ensures.limit ∙ c.new-out.ensures.limit)
-    (c.finish.ensures.refused text (c.put_node.ensures.more [] c.new-out.ensures.empty))
+    rw (c.put_node.ensures.limit, c.new-out.ensures.limit) at
+    (c.finish.ensures.refused (image_of c.args.core.now)
+    (c.put_node.ensures.more [] c.new-out.ensures.empty))
 
 pub returns-clause-last : goal.returns-clause-last
 unfolding spelling
 returns-clause-last c =
-    let text = image_of c.args.core.now in
-    subst (λ (limit : ℕ). IfErr c.finish.result (λ e. e ≡ Memory → length text ≤ limit))
-    (c.put_node.ensures.limit ∙ c.new-out.ensures.limit)
-    (c.finish.ensures.last text (c.put_node.ensures.more [] c.new-out.ensures.empty))
+    rw (c.put_node.ensures.limit, c.new-out.ensures.limit) at
+    (c.finish.ensures.last (image_of c.args.core.now)
+    (c.put_node.ensures.more [] c.new-out.ensures.empty))

@@ -1,10 +1,7 @@
-use Rattle.std.proofs.Common.{◌≡◌, ◌≤◌, ℕ, List, Option, length, refl, sym, subst, arith}
-use Rattle.std.specs.Prelude.{⊤}
-use Rattle.ids.specs.declared.names.Ref.{Ref}
-use Rattle.ids.specs.declared.limits.TheConstants.{GREATEST_PLACES}
+use Rattle.std.proofs.Common.{◌≡◌, refl, subst, arith}
 use Rattle.arena.specs.declared.Slot.TheVariants.{Occupied}
 use Rattle.codec.specs.Formats.{number8}
-use Rattle.codec.specs.Writing.{Writes, Puts}
+use Rattle.codec.specs.Writing.{Puts}
 use Rattle.codec.proofs.Writing.{both, so}
 use Rattle.model.specs.State.{Object}
 use Rattle.msg.specs.declared.version.Version.TheVariants.{Second}
@@ -14,6 +11,8 @@ use Rattle.image.proofs.slots.put_occupied.Goals as goal
 pub returns : goal.returns
 unfolding slot_format object_format places_format width_format number8
 returns c =
+    let few = rw (← c.contents-places.ensures.value) at c.contents-places.ensures.few in
+    let head = rw c.occupied_head.ensures at c.append.ensures in
     let made : Object = record {
       word = c.word-word.result;
       places = c.contents-places.result.now;
@@ -24,12 +23,6 @@ returns c =
       c.contents-places.ensures.value,
       c.marked_by-mark.ensures,
     ) refl in
-    let few : length c.contents-places.result.now ≤ GREATEST_PLACES =
-    subst (λ (xs : List (Option Ref)). length xs ≤ GREATEST_PLACES)
-    (sym c.contents-places.ensures.value) c.contents-places.ensures.few in
-    let head =
-    subst (λ (t : List ℕ). Writes c.args.out.now c.append.new.self t ⊤) c.occupied_head.ensures
-    c.append.ensures in
     subst (λ (o : Object).
     Puts (slot_format Second) c.args.out.now c.put_all.new.out (Occupied c.args.generation o)) same
     (so (λ k. (omega arith, (omega arith, (omega arith, (omega (arith, few), k.1)))))

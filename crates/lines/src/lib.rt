@@ -1,0 +1,11 @@
+//! One line of a script: what it says, and how what it comes to is printed.
+#![tactic(auto)]
+
+mod ending;
+mod line;
+mod printing;
+mod text;
+
+pub use line::{Line, read_u8, read_u16};
+pub use printing::{print_outcome, print_report};
+pub use text::{OutcomeText, SummaryText, answer_text};

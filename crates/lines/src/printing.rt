@@ -1,0 +1,39 @@
+//! Prints what a script's lines come to.
+ghost use Rattle.std.specs.Prelude.{◌≡◌, ◌∷◌, [], ◌++◌, OnOk};
+ghost use Rattle.std.specs.Io.KnownBytes.{Appends};
+ghost use Rattle.lines.specs.Text.{cycle_line, outcome_text, report_text};
+
+use crate::text::outcome_line;
+use model::Outcome;
+use std::io;
+use std::io::Write;
+
+/// Prints what became of a step that was not refused, in one call.
+pub fn print_outcome<W: Write>(out: &mut W, outcome: Outcome) -> io::Result<()>
+    ensures { OnOk result
+        (Appends (W.contents out.old) (W.contents out.new) (outcome_text outcome ++ 10 ∷ [])) }
+{
+    out.write_all(outcome_line(outcome).as_bytes())
+}
+
+/// Prints how many objects the sweeps of each cycle freed, a line for each.
+pub fn print_report<W: Write>(out: &mut W, sums: &[u64]) -> io::Result<()>
+    ensures { OnOk result
+        (Appends (W.contents out.old) (W.contents out.new) (report_text sums.now)) }
+{
+    if sums.is_empty() {
+        return writeln!(out, "no sweep");
+    }
+    for (place, freed) in sums.iter().enumerate() {
+        print_cycle(out, place + 1, *freed)?;
+    }
+    Ok(())
+}
+
+/// Prints how many objects the sweeps of a cycle freed.
+fn print_cycle<W: Write>(out: &mut W, cycle: usize, freed: u64) -> io::Result<()>
+    ensures { OnOk result
+        (Appends (W.contents out.old) (W.contents out.new) (cycle_line cycle freed)) }
+{
+    writeln!(out, "cycle {cycle} freed {freed}")
+}

@@ -1,0 +1,250 @@
+//! The texts of what a script's lines come to. Each outcome has one text, which a definition gives
+//! too.
+ghost use Rattle.std.specs.Prelude.{◌≡◌, ◌≤◌, ◌+◌, ◌∷◌, [], ◌++◌, Some, IfOk, IfErr, codes, decimal, length, string_bytes};
+ghost use Rattle.ids.specs.Texts.{reference_text};
+ghost use Rattle.ids.specs.declared.refusal.Refusal.TheVariants.{Memory};
+ghost use Rattle.lines.specs.Endings.{Grows, held};
+ghost use Rattle.lines.specs.declared.ending.TheConstants.{ROOM};
+ghost use Rattle.lines.specs.declared.text.TheConstants.{LONGEST};
+ghost use Rattle.lines.specs.Text.{answer_text as said, counts_text, cycles_text, done_or_more, freed_text, letter_text, outcome_text, passed_text, ring_text, summary_text, yes_or_no};
+
+use crate::ending::Ending;
+use ids::{Ref, Refusal};
+use model::{Answer, Letter, Outcome};
+use msg::{Colour, Token};
+use node::Summary;
+use std::alloc::Global;
+use std::{fmt, str};
+
+/// The most bytes that what became of a step takes.
+const LONGEST: usize = 120;
+
+/// The text of what became of a step: a reference, a reference or `-` for what stood in a place, an
+/// object's word, `ok`, `sent` and the message's number, `from`, the sender, `label`, the label and
+/// the reference or `-`, `cycle` and the cycle that begins, `scanned` and the reference, `passed`,
+/// the token's sum and its colour, `probe again`, `ended` and the cycle, `freed`, the count and
+/// `done` or `more`, `received`, `repeat`, `early`, `ack` and the number acknowledged, or
+/// `no frame`. The only refusal is [`Refusal::Memory`].
+pub fn answer_text(alloc: Global, outcome: &Outcome) -> Result<String, Refusal>
+    ensures text { IfOk result (λ s. string_bytes s ≡ outcome_text outcome.now) }
+    ensures refused { IfErr result (λ e. e ≡ Memory) }
+{
+    let text = format!(in alloc; "{}", OutcomeText(*outcome))?;
+    Ok(text)
+}
+
+/// Writes what became of a step that was not refused.
+#[derive(Clone, Copy)]
+pub struct OutcomeText(pub Outcome);
+
+impl fmt::Display for OutcomeText {
+    ghost output = { λ t. Some (outcome_text t.0) };
+
+    fn fmt<W: fmt::Write>(&self, f: &mut fmt::Formatter<W>) -> fmt::Result {
+        let mut text = Ending::new();
+        put_outcome(&mut text, self.0);
+        // (each of these texts is ASCII, but no clause says that)
+        match str::from_utf8(text.as_bytes()) {
+            Ok(text) => f.write_str(text),
+            Err(_) => Err(fmt::Error),
+        }
+    }
+}
+
+/// The line of what became of a step that was not refused.
+pub(crate) fn outcome_line(outcome: Outcome) -> Ending
+    ensures line { held result ≡ outcome_text outcome ++ 10 ∷ [] }
+    ensures room { result.start ≤ ROOM }
+{
+    let mut line = Ending::new();
+    line.put_byte(b'\n');
+    put_outcome(&mut line, outcome);
+    line
+}
+
+/// Puts what became of a step that was not refused before a text.
+#[tactic(auto, using(crate::proofs::Endings::both))]
+fn put_outcome(text: &mut Ending, outcome: Outcome)
+    requires { (LONGEST ≤ text.old.start) × (text.old.start ≤ ROOM) }
+    ensures grows { Grows (outcome_text outcome) text.old text.new }
+    ensures room { text.new.start ≤ text.old.start }
+{
+    match outcome {
+        Outcome::Answer(answer) => put_answer(text, answer),
+        Outcome::Done => text.put(b"ok"),
+        Outcome::Handed(number) => put_named(text, b"ack ", number),
+        Outcome::NoFrame => text.put(b"no frame"),
+    }
+}
+
+/// Puts what a node answered before a text.
+#[tactic(auto, using(crate::proofs::Endings::both))]
+fn put_answer(text: &mut Ending, answer: Answer)
+    requires { (LONGEST ≤ text.old.start) × (text.old.start ≤ ROOM) }
+    ensures grows { Grows (said answer) text.old text.new }
+    ensures room { text.new.start ≤ text.old.start }
+{
+    match answer {
+        Answer::New(reference) => text.put_reference(reference),
+        Answer::Done => text.put(b"ok"),
+        Answer::Value(value) => text.put_optional(value),
+        Answer::Word(word) => text.put_number(word),
+        Answer::Sent(number) => put_named(text, b"sent ", number),
+        Answer::Letter(letter) => put_letter(text, letter),
+        Answer::Begun(cycle) => put_named(text, b"cycle ", cycle),
+        Answer::Scanned(reference) => put_scanned(text, reference),
+        Answer::Passed(token) => put_passed(text, token),
+        Answer::ProbeAgain => text.put(b"probe again"),
+        Answer::Ended(cycle) => put_named(text, b"ended ", cycle),
+        Answer::Freed { count, done } => put_freed(text, count, done),
+        Answer::Received => text.put(b"received"),
+        Answer::Repeat => text.put(b"repeat"),
+        Answer::Early => text.put(b"early"),
+    }
+}
+
+/// Puts a number, and its name before that.
+#[tactic(auto, using(crate::proofs::Endings::both))]
+fn put_named(text: &mut Ending, name: &[u8], number: u64)
+    requires { (length name.now + 20 ≤ text.old.start) × (text.old.start ≤ ROOM) }
+    ensures grows { Grows (name.now ++ decimal number) text.old text.new }
+    ensures room { text.new.start ≤ text.old.start }
+{
+    text.put_number(number);
+    text.put(name);
+}
+
+/// Puts a letter that a program took before a text.
+#[tactic(auto, using(crate::proofs::Endings::both))]
+fn put_letter(text: &mut Ending, letter: Letter)
+    requires { (LONGEST ≤ text.old.start) × (text.old.start ≤ ROOM) }
+    ensures grows { Grows (letter_text letter) text.old text.new }
+    ensures room { text.new.start ≤ text.old.start }
+{
+    text.put_optional(letter.reference);
+    text.put_byte(b' ');
+    text.put_number(u64::from(letter.label));
+    text.put(b" label ");
+    text.put_number(u64::from(letter.from));
+    text.put(b"from ");
+}
+
+#[tactic(auto, using(crate::proofs::Endings::both))]
+fn put_scanned(text: &mut Ending, reference: Ref)
+    requires { (LONGEST ≤ text.old.start) × (text.old.start ≤ ROOM) }
+    ensures grows { Grows (codes "scanned " ++ reference_text reference) text.old text.new }
+    ensures room { text.new.start ≤ text.old.start }
+{
+    text.put_reference(reference);
+    text.put(b"scanned ");
+}
+
+#[tactic(auto, using(crate::proofs::Endings::both))]
+fn put_passed(text: &mut Ending, token: Token)
+    requires { (LONGEST ≤ text.old.start) × (text.old.start ≤ ROOM) }
+    ensures grows { Grows (passed_text token) text.old text.new }
+    ensures room { text.new.start ≤ text.old.start }
+{
+    match token.colour {
+        Colour::White => text.put(b"white"),
+        Colour::Black => text.put(b"black"),
+    }
+    text.put_byte(b' ');
+    text.put_signed(token.q);
+    text.put(b"passed ");
+}
+
+#[tactic(auto, using(crate::proofs::Endings::both))]
+fn put_freed(text: &mut Ending, count: u32, done: bool)
+    requires { (LONGEST ≤ text.old.start) × (text.old.start ≤ ROOM) }
+    ensures grows { Grows (freed_text count done) text.old text.new }
+    ensures room { text.new.start ≤ text.old.start }
+{
+    text.put(done_or_more(done).as_bytes());
+    text.put_byte(b' ');
+    text.put_number(u64::from(count));
+    text.put(b"freed ");
+}
+
+/// Writes a node in numbers.
+#[derive(Clone, Copy)]
+pub struct SummaryText(pub Summary);
+
+impl fmt::Display for SummaryText {
+    ghost output = { λ t. Some (summary_text t.0) };
+
+    fn fmt<W: fmt::Write>(&self, f: &mut fmt::Formatter<W>) -> fmt::Result {
+        let cycles = CyclesText(self.0);
+        let ring = RingText(self.0);
+        let counts = CountsText(self.0);
+        write!(f, "{cycles} {ring} {counts}")
+    }
+}
+
+/// Writes a node's cycles.
+#[derive(Clone, Copy)]
+struct CyclesText(Summary);
+
+impl fmt::Display for CyclesText {
+    ghost output = { λ t. Some (cycles_text t.0) };
+
+    fn fmt<W: fmt::Write>(&self, f: &mut fmt::Formatter<W>) -> fmt::Result {
+        let Summary {
+            cycle,
+            ended,
+            swept,
+            ..
+        } = self.0;
+        write!(f, "cycle {cycle} ended {ended} swept {swept}")
+    }
+}
+
+/// Writes a node's part of the ring.
+#[derive(Clone, Copy)]
+struct RingText(Summary);
+
+impl fmt::Display for RingText {
+    ghost output = { λ t. Some (ring_text t.0) };
+
+    fn fmt<W: fmt::Write>(&self, f: &mut fmt::Formatter<W>) -> fmt::Result {
+        let Summary {
+            colour,
+            earlier,
+            recent,
+            ..
+        } = self.0;
+        write!(f, "colour {colour} old {earlier} cur {recent}")
+    }
+}
+
+/// Writes how much a node holds.
+#[derive(Clone, Copy)]
+struct CountsText(Summary);
+
+impl fmt::Display for CountsText {
+    ghost output = { λ t. Some (counts_text t.0) };
+
+    fn fmt<W: fmt::Write>(&self, f: &mut fmt::Formatter<W>) -> fmt::Result {
+        let Summary {
+            grey,
+            live,
+            has_token,
+            letters,
+            ..
+        } = self.0;
+        let token = yes_or_no(has_token);
+        write!(f, "grey {grey} live {live} token {token} letters {letters}")
+    }
+}
+
+fn done_or_more(done: bool) -> &'static str
+    ensures { result.now ≡ done_or_more done }
+{
+    if done { "done" } else { "more" }
+}
+
+fn yes_or_no(yes: bool) -> &'static str
+    ensures { result.now ≡ yes_or_no yes }
+{
+    if yes { "yes" } else { "no" }
+}

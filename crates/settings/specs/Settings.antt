@@ -1,0 +1,64 @@
+-- What a TOML document says of a space.
+use Rattle.std.specs.Prelude.{ℕ, ℤ, pos, ◌==◌, ◌&&◌, nat_le, suc, cond, List, Option, Some, None, codes, is_some, option_and_then, option_map, string_bytes}
+use Rattle.ids.specs.Limits.{Shaped}
+use Rattle.ids.specs.declared.limits.TheConstants.{LEAST_NODES, GREATEST_NODES}
+use Rattle.ids.specs.declared.limits.TheConstants.{GREATEST_REGISTERS, GREATEST_SLOTS}
+use Rattle.toml.specs.Data.{Data, Members, no_members, member, as_integer, as_str, get_member}
+use Rattle.toml.specs.Parse.{parse_document}
+use Rattle.settings.specs.declared.config.Config.{Config}
+use Rattle.settings.specs.declared.config.Found.{Found}
+use Rattle.settings.specs.declared.config.TheConstants.{GREATEST_TURNS}
+
+-- the sizes of a space, the most turns of a worker, and the folder of its disks
+pub record Settings : Type 0 where
+  pub shape : Shaped
+  pub turns : ℕ
+  pub folder : Option (List ℕ)
+
+abbrev pub settings_of : Config → Settings
+settings_of c =
+    record { shape = c.shape; turns = c.turns; folder = option_map (λ s. string_bytes s) c.folder }
+
+abbrev pub found_settings : Found → Settings
+found_settings f =
+    record { shape = f.shape; turns = f.turns; folder = option_map (λ s. s.now) f.folder }
+
+-- a number within these limits
+abbrev pub within : ℕ → ℕ → Option ℤ → Option ℕ
+within least greatest (Some (pos n)) = cond (nat_le least n && nat_le n greatest) (Some n) None
+within least greatest _ = None
+
+abbrev pub number_at : List ℕ → ℕ → ℕ → Members → Option ℕ
+number_at key least greatest t =
+    within least greatest (option_and_then as_integer (get_member key t))
+
+-- a text or nothing; anything else is refused
+abbrev pub folder_in : Option Data → Option (Option (List ℕ))
+folder_in None = Some None
+folder_in (Some d) = option_map (λ s. Some s) (as_str d)
+
+-- how many keys there are: a key stands once in a table
+abbrev pub count_keys : Members → ℕ
+count_keys no_members = 0
+count_keys (member key d ms) = suc (count_keys ms)
+
+abbrev pub shape_at : Members → Option Shaped
+shape_at t =
+    option_and_then (λ nodes. option_and_then (λ registers. option_map (λ slots.
+    record { nodes = nodes; registers = registers; slots = slots })
+    (number_at (codes "slots") 1 GREATEST_SLOTS t))
+    (number_at (codes "registers") 1 GREATEST_REGISTERS t))
+    (number_at (codes "nodes") LEAST_NODES GREATEST_NODES t)
+
+-- the four keys that are wanted, and the folder where it is there, and no other key
+abbrev pub table_settings : Members → Option Settings
+table_settings t =
+    option_and_then (λ shape. option_and_then (λ turns. option_and_then (λ folder.
+    cond (count_keys t == cond (is_some folder) 5 4)
+    (Some (record { shape = shape; turns = turns; folder = folder })) None)
+    (folder_in (get_member (codes "folder") t)))
+    (number_at (codes "turns") 1 GREATEST_TURNS t))
+    (shape_at t)
+
+abbrev pub text_settings : List ℕ → Option Settings
+text_settings text = option_and_then table_settings (parse_document text)

@@ -1,0 +1,186 @@
+//! The configuration of a space, as a TOML document says it. It is read exactly: a key more, a key
+//! less or a number outside its limits makes it none.
+ghost use Rattle.std.specs.Prelude.{◌≡◌, ◌≤◌, ◌<◌, ◌⊎◌, None, Some, IfErr, IfOk, IfSome, cond};
+ghost use Rattle.std.specs.Prelude.{◌==◌, option_and_then, option_map};
+ghost use Rattle.toml.specs.Data.{as_integer, get_member};
+ghost use Rattle.toml.specs.View.{table_view, view};
+ghost use Rattle.ids.specs.declared.refusal.Refusal.TheVariants.{Memory};
+ghost use Rattle.settings.specs.Settings.{count_keys, found_settings, settings_of, folder_in};
+ghost use Rattle.settings.specs.Settings.{number_at, shape_at, table_settings, text_settings};
+ghost use Rattle.settings.specs.Settings.{within};
+ghost use Rattle.settings.specs.declared.fault.OpenFault.TheVariants as fault;
+
+use crate::fault::OpenFault;
+use ids::{GREATEST_NODES, GREATEST_REGISTERS, GREATEST_SLOTS, LEAST_NODES, Refusal, Shape};
+use std::alloc::Global;
+use toml::{Table, Value};
+
+/// The greatest number of turns that a worker may be given.
+pub const GREATEST_TURNS: u32 = 1_000_000;
+
+/// How many keys a configuration has without the key `folder`.
+const KEYS: usize = 4;
+
+/// How a space is to be opened and run.
+#[derive(Drop)]
+pub struct Config {
+    /// How many nodes the space has, and how large each is.
+    pub shape: Shape,
+    /// How many turns each worker takes at most.
+    pub turns: u32,
+    /// The folder in which each node has a folder for its disk; none for disks in memory.
+    pub folder: Option<String>,
+}
+
+// What a table says.
+#[derive(Clone, Copy)]
+struct Found<'a> {
+    shape: Shape,
+    turns: u32,
+    folder: Option<&'a str>,
+}
+
+impl Config {
+    /// What a TOML document says that has these keys at its top and no others: `nodes`, 2 to 64;
+    /// `registers`, 1 to 256; `slots`, 1 to 1,048,576; `turns`, 1 to 1,000,000; and, if it is
+    /// there, `folder`, a text.
+    ///
+    /// `Config` exactly where the text is no such document; or Memory, in place of either answer.
+    pub fn from_text(alloc: Global, text: &str) -> Result<Config, OpenFault>
+        ensures read { IfOk result (λ c. text_settings text.now ≡ Some (settings_of c)) }
+        ensures refused { IfErr result (λ e.
+            ((e ≡ fault.Config) × (text_settings text.now ≡ None)) ⊎ (e ≡ fault.Refused Memory)) }
+    {
+        match toml::table_from_str(alloc, text) {
+            Ok(table) => config_in(alloc, &table),
+            Err(error) => {
+                if error.is_memory() {
+                    Err(OpenFault::Refused(Refusal::Memory))
+                } else {
+                    Err(OpenFault::Config)
+                }
+            }
+        }
+    }
+}
+
+// The configuration that a table is.
+fn config_in(alloc: Global, table: &Table) -> Result<Config, OpenFault>
+    ensures read { IfOk result (λ c. table_settings (table_view table.now) ≡ Some (settings_of c)) }
+    ensures refused { IfErr result (λ e.
+        ((e ≡ fault.Config) × (table_settings (table_view table.now) ≡ None))
+        ⊎ (e ≡ fault.Refused Memory)) }
+{
+    let Some(found) = found_in(table) else {
+        return Err(OpenFault::Config);
+    };
+    let folder = match found.folder {
+        Some(text) => match String::from_str(alloc, text) {
+            Ok(folder) => Some(folder),
+            Err(_) => return Err(OpenFault::Refused(Refusal::Memory)),
+        },
+        None => None,
+    };
+    Ok(Config {
+        shape: found.shape,
+        turns: found.turns,
+        folder,
+    })
+}
+
+// What a table says, if it is a configuration.
+fn found_in(table: &Table) -> Option<Found<'_>>
+    ensures { option_map found_settings result ≡ table_settings (table_view table.now) }
+{
+    let shape = shape_in(table)?;
+    let turns = number_at(table, "turns", 1, GREATEST_TURNS)?;
+    let folder = folder_in(value_at(table, "folder"))?;
+    if !has_keys(table, folder.is_some()) {
+        return None;
+    }
+    Some(Found {
+        shape,
+        turns,
+        folder,
+    })
+}
+
+// Whether a table has as many keys as a configuration with a folder or without.
+fn has_keys(table: &Table, with_folder: bool) -> bool
+    ensures { result ≡ (count_keys (table_view table.now) == cond with_folder 5 4) }
+{
+    let keys = if with_folder { KEYS + 1 } else { KEYS };
+    count_in(table) == keys
+}
+
+fn count_in(table: &Table) -> usize
+    ensures { result ≡ count_keys (table_view table.now) }
+{
+    table.len()
+}
+
+// The sizes that a table says, if all three are there and within their limits.
+fn shape_in(table: &Table) -> Option<Shape>
+    ensures { result ≡ shape_at (table_view table.now) }
+{
+    let nodes = number_at(
+        table,
+        "nodes",
+        u32::from(LEAST_NODES),
+        u32::from(GREATEST_NODES),
+    )?;
+    let most_registers = u32::from(GREATEST_REGISTERS);
+    let registers = number_at(table, "registers", 1, most_registers)?;
+    let slots = number_at(table, "slots", 1, GREATEST_SLOTS)?;
+    match Shape::new(nodes as u8, registers as u16, slots) {
+        Some(shape) => Some(shape),
+        None => unreachable!(),
+    }
+}
+
+// The number under a key, if one is there and within these limits.
+fn number_at(table: &Table, key: &str, least: u32, greatest: u32) -> Option<u32>
+    ensures value { result ≡ number_at key.now least greatest (table_view table.now) }
+    ensures within { IfSome result (λ n. (least ≤ n) × (n ≤ greatest)) }
+{
+    number_within(integer_in(value_at(table, key)), least, greatest)
+}
+
+// The number, if it is one within these limits.
+fn number_within(number: Option<i64>, least: u32, greatest: u32) -> Option<u32>
+    ensures value { result ≡ within least greatest number }
+    ensures within { IfSome result (λ n. (least ≤ n) × (n ≤ greatest)) }
+{
+    let number = u32::try_from(number?).ok()?;
+    if least <= number && number <= greatest {
+        Some(number)
+    } else {
+        None
+    }
+}
+
+fn integer_in(value: Option<&Value>) -> Option<i64>
+    ensures { result ≡ option_and_then as_integer (option_map (λ v. view v.now) value.entry) }
+{
+    match value {
+        Some(value) => value.as_integer(),
+        None => None,
+    }
+}
+
+// The text there, if anything is: the outer None is for a value that is no text.
+fn folder_in(value: Option<&Value>) -> Option<Option<&str>>
+    ensures { option_map (λ o. option_map (λ s. s.now) o) result
+        ≡ folder_in (option_map (λ v. view v.now) value.entry) }
+{
+    match value {
+        Some(value) => value.as_str().map(Some),
+        None => Some(None),
+    }
+}
+
+fn value_at<'a>(table: &'a Table, key: &str) -> Option<&'a Value>
+    ensures { option_map (λ v. view v.now) result ≡ get_member key.now (table_view table.now) }
+{
+    table.get(key)
+}

@@ -1,0 +1,19 @@
+use Rattle.std.proofs.Common.{sym, arith}
+use Rattle.std.proofs.lemmas.List.{length_push}
+use Rattle.msg.specs.Frames.{plain}
+use Rattle.site.proofs.OutboxLemmas.{staged_more}
+use Rattle.site.proofs.outbox.stage_frames.Goals as goal
+
+pub loop-place-preserved : goal.loop-place-preserved
+loop-place-preserved c = record {
+  count = rw c.in_ok-push.ensures.done
+      (omega (
+        arith,
+        length_push c.loop-place.frames c.deref.result.now,
+        c.loop-place.invariant.count,
+      ));
+  staged = rw (c.in_ok-push.ensures.done, c.deref.ensures.value)
+      (staged_more (plain c.in-Some.frame) _ c.requires.other
+      (rw (sym c.loop-place.invariant.count) at c.in-Some.ensures)
+      c.in_ok-encode.ensures.spelled c.loop-place.invariant.staged);
+}

@@ -1,0 +1,77 @@
+use Rattle.std.proofs.Common.{List, length, map, ap, sym, ◌∙◌, ℕ, subst}
+use Rattle.std.proofs.lemmas.List.{with_items_is, length-map}
+use Rattle.std.proofs.lemmas.Result.{err_from_is_err_and}
+use Rattle.site.specs.Outboxes.{released_frames}
+use Rattle.node.specs.Keeping.{WholeNode}
+use Rattle.site.specs.Sites.{KeepingSite, IsSite}
+use Rattle.site.proofs.SiteLemmas.{site-saved}
+use Rattle.site.proofs.site.Site.save.Goals as goal
+
+-- once all counts as saved, the image says the node
+pub new-requires : goal.new-requires
+new-requires c =
+    rw (c.in_ok-image.ensures.written, c.core-2.ensures.value, c.kept.ensures)
+    c.in_ok-image.ensures.image
+
+-- frames that were made and not released show nowhere
+pub invariant_of-self : goal.invariant_of-self
+invariant_of-self c =
+    let wrote = with_items_is c.self.inside.outboxes c.release_all.new.row
+    (c.release_all.auto.row ∙ c.deref_mut.ensures.len) in
+    let same = c.in_err-release_all.ensures.unchanged
+    ∙ ap (map released_frames) c.deref_mut.ensures.value in
+    rw wrote
+    (subst
+    (λ (rows : List (List (List ℕ))).
+    IsSite (record {
+      current = c.self.inside.current.core;
+      saved = c.self.inside.saved;
+      released = rows;
+    }))
+    (sym same) c.self.invariant)
+
+pub returns-in_err-release_all-clause-unchanged : goal.returns-in_err-release_all-clause-unchanged
+returns-in_err-release_all-clause-unchanged c =
+    let wrote = with_items_is c.self.inside.outboxes c.release_all.new.row
+    (c.release_all.auto.row ∙ c.deref_mut.ensures.len) in
+    let same = c.in_err-release_all.ensures.unchanged
+    ∙ ap (map released_frames) c.deref_mut.ensures.value in
+    let site : List (List (List ℕ)) → KeepingSite = λ rows. record {
+      site = record {
+        current = c.self.inside.current.core;
+        saved = c.self.inside.saved;
+        released = rows;
+      };
+      early = c.self.inside.current.early;
+    } in
+    let p = err_from_is_err_and c.from_residual-in_err-release_all.result
+    c.from_residual-in_err-release_all.ensures.1 in
+    rw (← c.self.view_is, wrote, p.1) (ap site same)
+
+pub invariant_of-self-2 : goal.invariant_of-self-2
+invariant_of-self-2 c =
+    let wrote = with_items_is c.self.inside.outboxes c.release_all.new.row
+    (c.release_all.auto.row ∙ c.deref_mut.ensures.len) in
+    rw wrote
+    (site-saved _ _ c.self.invariant
+    (simp length-map (c.release_all.auto.row ∙ ap length c.deref_mut.ensures.value))
+    (record {
+      current = ap (λ (w : WholeNode). w.core) c.kept.ensures;
+      saved = c.new.ensures ∙ c.core-2.ensures.value
+          ∙ ap (λ (w : WholeNode). w.core) c.kept.ensures;
+      frames = rw (c.deref_mut.ensures.value, c.core.ensures.value) at
+          c.in_ok-release_all.ensures.done;
+    }))
+
+pub returns-clause-done : goal.returns-clause-done
+returns-clause-done c =
+    let wrote = with_items_is c.self.inside.outboxes c.release_all.new.row
+    (c.release_all.auto.row ∙ c.deref_mut.ensures.len) in
+    rw (← c.self.view_is, wrote)
+    (record {
+      current = ap (λ (w : WholeNode). w.core) c.kept.ensures;
+      saved = c.new.ensures ∙ c.core-2.ensures.value
+          ∙ ap (λ (w : WholeNode). w.core) c.kept.ensures;
+      frames = rw (c.deref_mut.ensures.value, c.core.ensures.value) at
+          c.in_ok-release_all.ensures.done;
+    })

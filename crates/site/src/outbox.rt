@@ -1,0 +1,155 @@
+//! The frames of one node's messages to another: those that were released, and behind them those
+//! that a save is to release. They count only when nothing of the save can fail any more.
+ghost use Rattle.std.specs.Prelude.{◌≡◌, ◌≢◌, ◌≤◌, ◌<◌, ℕ, length, map, take, replicate, slice_index_or, IsTrue, IfOk, IfErr, OnOk, OnErr};
+ghost use Rattle.std.specs.Option.{option_map};
+ghost use Rattle.ids.specs.declared.refusal.Refusal.TheVariants.{Memory};
+ghost use Rattle.model.specs.View.{link_to, is_other};
+ghost use Rattle.node.specs.Invariant.{IsNode};
+ghost use Rattle.site.specs.Outboxes.{no_outbox, released_frames, all_released, numbered_bytes, IsStaged, HasFrames, AreStagedTo, Releases};
+
+use crate::frames::Frames;
+use ids::Refusal;
+use msg::encode;
+use node::Core;
+use std::alloc::Global;
+use std::marker::Model;
+
+/// The frames of one node's messages to another: those that were released, and after them the ones
+/// that the save under way is to release.
+#[derive(Drop)]
+pub struct Outbox {
+    frames: Frames,
+    released: usize,
+}
+
+impl Model for Outbox {
+    ghost use Rattle.site.specs.Outboxes.{OutboxView};
+
+    ghost Value = { OutboxView };
+
+    ghost use Rattle.site.specs.InsideOutbox.{view_of, IsWhole};
+
+    ghost view = { view_of };
+
+    ghost invariant = { IsWhole };
+}
+
+impl Outbox {
+    /// An outbox without frames.
+    pub fn new(alloc: Global) -> Outbox
+        ensures { result ≡ no_outbox }
+    {
+        Outbox {
+            frames: Frames::new(alloc),
+            released: 0,
+        }
+    }
+
+    /// The bytes of the frame of this number, if it was released.
+    pub fn frame(&self, number: u64) -> Option<&[u8]>
+        ensures { option_map (λ b. b.now) result
+            ≡ numbered_bytes (released_frames self.now) number }
+    {
+        let place = number.checked_sub(1)? as usize;
+        if place < self.released {
+            Some(self.frames.get(place))
+        } else {
+            None
+        }
+    }
+
+    /// Makes the frames of all messages to the node `to` that follow the released ones, and
+    /// releases none. `Memory` where a growth was refused.
+    pub fn stage(&mut self, alloc: Global, node: &Core, to: u8) -> Result<(), Refusal>
+        requires other { IsTrue (is_other node.now.local to) }
+        requires kept { (link_to node.now to).base ≤ length (released_frames self.old) }
+        ensures released { released_frames self.new ≡ released_frames self.old }
+        ensures staged { OnOk result
+            (IsStaged node.now to (released_frames self.old) self.new.frames) }
+        ensures refused { IfErr result (λ e. e ≡ Memory) }
+    {
+        self.frames.truncate(self.released);
+        stage_frames(alloc, &mut self.frames, node, to)
+    }
+
+    /// Releases all frames that were made.
+    pub fn release(&mut self)
+        ensures { self.new ≡ all_released self.old }
+    {
+        self.released = self.frames.len();
+    }
+}
+
+fn stage_frames(alloc: Global, frames: &mut Frames, node: &Core, to: u8) -> Result<(), Refusal>
+    requires other { IsTrue (is_other node.now.local to) }
+    requires kept { (link_to node.now to).base ≤ length frames.old }
+    ensures kept { take (length frames.old) frames.new ≡ frames.old }
+    ensures staged { OnOk result (IsStaged node.now to frames.old frames.new) }
+    ensures refused { IfErr result (λ e. e ≡ Memory) }
+{
+    let last = node.appended(to);
+    for place in frames.len() as u64..last {
+        let Some(frame) = node.numbered_frame(to, place + 1) else {
+            unreachable!()
+        };
+        frames.push(&encode(alloc, &frame)?)?;
+    }
+    Ok(())
+}
+
+/// An outbox to each of so many nodes.
+pub fn new_outboxes(alloc: Global, count: u8) -> Result<Vec<Outbox>, Refusal>
+    ensures made { IfOk result (λ v. v.items ≡ replicate count no_outbox) }
+    ensures refused { IfErr result (λ e. e ≡ Memory) }
+{
+    let mut row = Vec::new(alloc);
+    for _node in 0..count {
+        row.push(Outbox::new(alloc))?;
+    }
+    Ok(row)
+}
+
+/// Makes and releases the frames of all messages that the node has appended since the released
+/// ones, to each other node. `Memory` where a growth was refused; then none is released.
+pub fn release_all(alloc: Global, row: &mut [Outbox], node: &Core) -> Result<(), Refusal>
+    requires row { length row.old ≡ node.now.local.shape.nodes }
+    requires kept { HasFrames node.now (map released_frames row.old) }
+    ensures done { OnOk result
+        (Releases node.now (map released_frames row.old) (map released_frames row.new)) }
+    ensures node { OnOk result (IsNode node.now) }
+    ensures unchanged { OnErr result (map released_frames row.new ≡ map released_frames row.old) }
+    ensures refused { IfErr result (λ e. e ≡ Memory) }
+{
+    stage_all(alloc, row, node)?;
+    release_staged(row);
+    Ok(())
+}
+
+/// Makes these frames, and releases none.
+fn stage_all(alloc: Global, row: &mut [Outbox], node: &Core) -> Result<(), Refusal>
+    requires row { length row.old ≡ node.now.local.shape.nodes }
+    requires kept { HasFrames node.now (map released_frames row.old) }
+    ensures released { map released_frames row.new ≡ map released_frames row.old }
+    ensures staged { OnOk result
+        (AreStagedTo (length row.old) node.now (map released_frames row.old) row.new) }
+    ensures node { OnOk result (IsNode node.now) }
+    ensures refused { IfErr result (λ e. e ≡ Memory) }
+{
+    let summary = node.state();
+    for to in 0..summary.shape.nodes() {
+        if to != summary.own {
+            let outbox = &mut row[usize::from(to)];
+            outbox.stage(alloc, node, to)?;
+        }
+    }
+    Ok(())
+}
+
+/// Releases all frames that were made.
+fn release_staged(row: &mut [Outbox])
+    ensures { row.new ≡ map all_released row.old }
+{
+    for outbox in row.iter_mut() {
+        outbox.release();
+    }
+}

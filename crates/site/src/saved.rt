@@ -1,0 +1,53 @@
+//! A node as it was saved: the bytes of its image, and nothing else. Which node they say, proofs
+//! know by a snapshot that has no bytes.
+ghost use Rattle.std.specs.Prelude.{◌≡◌, IfOk, IfErr};
+ghost use Rattle.ids.specs.declared.refusal.Refusal.TheVariants.{Memory};
+ghost use Rattle.image.specs.Nodes.{IsImageOf};
+
+use ids::Refusal;
+use image::core_from_bytes;
+use node::Core;
+use std::alloc::Global;
+use std::marker::Model;
+use std::snapshot::Snapshot;
+
+/// A node as it was saved: the bytes of its image, and nothing else.
+#[derive(Drop)]
+pub struct SavedNode {
+    image: Vec<u8>,
+    // The node that the image says, for proofs alone: it has no bytes.
+    says: Snapshot<Core>,
+}
+
+impl Model for SavedNode {
+    ghost use Rattle.model.specs.View.{NodeView};
+
+    ghost Value = { NodeView };
+
+    ghost use Rattle.site.specs.InsideSaved.{view_of, IsSpelled};
+
+    ghost view = { view_of };
+
+    ghost invariant = { IsSpelled };
+}
+
+impl SavedNode {
+    /// This node, which was saved as this image.
+    pub fn new(image: Vec<u8>, node: &Core) -> SavedNode
+        requires { IsImageOf image.items node.now }
+        ensures { result ≡ node.now }
+    {
+        SavedNode {
+            image,
+            says: Snapshot::of(node),
+        }
+    }
+
+    /// The node that was saved, made from its image. `Memory` where a growth was refused.
+    pub fn read(&self, alloc: Global) -> Result<Core, Refusal>
+        ensures same { IfOk result (λ n. n ≡ self.now) }
+        ensures refused { IfErr result (λ e. e ≡ Memory) }
+    {
+        core_from_bytes(alloc, &self.image)
+    }
+}
