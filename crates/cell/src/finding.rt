@@ -5,7 +5,7 @@
 //! the disk of node k                                  the node, or why there is none
 //! nothing was ever created on it                      a new node, which is created there first
 //! it opens to node k of a space of this shape         that node as it was saved last
-//! it opens to another node, or of another space       Disks
+//! it opens to another node, or of another shape       Disks
 //! something was created on it, and it opens to none   BadImage
 //! a call of it failed in this one                     Disk
 //! ```

@@ -217,7 +217,17 @@ module _ {A : Type 0} (F : Format A) where
         last None = refl
         last (Some rest) = ap (λ (ys : List A). Some (ys, rest)) (append-nil xs)
 
-pub ruleset lists = (too_many, none_yet, one_more, all_of)
+  -- one of them wasn't there
+  pub stopped : (n k : ℕ) (a b c : Reader) (xs : List A) → Takes (enough n) a b (Some tt)
+      → ReadsFirst F b c xs k n → is_open c ≡ false → Reads (many F n) a c xs
+  stopped n k a b c xs there took closed =
+      record { is = each_of n a b there ∙ sym took.is ∙ by (left c) closed } where
+        by : (q : Option (List ℕ)) → open_of q ≡ false
+            → with_front xs (q >>= each_at F.read k) ≡ with_rest xs q
+        by None h = refl
+        by (Some rest) h = absurd cc
+
+pub ruleset lists = (too_many, none_yet, one_more, all_of, stopped)
 
 -- ---- the whole
 

@@ -7,9 +7,10 @@ ghost use Rattle.codec.specs.Readers.{left, is_open, is_whole, enough, passing, 
 
 use byteorder::{BigEndian, ByteOrder};
 
-/// Values from the front of bytes, one after another. Once one isn't there it has failed: it gives
-/// zeros from then on, and [`finish`](Reader::finish) says so. No call before that fails.
-#[derive(Clone, Copy, Debug)]
+/// Values from the front of bytes, one after another. Once one isn't there it has failed: what it
+/// gives from then on means nothing, and [`finish`](Reader::finish) says so. No call before that
+/// fails.
+#[derive(Clone, Copy)]
 pub struct Reader<'a> {
     // What is left. None once it has failed.
     rest: Option<&'a [u8]>,
@@ -109,12 +110,17 @@ impl<'a> Reader<'a> {
         self.rest = None;
     }
 
-    /// Fails where there are fewer bytes. Whether it has not failed.
-    pub fn has(&mut self, least: usize) -> bool
-        ensures value { Takes (enough least) self.old self.new (Some tt) }
-        ensures open { result ≡ is_open self.new }
+    /// Fails where fewer bytes are left.
+    pub fn require(&mut self, least: usize)
+        ensures { Takes (enough least) self.old self.new (Some tt) }
     {
         self.check(self.rest.is_some_and(|rest| least <= rest.len()));
+    }
+
+    /// Whether it hasn't failed.
+    pub fn is_open(&self) -> bool
+        ensures { result ≡ is_open self.now }
+    {
         self.rest.is_some()
     }
 

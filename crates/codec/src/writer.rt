@@ -1,6 +1,6 @@
 //! Bytes that are written one after another, up to a limit. A writer that has failed keeps none any
 //! more and says so at its end, so who writes a value tests nothing in between.
-ghost use Rattle.std.specs.Prelude.{◌≡◌, ◌≢◌, ◌<◌, ◌≤◌, [], List, ℕ, length, ⊤, true, false};
+ghost use Rattle.std.specs.Prelude.{◌≡◌, ◌≢◌, ◌<◌, ◌≤◌, [], List, ℕ, length, nat_le, ⊤, true, false};
 ghost use Rattle.std.specs.Prelude.{OnOk, IfOk, IfErr};
 ghost use Rattle.codec.specs.Formats.{byte, number2, number4, number8, signed8};
 ghost use Rattle.codec.specs.Writing.{Says, IsOpen, Writes, IsBeyond, Puts};
@@ -112,6 +112,7 @@ impl Writer {
     /// as if a text had come that is too long, with so many bytes at least.
     #[tactic(auto, unfolding(crate::specs::Formats::number4))]
     pub fn count(&mut self, count: usize) -> bool
+        ensures told { result ≡ nat_le count self.old.limit }
         ensures fits { result ≡ true → Puts number4 self.old self.new count }
         ensures over { result ≡ false → IsBeyond count self.old self.new }
     {

@@ -141,8 +141,8 @@ fn run<S: Space, R: Read + Drop, W: Write>(alloc: Global, script: R, out: &mut W
     Ok(status)
 }
 
-/// Prints that a script can't be read, for an error of this kind, and answers the status: 1 for
-/// want of memory, else 2. The error is that output failed.
+/// Prints that a script, or another file, can't be read, for an error of this kind, and answers the
+/// status: 1 for want of memory, else 2. The error is that output failed.
 pub fn print_unread<W: Write>(out: &mut W, kind: ErrorKind) -> io::Result<u8>
     ensures printed { IfOk result (λ status.
         PrintsNoScript status (W.contents out.old) (W.contents out.new)) }

@@ -1,5 +1,5 @@
 //! The words with which the program is called. The kit's reader of arguments takes them apart;
-//! words that begin with a dash are its matter alone.
+//! words that begin with a dash are its matter alone, but for `run`, whose `--` is told apart here.
 ghost use Rattle.std.specs.Prelude.{◌≡◌, ◌<◌, ◌≤◌, ◌++◌, ◌∷◌, [], false, None, Ok, IfOk, OnOk, IsTrue, codes, drop, is_some, length, map, option_and_then, option_map, string_bytes};
 ghost use Rattle.std.specs.Io.KnownBytes.{Appends};
 ghost use Rattle.std.specs.Str.{bytes_eq};

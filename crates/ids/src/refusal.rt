@@ -42,7 +42,7 @@ pub enum Refusal {
     CycleRunning,
     /// There is nothing for this step to do.
     NothingToDo,
-    /// The message is not the next one.
+    /// The message is more than a window past the last one that was taken in.
     OutOfOrder,
     /// What is acknowledged was never released.
     AckBeyond,
@@ -56,7 +56,7 @@ pub enum Refusal {
     ImageTooLarge,
     /// The device failed.
     Disk,
-    /// The device failed earlier, and was not opened again.
+    /// The device failed, or a reopening was refused, and none has been Ok since.
     Closed,
 }
 

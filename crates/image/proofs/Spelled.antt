@@ -21,7 +21,7 @@ use Rattle.msg.specs.declared.version.Version.TheVariants.{First, Second}
 use Rattle.image.specs.Links.{StoredLink, StoredSlot}
 use Rattle.heap.specs.Heap.{slot_of}
 use Rattle.image.specs.Nodes.{link_of, received_of, node_of, Spells, HasImage, IsImageOf}
-use Rattle.image.specs.Images.{stored_slot, stored_links, stored_by, image_of, stored_link}
+use Rattle.image.specs.Images.{stored_slot, stored_links, stored_by, image_of}
 use Rattle.image.proofs.Kept.{stored_back}
 use Rattle.image.proofs.Elements.{map-insert}
 use Rattle.codec.specs.Formats as codec
@@ -181,21 +181,7 @@ image_of_same m n first second same =
     alike).2 in
     sym p.node ∙ ap node_of e ∙ q.node
 
--- ---- what counts as saved
-
-links_kept : (links : List Link) (got : List ℕ)
-    → stored_links (map all_kept links) got ≡ stored_links links got
-links_kept [] got = refl
-links_kept (l ∷ ls) [] = refl
-links_kept (l ∷ ls) (g ∷ gs) =
-    ap (λ (xs : List StoredLink). stored_link (l, g) ∷ xs) (links_kept ls gs)
-
--- what counts as saved isn't in the image
-pub image_kept : (n : NodeView) → image_of (kept_view n) ≡ image_of n
-image_kept n =
-    ap (λ (links : List StoredLink).
-    spelling Second (record (stored_by n) { links = remove links n.local.own }))
-    (links_kept n.links n.local.got)
+-- ---- one image, one node
 
 -- bytes are the image of one node at most
 pub image_of_one : (bytes : List ℕ) (m n : NodeView) → IsImageOf bytes m → IsImageOf bytes n

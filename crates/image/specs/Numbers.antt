@@ -1,2 +1,2 @@
--- The formats of numbers, and of a whole.
-pub use Rattle.codec.specs.Formats.{number2, number4, number8, many_at, whole_at}
+-- The format of a number.
+pub use Rattle.codec.specs.Formats.{number8}

@@ -118,8 +118,9 @@ impl Readable for u64 {
     }
 }
 
-/// So many values from the front of what is left. Where the bytes are fewer than the values, the
-/// reader fails without taking memory; `Memory` where a growth was refused.
+/// So many values from the front of what is left, up to the first one that isn't there. Where the
+/// bytes are fewer than the values, the reader fails without taking memory; `Memory` where a growth
+/// was refused.
 #[tactic(auto, using(crate::proofs::Joins::lists))]
 pub(crate) fn many<T: Readable>(
     alloc: Global,
@@ -132,11 +133,15 @@ pub(crate) fn many<T: Readable>(
     ensures few { IfOk result (λ v. length v.items ≤ count) }
     ensures refused { IfErr result (λ e. e ≡ Memory) }
 {
-    if !reader.has(count) {
+    reader.require(count);
+    if !reader.is_open() {
         return Ok(Vec::new(alloc));
     }
     let mut parts = Vec::with_capacity(alloc, count)?;
     for _part in 0..count {
+        if !reader.is_open() {
+            break;
+        }
         parts.push(T::read(alloc, version, reader)?)?;
     }
     Ok(parts)

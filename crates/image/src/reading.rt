@@ -195,7 +195,10 @@ fn read_object(alloc: Global, version: Version, reader: &mut Reader) -> Result<O
     let mark = reader.u64();
     let word = reader.u64();
     let places = read_places(alloc, version, reader)?;
-    Object::from_parts(word, mark, places).ok_or(Refusal::BadImage)
+    match Object::from_parts(word, mark, places) {
+        Some(object) => Ok(object),
+        None => unreachable!(),
+    }
 }
 
 #[tactic(auto, unfolding(crate::specs::Grammar::occupied_at), using(crate::proofs::Joins::both_read, crate::proofs::Joins::made_of))]
@@ -315,7 +318,7 @@ fn read_front(version: Version, reader: &mut Reader) -> (Head, (PhasesParts, Rin
     (head, (phases, ring))
 }
 
-/// What the other nodes reported, and the registers.
+// What the other nodes reported, and the registers.
 #[tactic(auto, unfolding(crate::specs::Grammar::told_format), using(crate::proofs::Joins::both_read))]
 fn read_told(
     alloc: Global,
@@ -332,7 +335,7 @@ fn read_told(
     Ok((reports, registers))
 }
 
-/// The slots, and which of them are free and which grey.
+// The slots, and which of them are free and which grey.
 #[tactic(auto, unfolding(crate::specs::Grammar::slots_format), using(crate::proofs::Joins::both_read))]
 fn read_slots(
     alloc: Global,
@@ -349,7 +352,7 @@ fn read_slots(
     Ok((slots, (free, grey)))
 }
 
-/// The references that were asked for, the letters and the links.
+// The references that were asked for, the letters and the links.
 #[tactic(auto, unfolding(crate::specs::Grammar::others_format), using(crate::proofs::Joins::both_read))]
 fn read_others(
     alloc: Global,

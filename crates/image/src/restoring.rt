@@ -42,7 +42,8 @@ pub fn from_bytes(alloc: Global, bytes: &[u8]) -> Result<Node, Refusal>
     Node::of(alloc, core)
 }
 
-/// The core of that node alone, for who only reads what was saved; with the same refusals.
+/// The core of the node whose image the bytes are, for who only reads what was saved. It is refused
+/// as [`from_bytes`] is.
 pub fn core_from_bytes(alloc: Global, bytes: &[u8]) -> Result<Core, Refusal>
     ensures read { IfOk result (λ n. IsImageOf bytes.now n) }
     ensures refused { IfErr result (λ e. e ≢ Memory

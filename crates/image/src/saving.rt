@@ -18,7 +18,7 @@ const FIRST_BYTES: usize = 512;
 
 /// The bytes of the node's image: that of the node as it is after a save, all of whose messages
 /// count as held by a saved node. What the node keeps besides its core isn't in it. It takes memory
-/// and time in proportion to them.
+/// and time in proportion to the bytes.
 ///
 /// # Errors
 ///
@@ -43,6 +43,7 @@ fn core_to_bytes(alloc: Global, core: &Core) -> Result<Vec<u8>, Refusal>
     ensures last { IfErr result (λ e. e ≡ Memory
         → length (image_of core.now) ≤ GREATEST_IMAGE) }
 {
+    // (this call says of the core what its type holds)
     let _summary = core.state();
     let mut out = Writer::new(alloc, GREATEST_IMAGE as u32, FIRST_BYTES);
     put_node(&mut out, core);

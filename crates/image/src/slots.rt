@@ -4,7 +4,7 @@ ghost use Rattle.std.specs.Prelude.{◌≡◌, ◌<◌, [], ◌∷◌, ◌++◌,
 ghost use Rattle.arena.specs.Arena.{slot_read};
 ghost use Rattle.arena.specs.declared.Slot.TheVariants.{Occupied};
 ghost use Rattle.codec.specs.Formats.{number4, number8, counted};
-ghost use Rattle.codec.specs.Writing.{Puts, PutsAll};
+ghost use Rattle.codec.specs.Writing.{Puts};
 ghost use Rattle.msg.specs.declared.version.Version.TheVariants.{Second};
 ghost use Rattle.image.specs.Grammar.{slot_format, letter_format};
 ghost use Rattle.image.specs.Images.{stored_slot};

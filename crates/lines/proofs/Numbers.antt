@@ -80,16 +80,3 @@ unfolding u64_of is_number
 u64_of-long word long =
     sym (cond-false _ _ _ (and_right (nat_lt 0 (length word)) _
     (and_left (nat_le (length word) MOST_DIGITS) _ (lt-leb (length word) MOST_DIGITS long))))
-
--- from one digit to the next
-pub goes_on : (n c : ℕ) (cs : List ℕ) → is_ascii_digit c ≡ true → n * 10 + (c - 48) < 2 ^ 64
-    → value_after n (c ∷ cs) ≡ value_after (n * 10 + (c - 48)) cs
-goes_on n c cs is below = cond-true _ _ _ is ∙ cond-true _ _ _ (lt-ltb _ _ below)
-
-pub stops_large : (n c : ℕ) (cs : List ℕ) → is_ascii_digit c ≡ true → 2 ^ 64 ≤ n * 10 + (c - 48)
-    → value_after n (c ∷ cs) ≡ None
-stops_large n c cs is above = cond-true _ _ _ is ∙ cond-false _ _ _ (le-ltb _ _ above)
-
-pub stops_other : (n c : ℕ) (cs : List ℕ) → is_ascii_digit c ≡ false
-    → value_after n (c ∷ cs) ≡ None
-stops_other n c cs isnt = cond-false _ _ _ isnt

@@ -1,5 +1,5 @@
 //! A text that is made from its last byte to its first one.
-ghost use Rattle.std.specs.Prelude.{◌≡◌, ◌≤◌, ◌<◌, ◌+◌, ◌∷◌, [], drop, length, decimal};
+ghost use Rattle.std.specs.Prelude.{◌≡◌, ◌≤◌, ◌+◌, ◌∷◌, [], length, decimal};
 ghost use Rattle.std.specs.Fmt.{signed_decimal};
 ghost use Rattle.ids.specs.Texts.{optional_text, reference_text};
 ghost use Rattle.lines.specs.Endings.{Grows, held};

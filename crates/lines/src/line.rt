@@ -1,6 +1,6 @@
 //! One line of a script. A line is told apart by its words and how many they are; what isn't in the
 //! grammar is none.
-ghost use Rattle.std.specs.Prelude.{◌≡◌, ◌≤◌, ◌<◌, ◌∷◌, [], length, map, take, None, Some, IfNone, IfSome, IsTrue, MatchOption, option_map};
+ghost use Rattle.std.specs.Prelude.{◌≡◌, map, Some, IfSome, IsTrue, option_map};
 ghost use Rattle.model.specs.declared.event.Event.TheVariants as event;
 ghost use Rattle.lines.specs.Grammar.{acted, alone, of_two, of_three, u8_of, delivery_of, hand_of, is_own_line, line_of, command_of, report_of, stepped, u64_of, u16_of, node_line_of, space_of, value_after, with_none, with_one, with_three, with_two, u32_of, words_of};
 

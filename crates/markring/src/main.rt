@@ -1,5 +1,5 @@
 //! The program `markring`. It finds the files that its words name, and puts a buffer round standard
-//! output; what is printed is the matter of the crates below.
+//! output; what `sim` and `decode` print is the matter of the crates below.
 #![tactic(auto)]
 
 ghost use Rattle.std.specs.Prelude.{◌≤◌, IfOk};

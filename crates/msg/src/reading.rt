@@ -1,5 +1,5 @@
 //! Frames from bytes. Each call reads something at the front of what is left; where it isn't
-//! spelled exactly so, the reader has failed.
+//! spelled exactly so, the reader has failed, or the call gives none.
 ghost use Rattle.std.specs.Prelude.{◌≡◌, Some, IfOk, IfErr};
 ghost use Rattle.std.specs.Option.{option_map};
 ghost use Rattle.std.specs.Result.{IsOkAnd};

@@ -36,8 +36,8 @@ pub const ABSENT: u8 = 0;
 /// Before a reference that may be left out.
 pub const PRESENT: u8 = 1;
 
-/// A white token.
+/// White, of a node or the token.
 pub const WHITE: u8 = 0;
 
-/// A black token.
+/// Black, of a node or the token.
 pub const BLACK: u8 = 1;

@@ -1,6 +1,4 @@
 //! Worked examples of the rules: scripts of steps, computed by the definitions of crate `model`,
 //! with the outcome of every step and some states afterwards; and what programs see of one run, by
-//! the definitions of crate `laws`. There is no code here. Each edit in must-fail changes one value
-//! that an example expects, and shows that the example is checked against the definitions; it shows
-//! nothing of any code.
+//! the definitions of crate `laws`. There is no code here.
 #![tactic(auto)]

@@ -8,11 +8,10 @@ pub enum OpenFault {
     /// The text is no configuration.
     #[error("config refused")]
     Config,
-    /// There are fewer or more disks than nodes, or a disk holds a node of another space, or one
-    /// of another number.
+    /// There are fewer or more disks than nodes, or a disk holds a node of another shape or number.
     #[error("disks refused")]
     Disks,
-    /// A node, its disk or the wire was refused.
+    /// Memory for the text, or a node, its disk or the wire was refused.
     #[error("refused {0}")]
     Refused(Refusal),
 }

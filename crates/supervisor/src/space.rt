@@ -118,6 +118,7 @@ impl<D: Disk + Drop> Space<D> {
         ensures wire { arc_value self.new.wire ≡ arc_value self.old.wire }
         ensures plan { self.new.plan ≡ self.old.plan }
         ensures team { self.new.team ≡ self.old.team }
+        ensures cells { self.new.cells ≡ self.old.cells }
     {
         self.watches.pop()
     }
@@ -176,6 +177,8 @@ impl<D: Disk + Send + Drop + 'static> Space<D> {
         ensures refused { IfErr result (λ e. e ≡ refusal.Memory) }
         ensures wire { arc_value self.new.wire ≡ arc_value self.old.wire }
         ensures plan { self.new.plan ≡ self.old.plan }
+        ensures cells { self.new.cells ≡ self.old.cells }
+        ensures watches { self.new.watches ≡ self.old.watches }
     {
         let team = Team::start(rt, self.alloc, self.cells.as_slice(), &gate, self.plan)?;
         self.team = Some(team);
@@ -205,6 +208,8 @@ impl<D: Disk + Send + Drop + 'static> Space<D> {
             → IfErr result (λ e. (e ≡ refusal.Memory) ⊎ (e ≡ refusal.Disk)) }
         ensures wire { arc_value self.new.wire ≡ arc_value self.old.wire }
         ensures plan { self.new.plan ≡ self.old.plan }
+        ensures cells { self.new.cells ≡ self.old.cells }
+        ensures watches { self.new.watches ≡ self.old.watches }
     {
         if node >= self.plan.nodes {
             return Err(Refusal::NoNode);

@@ -1,4 +1,4 @@
-//! The last events of a node's thread and what came of them, for who looks for a fault. It is of a
+//! The last events, saves and reopenings of a node, and what came of them, for who looks for a fault. It is of a
 //! fixed length, and adding to it takes no memory.
 #![tactic(auto)]
 

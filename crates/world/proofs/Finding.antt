@@ -96,10 +96,6 @@ adds-one ks ls k is =
 abbrev pub Below : (ℕ → Ref → Type 0) → ℕ → Ref → Type 0
 Below P n r = (k : ℕ) × (k < n) × P k r
 
-pub below-none : (a : List Ref) (P : ℕ → Ref → Type 0) (n : ℕ)
-    → ((k : ℕ) (r : Ref) → k < n → P k r → ⊥) → Adds a a (Below P n)
-below-none a P n none = adds-none a (Below P n) (λ r h. none h.0 r h.1 h.2)
-
 pub below-more : {a b c : List Ref} (P : ℕ → Ref → Type 0) (n : ℕ) → Adds a b (Below P n)
     → Adds b c (P n) → Adds a c (Below P (n + 1))
 below-more P n h g =

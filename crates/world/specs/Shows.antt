@@ -127,14 +127,6 @@ pub record Stepped (result : Result Outcome Refusal) (old new : List SiteView)
   pub memory_free : (w : World) → ShowsWorld old w → IsTrue (is_step_memory_free w s)
       → IfErr result (λ e. e ≢ Memory)
 
--- Where the space shows what a run leads to, it shows after a step what the run and that step lead
--- to, but where memory was refused, or an image was too large.
-abbrev pub ExtendsRun : Result Outcome Refusal → List SiteView → List SiteView → Step → Type 0
-ExtendsRun result old new s =
-    (shape : Shaped) (steps : List Step) → ShowsWorld old (run (new_world shape) steps)
-    → result ≢ Err Memory → result ≢ Err ImageTooLarge
-    → ShowsWorld new (run (new_world shape) (steps ++ s ∷ []))
-
 -- the current node of a number, in numbers
 abbrev pub summary_at : World → ℕ → Option Summary
 summary_at w i = cond (is_node w i) (Some (summary_of (node_at w.current i).local)) None
