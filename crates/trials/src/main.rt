@@ -2,37 +2,19 @@
 //! it, whose answer is printed. `tests/README.md` lists the commands.
 #![tactic(auto)]
 
-mod arenas;
-mod case;
-mod cells;
-mod collected;
-mod disks;
 mod ended;
-mod events;
-mod files;
-mod frames;
-mod lent;
-mod mailboxes;
-mod names;
-mod nodes;
 mod openings;
-mod out;
-mod players;
 mod programs;
 mod quiet;
-mod random;
 mod revived;
-mod shared;
-mod shelves;
 mod space;
 mod spaces;
 mod threads;
 mod turning;
-mod turns;
 
-use case::{Line, Stop, read_lines};
-use nodes::shape_of;
-use out::Out;
+use cases::nodes::{self, shape_of};
+use cases::{Line, Out, Stop, read_lines};
+use players::turns;
 use std::alloc::Global;
 use std::fs::File;
 use std::io;
@@ -41,6 +23,8 @@ use std::rt::Files;
 use std::sync::Wait;
 use std::thread::Threads;
 use std::time::Clock;
+use subjects::{arenas, collected, disks, files, frames};
+use wired::{cells, mailboxes, names, shared};
 
 /// Output or memory was refused.
 const FAILED: u8 = 1;

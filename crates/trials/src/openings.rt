@@ -1,13 +1,11 @@
 //! Spaces that are opened on disks in memory, which can be told to fail and to crash. No worker is
 //! started.
-use crate::case::{Line, Stop, read};
-use crate::lent::Lent;
-use crate::out::{Out, Tally};
-use crate::shelves::node_on;
-use crate::spaces::{Size, disks, text_of};
-use disk::{MemoryDisk, is_blank};
+use cases::{Line, Out, Size, Stop, blank_disks, read};
+use disk::MemoryDisk;
 use ids::Refusal;
 use std::alloc::Global;
+use subjects::Lent;
+use subjects::crashes::{change, put_crashes};
 use supervisor::{Config, OpenFault, Space};
 
 /// A case over the disks of spaces.
@@ -27,13 +25,13 @@ fn take(
 ) -> Result<(), Stop> {
     match words {
         ["fresh", nodes] => {
-            *held = disks(alloc, read(nodes)?)?;
+            *held = blank_disks(alloc, read(nodes)?)?;
             out.text("ok");
         }
         ["open"] => open(alloc, held, out),
         ["crashes", node] => {
             let node = read(node)?;
-            crashes(alloc, disk_of(held, node)?, node, out);
+            put_crashes(alloc, disk_of(held, node)?, node, out);
         }
         [verb, node, number] => change(disk_of(held, read(node)?)?, verb, number, out)?,
         _ => return Err(Stop::Unknown),
@@ -77,60 +75,8 @@ fn config_of(alloc: Global, nodes: usize) -> Result<Config, OpenFault> {
         slots: 8,
         turns: 1,
     };
-    match text_of(alloc, size) {
+    match size.text(alloc) {
         Ok(text) => Config::from_text(alloc, text.as_str()),
         Err(_) => Err(OpenFault::Refused(Refusal::Memory)),
-    }
-}
-
-// Lets the disk fail or crash.
-fn change(disk: &mut MemoryDisk, verb: &str, number: &str, out: &mut Out) -> Result<(), Stop> {
-    match verb {
-        "fail" => disk.fail_from(read(number)?),
-        "fail-once" => disk.fail_once(read(number)?),
-        "crash" => match disk.after_crash(read(number)?) {
-            Ok(left) => *disk = left,
-            Err(refusal) => {
-                out.refused(refusal);
-                return Ok(());
-            }
-        },
-        _ => return Err(Stop::Unknown),
-    }
-    out.text("ok");
-    Ok(())
-}
-
-/// What a disk opens to.
-#[derive(Clone, Copy)]
-enum Found {
-    Blank,
-    Node,
-    Other,
-    Refused,
-}
-
-const NAMES: [&str; 4] = ["blank", "node", "other", "refused"];
-
-// For each byte with which a crash may fill what wasn't synced, what the disk then opens to.
-fn crashes(alloc: Global, disk: &MemoryDisk, node: u8, out: &mut Out) {
-    let mut tally = Tally::<4>::new();
-    for fill in 0..=u8::MAX {
-        tally.add(opens_to(alloc, disk.after_crash(fill), node) as usize);
-    }
-    tally.put(&NAMES, out);
-}
-
-fn opens_to(alloc: Global, left: Result<MemoryDisk, Refusal>, own: u8) -> Found {
-    let Ok(mut disk) = left else {
-        return Found::Refused;
-    };
-    if is_blank(&mut disk) == Ok(true) {
-        return Found::Blank;
-    }
-    match node_on(alloc, disk) {
-        Ok(node) if node.state().own == own => Found::Node,
-        Ok(_) => Found::Other,
-        Err(_) => Found::Refused,
     }
 }

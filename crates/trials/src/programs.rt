@@ -1,305 +1,21 @@
 //! Spaces of which each node has a program in a thread of its own, beside its worker. What is
 //! printed is the same in each schedule in which every try comes to its end.
-ghost use Rattle.std.specs.Prelude.{◌≡◌, false, is_some, true};
-ghost use Rattle.model.specs.Steps.{is_own};
+ghost use Rattle.std.specs.Prelude.{◌≡◌, false, is_some};
 
-use crate::spaces::{Pauses, Size, opened, pause, pausing};
-use crate::threads::beside;
+use crate::spaces::opened;
+use cases::Size;
 use cell::Shared;
 use disk::Disk;
-use ids::{Ref, Refusal};
-use model::{Answer, Event, Letter};
+use players::{Pauses, Program, Went, pause, pausing, play_all};
 use std::alloc::{AllocError, Global};
-use std::collections::VecDeque;
-use std::sync::atomic::{AtomicU64, Ordering};
+use std::sync::atomic::AtomicU64;
 use std::sync::{Arc, Wait};
-use std::thread;
 use std::thread::Threads;
 use std::time::Clock;
 use supervisor::Space;
-use workers::{Report, Site};
 
-// The register of a program's newest object.
-const OWN: u16 = 0;
-
-// The register of what came in its last letter.
-const OTHER: u16 = 1;
-
-// A register that stays empty.
-const EMPTY: u16 = 2;
-
-// The label of what a Get brings. A letter of another program has its number as label.
-const ASKED: u32 = u32::MAX;
-
-// How often who waits tries again, with a pause each time, until it gives up.
+// How often a cycle is tried to be begun, with a pause each time.
 const TRIES: u32 = 100_000;
-
-// An object that a program made, and the word that it wrote into it.
-#[derive(Clone, Copy)]
-struct Made {
-    reference: Ref,
-    word: u64,
-}
-
-// How many letters of another program came, how many answers to a Get, and how much of all that
-// was seen wasn't as it must be.
-#[derive(Clone, Copy)]
-struct Seen {
-    letters: u32,
-    answers: u32,
-    wrong: u64,
-}
-
-// The program of a node. In each round it makes an object, gives it to the next node's program,
-// and takes a letter where one is there. Into an object that it is given it puts its newest one,
-// asks for it back, and empties the place, so that what is reachable at last is one object a node.
-#[derive(Drop)]
-struct Program<'a, S> {
-    cell: &'a S,
-    // How many programs are over.
-    over: &'a AtomicU64,
-    node: u8,
-    next: u8,
-    previous: u8,
-    rounds: u32,
-    newest: Option<Made>,
-    // What it asked back, oldest first.
-    asked: VecDeque<Made>,
-    seen: Seen,
-}
-
-impl<S: Site> Program<'_, S> {
-    fn act<R: Wait>(&self, rt: &R, event: Event) -> Result<Answer, Refusal>
-        requires { is_own event ≡ true }
-    {
-        self.cell.act(rt, event)
-    }
-
-    // An event that must not be refused.
-    fn must<R: Wait>(&mut self, rt: &R, event: Event)
-        requires { is_own event ≡ true }
-    {
-        if self.act(rt, event).is_err() {
-            self.fail();
-        }
-    }
-
-    fn fail(&mut self) {
-        self.seen.wrong = self.seen.wrong.saturating_add(1);
-    }
-
-    // Whether it has all letters and answers.
-    fn has_all(&self) -> bool {
-        self.seen.letters == self.rounds && self.seen.answers == self.rounds
-    }
-
-    fn play<R: Clock + Wait>(&mut self, rt: &R) {
-        for round in 0..self.rounds {
-            self.make(rt, round);
-            self.give(rt, round);
-            self.take_letter(rt);
-        }
-        self.finish(rt);
-        self.over.fetch_add(1, Ordering::SeqCst);
-    }
-
-    // Makes an object, once there is a slot for it.
-    fn make<R: Clock + Wait>(&mut self, rt: &R, round: u32) {
-        let object = Event::Alloc {
-            register: OWN,
-            places: 1,
-        };
-        for _ in 0..TRIES {
-            match self.act(rt, object) {
-                Ok(Answer::New(reference)) => return self.write(rt, reference, round),
-                Err(Refusal::ArenaFull) => self.await_more(rt),
-                _ => return self.fail(),
-            }
-        }
-        self.fail();
-    }
-
-    // Writes the word of its newest object.
-    fn write<R: Wait>(&mut self, rt: &R, reference: Ref, round: u32) {
-        let word = u64::from(round) + 1;
-        self.newest = Some(Made { reference, word });
-        let write = Event::SetWord { object: OWN, word };
-        self.must(rt, write);
-    }
-
-    fn give<R: Wait>(&mut self, rt: &R, round: u32) {
-        let letter = Event::Give {
-            to: self.next,
-            label: round,
-            register: OWN,
-        };
-        self.must(rt, letter);
-    }
-
-    // Takes a letter where one is there, and pauses. Node 0's program begins a cycle, where it may.
-    fn await_more<R: Clock + Wait>(&mut self, rt: &R) {
-        if self.node == 0 {
-            let _ = self.act(rt, Event::Begin);
-        }
-        self.take_letter(rt);
-        pause(rt);
-    }
-
-    fn take_letter<R: Wait>(&mut self, rt: &R) {
-        match self.act(rt, Event::Accept { register: OTHER }) {
-            Ok(Answer::Letter(letter)) => self.read(rt, letter),
-            Err(Refusal::NoLetter) => {}
-            _ => self.fail(),
-        }
-    }
-
-    fn read<R: Wait>(&mut self, rt: &R, letter: Letter) {
-        if letter.from != self.previous {
-            self.fail();
-        }
-        if letter.label == ASKED {
-            self.take_back(rt, letter);
-        } else {
-            self.take_gift(rt, letter);
-        }
-        self.must(rt, Event::Drop { register: OTHER });
-    }
-
-    // Puts its newest object into the one that it is given, asks for it back, and empties the
-    // place.
-    fn take_gift<R: Wait>(&mut self, rt: &R, letter: Letter) {
-        if letter.label != self.seen.letters {
-            self.fail();
-        }
-        self.seen.letters = self.seen.letters.saturating_add(1);
-        self.put(rt, OWN);
-        let get = Event::Get {
-            object: OTHER,
-            place: 0,
-            label: ASKED,
-        };
-        self.must(rt, get);
-        self.put(rt, EMPTY);
-        self.note();
-    }
-
-    // Puts what a register holds into the object that it is given.
-    fn put<R: Wait>(&mut self, rt: &R, register: u16) {
-        let put = Event::Put {
-            object: OTHER,
-            place: 0,
-            register,
-        };
-        self.must(rt, put);
-    }
-
-    // Its newest object is asked back.
-    fn note(&mut self) {
-        let noted = match self.newest {
-            Some(made) => self.asked.push_back(made).is_ok(),
-            None => false,
-        };
-        if !noted {
-            self.fail();
-        }
-    }
-
-    // Looks whether what it asked back is what it put there, with the word that it wrote.
-    fn take_back<R: Wait>(&mut self, rt: &R, letter: Letter) {
-        self.seen.answers = self.seen.answers.saturating_add(1);
-        let Some(made) = self.asked.pop_front() else {
-            return self.fail();
-        };
-        let read = self.act(rt, Event::Word { object: OTHER });
-        if letter.reference != Some(made.reference) || read != Ok(Answer::Word(made.word)) {
-            self.fail();
-        }
-    }
-
-    // Takes what is still to come, and lets go of its newest object.
-    fn finish<R: Clock + Wait>(&mut self, rt: &R) {
-        for _ in 0..TRIES {
-            if self.has_all() {
-                break;
-            }
-            self.await_more(rt);
-        }
-        self.must(rt, Event::Drop { register: OWN });
-    }
-
-    // Node 0's program begins cycles until all programs are over.
-    fn begin_until<R: Clock + Wait>(&self, rt: &R, nodes: u64) {
-        if self.node != 0 {
-            return;
-        }
-        for _ in 0..TRIES {
-            if self.over.load(Ordering::SeqCst) == nodes {
-                return;
-            }
-            let _ = self.act(rt, Event::Begin);
-            pause(rt);
-        }
-    }
-}
-
-// What all programs came to, and how many objects the workers freed.
-#[derive(Clone, Copy, Debug)]
-pub(crate) struct Went {
-    letters: u64,
-    answers: u64,
-    wrong: u64,
-    freed: u64,
-}
-
-impl Went {
-    fn new() -> Went {
-        Went {
-            letters: 0,
-            answers: 0,
-            wrong: 0,
-            freed: 0,
-        }
-    }
-
-    fn add(&mut self, seen: Seen) {
-        self.letters = self.letters.saturating_add(u64::from(seen.letters));
-        self.answers = self.answers.saturating_add(u64::from(seen.answers));
-        self.wrong = self.wrong.saturating_add(seen.wrong);
-    }
-
-    fn add_freed(&mut self, reports: &[Report]) {
-        for report in reports {
-            self.freed = self.freed.saturating_add(report.freed);
-        }
-    }
-}
-
-// The program of a node.
-fn program_of<'a, S: Site>(
-    alloc: Global,
-    cell: &'a S,
-    over: &'a AtomicU64,
-    node: u8,
-    nodes: u8,
-    rounds: u32,
-) -> Program<'a, S> {
-    let (previous, next) = beside(node, nodes);
-    Program {
-        cell,
-        over,
-        node,
-        next,
-        previous,
-        rounds,
-        newest: None,
-        asked: VecDeque::new(alloc),
-        seen: Seen {
-            letters: 0,
-            answers: 0,
-            wrong: 0,
-        },
-    }
-}
 
 // The programs of a space.
 fn programs_of<'a, D: Disk + Drop>(
@@ -312,25 +28,10 @@ fn programs_of<'a, D: Disk + Drop>(
     let mut programs = Vec::new(alloc);
     for node in 0..nodes {
         if let Some(cell) = space.program(node) {
-            programs.push(program_of(alloc, cell, over, node, nodes, rounds))?;
+            programs.push(Program::new(alloc, cell, over, node, nodes, rounds))?;
         }
     }
     Ok(programs)
-}
-
-// Each program in a thread of its own.
-fn play_all<R, S>(rt: &R, programs: &mut [Program<'_, S>], nodes: u8)
-where
-    R: Clock + Threads + Wait + Sync,
-    S: Site + Sync,
-{
-    let count = u64::from(nodes);
-    let play = move |_place: usize, program: &mut Program<'_, S>| {
-        program.play(rt);
-        program.begin_until(rt, count);
-    };
-    let threads = programs.len().max(1);
-    thread::for_each_mut(rt, programs, threads, &play);
 }
 
 // What the programs of a space come to, each in a thread of its own.
@@ -350,7 +51,7 @@ where
     play_all(rt, &mut programs, nodes);
     let mut went = Went::new();
     for program in &programs {
-        went.add(program.seen);
+        went.add(program);
     }
     drop(programs);
     Ok(went)

@@ -2,154 +2,19 @@
 //! what it hadn't acknowledged comes again.
 ghost use Rattle.std.specs.Prelude.{◌≡◌, is_some, true};
 
-use crate::spaces::{MANY, Size, await_flag, opened, pause};
-use cell::Shared;
+use crate::spaces::{MANY, opened};
+use cases::Size;
 use disk::MemoryDisk;
-use ids::Refusal;
-use model::{Answer, Event};
-use std::alloc::{AllocError, Global};
-use std::sync::atomic::{AtomicBool, Ordering};
-use std::sync::{Arc, Wait};
+use players::reviving::{
+    NODE, Seen, accept, ended_at, ending_gate, give, holding_gate, last_line, reads_word,
+    write_word,
+};
+use std::alloc::Global;
+use std::sync::Wait;
 use std::thread::Threads;
 use std::time::Clock;
 use supervisor::Space;
-use workers::{Gate, Point, Stage};
-
-// The worker that ends, and its last turn.
-const NODE: u8 = 1;
-
-const LAST_TURN: u32 = 3;
-
-// How many letters node 0 gives it.
-const LETTERS: u32 = 40;
-
-// How often it is looked for them.
-const LOOKS: u32 = 50_000;
-
-// What the object's word becomes while the worker is gone.
-const WORD: u64 = 9;
-
-// A gate that pauses before each turn, and ends the worker at a stage of its last one.
-#[derive(Drop)]
-struct Ends<R> {
-    rt: R,
-    stage: Stage,
-}
-
-impl<R: Clock> Gate for Ends<R> {
-    fn at(&self, point: Point) {
-        if point.stage == Stage::Start {
-            pause(&self.rt);
-        }
-    }
-
-    fn go_on(&self, point: Point) -> bool {
-        point.node != NODE || point.turn != LAST_TURN || point.stage != self.stage
-    }
-}
-
-// A gate that holds the worker before its first turn until it may go on, and then pauses before
-// each.
-#[derive(Drop)]
-struct Holds<R> {
-    rt: R,
-    may_go: AtomicBool,
-}
-
-impl<R: Clock + Wait> Gate for Holds<R> {
-    fn at(&self, point: Point) {
-        if point.stage == Stage::Start {
-            await_flag(&self.rt, &self.may_go);
-            pause(&self.rt);
-        }
-    }
-}
-
-/// What was seen of a worker that ended and came back.
-#[derive(Debug, Drop)]
-pub(crate) struct Seen {
-    // How many words of the object were read as they were written, before and after.
-    words: u32,
-    // The last line of the trace before the new worker's first turn.
-    last: String,
-    // The labels of the letters.
-    labels: Vec<u32>,
-    // How many reports there are, and how many of them say that the worker ended at that stage.
-    reports: usize,
-    ended: usize,
-}
-
-// Node 0 has an object, and gives it away so often.
-fn give<R: Wait>(rt: &R, program: &Shared<MemoryDisk>) -> Result<(), Refusal> {
-    let object = Event::Alloc {
-        register: 0,
-        places: 0,
-    };
-    program.act(rt, object)?;
-    for label in 0..LETTERS {
-        let letter = Event::Give {
-            to: NODE,
-            label: label + 1,
-            register: 0,
-        };
-        program.act(rt, letter)?;
-    }
-    Ok(())
-}
-
-// Whether the object's word is the one that was written.
-fn reads_word<R: Wait>(rt: &R, program: &Shared<MemoryDisk>) -> bool {
-    program.act(rt, Event::Word { object: 0 }) == Ok(Answer::Word(WORD))
-}
-
-// Whether the word is written, and read so.
-fn write_word<R: Wait>(rt: &R, program: &Shared<MemoryDisk>) -> bool {
-    let written = Event::SetWord {
-        object: 0,
-        word: WORD,
-    };
-    program.act(rt, written) == Ok(Answer::Done) && reads_word(rt, program)
-}
-
-// The last line of the trace.
-fn last_line<R: Wait>(rt: &R, program: &Shared<MemoryDisk>) -> Option<String> {
-    let mut lines = program.trace_lines(rt).ok()?;
-    lines.pop()
-}
-
-// The labels of the letters that come, until there are as many as were given.
-fn accept<R: Clock + Wait>(
-    rt: &R,
-    alloc: Global,
-    program: &Shared<MemoryDisk>,
-) -> Result<Vec<u32>, AllocError> {
-    let mut labels = Vec::new(alloc);
-    for _ in 0..LOOKS {
-        if labels.len() == LETTERS as usize {
-            break;
-        }
-        match program.act(rt, Event::Accept { register: 0 }) {
-            Ok(Answer::Letter(letter)) => labels.push(letter.label)?,
-            _ => pause(rt),
-        }
-    }
-    Ok(labels)
-}
-
-// The gate of the first workers.
-fn ending_gate<R: Clone + Drop>(rt: &R, alloc: Global, stage: Stage) -> Option<Arc<Ends<R>>> {
-    let rt = rt.clone().ok()?;
-    Arc::new(alloc, Ends { rt, stage }).ok()
-}
-
-// The gate of the new one.
-fn holding_gate<R: Clone + Drop>(rt: &R, alloc: Global) -> Option<Arc<Holds<R>>> {
-    let holds = Holds {
-        rt: rt.clone().ok()?,
-        may_go: AtomicBool::new(false),
-    };
-    Arc::new(alloc, holds).ok()
-}
+use workers::Stage;
 
 // What is seen of the new worker, which is started here.
 fn look<R>(rt: &R, alloc: Global, space: &mut Space<MemoryDisk>) -> Option<(String, Vec<u32>)>
@@ -162,7 +27,7 @@ where
     space.revive(rt, NODE, theirs).ok()?;
     let program = space.program(NODE)?;
     let last = last_line(rt, program);
-    gate.may_go.store(true, Ordering::SeqCst);
+    gate.let_go();
     let labels = accept(rt, alloc, program).ok()?;
     Some((last?, labels))
 }
@@ -181,15 +46,11 @@ where
     let (last, labels) = look(rt, alloc, &mut space)?;
     let after = reads_word(rt, space.program(0)?);
     let reports = space.close(rt);
-    let ended = reports
-        .iter()
-        .filter(|report| report.node == NODE && report.ended_at == Some(stage))
-        .count();
     Some(Seen {
         words: u32::from(before) + u32::from(after),
         last,
         labels,
         reports: reports.len(),
-        ended,
+        ended: ended_at(&reports, stage),
     })
 }

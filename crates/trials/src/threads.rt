@@ -1,132 +1,15 @@
 //! Threads that work on one wire at once. What is printed is the same whatever their schedule.
-ghost use Rattle.std.specs.Prelude.{◌≡◌, true};
-ghost use Rattle.model.specs.Steps.{is_own};
-
-use crate::case::{Line, Stop, read};
-use crate::mailboxes::exchange_frames;
-use crate::out::Out;
-use crate::spaces::{Size, opened};
+use crate::spaces::opened;
+use cases::{Line, Out, Size, Stop, read};
 use cell::Shared;
 use disk::Disk;
-use ids::Refusal;
-use model::{Answer, Event, Letter};
+use players::{Member, finish, take_turns};
 use std::alloc::{AllocError, Global};
 use std::sync::Wait;
-use std::sync::atomic::{AtomicU64, Ordering};
-use std::thread;
+use std::sync::atomic::AtomicU64;
 use std::thread::Threads;
 use supervisor::Space;
-use workers::Site;
-
-// How many turns on one thread may come at the end, besides four for each letter.
-const GREATEST_TURNS: u32 = 20_000;
-
-// How many letters more a member gives than it takes, so that what its node keeps stays small.
-const AHEAD: u32 = 16;
-
-// The register of a member's object.
-const OWN: u16 = 0;
-
-// The register of what came in its last letter.
-const OTHER: u16 = 1;
-
-// A cell in a ring, which gives letters to the next one, and takes those of the one before it.
-#[derive(Drop)]
-struct Member<'a, S> {
-    cell: &'a S,
-    // How many members have taken all their letters.
-    over: &'a AtomicU64,
-    next: u8,
-    previous: u8,
-    // How many letters it is to give, and to take.
-    letters: u32,
-    given: u32,
-    taken: u32,
-    // How many letters weren't the next one of the member before it.
-    wrong: u32,
-}
-
-impl<S: Site> Member<'_, S> {
-    fn act<R: Wait>(&self, rt: &R, event: Event) -> Result<Answer, Refusal>
-        requires { is_own event ≡ true }
-    {
-        self.cell.act(rt, event)
-    }
-
-    // Makes the object that it gives.
-    fn make<R: Wait>(&self, rt: &R) {
-        let object = Event::Alloc {
-            register: OWN,
-            places: 0,
-        };
-        let _ = self.act(rt, object);
-    }
-
-    // Gives a letter, where it is to and may.
-    fn give<R: Wait>(&mut self, rt: &R) {
-        let letter = Event::Give {
-            to: self.next,
-            label: self.given,
-            register: OWN,
-        };
-        let may = self.given < self.letters.min(self.taken.saturating_add(AHEAD));
-        if may && self.act(rt, letter).is_ok() {
-            self.given = self.given.saturating_add(1);
-        }
-    }
-
-    fn take<R: Wait>(&mut self, rt: &R) {
-        if let Ok(Answer::Letter(letter)) = self.act(rt, Event::Accept { register: OTHER }) {
-            self.note(letter);
-        }
-    }
-
-    fn note(&mut self, letter: Letter) {
-        if letter.from != self.previous || letter.label != self.taken {
-            self.wrong = self.wrong.saturating_add(1);
-        }
-        self.taken = self.taken.saturating_add(1);
-        if self.taken == self.letters {
-            self.over.fetch_add(1, Ordering::SeqCst);
-        }
-    }
-
-    // Gives a letter, saves, sends and takes in what there is, and takes a letter.
-    fn turn<R: Wait>(&mut self, rt: &R) {
-        self.give(rt);
-        if self.cell.unsaved(rt) {
-            let _ = self.cell.save(rt);
-        }
-        let _ = self.cell.pump_out(rt, self.next);
-        let _ = self.cell.pump_in(rt, self.previous);
-        let _ = self.cell.pump_out(rt, self.previous);
-        let _ = self.cell.pump_in(rt, self.next);
-        self.take(rt);
-    }
-
-    // Takes so many turns, but none once so many members have taken all their letters.
-    fn take_turns<R: Wait>(&mut self, rt: &R, turns: u32, members: u64) {
-        for _ in 0..turns {
-            if self.over.load(Ordering::SeqCst) == members {
-                return;
-            }
-            self.turn(rt);
-        }
-    }
-
-    // Whether it took all its letters, each once and in order.
-    fn has_taken(&self) -> bool {
-        self.taken == self.letters && self.wrong == 0
-    }
-}
-
-/// The numbers before and after this one in a ring of so many.
-pub(crate) fn beside(own: u8, nodes: u8) -> (u8, u8) {
-    let last = nodes.saturating_sub(1);
-    let next = if own < last { own.saturating_add(1) } else { 0 };
-    let previous = if own > 0 { own.saturating_sub(1) } else { last };
-    (previous, next)
-}
+use wired::mailboxes::exchange_frames;
 
 // The ring of a space's cells, each of which is to give so many letters.
 fn ring<'a, R: Wait, D: Disk + Drop>(
@@ -140,62 +23,12 @@ fn ring<'a, R: Wait, D: Disk + Drop>(
     let mut members = Vec::new(alloc);
     for node in 0..nodes {
         if let Some(cell) = space.program(node) {
-            let (previous, next) = beside(node, nodes);
-            let member = Member {
-                cell,
-                over,
-                next,
-                previous,
-                letters,
-                given: 0,
-                taken: 0,
-                wrong: 0,
-            };
+            let member = Member::new(cell, over, node, nodes, letters);
             member.make(rt);
             members.push(member)?;
         }
     }
     Ok(members)
-}
-
-fn have_taken<S: Site>(members: &[Member<'_, S>]) -> bool {
-    for member in members {
-        if !member.has_taken() {
-            return false;
-        }
-    }
-    true
-}
-
-fn turn_each<R: Wait, S: Site>(rt: &R, members: &mut [Member<'_, S>]) {
-    for member in members.iter_mut() {
-        member.turn(rt);
-    }
-}
-
-// On one thread, until each has taken all its letters; whether that came.
-fn finish<R: Wait, S: Site>(rt: &R, members: &mut [Member<'_, S>], letters: u32) -> bool {
-    for _ in 0..letters.saturating_mul(4).saturating_add(GREATEST_TURNS) {
-        if have_taken(members) {
-            return true;
-        }
-        turn_each(rt, members);
-    }
-    false
-}
-
-// Each takes so many turns, in a thread of its own.
-fn take_turns<R, S>(rt: &R, members: &mut [Member<'_, S>], turns: u32)
-where
-    R: Threads + Wait + Sync,
-    S: Site + Sync,
-{
-    let count = members.len() as u64;
-    let run = move |_place: usize, member: &mut Member<'_, S>| {
-        member.take_turns(rt, turns, count)
-    };
-    let threads = members.len().max(1);
-    thread::for_each_mut(rt, members, threads, &run);
 }
 
 // The cells of a space as a ring: at most so many turns in a thread each, and then what is left;

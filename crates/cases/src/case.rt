@@ -1,0 +1,80 @@
+//! A case as lines of words, and what words say. The first line that is no command ends it.
+use hex::FromHexError;
+use std::alloc::{AllocError, AllocFailed, Global};
+use std::str::FromStr;
+
+/// Why a case goes no further.
+#[derive(Clone, Copy, Debug, PartialEq, Eq)]
+pub enum Stop {
+    /// The line is no command, or none that can be done now.
+    Unknown,
+    /// Memory was refused to the interpreter itself.
+    Memory,
+}
+
+impl From<AllocError> for Stop {
+    fn from(_error: AllocError) -> Stop {
+        Stop::Memory
+    }
+}
+
+impl<T: Drop> From<AllocFailed<T>> for Stop {
+    fn from(_error: AllocFailed<T>) -> Stop {
+        Stop::Memory
+    }
+}
+
+/// A line of a case, as its words.
+#[derive(Drop)]
+pub struct Line<'a> {
+    /// Which line of the case it is, counted from 1.
+    pub number: usize,
+    pub words: Vec<&'a str>,
+}
+
+/// The lines of a case that hold words, but comments.
+pub fn read_lines<'a>(alloc: Global, text: &'a str) -> Result<Vec<Line<'a>>, AllocError> {
+    let mut lines = Vec::new(alloc);
+    for (index, line) in text.lines().enumerate() {
+        if !is_silent(line) {
+            lines.push(line_of(alloc, index + 1, line)?)?;
+        }
+    }
+    Ok(lines)
+}
+
+fn line_of<'a>(alloc: Global, number: usize, line: &'a str) -> Result<Line<'a>, AllocError> {
+    let words = line
+        .split(' ')
+        .filter(|word| !word.is_empty())
+        .collect(alloc)?;
+    Ok(Line { number, words })
+}
+
+fn is_silent(line: &str) -> bool {
+    let line = line.trim_start_matches(' ');
+    line.is_empty() || line.starts_with('#')
+}
+
+/// The number that the word spells.
+pub fn read<T: FromStr>(word: &str) -> Result<T, Stop>
+where
+    T::Err: Drop,
+{
+    match word.parse::<T>() {
+        Ok(number) => Ok(number),
+        Err(_) => Err(Stop::Unknown),
+    }
+}
+
+/// The bytes of two hexadecimal digits each; `-` stands for none.
+pub fn bytes_of(alloc: Global, word: &str) -> Result<Vec<u8>, Stop> {
+    if word == "-" {
+        return Ok(Vec::new(alloc));
+    }
+    match hex::decode(alloc, word) {
+        Ok(bytes) => Ok(bytes),
+        Err(FromHexError::OutOfMemory) => Err(Stop::Memory),
+        Err(_) => Err(Stop::Unknown),
+    }
+}

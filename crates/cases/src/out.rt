@@ -1,0 +1,134 @@
+//! What a case prints.
+use crate::case::Line;
+use ids::Refusal;
+use std::alloc::Global;
+use std::fmt::{Debug, Display};
+
+/// The lines that are to be printed, and which line of the case they come from.
+#[derive(Drop)]
+pub struct Out {
+    alloc: Global,
+    text: String,
+    line: usize,
+    /// Memory for a line was refused, or a line could not be printed.
+    pub failed: bool,
+}
+
+impl Out {
+    /// No lines yet.
+    pub fn new(alloc: Global) -> Out {
+        Out {
+            alloc,
+            text: String::new(alloc),
+            line: 0,
+            failed: false,
+        }
+    }
+
+    /// From now on the answers are those to this line, whose words these are.
+    pub fn at<'a>(&mut self, line: &'a Line<'a>) -> &'a [&'a str] {
+        self.line = line.number;
+        line.words.as_slice()
+    }
+
+    /// Prints what there is, and keeps none of it.
+    pub fn flush<R: Print>(&mut self, rt: &R) {
+        if rt.print(self.text.as_str()).is_err() {
+            self.failed = true;
+        }
+        self.text.clear();
+    }
+
+    /// A line of this text.
+    pub fn text(&mut self, text: &str) {
+        if writeln!(self.text, "{text}").is_err() {
+            self.failed = true;
+        }
+    }
+
+    /// A line that shows the value.
+    pub fn show<T: Display>(&mut self, value: &T) {
+        if writeln!(self.text, "{value}").is_err() {
+            self.failed = true;
+        }
+    }
+
+    /// A line that shows the value with the names of its parts.
+    pub fn debug<T: Debug>(&mut self, value: &T) {
+        if writeln!(self.text, "{value:?}").is_err() {
+            self.failed = true;
+        }
+    }
+
+    /// That the line of the case is no command.
+    pub fn unknown(&mut self) {
+        let line = self.line;
+        if writeln!(self.text, "line {line}: not a command").is_err() {
+            self.failed = true;
+        }
+    }
+
+    /// The refusal, by its number and name.
+    pub fn refused(&mut self, refusal: Refusal) {
+        if writeln!(self.text, "refused {refusal}").is_err() {
+            self.failed = true;
+        }
+    }
+
+    /// `ok`, or the refusal.
+    pub fn done(&mut self, done: Result<(), Refusal>) {
+        match done {
+            Ok(()) => self.text("ok"),
+            Err(refusal) => self.refused(refusal),
+        }
+    }
+
+    /// The answer, or the refusal.
+    pub fn answer<T: Debug + Drop>(&mut self, answered: Result<T, Refusal>) {
+        match answered {
+            Ok(answer) => self.debug(&answer),
+            Err(refusal) => self.refused(refusal),
+        }
+    }
+
+    /// Two hexadecimal digits for each byte; `-` for no bytes.
+    pub fn bytes(&mut self, bytes: &[u8]) {
+        if bytes.is_empty() {
+            return self.text("-");
+        }
+        match hex::encode_upper(self.alloc, bytes) {
+            Ok(digits) => self.text(digits.as_str()),
+            Err(_) => self.failed = true,
+        }
+    }
+}
+
+/// How often each of some things came.
+#[derive(Clone, Copy)]
+pub struct Tally<const N: usize> {
+    counts: [u64; N],
+}
+
+impl<const N: usize> Tally<N> {
+    /// None came yet.
+    pub fn new() -> Tally<N> {
+        Tally { counts: [0; N] }
+    }
+
+    /// The one of this place came once more.
+    pub fn add(&mut self, place: usize) {
+        if place < N {
+            self.counts[place] = self.counts[place].saturating_add(1);
+        }
+    }
+
+    /// A line for each, with its name.
+    pub fn put(&self, names: &[&str], out: &mut Out) {
+        for place in 0..N {
+            if place < names.len() {
+                let (name, count) = (names[place], self.counts[place]);
+                out.show(&format_args!("{name} {count}"));
+            }
+        }
+    }
+}

@@ -1,0 +1,40 @@
+//! The limit of cycles, and laws. A law does nothing when it is called.
+use cases::{Line, Out, Stop, read};
+use ids::Cycle;
+
+/// A case over cycles and laws.
+pub fn run(lines: &[Line<'_>], out: &mut Out) -> Result<(), Stop> {
+    for line in lines {
+        take(out.at(line), out)?;
+    }
+    Ok(())
+}
+
+fn take(words: &[&str], out: &mut Out) -> Result<(), Stop> {
+    match words {
+        ["cycle", number] => put(Cycle::new(read(number)?), out),
+        ["laws"] => {
+            call_laws();
+            out.text("ok");
+        }
+        _ => return Err(Stop::Unknown),
+    }
+    Ok(())
+}
+
+fn put(cycle: Option<Cycle>, out: &mut Out) {
+    match cycle {
+        Some(cycle) => out.show(&cycle.number),
+        None => out.text("-"),
+    }
+}
+
+// Each law is called once.
+fn call_laws() {
+    msg::grammar();
+    image::grammar();
+    image::nodes_spelled();
+    image::nodes_saved();
+    world::laws();
+    cell::laws();
+}

@@ -1,0 +1,159 @@
+//! Cells of new nodes that are shared, on one wire, and a watch that hears of what they raise. What
+//! a call did is seen from outside the lock.
+ghost use Rattle.std.specs.Prelude.{◌≡◌, All, IfOk, Some};
+ghost use Rattle.std.specs.Arc.{arc_value};
+ghost use Rattle.cell.specs.Names.{name_of, IsNamed};
+ghost use Rattle.wire.specs.Readers.{IsSeatOf, IsWatchOf};
+
+use crate::cells::open_cells;
+use cases::{Line, Out, Stop, own_event_of, read};
+use cell::{Cell, Naming, SharedOn};
+use disk::MemoryDisk;
+use ids::{Refusal, Shape};
+use std::alloc::Global;
+use std::marker::Brand;
+use std::sync::{Arc, Wait};
+use wire::{Watch, Wire};
+
+// The cells, their wire, which has the name of `W` in proofs, and a watch of it.
+#[derive(Drop)]
+struct Sharing<W: Naming> {
+    wire: Arc<Wire>,
+    watch: Watch,
+    cells: Vec<SharedOn<MemoryDisk, W>>,
+    ghost looks: { IsWatchOf (arc_value wire) watch },
+    ghost named: { W.wire ≡ Some (name_of (arc_value wire)) },
+}
+
+impl<W: Naming> Sharing<W> {
+    // Raises what the cell's node, as saved, counts as ended; the watch is told.
+    fn raise<R: Wait>(&mut self, rt: &R, number: usize) -> Result<Result<(), Refusal>, Stop> {
+        let Some(cell) = self.cells.get(number) else {
+            return Err(Stop::Unknown);
+        };
+        match cell.raise(rt) {
+            Ok(raised) => {
+                self.watch.hear(&raised);
+                Ok(Ok(()))
+            }
+            Err(refusal) => Ok(Err(refusal)),
+        }
+    }
+
+    fn look(&mut self, out: &mut Out) {
+        let seen = self.wire.look(&mut self.watch);
+        out.show(&seen.number);
+    }
+
+    fn take_all<R: Wait>(&mut self, rt: &R, lines: &[Line<'_>], out: &mut Out) -> Result<(), Stop> {
+        for line in lines {
+            self.take(rt, out.at(line), out)?;
+        }
+        Ok(())
+    }
+
+    fn take<R: Wait>(&mut self, rt: &R, words: &[&str], out: &mut Out) -> Result<(), Stop> {
+        match words {
+            ["look"] => self.look(out),
+            [number, "raise"] => out.done(self.raise(rt, read(number)?)?),
+            [number, words @ ..] => match self.cells.get(read::<usize>(number)?) {
+                Some(cell) => return on_cell(rt, cell, words, out),
+                None => return Err(Stop::Unknown),
+            },
+            [] => return Err(Stop::Unknown),
+        }
+        Ok(())
+    }
+}
+
+// A command to a cell.
+fn on_cell<R: Wait, W: Naming>(
+    rt: &R,
+    cell: &SharedOn<MemoryDisk, W>,
+    words: &[&str],
+    out: &mut Out,
+) -> Result<(), Stop> {
+    match words {
+        ["save"] => out.done(cell.save(rt)),
+        ["reopen"] => out.done(cell.reopen(rt)),
+        ["unsaved"] => out.debug(&cell.unsaved(rt)),
+        ["send", to] => out.answer(cell.pump_out(rt, read(to)?)),
+        ["receive", from] => out.answer(cell.pump_in(rt, read(from)?)),
+        words => out.answer(cell.act(rt, own_event_of(words)?)),
+    }
+    Ok(())
+}
+
+// One more holder of the wire.
+fn same_wire(wire: &Arc<Wire>) -> Result<Arc<Wire>, Refusal>
+    ensures { IfOk result (λ w. arc_value w ≡ arc_value wire.now) }
+{
+    match wire.clone() {
+        Ok(wire) => Ok(wire),
+        Err(_) => Err(Refusal::Memory),
+    }
+}
+
+// The cells of a wire, in order, shared.
+fn share_all<W: Naming>(
+    alloc: Global,
+    wire: &Arc<Wire>,
+    mut cells: Vec<Cell<MemoryDisk>>,
+) -> Result<Vec<SharedOn<MemoryDisk, W>>, Refusal>
+    requires seats { All (λ c. IsSeatOf (arc_value wire.now) c.seat) cells.items }
+    requires name { IsNamed W.wire (name_of (arc_value wire.now)) }
+{
+    let mut shared = Vec::new(alloc);
+    for _ in 0..cells.len() {
+        let cell = cells.remove(0);
+        shared.push(SharedOn::new(cell, same_wire(wire)?))?;
+    }
+    Ok(shared)
+}
+
+/// A case over the shared cells of new nodes.
+pub fn run<R: Wait>(
+    rt: &R,
+    alloc: Global,
+    shape: Shape,
+    lines: &[Line<'_>],
+    out: &mut Out,
+) -> Result<(), Stop> {
+    match on_wire(rt, alloc, shape, lines, out) {
+        Ok(taken) => taken,
+        Err(_) => Err(Stop::Memory),
+    }
+}
+
+fn on_wire<R: Wait>(
+    rt: &R,
+    alloc: Global,
+    shape: Shape,
+    lines: &[Line<'_>],
+    out: &mut Out,
+) -> Result<Result<(), Stop>, Refusal> {
+    let (wire, cells, watch) = open_cells(alloc, shape)?;
+    let wire = Arc::new(alloc, wire)?;
+    named::<Brand, R>(rt, alloc, wire, cells, watch, lines, out)
+}
+
+// The same on a wire whose name is that of `W`.
+fn named<W: Naming, R: Wait>(
+    rt: &R,
+    alloc: Global,
+    wire: Arc<Wire>,
+    cells: Vec<Cell<MemoryDisk>>,
+    watch: Watch,
+    lines: &[Line<'_>],
+    out: &mut Out,
+) -> Result<Result<(), Stop>, Refusal>
+    requires seats { All (λ c. IsSeatOf (arc_value wire) c.seat) cells.items }
+    requires watch { IsWatchOf (arc_value wire) watch }
+    requires name { W.wire ≡ Some (name_of (arc_value wire)) }
+{
+    let cells = share_all::<W>(alloc, &wire, cells)?;
+    let mut sharing = Sharing { wire, watch, cells };
+    let done = sharing.take_all(rt, lines, out);
+    drop(sharing);
+    Ok(done)
+}
