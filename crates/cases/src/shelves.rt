@@ -5,6 +5,7 @@ use crate::nodes::Nodes;
 use crate::out::Out;
 use disk::{Area, Disk, DiskFault, MemoryDisk, Shelf, is_blank};
 use ids::Refusal;
+use image::Images;
 use node::Node;
 use std::alloc::Global;
 use std::mem;
@@ -69,7 +70,7 @@ impl<D: Disk + Drop> Bench<D> {
     // Opens a shelf. A disk that is refused is given up.
     fn open(&mut self, out: &mut Out) -> Result<(), Stop> {
         let disk = self.loose()?;
-        match Shelf::open::<Node>(self.nodes.alloc, disk) {
+        match Shelf::open::<Images>(self.nodes.alloc, disk) {
             Ok((shelf, node)) => {
                 self.held = Held::Shelved(shelf);
                 self.nodes.set(Ok(node), out);
@@ -95,7 +96,7 @@ impl<D: Disk + Drop> Bench<D> {
         let Held::Shelved(shelf) = &mut self.held else {
             return Err(Stop::Unknown);
         };
-        let found = shelf.reopen::<Node>();
+        let found = shelf.reopen::<Images>();
         self.nodes.set(found, out);
         Ok(())
     }
@@ -136,7 +137,7 @@ impl<D: Disk + Drop> Bench<D> {
 
 /// The node that a disk opens to.
 pub fn node_on<D: Disk + Drop>(alloc: Global, disk: D) -> Result<Node, Refusal> {
-    match Shelf::open::<Node>(alloc, disk) {
+    match Shelf::open::<Images>(alloc, disk) {
         Ok((_shelf, node)) => Ok(node),
         Err(refusal) => Err(refusal),
     }
@@ -150,7 +151,7 @@ fn created<D: Disk + Drop>(
     node: &Node,
 ) -> (Held<D>, Result<(), Refusal>) {
     match is_blank(&mut disk) {
-        Ok(true) => match Shelf::create(alloc, disk, node) {
+        Ok(true) => match Shelf::create::<Images>(alloc, disk, node) {
             Ok(shelf) => (Held::Shelved(shelf), Ok(())),
             Err((disk, refusal)) => (Held::Loose(disk), Err(refusal)),
         },
@@ -161,7 +162,7 @@ fn created<D: Disk + Drop>(
 
 fn save_often<D: Disk>(shelf: &mut Shelf<D>, node: &Node, count: u64) -> Result<(), Refusal> {
     for _ in 0..count {
-        shelf.save(node)?;
+        shelf.save::<Images>(node)?;
     }
     Ok(())
 }

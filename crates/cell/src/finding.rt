@@ -25,6 +25,7 @@ ghost use Rattle.node.specs.Keeping.{new_whole};
 use crate::fault::Unopened;
 use disk::{Disk, Shelf, is_blank};
 use ids::{NodeId, Refusal, Shape};
+use image::Images;
 use node::Node;
 use std::alloc::Global;
 
@@ -48,7 +49,7 @@ fn create_node<D: Disk + Drop>(
         Ok(node) => node,
         Err(refusal) => return Err(Unopened::Refused(refusal)),
     };
-    match Shelf::create(alloc, disk, &node) {
+    match Shelf::create::<Images>(alloc, disk, &node) {
         Ok(shelf) => Ok((node, shelf)),
         Err((_disk, refusal)) => Err(Unopened::Refused(refusal)),
     }
@@ -93,7 +94,7 @@ fn read_node<D: Disk + Drop>(
     ensures cause { IfErr result (IfRefused
         (IsCause D.seen D.moment D.faults shape own.number disk)) }
 {
-    let (shelf, node) = match Shelf::open::<Node>(alloc, disk) {
+    let (shelf, node) = match Shelf::open::<Images>(alloc, disk) {
         Ok(found) => found,
         Err(refusal) => return Err(Unopened::Refused(refusal)),
     };

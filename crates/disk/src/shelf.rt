@@ -66,12 +66,14 @@ pub fn is_blank<D: Disk>(disk: &mut D) -> Result<bool, DiskFault>
 
 /// Syncs a disk, so that no crash takes back what is read, and then gives the value that it holds
 /// and the side where its image is.
-fn recall<D: Disk, N: Persist + Drop>(alloc: Global, disk: &mut D) -> Result<(bool, N), Refusal>
+fn recall<D: Disk, P: Persist>(alloc: Global, disk: &mut D) -> Result<(bool, P::Value), Refusal>
+where
+    P::Value: Drop,
     ensures side { IfOk result (λ r. side (D.seen disk.old).select ≡ Some r.0) }
-    ensures value { IfOk result (λ r. IsReadAs N.reads (opened (D.seen disk.old)) r.1) }
+    ensures value { IfOk result (λ r. IsReadAs P.reads (opened (D.seen disk.old)) r.1) }
     ensures durable { OnOk result (Only (D.seen disk.new) (D.may_leave disk.new)) }
     ensures bad { IfErr result (λ e. e ≡ Refusal.BadImage →
-        (value : N) → IsReadAs N.reads (opened (D.seen disk.old)) value → ⊥) }
+        (value : P.Value) → IsReadAs P.reads (opened (D.seen disk.old)) value → ⊥) }
     ensures memory { IfErr result (λ e. e ≡ Refusal.Memory → SelectsLength (D.seen disk.old)) }
     ensures quiet { Unmoved D.seen D.may_leave D.moment D.left_since disk.old disk.new }
     ensures cause { HasCause (D.faults disk.old) (D.faults disk.new) (IsErrOf result Refusal.Disk) }
@@ -83,7 +85,7 @@ fn recall<D: Disk, N: Persist + Drop>(alloc: Global, disk: &mut D) -> Result<(bo
         return Err(Refusal::BadImage);
     };
     let image = load(alloc, disk, half(in_b))?;
-    let value = N::from_bytes(alloc, &image)?;
+    let value = P::from_bytes(alloc, &image)?;
     Ok((in_b, value))
 }
 
@@ -98,31 +100,31 @@ impl<D: Disk> Shelf<D> {
     /// Lays the first value on a disk on which nothing was created, as [`is_blank`] tells.
     ///
     /// A crash within leaves an empty selector or the value; after Ok it leaves the value. Refused
-    /// as the value's `to_bytes`, Memory or Disk, and the disk comes back; it is as it was but
+    /// as [`Persist::to_bytes`], Memory or Disk, and the disk comes back; it is as it was but
     /// after Disk.
-    pub fn create<N: Persist>(
+    pub fn create<P: Persist>(
         alloc: Global,
         mut disk: D,
-        value: &N,
+        value: &P::Value,
     ) -> Result<Shelf<D>, (D, Refusal)>
         requires { (c : Areas) → D.may_leave disk c → c.select ≡ [] }
 
-        ensures created { IfOk result (λ s. opened (D.seen s.disk) ≡ Some (N.image value.now)) }
+        ensures created { IfOk result (λ s. opened (D.seen s.disk) ≡ Some (P.image value.now)) }
         ensures ready { IfOk result (λ s. s.ready ≡ true) }
-        ensures readable { OnOk result (N.reads (N.image value.now) (N.saved value.now)) }
+        ensures readable { OnOk result (P.reads (P.image value.now) (P.saved value.now)) }
         ensures any_moment { MatchResult result
-            (λ s. LeavesOnly D.moment D.left_since disk s.disk (NoneOrNew (N.image value.now)))
-            (λ e. LeavesOnly D.moment D.left_since disk e.0 (NoneOrNew (N.image value.now))) }
+            (λ s. LeavesOnly D.moment D.left_since disk s.disk (NoneOrNew (P.image value.now)))
+            (λ e. LeavesOnly D.moment D.left_since disk e.0 (NoneOrNew (P.image value.now))) }
         ensures disk { IfErr result (λ e.
             e.1 ≡ Refusal.Disk → Grew (D.faults disk) (D.faults e.0)) }
         ensures too_large { MatchResult result
-            (λ _. length (N.image value.now) ≤ GREATEST_IMAGE)
-            (λ e. e.1 ≡ Refusal.ImageTooLarge ↔ GREATEST_IMAGE < length (N.image value.now)) }
+            (λ _. length (P.image value.now) ≤ GREATEST_IMAGE)
+            (λ e. e.1 ≡ Refusal.ImageTooLarge ↔ GREATEST_IMAGE < length (P.image value.now)) }
         ensures unchanged { IfErr result (λ e. e.1 ≢ Refusal.Disk → e.0 ≡ disk) }
         ensures others { IfErr result (λ e. (e.1 ≡ Refusal.Memory)
             ⊎ ((e.1 ≡ Refusal.ImageTooLarge) ⊎ (e.1 ≡ Refusal.Disk))) }
     {
-        let image = match value.to_bytes(alloc) {
+        let image = match P::to_bytes(alloc, value) {
             Ok(image) => image,
             Err(refusal) => return Err((disk, refusal)),
         };
@@ -148,14 +150,15 @@ impl<D: Disk> Shelf<D> {
     /// Refused Disk where the device failed, BadImage where the disk holds no value, Memory where
     /// it tells the length of an image and there is no memory for that or for the value; the disk
     /// is then given up.
-    pub fn open<N: Persist + Drop>(alloc: Global, mut disk: D) -> Result<(Shelf<D>, N), Refusal>
+    pub fn open<P: Persist>(alloc: Global, mut disk: D) -> Result<(Shelf<D>, P::Value), Refusal>
     where
         D: Drop,
-        ensures opened { IfOk result (λ r. IsReadAs N.reads (opened (D.seen disk)) r.1) }
+        P::Value: Drop,
+        ensures opened { IfOk result (λ r. IsReadAs P.reads (opened (D.seen disk)) r.1) }
         ensures same { IfOk result (λ r. D.seen r.0.disk ≡ D.seen disk) }
         ensures ready { IfOk result (λ r. r.0.ready ≡ true) }
         ensures bad { IfErr result (λ e. e ≡ Refusal.BadImage →
-            (value : N) → IsReadAs N.reads (opened (D.seen disk)) value → ⊥) }
+            (value : P.Value) → IsReadAs P.reads (opened (D.seen disk)) value → ⊥) }
         ensures memory { IfErr result (λ e. e ≡ Refusal.Memory → SelectsLength (D.seen disk)) }
         ensures quiet { IfOk result (λ r.
             Unmoved D.seen D.may_leave D.moment D.left_since disk r.0.disk) }
@@ -168,7 +171,7 @@ impl<D: Disk> Shelf<D> {
         ensures others { IfErr result (λ e. (e ≡ Refusal.Memory)
             ⊎ ((e ≡ Refusal.BadImage) ⊎ (e ≡ Refusal.Disk))) }
     {
-        let (in_b, value) = recall::<D, N>(alloc, &mut disk)?;
+        let (in_b, value) = recall::<D, P>(alloc, &mut disk)?;
         let shelf = Shelf {
             alloc,
             disk,
@@ -183,12 +186,14 @@ impl<D: Disk> Shelf<D> {
     ///
     /// Refused as [`open`](Shelf::open); the shelf is then closed, and its disk holds what it held,
     /// also after a crash.
-    pub fn reopen<N: Persist + Drop>(&mut self) -> Result<N, Refusal>
-        ensures opened { IfOk result (λ v. IsReadAs N.reads (opened (D.seen self.old.disk)) v) }
+    pub fn reopen<P: Persist>(&mut self) -> Result<P::Value, Refusal>
+    where
+        P::Value: Drop,
+        ensures opened { IfOk result (λ v. IsReadAs P.reads (opened (D.seen self.old.disk)) v) }
         ensures ready { OnOk result (self.new.ready ≡ true) }
         ensures shut { IsErr result → self.new.ready ≡ false }
         ensures bad { IfErr result (λ e. e ≡ Refusal.BadImage →
-            (value : N) → IsReadAs N.reads (opened (D.seen self.old.disk)) value → ⊥) }
+            (value : P.Value) → IsReadAs P.reads (opened (D.seen self.old.disk)) value → ⊥) }
         ensures memory { IfErr result (λ e.
             e ≡ Refusal.Memory → SelectsLength (D.seen self.old.disk)) }
         ensures quiet { Unmoved D.seen D.may_leave D.moment D.left_since
@@ -199,7 +204,7 @@ impl<D: Disk> Shelf<D> {
             ⊎ ((e ≡ Refusal.BadImage) ⊎ (e ≡ Refusal.Disk))) }
     {
         self.ready = false;
-        let (in_b, value) = recall::<D, N>(self.alloc, &mut self.disk)?;
+        let (in_b, value) = recall::<D, P>(self.alloc, &mut self.disk)?;
         self.in_b = in_b;
         self.ready = true;
         Ok(value)
@@ -210,20 +215,20 @@ impl<D: Disk> Shelf<D> {
     ///
     /// Refused Closed exactly while the shelf is closed, ImageTooLarge as `to_bytes`, Memory, and
     /// Disk where the device failed. Disk closes the shelf; the others change nothing.
-    pub fn save<N: Persist>(&mut self, value: &N) -> Result<(), Refusal>
-        ensures saved { OnOk result (opened (D.seen self.new.disk) ≡ Some (N.image value.now)) }
+    pub fn save<P: Persist>(&mut self, value: &P::Value) -> Result<(), Refusal>
+        ensures saved { OnOk result (opened (D.seen self.new.disk) ≡ Some (P.image value.now)) }
         ensures ready { OnOk result (self.new.ready ≡ true) }
         ensures readable { MatchResult result
-            (λ _. N.reads (N.image value.now) (N.saved value.now))
-            (λ e. e ≡ Refusal.Disk → N.reads (N.image value.now) (N.saved value.now)) }
+            (λ _. P.reads (P.image value.now) (P.saved value.now))
+            (λ e. e ≡ Refusal.Disk → P.reads (P.image value.now) (P.saved value.now)) }
         ensures any_moment { IsTrue self.old.ready →
             LeavesOnly D.moment D.left_since self.old.disk self.new.disk
-            (OldOrNew (opened (D.seen self.old.disk)) (N.image value.now)) }
+            (OldOrNew (opened (D.seen self.old.disk)) (P.image value.now)) }
         ensures closed { IsErrOf result Refusal.Closed ↔ (self.old.ready ≡ false) }
         ensures disk { IsErrOf result Refusal.Disk →
             Grew (D.faults self.old.disk) (D.faults self.new.disk) × (self.new.ready ≡ false) }
         ensures too_large { IsErrOf result Refusal.ImageTooLarge ↔
-            IsTrue self.old.ready × (GREATEST_IMAGE < length (N.image value.now)) }
+            IsTrue self.old.ready × (GREATEST_IMAGE < length (P.image value.now)) }
         ensures unchanged { IfErr result (λ e. e ≢ Refusal.Disk →
             (self.new.disk ≡ self.old.disk) × (self.new.ready ≡ self.old.ready)) }
         ensures others { IfErr result (λ e. (e ≡ Refusal.Closed) ⊎ ((e ≡ Refusal.ImageTooLarge)
@@ -232,7 +237,7 @@ impl<D: Disk> Shelf<D> {
         if !self.ready {
             return Err(Refusal::Closed);
         }
-        let image = value.to_bytes(self.alloc)?;
+        let image = P::to_bytes(self.alloc, value)?;
         let bytes = record(self.alloc, &image)?;
         self.ready = false;
         swap(&mut self.disk, self.in_b, &image, &bytes)?;

@@ -4,6 +4,7 @@
 //! parts ("Images"), `specs/Grammar.antt` their spelling.
 #![tactic(auto)]
 
+mod images;
 mod law;
 mod links;
 mod lists;
@@ -15,6 +16,7 @@ mod slots;
 mod tags;
 mod writing;
 
+pub use images::Images;
 pub use law::{grammar, nodes_saved, nodes_spelled};
 pub use restoring::{core_from_bytes, from_bytes};
 pub use saving::to_bytes;

@@ -46,7 +46,7 @@ ghost use Rattle.model.specs.declared.step.Step.TheVariants as step;
 use super::Cell;
 use disk::{Disk, MemoryDisk};
 use ids::Refusal;
-use node::Node;
+use image::Images;
 use trace::{Call, Outcome};
 use wire::Wire;
 
@@ -90,7 +90,7 @@ impl<D: Disk> Cell<D> {
         ensures traced { self.new.trace ≡ keep_last TRACE_EVENTS (self.old.trace
             ++ record { call = call.Save; outcome = done_outcome result } ∷ []) }
     {
-        match self.shelf.save(&self.desk.node) {
+        match self.shelf.save::<Images>(&self.desk.node) {
             Ok(()) => {
                 self.desk.save(wire);
                 self.trace.push(Call::Save, Outcome::Done);
@@ -148,7 +148,7 @@ impl<D: Disk> Cell<D> {
         ensures traced { self.new.trace ≡ keep_last TRACE_EVENTS (self.old.trace
             ++ record { call = call.Reopen; outcome = done_outcome result } ∷ []) }
     {
-        match self.shelf.reopen::<Node>() {
+        match self.shelf.reopen::<Images>() {
             Ok(found) => {
                 self.desk.reopen(wire, found);
                 self.trace.push(Call::Reopen, Outcome::Done);
