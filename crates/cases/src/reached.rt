@@ -1,5 +1,5 @@
-//! What the nodes of a space reach, once nothing is on its way and a cycle is swept everywhere: what
-//! isn't reached is to be gone.
+//! What the nodes of a space reach, once nothing is on its way and a cycle is swept everywhere:
+//! what isn't reached is to be gone.
 use crate::found::Found;
 use ids::{Ref, Refusal};
 use node::Node;

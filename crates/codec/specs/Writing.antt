@@ -1,23 +1,41 @@
 -- What a writer was given.
-use Rattle.std.specs.Prelude.{◌≡◌, ◌<◌, ◌≤◌, ◌+◌, ℕ, List, ◌++◌, length, true, Option, Some, None, IsSome}
+use Rattle.std.specs.Prelude.{◌≡◌, ◌<◌, ◌≤◌, ◌+◌, ℕ, List, ◌++◌, length, ⊤}
+use Rattle.std.specs.Prelude.{vec_len, vec_capacity}
 use Rattle.std.specs.List.{flat_map, AllByRecursion}
 use Rattle.codec.specs.declared.writer.Writer.{Writer}
+use Rattle.codec.specs.declared.writer.Kept.{Kept}
+use Rattle.codec.specs.declared.writer.Kept.TheVariants.{All, Counted, TooMany}
 use Rattle.codec.specs.Formats.{Format}
 
--- with so much room, or none, for a text that is too long
-abbrev pub Holds : Writer → Option ℕ → List ℕ → Type 0
-Holds w None text = w.limit < length text
-Holds w (Some room) text =
-    (room + length text ≡ w.limit) × (w.kept ≡ true → w.bytes.items ≡ text)
+-- no byte, and no room for one
+abbrev pub HasNone : Writer → Type 0
+HasNone w = vec_capacity w.bytes ≡ 0
+
+abbrev pub Holds : Writer → Kept → List ℕ → Type 0
+Holds w All text = w.bytes.items ≡ text
+Holds w (Counted n) text = HasNone w × ((n ≡ length text) × (n ≤ w.limit))
+Holds w TooMany text = HasNone w × (w.limit < length text)
 
 -- All that the writer was given is this text. It holds it, unless it is longer than the limit or
 -- memory was refused.
 abbrev pub Says : Writer → List ℕ → Type 0
-Says w text = Holds w w.room text
+Says w text = Holds w w.kept text
+
+abbrev pub IsWithin : Writer → Kept → Type 0
+IsWithin w All = length w.bytes.items ≤ w.limit
+IsWithin w (Counted n) = ⊤
+IsWithin w TooMany = ⊥
 
 -- what it was given is within the limit
 abbrev pub IsOpen : Writer → Type 0
-IsOpen w = IsSome w.room
+IsOpen w = IsWithin w w.kept
+
+-- it holds what it held, all of it, and there is room for this text
+pub record HasRoom (old new : Writer) (text : List ℕ) : Type 0 where
+  pub all : old.kept ≡ All
+  pub kept : new.kept ≡ All
+  pub items : new.bytes.items ≡ old.bytes.items
+  pub room : vec_len new.bytes + length text ≤ vec_capacity new.bytes
 
 -- The writer was given this text more. Where that is within the limit, the fact is known.
 pub record Writes (old new : Writer) (text : List ℕ) (fact : Type 0) : Type 0 where

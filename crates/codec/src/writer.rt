@@ -3,22 +3,31 @@
 ghost use Rattle.std.specs.Prelude.{◌≡◌, ◌≢◌, ◌<◌, ◌≤◌, [], List, ℕ, length, nat_le, ⊤, true, false};
 ghost use Rattle.std.specs.Prelude.{OnOk, IfOk, IfErr};
 ghost use Rattle.codec.specs.Formats.{byte, number2, number4, number8, signed8};
-ghost use Rattle.codec.specs.Writing.{Says, IsOpen, Writes, IsBeyond, Puts};
+ghost use Rattle.codec.specs.Writing.{Says, IsOpen, Writes, IsBeyond, Puts, HasNone, HasRoom};
 ghost use Rattle.ids.specs.declared.refusal.Refusal.TheVariants.{Memory, ImageTooLarge};
 
 use ids::Refusal;
 use std::alloc::Global;
 
+/// What became of the bytes that a writer was given.
+#[derive(Clone, Copy)]
+pub(crate) enum Kept {
+    /// All are there. They may be more than the limit.
+    All,
+    /// None is there, since memory was refused. They are so many, within the limit.
+    Counted(usize),
+    /// None is there, since they are more than the limit.
+    TooMany,
+}
+
 /// Bytes that are written one after another, up to a limit. Once they would be more, or memory is
 /// refused, none is kept any more, and [`finish`](Writer::finish) says so: no call before it fails.
 #[derive(Drop)]
 pub struct Writer {
+    // Without room for any where none is kept, so that one test tells all before a write.
     bytes: Vec<u8>,
     limit: u32,
-    // How many bytes may still come. None once there were too many.
-    room: Option<usize>,
-    // Whether the bytes are all that came.
-    kept: bool,
+    kept: Kept,
 }
 
 impl Writer {
@@ -29,29 +38,58 @@ impl Writer {
         ensures empty { Says result [] }
     {
         let (bytes, kept) = match Vec::with_capacity(alloc, first) {
-            Ok(bytes) => (bytes, true),
-            Err(_) => (Vec::new(alloc), false),
+            Ok(bytes) => (bytes, Kept::All),
+            Err(_) => (Vec::new(alloc), Kept::Counted(0)),
         };
-        Writer {
-            bytes,
-            limit,
-            room: Some(limit as usize),
-            kept,
-        }
+        Writer { bytes, limit, kept }
     }
 
     /// Appends the bytes.
     pub fn append(&mut self, part: &[u8])
         ensures { Writes self.old self.new part.now ⊤ }
     {
-        match self.room {
-            None => {}
-            Some(room) if part.len() <= room => {
-                self.room = Some(room - part.len());
-                self.kept = self.kept && self.bytes.extend_from_slice(part).is_ok();
-            }
-            Some(_) => self.room = None,
+        if part.is_empty() {
+            return;
         }
+        if part.len() <= self.bytes.capacity() - self.bytes.len() || self.grow(part) {
+            let _ = self.bytes.extend_from_slice(part);
+        }
+    }
+
+    // Makes room for these bytes. Where it can't be had they are counted, and none is kept.
+    #[cold]
+    #[inline(never)]
+    fn grow(&mut self, part: &[u8]) -> bool
+        ensures limit { self.new.limit ≡ self.old.limit }
+        ensures room { result ≡ true → HasRoom self.old self.new part.now }
+        ensures none { result ≡ false → Writes self.old self.new part.now ⊤ }
+    {
+        let count = match self.kept {
+            Kept::All => self.bytes.len(),
+            Kept::Counted(count) => count,
+            Kept::TooMany => return false,
+        };
+        let limit = self.limit as usize;
+        if count > limit || part.len() > limit - count {
+            self.give_up(Kept::TooMany);
+            return false;
+        }
+        if matches!(self.kept, Kept::All) && self.bytes.reserve(part.len()).is_ok() {
+            return true;
+        }
+        self.give_up(Kept::Counted(count + part.len()));
+        false
+    }
+
+    // Lets go of all bytes.
+    fn give_up(&mut self, kept: Kept)
+        ensures limit { self.new.limit ≡ self.old.limit }
+        ensures kept { self.new.kept ≡ kept }
+        ensures none { HasNone self.new }
+    {
+        let alloc = *self.bytes.allocator();
+        self.bytes = Vec::new(alloc);
+        self.kept = kept;
     }
 
     /// The bytes that were written.
@@ -69,19 +107,11 @@ impl Writer {
         ensures last { (text : List ℕ) → Says self text → IfErr result (λ e. e ≡ Memory
             → length text ≤ self.limit) }
     {
-        let Writer {
-            bytes,
-            room,
-            kept,
-            ..
-        } = self;
-        if room.is_none() {
-            return Err(Refusal::ImageTooLarge);
-        }
-        if kept {
-            Ok(bytes)
-        } else {
-            Err(Refusal::Memory)
+        let Writer { bytes, limit, kept } = self;
+        match kept {
+            Kept::All if bytes.len() <= limit as usize => Ok(bytes),
+            Kept::All | Kept::TooMany => Err(Refusal::ImageTooLarge),
+            Kept::Counted(_) => Err(Refusal::Memory),
         }
     }
 
@@ -117,7 +147,7 @@ impl Writer {
         ensures over { result ≡ false → IsBeyond count self.old self.new }
     {
         if count > self.limit as usize {
-            self.room = None;
+            self.give_up(Kept::TooMany);
             return false;
         }
         self.u32(count as u32);

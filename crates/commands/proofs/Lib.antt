@@ -1,3 +1,4 @@
+pub mod Chains
 pub mod Calls
 pub mod Found
 pub mod Printing

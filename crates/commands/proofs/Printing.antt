@@ -17,8 +17,8 @@ use Rattle.commands.specs.declared.script.Reply.TheVariants as reply
 use Rattle.commands.specs.declared.script.State.{State}
 use Rattle.commands.specs.declared.script.State.TheVariants as state
 use Rattle.lines.specs.Grammar.{line_of, words_of}
-use Rattle.commands.specs.Script.{Held, awaited, ShowsHeld, Moves, TakesLine, GoesOn, Replies, PrintsNoScript, PrintsReplies, RunsScript, replied, unread, printed, reply_text, status_after, status_of}
-use Rattle.lines.proofs.Chains.{first_and_rest}
+use Rattle.commands.specs.Script.{Held, awaited, ShowsHeld, TakesLine, GoesOn, Replies, PrintsNoScript, PrintsReply, PrintsReplies, RunsScript, replied, unread, printed, reply_text, status_after, status_of}
+use Rattle.commands.proofs.Chains.{first_and_rest}
 
 -- a reply after others
 printed_push : (n : ℕ) (rs : List Reply) (r : Reply)
@@ -110,48 +110,64 @@ goes_on (reply.Refused e) rs P goes p = p
 ends_here : (r : Reply) → r ≡ reply.NoCommand → (P : Type 0) → GoesOn r [] P
 ends_here r last P = subst (λ z. GoesOn z [] P) (sym last) refl
 
--- a turn: the line, its reply, and what was printed for it
+-- the reply by its status
+last_reply : (r : Reply) → status_after r ≡ 2 → r ≡ reply.NoCommand
+last_reply reply.NoCommand e = refl
+last_reply reply.Nothing e = absurd cc
+last_reply (reply.Outcome o) e = absurd cc
+last_reply (reply.Summary s) e = absurd cc
+last_reply (reply.Report freed) e = absurd cc
+last_reply (reply.Refused x) e = absurd cc
+
+no_last : (r : Reply) → status_after r ≢ 2 → r ≢ reply.NoCommand
+no_last r other e = other (ap status_after e)
+
+-- a turn: the line, and what it came to
 pub record Turn {S : Type 0} (shows : S → World → Type 0) (keeps : S → List Rings) (p q : Point S) : Type 0 where
   pub index : ℕ
   pub text : Bor (List ℕ)
-  pub reply : Reply
+  pub status : ℕ
   pub step : enumerate_steps lines_steps p.left (Some (index, text)) q.left
-  pub answers : Moves shows keeps (λ h later. TakesLine h (line_of (words_of text.now)) reply later)
-      p.state q.state
-  pub prints : Appends p.output q.output (reply_text (index + 1) reply)
-  pub worse : q.status ≡ max p.status (status_after reply)
+  pub says : PrintsReply shows keeps (λ h r later. TakesLine h (line_of (words_of text.now)) r later)
+      (index + 1) p.state q.state p.output q.output status
+  pub worse : q.status ≡ max p.status status
 
 module _ {S : Type 0} (shows : S → World → Type 0) (keeps : S → List Rings) (script : List ℕ) (start : Option (List ℕ))
     (p q : Point S) (before : PrintedBefore shows keeps script start p) (turn : Turn shows keeps p q) where
+  abbrev reply_now : Reply
+  reply_now = turn.says.reply
+
   abbrev replies_so_far : List Reply
-  replies_so_far = before.replies ++ turn.reply ∷ []
+  replies_so_far = before.replies ++ reply_now ∷ []
 
   appended_push : Appends start q.output (printed 1 replies_so_far)
   appended_push =
       let place : turn.index + 1 ≡ 1 + length before.replies =
       omega (arith, before.counted, turn.step.1) in
-      let more : printed 1 before.replies ++ reply_text (turn.index + 1) turn.reply
+      let more : printed 1 before.replies ++ reply_text (turn.index + 1) reply_now
       ≡ printed 1 replies_so_far =
-      ap (λ k. printed 1 before.replies ++ reply_text k turn.reply) place
-      ∙ sym (printed_push 1 before.replies turn.reply) in
+      ap (λ k. printed 1 before.replies ++ reply_text k reply_now) place
+      ∙ sym (printed_push 1 before.replies reply_now) in
       subst (Appends start q.output) more
       (Appends-trans start p.output q.output (printed 1 before.replies)
-      (reply_text (turn.index + 1) turn.reply) before.appended turn.prints)
+      (reply_text (turn.index + 1) reply_now) before.appended turn.says.prints)
 
   worst_push : q.status ≡ status_of replies_so_far
   worst_push =
-      turn.worse ∙ ap (λ k. max k (status_after turn.reply)) before.worst
-      ∙ sym (status_of_push before.replies turn.reply)
+      turn.worse ∙ ap (max p.status) turn.says.is
+      ∙ ap (λ k. max k (status_after reply_now)) before.worst
+      ∙ sym (status_of_push before.replies reply_now)
 
   -- it does not end the program
-  pub printed_more : turn.reply ≢ reply.NoCommand → PrintedBefore shows keeps script start q
-  printed_more goes =
+  pub printed_more : turn.status ≢ 2 → PrintedBefore shows keeps script start q
+  printed_more other =
       let next = first_and_rest {t = q.left.iter} before.yields turn.text turn.step.0 in
-      let taken = turn.answers before.held before.shown in
+      let taken = turn.says.answers before.held before.shown in
+      let goes = no_last reply_now (λ e. other (turn.says.is ∙ e)) in
       record {
         replies = replies_so_far;
         counted =
-            let more = length-append before.replies (turn.reply ∷ []) in
+            let more = length-append before.replies (reply_now ∷ []) in
             omega (arith, before.counted, turn.step.2, more);
         held = taken.0;
         shown = taken.2;
@@ -159,24 +175,25 @@ module _ {S : Type 0} (shows : S → World → Type 0) (keeps : S → List Rings
         yields = next.2;
         follow = λ rs follows.
             subst (Replies awaited (lines script))
-            (sym (append_assoc before.replies (turn.reply ∷ []) rs))
-            (before.follow (turn.reply ∷ rs)
-            (subst (λ ls. Replies before.held ls (turn.reply ∷ rs)) (sym next.1)
-            (taken.0, taken.1, goes_on turn.reply rs _ goes follows)));
+            (sym (append_assoc before.replies (reply_now ∷ []) rs))
+            (before.follow (reply_now ∷ rs)
+            (subst (λ ls. Replies before.held ls (reply_now ∷ rs)) (sym next.1)
+            (taken.0, taken.1, goes_on reply_now rs _ goes follows)));
         worst = worst_push;
         appended = appended_push;
       }
 
   -- it ends the program
-  pub printed_last : turn.reply ≡ reply.NoCommand → PrintsReplies script q.status start q.output
+  pub printed_last : turn.status ≡ 2 → PrintsReplies script q.status start q.output
   printed_last last =
       let next = first_and_rest {t = q.left.iter} before.yields turn.text turn.step.0 in
-      let taken = turn.answers before.held before.shown in
+      let taken = turn.says.answers before.held before.shown in
+      let ends = last_reply reply_now (sym turn.says.is ∙ last) in
       record {
         replies = replies_so_far;
-        follow = before.follow (turn.reply ∷ [])
-            (subst (λ ls. Replies before.held ls (turn.reply ∷ [])) (sym next.1)
-            (taken.0, taken.1, ends_here turn.reply last (Replies taken.0 next.0 [])));
+        follow = before.follow (reply_now ∷ [])
+            (subst (λ ls. Replies before.held ls (reply_now ∷ [])) (sym next.1)
+            (taken.0, taken.1, ends_here reply_now ends (Replies taken.0 next.0 [])));
         worst = worst_push;
         appended = appended_push;
       }

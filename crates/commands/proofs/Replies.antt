@@ -1,5 +1,5 @@
 -- How a script's space follows the definitions.
-use Rattle.std.proofs.Common.{◌≡◌, ℕ, List, [], Ok, Err, refl, inl, subst}
+use Rattle.std.proofs.Common.{◌≡◌, ℕ, List, [], Result, Ok, Err, OnOk, IfOk, refl, ap, inl, subst}
 use Rattle.ids.specs.Limits.{Shaped}
 use Rattle.ids.specs.declared.refusal.Refusal.{Refusal}
 use Rattle.model.specs.World.{FollowsStep, World, new_world, take_step}
@@ -14,6 +14,12 @@ use Rattle.commands.specs.declared.freed.Freed.{Freed}
 use Rattle.commands.specs.Freed.{KeepsSums, freed_after}
 use Rattle.commands.specs.Script.{Held, RefusesStep, awaited, denied, there, ShowsHeld, TakesSpace, TakesStep, none_kept}
 
+-- what holds of what was printed with its status
+pub printed_as : {E : Type 0} {A : Type 0} {Q P : ℕ → Type 0} (r : Result ℕ E) → OnOk r A
+    → IfOk r Q → (A → (status : ℕ) → Q status → P status) → IfOk r P
+printed_as (Ok status) text is follows = follows text status is
+printed_as (Err e) text is follows = tt
+
 module _ {S : Type 0} (shows : S → World → Type 0) (keeps : S → List Rings) where
   pub made_shows : (h : Held) (sizes : Shaped) (x : S) (f : Freed)
       → ShowsHeld shows keeps state.Unopened h → shows x (new_world sizes)
@@ -24,6 +30,15 @@ module _ {S : Type 0} (shows : S → World → Type 0) (keeps : S → List Rings
       (there (new_world sizes) (none_kept sizes.nodes) [], inl (refl, refl), (made, none, fresh))
   made_shows denied sizes x f shown made none fresh = absurd shown
   made_shows (there w all sums) sizes x f shown made none fresh = absurd shown
+
+  -- a step of a space that was refused
+  pub denied_shows : (h : Held) (step : Step) (e : Refusal)
+      → ShowsHeld shows keeps (state.Refused e) h
+      → (k : Held) × TakesStep h step (reply.Refused e) k
+      × ShowsHeld shows keeps (state.Refused e) k
+  denied_shows awaited step e shown = absurd shown
+  denied_shows denied step e shown = (denied, (ap reply.Refused shown, refl), shown)
+  denied_shows (there w all sums) step e shown = absurd shown
 
   -- a step that was taken
   pub outcome_shows : (h : Held) (step : Step) (x y : S) (f g : Freed) (o : Outcome)

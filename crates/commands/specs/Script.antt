@@ -164,6 +164,15 @@ status_after (reply.Report freed) = 0
 status_after (reply.Refused e) = 1
 status_after reply.NoCommand = 2
 
+-- A line, which takes the space so, came to a reply: that is printed, and the status is its own.
+pub record PrintsReply {S : Type 0} (shows : S → World → Type 0) (keeps : S → List Rings)
+    (takes : Held → Reply → Held → Type 0) (number : ℕ) (old new : State S)
+    (before after : Option (List ℕ)) (status : ℕ) : Type 0 where
+  pub reply : Reply
+  pub answers : Moves shows keeps (λ h later. takes h reply later) old new
+  pub prints : Appends before after (reply_text number reply)
+  pub is : status ≡ status_after reply
+
 -- the status is that of the worst reply
 abbrev pub status_of : List Reply → ℕ
 status_of [] = 0

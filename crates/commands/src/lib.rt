@@ -1,6 +1,6 @@
 //! What the words of the program `markring` ask for, and what it does over one thread: scripts of a
-//! space, and frames that words spell. All that is written is what the definitions answer, and the contract
-//! says so of every writer that says what it holds.
+//! space, and frames that words spell. All that is written is what the definitions answer, and the
+//! contract says so of every writer that says what it holds.
 #![tactic(auto)]
 
 mod frames;

@@ -1,6 +1,6 @@
 //! Runs a script over a space of nodes. Line by line the space takes a step and the reply is
 //! written, through the first line that is none; the status is that of the worst.
-ghost use Rattle.std.specs.Prelude.{◌≡◌, ◌≤◌, ◌⊎◌, ℕ, List, IfOk, IfErr, OnOk, IsTrue, ◌≢◌};
+ghost use Rattle.std.specs.Prelude.{◌≡◌, ◌≤◌, ◌⊎◌, ◌++◌, ◌∷◌, [], ℕ, List, Some, IfOk, IfErr, OnOk, IsTrue, ◌≢◌};
 ghost use Rattle.std.specs.Io.KnownBytes.{Appends};
 ghost use Rattle.ids.specs.declared.refusal.Refusal.TheVariants.{Memory, ImageTooLarge};
 ghost use Rattle.model.specs.World.{World, FollowsStep, new_world, is_own_step, is_step_memory_free};
@@ -12,6 +12,10 @@ ghost use Rattle.lines.specs.Grammar.{line_of, words_of};
 ghost use Rattle.commands.specs.Script.{MayBeTooLarge, Moves, PrintsNoScript, PrintsReplies};
 ghost use Rattle.commands.specs.Script.{RunsScript, TakesLine, TakesReport, TakesSpace};
 ghost use Rattle.commands.specs.Script.{TakesState, TakesStep, none_kept, reply_text, status_after};
+ghost use Rattle.commands.specs.Script.{PrintsReply};
+ghost use Rattle.commands.specs.declared.script.Reply.TheVariants as reply;
+ghost use Rattle.lines.specs.declared.line.Line.TheVariants as line;
+ghost use Rattle.lines.specs.Text.{refused_text};
 
 use crate::freed::{Freed, freed_in, sweeper};
 use ids::{Refusal, Shape};
@@ -169,49 +173,30 @@ fn run_lines<S: Space, W: Write>(alloc: Global, script: &str, out: &mut W) -> io
     let mut state = State::<S>::Unopened;
     let mut status = DONE;
     for (index, text) in script.lines().enumerate() {
-        let reply = take_line(alloc, &mut state, text);
-        print_reply(out, index + 1, &reply)?;
-        status = status.max(status_after(&reply));
-        if let Reply::NoCommand = reply {
+        let reached = run_line(alloc, &mut state, index + 1, text, out)?;
+        status = status.max(reached);
+        if reached == UNREADABLE {
             return Ok(status);
         }
     }
     Ok(status)
 }
 
-/// Prints what the line of this number comes to.
-fn print_reply<W: Write>(out: &mut W, number: usize, reply: &Reply) -> io::Result<()>
-    ensures { OnOk result
-        (Appends (W.contents out.old) (W.contents out.new) (reply_text number reply.now)) }
+/// Does what the line of this number says, prints what it comes to, and answers the status that a
+/// script has at least then; the error is that output failed.
+fn run_line<S: Space, W: Write>(
+    alloc: Global,
+    state: &mut State<S>,
+    number: usize,
+    text: &str,
+    out: &mut W,
+) -> io::Result<u8>
+    ensures { IfOk result (PrintsReply S.shows S.keeps
+        (λ h r later. TakesLine h (line_of (words_of text.now)) r later) number
+        state.old state.new (W.contents out.old) (W.contents out.new)) }
 {
-    match reply {
-        Reply::Nothing => Ok(()),
-        Reply::Outcome(outcome) => print_outcome(out, *outcome),
-        Reply::Summary(summary) => writeln!(out, "{}", SummaryText(*summary)),
-        Reply::Report(sums) => print_report(out, sums),
-        Reply::Refused(refusal) => writeln!(out, "refused {refusal}"),
-        Reply::NoCommand => writeln!(out, "line {number}: not a command"),
-    }
-}
-
-/// The status that a script has at least where a line comes to this.
-fn status_after(reply: &Reply) -> u8
-    ensures { result ≡ status_after reply.now }
-{
-    match reply {
-        Reply::Nothing | Reply::Outcome(_) | Reply::Summary(_) | Reply::Report(_) => DONE,
-        Reply::Refused(_) => REFUSED,
-        Reply::NoCommand => UNREADABLE,
-    }
-}
-
-/// Does what the line says.
-fn take_line<S: Space>(alloc: Global, state: &mut State<S>, text: &str) -> Reply
-    ensures { Moves S.shows S.keeps
-        (λ h later. TakesLine h (line_of (words_of text.now)) result later)
-        state.old state.new }
-{
-    match Line::parse(text) {
+    let reply = match Line::parse(text) {
+        Some(Line::Step(step)) => return run_step(state, number, step, out),
         Some(Line::Blank) => Reply::Nothing,
         Some(
             Line::Space {
@@ -219,13 +204,97 @@ fn take_line<S: Space>(alloc: Global, state: &mut State<S>, text: &str) -> Reply
                 registers,
                 slots,
             },
-        ) => match Shape::new(nodes, registers, slots) {
-            Some(shape) => open(alloc, state, shape),
-            None => Reply::NoCommand,
-        },
-        Some(Line::Step(step)) => take_step(state, step),
+        ) => take_space(alloc, state, nodes, registers, slots),
         Some(Line::State(node)) => show_state(state, node),
         Some(Line::Report) => report(alloc, state),
+        None => Reply::NoCommand,
+    };
+    print_reply(out, number, &reply)
+}
+
+/// Takes a step of the space, where it was asked for, and prints what becomes of it. Most lines are
+/// steps, so their outcomes are not moved into replies.
+fn run_step<S: Space, W: Write>(
+    state: &mut State<S>,
+    number: usize,
+    step: Step,
+    out: &mut W,
+) -> io::Result<u8>
+    requires { IsTrue (is_own_step step) }
+    ensures { IfOk result (PrintsReply S.shows S.keeps
+        (λ h r later. TakesStep h step r later) number
+        state.old state.new (W.contents out.old) (W.contents out.new)) }
+{
+    match state {
+        State::Unopened => print_no_command(out, number),
+        State::Refused(refusal) => print_refusal(out, *refusal),
+        State::Open { space, freed } => {
+            let swept = sweeper(&step);
+            match space.step(step) {
+                Ok(outcome) => {
+                    note(space, freed, swept, freed_in(&outcome));
+                    print_outcome(out, outcome)?;
+                    Ok(DONE)
+                }
+                Err(refusal) => print_refusal(out, refusal),
+            }
+        }
+    }
+}
+
+/// Prints that a line was refused, and answers the status.
+fn print_refusal<W: Write>(out: &mut W, refusal: Refusal) -> io::Result<u8>
+    ensures text { OnOk result
+        (Appends (W.contents out.old) (W.contents out.new) (refused_text refusal ++ 10 ∷ [])) }
+    ensures status { IfOk result (λ status. status ≡ 1) }
+{
+    writeln!(out, "refused {refusal}")?;
+    Ok(REFUSED)
+}
+
+/// Prints that the line of this number is outside the grammar, and answers the status.
+fn print_no_command<W: Write>(out: &mut W, number: usize) -> io::Result<u8>
+    ensures text { OnOk result
+        (Appends (W.contents out.old) (W.contents out.new) (reply_text number reply.NoCommand)) }
+    ensures status { IfOk result (λ status. status ≡ 2) }
+{
+    writeln!(out, "line {number}: not a command")?;
+    Ok(UNREADABLE)
+}
+
+/// Prints what the line of this number comes to, and answers the status that a script has at least
+/// then.
+fn print_reply<W: Write>(out: &mut W, number: usize, reply: &Reply) -> io::Result<u8>
+    ensures text { OnOk result
+        (Appends (W.contents out.old) (W.contents out.new) (reply_text number reply.now)) }
+    ensures status { IfOk result (λ status. status ≡ status_after reply.now) }
+{
+    match reply {
+        Reply::Nothing => {}
+        Reply::Outcome(outcome) => print_outcome(out, *outcome)?,
+        Reply::Summary(summary) => writeln!(out, "{}", SummaryText(*summary))?,
+        Reply::Report(sums) => print_report(out, sums)?,
+        Reply::Refused(refusal) => return print_refusal(out, *refusal),
+        Reply::NoCommand => return print_no_command(out, number),
+    }
+    Ok(DONE)
+}
+
+/// Makes the space of these sizes, where no line asked for one before and they are within the
+/// limits.
+fn take_space<S: Space>(
+    alloc: Global,
+    state: &mut State<S>,
+    nodes: u8,
+    registers: u16,
+    slots: u32,
+) -> Reply
+    ensures { Moves S.shows S.keeps
+        (λ h later. TakesLine h (Some (line.Space nodes registers slots)) result later)
+        state.old state.new }
+{
+    match Shape::new(nodes, registers, slots) {
+        Some(shape) => open(alloc, state, shape),
         None => Reply::NoCommand,
     }
 }
@@ -247,27 +316,6 @@ fn open<S: Space>(alloc: Global, state: &mut State<S>, shape: Shape) -> Reply
         Err(refusal) => {
             *state = State::Refused(refusal);
             Reply::Refused(refusal)
-        }
-    }
-}
-
-/// Takes a step of the space, where it was asked for.
-fn take_step<S: Space>(state: &mut State<S>, step: Step) -> Reply
-    requires { IsTrue (is_own_step step) }
-    ensures { Moves S.shows S.keeps (λ h later. TakesStep h step result later) state.old state.new }
-{
-    match state {
-        State::Unopened => Reply::NoCommand,
-        State::Refused(refusal) => Reply::Refused(*refusal),
-        State::Open { space, freed } => {
-            let swept = sweeper(&step);
-            match space.step(step) {
-                Ok(outcome) => {
-                    note(space, freed, swept, freed_in(&outcome));
-                    Reply::Outcome(outcome)
-                }
-                Err(refusal) => Reply::Refused(refusal),
-            }
         }
     }
 }

@@ -4,12 +4,11 @@ use Rattle.std.specs.List.{starts_with}
 use Rattle.std.specs.Option.{option_and_then}
 use Rattle.std.specs.Str.{bytes_eq}
 use Rattle.std.proofs.lemmas.Bool.{cond-true, cond-false}
-use Rattle.lines.specs.declared.line.TheConstants.{MOST_OPERANDS}
 use Rattle.lines.specs.declared.line.Line.{Line}
 use Rattle.lines.specs.declared.line.Line.TheVariants as line
 use Rattle.lines.specs.Grammar.{u8_of, command_of, delivery_of, hand_of, line_of, node_line_of, report_of, space_of, stepped}
 
-space_of_many : (words : List (List ℕ)) → MOST_OPERANDS < length words → space_of words ≡ None
+space_of_many : (words : List (List ℕ)) → 4 < length words → space_of words ≡ None
 unfolding space_of
 space_of_many [] many = refl
 space_of_many (a ∷ []) many = refl
@@ -17,7 +16,7 @@ space_of_many (a ∷ b ∷ []) many = refl
 space_of_many (a ∷ b ∷ c ∷ []) many = absurd (omega arith)
 space_of_many (a ∷ b ∷ c ∷ d ∷ words) many = refl
 
-delivery_of_many : (words : List (List ℕ)) → MOST_OPERANDS < length words → delivery_of words ≡ None
+delivery_of_many : (words : List (List ℕ)) → 4 < length words → delivery_of words ≡ None
 unfolding delivery_of
 delivery_of_many [] many = refl
 delivery_of_many (a ∷ []) many = refl
@@ -25,19 +24,19 @@ delivery_of_many (a ∷ b ∷ []) many = refl
 delivery_of_many (a ∷ b ∷ c ∷ []) many = absurd (omega arith)
 delivery_of_many (a ∷ b ∷ c ∷ d ∷ words) many = refl
 
-hand_of_many : (words : List (List ℕ)) → MOST_OPERANDS < length words → hand_of words ≡ None
+hand_of_many : (words : List (List ℕ)) → 4 < length words → hand_of words ≡ None
 unfolding hand_of
 hand_of_many [] many = refl
 hand_of_many (a ∷ []) many = refl
 hand_of_many (a ∷ b ∷ []) many = absurd (omega arith)
 hand_of_many (a ∷ b ∷ c ∷ words) many = refl
 
-report_of_many : (words : List (List ℕ)) → MOST_OPERANDS < length words → report_of words ≡ None
+report_of_many : (words : List (List ℕ)) → 4 < length words → report_of words ≡ None
 unfolding report_of
 report_of_many [] many = absurd (omega arith)
 report_of_many (a ∷ words) many = refl
 
-node_line_of_many : (node : ℕ) (words : List (List ℕ)) → MOST_OPERANDS < length words
+node_line_of_many : (node : ℕ) (words : List (List ℕ)) → 4 < length words
     → node_line_of node words ≡ None
 unfolding node_line_of
 node_line_of_many node [] many = refl
@@ -53,7 +52,7 @@ plain first words =
     cond (bytes_eq first (codes "report")) (report_of words)
     (option_and_then (λ node. node_line_of node words) (u8_of first))
 
-plain_many : (first : List ℕ) (words : List (List ℕ)) → MOST_OPERANDS < length words
+plain_many : (first : List ℕ) (words : List (List ℕ)) → 4 < length words
     → plain first words ≡ None
 plain_many first words many =
     elim (bytes_eq first (codes "report")) as (λ b. cond b (report_of words)
@@ -71,7 +70,7 @@ abbrev others : List ℕ → List (List ℕ) → Option Line
 others first words =
     cond (bytes_eq first (codes "ack")) (stepped (hand_of words)) (plain first words)
 
-others_many : (first : List ℕ) (words : List (List ℕ)) → MOST_OPERANDS < length words
+others_many : (first : List ℕ) (words : List (List ℕ)) → 4 < length words
     → others first words ≡ None
 others_many first words many =
     elim (bytes_eq first (codes "ack"))
@@ -81,7 +80,7 @@ others_many first words many =
     ]
 
 -- no command has so many
-pub command_of_many : (first : List ℕ) (words : List (List ℕ)) → MOST_OPERANDS < length words
+pub command_of_many : (first : List ℕ) (words : List (List ℕ)) → 4 < length words
     → command_of first words ≡ None
 unfolding command_of
 command_of_many first words many =

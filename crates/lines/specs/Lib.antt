@@ -1,3 +1,4 @@
 pub mod Endings
 pub mod Grammar
 pub mod Text
+pub mod Words

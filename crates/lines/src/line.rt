@@ -2,12 +2,11 @@
 //! grammar is none.
 ghost use Rattle.std.specs.Prelude.{◌≡◌, map, Some, IfSome, IsTrue, option_map};
 ghost use Rattle.model.specs.declared.event.Event.TheVariants as event;
+ghost use Rattle.std.specs.List.{prefix_len, position_or_len};
+ghost use Rattle.lines.specs.Words.{IsNextWord, is_space, word_count};
 ghost use Rattle.lines.specs.Grammar.{acted, alone, of_two, of_three, u8_of, delivery_of, hand_of, is_own_line, line_of, command_of, report_of, stepped, u64_of, u16_of, node_line_of, space_of, value_after, with_none, with_one, with_three, with_two, u32_of, words_of};
 
 use model::{Event, Step};
-
-/// The most words that stand after the first of a command.
-const MOST_OPERANDS: usize = 4;
 
 /// The most digits that a number has, leading zeros counted.
 const MOST_DIGITS: usize = 20;
@@ -42,26 +41,72 @@ impl Line {
     }
 }
 
+// How many spaces stand at the front.
+fn space_len(text: &[u8]) -> usize
+    ensures { result ≡ prefix_len is_space text.now }
+{
+    let mut len = 0;
+    while len < text.len() && text[len] == b' ' {
+        len += 1;
+    }
+    len
+}
+
+// How many bytes stand before the first space.
+fn word_len(text: &[u8]) -> usize
+    ensures { result ≡ position_or_len is_space text.now }
+{
+    let mut len = 0;
+    while len < text.len() && text[len] != b' ' {
+        len += 1;
+    }
+    len
+}
+
+// The first word of the text, empty where there is none, and what stands after it.
+fn next_word(text: &str) -> (&str, &str)
+    ensures { IsNextWord result.0.now (words_of text.now) (words_of result.1.now) }
+{
+    let text = &text[space_len(text.as_bytes())..];
+    text.split_at(word_len(text.as_bytes()))
+}
+
+// How many of these words stand before the first empty one.
+fn word_count(a: &str, b: &str, c: &str, d: &str) -> usize
+    ensures { result ≡ word_count a.now b.now c.now d.now }
+{
+    if a.is_empty() {
+        0
+    } else if b.is_empty() {
+        1
+    } else if c.is_empty() {
+        2
+    } else if d.is_empty() {
+        3
+    } else {
+        4
+    }
+}
+
 fn line_in(text: &str) -> Option<Line>
     ensures { result ≡ line_of (words_of text.now) }
 {
-    let mut words = text.split(' ').filter(|word| !word.is_empty());
-    let Some(first) = words.next() else {
+    let (first, rest) = next_word(text);
+    if first.is_empty() {
         return Some(Line::Blank);
-    };
+    }
     if first.starts_with('#') {
         return Some(Line::Blank);
     }
-    let mut operands = [""; MOST_OPERANDS];
-    let mut count = 0;
-    for word in words {
-        if count == operands.len() {
-            return None;
-        }
-        operands[count] = word;
-        count += 1;
+    let (a, rest) = next_word(rest);
+    let (b, rest) = next_word(rest);
+    let (c, rest) = next_word(rest);
+    let (d, rest) = next_word(rest);
+    let (further, _) = next_word(rest);
+    if !further.is_empty() {
+        return None;
     }
-    command(first, &operands[..count])
+    command(first, &[a, b, c, d][..word_count(a, b, c, d)])
 }
 
 #[tactic(auto, unfolding(crate::specs::Grammar::command_of))]

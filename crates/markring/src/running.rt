@@ -62,8 +62,9 @@ impl<R: Clock> Gate for Pause<R> {
 
 /// Runs a script over node threads, as the configuration says, and answers the status: 0 where no
 /// line was refused; 1 where the space couldn't be opened or started, some line was refused, a
-/// cycle had no end, a node couldn't be saved at the end, memory was refused or output failed; 2 where the configuration is refused, one
-/// of the two can't be read, or a line is outside the grammar, which is then the last one.
+/// cycle had no end, a node couldn't be saved at the end, memory was refused or output failed; 2
+/// where the configuration is refused, one of the two can't be read, or a line is outside the
+/// grammar, which is then the last one.
 pub fn run<R, C: Read + Drop, S: Read + Drop, W: Write>(
     rt: &R,
     alloc: Global,

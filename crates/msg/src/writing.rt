@@ -3,7 +3,7 @@
 ghost use Rattle.std.specs.Prelude.{◌≡◌, [], ◌∷◌, ◌++◌, IfOk, IfErr};
 ghost use Rattle.ids.specs.declared.refusal.Refusal.TheVariants.{Memory};
 ghost use Rattle.codec.specs.Formats.{number4, number8};
-ghost use Rattle.codec.specs.Writing.{Puts};
+ghost use Rattle.codec.specs.Writing.{Puts, Writes};
 ghost use Rattle.msg.specs.Formats.{reference, optional, colour, token, body_format};
 ghost use Rattle.msg.specs.declared.version.Version.TheVariants.{Second};
 ghost use Rattle.msg.specs.Grammar.{Fits, spelling, frame};
@@ -22,14 +22,16 @@ use std::alloc::Global;
 /// The longest frame has so many bytes.
 const GREATEST_FRAME: u32 = 48;
 
+// A reference behind a tag.
 #[tactic(auto, unfolding(crate::specs::Numbers::number4, crate::specs::Numbers::number8))]
-fn reference_bytes(r: Ref) -> [u8; 13]
-    ensures { result ≡ r.node ∷ (number4.spell r.slot ++ number8.spell r.generation) }
+fn tagged_bytes(tag: u8, r: Ref) -> [u8; 14]
+    ensures { result ≡ tag ∷ r.node ∷ (number4.spell r.slot ++ number8.spell r.generation) }
 {
-    let mut part = [0; 13];
-    part[0] = r.node;
-    BigEndian::write_u32(&mut part[1..], r.slot);
-    BigEndian::write_u64(&mut part[5..], r.generation);
+    let mut part = [0; 14];
+    part[0] = tag;
+    part[1] = r.node;
+    BigEndian::write_u32(&mut part[2..], r.slot);
+    BigEndian::write_u64(&mut part[6..], r.generation);
     part
 }
 
@@ -37,20 +39,25 @@ fn reference_bytes(r: Ref) -> [u8; 13]
 pub fn put_reference(out: &mut Writer, r: Ref)
     ensures { Puts (reference Second) out.old out.new r }
 {
-    out.append(&reference_bytes(r));
+    out.append(&tagged_bytes(0, r)[1..]);
+}
+
+// Appends a tag and a reference, in one piece.
+fn put_tagged(out: &mut Writer, tag: u8, r: Ref)
+    ensures { Writes out.old out.new (tag ∷ (reference Second).spell r)
+        ((reference Second).IsWide r) }
+{
+    out.append(&tagged_bytes(tag, r));
 }
 
 /// Appends a reference, or that there is none.
-#[tactic(auto, unfolding(crate::specs::Formats::optional), using(crate::proofs::Joins::behind))]
+#[tactic(auto, unfolding(crate::specs::Formats::optional))]
 pub fn put_optional(out: &mut Writer, o: Option<Ref>)
     ensures { Puts (optional Second) out.old out.new o }
 {
     match o {
         None => out.u8(ABSENT),
-        Some(r) => {
-            out.u8(PRESENT);
-            put_reference(out, r);
-        }
+        Some(r) => put_tagged(out, PRESENT, r),
     }
 }
 
@@ -85,10 +92,7 @@ pub fn put_body(out: &mut Writer, body: Body)
             out.u8(TOKEN);
             put_token(out, token);
         }
-        Body::Mark { target } => {
-            out.u8(MARK);
-            put_reference(out, target);
-        }
+        Body::Mark { target } => put_tagged(out, MARK, target),
         Body::Give { label, reference } => {
             out.u8(GIVE);
             out.u32(label);
@@ -99,8 +103,7 @@ pub fn put_body(out: &mut Writer, body: Body)
             place,
             reference,
         } => {
-            out.u8(PUT);
-            put_reference(out, target);
+            put_tagged(out, PUT, target);
             out.u8(place);
             put_optional(out, reference);
         }
@@ -109,8 +112,7 @@ pub fn put_body(out: &mut Writer, body: Body)
             place,
             label,
         } => {
-            out.u8(GET);
-            put_reference(out, target);
+            put_tagged(out, GET, target);
             out.u8(place);
             out.u32(label);
         }

@@ -1,5 +1,5 @@
-//! The turns of a worker at one node, one after another on one thread. Before each of them a word is
-//! written, or not.
+//! The turns of a worker at one node, one after another on one thread. Before each of them a word
+//! is written, or not.
 ghost use Rattle.std.specs.Prelude.{◌≡◌, true};
 ghost use Rattle.model.specs.Steps.{is_own};
 

@@ -1,4 +1,4 @@
-use Rattle.std.proofs.Common.{◌≡◌, ap, ◌∙◌, arith}
+use Rattle.std.proofs.Common.{◌≡◌, ap, ◌∙◌}
 use Rattle.std.specs.Str.Iter.{lines_rest}
 use Rattle.commands.proofs.Printing.{printed_nothing, printed_more, printed_last, printed_all}
 use Rattle.commands.proofs.script.run_lines.Goals as goal
@@ -14,23 +14,7 @@ loop-index-init g c =
     (g.W.Write.contents c.args.out.now)
     (ap lines_rest source ∙ c.lines.ensures.rest) from_zero
 
--- a line that does not end the program; its reply may hold memory
-pub loop-index-preserved-in_default : goal.loop-index-preserved-in_default
-loop-index-preserved-in_default g c =
-    printed_more g.S.Space.shows g.S.Space.keeps c.args.script.now (g.W.Write.contents c.args.out.now) _ _
-    c.loop-index.invariant
-    (record {
-      index = c.in-Some.index;
-      text = c.in-Some.text;
-      reply = c.take_line-reply.result;
-      step = c.in-Some.ensures.steps;
-      answers = c.take_line-reply.ensures;
-      prints = c.in_ok-print_reply.ensures;
-      worse = omega arith;
-    })
-    c.in_default.not-NoCommand
-
--- the same where its reply holds none
+-- a line that does not end the program
 pub loop-index-preserved : goal.loop-index-preserved
 loop-index-preserved g c =
     printed_more g.S.Space.shows g.S.Space.keeps c.args.script.now (g.W.Write.contents c.args.out.now) _ _
@@ -38,35 +22,33 @@ loop-index-preserved g c =
     (record {
       index = c.in-Some.index;
       text = c.in-Some.text;
-      reply = c.take_line-reply.result;
+      status = c.in_ok-reached.reached;
       step = c.in-Some.ensures.steps;
-      answers = c.take_line-reply.ensures;
-      prints = c.in_ok-print_reply.ensures;
-      worse = omega arith;
+      says = c.in_ok-reached.ensures;
+      worse = c.max-status.ensures;
     })
-    c.in_default.not-NoCommand
+    c.if-reached-eq-UNREADABLE.false
 
 -- one that does
-pub returns-in-NoCommand : goal.returns-in-NoCommand
-returns-in-NoCommand g c =
+pub returns-then-reached-eq-UNREADABLE : goal.returns-then-reached-eq-UNREADABLE
+returns-then-reached-eq-UNREADABLE g c =
     printed_last g.S.Space.shows g.S.Space.keeps c.args.script.now (g.W.Write.contents c.args.out.now) _
     (record {
       left = c.next.new.self;
-      state = c.take_line-reply.new.state;
+      state = c.run_line.new.state;
       status = c.max-status.result;
-      output = g.W.Write.contents c.print_reply.new.out;
+      output = g.W.Write.contents c.run_line.new.out;
     })
     c.loop-index.invariant
     (record {
       index = c.in-Some.index;
       text = c.in-Some.text;
-      reply = c.take_line-reply.result;
+      status = c.in_ok-reached.reached;
       step = c.in-Some.ensures.steps;
-      answers = c.take_line-reply.ensures;
-      prints = c.in_ok-print_reply.ensures;
-      worse = omega arith;
+      says = c.in_ok-reached.ensures;
+      worse = c.max-status.ensures;
     })
-    c.in-NoCommand.is
+    c.if-reached-eq-UNREADABLE.true
 
 -- the end of the script
 pub returns : goal.returns
