@@ -1,2 +1,2 @@
--- The format of a number.
-pub use Rattle.codec.specs.Formats.{number8}
+-- The formats of numbers.
+pub use Rattle.codec.specs.Formats.{number2, number4, number8}

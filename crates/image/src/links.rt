@@ -1,14 +1,15 @@
 //! The links between a node and the others as bytes. Of each link it is the messages that aren't
 //! acknowledged, and how much was taken in; never what the node keeps before its turn.
-ghost use Rattle.std.specs.Prelude.{◌≡◌, ◌<◌, ◌==◌, cond, [], ◌∷◌, length, slice_index_or};
+ghost use Rattle.std.specs.Prelude.{◌≡◌, ◌<◌, ◌==◌, cond, [], ◌∷◌, ◌++◌, length, slice_index_or};
 ghost use Rattle.std.specs.List.{remove};
-ghost use Rattle.codec.specs.Formats.{number4, counted};
+ghost use Rattle.codec.specs.Formats.{number4, number8, counted};
 ghost use Rattle.codec.specs.Writing.{Puts, PutsAll};
 ghost use Rattle.link.specs.Links.{link_at, got_at, IsLinks};
 ghost use Rattle.msg.specs.declared.version.Version.TheVariants.{Second};
 ghost use Rattle.image.specs.Grammar.{message_format, link_format};
 ghost use Rattle.image.specs.Images.{stored_link, stored_links};
 
+use byteorder::{BigEndian, ByteOrder};
 use codec::Writer;
 use link::Links;
 use msg::Message;
@@ -63,8 +64,28 @@ fn put_messages(out: &mut Writer, links: &Links, to: u8)
 
 // ---- links
 
+// A link without messages, in one piece.
+#[tactic(auto, unfolding(crate::specs::Numbers::number4, crate::specs::Numbers::number8))]
+fn idle_link(base: u64, taken: u64) -> [u8; 20]
+    ensures { result ≡ number8.spell base ++ (number4.spell 0 ++ number8.spell taken) }
+{
+    let mut part = [0; 20];
+    BigEndian::write_u64(&mut part, base);
+    BigEndian::write_u64(&mut part[12..], taken);
+    part
+}
+
+fn put_idle(out: &mut Writer, links: &Links, to: u8)
+    requires there { to < length links.now.links }
+    requires idle { (link_at links.now to).unacknowledged ≡ [] }
+    ensures { Puts (link_format Second) out.old out.new
+        (stored_link (link_at links.now to, got_at links.now to)) }
+{
+    out.append(&idle_link(links.base(to), links.taken(to)));
+}
+
 #[tactic(auto, unfolding(crate::specs::Grammar::link_format), using(crate::proofs::Joins::both))]
-fn put_link(out: &mut Writer, links: &Links, to: u8)
+fn put_busy(out: &mut Writer, links: &Links, to: u8)
     requires { to < length links.now.links }
     ensures { Puts (link_format Second) out.old out.new
         (stored_link (link_at links.now to, got_at links.now to)) }
@@ -72,6 +93,19 @@ fn put_link(out: &mut Writer, links: &Links, to: u8)
     out.u64(links.base(to));
     put_messages(out, links, to);
     out.u64(links.taken(to));
+}
+
+// Appends the link to a node. Most links have no messages.
+fn put_link(out: &mut Writer, links: &Links, to: u8)
+    requires { to < length links.now.links }
+    ensures { Puts (link_format Second) out.old out.new
+        (stored_link (link_at links.now to, got_at links.now to)) }
+{
+    if message_count(links, to) == 0 {
+        put_idle(out, links, to);
+    } else {
+        put_busy(out, links, to);
+    }
 }
 
 // Appends the link to a node, unless that is `own`.

@@ -1,6 +1,6 @@
 //! A node as bytes. Its parts follow one another without gaps, each by its own format.
-ghost use Rattle.std.specs.Prelude.{◌≡◌};
-ghost use Rattle.codec.specs.Formats.{signed8, ◌&◌};
+ghost use Rattle.std.specs.Prelude.{◌≡◌, ◌∷◌, ◌++◌};
+ghost use Rattle.codec.specs.Formats.{number2, number4, number8, signed8, ◌&◌};
 ghost use Rattle.codec.specs.Writing.{Puts};
 ghost use Rattle.msg.specs.declared.version.Version.TheVariants.{Second};
 ghost use Rattle.image.specs.Grammar.{head_format, phases_format, held_format};
@@ -14,6 +14,7 @@ use crate::lists::{put_all, put_counted};
 use crate::parts::Head;
 use crate::slots::{put_free_list, put_letters, put_slot_list};
 use crate::tags::{ABSENT, PRESENT, SECOND, START};
+use byteorder::{BigEndian, ByteOrder};
 use codec::Writer;
 use control::Phases;
 use msg::Token;
@@ -21,23 +22,44 @@ use msg::writing::{put_colour, put_token};
 use node::Core;
 use safra::Ring;
 
+// The sizes of the space and the node's own number, in one piece.
+#[tactic(auto, unfolding(crate::specs::Numbers::number2, crate::specs::Numbers::number4))]
+fn head_bytes(head: Head) -> [u8; 8]
+    ensures { result ≡ head.nodes ∷ (head.own ∷ (number2.spell head.registers
+        ++ number4.spell head.slots)) }
+{
+    let mut part = [0; 8];
+    part[0] = head.nodes;
+    part[1] = head.own;
+    BigEndian::write_u16(&mut part[2..], head.registers);
+    BigEndian::write_u32(&mut part[4..], head.slots);
+    part
+}
+
 fn put_head(out: &mut Writer, head: Head)
     ensures { Puts (head_format Second) out.old out.new head }
 {
-    out.u8(head.nodes);
-    out.u8(head.own);
-    out.u16(head.registers);
-    out.u32(head.slots);
+    out.append(&head_bytes(head));
 }
 
-#[tactic(auto, unfolding(crate::specs::Grammar::phases_format), using(crate::proofs::Joins::both))]
+// A node's cycles and how far it has swept, in one piece.
+#[tactic(auto, unfolding(crate::specs::Numbers::number4, crate::specs::Numbers::number8))]
+fn phases_bytes(cycle: u64, ended: u64, swept: u64, cursor: u32) -> [u8; 28]
+    ensures { result ≡ number8.spell cycle ++ (number8.spell ended
+        ++ (number8.spell swept ++ number4.spell cursor)) }
+{
+    let mut part = [0; 28];
+    BigEndian::write_u64(&mut part, cycle);
+    BigEndian::write_u64(&mut part[8..], ended);
+    BigEndian::write_u64(&mut part[16..], swept);
+    BigEndian::write_u32(&mut part[24..], cursor);
+    part
+}
+
 fn put_phases(out: &mut Writer, p: &Phases)
     ensures { Puts phases_format out.old out.new (phases_by p.now) }
 {
-    out.u64(p.cycle());
-    out.u64(p.ended());
-    out.u64(p.swept());
-    out.u32(p.cursor());
+    out.append(&phases_bytes(p.cycle(), p.ended(), p.swept(), p.cursor()));
 }
 
 #[tactic(auto, unfolding(crate::specs::Grammar::held_format), using(crate::proofs::Joins::behind))]
