@@ -22,6 +22,7 @@ use link::Links;
 ///
 /// [`Refusal::Memory`] where a growth was refused; [`Refusal::LinkSpent`] where a Mark gets no
 /// number, which may show only after memory was wanted for others. All is then as it was.
+#[inline(always)]
 pub fn ask(
     asked: &mut RefSet,
     links: &mut Links,
@@ -73,6 +74,7 @@ pub fn unask(asked: &mut RefSet, links: &mut Links, before: usize)
 /// them, once. The node's own are passed over. It gives how many were asked for before.
 ///
 /// [`Refusal::Memory`] where a growth was refused; what was asked for is then as it was.
+#[inline(always)]
 pub fn vouch(asked: &mut RefSet, own: u8, references: &[Option<Ref>]) -> Result<usize, Refusal>
     ensures before { IfOk result (λ before. before ≡ length asked.old.keys) }
     ensures done { let new = unasked own asked.old.keys (filled references.now) in

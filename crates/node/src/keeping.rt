@@ -99,6 +99,7 @@ impl Node {
     /// A message that comes before its turn is kept, unless one stands in its place already. `Next`
     /// takes in the message that waits, as if it came now, and is refused `NothingToDo` where none
     /// does. One that is refused has left its place then, but for want of memory.
+    #[inline(always)]
     pub fn act(&mut self, event: Event) -> Result<Answer, Refusal>
         ensures performs { Performs (is_shading (met self.old.early event)) result self.new.core
             (view_act self.old.core (met self.old.early event)) }
@@ -118,6 +119,7 @@ impl Node {
         self.handle(event)
     }
 
+    #[inline(always)]
     fn handle(&mut self, event: Event) -> Result<Answer, Refusal>
         ensures { Handled self.old self.new event result }
     {
@@ -128,6 +130,7 @@ impl Node {
         }
     }
 
+    #[inline(never)]
     fn take(&mut self, frame: Data) -> Result<Answer, Refusal>
         ensures { Handled self.old self.new (event.Data frame) result }
     {
@@ -137,6 +140,7 @@ impl Node {
         Ok(answer)
     }
 
+    #[inline(never)]
     fn next(&mut self, from: u8) -> Result<Answer, Refusal>
         ensures { Handled self.old self.new (event.Next from) result }
     {

@@ -98,6 +98,7 @@ impl Core {
     }
 
     /// Performs one event, which may shade (`is_shading`). A refused one changes nothing.
+    #[inline(always)]
     pub(crate) fn perform(&mut self, event: Event) -> Result<Answer, Refusal>
         ensures performed { Performed (is_shading event) result self.old self.new
             (view_act self.old event) }

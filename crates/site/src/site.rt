@@ -93,6 +93,7 @@ impl Site {
     /// Gives the current node an event. It refuses what the node refuses; then the site is as
     /// before, but that a message that waited for its turn may have left its place.
     #[tactic(auto, using(crate::proofs::SiteLemmas::site_acted, crate::proofs::SiteLemmas::acts))]
+    #[inline(always)]
     pub fn act(&mut self, event: Event) -> Result<Answer, Refusal>
         ensures { ActedKeeping result self.old self.new event }
     {

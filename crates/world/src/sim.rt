@@ -91,6 +91,7 @@ impl Sim {
     /// acknowledgement alone lets go of messages: those up to its number. Steps one after another
     /// are a run of the definitions, without those that are refused memory or whose image is too
     /// large; there `Next` of a message that waits is its delivery.
+    #[inline(always)]
     pub fn step(&mut self, step: Step) -> Result<Outcome, Refusal>
         requires own { IsTrue (is_own_step step) }
         ensures follows { FollowsSpace result self.old self.new step }
@@ -110,6 +111,7 @@ impl Sim {
         self.take(step)
     }
 
+    #[inline(always)]
     fn take(&mut self, step: Step) -> Result<Outcome, Refusal>
         requires own { IsTrue (is_own_step step) }
         ensures { SteppedSpace result self.old self.new step }
@@ -159,6 +161,7 @@ impl Sim {
         self.sites.len() as u8
     }
 
+    #[inline(always)]
     fn act(&mut self, node: u8, event: Event) -> Result<Outcome, Refusal>
         requires own { IsTrue (is_own event) }
         ensures { SteppedSpace result self.old self.new (step.Act node event) }
@@ -170,6 +173,7 @@ impl Sim {
         Ok(Outcome::Answer(answer))
     }
 
+    #[inline(never)]
     fn save(&mut self, node: u8) -> Result<Outcome, Refusal>
         ensures { SteppedSpace result self.old self.new (step.Save node) }
     {
@@ -182,6 +186,7 @@ impl Sim {
         Ok(Outcome::Done)
     }
 
+    #[inline(never)]
     fn restart(&mut self, node: u8) -> Result<Outcome, Refusal>
         ensures { SteppedSpace result self.old self.new (step.Restart node) }
     {
@@ -194,6 +199,7 @@ impl Sim {
         Ok(Outcome::Done)
     }
 
+    #[inline(never)]
     fn deliver(&mut self, from: u8, to: u8, number: u64) -> Result<Outcome, Refusal>
         ensures { SteppedSpace result self.old self.new (step.Deliver from to number) }
     {
@@ -215,6 +221,7 @@ impl Sim {
         Ok(Outcome::Answer(answer))
     }
 
+    #[inline(never)]
     fn hand(&mut self, from: u8, to: u8) -> Result<Outcome, Refusal>
         ensures { SteppedSpace result self.old self.new (step.Hand from to) }
     {
@@ -232,6 +239,7 @@ impl Sim {
 
     /// Gives the current node of this number an event. It refuses what the node refuses; then
     /// nothing changes, but that a message that waited may have left its place.
+    #[inline(always)]
     fn give(&mut self, node: u8, event: Event) -> Result<Answer, Refusal>
         requires { node < length self.old.sites }
         ensures { GivenSpace result self.old self.new node event }

@@ -40,6 +40,7 @@ impl Heap {
     /// nodes, and to objects that aren't there any more, change nothing. `own` is the node's
     /// number. It takes no memory: the room for all the references was made by
     /// [`Heap::make_room`].
+    #[inline(always)]
     pub fn shade(&mut self, own: u8, cycle: u64, references: &[Option<Ref>])
         requires { length references.now ≤ self.old.room }
         ensures { Became self.old self.new

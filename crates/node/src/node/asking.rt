@@ -83,6 +83,7 @@ impl Core {
     /// Appends a message for the node `to`, counts it, and gives its number. `LinkSpent` where no
     /// number is left, and after it `Memory`, where a growth was refused. The node is then as it
     /// was.
+    #[inline(always)]
     pub(crate) fn send(&mut self, to: u8, body: Body) -> Result<u64, Refusal>
         requires there { to < self.old.local.shape.nodes }
         requires other { to ≢ self.old.local.own }

@@ -125,6 +125,7 @@ pub(super) fn reply_of(cycle: u64, brought: Option<Ref>, body: Body) -> Option<M
 
 /// Asks for what a message brings, or vouches for it, and appends the answer of a Get: all or
 /// nothing. It gives how many Marks were sent.
+#[inline(always)]
 pub(super) fn send_for(
     asked: &mut RefSet,
     links: &mut Links,
@@ -165,6 +166,7 @@ pub(super) fn send_for(
 }
 
 /// What the body does to the heap, beside marking. There is room for a letter.
+#[inline(always)]
 pub(super) fn follow_on_heap(heap: &mut Heap, from: u8, body: Body)
     requires room { 0 < heap.old.letter_room }
     ensures done { heap.new.heap ≡ body_heap from body heap.old.heap }
