@@ -1,5 +1,8 @@
 -- How a script's space follows the definitions.
-use Rattle.std.proofs.Common.{◌≡◌, ℕ, List, [], Result, Ok, Err, OnOk, IfOk, refl, ap, inl, subst}
+use Rattle.std.proofs.Common.{◌≡◌, ℕ, true, List, [], Result, Ok, Err, Option, Some, None, is_some, OnSome, IfOk, IfSome, refl, ap, inl, subst}
+use Rattle.std.specs.Result.{result_ok}
+use Rattle.lines.specs.declared.line.Line.{Line}
+use Rattle.lines.specs.Operands.{read}
 use Rattle.ids.specs.Limits.{Shaped}
 use Rattle.ids.specs.declared.refusal.Refusal.{Refusal}
 use Rattle.model.specs.World.{FollowsStep, World, new_world, take_step}
@@ -15,10 +18,22 @@ use Rattle.commands.specs.Freed.{KeepsSums, freed_after}
 use Rattle.commands.specs.Script.{Held, RefusesStep, awaited, denied, there, ShowsHeld, TakesSpace, TakesStep, none_kept}
 
 -- what holds of what was printed with its status
-pub printed_as : {E : Type 0} {A : Type 0} {Q P : ℕ → Type 0} (r : Result ℕ E) → OnOk r A
-    → IfOk r Q → (A → (status : ℕ) → Q status → P status) → IfOk r P
-printed_as (Ok status) text is follows = follows text status is
-printed_as (Err e) text is follows = tt
+pub printed_as : {A : Type 0} {Q P : ℕ → Type 0} (r : Option ℕ) → OnSome r A
+    → IfSome r Q → (A → (status : ℕ) → Q status → P status) → IfSome r P
+printed_as (Some status) text is follows = follows text status is
+printed_as None text is follows = tt
+
+-- what an `Ok` has whose value was handed on
+pub of_ok : {E : Type 0} (P : ℕ → Type 0) (r : Result ℕ E) (n : ℕ) → Some n ≡ result_ok r
+    → IfOk r P → P n
+of_ok P (Ok k) n is holds = let same : k ≡ n = cc in subst P same holds
+of_ok P (Err e) n is holds = absurd cc
+
+-- a line that was read is the one that was made
+pub read_some : {X : Type 0} (done : Option X) (l : Line) (said : Option Line)
+    → read done l ≡ said → is_some done ≡ true → Some l ≡ said
+read_some None l said e done = absurd cc
+read_some (Some d) l said e done = e
 
 module _ {S : Type 0} (shows : S → World → Type 0) (keeps : S → List Rings) where
   pub made_shows : (h : Held) (sizes : Shaped) (x : S) (f : Freed)

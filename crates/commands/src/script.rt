@@ -1,8 +1,9 @@
 //! Runs a script over a space of nodes. Line by line the space takes a step and the reply is
 //! written, through the first line that is none; the status is that of the worst.
-ghost use Rattle.std.specs.Prelude.{◌≡◌, ◌≤◌, ◌⊎◌, ◌++◌, ◌∷◌, [], ℕ, List, Some, IfOk, IfErr, OnOk, IsTrue, ◌≢◌};
+ghost use Rattle.std.specs.Prelude.{◌≡◌, ◌≤◌, ◌⊎◌, ◌++◌, ◌∷◌, [], ℕ, List, Some, IfOk, IfErr, IfSome, OnSome, IsTrue, ◌≢◌};
 ghost use Rattle.std.specs.Io.KnownBytes.{Appends};
 ghost use Rattle.ids.specs.declared.refusal.Refusal.TheVariants.{Memory, ImageTooLarge};
+ghost use Rattle.model.specs.declared.step.Step.{Step};
 ghost use Rattle.model.specs.World.{World, FollowsStep, new_world, is_own_step, is_step_memory_free};
 ghost use Rattle.node.specs.Keeping.{Rings};
 ghost use Rattle.world.specs.Shows.{summary_at};
@@ -127,22 +128,23 @@ pub fn sim<R: Read + Drop, W: Write>(alloc: Global, script: R, out: &mut W) -> u
     ensures small { result ≤ 2 }
 {
     match run::<Sim, R, W>(alloc, script, out) {
-        Ok(status) => status,
-        Err(_) => REFUSED,
+        Some(status) => status,
+        None => REFUSED,
     }
 }
 
-/// Runs a script, and answers the status; the error is that output failed.
-fn run<S: Space, R: Read + Drop, W: Write>(alloc: Global, script: R, out: &mut W) -> io::Result<u8>
-    ensures { IfOk result (λ status.
+/// Runs a script, and answers the status; None where output failed. An error of output is large,
+/// and no one is told what it was, so none is handed on.
+fn run<S: Space, R: Read + Drop, W: Write>(alloc: Global, script: R, out: &mut W) -> Option<u8>
+    ensures { IfSome result (λ status.
         RunsScript (R.remaining script) status (W.contents out.old) (W.contents out.new)) }
 {
     let status = match io::read_to_string(alloc, script) {
         Ok(text) => run_lines::<S, W>(alloc, text.as_str(), out)?,
-        Err(error) => print_unread(out, error.kind())?,
+        Err(error) => print_unread(out, error.kind()).ok()?,
     };
-    out.flush()?;
-    Ok(status)
+    out.flush().ok()?;
+    Some(status)
 }
 
 /// Prints that a script, or another file, can't be read, for an error of this kind, and answers the
@@ -165,9 +167,9 @@ pub fn print_unread<W: Write>(out: &mut W, kind: ErrorKind) -> io::Result<u8>
     }
 }
 
-/// Runs a script's lines, and answers the status; the error is that output failed.
-fn run_lines<S: Space, W: Write>(alloc: Global, script: &str, out: &mut W) -> io::Result<u8>
-    ensures { IfOk result (λ status.
+/// Runs a script's lines, and answers the status; None where output failed.
+fn run_lines<S: Space, W: Write>(alloc: Global, script: &str, out: &mut W) -> Option<u8>
+    ensures { IfSome result (λ status.
         PrintsReplies script.now status (W.contents out.old) (W.contents out.new)) }
 {
     let mut state = State::<S>::Unopened;
@@ -176,40 +178,33 @@ fn run_lines<S: Space, W: Write>(alloc: Global, script: &str, out: &mut W) -> io
         let reached = run_line(alloc, &mut state, index + 1, text, out)?;
         status = status.max(reached);
         if reached == UNREADABLE {
-            return Ok(status);
+            return Some(status);
         }
     }
-    Ok(status)
+    Some(status)
 }
 
 /// Does what the line of this number says, prints what it comes to, and answers the status that a
-/// script has at least then; the error is that output failed.
+/// script has at least then; None where output failed.
 fn run_line<S: Space, W: Write>(
     alloc: Global,
     state: &mut State<S>,
     number: usize,
     text: &str,
     out: &mut W,
-) -> io::Result<u8>
-    ensures { IfOk result (PrintsReply S.shows S.keeps
+) -> Option<u8>
+    ensures { IfSome result (PrintsReply S.shows S.keeps
         (λ h r later. TakesLine h (line_of (words_of text.now)) r later) number
         state.old state.new (W.contents out.old) (W.contents out.new)) }
 {
-    let reply = match Line::parse(text) {
-        Some(Line::Step(step)) => return run_step(state, number, step, out),
-        Some(Line::Blank) => Reply::Nothing,
-        Some(
-            Line::Space {
-                nodes,
-                registers,
-                slots,
-            },
-        ) => take_space(alloc, state, nodes, registers, slots),
-        Some(Line::State(node)) => show_state(state, node),
-        Some(Line::Report) => report(alloc, state),
-        None => Reply::NoCommand,
-    };
-    print_reply(out, number, &reply)
+    let mut said = Line::Blank;
+    if said.read(text).is_none() {
+        return print_no_command(out, number);
+    }
+    match said {
+        Line::Step(step) => run_step(state, number, step, out),
+        _ => run_other(alloc, state, number, said, out),
+    }
 }
 
 /// Takes a step of the space, where it was asked for, and prints what becomes of it. Most lines are
@@ -219,9 +214,9 @@ fn run_step<S: Space, W: Write>(
     number: usize,
     step: Step,
     out: &mut W,
-) -> io::Result<u8>
+) -> Option<u8>
     requires { IsTrue (is_own_step step) }
-    ensures { IfOk result (PrintsReply S.shows S.keeps
+    ensures { IfSome result (PrintsReply S.shows S.keeps
         (λ h r later. TakesStep h step r later) number
         state.old state.new (W.contents out.old) (W.contents out.new)) }
 {
@@ -233,8 +228,10 @@ fn run_step<S: Space, W: Write>(
             match space.step(step) {
                 Ok(outcome) => {
                     note(space, freed, swept, freed_in(&outcome));
-                    print_outcome(out, outcome)?;
-                    Ok(DONE)
+                    match print_outcome(out, outcome) {
+                        Ok(()) => Some(DONE),
+                        Err(_) => None,
+                    }
                 }
                 Err(refusal) => print_refusal(out, refusal),
             }
@@ -242,42 +239,74 @@ fn run_step<S: Space, W: Write>(
     }
 }
 
-/// Prints that a line was refused, and answers the status.
-fn print_refusal<W: Write>(out: &mut W, refusal: Refusal) -> io::Result<u8>
-    ensures text { OnOk result
-        (Appends (W.contents out.old) (W.contents out.new) (refused_text refusal ++ 10 ∷ [])) }
-    ensures status { IfOk result (λ status. status ≡ 1) }
+/// Does what a line says that is no step, as [`run_line`] does. Replies are large, and this one
+/// has no room among what a step needs.
+#[inline(never)]
+fn run_other<S: Space, W: Write>(
+    alloc: Global,
+    state: &mut State<S>,
+    number: usize,
+    said: Line,
+    out: &mut W,
+) -> Option<u8>
+    requires { (step : Step) → said ≢ line.Step step }
+    ensures { IfSome result (PrintsReply S.shows S.keeps
+        (λ h r later. TakesLine h (Some said) r later) number
+        state.old state.new (W.contents out.old) (W.contents out.new)) }
 {
-    writeln!(out, "refused {refusal}")?;
-    Ok(REFUSED)
+    let reply = match said {
+        Line::Step(_) => unreachable!(),
+        Line::Blank => Reply::Nothing,
+        Line::Space {
+            nodes,
+            registers,
+            slots,
+        } => take_space(alloc, state, nodes, registers, slots),
+        Line::State(node) => show_state(state, node),
+        Line::Report => report(alloc, state),
+    };
+    print_reply(out, number, &reply)
 }
 
-/// Prints that the line of this number is outside the grammar, and answers the status.
-fn print_no_command<W: Write>(out: &mut W, number: usize) -> io::Result<u8>
-    ensures text { OnOk result
-        (Appends (W.contents out.old) (W.contents out.new) (reply_text number reply.NoCommand)) }
-    ensures status { IfOk result (λ status. status ≡ 2) }
+/// Prints that a line was refused, and answers the status; None where output failed.
+#[inline(never)]
+fn print_refusal<W: Write>(out: &mut W, refusal: Refusal) -> Option<u8>
+    ensures text { OnSome result
+        (Appends (W.contents out.old) (W.contents out.new) (refused_text refusal ++ 10 ∷ [])) }
+    ensures status { IfSome result (λ status. status ≡ 1) }
 {
-    writeln!(out, "line {number}: not a command")?;
-    Ok(UNREADABLE)
+    writeln!(out, "refused {refusal}").ok()?;
+    Some(REFUSED)
+}
+
+/// Prints that the line of this number is outside the grammar, and answers the status; None where
+/// output failed.
+#[cold]
+fn print_no_command<W: Write>(out: &mut W, number: usize) -> Option<u8>
+    ensures text { OnSome result
+        (Appends (W.contents out.old) (W.contents out.new) (reply_text number reply.NoCommand)) }
+    ensures status { IfSome result (λ status. status ≡ 2) }
+{
+    writeln!(out, "line {number}: not a command").ok()?;
+    Some(UNREADABLE)
 }
 
 /// Prints what the line of this number comes to, and answers the status that a script has at least
-/// then.
-fn print_reply<W: Write>(out: &mut W, number: usize, reply: &Reply) -> io::Result<u8>
-    ensures text { OnOk result
+/// then; None where output failed.
+fn print_reply<W: Write>(out: &mut W, number: usize, reply: &Reply) -> Option<u8>
+    ensures text { OnSome result
         (Appends (W.contents out.old) (W.contents out.new) (reply_text number reply.now)) }
-    ensures status { IfOk result (λ status. status ≡ status_after reply.now) }
+    ensures status { IfSome result (λ status. status ≡ status_after reply.now) }
 {
     match reply {
         Reply::Nothing => {}
-        Reply::Outcome(outcome) => print_outcome(out, *outcome)?,
-        Reply::Summary(summary) => writeln!(out, "{}", SummaryText(*summary))?,
-        Reply::Report(sums) => print_report(out, sums)?,
+        Reply::Outcome(outcome) => print_outcome(out, *outcome).ok()?,
+        Reply::Summary(summary) => writeln!(out, "{}", SummaryText(*summary)).ok()?,
+        Reply::Report(sums) => print_report(out, sums).ok()?,
         Reply::Refused(refusal) => return print_refusal(out, *refusal),
         Reply::NoCommand => return print_no_command(out, number),
     }
-    Ok(DONE)
+    Some(DONE)
 }
 
 /// Makes the space of these sizes, where no line asked for one before and they are within the

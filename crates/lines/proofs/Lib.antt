@@ -1,6 +1,10 @@
 pub mod Endings
+pub mod Fronts
 pub mod Numbers
 pub mod Own
+pub mod Readings
 pub mod Reports
 pub mod Shapes
+pub mod Spelling
+pub mod Spelt
 pub mod Words

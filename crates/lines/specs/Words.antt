@@ -1,21 +1,46 @@
 -- The words of a text, one after another.
-use Rattle.std.specs.Prelude.{ℕ, ◌≡◌, ◌==◌, Bool, cond, List, [], ◌∷◌, length}
+use Rattle.std.specs.Prelude.{ℕ, ◌≡◌, ◌==◌, nat_lt, nat_le, ◌&&◌, Bool, true, false, List, [], ◌∷◌, take, drop}
+use Rattle.std.specs.Char.{is_ascii_digit}
+use Rattle.std.specs.List.{prefix_len, position_or_len}
+use Rattle.lines.specs.declared.line.TheConstants.{MOST_DIGITS}
 
 abbrev pub is_space : ℕ → Bool
 is_space byte = byte == 32
 
--- these words, behind one that is there unless it is empty
-abbrev pub with_word : List ℕ → List (List ℕ) → List (List ℕ)
-with_word [] words = words
-with_word (byte ∷ bytes) words = (byte ∷ bytes) ∷ words
+-- what stands behind the spaces at the front
+abbrev pub past : List ℕ → List ℕ
+past text = drop (prefix_len is_space text) text
 
--- the word is the first one, and the others follow; an empty one is none, and none follows it
-pub record IsNextWord (word : List ℕ) (words others : List (List ℕ)) : Type 0 where
-  pub is : words ≡ with_word word others
-  pub last : word ≡ [] → others ≡ []
+-- no space stands at the front
+pub record IsTrimmed (text : List ℕ) : Type 0 where
+  pub none : prefix_len is_space text ≡ 0
 
--- how many of the words stand before the first empty one
-abbrev pub word_count : List ℕ → List ℕ → List ℕ → List ℕ → ℕ
-word_count a b c d =
-    cond (length a == 0) 0
-    (cond (length b == 0) 1 (cond (length c == 0) 2 (cond (length d == 0) 3 4)))
+-- where the word at the front ends
+abbrev pub word_end : List ℕ → ℕ
+word_end text = position_or_len is_space text
+
+-- the word at the front, empty where none stands there
+abbrev pub word_of : List ℕ → List ℕ
+word_of text = take (word_end text) text
+
+-- what stands behind it, from the next word on
+abbrev pub behind : List ℕ → List ℕ
+behind text = past (drop (word_end text) text)
+
+-- how many digits stand at the front
+abbrev pub digit_count : List ℕ → ℕ
+digit_count text = prefix_len is_ascii_digit text
+
+-- a word ends before this
+abbrev pub ends_word : List ℕ → Bool
+ends_word [] = true
+ends_word (byte ∷ bytes) = is_space byte
+
+-- a number may have so many digits
+abbrev pub fits_word : ℕ → Bool
+fits_word digits = nat_lt 0 digits && nat_le digits MOST_DIGITS
+
+-- a digit stands at the front
+abbrev pub starts_number : List ℕ → Bool
+starts_number [] = false
+starts_number (byte ∷ bytes) = is_ascii_digit byte

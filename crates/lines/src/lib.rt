@@ -1,8 +1,11 @@
 //! One line of a script: what it says, and how what it comes to is printed.
 #![tactic(auto)]
 
+mod asking;
 mod ending;
+mod front;
 mod line;
+mod operands;
 mod printing;
 mod text;
 

@@ -3,7 +3,8 @@ ghost use Rattle.std.specs.Prelude.{◌≡◌, ◌∷◌, [], ◌++◌, OnOk};
 ghost use Rattle.std.specs.Io.KnownBytes.{Appends};
 ghost use Rattle.lines.specs.Text.{cycle_line, outcome_text, report_text};
 
-use crate::text::outcome_line;
+use crate::ending::Ending;
+use crate::text::put_outcome;
 use model::Outcome;
 use std::io;
 use std::io::Write;
@@ -13,7 +14,10 @@ pub fn print_outcome<W: Write>(out: &mut W, outcome: Outcome) -> io::Result<()>
     ensures { OnOk result
         (Appends (W.contents out.old) (W.contents out.new) (outcome_text outcome ++ 10 ∷ [])) }
 {
-    out.write_all(outcome_line(outcome).as_bytes())
+    let mut line = Ending::new();
+    line.put_byte(b'\n');
+    put_outcome(&mut line, outcome);
+    out.write_all(line.as_bytes())
 }
 
 /// Prints how many objects the sweeps of each cycle freed, a line for each.

@@ -1,9 +1,9 @@
 //! The texts of what a script's lines come to. Each outcome has one text, which a definition gives
 //! too.
-ghost use Rattle.std.specs.Prelude.{◌≡◌, ◌≤◌, ◌+◌, ◌∷◌, [], ◌++◌, Some, IfOk, IfErr, codes, decimal, length, string_bytes};
+ghost use Rattle.std.specs.Prelude.{◌≡◌, ◌≤◌, ◌+◌, ◌++◌, Some, IfOk, IfErr, codes, decimal, length, string_bytes};
 ghost use Rattle.ids.specs.Texts.{reference_text};
 ghost use Rattle.ids.specs.declared.refusal.Refusal.TheVariants.{Memory};
-ghost use Rattle.lines.specs.Endings.{Grows, held};
+ghost use Rattle.lines.specs.Endings.{Grows};
 ghost use Rattle.lines.specs.declared.ending.TheConstants.{ROOM};
 ghost use Rattle.lines.specs.declared.text.TheConstants.{LONGEST};
 ghost use Rattle.lines.specs.Text.{answer_text as said, counts_text, cycles_text, done_or_more, freed_text, letter_text, outcome_text, passed_text, ring_text, summary_text, yes_or_no};
@@ -51,20 +51,9 @@ impl fmt::Display for OutcomeText {
     }
 }
 
-/// The line of what became of a step that was not refused.
-pub(crate) fn outcome_line(outcome: Outcome) -> Ending
-    ensures line { held result ≡ outcome_text outcome ++ 10 ∷ [] }
-    ensures room { result.start ≤ ROOM }
-{
-    let mut line = Ending::new();
-    line.put_byte(b'\n');
-    put_outcome(&mut line, outcome);
-    line
-}
-
 /// Puts what became of a step that was not refused before a text.
 #[tactic(auto, using(crate::proofs::Endings::both))]
-fn put_outcome(text: &mut Ending, outcome: Outcome)
+pub(crate) fn put_outcome(text: &mut Ending, outcome: Outcome)
     requires { (LONGEST ≤ text.old.start) × (text.old.start ≤ ROOM) }
     ensures grows { Grows (outcome_text outcome) text.old text.new }
     ensures room { text.new.start ≤ text.old.start }

@@ -1,6 +1,7 @@
 use Rattle.std.proofs.Common.{◌≡◌, IfSome, subst, sym}
-use Rattle.commands.specs.Script.{RunsScript, replied, unread}
+use Rattle.commands.specs.Script.{PrintsNoScript, RunsScript, replied, unread}
 use Rattle.commands.proofs.Printing.{flushed}
+use Rattle.commands.proofs.Replies.{of_ok}
 use Rattle.commands.proofs.script.run.Goals as goal
 use Rattle.commands.proofs.script.run.Goals.{in-Ok+in_ok-status-in-Ok, in-Err+in_ok-status-in-Err}
 
@@ -16,7 +17,9 @@ returns g c =
           (replied w.as_str.result.now (subst (λ s. IfSome remaining (λ bytes. s ≡ bytes))
           (sym w.as_str.ensures.value) w.in-Ok.ensures) w.in_ok-status-in-Ok.ensures)
       | in-Err+in_ok-status-in-Err w ↦ rw (w.status-is, w.out-is)
-          (unread w.in_ok-status-in-Err.ensures.printed)
+          (unread (of_ok (λ s. PrintsNoScript s old (contents w.print_unread.new.out))
+          w.print_unread.result w.in_ok-status-in-Err.status w.in_ok-status-in-Err.ensures.value
+          w.print_unread.ensures.printed))
     ] in
     flushed remaining ran.status old (contents ran.out) (contents c.flush.new.self) prints
     c.flush.ensures.bytes

@@ -19,8 +19,8 @@ returns-in-Refused g c =
       is = one;
     })
 
-pub returns-in_ok-print_outcome-in-Ok : goal.returns-in_ok-print_outcome-in-Ok
-returns-in_ok-print_outcome-in-Ok g c =
+pub returns-in-Ok-print_outcome : goal.returns-in-Ok-print_outcome
+returns-in-Ok-print_outcome g c =
     let shows = g.S.Space.shows in
     let keeps = g.S.Space.keeps in
     record {
@@ -33,7 +33,7 @@ returns-in_ok-print_outcome-in-Ok g c =
           (subst (λ o. KeepsSums c.note.new.freed.sums
           (freed_with w c.sweeper-swept.result o sums)) c.freed_in.ensures
           (c.note.ensures w sums there kept)));
-      prints = c.in_ok-print_outcome-in-Ok.ensures;
+      prints = c.in-Ok-print_outcome.ensures;
       is = refl;
     }
 

@@ -1,12 +1,12 @@
-use Rattle.std.proofs.Common.{◌≡◌, ◌+◌, ◌-◌, ◌≤◌, length, drop, not}
+use Rattle.std.proofs.Common.{◌≡◌, ◌+◌, ◌-◌, ◌≤◌, length, drop}
 use Rattle.std.specs.List.{prefix_len}
 use Rattle.lines.specs.Words.{is_space}
-use Rattle.lines.proofs.line.word_len.Given as goal
+use Rattle.lines.proofs.front.space_len.Given as goal
 
 abbrev pub invariant-loop-len : goal.invariant-loop-len
 invariant-loop-len l =
     (l.len ≤ length l.text)
-    × (prefix_len (λ x. not (is_space x)) l.text ≡ l.len + prefix_len (λ x. not (is_space x)) (drop l.len l.text))
+    × (prefix_len is_space l.text ≡ l.len + prefix_len is_space (drop l.len l.text))
 
 abbrev pub decreases-loop-len : goal.decreases-loop-len
 decreases-loop-len l = length l.text - l.len

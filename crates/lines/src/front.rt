@@ -1,0 +1,126 @@
+//! The front of a line: its first word, and the number that it spells.
+ghost use Rattle.std.specs.Prelude.{◌≡◌, IfSome, take, option_map};
+ghost use Rattle.std.specs.List.{prefix_len, position_or_len};
+ghost use Rattle.lines.specs.Grammar.{u64_of, value_after};
+ghost use Rattle.lines.specs.Words.{IsTrimmed, behind, digit_count, ends_word, fits_word, is_space, past, word_of};
+
+use crate::line::MOST_DIGITS;
+
+// How many spaces stand at the front.
+#[inline(always)]
+fn space_len(text: &[u8]) -> usize
+    ensures { result ≡ prefix_len is_space text.now }
+{
+    let mut len = 0;
+    while len < text.len() && text[len] == b' ' {
+        len += 1;
+    }
+    len
+}
+
+// How many bytes stand before the first space.
+#[inline(always)]
+fn word_len(text: &[u8]) -> usize
+    ensures { result ≡ position_or_len is_space text.now }
+{
+    let mut len = 0;
+    while len < text.len() && text[len] != b' ' {
+        len += 1;
+    }
+    len
+}
+
+/// What stands behind the spaces at the front.
+#[inline(always)]
+pub(crate) fn past_spaces(text: &str) -> &str
+    ensures rest { result.now ≡ past text.now }
+    ensures trimmed { IsTrimmed result.now }
+{
+    &text[space_len(text.as_bytes())..]
+}
+
+/// The word at the front, and what stands behind it from the next word on.
+#[inline(always)]
+pub(crate) fn first_word(text: &str) -> (&str, &str)
+    ensures word { result.0.now ≡ word_of text.now }
+    ensures rest { result.1.now ≡ behind text.now }
+    ensures trimmed { IsTrimmed result.1.now }
+{
+    let (word, rest) = text.split_at(word_len(text.as_bytes()));
+    (word, past_spaces(rest))
+}
+
+/// The number that the word at the front spells, where it spells one, and what stands behind it
+/// from the next word on. The digits are read once.
+#[inline(always)]
+pub(crate) fn first_number(text: &str) -> Option<(u64, &str)>
+    ensures number { option_map (λ r. r.0) result ≡ u64_of (word_of text.now) }
+    ensures rest { IfSome result (λ r. r.1.now ≡ behind text.now) }
+    ensures trimmed { IfSome result (λ r. IsTrimmed r.1.now) }
+{
+    let bytes = text.as_bytes();
+    let Some((number, len)) = leading_digits(bytes) else {
+        return None;
+    };
+    if !ends_word(&bytes[len..]) {
+        return None;
+    }
+    if !fits_word(len) {
+        return None;
+    }
+    Some((number, past_spaces(&text[len..])))
+}
+
+/// The number that the word spells, where it fits.
+pub(crate) fn read_u64(word: &str) -> Option<u64>
+    ensures { result ≡ u64_of word.now }
+{
+    let digits = word.as_bytes();
+    let Some((number, len)) = leading_digits(digits) else {
+        return None;
+    };
+    if len < digits.len() {
+        return None;
+    }
+    if !fits_word(len) {
+        return None;
+    }
+    Some(number)
+}
+
+// The number that the digits at the front spell, where it fits, and how many they are.
+#[inline(always)]
+fn leading_digits(text: &[u8]) -> Option<(u64, usize)>
+    ensures number { option_map (λ r. r.0) result
+        ≡ value_after 0 (take (digit_count text.now) text.now) }
+    ensures len { IfSome result (λ r. r.1 ≡ digit_count text.now) }
+{
+    let mut number: u64 = 0;
+    let mut len = 0;
+    while len < text.len() && text[len].is_ascii_digit() {
+        number = number
+            .checked_mul(10)?
+            .checked_add(u64::from(text[len] - b'0'))?;
+        len += 1;
+    }
+    Some((number, len))
+}
+
+// Whether a word ends before this.
+#[inline(always)]
+fn ends_word(rest: &[u8]) -> bool
+    ensures { result ≡ ends_word rest.now }
+{
+    match rest {
+        [] => true,
+        [byte, ..] => *byte == b' ',
+    }
+}
+
+// Whether a number may have so many digits.
+#[inline(always)]
+fn fits_word(digits: usize) -> bool
+    ensures { result ≡ fits_word digits }
+{
+    0 < digits && digits <= MOST_DIGITS
+}
