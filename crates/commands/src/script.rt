@@ -174,8 +174,9 @@ fn run_lines<S: Space, W: Write>(alloc: Global, script: &str, out: &mut W) -> Op
 {
     let mut state = State::<S>::Unopened;
     let mut status = DONE;
+    let mut said = Line::Blank;
     for (index, text) in script.lines().enumerate() {
-        let reached = run_line(alloc, &mut state, index + 1, text, out)?;
+        let reached = run_line(alloc, &mut state, &mut said, index + 1, text, out)?;
         status = status.max(reached);
         if reached == UNREADABLE {
             return Some(status);
@@ -185,10 +186,12 @@ fn run_lines<S: Space, W: Write>(alloc: Global, script: &str, out: &mut W) -> Op
 }
 
 /// Does what the line of this number says, prints what it comes to, and answers the status that a
-/// script has at least then; None where output failed.
+/// script has at least then; None where output failed. What it says is read into a place that all
+/// lines share, since a new one would be made zero first.
 fn run_line<S: Space, W: Write>(
     alloc: Global,
     state: &mut State<S>,
+    said: &mut Line,
     number: usize,
     text: &str,
     out: &mut W,
@@ -197,13 +200,12 @@ fn run_line<S: Space, W: Write>(
         (λ h r later. TakesLine h (line_of (words_of text.now)) r later) number
         state.old state.new (W.contents out.old) (W.contents out.new)) }
 {
-    let mut said = Line::Blank;
     if said.read(text).is_none() {
         return print_no_command(out, number);
     }
-    match said {
+    match &*said {
         Line::Step(step) => run_step(state, number, step, out),
-        _ => run_other(alloc, state, number, said, out),
+        other => run_other(alloc, state, number, other, out),
     }
 }
 
@@ -212,20 +214,20 @@ fn run_line<S: Space, W: Write>(
 fn run_step<S: Space, W: Write>(
     state: &mut State<S>,
     number: usize,
-    step: Step,
+    step: &Step,
     out: &mut W,
 ) -> Option<u8>
-    requires { IsTrue (is_own_step step) }
+    requires { IsTrue (is_own_step step.now) }
     ensures { IfSome result (PrintsReply S.shows S.keeps
-        (λ h r later. TakesStep h step r later) number
+        (λ h r later. TakesStep h step.now r later) number
         state.old state.new (W.contents out.old) (W.contents out.new)) }
 {
     match state {
         State::Unopened => print_no_command(out, number),
         State::Refused(refusal) => print_refusal(out, *refusal),
         State::Open { space, freed } => {
-            let swept = sweeper(&step);
-            match space.step(step) {
+            let swept = sweeper(step);
+            match space.step(*step) {
                 Ok(outcome) => {
                     note(space, freed, swept, freed_in(&outcome));
                     match print_outcome(out, outcome) {
@@ -246,15 +248,15 @@ fn run_other<S: Space, W: Write>(
     alloc: Global,
     state: &mut State<S>,
     number: usize,
-    said: Line,
+    said: &Line,
     out: &mut W,
 ) -> Option<u8>
-    requires { (step : Step) → said ≢ line.Step step }
+    requires { (step : Step) → said.now ≢ line.Step step }
     ensures { IfSome result (PrintsReply S.shows S.keeps
-        (λ h r later. TakesLine h (Some said) r later) number
+        (λ h r later. TakesLine h (Some said.now) r later) number
         state.old state.new (W.contents out.old) (W.contents out.new)) }
 {
-    let reply = match said {
+    let reply = match *said {
         Line::Step(_) => unreachable!(),
         Line::Blank => Reply::Nothing,
         Line::Space {

@@ -9,7 +9,7 @@ returns g c =
     let shows = g.S.Space.shows in
     let keeps = g.S.Space.keeps in
     let ran = c.match-said in
-    let moves : Moves shows keeps (λ h later. TakesLine h (Some c.args.said) ran.reply later)
+    let moves : Moves shows keeps (λ h later. TakesLine h (Some c.args.said.now) ran.reply later)
     c.args.state.now ran.state = elim ran.branch [
       | in-Blank w ↦
           rw (w.state-is, w.reply-is, w.in-Blank.is) (λ h shown. (h, (refl, refl), shown))

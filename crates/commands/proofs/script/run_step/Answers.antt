@@ -13,7 +13,7 @@ returns-in-Refused g c =
     printed_as c.print_refusal.result c.print_refusal.ensures.text c.print_refusal.ensures.status
     (λ text status one. record {
       reply = reply.Refused e;
-      answers = λ h shown. denied_shows shows keeps h c.args.step e
+      answers = λ h shown. denied_shows shows keeps h c.args.step.now e
           (subst (λ s. ShowsHeld shows keeps s h) c.in-Refused.is shown);
       prints = text;
       is = one;
@@ -25,7 +25,7 @@ returns-in-Ok-print_outcome g c =
     let keeps = g.S.Space.keeps in
     record {
       reply = reply.Outcome c.in-Ok.outcome;
-      answers = λ h shown. outcome_shows shows keeps h c.args.step c.in-Open.space _ c.in-Open.freed
+      answers = λ h shown. outcome_shows shows keeps h c.args.step.now c.in-Open.space _ c.in-Open.freed
           _ _ (subst (λ s. ShowsHeld shows keeps s h) c.in-Open.is shown) c.in-Ok.ensures.follows
           c.in-Ok.ensures.early
           (λ w sums there kept. subst (λ s. KeepsSums c.note.new.freed.sums
@@ -51,7 +51,7 @@ returns-in-Err g c =
     c.print_refusal-in-Err.ensures.status
     (λ text status one. record {
       reply = reply.Refused c.in-Err.refusal;
-      answers = λ h shown. refusal_shows shows keeps h c.args.step c.in-Open.space _
+      answers = λ h shown. refusal_shows shows keeps h c.args.step.now c.in-Open.space _
           c.in-Open.freed _ (subst (λ s. ShowsHeld shows keeps s h) c.in-Open.is shown)
           (λ w s. (
             record {
