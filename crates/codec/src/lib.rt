@@ -7,8 +7,10 @@
 //! record is described by one line, and read and written by one function each.
 #![tactic(auto)]
 
+mod piece;
 mod reader;
 mod writer;
 
+pub use piece::{GREATEST_PIECE, Piece};
 pub use reader::Reader;
 pub use writer::Writer;

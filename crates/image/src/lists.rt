@@ -1,8 +1,11 @@
 //! Lists of values of one format. A list that tells more values than there are bytes is refused
 //! before memory is taken for it.
-ghost use Rattle.std.specs.Prelude.{◌≡◌, ◌≤◌, length, IfOk, IfErr};
+ghost use Rattle.std.specs.Prelude.{◌≡◌, ◌≤◌, ◌+◌, length, IfOk, IfErr};
+ghost use Rattle.ids.specs.declared.limits.TheConstants.{GREATEST_PLACES};
 ghost use Rattle.ids.specs.declared.refusal.Refusal.TheVariants.{Memory};
 ghost use Rattle.codec.specs.Formats.{Format, number4, number8, many, counted};
+ghost use Rattle.codec.specs.Pieces.{AddsAll};
+ghost use Rattle.codec.specs.declared.piece.TheConstants.{GREATEST_PIECE};
 ghost use Rattle.codec.specs.Readers.{Reads};
 ghost use Rattle.codec.specs.Reading.{IsLong};
 ghost use Rattle.codec.specs.Writing.{Puts, PutsAll};
@@ -10,12 +13,12 @@ ghost use Rattle.codec.specs.Lengths.{number4_long, number8_long};
 ghost use Rattle.msg.specs.declared.version.Version.{Version};
 ghost use Rattle.msg.specs.declared.version.Version.TheVariants.{Second};
 ghost use Rattle.msg.specs.Formats.{reference, optional};
-ghost use Rattle.msg.specs.Lengths.{reference_long, optional_long};
+ghost use Rattle.msg.specs.Lengths.{reference_long};
 
-use codec::{Reader, Writer};
-use ids::{Ref, Refusal};
+use codec::{Piece, Reader, Writer};
+use ids::{GREATEST_PLACES, Ref, Refusal};
 use msg::Version;
-use msg::writing::{put_optional, put_reference};
+use msg::writing::{add_optional, add_reference};
 use std::alloc::Global;
 
 /// A value that stands in lists, and is written.
@@ -62,6 +65,41 @@ pub(crate) fn put_counted<T: Writable>(out: &mut Writer, parts: &[T])
     }
 }
 
+/// Puts references that may be missing behind what the piece has, as many as an object has places.
+/// There is room for them.
+#[inline(always)]
+pub(crate) fn add_places(piece: &mut Piece, places: &[Option<Ref>])
+    requires few { length places.now ≤ GREATEST_PLACES }
+    requires room { length piece.old + 112 ≤ GREATEST_PIECE }
+    ensures { AddsAll (optional Second) 112 piece.old piece.new places.now }
+{
+    for place in places {
+        add_optional(piece, *place);
+    }
+}
+
+#[tactic(auto, using(crate::proofs::Joins::piece_written))]
+fn put_few(out: &mut Writer, places: &[Option<Ref>])
+    requires { length places.now ≤ GREATEST_PLACES }
+    ensures { PutsAll (optional Second) out.old out.new places.now }
+{
+    let mut piece = Piece::new();
+    add_places(&mut piece, places);
+    out.append(piece.as_slice());
+}
+
+/// Appends references that may be missing, a few at once.
+pub(crate) fn put_places(out: &mut Writer, places: &[Option<Ref>])
+    ensures { PutsAll (optional Second) out.old out.new places.now }
+{
+    let mut done = 0;
+    while done < places.len() {
+        let end = places.len().min(done + usize::from(GREATEST_PLACES));
+        put_few(out, &places[done..end]);
+        done = end;
+    }
+}
+
 impl Writable for u32 {
     ghost written = { number4 };
 
@@ -85,21 +123,14 @@ impl Writable for u64 {
 impl Writable for Ref {
     ghost written = { reference Second };
 
+    #[tactic(auto, using(crate::proofs::Joins::piece_written))]
     fn put(&self, out: &mut Writer) {
-        put_reference(out, *self);
+        let mut piece = Piece::new();
+        add_reference(&mut piece, *self);
+        out.append(piece.as_slice());
     }
 
     ghost long = { reference_long Second };
-}
-
-impl Writable for Option<Ref> {
-    ghost written = { optional Second };
-
-    fn put(&self, out: &mut Writer) {
-        put_optional(out, *self);
-    }
-
-    ghost long = { optional_long Second };
 }
 
 impl Readable for u32 {

@@ -8,8 +8,9 @@ ghost use Rattle.node.specs.Invariant.{IsNode};
 ghost use Rattle.site.specs.Outboxes.{no_outbox, released_frames, all_released, numbered_bytes, IsStaged, HasFrames, AreStagedTo, Releases};
 
 use crate::frames::Frames;
+use codec::Piece;
 use ids::Refusal;
-use msg::encode;
+use msg::writing::add_frame;
 use node::Core;
 use std::alloc::Global;
 use std::marker::Model;
@@ -60,7 +61,7 @@ impl Outbox {
 
     /// Makes the frames of all messages to the node `to` that follow the released ones, and
     /// releases none. `Memory` where a growth was refused.
-    pub fn stage(&mut self, alloc: Global, node: &Core, to: u8) -> Result<(), Refusal>
+    pub fn stage(&mut self, node: &Core, to: u8) -> Result<(), Refusal>
         requires other { IsTrue (is_other node.now.local to) }
         requires kept { (link_to node.now to).base ≤ length (released_frames self.old) }
         ensures released { released_frames self.new ≡ released_frames self.old }
@@ -69,7 +70,7 @@ impl Outbox {
         ensures refused { IfErr result (λ e. e ≡ Memory) }
     {
         self.frames.truncate(self.released);
-        stage_frames(alloc, &mut self.frames, node, to)
+        stage_frames(&mut self.frames, node, to)
     }
 
     /// Releases all frames that were made.
@@ -80,7 +81,7 @@ impl Outbox {
     }
 }
 
-fn stage_frames(alloc: Global, frames: &mut Frames, node: &Core, to: u8) -> Result<(), Refusal>
+fn stage_frames(frames: &mut Frames, node: &Core, to: u8) -> Result<(), Refusal>
     requires other { IsTrue (is_other node.now.local to) }
     requires kept { (link_to node.now to).base ≤ length frames.old }
     ensures kept { take (length frames.old) frames.new ≡ frames.old }
@@ -92,7 +93,9 @@ fn stage_frames(alloc: Global, frames: &mut Frames, node: &Core, to: u8) -> Resu
         let Some(frame) = node.numbered_frame(to, place + 1) else {
             unreachable!()
         };
-        frames.push(&encode(alloc, &frame)?)?;
+        let mut piece = Piece::new();
+        add_frame(&mut piece, &frame);
+        frames.push(piece.as_slice())?;
     }
     Ok(())
 }
@@ -111,7 +114,7 @@ pub fn new_outboxes(alloc: Global, count: u8) -> Result<Vec<Outbox>, Refusal>
 
 /// Makes and releases the frames of all messages that the node has appended since the released
 /// ones, to each other node. `Memory` where a growth was refused; then none is released.
-pub fn release_all(alloc: Global, row: &mut [Outbox], node: &Core) -> Result<(), Refusal>
+pub fn release_all(row: &mut [Outbox], node: &Core) -> Result<(), Refusal>
     requires row { length row.old ≡ node.now.local.shape.nodes }
     requires kept { HasFrames node.now (map released_frames row.old) }
     ensures done { OnOk result
@@ -120,13 +123,13 @@ pub fn release_all(alloc: Global, row: &mut [Outbox], node: &Core) -> Result<(),
     ensures unchanged { OnErr result (map released_frames row.new ≡ map released_frames row.old) }
     ensures refused { IfErr result (λ e. e ≡ Memory) }
 {
-    stage_all(alloc, row, node)?;
+    stage_all(row, node)?;
     release_staged(row);
     Ok(())
 }
 
 /// Makes these frames, and releases none.
-fn stage_all(alloc: Global, row: &mut [Outbox], node: &Core) -> Result<(), Refusal>
+fn stage_all(row: &mut [Outbox], node: &Core) -> Result<(), Refusal>
     requires row { length row.old ≡ node.now.local.shape.nodes }
     requires kept { HasFrames node.now (map released_frames row.old) }
     ensures released { map released_frames row.new ≡ map released_frames row.old }
@@ -139,7 +142,7 @@ fn stage_all(alloc: Global, row: &mut [Outbox], node: &Core) -> Result<(), Refus
     for to in 0..summary.shape.nodes() {
         if to != summary.own {
             let outbox = &mut row[usize::from(to)];
-            outbox.stage(alloc, node, to)?;
+            outbox.stage(node, to)?;
         }
     }
     Ok(())

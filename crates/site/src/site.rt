@@ -112,7 +112,7 @@ impl Site {
             ↔ GREATEST_IMAGE < length (image_of self.old.site.current) }
     {
         let image = to_bytes(alloc, &self.current)?;
-        release_all(alloc, &mut self.outboxes, self.current.core())?;
+        release_all(&mut self.outboxes, self.current.core())?;
         self.current.kept();
         self.saved = SavedNode::new(image, self.current.core());
         Ok(())

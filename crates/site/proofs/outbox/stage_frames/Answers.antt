@@ -1,4 +1,4 @@
-use Rattle.std.proofs.Common.{sym, arith}
+use Rattle.std.proofs.Common.{sym, ◌∙◌, arith}
 use Rattle.std.proofs.lemmas.List.{length_push}
 use Rattle.msg.specs.Frames.{plain}
 use Rattle.site.proofs.OutboxLemmas.{staged_more}
@@ -9,11 +9,13 @@ loop-place-preserved c = record {
   count = rw c.in_ok-push.ensures.done
       (omega (
         arith,
-        length_push c.loop-place.frames c.deref.result.now,
+        length_push c.loop-place.frames c.as_slice.result.now,
         c.loop-place.invariant.count,
       ));
-  staged = rw (c.in_ok-push.ensures.done, c.deref.ensures.value)
+  staged = rw c.in_ok-push.ensures.done
       (staged_more (plain c.in-Some.frame) _ c.requires.other
-      (rw (sym c.loop-place.invariant.count) at c.in-Some.ensures)
-      c.in_ok-encode.ensures.spelled c.loop-place.invariant.staged);
+      (rw (sym c.loop-place.invariant.count) at c.in-Some.ensures) (
+        c.add_frame.ensures.fits,
+        c.as_slice.ensures ∙ (rw c.new-piece.ensures at c.add_frame.ensures.spelled),
+      ) c.loop-place.invariant.staged);
 }
