@@ -7,7 +7,6 @@ ghost use Rattle.codec.specs.Writing.{Says, IsOpen, Writes, IsBeyond, Puts, HasN
 ghost use Rattle.ids.specs.declared.refusal.Refusal.TheVariants.{Memory, ImageTooLarge};
 
 use ids::Refusal;
-use std::alloc::Global;
 
 /// What became of the bytes that a writer was given.
 #[derive(Clone, Copy)]
@@ -31,16 +30,17 @@ pub struct Writer {
 }
 
 impl Writer {
-    /// A writer of so many bytes at most. It takes memory as they come, and for the first of them
-    /// at once.
-    pub fn new(alloc: Global, limit: u32, first: usize) -> Writer
+    /// A writer of so many bytes at most, in the memory of these, which are let go of. It takes more
+    /// as bytes come, and for the first of them at once.
+    pub fn new(bytes: Vec<u8>, limit: u32, first: usize) -> Writer
         ensures limit { result.limit ≡ limit }
         ensures empty { Says result [] }
     {
-        let (bytes, kept) = match Vec::with_capacity(alloc, first) {
-            Ok(bytes) => (bytes, Kept::All),
-            Err(_) => (Vec::new(alloc), Kept::Counted(0)),
-        };
+        let mut bytes = bytes;
+        bytes.clear();
+        // (where that is refused, memory is asked for again as the bytes come)
+        let _ = bytes.reserve(first);
+        let kept = Kept::All;
         Writer { bytes, limit, kept }
     }
 
