@@ -1,8 +1,10 @@
 //! The frames of one node's messages to another: those that were released, and behind them those
 //! that a save is to release. They count only when nothing of the save can fail any more.
-ghost use Rattle.std.specs.Prelude.{◌≡◌, ◌≢◌, ◌≤◌, ◌<◌, ℕ, length, map, take, replicate, slice_index_or, IsTrue, IfOk, IfErr, OnOk, OnErr};
+ghost use Rattle.std.specs.Prelude.{◌≡◌, ◌≢◌, ◌≤◌, ◌<◌, ◌++◌, [], ◌∷◌, ℕ, length, map, take, replicate, slice_index_or, IsTrue, IfOk, IfErr, OnOk, OnErr};
 ghost use Rattle.std.specs.Option.{option_map};
 ghost use Rattle.ids.specs.declared.refusal.Refusal.TheVariants.{Memory};
+ghost use Rattle.msg.specs.Frames.{plain};
+ghost use Rattle.msg.specs.Grammar.{Fits, spelling};
 ghost use Rattle.model.specs.View.{link_to, is_other};
 ghost use Rattle.node.specs.Invariant.{IsNode};
 ghost use Rattle.site.specs.Outboxes.{no_outbox, released_frames, all_released, numbered_bytes, IsStaged, HasFrames, AreStagedTo, Releases};
@@ -10,6 +12,7 @@ ghost use Rattle.site.specs.Outboxes.{no_outbox, released_frames, all_released, 
 use crate::frames::Frames;
 use codec::Piece;
 use ids::Refusal;
+use msg::Frame;
 use msg::writing::add_frame;
 use node::Core;
 use std::alloc::Global;
@@ -93,11 +96,23 @@ fn stage_frames(frames: &mut Frames, node: &Core, to: u8) -> Result<(), Refusal>
         let Some(frame) = node.numbered_frame(to, place + 1) else {
             unreachable!()
         };
-        let mut piece = Piece::new();
-        add_frame(&mut piece, &frame);
-        frames.push(piece.as_slice())?;
+        push_frame(frames, &frame)?;
     }
     Ok(())
+}
+
+/// Puts the bytes of a frame behind the others.
+// (apart from the loop, which most often has no frame and pays for no piece)
+#[inline(never)]
+fn push_frame(frames: &mut Frames, frame: &Frame) -> Result<(), Refusal>
+    ensures spelled { Fits (plain frame.now) }
+    ensures done { OnOk result (frames.new ≡ frames.old ++ spelling (plain frame.now) ∷ []) }
+    ensures unchanged { OnErr result (frames.new ≡ frames.old) }
+    ensures refused { IfErr result (λ e. e ≡ Memory) }
+{
+    let mut piece = Piece::new();
+    add_frame(&mut piece, frame);
+    frames.push(piece.as_slice())
 }
 
 /// An outbox to each of so many nodes.
