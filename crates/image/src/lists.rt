@@ -18,7 +18,7 @@ ghost use Rattle.msg.specs.Lengths.{reference_long};
 use codec::{Piece, Reader, Writer};
 use ids::{GREATEST_PLACES, Ref, Refusal};
 use msg::Version;
-use msg::writing::{add_optional, add_reference};
+use msg::writing::{add_optional, put_reference};
 use std::alloc::Global;
 
 /// A value that stands in lists, and is written.
@@ -123,11 +123,8 @@ impl Writable for u64 {
 impl Writable for Ref {
     ghost written = { reference Second };
 
-    #[tactic(auto, using(crate::proofs::Joins::piece_written))]
     fn put(&self, out: &mut Writer) {
-        let mut piece = Piece::new();
-        add_reference(&mut piece, *self);
-        out.append(piece.as_slice());
+        put_reference(out, *self);
     }
 
     ghost long = { reference_long Second };

@@ -1,8 +1,10 @@
 //! Frames as bytes. Each frame has one spelling. It is put together in a piece, which takes no
 //! memory.
-ghost use Rattle.std.specs.Prelude.{◌≡◌, ◌≤◌, ◌+◌, ◌++◌, length, IfOk, IfErr};
+ghost use Rattle.std.specs.Prelude.{◌≡◌, ◌≤◌, ◌+◌, ◌∷◌, ◌++◌, length, IfOk, IfErr};
 ghost use Rattle.ids.specs.declared.refusal.Refusal.TheVariants.{Memory};
+ghost use Rattle.codec.specs.Formats.{number4, number8};
 ghost use Rattle.codec.specs.Pieces.{Adds};
+ghost use Rattle.codec.specs.Writing.{Puts};
 ghost use Rattle.codec.specs.declared.piece.TheConstants.{GREATEST_PIECE};
 ghost use Rattle.msg.specs.Formats.{reference, optional, colour, token, body_format, head};
 ghost use Rattle.msg.specs.declared.version.Version.TheVariants.{Second};
@@ -14,9 +16,29 @@ use crate::frame::{Ack, Data, Frame};
 use crate::tags::{
     ABSENT, ACK, BEGIN, BLACK, DATA, ENDED, GET, GIVE, MARK, PRESENT, PUT, SWEPT, TOKEN, WHITE,
 };
-use codec::Piece;
+use byteorder::{BigEndian, ByteOrder};
+use codec::{Piece, Writer};
 use ids::{Ref, Refusal};
 use std::alloc::Global;
+
+// A reference's bytes.
+#[tactic(auto, unfolding(crate::specs::Numbers::number4, crate::specs::Numbers::number8))]
+fn reference_bytes(r: Ref) -> [u8; 13]
+    ensures { result ≡ r.node ∷ (number4.spell r.slot ++ number8.spell r.generation) }
+{
+    let mut part = [0; 13];
+    part[0] = r.node;
+    BigEndian::write_u32(&mut part[1..], r.slot);
+    BigEndian::write_u64(&mut part[5..], r.generation);
+    part
+}
+
+/// Appends a reference.
+pub fn put_reference(out: &mut Writer, r: Ref)
+    ensures { Puts (reference Second) out.old out.new r }
+{
+    out.append(&reference_bytes(r));
+}
 
 /// Puts a reference behind what the piece has. There is room for it.
 #[tactic(auto, unfolding(crate::specs::Formats::reference), using(crate::proofs::Joins::gained))]
