@@ -7,7 +7,7 @@ ghost use Rattle.codec.specs.declared.piece.TheConstants.{GREATEST_PIECE};
 use std::marker::Model;
 
 /// So many bytes a piece has at most.
-pub const GREATEST_PIECE: usize = 138;
+pub const GREATEST_PIECE: usize = 112;
 
 /// A few bytes that are put together before they are written, [`GREATEST_PIECE`] at most. They take
 /// no memory, so no call fails.
@@ -24,7 +24,7 @@ impl Model for Piece {
 
     ghost view = { λ p. take p.len p.bytes };
 
-    ghost invariant = { λ p. p.len ≤ 138 };
+    ghost invariant = { λ p. p.len ≤ 112 };
 }
 
 impl Piece {

@@ -1,7 +1,6 @@
 //! Lists of values of one format. A list that tells more values than there are bytes is refused
 //! before memory is taken for it.
 ghost use Rattle.std.specs.Prelude.{◌≡◌, ◌≤◌, ◌+◌, length, IfOk, IfErr};
-ghost use Rattle.ids.specs.declared.limits.TheConstants.{GREATEST_PLACES};
 ghost use Rattle.ids.specs.declared.refusal.Refusal.TheVariants.{Memory};
 ghost use Rattle.codec.specs.Formats.{Format, number4, number8, many, counted};
 ghost use Rattle.codec.specs.Pieces.{AddsAll};
@@ -13,12 +12,12 @@ ghost use Rattle.codec.specs.Lengths.{number4_long, number8_long};
 ghost use Rattle.msg.specs.declared.version.Version.{Version};
 ghost use Rattle.msg.specs.declared.version.Version.TheVariants.{Second};
 ghost use Rattle.msg.specs.Formats.{reference, optional};
-ghost use Rattle.msg.specs.Lengths.{reference_long};
+ghost use Rattle.msg.specs.Lengths.{reference_long, optional_long};
 
 use codec::{Piece, Reader, Writer};
-use ids::{GREATEST_PLACES, Ref, Refusal};
+use ids::{Ref, Refusal};
 use msg::Version;
-use msg::writing::{add_optional, put_reference};
+use msg::writing::{add_optional, put_optional, put_reference};
 use std::alloc::Global;
 
 /// A value that stands in lists, and is written.
@@ -65,37 +64,38 @@ pub(crate) fn put_counted<T: Writable>(out: &mut Writer, parts: &[T])
     }
 }
 
-/// Puts references that may be missing behind what the piece has, as many as an object has places.
-/// There is room for them.
+// So many registers are put together at once.
+const AT_ONCE: usize = 8;
+
 #[inline(always)]
-pub(crate) fn add_places(piece: &mut Piece, places: &[Option<Ref>])
-    requires few { length places.now ≤ GREATEST_PLACES }
+fn add_few(piece: &mut Piece, registers: &[Option<Ref>])
+    requires few { length registers.now ≤ 8 }
     requires room { length piece.old + 112 ≤ GREATEST_PIECE }
-    ensures { AddsAll (optional Second) 112 piece.old piece.new places.now }
+    ensures { AddsAll (optional Second) 112 piece.old piece.new registers.now }
 {
-    for place in places {
-        add_optional(piece, *place);
+    for register in registers {
+        add_optional(piece, *register);
     }
 }
 
 #[tactic(auto, using(crate::proofs::Joins::piece_written))]
-fn put_few(out: &mut Writer, places: &[Option<Ref>])
-    requires { length places.now ≤ GREATEST_PLACES }
-    ensures { PutsAll (optional Second) out.old out.new places.now }
+fn put_few(out: &mut Writer, registers: &[Option<Ref>])
+    requires { length registers.now ≤ 8 }
+    ensures { PutsAll (optional Second) out.old out.new registers.now }
 {
     let mut piece = Piece::new();
-    add_places(&mut piece, places);
+    add_few(&mut piece, registers);
     out.append(piece.as_slice());
 }
 
-/// Appends references that may be missing, a few at once.
-pub(crate) fn put_places(out: &mut Writer, places: &[Option<Ref>])
-    ensures { PutsAll (optional Second) out.old out.new places.now }
+/// Appends registers one after another. Most are empty, so a few are put together at once.
+pub(crate) fn put_registers(out: &mut Writer, registers: &[Option<Ref>])
+    ensures { PutsAll (optional Second) out.old out.new registers.now }
 {
     let mut done = 0;
-    while done < places.len() {
-        let end = places.len().min(done + usize::from(GREATEST_PLACES));
-        put_few(out, &places[done..end]);
+    while done < registers.len() {
+        let end = registers.len().min(done + AT_ONCE);
+        put_few(out, &registers[done..end]);
         done = end;
     }
 }
@@ -128,6 +128,16 @@ impl Writable for Ref {
     }
 
     ghost long = { reference_long Second };
+}
+
+impl Writable for Option<Ref> {
+    ghost written = { optional Second };
+
+    fn put(&self, out: &mut Writer) {
+        put_optional(out, *self);
+    }
+
+    ghost long = { optional_long Second };
 }
 
 impl Readable for u32 {

@@ -1,6 +1,6 @@
 //! The slots and the letters of a heap as bytes. They are written in the order of their numbers, so
 //! that the same heap has one spelling.
-ghost use Rattle.std.specs.Prelude.{◌≡◌, ◌<◌, ◌≤◌, ◌+◌, ◌∷◌, length, map, slice_index_or};
+ghost use Rattle.std.specs.Prelude.{◌≡◌, ◌<◌, ◌≤◌, ◌+◌, [], ◌∷◌, ◌++◌, length, map, slice_index_or};
 ghost use Rattle.arena.specs.Arena.{slot_read};
 ghost use Rattle.arena.specs.declared.Slot.TheVariants.{Free, Occupied};
 ghost use Rattle.codec.specs.Formats.{number4, number8, counted};
@@ -11,7 +11,7 @@ ghost use Rattle.msg.specs.declared.version.Version.TheVariants.{Second};
 ghost use Rattle.image.specs.Grammar.{slot_format, letter_format};
 ghost use Rattle.image.specs.Images.{stored_slot};
 
-use crate::lists::add_places;
+use crate::lists::put_all;
 use crate::tags::{FREE, OCCUPIED, RETIRED};
 use byteorder::{BigEndian, ByteOrder};
 use codec::{Piece, Writer};
@@ -22,28 +22,28 @@ use msg::writing::add_optional;
 
 // ---- slots
 
-// An object's slot, in one piece.
-#[inline(always)]
-fn add_occupied(piece: &mut Piece, generation: Generation, object: &Object)
-    requires { length piece.old + 138 ≤ GREATEST_PIECE }
-    ensures { Adds (slot_format Second) 138 piece.old piece.new (Occupied generation object.now) }
+// What stands before an object's places.
+#[tactic(auto, unfolding(crate::specs::Numbers::number8))]
+fn occupied_head(generation: Generation, mark: u64, word: u64, places: u8) -> [u8; 26]
+    ensures { result ≡ 1 ∷ (number8.spell generation
+        ++ (number8.spell mark ++ (number8.spell word ++ places ∷ []))) }
 {
-    let places = object.contents();
-    piece.u8(OCCUPIED);
-    piece.u64(generation);
-    piece.u64(object.marked_by());
-    piece.u64(object.word());
-    piece.u8(places.len() as u8);
-    add_places(piece, places);
+    let mut part = [0; 26];
+    part[0] = OCCUPIED;
+    BigEndian::write_u64(&mut part[1..], generation);
+    BigEndian::write_u64(&mut part[9..], mark);
+    BigEndian::write_u64(&mut part[17..], word);
+    part[25] = places;
+    part
 }
 
-#[tactic(auto, using(crate::proofs::Joins::piece_written))]
 fn put_occupied(out: &mut Writer, generation: Generation, object: &Object)
     ensures { Puts (slot_format Second) out.old out.new (Occupied generation object.now) }
 {
-    let mut piece = Piece::new();
-    add_occupied(&mut piece, generation, object);
-    out.append(piece.as_slice());
+    let places = object.contents();
+    let (mark, word) = (object.marked_by(), object.word());
+    out.append(&occupied_head(generation, mark, word, places.len() as u8));
+    put_all(out, places);
 }
 
 // A free slot's bytes.

@@ -11,7 +11,7 @@ ghost use Rattle.image.specs.Grammar.{front_of, told_of, slots_of, others_of};
 ghost use Rattle.image.specs.Images.{phases_by, ring_by, stored_by};
 
 use crate::links::put_links;
-use crate::lists::{put_all, put_counted, put_places};
+use crate::lists::{put_all, put_counted, put_registers};
 use crate::parts::Head;
 use crate::slots::{put_free_list, put_letters, put_slot_list};
 use crate::tags::{ABSENT, PRESENT, SECOND, START};
@@ -122,7 +122,7 @@ fn put_told(out: &mut Writer, node: &Core)
         Puts (told_format Second said.head) out.old out.new (told_of said) }
 {
     put_all(out, reports_of(node));
-    put_places(out, node.heap().registers());
+    put_registers(out, node.heap().registers());
 }
 
 #[tactic(auto, unfolding(crate::specs::Grammar::slots_format), using(crate::proofs::Joins::both))]

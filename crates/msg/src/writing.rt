@@ -4,7 +4,7 @@ ghost use Rattle.std.specs.Prelude.{◌≡◌, ◌≤◌, ◌+◌, ◌∷◌, �
 ghost use Rattle.ids.specs.declared.refusal.Refusal.TheVariants.{Memory};
 ghost use Rattle.codec.specs.Formats.{number4, number8};
 ghost use Rattle.codec.specs.Pieces.{Adds};
-ghost use Rattle.codec.specs.Writing.{Puts};
+ghost use Rattle.codec.specs.Writing.{Puts, Writes};
 ghost use Rattle.codec.specs.declared.piece.TheConstants.{GREATEST_PIECE};
 ghost use Rattle.msg.specs.Formats.{reference, optional, colour, token, body_format, head};
 ghost use Rattle.msg.specs.declared.version.Version.TheVariants.{Second};
@@ -21,15 +21,17 @@ use codec::{Piece, Writer};
 use ids::{Ref, Refusal};
 use std::alloc::Global;
 
-// A reference's bytes.
+// A reference behind a tag.
 #[tactic(auto, unfolding(crate::specs::Numbers::number4, crate::specs::Numbers::number8))]
-fn reference_bytes(r: Ref) -> [u8; 13]
-    ensures { result ≡ r.node ∷ (number4.spell r.slot ++ number8.spell r.generation) }
+#[inline(always)]
+fn tagged_bytes(tag: u8, r: Ref) -> [u8; 14]
+    ensures { result ≡ tag ∷ r.node ∷ (number4.spell r.slot ++ number8.spell r.generation) }
 {
-    let mut part = [0; 13];
-    part[0] = r.node;
-    BigEndian::write_u32(&mut part[1..], r.slot);
-    BigEndian::write_u64(&mut part[5..], r.generation);
+    let mut part = [0; 14];
+    part[0] = tag;
+    part[1] = r.node;
+    BigEndian::write_u32(&mut part[2..], r.slot);
+    BigEndian::write_u64(&mut part[6..], r.generation);
     part
 }
 
@@ -37,7 +39,28 @@ fn reference_bytes(r: Ref) -> [u8; 13]
 pub fn put_reference(out: &mut Writer, r: Ref)
     ensures { Puts (reference Second) out.old out.new r }
 {
-    out.append(&reference_bytes(r));
+    out.append(&tagged_bytes(0, r)[1..]);
+}
+
+// Appends a tag and a reference, in one piece.
+#[inline(always)]
+fn put_tagged(out: &mut Writer, tag: u8, r: Ref)
+    ensures { Writes out.old out.new (tag ∷ (reference Second).spell r)
+        ((reference Second).IsWide r) }
+{
+    out.append(&tagged_bytes(tag, r));
+}
+
+/// Appends a reference, or that there is none.
+#[tactic(auto, unfolding(crate::specs::Formats::optional))]
+#[inline(always)]
+pub fn put_optional(out: &mut Writer, o: Option<Ref>)
+    ensures { Puts (optional Second) out.old out.new o }
+{
+    match o {
+        None => out.u8(ABSENT),
+        Some(r) => put_tagged(out, PRESENT, r),
+    }
 }
 
 /// Puts a reference behind what the piece has. There is room for it.

@@ -5,12 +5,12 @@ use Rattle.codec.proofs.Writing.{written_also}
 use Rattle.ids.specs.declared.names.Ref.{Ref}
 use Rattle.msg.specs.Formats.{optional}
 use Rattle.msg.specs.declared.version.Version.TheVariants.{Second}
-use Rattle.image.proofs.lists.put_places.Goals as goal
+use Rattle.image.proofs.lists.put_registers.Goals as goal
 
 pub loop-done-preserved : goal.loop-done-preserved
 loop-done-preserved c =
     let F = optional Second in
-    let xs : List (Option Ref) = c.args.places.now in
+    let xs : List (Option Ref) = c.args.registers.now in
     let done = c.loop-done.done in
     let end = c.min-end.result in
     let further : done + (end - done) ≡ end =
