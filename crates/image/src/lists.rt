@@ -1,6 +1,7 @@
 //! Lists of values of one format. A list that tells more values than there are bytes is refused
 //! before memory is taken for it.
-ghost use Rattle.std.specs.Prelude.{◌≡◌, ◌≤◌, ◌+◌, length, IfOk, IfErr};
+ghost use Rattle.std.specs.Prelude.{◌≡◌, ◌≤◌, ◌+◌, length, is_none, IfOk, IfErr};
+ghost use Rattle.std.specs.List.{list_all};
 ghost use Rattle.ids.specs.declared.refusal.Refusal.TheVariants.{Memory};
 ghost use Rattle.codec.specs.Formats.{Format, number4, number8, many, counted};
 ghost use Rattle.codec.specs.Pieces.{AddsAll};
@@ -14,6 +15,7 @@ ghost use Rattle.msg.specs.declared.version.Version.TheVariants.{Second};
 ghost use Rattle.msg.specs.Formats.{reference, optional};
 ghost use Rattle.msg.specs.Lengths.{reference_long, optional_long};
 
+use crate::tags::ABSENT;
 use codec::{Piece, Reader, Writer};
 use ids::{Ref, Refusal};
 use msg::Version;
@@ -78,11 +80,21 @@ fn add_few(piece: &mut Piece, registers: &[Option<Ref>])
     }
 }
 
+fn all_empty(registers: &[Option<Ref>]) -> bool
+    ensures { result ≡ list_all is_none registers.now }
+{
+    registers.iter().all(|register| register.is_none())
+}
+
 #[tactic(auto, using(crate::proofs::Joins::piece_written))]
 fn put_few(out: &mut Writer, registers: &[Option<Ref>])
     requires { length registers.now ≤ 8 }
     ensures { PutsAll (optional Second) out.old out.new registers.now }
 {
+    if registers.len() == AT_ONCE && all_empty(registers) {
+        out.append(&[ABSENT; AT_ONCE]);
+        return;
+    }
     let mut piece = Piece::new();
     add_few(&mut piece, registers);
     out.append(piece.as_slice());
