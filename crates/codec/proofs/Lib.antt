@@ -4,3 +4,4 @@ pub mod Growing
 pub mod Writing
 pub mod Wholes
 pub mod Readers
+pub mod Pieces

@@ -3,3 +3,4 @@ pub mod Reading
 pub mod Writing
 pub mod Lengths
 pub mod Readers
+pub mod Pieces

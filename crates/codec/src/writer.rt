@@ -2,12 +2,11 @@
 //! more and says so at its end, so who writes a value tests nothing in between.
 ghost use Rattle.std.specs.Prelude.{◌≡◌, ◌≢◌, ◌<◌, ◌≤◌, [], List, ℕ, length, nat_le, ⊤, true, false};
 ghost use Rattle.std.specs.Prelude.{OnOk, IfOk, IfErr};
-ghost use Rattle.codec.specs.Formats.{byte, number2, number4, number8, signed8};
+ghost use Rattle.codec.specs.Formats.{byte, number4, number8};
 ghost use Rattle.codec.specs.Writing.{Says, IsOpen, Writes, IsBeyond, Puts, HasNone, HasRoom};
 ghost use Rattle.ids.specs.declared.refusal.Refusal.TheVariants.{Memory, ImageTooLarge};
 
 use ids::Refusal;
-use std::alloc::Global;
 
 /// What became of the bytes that a writer was given.
 #[derive(Clone, Copy)]
@@ -31,16 +30,17 @@ pub struct Writer {
 }
 
 impl Writer {
-    /// A writer of so many bytes at most. It takes memory as they come, and for the first of them
-    /// at once.
-    pub fn new(alloc: Global, limit: u32, first: usize) -> Writer
+    /// A writer of so many bytes at most, in the memory of these, which are let go of. It takes more
+    /// as bytes come, and for the first of them at once.
+    pub fn new(bytes: Vec<u8>, limit: u32, first: usize) -> Writer
         ensures limit { result.limit ≡ limit }
         ensures empty { Says result [] }
     {
-        let (bytes, kept) = match Vec::with_capacity(alloc, first) {
-            Ok(bytes) => (bytes, Kept::All),
-            Err(_) => (Vec::new(alloc), Kept::Counted(0)),
-        };
+        let mut bytes = bytes;
+        bytes.clear();
+        // (where that is refused, memory is asked for again as the bytes come)
+        let _ = bytes.reserve(first);
+        let kept = Kept::All;
         Writer { bytes, limit, kept }
     }
 
@@ -122,14 +122,6 @@ impl Writer {
         self.append(&[number]);
     }
 
-    /// Appends a number in two bytes.
-    #[tactic(auto, unfolding(crate::specs::Formats::number2))]
-    pub fn u16(&mut self, number: u16)
-        ensures { Puts number2 self.old self.new number }
-    {
-        self.append(&number.to_be_bytes());
-    }
-
     /// Appends a number in four bytes.
     #[tactic(auto, unfolding(crate::specs::Formats::number4))]
     pub fn u32(&mut self, number: u32)
@@ -158,14 +150,6 @@ impl Writer {
     #[tactic(auto, unfolding(crate::specs::Formats::number8))]
     pub fn u64(&mut self, number: u64)
         ensures { Puts number8 self.old self.new number }
-    {
-        self.append(&number.to_be_bytes());
-    }
-
-    /// Appends a number in eight bytes, in two's complement.
-    #[tactic(auto, unfolding(crate::specs::Formats::signed8))]
-    pub fn i64(&mut self, number: i64)
-        ensures { Puts signed8 self.old self.new number }
     {
         self.append(&number.to_be_bytes());
     }

@@ -19,4 +19,4 @@ mod writing;
 pub use images::Images;
 pub use law::{grammar, nodes_saved, nodes_spelled};
 pub use restoring::{core_from_bytes, from_bytes};
-pub use saving::to_bytes;
+pub use saving::{to_bytes, to_bytes_over};

@@ -1,8 +1,10 @@
 //! The links between a node and the others as bytes. Of each link it is the messages that aren't
 //! acknowledged, and how much was taken in; never what the node keeps before its turn.
-ghost use Rattle.std.specs.Prelude.{◌≡◌, ◌<◌, ◌==◌, cond, [], ◌∷◌, ◌++◌, length, slice_index_or};
+ghost use Rattle.std.specs.Prelude.{◌≡◌, ◌<◌, ◌≤◌, ◌+◌, ◌==◌, cond, [], ◌∷◌, ◌++◌, length, slice_index_or};
 ghost use Rattle.std.specs.List.{remove};
 ghost use Rattle.codec.specs.Formats.{number4, number8, counted};
+ghost use Rattle.codec.specs.Pieces.{Adds};
+ghost use Rattle.codec.specs.declared.piece.TheConstants.{GREATEST_PIECE};
 ghost use Rattle.codec.specs.Writing.{Puts, PutsAll};
 ghost use Rattle.link.specs.Links.{link_at, got_at, IsLinks};
 ghost use Rattle.msg.specs.declared.version.Version.TheVariants.{Second};
@@ -10,10 +12,10 @@ ghost use Rattle.image.specs.Grammar.{message_format, link_format};
 ghost use Rattle.image.specs.Images.{stored_link, stored_links};
 
 use byteorder::{BigEndian, ByteOrder};
-use codec::Writer;
+use codec::{Piece, Writer};
 use link::Links;
 use msg::Message;
-use msg::writing::put_body;
+use msg::writing::add_body;
 
 // ---- messages
 
@@ -39,12 +41,23 @@ fn message_at(links: &Links, to: u8, place: u64) -> Message
     }
 }
 
-#[tactic(auto, unfolding(crate::specs::Grammar::message_format), using(crate::proofs::Joins::both))]
+#[tactic(auto, unfolding(crate::specs::Grammar::message_format), using(crate::proofs::Joins::gained))]
+#[inline(always)]
+fn add_message(piece: &mut Piece, message: Message)
+    requires { length piece.old + 37 ≤ GREATEST_PIECE }
+    ensures { Adds (message_format Second) 37 piece.old piece.new message }
+{
+    piece.u64(message.stamp);
+    add_body(piece, message.body);
+}
+
+#[tactic(auto, using(crate::proofs::Joins::piece_written))]
 fn put_message(out: &mut Writer, message: Message)
     ensures { Puts (message_format Second) out.old out.new message }
 {
-    out.u64(message.stamp);
-    put_body(out, message.body);
+    let mut piece = Piece::new();
+    add_message(&mut piece, message);
+    out.append(piece.as_slice());
 }
 
 // Appends how many messages to the node are kept in four bytes, and the messages.

@@ -1,8 +1,11 @@
 //! Lists of values of one format. A list that tells more values than there are bytes is refused
 //! before memory is taken for it.
-ghost use Rattle.std.specs.Prelude.{◌≡◌, ◌≤◌, length, IfOk, IfErr};
+ghost use Rattle.std.specs.Prelude.{◌≡◌, ◌≤◌, ◌+◌, length, is_none, IfOk, IfErr};
+ghost use Rattle.std.specs.List.{list_all};
 ghost use Rattle.ids.specs.declared.refusal.Refusal.TheVariants.{Memory};
 ghost use Rattle.codec.specs.Formats.{Format, number4, number8, many, counted};
+ghost use Rattle.codec.specs.Pieces.{AddsAll};
+ghost use Rattle.codec.specs.declared.piece.TheConstants.{GREATEST_PIECE};
 ghost use Rattle.codec.specs.Readers.{Reads};
 ghost use Rattle.codec.specs.Reading.{IsLong};
 ghost use Rattle.codec.specs.Writing.{Puts, PutsAll};
@@ -12,10 +15,11 @@ ghost use Rattle.msg.specs.declared.version.Version.TheVariants.{Second};
 ghost use Rattle.msg.specs.Formats.{reference, optional};
 ghost use Rattle.msg.specs.Lengths.{reference_long, optional_long};
 
-use codec::{Reader, Writer};
+use crate::tags::ABSENT;
+use codec::{Piece, Reader, Writer};
 use ids::{Ref, Refusal};
 use msg::Version;
-use msg::writing::{put_optional, put_reference};
+use msg::writing::{add_optional, put_optional, put_reference};
 use std::alloc::Global;
 
 /// A value that stands in lists, and is written.
@@ -59,6 +63,52 @@ pub(crate) fn put_counted<T: Writable>(out: &mut Writer, parts: &[T])
 {
     if out.count(parts.len()) {
         put_all(out, parts);
+    }
+}
+
+// So many registers are put together at once.
+const AT_ONCE: usize = 8;
+
+#[inline(always)]
+fn add_few(piece: &mut Piece, registers: &[Option<Ref>])
+    requires few { length registers.now ≤ 8 }
+    requires room { length piece.old + 112 ≤ GREATEST_PIECE }
+    ensures { AddsAll (optional Second) 112 piece.old piece.new registers.now }
+{
+    for register in registers {
+        add_optional(piece, *register);
+    }
+}
+
+fn all_empty(registers: &[Option<Ref>]) -> bool
+    ensures { result ≡ list_all is_none registers.now }
+{
+    registers.iter().all(|register| register.is_none())
+}
+
+#[tactic(auto, using(crate::proofs::Joins::piece_written))]
+fn put_few(out: &mut Writer, registers: &[Option<Ref>])
+    requires { length registers.now ≤ 8 }
+    ensures { PutsAll (optional Second) out.old out.new registers.now }
+{
+    if registers.len() == AT_ONCE && all_empty(registers) {
+        out.append(&[ABSENT; AT_ONCE]);
+        return;
+    }
+    let mut piece = Piece::new();
+    add_few(&mut piece, registers);
+    out.append(piece.as_slice());
+}
+
+/// Appends registers one after another. Most are empty, so a few are put together at once.
+pub(crate) fn put_registers(out: &mut Writer, registers: &[Option<Ref>])
+    ensures { PutsAll (optional Second) out.old out.new registers.now }
+{
+    let mut done = 0;
+    while done < registers.len() {
+        let end = registers.len().min(done + AT_ONCE);
+        put_few(out, &registers[done..end]);
+        done = end;
     }
 }
 

@@ -32,10 +32,23 @@ pub fn to_bytes(alloc: Global, node: &Node) -> Result<Vec<u8>, Refusal>
     ensures last { IfErr result (λ e. e ≡ Memory
         → length (image_of node.now.core) ≤ GREATEST_IMAGE) }
 {
-    core_to_bytes(alloc, node.core())
+    to_bytes_over(Vec::new(alloc), node)
 }
 
-fn core_to_bytes(alloc: Global, core: &Core) -> Result<Vec<u8>, Refusal>
+/// The bytes of the node's image, as [`to_bytes`], in the memory of these, which are let go of. It
+/// takes more only where that is too little, and is refused as [`to_bytes`] is.
+pub fn to_bytes_over(bytes: Vec<u8>, node: &Node) -> Result<Vec<u8>, Refusal>
+    ensures written { IfOk result (λ v. v.items ≡ image_of node.now.core) }
+    ensures image { OnOk result (IsImageOf (image_of node.now.core) (kept_view node.now.core)) }
+    ensures refused { IfErr result (λ e. e ≢ Memory
+        → (e ≡ ImageTooLarge) × (GREATEST_IMAGE < length (image_of node.now.core))) }
+    ensures last { IfErr result (λ e. e ≡ Memory
+        → length (image_of node.now.core) ≤ GREATEST_IMAGE) }
+{
+    core_to_bytes(bytes, node.core())
+}
+
+fn core_to_bytes(bytes: Vec<u8>, core: &Core) -> Result<Vec<u8>, Refusal>
     ensures written { IfOk result (λ v. v.items ≡ image_of core.now) }
     ensures image { OnOk result (IsImageOf (image_of core.now) (kept_view core.now)) }
     ensures refused { IfErr result (λ e. e ≢ Memory
@@ -45,7 +58,7 @@ fn core_to_bytes(alloc: Global, core: &Core) -> Result<Vec<u8>, Refusal>
 {
     // (this call says of the core what its type holds)
     let _summary = core.state();
-    let mut out = Writer::new(alloc, GREATEST_IMAGE as u32, FIRST_BYTES);
+    let mut out = Writer::new(bytes, GREATEST_IMAGE as u32, FIRST_BYTES);
     put_node(&mut out, core);
     out.finish()
 }

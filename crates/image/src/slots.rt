@@ -1,9 +1,11 @@
 //! The slots and the letters of a heap as bytes. They are written in the order of their numbers, so
 //! that the same heap has one spelling.
-ghost use Rattle.std.specs.Prelude.{◌≡◌, ◌<◌, [], ◌∷◌, ◌++◌, length, map, slice_index_or};
+ghost use Rattle.std.specs.Prelude.{◌≡◌, ◌<◌, ◌≤◌, ◌+◌, [], ◌∷◌, ◌++◌, length, map, slice_index_or};
 ghost use Rattle.arena.specs.Arena.{slot_read};
-ghost use Rattle.arena.specs.declared.Slot.TheVariants.{Occupied};
+ghost use Rattle.arena.specs.declared.Slot.TheVariants.{Free, Occupied};
 ghost use Rattle.codec.specs.Formats.{number4, number8, counted};
+ghost use Rattle.codec.specs.Pieces.{Adds};
+ghost use Rattle.codec.specs.declared.piece.TheConstants.{GREATEST_PIECE};
 ghost use Rattle.codec.specs.Writing.{Puts};
 ghost use Rattle.msg.specs.declared.version.Version.TheVariants.{Second};
 ghost use Rattle.image.specs.Grammar.{slot_format, letter_format};
@@ -12,11 +14,11 @@ ghost use Rattle.image.specs.Images.{stored_slot};
 use crate::lists::put_all;
 use crate::tags::{FREE, OCCUPIED, RETIRED};
 use byteorder::{BigEndian, ByteOrder};
-use codec::Writer;
+use codec::{Piece, Writer};
 use heap::{Heap, Object, Slot};
 use ids::Generation;
 use model::Letter;
-use msg::writing::put_optional;
+use msg::writing::add_optional;
 
 // ---- slots
 
@@ -44,15 +46,29 @@ fn put_occupied(out: &mut Writer, generation: Generation, object: &Object)
     put_all(out, places);
 }
 
-#[tactic(auto, unfolding(crate::specs::Grammar::slot_format), using(crate::proofs::Joins::behind))]
+// A free slot's bytes.
+#[tactic(auto, unfolding(crate::specs::Numbers::number8))]
+fn free_bytes(generation: Generation) -> [u8; 9]
+    ensures { result ≡ 0 ∷ number8.spell generation }
+{
+    let mut part = [0; 9];
+    part[0] = FREE;
+    BigEndian::write_u64(&mut part[1..], generation);
+    part
+}
+
+fn put_free(out: &mut Writer, generation: Generation)
+    ensures { Puts (slot_format Second) out.old out.new (Free generation) }
+{
+    out.append(&free_bytes(generation));
+}
+
+#[tactic(auto, unfolding(crate::specs::Grammar::slot_format))]
 fn put_slot(out: &mut Writer, slot: Slot<&Object>)
     ensures { Puts (slot_format Second) out.old out.new (slot_read slot.entry) }
 {
     match slot {
-        Slot::Free(generation) => {
-            out.u8(FREE);
-            out.u64(generation);
-        }
+        Slot::Free(generation) => put_free(out, generation),
         Slot::Occupied(generation, object) => put_occupied(out, generation, object),
         Slot::Retired => out.u8(RETIRED),
     }
@@ -95,13 +111,24 @@ fn letter_at(heap: &Heap, number: usize) -> Letter
     }
 }
 
-#[tactic(auto, unfolding(crate::specs::Grammar::letter_format), using(crate::proofs::Joins::both, crate::proofs::Joins::first))]
+#[tactic(auto, unfolding(crate::specs::Grammar::letter_format), using(crate::proofs::Joins::gained))]
+#[inline(always)]
+fn add_letter(piece: &mut Piece, letter: Letter)
+    requires { length piece.old + 19 ≤ GREATEST_PIECE }
+    ensures { Adds (letter_format Second) 19 piece.old piece.new letter }
+{
+    piece.u8(letter.from);
+    piece.u32(letter.label);
+    add_optional(piece, letter.reference);
+}
+
+#[tactic(auto, using(crate::proofs::Joins::piece_written))]
 fn put_letter(out: &mut Writer, letter: Letter)
     ensures { Puts (letter_format Second) out.old out.new letter }
 {
-    out.u8(letter.from);
-    out.u32(letter.label);
-    put_optional(out, letter.reference);
+    let mut piece = Piece::new();
+    add_letter(&mut piece, letter);
+    out.append(piece.as_slice());
 }
 
 /// Appends how many letters wait in four bytes, and the letters.

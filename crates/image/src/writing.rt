@@ -1,6 +1,7 @@
 //! A node as bytes. Its parts follow one another without gaps, each by its own format.
-ghost use Rattle.std.specs.Prelude.{◌≡◌, ◌∷◌, ◌++◌};
-ghost use Rattle.codec.specs.Formats.{number2, number4, number8, signed8, ◌&◌};
+ghost use Rattle.std.specs.Prelude.{◌≡◌, ◌≤◌, ◌+◌, length};
+ghost use Rattle.codec.specs.Pieces.{Adds};
+ghost use Rattle.codec.specs.declared.piece.TheConstants.{GREATEST_PIECE};
 ghost use Rattle.codec.specs.Writing.{Puts};
 ghost use Rattle.msg.specs.declared.version.Version.TheVariants.{Second};
 ghost use Rattle.image.specs.Grammar.{head_format, phases_format, held_format};
@@ -10,92 +11,77 @@ ghost use Rattle.image.specs.Grammar.{front_of, told_of, slots_of, others_of};
 ghost use Rattle.image.specs.Images.{phases_by, ring_by, stored_by};
 
 use crate::links::put_links;
-use crate::lists::{put_all, put_counted};
+use crate::lists::{put_all, put_counted, put_registers};
 use crate::parts::Head;
 use crate::slots::{put_free_list, put_letters, put_slot_list};
 use crate::tags::{ABSENT, PRESENT, SECOND, START};
-use byteorder::{BigEndian, ByteOrder};
-use codec::Writer;
+use codec::{Piece, Writer};
 use control::Phases;
 use msg::Token;
-use msg::writing::{put_colour, put_token};
+use msg::writing::{add_colour, add_token};
 use node::Core;
 use safra::Ring;
 
-// The sizes of the space and the node's own number, in one piece.
-#[tactic(auto, unfolding(crate::specs::Numbers::number2, crate::specs::Numbers::number4))]
-fn head_bytes(head: Head) -> [u8; 8]
-    ensures { result ≡ head.nodes ∷ (head.own ∷ (number2.spell head.registers
-        ++ number4.spell head.slots)) }
+// The sizes of the space and the node's own number.
+#[tactic(auto, unfolding(crate::specs::Grammar::head_format, crate::specs::Grammar::nodes_format), using(crate::proofs::Joins::gained))]
+#[inline(always)]
+fn add_head(piece: &mut Piece, head: Head)
+    requires { length piece.old + 8 ≤ GREATEST_PIECE }
+    ensures { Adds (head_format Second) 8 piece.old piece.new head }
 {
-    let mut part = [0; 8];
-    part[0] = head.nodes;
-    part[1] = head.own;
-    BigEndian::write_u16(&mut part[2..], head.registers);
-    BigEndian::write_u32(&mut part[4..], head.slots);
-    part
+    piece.u8(head.nodes);
+    piece.u8(head.own);
+    piece.u16(head.registers);
+    piece.u32(head.slots);
 }
 
-fn put_head(out: &mut Writer, head: Head)
-    ensures { Puts (head_format Second) out.old out.new head }
+// A node's cycles and how far it has swept.
+#[tactic(auto, unfolding(crate::specs::Grammar::phases_format), using(crate::proofs::Joins::gained))]
+#[inline(always)]
+fn add_phases(piece: &mut Piece, p: &Phases)
+    requires { length piece.old + 28 ≤ GREATEST_PIECE }
+    ensures { Adds phases_format 28 piece.old piece.new (phases_by p.now) }
 {
-    out.append(&head_bytes(head));
+    piece.u64(p.cycle());
+    piece.u64(p.ended());
+    piece.u64(p.swept());
+    piece.u32(p.cursor());
 }
 
-// A node's cycles and how far it has swept, in one piece.
-#[tactic(auto, unfolding(crate::specs::Numbers::number4, crate::specs::Numbers::number8))]
-fn phases_bytes(cycle: u64, ended: u64, swept: u64, cursor: u32) -> [u8; 28]
-    ensures { result ≡ number8.spell cycle ++ (number8.spell ended
-        ++ (number8.spell swept ++ number4.spell cursor)) }
-{
-    let mut part = [0; 28];
-    BigEndian::write_u64(&mut part, cycle);
-    BigEndian::write_u64(&mut part[8..], ended);
-    BigEndian::write_u64(&mut part[16..], swept);
-    BigEndian::write_u32(&mut part[24..], cursor);
-    part
-}
-
-fn put_phases(out: &mut Writer, p: &Phases)
-    ensures { Puts phases_format out.old out.new (phases_by p.now) }
-{
-    out.append(&phases_bytes(p.cycle(), p.ended(), p.swept(), p.cursor()));
-}
-
-#[tactic(auto, unfolding(crate::specs::Grammar::held_format), using(crate::proofs::Joins::behind))]
-fn put_held(out: &mut Writer, held: Option<Token>)
-    ensures { Puts held_format out.old out.new held }
+#[tactic(auto, unfolding(crate::specs::Grammar::held_format), using(crate::proofs::Joins::gained))]
+#[inline(always)]
+fn add_held(piece: &mut Piece, held: Option<Token>)
+    requires { length piece.old + 10 ≤ GREATEST_PIECE }
+    ensures { Adds held_format 10 piece.old piece.new held }
 {
     match held {
-        None => out.u8(ABSENT),
+        None => piece.u8(ABSENT),
         Some(token) => {
-            out.u8(PRESENT);
-            put_token(out, token);
+            piece.u8(PRESENT);
+            add_token(piece, token);
         }
     }
 }
 
-// Appends the balance of the messages that the next cycle counts, and the token.
-#[tactic(auto, using(crate::proofs::Joins::both))]
-fn put_recent(out: &mut Writer, ring: Ring)
-    ensures { Puts (signed8 & held_format) out.old out.new (ring.recent, ring.token) }
+// A node's colour, its balances and the token that it holds.
+#[tactic(auto, unfolding(crate::specs::Grammar::ring_format), using(crate::proofs::Joins::gained))]
+#[inline(always)]
+fn add_ring(piece: &mut Piece, ring: Ring)
+    requires { length piece.old + 27 ≤ GREATEST_PIECE }
+    ensures { Adds ring_format 27 piece.old piece.new (ring_by ring) }
 {
-    out.i64(ring.recent());
-    put_held(out, ring.token());
+    add_colour(piece, ring.colour());
+    piece.i64(ring.earlier());
+    piece.i64(ring.recent());
+    add_held(piece, ring.token());
 }
 
-#[tactic(auto, unfolding(crate::specs::Grammar::ring_format), using(crate::proofs::Joins::both))]
-fn put_ring(out: &mut Writer, ring: Ring)
-    ensures { Puts ring_format out.old out.new (ring_by ring) }
-{
-    put_colour(out, ring.colour());
-    out.i64(ring.earlier());
-    put_recent(out, ring);
-}
-
-#[tactic(auto, unfolding(crate::specs::Grammar::front_format), using(crate::proofs::Joins::both))]
-fn put_front(out: &mut Writer, node: &Core)
-    ensures { Puts (front_format Second) out.old out.new (front_of (stored_by node.now)) }
+// What stands before the lists, in one piece.
+#[tactic(auto, unfolding(crate::specs::Grammar::front_format), using(crate::proofs::Joins::gained))]
+#[inline(always)]
+fn add_front(piece: &mut Piece, node: &Core)
+    requires { length piece.old + 63 ≤ GREATEST_PIECE }
+    ensures { Adds (front_format Second) 63 piece.old piece.new (front_of (stored_by node.now)) }
 {
     let state = node.state();
     let head = Head {
@@ -104,9 +90,18 @@ fn put_front(out: &mut Writer, node: &Core)
         registers: state.shape.registers(),
         slots: state.shape.slots(),
     };
-    put_head(out, head);
-    put_phases(out, node.phases());
-    put_ring(out, node.ring());
+    add_head(piece, head);
+    add_phases(piece, node.phases());
+    add_ring(piece, node.ring());
+}
+
+#[tactic(auto, using(crate::proofs::Joins::piece_written))]
+fn put_front(out: &mut Writer, node: &Core)
+    ensures { Puts (front_format Second) out.old out.new (front_of (stored_by node.now)) }
+{
+    let mut piece = Piece::new();
+    add_front(&mut piece, node);
+    out.append(piece.as_slice());
 }
 
 // The reports of the other nodes in ascending order, at node 0; at another node none.
@@ -127,7 +122,7 @@ fn put_told(out: &mut Writer, node: &Core)
         Puts (told_format Second said.head) out.old out.new (told_of said) }
 {
     put_all(out, reports_of(node));
-    put_all(out, node.heap().registers());
+    put_registers(out, node.heap().registers());
 }
 
 #[tactic(auto, unfolding(crate::specs::Grammar::slots_format), using(crate::proofs::Joins::both))]

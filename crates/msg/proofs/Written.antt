@@ -1,10 +1,5 @@
 -- What is written is a frame's spelling.
-use Rattle.std.proofs.Common.{◌≡◌, ◌≤◌, ◌<◌, ℕ, List, length, Option, Some, None, Result, Ok, Err}
-use Rattle.std.proofs.Common.{◌≢◌, ◌+◌, ◌++◌, refl, arith}
-use Rattle.std.specs.Prelude.{IfOk, IfErr, OnOk}
-use Rattle.std.proofs.lemmas.List.{length-append}
-use Rattle.ids.specs.declared.refusal.Refusal.{Refusal}
-use Rattle.ids.specs.declared.refusal.Refusal.TheVariants.{Memory, ImageTooLarge}
+use Rattle.std.proofs.Common.{ℕ, Option, Some, None}
 use Rattle.ids.specs.declared.names.Ref.{Ref}
 use Rattle.codec.specs.Formats.{number4, number8, signed8}
 use Rattle.msg.specs.declared.body.Body.{Body}
@@ -57,52 +52,8 @@ any_body v (body.Get target place label) = (any_reference v target, (tt, tt))
 any_body v body.Ended = tt
 any_body v body.Swept = tt
 
-frame_fits : (f : Frame) → grammar.frame.IsWide (plain f) → Fits (plain f)
+pub frame_fits : (f : Frame) → grammar.frame.IsWide (plain f) → Fits (plain f)
 unfolding grammar.frame sent known head number8
 frame_fits (frame.Data d) wide =
     record { wide = wide; within = (((tt, (tt, tt)), (tt, any_body Second d.body)), d.fits) }
 frame_fits (frame.Ack a) wide = record { wide = wide; within = ((tt, (tt, tt)), a.fits) }
-
-colour_short : (c : Colour) → length (colour.spell c) ≤ 1
-unfolding colour
-colour_short White = omega arith
-colour_short Black = omega arith
-
-optional_short : (o : Option Ref) → length ((optional Second).spell o) ≤ 14
-unfolding optional reference number4 number8
-optional_short None = omega arith
-optional_short (Some r) = omega arith
-
-body_short : (b : Body) → length ((body_format Second).spell b) ≤ 29
-unfolding body_format token signed8 reference number4 number8
-body_short body.Begin = omega arith
-body_short (body.Token t) = omega (arith, by (colour.spell t.colour) (colour_short t.colour)) where
-  by : (xs : List ℕ) → length xs ≤ 1 → ((ys : List ℕ) → length (xs ++ ys) ≤ 1 + length ys)
-  by xs h ys = omega (arith, length-append xs ys, h)
-body_short (body.Mark target) = omega arith
-body_short (body.Give label o) = omega (arith, optional_short o)
-body_short (body.Put target place o) = omega (arith, optional_short o)
-body_short (body.Get target place label) = omega arith
-body_short body.Ended = omega arith
-body_short body.Swept = omega arith
-
-frame_short : (f : Frame) → length (spelling (plain f)) ≤ 48
-unfolding spelling grammar.frame sent known head number8
-frame_short (frame.Data d) = omega (arith, body_short d.body)
-frame_short (frame.Ack a) = omega arith
-
--- what a writer that was given the frame gives
-module _ (f : Frame) {V : Type 0} where
-  pub is_spelled : (items : V → List ℕ) (r : Result V Refusal) (is_open : Type 0) → OnOk r is_open
-      → (is_open → grammar.frame.IsWide (plain f)) → IfOk r (λ v. items v ≡ spelling (plain f))
-      → IfOk r (λ v. Fits (plain f) × (items v ≡ spelling (plain f)))
-  is_spelled items (Ok v) is_open is wide same = (frame_fits f (wide is), same)
-  is_spelled items (Err e) is_open is wide same = tt
-
-  pub is_refused : (r : Result V Refusal) (limit : ℕ) → limit ≡ 48
-      → IfErr r (λ e. e ≢ Memory → (e ≡ ImageTooLarge) × (limit < length (spelling (plain f))))
-      → IfErr r (λ e. e ≡ Memory)
-  is_refused (Ok v) limit same refused = tt
-  is_refused (Err Memory) limit same refused = refl
-  is_refused (Err e) limit same refused =
-      absurd (omega (arith, same, (refused (λ is. absurd cc)).1, frame_short f))

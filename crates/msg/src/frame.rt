@@ -78,6 +78,15 @@ pub fn body_fits(body: Body) -> bool
     }
 }
 
+/// Whether a message of these parts is within the limits.
+#[inline(never)]
+pub(crate) fn data_fits(from: u8, to: u8, number: u64, stamp: u64, body: &Body) -> bool
+    ensures { result ≡ data_fits from to number stamp body.now }
+{
+    let number_fits = 1 <= number && number <= GREATEST_NUMBER;
+    nodes_fit(from, to) && number_fits && stamp <= GREATEST_CYCLE && body_fits(*body)
+}
+
 impl Data {
     ghost use Rattle.msg.specs.Frames.{plain_data};
 
@@ -86,8 +95,7 @@ impl Data {
         ensures within { IsSome result ↔ IsTrue (data_fits from to number stamp body) }
         ensures value { IfSome result (λ d. plain_data d ≡ data_frame from to number stamp body) }
     {
-        let number_fits = 1 <= number && number <= GREATEST_NUMBER;
-        if nodes_fit(from, to) && number_fits && stamp <= GREATEST_CYCLE && body_fits(body) {
+        if data_fits(from, to, number, stamp, &body) {
             Some(Data {
                 from,
                 to,

@@ -9,10 +9,10 @@ ghost use Rattle.msg.specs.Formats.{give_at, put_at, get_at, body_format, head};
 ghost use Rattle.msg.specs.Grammar.{Plain, Fits, spelling, data_at, ack_at, frame};
 ghost use Rattle.codec.specs.Formats.{whole_at};
 ghost use Rattle.codec.specs.Readers.{Reads, Takes};
-ghost use Rattle.msg.specs.Frames.{plain, plain_data, plain_ack};
+ghost use Rattle.msg.specs.Frames.{plain, plain_ack};
 
 use crate::body::{Body, Colour, Token};
-use crate::frame::{Ack, Data, Frame};
+use crate::frame::{Ack, Data, Frame, data_fits};
 use crate::tags::{
     ABSENT, ACK, BEGIN, BLACK, DATA, ENDED, GET, GIVE, MARK, PRESENT, PUT, SWEPT, TOKEN, WHITE,
 };
@@ -155,13 +155,23 @@ fn read_head(reader: &mut Reader) -> (u8, (u8, u64))
     (from, (to, number))
 }
 
-fn read_data(reader: &mut Reader) -> Option<Data>
-    ensures { Takes data_at reader.old reader.new (option_map plain_data result) }
+fn read_data(reader: &mut Reader) -> Option<Frame>
+    ensures { Takes data_at reader.old reader.new (option_map plain result) }
 {
     let (from, (to, number)) = read_head(reader);
     let stamp = reader.u64();
     let body = read_body(reader, Version::Second);
-    Data::new(from, to, number, stamp, body)
+    if data_fits(from, to, number, stamp, &body) {
+        Some(Frame::Data(Data {
+            from,
+            to,
+            number,
+            stamp,
+            body,
+        }))
+    } else {
+        None
+    }
 }
 
 #[tactic(auto, unfolding(crate::specs::Grammar::ack_at, crate::specs::Formats::known), using(crate::proofs::Joins::tested))]
@@ -177,7 +187,7 @@ fn read_frame(reader: &mut Reader) -> Option<Frame>
     ensures { Takes frame.read reader.old reader.new (option_map plain result) }
 {
     match reader.u8() {
-        DATA => read_data(reader).map(Frame::Data),
+        DATA => read_data(reader),
         ACK => read_ack(reader).map(Frame::Ack),
         _ => None,
     }

@@ -1,10 +1,12 @@
-//! Frames as bytes. Each frame has one spelling, and the longest of them is the limit of the
-//! writer.
-ghost use Rattle.std.specs.Prelude.{◌≡◌, [], ◌∷◌, ◌++◌, IfOk, IfErr};
+//! Frames as bytes. Each frame has one spelling. It is put together in a piece, which takes no
+//! memory.
+ghost use Rattle.std.specs.Prelude.{◌≡◌, ◌≤◌, ◌+◌, ◌∷◌, ◌++◌, length, IfOk, IfErr};
 ghost use Rattle.ids.specs.declared.refusal.Refusal.TheVariants.{Memory};
 ghost use Rattle.codec.specs.Formats.{number4, number8};
+ghost use Rattle.codec.specs.Pieces.{Adds};
 ghost use Rattle.codec.specs.Writing.{Puts, Writes};
-ghost use Rattle.msg.specs.Formats.{reference, optional, colour, token, body_format};
+ghost use Rattle.codec.specs.declared.piece.TheConstants.{GREATEST_PIECE};
+ghost use Rattle.msg.specs.Formats.{reference, optional, colour, token, body_format, head};
 ghost use Rattle.msg.specs.declared.version.Version.TheVariants.{Second};
 ghost use Rattle.msg.specs.Grammar.{Fits, spelling, frame};
 ghost use Rattle.msg.specs.Frames.{plain, plain_data, plain_ack};
@@ -15,15 +17,13 @@ use crate::tags::{
     ABSENT, ACK, BEGIN, BLACK, DATA, ENDED, GET, GIVE, MARK, PRESENT, PUT, SWEPT, TOKEN, WHITE,
 };
 use byteorder::{BigEndian, ByteOrder};
-use codec::Writer;
+use codec::{Piece, Writer};
 use ids::{Ref, Refusal};
 use std::alloc::Global;
 
-/// The longest frame has so many bytes.
-const GREATEST_FRAME: u32 = 48;
-
 // A reference behind a tag.
 #[tactic(auto, unfolding(crate::specs::Numbers::number4, crate::specs::Numbers::number8))]
+#[inline(always)]
 fn tagged_bytes(tag: u8, r: Ref) -> [u8; 14]
     ensures { result ≡ tag ∷ r.node ∷ (number4.spell r.slot ++ number8.spell r.generation) }
 {
@@ -43,6 +43,7 @@ pub fn put_reference(out: &mut Writer, r: Ref)
 }
 
 // Appends a tag and a reference, in one piece.
+#[inline(always)]
 fn put_tagged(out: &mut Writer, tag: u8, r: Ref)
     ensures { Writes out.old out.new (tag ∷ (reference Second).spell r)
         ((reference Second).IsWide r) }
@@ -52,6 +53,7 @@ fn put_tagged(out: &mut Writer, tag: u8, r: Ref)
 
 /// Appends a reference, or that there is none.
 #[tactic(auto, unfolding(crate::specs::Formats::optional))]
+#[inline(always)]
 pub fn put_optional(out: &mut Writer, o: Option<Ref>)
     ensures { Puts (optional Second) out.old out.new o }
 {
@@ -61,106 +63,146 @@ pub fn put_optional(out: &mut Writer, o: Option<Ref>)
     }
 }
 
-/// Appends a colour.
-#[tactic(auto, unfolding(crate::specs::Formats::colour))]
-pub fn put_colour(out: &mut Writer, c: Colour)
-    ensures { Puts colour out.old out.new c }
+/// Puts a reference behind what the piece has. There is room for it.
+#[tactic(auto, unfolding(crate::specs::Formats::reference), using(crate::proofs::Joins::gained))]
+#[inline(always)]
+pub fn add_reference(piece: &mut Piece, r: Ref)
+    requires { length piece.old + 13 ≤ GREATEST_PIECE }
+    ensures { Adds (reference Second) 13 piece.old piece.new r }
 {
-    out.u8(match c {
+    piece.u8(r.node);
+    piece.u32(r.slot);
+    piece.u64(r.generation);
+}
+
+/// Puts a reference behind what the piece has, or that there is none. There is room for it.
+#[tactic(auto, unfolding(crate::specs::Formats::optional), using(crate::proofs::Joins::gained))]
+#[inline(always)]
+pub fn add_optional(piece: &mut Piece, o: Option<Ref>)
+    requires { length piece.old + 14 ≤ GREATEST_PIECE }
+    ensures { Adds (optional Second) 14 piece.old piece.new o }
+{
+    match o {
+        None => piece.u8(ABSENT),
+        Some(r) => {
+            piece.u8(PRESENT);
+            add_reference(piece, r);
+        }
+    }
+}
+
+/// Puts a colour behind what the piece has. There is room for it.
+#[tactic(auto, unfolding(crate::specs::Formats::colour), using(crate::proofs::Joins::gained))]
+#[inline(always)]
+pub fn add_colour(piece: &mut Piece, c: Colour)
+    requires { length piece.old + 1 ≤ GREATEST_PIECE }
+    ensures { Adds colour 1 piece.old piece.new c }
+{
+    piece.u8(match c {
         Colour::White => WHITE,
         Colour::Black => BLACK,
     });
 }
 
-/// Appends a token.
-#[tactic(auto, unfolding(crate::specs::Formats::token), using(crate::proofs::Joins::both))]
-pub fn put_token(out: &mut Writer, t: Token)
-    ensures { Puts token out.old out.new t }
+/// Puts a token behind what the piece has. There is room for it.
+#[tactic(auto, unfolding(crate::specs::Formats::token), using(crate::proofs::Joins::gained))]
+#[inline(always)]
+pub fn add_token(piece: &mut Piece, t: Token)
+    requires { length piece.old + 9 ≤ GREATEST_PIECE }
+    ensures { Adds token 9 piece.old piece.new t }
 {
-    put_colour(out, t.colour);
-    out.i64(t.q);
+    add_colour(piece, t.colour);
+    piece.i64(t.q);
 }
 
-/// Appends what a message says, behind its tag.
-#[tactic(auto, unfolding(crate::specs::Formats::body_format), using(crate::proofs::Joins::behind, crate::proofs::Joins::both, crate::proofs::Joins::first))]
-pub fn put_body(out: &mut Writer, body: Body)
-    ensures { Puts (body_format Second) out.old out.new body }
+/// Puts what a message says behind what the piece has, with its tag. There is room for it.
+#[tactic(auto, unfolding(crate::specs::Formats::body_format), using(crate::proofs::Joins::gained))]
+#[inline(always)]
+pub fn add_body(piece: &mut Piece, body: Body)
+    requires { length piece.old + 29 ≤ GREATEST_PIECE }
+    ensures { Adds (body_format Second) 29 piece.old piece.new body }
 {
     match body {
-        Body::Begin => out.u8(BEGIN),
+        Body::Begin => piece.u8(BEGIN),
         Body::Token(token) => {
-            out.u8(TOKEN);
-            put_token(out, token);
+            piece.u8(TOKEN);
+            add_token(piece, token);
         }
-        Body::Mark { target } => put_tagged(out, MARK, target),
+        Body::Mark { target } => {
+            piece.u8(MARK);
+            add_reference(piece, target);
+        }
         Body::Give { label, reference } => {
-            out.u8(GIVE);
-            out.u32(label);
-            put_optional(out, reference);
+            piece.u8(GIVE);
+            piece.u32(label);
+            add_optional(piece, reference);
         }
         Body::Put {
             target,
             place,
             reference,
         } => {
-            put_tagged(out, PUT, target);
-            out.u8(place);
-            put_optional(out, reference);
+            piece.u8(PUT);
+            add_reference(piece, target);
+            piece.u8(place);
+            add_optional(piece, reference);
         }
         Body::Get {
             target,
             place,
             label,
         } => {
-            put_tagged(out, GET, target);
-            out.u8(place);
-            out.u32(label);
+            piece.u8(GET);
+            add_reference(piece, target);
+            piece.u8(place);
+            piece.u32(label);
         }
-        Body::Ended => out.u8(ENDED),
-        Body::Swept => out.u8(SWEPT),
+        Body::Ended => piece.u8(ENDED),
+        Body::Swept => piece.u8(SWEPT),
     }
 }
 
-// What stands before a message's body.
-#[tactic(auto, unfolding(crate::specs::Numbers::number8))]
-fn head_of(message: Data) -> [u8; 19]
-    ensures { result ≡ (0x45 ∷ message.from ∷ message.to ∷ [])
-        ++ (number8.spell message.number ++ number8.spell message.stamp) }
+#[tactic(auto, unfolding(crate::specs::Formats::head), using(crate::proofs::Joins::gained))]
+#[inline(always)]
+fn add_head(piece: &mut Piece, from: u8, to: u8, number: u64)
+    requires { length piece.old + 10 ≤ GREATEST_PIECE }
+    ensures { Adds head 10 piece.old piece.new (from, (to, number)) }
 {
-    let mut part = [0; 19];
-    part[0] = DATA;
-    part[1] = message.from;
-    part[2] = message.to;
-    BigEndian::write_u64(&mut part[3..], message.number);
-    BigEndian::write_u64(&mut part[11..], message.stamp);
-    part
+    piece.u8(from);
+    piece.u8(to);
+    piece.u64(number);
 }
 
-fn put_data(out: &mut Writer, message: Data)
-    ensures { Puts frame out.old out.new (plain_data message) }
+#[tactic(auto, unfolding(crate::specs::Grammar::frame, crate::specs::Formats::sent), using(crate::proofs::Joins::gained))]
+fn add_data(piece: &mut Piece, message: &Data)
+    requires { length piece.old + 48 ≤ GREATEST_PIECE }
+    ensures { Adds frame 48 piece.old piece.new (plain_data message.now) }
 {
-    out.append(&head_of(message));
-    put_body(out, message.body);
+    piece.u8(DATA);
+    add_head(piece, message.from, message.to, message.number);
+    piece.u64(message.stamp);
+    add_body(piece, message.body);
 }
 
-#[tactic(auto, unfolding(crate::specs::Grammar::frame, crate::specs::Formats::known, crate::specs::Formats::head, crate::specs::Numbers::number8))]
-fn put_ack(out: &mut Writer, ack: Ack)
-    ensures { Puts frame out.old out.new (plain_ack ack) }
+#[tactic(auto, unfolding(crate::specs::Grammar::frame, crate::specs::Formats::known), using(crate::proofs::Joins::gained))]
+fn add_ack(piece: &mut Piece, ack: &Ack)
+    requires { length piece.old + 48 ≤ GREATEST_PIECE }
+    ensures { Adds frame 48 piece.old piece.new (plain_ack ack.now) }
 {
-    let mut part = [0; 11];
-    part[0] = ACK;
-    part[1] = ack.from;
-    part[2] = ack.to;
-    BigEndian::write_u64(&mut part[3..], ack.number);
-    out.append(&part);
+    piece.u8(ACK);
+    add_head(piece, ack.from, ack.to, ack.number);
 }
 
-fn put_frame(out: &mut Writer, f: Frame)
-    ensures { Puts frame out.old out.new (plain f) }
+/// Puts the bytes that spell the frame behind what the piece has. There is room for them.
+#[tactic(auto, unfolding(crate::specs::Grammar::spelling), using(crate::proofs::Written::frame_fits))]
+pub fn add_frame(piece: &mut Piece, f: &Frame)
+    requires { length piece.old + 48 ≤ GREATEST_PIECE }
+    ensures spelled { piece.new ≡ piece.old ++ spelling (plain f.now) }
+    ensures fits { Fits (plain f.now) }
 {
     match f {
-        Frame::Data(message) => put_data(out, message),
-        Frame::Ack(ack) => put_ack(out, ack),
+        Frame::Data(message) => add_data(piece, message),
+        Frame::Ack(ack) => add_ack(piece, ack),
     }
 }
 
@@ -174,7 +216,7 @@ pub fn encode(alloc: Global, f: &Frame) -> Result<Vec<u8>, Refusal>
         (λ v. Fits (plain f.now) × (v.items ≡ spelling (plain f.now))) }
     ensures refused { IfErr result (λ e. e ≡ Memory) }
 {
-    let mut out = Writer::new(alloc, GREATEST_FRAME, GREATEST_FRAME as usize);
-    put_frame(&mut out, *f);
-    out.finish()
+    let mut piece = Piece::new();
+    add_frame(&mut piece, f);
+    Ok(Vec::from_slice(alloc, piece.as_slice())?)
 }

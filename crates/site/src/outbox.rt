@@ -1,15 +1,19 @@
 //! The frames of one node's messages to another: those that were released, and behind them those
 //! that a save is to release. They count only when nothing of the save can fail any more.
-ghost use Rattle.std.specs.Prelude.{◌≡◌, ◌≢◌, ◌≤◌, ◌<◌, ℕ, length, map, take, replicate, slice_index_or, IsTrue, IfOk, IfErr, OnOk, OnErr};
+ghost use Rattle.std.specs.Prelude.{◌≡◌, ◌≢◌, ◌≤◌, ◌<◌, ◌++◌, [], ◌∷◌, ℕ, length, map, take, replicate, slice_index_or, IsTrue, IfOk, IfErr, OnOk, OnErr};
 ghost use Rattle.std.specs.Option.{option_map};
 ghost use Rattle.ids.specs.declared.refusal.Refusal.TheVariants.{Memory};
+ghost use Rattle.msg.specs.Frames.{plain};
+ghost use Rattle.msg.specs.Grammar.{Fits, spelling};
 ghost use Rattle.model.specs.View.{link_to, is_other};
 ghost use Rattle.node.specs.Invariant.{IsNode};
 ghost use Rattle.site.specs.Outboxes.{no_outbox, released_frames, all_released, numbered_bytes, IsStaged, HasFrames, AreStagedTo, Releases};
 
 use crate::frames::Frames;
+use codec::Piece;
 use ids::Refusal;
-use msg::encode;
+use msg::Frame;
+use msg::writing::add_frame;
 use node::Core;
 use std::alloc::Global;
 use std::marker::Model;
@@ -60,7 +64,7 @@ impl Outbox {
 
     /// Makes the frames of all messages to the node `to` that follow the released ones, and
     /// releases none. `Memory` where a growth was refused.
-    pub fn stage(&mut self, alloc: Global, node: &Core, to: u8) -> Result<(), Refusal>
+    pub fn stage(&mut self, node: &Core, to: u8) -> Result<(), Refusal>
         requires other { IsTrue (is_other node.now.local to) }
         requires kept { (link_to node.now to).base ≤ length (released_frames self.old) }
         ensures released { released_frames self.new ≡ released_frames self.old }
@@ -69,7 +73,7 @@ impl Outbox {
         ensures refused { IfErr result (λ e. e ≡ Memory) }
     {
         self.frames.truncate(self.released);
-        stage_frames(alloc, &mut self.frames, node, to)
+        stage_frames(&mut self.frames, node, to)
     }
 
     /// Releases all frames that were made.
@@ -80,7 +84,7 @@ impl Outbox {
     }
 }
 
-fn stage_frames(alloc: Global, frames: &mut Frames, node: &Core, to: u8) -> Result<(), Refusal>
+fn stage_frames(frames: &mut Frames, node: &Core, to: u8) -> Result<(), Refusal>
     requires other { IsTrue (is_other node.now.local to) }
     requires kept { (link_to node.now to).base ≤ length frames.old }
     ensures kept { take (length frames.old) frames.new ≡ frames.old }
@@ -92,9 +96,23 @@ fn stage_frames(alloc: Global, frames: &mut Frames, node: &Core, to: u8) -> Resu
         let Some(frame) = node.numbered_frame(to, place + 1) else {
             unreachable!()
         };
-        frames.push(&encode(alloc, &frame)?)?;
+        push_frame(frames, &frame)?;
     }
     Ok(())
+}
+
+/// Puts the bytes of a frame behind the others.
+// (apart from the loop, which most often has no frame and pays for no piece)
+#[inline(never)]
+fn push_frame(frames: &mut Frames, frame: &Frame) -> Result<(), Refusal>
+    ensures spelled { Fits (plain frame.now) }
+    ensures done { OnOk result (frames.new ≡ frames.old ++ spelling (plain frame.now) ∷ []) }
+    ensures unchanged { OnErr result (frames.new ≡ frames.old) }
+    ensures refused { IfErr result (λ e. e ≡ Memory) }
+{
+    let mut piece = Piece::new();
+    add_frame(&mut piece, frame);
+    frames.push(piece.as_slice())
 }
 
 /// An outbox to each of so many nodes.
@@ -111,7 +129,7 @@ pub fn new_outboxes(alloc: Global, count: u8) -> Result<Vec<Outbox>, Refusal>
 
 /// Makes and releases the frames of all messages that the node has appended since the released
 /// ones, to each other node. `Memory` where a growth was refused; then none is released.
-pub fn release_all(alloc: Global, row: &mut [Outbox], node: &Core) -> Result<(), Refusal>
+pub fn release_all(row: &mut [Outbox], node: &Core) -> Result<(), Refusal>
     requires row { length row.old ≡ node.now.local.shape.nodes }
     requires kept { HasFrames node.now (map released_frames row.old) }
     ensures done { OnOk result
@@ -120,13 +138,13 @@ pub fn release_all(alloc: Global, row: &mut [Outbox], node: &Core) -> Result<(),
     ensures unchanged { OnErr result (map released_frames row.new ≡ map released_frames row.old) }
     ensures refused { IfErr result (λ e. e ≡ Memory) }
 {
-    stage_all(alloc, row, node)?;
+    stage_all(row, node)?;
     release_staged(row);
     Ok(())
 }
 
 /// Makes these frames, and releases none.
-fn stage_all(alloc: Global, row: &mut [Outbox], node: &Core) -> Result<(), Refusal>
+fn stage_all(row: &mut [Outbox], node: &Core) -> Result<(), Refusal>
     requires row { length row.old ≡ node.now.local.shape.nodes }
     requires kept { HasFrames node.now (map released_frames row.old) }
     ensures released { map released_frames row.new ≡ map released_frames row.old }
@@ -139,7 +157,7 @@ fn stage_all(alloc: Global, row: &mut [Outbox], node: &Core) -> Result<(), Refus
     for to in 0..summary.shape.nodes() {
         if to != summary.own {
             let outbox = &mut row[usize::from(to)];
-            outbox.stage(alloc, node, to)?;
+            outbox.stage(node, to)?;
         }
     }
     Ok(())

@@ -9,12 +9,15 @@ use image::core_from_bytes;
 use node::Core;
 use std::alloc::Global;
 use std::marker::Model;
+use std::mem;
 use std::snapshot::Snapshot;
 
 /// A node as it was saved: the bytes of its image, and nothing else.
 #[derive(Drop)]
 pub struct SavedNode {
     image: Vec<u8>,
+    // The image before it, or no bytes: the next one takes its memory.
+    spare: Vec<u8>,
     // The node that the image says, for proofs alone: it has no bytes.
     says: Snapshot<Core>,
 }
@@ -38,9 +41,26 @@ impl SavedNode {
         ensures { result ≡ node.now }
     {
         SavedNode {
+            spare: Vec::new(*image.allocator()),
             image,
             says: Snapshot::of(node),
         }
+    }
+
+    /// Memory for the next image: bytes of no meaning.
+    pub fn take_spare(&mut self, alloc: Global) -> Vec<u8>
+        ensures { self.new ≡ self.old }
+    {
+        mem::replace(&mut self.spare, Vec::new(alloc))
+    }
+
+    /// This node was saved now, as this image.
+    pub fn renew(&mut self, image: Vec<u8>, node: &Core)
+        requires { IsImageOf image.items node.now }
+        ensures { self.new ≡ node.now }
+    {
+        self.spare = mem::replace(&mut self.image, image);
+        self.says = Snapshot::of(node);
     }
 
     /// The node that was saved, made from its image. `Memory` where a growth was refused.

@@ -20,7 +20,7 @@ ghost use Rattle.site.specs.Sites.{
 use crate::outbox::{Outbox, new_outboxes, release_all};
 use crate::saved::SavedNode;
 use ids::{NodeId, Refusal, Shape};
-use image::to_bytes;
+use image::{to_bytes, to_bytes_over};
 use model::{Answer, Event};
 use msg::{Ack, Frame};
 use node::{Core, Node};
@@ -112,10 +112,11 @@ impl Site {
         ensures too_large { result ≡ Err ImageTooLarge
             ↔ GREATEST_IMAGE < length (image_of self.old.site.current) }
     {
-        let image = to_bytes(alloc, &self.current)?;
-        release_all(alloc, &mut self.outboxes, self.current.core())?;
+        let spare = self.saved.take_spare(alloc);
+        let image = to_bytes_over(spare, &self.current)?;
+        release_all(&mut self.outboxes, self.current.core())?;
         self.current.kept();
-        self.saved = SavedNode::new(image, self.current.core());
+        self.saved.renew(image, self.current.core());
         Ok(())
     }
 

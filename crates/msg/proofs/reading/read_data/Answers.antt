@@ -1,13 +1,24 @@
-use Rattle.codec.proofs.Readers.{both_read, tested}
+use Rattle.std.proofs.Common.{None, refl, sym, ◌∙◌}
+use Rattle.std.proofs.lemmas.Bool.{false≢true}
+use Rattle.codec.proofs.Readers.{both_read, made_of, let_through, tested}
 use Rattle.msg.specs.Formats.{sent, sent_fits}
-use Rattle.msg.specs.Frames.{plain_data}
+use Rattle.msg.specs.Frames.{plain}
 use Rattle.msg.specs.Grammar.{data_at}
 use Rattle.msg.proofs.Frames.{data_of}
 use Rattle.msg.proofs.reading.read_data.Goals as goal
 
-pub returns : goal.returns
+pub returns-then-data_fits : goal.returns-then-data_fits
 unfolding data_at sent
-returns c =
+returns-then-data_fits c =
     let parts =
     both_read c.read_head-from.ensures (both_read c.u64-stamp.ensures c.read_body-body.ensures) in
-    tested sent_fits parts data_of plain_data c.new.result c.new.ensures.within c.new.ensures.value
+    made_of data_of
+    (let_through sent_fits parts (sym c.data_fits.ensures ∙ c.if-data_fits.true)) refl
+
+pub returns-else-data_fits : goal.returns-else-data_fits
+unfolding data_at sent
+returns-else-data_fits c =
+    let parts =
+    both_read c.read_head-from.ensures (both_read c.u64-stamp.ensures c.read_body-body.ensures) in
+    let fails = sym c.data_fits.ensures ∙ c.if-data_fits.false in
+    tested sent_fits parts data_of plain None (λ h. absurd (false≢true h), λ t. sym fails ∙ t) tt

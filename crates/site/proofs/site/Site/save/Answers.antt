@@ -8,19 +8,19 @@ use Rattle.site.proofs.SiteLemmas.{site-saved}
 use Rattle.site.proofs.site.Site.save.Goals as goal
 
 -- once all counts as saved, the image says the node
-pub new-requires : goal.new-requires
-new-requires c =
+pub renew-requires : goal.renew-requires
+renew-requires c =
     rw (c.in_ok-image.ensures.written, c.core-2.ensures.value, c.kept.ensures)
     c.in_ok-image.ensures.image
 
 -- frames that were made and not released show nowhere
-pub invariant_of-self : goal.invariant_of-self
-invariant_of-self c =
+pub invariant_of-self-in_err-release_all : goal.invariant_of-self-in_err-release_all
+invariant_of-self-in_err-release_all c =
     let wrote = with_items_is c.self.inside.outboxes c.release_all.new.row
     (c.release_all.auto.row ∙ c.deref_mut.ensures.len) in
     let same = c.in_err-release_all.ensures.unchanged
     ∙ ap (map released_frames) c.deref_mut.ensures.value in
-    rw wrote
+    rw (wrote, c.take_spare-spare.ensures)
     (subst
     (λ (rows : List (List (List ℕ))).
     IsSite (record {
@@ -46,7 +46,7 @@ returns-in_err-release_all-clause-unchanged c =
     } in
     let p = err_from_is_err_and c.from_residual-in_err-release_all.result
     c.from_residual-in_err-release_all.ensures.1 in
-    rw (← c.self.view_is, wrote, p.1) (ap site same)
+    rw (← c.self.view_is, wrote, p.1, c.take_spare-spare.ensures) (ap site same)
 
 pub invariant_of-self-2 : goal.invariant_of-self-2
 invariant_of-self-2 c =
@@ -57,7 +57,7 @@ invariant_of-self-2 c =
     (simp length-map (c.release_all.auto.row ∙ ap length c.deref_mut.ensures.value))
     (record {
       current = ap (λ (w : WholeNode). w.core) c.kept.ensures;
-      saved = c.new.ensures ∙ c.core-2.ensures.value
+      saved = c.renew.ensures ∙ c.core-2.ensures.value
           ∙ ap (λ (w : WholeNode). w.core) c.kept.ensures;
       frames = rw (c.deref_mut.ensures.value, c.core.ensures.value) at
           c.in_ok-release_all.ensures.done;
@@ -70,7 +70,7 @@ returns-clause-done c =
     rw (← c.self.view_is, wrote)
     (record {
       current = ap (λ (w : WholeNode). w.core) c.kept.ensures;
-      saved = c.new.ensures ∙ c.core-2.ensures.value
+      saved = c.renew.ensures ∙ c.core-2.ensures.value
           ∙ ap (λ (w : WholeNode). w.core) c.kept.ensures;
       frames = rw (c.deref_mut.ensures.value, c.core.ensures.value) at
           c.in_ok-release_all.ensures.done;
