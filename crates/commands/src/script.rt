@@ -241,8 +241,8 @@ fn run_step<S: Space, W: Write>(
     }
 }
 
-/// Does what a line says that is no step, as [`run_line`] does. Replies are large, and this one
-/// has no room among what a step needs.
+/// Does what a line says that is no step, as [`run_line`] does. (Kept out of that one: a reply is
+/// large, and would be made zero for each step.)
 #[inline(never)]
 fn run_other<S: Space, W: Write>(
     alloc: Global,
@@ -270,7 +270,8 @@ fn run_other<S: Space, W: Write>(
     print_reply(out, number, &reply)
 }
 
-/// Prints that a line was refused, and answers the status; None where output failed.
+/// Prints that a line was refused, and answers the status; None where output failed. (Kept out of
+/// what calls it: what an error of output takes would be made zero there for each step.)
 #[inline(never)]
 fn print_refusal<W: Write>(out: &mut W, refusal: Refusal) -> Option<u8>
     ensures text { OnSome result

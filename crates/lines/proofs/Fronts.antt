@@ -12,19 +12,10 @@ use Rattle.lines.specs.declared.line.TheConstants.{MOST_DIGITS}
 use Rattle.lines.specs.Grammar.{is_number, u64_of, value_after}
 use Rattle.lines.specs.Words.{digit_count, ends_word, fits_word, is_space, word_end, word_of}
 use Rattle.lines.proofs.Numbers.{value_checked}
+use Rattle.lines.proofs.Words.{drop_one, take_one}
 
 abbrev pub digits_of : List ℕ → List ℕ
 digits_of text = take (digit_count text) text
-
-drop_one : (c : ℕ) (cs : List ℕ) (n : ℕ) → drop (1 + n) (c ∷ cs) ≡ drop n cs
-drop_one c cs n =
-    let one : 1 + n ≡ suc n = omega arith in
-    ap (λ (m : ℕ). drop m (c ∷ cs)) one
-
-pub take_one : (c : ℕ) (cs : List ℕ) (n : ℕ) → take (1 + n) (c ∷ cs) ≡ c ∷ take n cs
-take_one c cs n =
-    let one : 1 + n ≡ suc n = omega arith in
-    ap (λ (m : ℕ). take m (c ∷ cs)) one
 
 -- the number at a digit
 at_digit : (n c : ℕ) (cs : List ℕ) → is_ascii_digit c ≡ true
@@ -75,7 +66,8 @@ cond-same : {X : Type 0} (b : Bool) (x : X) → cond b x x ≡ x
 cond-same true x = refl
 cond-same false x = refl
 
-swap : {X : Type 0} (a b : Bool) (o : Option X) → cond a (cond b o None) None ≡ cond b (cond a o None) None
+swap : {X : Type 0} (a b : Bool) (o : Option X)
+    → cond a (cond b o None) None ≡ cond b (cond a o None) None
 swap true b o = refl
 swap false true o = refl
 swap false false o = refl

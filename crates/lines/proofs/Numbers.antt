@@ -1,12 +1,11 @@
 -- The number that a word of digits spells.
-use Rattle.std.proofs.Common.{◌≡◌, ℕ, ◌+◌, ◌-◌, ◌*◌, ◌^◌, ◌<◌, ◌≤◌, ⊎_elim, ◌&&◌, Bool, true, false, cond, nat_le, nat_lt, List, [], ◌∷◌, length, Option, Some, None, refl, ◌∙◌, ap, sym, arith, rules, tests}
+use Rattle.std.proofs.Common.{◌≡◌, ℕ, ◌+◌, ◌-◌, ◌*◌, ◌^◌, ◌<◌, ◌≤◌, ⊎_elim, ◌&&◌, Bool, true, false, cond, nat_lt, List, [], ◌∷◌, Option, Some, None, refl, ◌∙◌, ap, sym, arith, rules, tests}
 use Rattle.std.specs.Char.{digit_value, is_ascii_digit}
 use Rattle.std.specs.List.{list_all}
 use Rattle.std.specs.Str.Parse.{digits_value_after}
-use Rattle.std.proofs.lemmas.Bool.{and_left, and_right, cases_lt, cond-false, cond-true, le-leb, le-ltb, lt-leb, lt-ltb}
+use Rattle.std.proofs.lemmas.Bool.{cases_lt, cond-false, cond-true, le-ltb, lt-ltb}
 use Rattle.std.proofs.lemmas.Str.{digit_value_digit}
-use Rattle.lines.specs.declared.line.TheConstants.{MOST_DIGITS}
-use Rattle.lines.specs.Grammar.{is_number, u64_of, value_after}
+use Rattle.lines.specs.Grammar.{value_after}
 
 -- that of digits which follow those of n, where all are digits and it fits
 abbrev checked : ℕ → List ℕ → Option ℕ
@@ -61,22 +60,3 @@ value_checked n (c ∷ cs) small =
       | true ↦ λ is. from_digit n c cs is (λ m fits. value_checked m cs fits)
       | false ↦ λ is. refl
     ] refl
-
--- a word is a number where it is no longer than that, and all of it are digits
-pub u64_of-value : (word : List ℕ) → 0 < length word → length word ≤ MOST_DIGITS
-    → value_after 0 word ≡ u64_of word
-unfolding u64_of is_number
-u64_of-value word filled short =
-    value_checked 0 word (omega arith)
-    ∙ rw (lt-ltb 0 (length word) filled, le-leb _ MOST_DIGITS short)
-
-pub u64_of-none : (word : List ℕ) → length word ≡ 0 → None ≡ u64_of word
-unfolding u64_of is_number
-u64_of-none [] empty = refl
-u64_of-none (c ∷ cs) empty = absurd (omega arith)
-
-pub u64_of-long : (word : List ℕ) → MOST_DIGITS < length word → None ≡ u64_of word
-unfolding u64_of is_number
-u64_of-long word long =
-    sym (cond-false _ _ _ (and_right (nat_lt 0 (length word)) _
-    (and_left (nat_le (length word) MOST_DIGITS) _ (lt-leb (length word) MOST_DIGITS long))))

@@ -106,7 +106,8 @@ module _ {s t : List ℕ} {a : ℕ} (p : Takes s a t) where
           → Some (operands.Three a b c) ≡ operands_of (words_of s)
       unfolding operands_of
       three_left empty =
-          sym (ap operands_of (two (r.word ∷ []) (r.words ∙ ap (λ ws. r.word ∷ ws) (words_none v empty)))
+          sym (ap operands_of (two (r.word ∷ [])
+          (r.words ∙ ap (λ ws. r.word ∷ ws) (words_none v empty)))
           ∙ rw (← p.number, ← q.number, ← r.number) refl)
 
       pub more_left : IsTrimmed v → (length v == 0) ≡ false → None ≡ operands_of (words_of s)

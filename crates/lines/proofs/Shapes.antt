@@ -15,10 +15,10 @@ use Rattle.lines.specs.declared.operands.Operands.TheVariants as operands
 use Rattle.lines.specs.Grammar.{acted, alone, command_of, delivery_of, hand_of, line_of, node_line_of, report_of, space_of, stepped, u16_of, u32_of, u64_of, u8_of, with_none, with_one, with_three, with_two, words_of}
 use Rattle.lines.specs.Operands.{operands_of, spelled}
 use Rattle.lines.specs.Words.{IsTrimmed, behind, digit_count, is_space, starts_number, word_end, word_of}
-use Rattle.lines.proofs.Fronts.{different as different_number, no_digit, take_one, word_number}
+use Rattle.lines.proofs.Fronts.{different as different_number, no_digit, word_number}
 use Rattle.lines.proofs.Spelling.{u16-is, u32-is, u64-is, u8-is}
 use Rattle.lines.proofs.Spelt.{All, One, Three, Two, all_either, one_either, one_map, one_none, operands_are, three_either, three_map, three_none, three_of, two_either, two_map, two_none, two_of}
-use Rattle.lines.proofs.Words.{words_none, words_split}
+use Rattle.lines.proofs.Words.{take_one, words_none, words_split}
 
 one8 : One u8_of
 one8 = record { is = u8-is }

@@ -25,22 +25,30 @@ unfolding is_number
 decimal_below limit n fits =
     let is = decimal_is_IsNumeral n fits in
     let short : length (decimal n) ≤ 20 = length-decimal-le 20 n (omega arith) (omega arith) fits in
-    rw (lt-ltb 0 (length (decimal n)) is.0.0, le-leb (length (decimal n)) MOST_DIGITS short, all_digits (decimal n) is.0.1, is.1) refl
+    rw (
+      lt-ltb 0 (length (decimal n)) is.0.0,
+      le-leb (length (decimal n)) MOST_DIGITS short,
+      all_digits (decimal n) is.0.1,
+      is.1,
+    ) refl
 
 pub u64_of_decimal : (n : ℕ) → n < 2 ^ 64 → u64_of (decimal n) ≡ Some n
 unfolding u64_of
 u64_of_decimal n fits = decimal_below (2 ^ 64) n fits ∙ cond-true _ _ _ (lt-ltb n (2 ^ 64) fits)
 
 -- so a narrower number is there where it fits
-pub u8_of_decimal : (n : ℕ) → n < 2 ^ 64 → u8_of (decimal n) ≡ cond (nat_lt n (2 ^ 8)) (Some n) None
+pub u8_of_decimal : (n : ℕ) → n < 2 ^ 64
+    → u8_of (decimal n) ≡ cond (nat_lt n (2 ^ 8)) (Some n) None
 unfolding u8_of
 u8_of_decimal n fits = decimal_below (2 ^ 8) n fits
 
-pub u16_of_decimal : (n : ℕ) → n < 2 ^ 64 → u16_of (decimal n) ≡ cond (nat_lt n (2 ^ 16)) (Some n) None
+pub u16_of_decimal : (n : ℕ) → n < 2 ^ 64
+    → u16_of (decimal n) ≡ cond (nat_lt n (2 ^ 16)) (Some n) None
 unfolding u16_of
 u16_of_decimal n fits = decimal_below (2 ^ 16) n fits
 
-pub u32_of_decimal : (n : ℕ) → n < 2 ^ 64 → u32_of (decimal n) ≡ cond (nat_lt n (2 ^ 32)) (Some n) None
+pub u32_of_decimal : (n : ℕ) → n < 2 ^ 64
+    → u32_of (decimal n) ≡ cond (nat_lt n (2 ^ 32)) (Some n) None
 unfolding u32_of
 u32_of_decimal n fits = decimal_below (2 ^ 32) n fits
 

@@ -12,7 +12,8 @@ pub record One {X : Type 0} (f : List ℕ → Option X) : Type 0 where
 
 pub record Two {X : Type 0} (f : List ℕ → List ℕ → Option X) : Type 0 where
   pub is : (a b : List ℕ) → f a b
-      ≡ option_and_then (λ x. option_and_then (λ y. f (decimal x) (decimal y)) (u64_of b)) (u64_of a)
+      ≡ option_and_then (λ x. option_and_then (λ y. f (decimal x) (decimal y)) (u64_of b))
+      (u64_of a)
 
 pub record Three {X : Type 0} (f : List ℕ → List ℕ → List ℕ → Option X) : Type 0 where
   pub is : (a b c : List ℕ) → f a b c

@@ -23,12 +23,12 @@ by_first : (b : ℕ) (text : List ℕ) (is : Bool) → is_space b ≡ is
 unfolding words_of
 by_first b text is e = ap (λ (t : Bool). filled (parts_with t b text)) e
 
-drop_one : (b : ℕ) (text : List ℕ) (n : ℕ) → drop (1 + n) (b ∷ text) ≡ drop n text
+pub drop_one : (b : ℕ) (text : List ℕ) (n : ℕ) → drop (1 + n) (b ∷ text) ≡ drop n text
 drop_one b text n =
     let one : 1 + n ≡ suc n = omega arith in
     ap (λ (m : ℕ). drop m (b ∷ text)) one
 
-take_one : (b : ℕ) (text : List ℕ) (n : ℕ) → take (1 + n) (b ∷ text) ≡ b ∷ take n text
+pub take_one : (b : ℕ) (text : List ℕ) (n : ℕ) → take (1 + n) (b ∷ text) ≡ b ∷ take n text
 take_one b text n =
     let one : 1 + n ≡ suc n = omega arith in
     ap (λ (m : ℕ). take m (b ∷ text)) one

@@ -1,6 +1,6 @@
 //! What a line asks of a node, told apart by how many numbers stand behind its verb, and the verb.
 //! Each line is made in the function of its verb, where it stays: a part that was handed on would
-//! be copied.
+//! be copied, so what puts one there is always inlined.
 ghost use Rattle.std.specs.Prelude.{◌≡◌, Some, decimal, option_map};
 ghost use Rattle.model.specs.declared.event.Event.TheVariants as event;
 ghost use Rattle.lines.specs.Grammar.{acted, alone, of_two, of_three, u8_of, u16_of, u32_of, u64_of, with_none, with_one, with_two, with_three};

@@ -1,4 +1,5 @@
-//! The front of a line: its first word, and the number that it spells.
+//! The front of a line: its first word, and the number that it spells. All of it is small and is
+//! always inlined, since a result of several words would else go through memory.
 ghost use Rattle.std.specs.Prelude.{◌≡◌, IfSome, take, option_map};
 ghost use Rattle.std.specs.List.{prefix_len, position_or_len};
 ghost use Rattle.lines.specs.Grammar.{u64_of, value_after};

@@ -17,7 +17,7 @@ pub(crate) enum Operands {
 
 impl Operands {
     /// The numbers that the words of the text spell. None where a word spells none, or more than
-    /// three stand there.
+    /// three stand there. (Inlined, so that what it gives is told apart where it is found.)
     #[inline(always)]
     pub(crate) fn read(text: &str) -> Option<Operands>
         requires { IsTrimmed text.now }

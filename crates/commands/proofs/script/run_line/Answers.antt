@@ -19,7 +19,8 @@ returns-in-Step g c =
     g.S.Space.keeps (λ h r later. TakesLine h l r later) c.args.number c.args.state.now
     c.run_step.new.state (g.W.Write.contents c.args.out.now)
     (g.W.Write.contents c.run_step.new.out)))
-    (ap (λ (l : Line). Some l) (sym c.in-Step.is) ∙ read g (goal.at.returns-in-Step g c).Else-is_none)
+    (ap (λ (l : Line). Some l) (sym c.in-Step.is)
+    ∙ read g (goal.at.returns-in-Step g c).Else-is_none)
     c.run_step.ensures
 
 pub returns-in_default : goal.returns-in_default
