@@ -12,11 +12,15 @@ use std::marker::Model;
 use std::mem;
 use std::snapshot::Snapshot;
 
+// How large the memory of an image may be that is kept for the next one. What is larger is given
+// back: a large node's second image would be memory that nobody needs between its saves.
+const GREATEST_SPARE: usize = 1_048_576;
+
 /// A node as it was saved: the bytes of its image, and nothing else.
 #[derive(Drop)]
 pub struct SavedNode {
     image: Vec<u8>,
-    // The image before it, or no bytes: the next one takes its memory.
+    // The image before it, where that is small, or no bytes: the next one takes its memory.
     spare: Vec<u8>,
     // The node that the image says, for proofs alone: it has no bytes.
     says: Snapshot<Core>,
@@ -59,7 +63,10 @@ impl SavedNode {
         requires { IsImageOf image.items node.now }
         ensures { self.new ≡ node.now }
     {
-        self.spare = mem::replace(&mut self.image, image);
+        let before = mem::replace(&mut self.image, image);
+        if before.capacity() <= GREATEST_SPARE {
+            self.spare = before;
+        }
         self.says = Snapshot::of(node);
     }
 
