@@ -3,9 +3,9 @@
 //!
 //! `specs/Formats.antt` has the formats of numbers, and of what is made of other values: one after
 //! another, one that may be missing, one of several behind a tag, a list. A [`Reader`] takes values
-//! from the front of bytes, and a [`Writer`] is given them one after another, up to a limit. Records
-//! of a few bytes are put together in a [`Piece`] first, so that they are written at once. So a
-//! record is described by one line, and read and written by one function each.
+//! from the front of bytes, and a [`Writer`] is given them one after another, up to a limit.
+//! Records of a few bytes are put together in a [`Piece`] first, so that they are written at once.
+//! So a record is described by one line, and read and written by one function each.
 #![tactic(auto)]
 
 mod piece;

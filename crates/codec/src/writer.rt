@@ -30,8 +30,8 @@ pub struct Writer {
 }
 
 impl Writer {
-    /// A writer of so many bytes at most, in the memory of these, which are let go of. It takes more
-    /// as bytes come, and for the first of them at once.
+    /// A writer of so many bytes at most, in the memory of these, which are let go of. It takes
+    /// more as bytes come, and for the first of them at once.
     pub fn new(bytes: Vec<u8>, limit: u32, first: usize) -> Writer
         ensures limit { result.limit ≡ limit }
         ensures empty { Says result [] }

@@ -1,5 +1,5 @@
-//! A node as it was saved: the bytes of its image, and nothing else. Which node they say, proofs
-//! know by a snapshot that has no bytes.
+//! A node as it was saved: the bytes of its image, and memory for the next one. Which node they
+//! say, proofs know by a snapshot that has no bytes.
 ghost use Rattle.std.specs.Prelude.{◌≡◌, IfOk, IfErr};
 ghost use Rattle.ids.specs.declared.refusal.Refusal.TheVariants.{Memory};
 ghost use Rattle.image.specs.Nodes.{IsImageOf};
@@ -16,7 +16,7 @@ use std::snapshot::Snapshot;
 // back: a large node's second image would be memory that nobody needs between its saves.
 const GREATEST_SPARE: usize = 1_048_576;
 
-/// A node as it was saved: the bytes of its image, and nothing else.
+/// A node as it was saved: the bytes of its image, and memory for the next one.
 #[derive(Drop)]
 pub struct SavedNode {
     image: Vec<u8>,
