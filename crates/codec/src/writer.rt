@@ -38,10 +38,15 @@ impl Writer {
     {
         let mut bytes = bytes;
         bytes.clear();
-        // (where that is refused, memory is asked for again as the bytes come)
-        let _ = bytes.reserve(first);
-        let kept = Kept::All;
-        Writer { bytes, limit, kept }
+        let mut writer = Writer {
+            bytes,
+            limit,
+            kept: Kept::All,
+        };
+        if writer.bytes.reserve(first).is_err() {
+            writer.give_up(Kept::Counted(0));
+        }
+        writer
     }
 
     /// Appends the bytes.
