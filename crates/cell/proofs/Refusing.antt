@@ -17,7 +17,7 @@ use Rattle.node.specs.Keeping.{WholeNode, waiting}
 use Rattle.wire.specs.Readers.{inbox, known}
 use Rattle.wire.specs.Views.{Known}
 use Rattle.cell.specs.Cells.{CellView}
-use Rattle.cell.specs.declared.pumped.Inbound.{Inbound}
+use Rattle.wire.specs.declared.pumped.Inbound.{Inbound}
 use Rattle.cell.specs.Events.{emptied, Handled}
 use Rattle.cell.specs.Pumping.{PumpedBy, PumpedIn}
 use Rattle.model.specs.Effects.{Effect}

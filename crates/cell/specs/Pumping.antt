@@ -19,10 +19,10 @@ use Rattle.wire.specs.Plays.{Arrives, IsReleased}
 use Rattle.wire.specs.Readers.{inbox, known}
 use Rattle.wire.specs.Views.{Known, FindsOther}
 use Rattle.cell.specs.Cells.{CellView}
-use Rattle.cell.specs.declared.pumped.Inbound.{Inbound}
-use Rattle.cell.specs.declared.pumped.Inbound.TheVariants as inbound
-use Rattle.cell.specs.declared.pumped.Outbound.{Outbound}
-use Rattle.cell.specs.declared.pumped.Outbound.TheVariants as outbound
+use Rattle.wire.specs.declared.pumped.Inbound.{Inbound}
+use Rattle.wire.specs.declared.pumped.Inbound.TheVariants as inbound
+use Rattle.wire.specs.declared.pumped.Outbound.{Outbound}
+use Rattle.wire.specs.declared.pumped.Outbound.TheVariants as outbound
 use Rattle.cell.specs.Events.{emptied, event_of, outcome_of, Given, Handled}
 
 -- The seat took a frame from that node, to its own, which some list of events that leads to the

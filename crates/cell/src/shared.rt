@@ -8,14 +8,14 @@ ghost use Rattle.wire.specs.Readers.{IsSeatOf};
 ghost use Rattle.cell.specs.Names.{name_of, raised_on, seat_name, IsNamed};
 
 use crate::cell::Cell;
-use crate::pumped::{Inbound, Outbound};
 use disk::Disk;
 use ids::Refusal;
 use model::{Answer, Event};
 use std::alloc::Global;
 use std::marker::{Brand, PhantomData};
 use std::sync::{Arc, Mutex, Wait};
-use wire::{Raised, Wire};
+use wire::{Inbound, Outbound, Raised, Wire};
+use workers::Site;
 
 /// Names a wire in proofs, so that what was raised through one shared cell can be told to a watch
 /// of the same wire.
@@ -194,5 +194,31 @@ impl<D: Disk, W: Naming> SharedOn<D, W> {
         ensures refused { IfErr result (λ e. e ≡ refusal.Memory) }
     {
         self.held.lock(rt).trace_lines()
+    }
+}
+
+impl<D: Disk, W: Naming> Site for SharedOn<D, W> {
+    fn pump_in<R: Wait>(&self, rt: &R, from: u8) -> Result<Inbound, Refusal> {
+        SharedOn::pump_in(self, rt, from)
+    }
+
+    fn act<R: Wait>(&self, rt: &R, event: Event) -> Result<Answer, Refusal> {
+        SharedOn::act(self, rt, event)
+    }
+
+    fn unsaved<R: Wait>(&self, rt: &R) -> bool {
+        SharedOn::unsaved(self, rt)
+    }
+
+    fn save<R: Wait>(&self, rt: &R) -> Result<(), Refusal> {
+        SharedOn::save(self, rt)
+    }
+
+    fn pump_out<R: Wait>(&self, rt: &R, to: u8) -> Result<Outbound, Refusal> {
+        SharedOn::pump_out(self, rt, to)
+    }
+
+    fn raise<R: Wait>(&self, rt: &R) -> Result<Raised, Refusal> {
+        SharedOn::raise(self, rt)
     }
 }

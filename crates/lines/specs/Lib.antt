@@ -1,5 +1,6 @@
 pub mod Endings
 pub mod Grammar
 pub mod Operands
+pub mod RunLines
 pub mod Text
 pub mod Words

@@ -1,4 +1,5 @@
-//! One line of a script: what it says, and how what it comes to is printed.
+//! One line of a script, over one thread or over node threads: what it says, and how what it comes
+//! to is printed.
 #![tactic(auto)]
 
 mod asking;
@@ -7,8 +8,10 @@ mod front;
 mod line;
 mod operands;
 mod printing;
+mod run_line;
 mod text;
 
 pub use line::{Line, read_u8, read_u16};
 pub use printing::{print_outcome, print_report};
+pub use run_line::RunLine;
 pub use text::{OutcomeText, SummaryText, answer_text};

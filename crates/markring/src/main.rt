@@ -4,7 +4,6 @@
 
 ghost use Rattle.std.specs.Prelude.{◌≤◌, IfOk};
 
-mod run_line;
 mod running;
 
 use commands::{Command, REFUSED, WordsError, decode, print_refused_words, print_unread, sim};

@@ -5,11 +5,10 @@ ghost use Rattle.std.specs.Arc.{arc_value};
 ghost use Rattle.model.specs.Steps.{is_own};
 ghost use Rattle.wire.specs.Readers.{IsWatchOf};
 
-use crate::run_line::RunLine;
 use commands::{DONE, REFUSED, UNREADABLE, print_unread};
 use disk::{Disk, FileDisk, MemoryDisk};
 use ids::Refusal;
-use lines::OutcomeText;
+use lines::{OutcomeText, RunLine};
 use model::{Answer, Event, Outcome};
 use std::alloc::Global;
 use std::fs::File;

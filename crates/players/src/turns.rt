@@ -1,14 +1,13 @@
 //! Turns of a worker over a site that notes what it is asked, and answers from a script. So the
 //! calls of a turn are seen in their order.
 use cases::{Line, Out, Stop, read};
-use cell::{Inbound, Outbound};
 use ids::{Ref, Refusal};
 use model::{Answer, Event};
 use std::alloc::Global;
 use std::cell::{Cell, RefCell};
 use std::fmt::Display;
 use std::sync::Wait;
-use wire::Raised;
+use wire::{Inbound, Outbound, Raised};
 use workers::{Gate, Point, Site, turn_node};
 
 // Notes each call, and each point at which it is asked as a gate.

@@ -28,9 +28,11 @@ mod dealing;
 mod history;
 mod mailboxes;
 mod plays;
+mod pumped;
 mod seats;
 mod truth;
 mod views;
 
+pub use pumped::{Inbound, Outbound};
 pub use seats::{Claim, NodeSeat, Raised, Taken, Watch, Wire};
 pub use truth::laws;

@@ -6,13 +6,13 @@ ghost use Rattle.wire.specs.Readers.{IsSeatOf, IsWatchOf};
 
 use cases::nodes::{InNumbers, put_frame, put_image};
 use cases::{Line, Out, Stop, blank_disks, node_on, own_event_of, read};
-use cell::{Cell, Inbound, Outbound, Unopened};
+use cell::{Cell, Unopened};
 use disk::MemoryDisk;
 use ids::{Refusal, Shape};
 use model::{Answer, Event};
 use node::Node;
 use std::alloc::Global;
-use wire::{Watch, Wire};
+use wire::{Inbound, Outbound, Watch, Wire};
 
 // A cell, with the wire on which it sits.
 #[derive(Drop)]

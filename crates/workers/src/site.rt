@@ -1,14 +1,12 @@
 //! What a worker's turn calls. Turns are proved over any such site, so nothing of them rests on how
-//! a cell is shared.
+//! a cell is shared, or on cells at all.
 ghost use Rattle.std.specs.Prelude.{◌≡◌, true};
 ghost use Rattle.model.specs.Steps.{is_own};
 
-use cell::{Inbound, Naming, Outbound, SharedOn};
-use disk::Disk;
 use ids::Refusal;
 use model::{Answer, Event};
 use std::sync::Wait;
-use wire::Raised;
+use wire::{Inbound, Outbound, Raised};
 
 /// A node with its disk, as several threads share it: each call is one event of it, or none, and
 /// each may wait for another thread's.
@@ -31,30 +29,4 @@ pub trait Site {
 
     /// Shows on the board what the node, as saved, counts as ended.
     fn raise<R: Wait>(&self, rt: &R) -> Result<Raised, Refusal>;
-}
-
-impl<D: Disk, W: Naming> Site for SharedOn<D, W> {
-    fn pump_in<R: Wait>(&self, rt: &R, from: u8) -> Result<Inbound, Refusal> {
-        SharedOn::pump_in(self, rt, from)
-    }
-
-    fn act<R: Wait>(&self, rt: &R, event: Event) -> Result<Answer, Refusal> {
-        SharedOn::act(self, rt, event)
-    }
-
-    fn unsaved<R: Wait>(&self, rt: &R) -> bool {
-        SharedOn::unsaved(self, rt)
-    }
-
-    fn save<R: Wait>(&self, rt: &R) -> Result<(), Refusal> {
-        SharedOn::save(self, rt)
-    }
-
-    fn pump_out<R: Wait>(&self, rt: &R, to: u8) -> Result<Outbound, Refusal> {
-        SharedOn::pump_out(self, rt, to)
-    }
-
-    fn raise<R: Wait>(&self, rt: &R) -> Result<Raised, Refusal> {
-        SharedOn::raise(self, rt)
-    }
 }

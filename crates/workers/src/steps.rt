@@ -8,10 +8,10 @@ ghost use Rattle.workers.specs.declared.calls.Call.TheVariants as call;
 use crate::calls::{Call, Past, note};
 use crate::gate::{Gate, Point, Stage};
 use crate::site::Site;
-use cell::Inbound;
 use model::{Answer, Event};
 use std::snapshot::Snapshot;
 use std::sync::Wait;
+use wire::Inbound;
 
 // How many objects a turn scans at most.
 const SCANS: u8 = 8;

@@ -24,14 +24,13 @@ ghost use Rattle.cell.specs.Pumping.{is_out, FoundEmpty, PumpedIn, TookFrom};
 ghost use Rattle.cell.specs.Sending.{frame_due, places_after, IsSent};
 
 use super::Cell;
-use crate::pumped::{Inbound, Outbound};
 use crate::tracing::outcome;
 use disk::Disk;
 use ids::Refusal;
 use model::{Answer, Event};
 use msg::Frame;
 use trace::Call;
-use wire::Wire;
+use wire::{Inbound, Outbound, Wire};
 
 // The event that a frame is.
 fn event_of(frame: Frame) -> Event
