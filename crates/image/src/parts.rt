@@ -1,6 +1,6 @@
 //! A node as the parts that its image says. It may be no node's: which parts are one, the node
 //! itself says when it is made of them.
-use heap::{Object, Slot};
+use heap::{Object, Slots};
 use ids::Ref;
 use model::Letter;
 use msg::{Colour, Message, Token};
@@ -67,7 +67,7 @@ pub(crate) struct NodeParts {
     /// At node 0 what each other node reported to have swept, in ascending order; elsewhere none.
     pub reports: Vec<u64>,
     pub registers: Vec<Option<Ref>>,
-    pub slots: Vec<Slot<Object>>,
+    pub slots: Slots<Object>,
     /// The free slots, the next to be used first.
     pub free: Vec<u32>,
     /// The slots of the marked objects that are still to be scanned; the last is scanned first.

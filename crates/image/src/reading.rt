@@ -3,7 +3,7 @@
 ghost use Rattle.std.specs.Prelude.{◌≡◌, ◌≤◌, ◌==◌, ◌&&◌, length, Some, IfOk, IfErr};
 ghost use Rattle.ids.specs.declared.refusal.Refusal.TheVariants.{BadImage, Memory};
 ghost use Rattle.ids.specs.declared.limits.TheConstants.{GREATEST_PLACES};
-ghost use Rattle.codec.specs.Formats.{whole_at};
+ghost use Rattle.codec.specs.Formats.{many, whole_at};
 ghost use Rattle.codec.specs.Reading.{Gives};
 ghost use Rattle.codec.specs.Readers.{Reads, Takes};
 ghost use Rattle.image.specs.Grammar.{reports_told, version_format, start_format, most_nodes};
@@ -19,7 +19,7 @@ use crate::lists::{Readable, counted, many};
 use crate::parts::{Head, NodeParts, PhasesParts, RingParts, StoredLink};
 use crate::tags::{ABSENT, FIRST, FREE, OCCUPIED, PRESENT, RETIRED, SECOND, START};
 use codec::Reader;
-use heap::{Object, Slot};
+use heap::{Object, Slot, Slots};
 use ids::{FIRST_VERSION_NODES, GREATEST_NODES, GREATEST_PLACES, Ref, Refusal};
 use model::Letter;
 use msg::reading::{
@@ -216,6 +216,22 @@ fn read_occupied(
     Ok(Slot::Occupied(generation, object))
 }
 
+#[tactic(auto, unfolding(crate::specs::Grammar::slot_format), using(crate::proofs::Joins::tags))]
+fn read_slot(alloc: Global, version: Version, reader: &mut Reader) -> Result<Slot<Object>, Refusal>
+    ensures value { IfOk result (Reads (slot_format version) reader.old reader.new) }
+    ensures refused { IfErr result (λ e. e ≡ Memory) }
+{
+    match reader.u8() {
+        FREE => Ok(Slot::Free(read_generation(reader, version))),
+        OCCUPIED => read_occupied(alloc, version, reader),
+        RETIRED => Ok(Slot::Retired),
+        _ => {
+            reader.fail();
+            Ok(Slot::Retired)
+        }
+    }
+}
+
 impl Readable for Ref {
     ghost format = { near };
 
@@ -260,23 +276,6 @@ impl Readable for Message {
         let body = read_body(reader, version);
         reader.check(body_fits(body));
         Ok(Message { stamp, body })
-    }
-}
-
-impl Readable for Slot<Object> {
-    ghost format = { slot_format };
-
-    #[tactic(auto, unfolding(crate::specs::Grammar::slot_format), using(crate::proofs::Joins::tags))]
-    fn read(alloc: Global, version: Version, reader: &mut Reader) -> Result<Slot<Object>, Refusal> {
-        match reader.u8() {
-            FREE => Ok(Slot::Free(read_generation(reader, version))),
-            OCCUPIED => read_occupied(alloc, version, reader),
-            RETIRED => Ok(Slot::Retired),
-            _ => {
-                reader.fail();
-                Ok(Slot::Retired)
-            }
-        }
     }
 }
 
@@ -335,18 +334,43 @@ fn read_told(
     Ok((reports, registers))
 }
 
+// So many slots, up to the first one that isn't there. Where the bytes are fewer than the slots, the
+// reader fails without taking memory.
+#[tactic(auto, using(crate::proofs::Joins::lists))]
+fn read_each_slot(
+    alloc: Global,
+    version: Version,
+    count: u32,
+    reader: &mut Reader,
+) -> Result<Slots<Object>, Refusal>
+    ensures value { IfOk result
+        (λ s. Reads (many (slot_format version) count) reader.old reader.new s.items) }
+    ensures refused { IfErr result (λ e. e ≡ Memory) }
+{
+    let mut slots = Slots::new(alloc, count);
+    reader.require(count as usize);
+    for _slot in 0..count {
+        if !reader.is_open() {
+            break;
+        }
+        slots.push(read_slot(alloc, version, reader)?)?;
+    }
+    Ok(slots)
+}
+
 // The slots, and which of them are free and which grey.
-#[tactic(auto, unfolding(crate::specs::Grammar::slots_format), using(crate::proofs::Joins::both_read))]
+#[tactic(auto, unfolding(crate::specs::Grammar::slots_format), using(crate::proofs::Joins::both_read, crate::proofs::Joins::counted_read))]
 fn read_slots(
     alloc: Global,
     version: Version,
     reader: &mut Reader,
-) -> Result<(Vec<Slot<Object>>, (Vec<u32>, Vec<u32>)), Refusal>
+) -> Result<(Slots<Object>, (Vec<u32>, Vec<u32>)), Refusal>
     ensures value { IfOk result (λ x. Reads (slots_format version) reader.old reader.new
         (x.0.items, (x.1.0.items, x.1.1.items))) }
     ensures refused { IfErr result (λ e. e ≡ Memory) }
 {
-    let slots = counted(alloc, version, reader)?;
+    let count = reader.u32();
+    let slots = read_each_slot(alloc, version, count, reader)?;
     let free = counted(alloc, version, reader)?;
     let grey = counted(alloc, version, reader)?;
     Ok((slots, (free, grey)))
