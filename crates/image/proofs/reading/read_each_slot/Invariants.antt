@@ -4,8 +4,8 @@ use Rattle.codec.proofs.Readers.{ReadsFirst}
 use Rattle.image.specs.Grammar.{slot_format}
 use Rattle.image.proofs.reading.read_each_slot.Given as goal
 
-abbrev pub invariant-loop-_slot : goal.invariant-loop-_slot
-invariant-loop-_slot l = record {
+abbrev pub invariant-loop-slot : goal.invariant-loop-slot
+invariant-loop-slot l = record {
   read : ReadsFirst (slot_format l.version) l.initial.reader l.reader l.slots.items
       (l.count - l._slot) l.count;
   count : length l.slots.items ≡ l._slot;

@@ -97,7 +97,7 @@ fn are_letters(shape: Shape, own: u8, letters: &VecDeque<Letter>) -> bool
 
 #[inline(always)]
 fn is_slot(shape: Shape, cycle: u64, slot: Slot<&Object>) -> bool
-    ensures { result ≡ is_slot shape cycle (slot_of (slot_read slot)) }
+    ensures { result ≡ is_slot shape cycle (slot_of (slot_read slot.entry)) }
 {
     match slot {
         Slot::Free(generation) => generation >= 2,
