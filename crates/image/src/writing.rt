@@ -8,7 +8,7 @@ ghost use Rattle.image.specs.Grammar.{head_format, phases_format, held_format};
 ghost use Rattle.image.specs.Grammar.{ring_format, front_format, told_format, slots_format};
 ghost use Rattle.image.specs.Grammar.{others_format, stored_format, image_format};
 ghost use Rattle.image.specs.Grammar.{front_of, told_of, slots_of, others_of};
-ghost use Rattle.image.specs.Images.{phases_by, ring_by, stored_by};
+ghost use Rattle.image.specs.Images.{phases_by, stored_by};
 
 use crate::links::put_links;
 use crate::lists::{put_all, put_counted, put_registers};
@@ -68,7 +68,7 @@ fn add_held(piece: &mut Piece, held: Option<Token>)
 #[inline(always)]
 fn add_ring(piece: &mut Piece, ring: Ring)
     requires { length piece.old + 27 ≤ GREATEST_PIECE }
-    ensures { Adds ring_format 27 piece.old piece.new (ring_by ring) }
+    ensures { Adds ring_format 27 piece.old piece.new ring }
 {
     add_colour(piece, ring.colour());
     piece.i64(ring.earlier());

@@ -3,12 +3,14 @@
 
 mod asking;
 mod ending;
+mod frames;
 mod front;
 mod line;
 mod operands;
 mod printing;
 mod text;
 
+pub use frames::FrameText;
 pub use line::{Line, read_u8, read_u16};
 pub use printing::{print_outcome, print_report};
 pub use text::{OutcomeText, SummaryText, answer_text};
