@@ -1,17 +1,17 @@
 -- What the steps by which an arena is made keep and find.
 use Rattle.std.proofs.Common.{◌≡◌, ◌≢◌, ℕ, zero, suc, ◌-◌, ◌^◌, ◌<◌, ◌≤◌, List, [], ◌∷◌, ◌++◌, map}
-use Rattle.std.proofs.Common.{length, get_or, set, drop, count_by, true, false, lit<}
+use Rattle.std.proofs.Common.{length, get_or, set, drop, count_by, cond, Bool, ◌+◌, true, false, lit<}
+use Rattle.std.specs.Prelude.{IsTrue, ◌↔◌, ◌&&◌}
 use Rattle.std.proofs.Common.{refl, sym, ap, ◌∙◌, subst, inl, inr, arith, true≢false}
-use Rattle.std.proofs.lemmas.Bool.{cases_lt, ne_eqb}
-use Rattle.std.proofs.Math.ListN.{get_or-map}
-use Rattle.std.proofs.Math.Seq.{map-set_same, drop-nil, drop-cons, get_or-append_seam}
-use Rattle.std.proofs.lemmas.List.{get_or_past, get_or_read, get_or-set_same}
-use Rattle.arena.specs.Arena.{Has, Once, IsFree, IsBorn, IsSound, Refuses, plain, is_occupied}
+use Rattle.std.proofs.lemmas.Bool.{cases_lt, ne_eqb, and_parts, and_from, cases_Bool}
+use Rattle.std.proofs.Math.ListN.{get_or-map, length-append}
+use Rattle.std.proofs.lemmas.List.Sums.{sum_by-set, sum_by-cons, sum_by_push, count_by-le-length}
+use Rattle.std.proofs.Math.Seq.{map-set_same, drop-nil, drop-cons}
+use Rattle.std.proofs.lemmas.List.{get_or_past, get_or_read, get_or-set_same, map_push, length-map}
+use Rattle.arena.specs.Arena.{Has, Once, IsFree, IsBorn, IsSound, plain, is_occupied}
 use Rattle.arena.specs.Entry.{slot_of, next_of, chain, arena_of, IsLinked}
-use Rattle.arena.specs.Made.{unlinked_of, is_unlinked, linked_to, entry_at, IsLinking}
+use Rattle.arena.specs.Made.{unlinked_of, is_unlinked, linked_to, entry_at, AreCounted, IsLinking}
 use Rattle.arena.specs.Row.{Row, row}
-use Rattle.arena.specs.declared.Fault.{Fault}
-use Rattle.arena.specs.declared.Fault.TheVariants.{Full, Memory, Shape}
 use Rattle.arena.specs.declared.Slot.{Slot}
 use Rattle.arena.specs.declared.Slot.TheVariants as slot
 use Rattle.arena.specs.declared.entry.Entry.{Entry}
@@ -46,23 +46,14 @@ module _ {T : Type 0} where
   slot-unlinked (slot.Occupied g x) = refl
   slot-unlinked slot.Retired = refl
 
-  -- the entries of slots are seen as these slots
-  pub slots-unlinked : (ss : List (Slot T)) → map slot_of (map unlinked_of ss) ≡ ss
-  slots-unlinked [] = refl
-  slots-unlinked (s ∷ ss) = rw (slot-unlinked s) (ap (λ rest. s ∷ rest) (slots-unlinked ss))
-
-  pub seen_after : (ss : List (Slot T)) {r : Row (Entry T)} {limit : ℕ}
-      → r ≡ row (map unlinked_of ss) limit → map slot_of r.items ≡ ss
-  seen_after ss is = rw is (slots-unlinked ss)
-
   free_unlinked : (s : Slot T) → IsFree (slot_of (unlinked_of s))
       → is_unlinked (unlinked_of s) ≡ true
   free_unlinked (slot.Free g) free = refl
   free_unlinked (slot.Occupied g x) free = absurd free
   free_unlinked slot.Retired free = absurd free
 
-  -- a slot more, with a generation of its own
-  pub born_push : (ss : List (Slot T)) (s : Slot T)
+  -- a slot more, and whether each generation is at least the first
+  born_push : (ss : List (Slot T)) (s : Slot T)
       → ((i : ℕ) → IsBorn (get_or ss i slot.Retired)) → IsBorn s → (i : ℕ)
       → IsBorn (get_or (ss ++ s ∷ []) i slot.Retired)
   born_push [] s all born zero = born
@@ -70,21 +61,65 @@ module _ {T : Type 0} where
   born_push (x ∷ ss) s all born zero = all 0
   born_push (x ∷ ss) s all born (suc i) = born_push ss s (λ j. all (suc j)) born i
 
-  -- the next of the slots that are left is the one after those that came
-  pub comes_after : (came rest others all : List (Slot T)) (s : Slot T) → came ++ rest ≡ all
-      → rest ≡ s ∷ others → get_or all (length came) slot.Retired ≡ s
-  comes_after came rest others all s is left =
-      ap (λ xs. get_or xs (length came) slot.Retired) (sym is ∙ ap (λ xs. came ++ xs) left)
-      ∙ get_or-append_seam came s others slot.Retired
+  born_before : (ss : List (Slot T)) (s : Slot T)
+      → ((i : ℕ) → IsBorn (get_or (ss ++ s ∷ []) i slot.Retired)) → (i : ℕ)
+      → IsBorn (get_or ss i slot.Retired)
+  born_before [] s all i = tt
+  born_before (x ∷ ss) s all zero = all 0
+  born_before (x ∷ ss) s all (suc i) = born_before ss s (λ j. all (suc j)) i
 
-  -- a slot without a generation of its own is a cause to refuse
-  pub refuses_birth : (ss : List (Slot T)) (s : Slot T) (k : ℕ) → get_or ss k slot.Retired ≡ s
-      → (f : Fault) → (f ≢ Memory → (f ≡ Shape) × (IsBorn s → ⊥)) → (free : List ℕ) (limit : ℕ)
-      → Refuses (plain ss free limit) f
-  refuses_birth ss s k at Full cause free limit = let same = (cause (λ same. cc)).0 in absurd cc
-  refuses_birth ss s k at Memory cause free limit = tt
-  refuses_birth ss s k at Shape cause free limit =
-      λ sound. (cause (λ same. cc)).1 (subst IsBorn at (sound.born k))
+  born_last : (ss : List (Slot T)) (s : Slot T)
+      → ((i : ℕ) → IsBorn (get_or (ss ++ s ∷ []) i slot.Retired)) → IsBorn s
+  born_last [] s all = all 0
+  born_last (x ∷ ss) s all = born_last ss s (λ j. all (suc j))
+
+  pub slots_more : (es : List (Entry T)) (s : Slot T)
+      → map slot_of (es ++ unlinked_of s ∷ []) ≡ map slot_of es ++ s ∷ []
+  slots_more es s = rw (map_push slot_of es (unlinked_of s), slot-unlinked s) refl
+
+  -- one more of the entries of slots
+  pub counted_more : {es : Row (Entry T)} {occupied vacant : ℕ} {born : Bool}
+      → AreCounted es occupied vacant born → (s : Slot T) (b : Bool) → IsTrue b ↔ IsBorn s
+      → length (map slot_of es.items) < es.capacity
+      → AreCounted (row (es.items ++ unlinked_of s ∷ []) es.capacity)
+      (occupied + cond (is_occupied s) 1 0) (vacant + cond (is_unlinked (unlinked_of s)) 1 0)
+      (born && b)
+  counted_more {es} {occupied} {vacant} {born} before s b is room =
+      let ss = map slot_of es.items in
+      record {
+        unlinked = rw (slots_more es.items s, map_push unlinked_of ss s, ← before.unlinked) refl;
+        occupied_ones = rw (slots_more es.items s, before.occupied_ones)
+            (sym (sum_by_push (λ (x : Slot T). cond (is_occupied x) 1 0) ss s));
+        vacant_ones = rw before.vacant_ones
+            (sym (sum_by_push (λ (e : Entry T). cond (is_unlinked e) 1 0) es.items (unlinked_of s)));
+        all_born = rw (slots_more es.items s) (
+          λ both.
+              let two = and_parts born b both in
+              born_push ss s (before.all_born.0 two.0) (is.0 two.1),
+          λ all.
+              and_from born b (before.all_born.1 (born_before ss s all)) (is.1 (born_last ss s all)),
+        );
+        within = omega (
+          arith,
+          room,
+          length-map es.items slot_of,
+          length-append es.items (unlinked_of s ∷ []),
+        );
+        short = before.short;
+      }
+
+  -- the count of those that aren't linked is below the limit
+  pub counts_fit : {es : Row (Entry T)} {occupied vacant : ℕ} {born : Bool}
+      → AreCounted es occupied vacant born → (occupied ≤ length es.items) × (vacant ≤ length es.items)
+  counts_fit {es} is = (
+    omega (
+      arith,
+      is.occupied_ones,
+      count_by-le-length is_occupied (map slot_of es.items),
+      length-map es.items slot_of,
+    ),
+    omega (arith, is.vacant_ones, count_by-le-length is_unlinked es.items),
+  )
 
   -- at first none is linked
   pub starts : (ss : List (Slot T)) → IsLinking (map unlinked_of ss) [] 0
@@ -139,6 +174,8 @@ module _ {T : Type 0} where
   pub record LinksOne (es : List (Entry T)) (rest : List ℕ) (first k : ℕ) : Type 0 where
     pub linking : IsLinking (set es k (linked_to (entry_at es k) first)) (k ∷ rest) k
     pub slots : map slot_of (set es k (linked_to (entry_at es k) first)) ≡ map slot_of es
+    pub counted : count_by is_unlinked (set es k (linked_to (entry_at es k) first)) + 1
+        ≡ count_by is_unlinked es
 
   pub links_one : {es : List (Entry T)} {rest : List ℕ} {first : ℕ} → IsLinking es rest first
       → (k : ℕ) → is_unlinked (entry_at es k) ≡ true → length es < 2 ^ 32
@@ -181,6 +218,10 @@ module _ {T : Type 0} where
           below = omega arith;
         };
         slots = map-set_same slot_of es k e Retired (slot-linked (entry_at es k) first);
+        counted =
+            let one = sum_by-set (λ (x : Entry T). cond (is_unlinked x) 1 0) es k e Retired within in
+            let apart : is_unlinked e ≡ false = linked_apart (entry_at es k) first linking.below in
+            omega (arith, rw (unlinked, apart) at one);
       }
 
   slot_seen : (es : List (Entry T)) (i : ℕ)
@@ -196,6 +237,36 @@ module _ {T : Type 0} where
       let free = rw (slot_seen es k) at (sound.named k there) in
       let once : Once (k ∷ rest) = rw ends at (Once-drop ks n sound.once) in
       once.0 (linking.unmarked k free linked)
+
+  -- where some aren't linked, there is one
+  pub some_unlinked : (es : List (Entry T)) → 0 < count_by is_unlinked es
+      → (i : ℕ) × (is_unlinked (entry_at es i) ≡ true)
+  some_unlinked [] some = absurd (omega (arith, some))
+  some_unlinked (e ∷ es) some =
+      elim (cases_Bool (is_unlinked e)) [
+        | inl is ↦ (0, is)
+        | inr not ↦ let other = some_unlinked es (rw not at some) in (suc other.0, other.1)
+      ]
+
+  linked_behind : (e : Entry T) (es : List (Entry T)) → is_unlinked e ≡ false
+      → ((i : ℕ) → is_unlinked (entry_at es i) ≡ false) → (i : ℕ)
+      → is_unlinked (entry_at (e ∷ es) i) ≡ false
+  linked_behind e es not rest zero = not
+  linked_behind e es not rest (suc i) = rest i
+
+  pub none_unlinked : (es : List (Entry T)) → count_by is_unlinked es ≡ 0 → (i : ℕ)
+      → is_unlinked (entry_at es i) ≡ false
+  none_unlinked [] none i = refl
+  none_unlinked (e ∷ es) none i =
+      elim (cases_Bool (is_unlinked e)) [
+        | inl is ↦
+            let all : count_by is_unlinked (e ∷ es)
+            ≡ cond (is_unlinked e) 1 0 + count_by is_unlinked es =
+            sum_by-cons (λ (x : Entry T). cond (is_unlinked x) 1 0) e es in
+            let one : ◌≡◌ {A = ℕ} (cond (is_unlinked e) 1 0) 1 = rw is refl in
+            absurd (omega (arith, all, one, none))
+        | inr not ↦ linked_behind e es not (none_unlinked es (rw not at none)) i
+      ]
 
   -- a free slot that the list doesn't name: the list is a wrong one
   pub misses : {es : List (Entry T)} {ks : List ℕ} {first : ℕ} → IsLinking es ks first → (i : ℕ)

@@ -114,12 +114,6 @@ module _ {T : Type 0} where
   IsFaultOf a Memory = (is_full a ≡ false) × (a.free ≡ [])
   IsFaultOf a Shape = ⊥
 
-  -- what the parts of an arena are refused for; memory may be missing for any
-  abbrev pub Refuses : Arena T → Fault → Type 0
-  Refuses a Full = ⊥
-  Refuses a Memory = ⊤
-  Refuses a Shape = IsSound a → ⊥
-
   -- the slot with the value that is borrowed
   abbrev pub slot_read : Slot (Bor T) → Slot T
   slot_read (Free g) = Free g

@@ -1,7 +1,8 @@
 -- How an `Arena` is made of its slots and its free list. No public clause cites this module.
-use Rattle.std.specs.Prelude.{◌≡◌, ℕ, ◌<◌, Bool, false, ◌==◌, List, length}
-use Rattle.std.specs.Prelude.{slice_index_or}
-use Rattle.arena.specs.Arena.{Has, Once, IsFree}
+use Rattle.std.specs.Prelude.{◌≡◌, ℕ, ◌^◌, ◌<◌, ◌≤◌, Bool, false, ◌==◌, List, length, map, count_by}
+use Rattle.std.specs.Prelude.{slice_index_or, IsTrue, ◌↔◌}
+use Rattle.arena.specs.Arena.{Has, Once, IsFree, IsBorn, is_occupied}
+use Rattle.arena.specs.Row.{Row}
 use Rattle.arena.specs.Entry.{slot_of, chain}
 use Rattle.arena.specs.declared.Slot.{Slot}
 use Rattle.arena.specs.declared.Slot.TheVariants as slot
@@ -26,6 +27,16 @@ module _ {T : Type 0} where
   linked_to (Free g old) next = Free g next
   linked_to (Occupied g x) next = Occupied g x
   linked_to Retired next = Retired
+
+  -- the entries of slots, of which none is linked, and what is told of them
+  pub record AreCounted (es : Row (Entry T)) (occupied vacant : ℕ) (born : Bool) : Type 0 where
+    pub unlinked : es.items ≡ map unlinked_of (map slot_of es.items)
+    pub occupied_ones : occupied ≡ count_by is_occupied (map slot_of es.items)
+    pub vacant_ones : vacant ≡ count_by is_unlinked es.items
+    pub all_born : IsTrue born
+        ↔ ((i : ℕ) → IsBorn (slice_index_or (map slot_of es.items) i slot.Retired))
+    pub within : length es.items ≤ es.capacity
+    pub short : es.capacity < 2 ^ 32
 
   abbrev pub entry_at : List (Entry T) → ℕ → Entry T
   entry_at es i = slice_index_or es i Retired

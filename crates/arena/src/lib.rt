@@ -36,7 +36,8 @@ ghost use Rattle.std.specs.Option.{option_copied_mut};
 ghost use Rattle.std.specs.Borrow.{sem};
 ghost use Rattle.arena.specs.Arena.{IsSound, IsFaultOf, IsKey, get, key_at, generation_at, next_key};
 ghost use Rattle.arena.specs.Arena.{inserted, removed, occupied_count, is_full};
-ghost use Rattle.arena.specs.Arena.{slot_at, slot_read, plain, Refuses};
+ghost use Rattle.arena.specs.Arena.{slot_at, slot_read, plain};
+ghost use Rattle.arena.specs.declared.Fault.TheVariants.{Shape};
 
 mod block;
 mod chunk;
@@ -48,7 +49,7 @@ mod store;
 
 use crate::entry::Entry;
 pub use crate::free::FreeSlots;
-use crate::made::Filled;
+pub use crate::made::Slots;
 use crate::store::Store;
 use ids::{GREATEST_GENERATION, Generation};
 use std::alloc::Global;
@@ -145,36 +146,29 @@ impl<T> Arena<T> {
     /// will use at most `limit` slots.
     ///
     /// It answers [`Fault::Shape`] where there are more slots than the limit, a generation is below
-    /// [`FIRST_GENERATION`], or the list isn't exactly the free slots, each once; and
-    /// [`Fault::Memory`] where there was no memory for the slots, whatever they are. What it
-    /// refuses is dropped. It takes time for each slot, and for each number of the list.
-    pub fn from_slots(
-        alloc: Global,
-        limit: u32,
-        slots: Vec<Slot<T>>,
-        free: &[u32],
-    ) -> Result<Self, Fault>
+    /// [`FIRST_GENERATION`], or the list isn't exactly the free slots, each once; and no other
+    /// fault. What it refuses is dropped. It takes no memory, and time for each number of the list.
+    pub fn from_slots(limit: u32, slots: Slots<T>, free: &[u32]) -> Result<Self, Fault>
     where
         T: Drop,
         ensures made { IfOk result (λ a. a ≡ plain slots.items free.now limit) }
         ensures sound { OnOk result (IsSound (plain slots.items free.now limit)) }
-        ensures refused { IfErr result (Refuses (plain slots.items free.now limit)) }
+        ensures refused { IfErr result
+            (λ f. (f ≡ Shape) × (IsSound (plain slots.items free.now limit) → ⊥)) }
     {
-        if slots.len() > limit as usize {
+        let (entries, occupied, vacant, born) = slots.parts();
+        if !born || entries.len() > limit as usize {
             return Err(Fault::Shape);
         }
-        let Filled {
-            mut entries,
-            occupied,
-        } = Filled::new(alloc, limit, slots)?;
+        let mut entries = entries.limited(limit as usize);
         let first = made::link(&mut entries, free)?;
-        if !made::is_all_linked(&entries) {
+        if free.len() < vacant as usize {
             return Err(Fault::Shape);
         }
         Ok(Arena {
             entries,
             first,
-            vacant: free.len() as u32,
+            vacant,
             len: occupied,
         })
     }

@@ -1,75 +1,123 @@
-//! The steps by which an arena is made of its slots and its free list. Each free slot is to be
-//! named once: a slot that is linked already, or isn't free, is refused, and at the end none is
-//! left.
-ghost use Rattle.std.specs.Prelude.{◌≡◌, ◌≢◌, ℕ, ◌+◌, ◌^◌, ◌<◌, ◌≤◌, ◌++◌, ◌∷◌, [], true, false};
-ghost use Rattle.std.specs.Prelude.{length, map, count_by, cond, slice_set, slice_index_or, List};
-ghost use Rattle.std.specs.Prelude.{IfOk, IfErr, OnOk, IsTrue, ◌↔◌};
-ghost use Rattle.arena.specs.Arena.{IsBorn, IsSound, Refuses, is_occupied, plain};
+//! The slots of which an arena is made, and the steps by which it is. Each free slot is to be named
+//! once: a slot that is linked already, or isn't free, is refused, and at the end none is left.
+ghost use Rattle.std.specs.Prelude.{◌≡◌, ℕ, ◌+◌, ◌^◌, ◌<◌, ◌++◌, ◌∷◌, [], length, map, count_by};
+ghost use Rattle.std.specs.Prelude.{slice_set, slice_index_or, true, IsTrue, ◌↔◌};
+ghost use Rattle.std.specs.Prelude.{IfOk, IfErr, OnOk, OnErr};
+ghost use Rattle.arena.specs.Arena.{IsBorn, IsSound, is_occupied, plain, slot_read};
 ghost use Rattle.arena.specs.Entry.{slot_of};
-ghost use Rattle.arena.specs.Made.{unlinked_of, is_unlinked, linked_to, entry_at, IsLinking};
+ghost use Rattle.arena.specs.Made.{AreCounted, IsLinking};
+ghost use Rattle.arena.specs.Made.{unlinked_of, is_unlinked, linked_to, entry_at};
 ghost use Rattle.arena.specs.Row.{row};
 ghost use Rattle.arena.specs.declared.Slot.TheVariants as slot;
-ghost use Rattle.arena.specs.declared.Fault.TheVariants.{Memory, Shape};
+ghost use Rattle.arena.specs.declared.Fault.TheVariants.{Shape};
 
 use crate::entry::Entry;
 use crate::store::Store;
 use crate::{FIRST_GENERATION, Fault, Slot};
-use std::alloc::Global;
+use std::alloc::{AllocError, Global};
+use std::marker::Model;
 
-/// The entries of given slots, none of which is linked yet, and how many of them are occupied.
-#[derive(Drop)]
-pub(crate) struct Filled<T> {
-    pub(crate) entries: Store<Entry<T>>,
-    pub(crate) occupied: u32,
+/// The slots of which an arena is to be made, in order of their numbers, at most as many as are
+/// said when it is made. They stand where they will stand in the arena.
+pub struct Slots<T> {
+    // None of them is linked yet.
+    entries: Store<Entry<T>>,
+    occupied: u32,
+    vacant: u32,
+    // Whether each generation is at least the first.
+    born: bool,
 }
 
-impl<T: Drop> Filled<T> {
-    /// The entries of these slots.
-    ///
-    /// It answers [`Fault::Shape`] where a generation is below [`FIRST_GENERATION`], and
-    /// [`Fault::Memory`] where there was no memory for the entries.
-    pub(crate) fn new(alloc: Global, limit: u32, slots: Vec<Slot<T>>) -> Result<Self, Fault>
-        requires { length slots.items ≤ limit }
-        ensures entries { IfOk result
-            (λ m. m.entries ≡ row (map unlinked_of slots.items) limit) }
-        ensures occupied { IfOk result
-            (λ m. m.occupied ≡ count_by is_occupied slots.items) }
-        ensures born { OnOk result ((i : ℕ) → IsBorn (slice_index_or slots.items i slot.Retired)) }
-        ensures refused { IfErr result
-            (λ f. (free : List ℕ) → Refuses (plain slots.items free limit) f) }
+// Written out, so that the crates above need not prove anew how each field is dropped.
+impl<T: Drop> Drop for Slots<T> {
+    fn drop(self) {
+        let Slots {
+            entries: _,
+            occupied: _,
+            vacant: _,
+            born: _,
+        } = self;
+    }
+}
+
+impl<T> Model for Slots<T> {
+    ghost use Rattle.arena.specs.Row.{Row, row};
+    ghost use Rattle.arena.specs.declared.Slot.{Slot};
+
+    ghost Value = { Row (Slot T) };
+
+    ghost use Rattle.std.specs.Prelude.{map};
+    ghost use Rattle.arena.specs.Entry.{slot_of};
+    ghost use Rattle.arena.specs.Made.{AreCounted};
+
+    ghost view = { λ s. row (map slot_of s.entries.items) s.entries.capacity };
+
+    ghost invariant = { λ s. AreCounted s.entries s.occupied s.vacant s.born };
+}
+
+impl<T> Slots<T> {
+    /// No slot yet, of at most `most`. It takes no memory yet.
+    pub fn new(alloc: Global, most: u32) -> Self
+        ensures { result ≡ row [] most }
     {
-        let mut filled = Filled {
-            entries: Store::new(alloc, limit as usize),
+        Slots {
+            entries: Store::new(alloc, most as usize),
             occupied: 0,
-        };
-        for slot in slots {
-            filled.add(slot)?;
+            vacant: 0,
+            born: true,
         }
-        Ok(filled)
     }
 
-    // Adds the entry of one slot more. After a fault nothing is known of the entries.
-    fn add(&mut self, slot: Slot<T>) -> Result<(), Fault>
-        requires room { length self.old.entries.items < self.old.entries.capacity }
-        requires fits { self.old.occupied + 1 < 2 ^ 32 }
-        ensures entries { OnOk result (self.new.entries
-            ≡ row (self.old.entries.items ++ unlinked_of slot ∷ []) self.old.entries.capacity) }
-        ensures occupied { OnOk result
-            (self.new.occupied ≡ self.old.occupied + cond (is_occupied slot) 1 0) }
-        ensures born { OnOk result (IsBorn slot) }
-        ensures refused { IfErr result
-            (λ f. f ≢ Memory → (f ≡ Shape) × (IsBorn slot → ⊥)) }
+    /// The entries of the slots, how many are occupied and how many free, and whether each
+    /// generation is at least the first.
+    pub(crate) fn parts(self) -> (Store<Entry<T>>, u32, u32, bool)
+        ensures seen { row (map slot_of result.0.items) result.0.capacity ≡ self }
+        ensures counted { AreCounted result.0 result.1 result.2 result.3 }
     {
-        if !slot.is_born() {
-            return Err(Fault::Shape);
-        }
-        if slot.is_occupied() {
-            self.occupied += 1;
-        }
-        match self.entries.push(Entry::unlinked(slot)) {
-            Ok(()) => Ok(()),
-            Err(_) => Err(Fault::Memory),
-        }
+        let Slots {
+            entries,
+            occupied,
+            vacant,
+            born,
+        } = self;
+        (entries, occupied, vacant, born)
+    }
+
+    /// How many slots there are.
+    pub fn len(&self) -> usize
+        ensures { result ≡ length self.now.items }
+    {
+        self.entries.len()
+    }
+
+    /// What the slot of this number holds.
+    pub fn slot(&self, number: usize) -> Slot<&T>
+        requires { number < length self.now.items }
+        ensures { slot_read result ≡ slice_index_or self.now.items number slot.Retired }
+    {
+        self.entries.get(number).slot()
+    }
+
+    /// Adds a slot behind the others. There is room for it: they are fewer than they may be.
+    ///
+    /// It answers [`AllocError`] where there is no memory for it. The slots are then as they were,
+    /// and this one is dropped.
+    pub fn push(&mut self, slot: Slot<T>) -> Result<(), AllocError>
+    where
+        T: Drop,
+        requires { length self.old.items < self.old.capacity }
+        ensures done { OnOk result
+            (self.new ≡ row (self.old.items ++ slot ∷ []) self.old.capacity) }
+        ensures unchanged { OnErr result (self.new ≡ self.old) }
+    {
+        let (free, occupied, born) = (slot.is_free(), slot.is_occupied(), slot.is_born());
+        let Ok(()) = self.entries.push(Entry::unlinked(slot)) else {
+            return Err(AllocError);
+        };
+        self.vacant += u32::from(free);
+        self.occupied += u32::from(occupied);
+        self.born &= born;
+        Ok(())
     }
 }
 
@@ -83,6 +131,12 @@ impl<T> Slot<T> {
             Slot::Occupied(generation, _) => *generation >= FIRST_GENERATION,
             Slot::Retired => true,
         }
+    }
+
+    fn is_free(&self) -> bool
+        ensures { result ≡ is_unlinked (unlinked_of self.now) }
+    {
+        matches!(self, Slot::Free(_))
     }
 
     fn is_occupied(&self) -> bool
@@ -103,8 +157,10 @@ pub(crate) fn link<T>(entries: &mut Store<Entry<T>>, free: &[u32]) -> Result<u32
     ensures slots { OnOk result
         (map slot_of entries.new.items ≡ map slot_of entries.old.items) }
     ensures capacity { OnOk result (entries.new.capacity ≡ entries.old.capacity) }
-    ensures refused { IfErr result (λ f. (limit : ℕ)
-        → Refuses (plain (map slot_of entries.old.items) free.now limit) f) }
+    ensures counted { OnOk result (count_by is_unlinked entries.new.items + length free.now
+        ≡ count_by is_unlinked entries.old.items) }
+    ensures refused { IfErr result (λ f. (f ≡ Shape) × ((limit : ℕ)
+        → IsSound (plain (map slot_of entries.old.items) free.now limit) → ⊥)) }
 {
     let mut first = 0;
     let mut left = free.len();
@@ -130,19 +186,5 @@ fn link_one<T>(entries: &mut Store<Entry<T>>, slot: u32, first: u32) -> bool
         return false;
     }
     entries.get_mut(slot as usize).link(first);
-    true
-}
-
-/// Whether no free slot is left that isn't linked.
-pub(crate) fn is_all_linked<T>(entries: &Store<Entry<T>>) -> bool
-    ensures all { result ≡ true → (i : ℕ) → is_unlinked (entry_at entries.now.items i) ≡ false }
-    ensures one { result ≡ false
-        → (i : ℕ) × (is_unlinked (entry_at entries.now.items i) ≡ true) }
-{
-    for index in 0..entries.len() {
-        if entries.get(index).is_unlinked() {
-            return false;
-        }
-    }
     true
 }

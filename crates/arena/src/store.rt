@@ -50,6 +50,15 @@ impl<E> Store<E> {
         }
     }
 
+    /// The store with room for so many items.
+    pub(crate) fn limited(self, capacity: usize) -> Self
+        ensures { result ≡ row self.items capacity }
+    {
+        let mut store = self;
+        store.capacity = capacity;
+        store
+    }
+
     /// How many items there may be.
     pub(crate) fn capacity(&self) -> usize
         ensures { result ≡ self.now.capacity }

@@ -9,6 +9,7 @@ use crate::script::{DONE, REFUSED};
 use crate::words::{WordsError, print_refused_words};
 use hex::FromHexError;
 use ids::Refusal;
+use lines::FrameText;
 use std::alloc::Global;
 use std::io;
 use std::io::Write;
@@ -49,7 +50,7 @@ fn print_frame<W: Write>(out: &mut W, bytes: &[u8]) -> io::Result<u8>
 {
     match msg::decode(bytes) {
         Ok(frame) => {
-            writeln!(out, "{frame}")?;
+            writeln!(out, "{}", FrameText(frame))?;
             Ok(DONE)
         }
         Err(refusal) => print_refusal(out, refusal),

@@ -5,6 +5,6 @@
 mod heap;
 mod object;
 
-pub use arena::{FreeSlots, Slot};
+pub use arena::{FreeSlots, Slot, Slots};
 pub use heap::{Heap, HeapParts};
 pub use object::Object;

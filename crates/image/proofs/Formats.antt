@@ -12,15 +12,13 @@ use Rattle.codec.proofs.Laws.{tagged_takes, made_again, option_sound, many_sound
 use Rattle.codec.proofs.Numbers.{byte_sound, number2_sound, number4_sound, number8_sound}
 use Rattle.codec.proofs.Numbers.{signed8_sound}
 use Rattle.codec.proofs.Growing.{Later, Grows, same, mapped_grows, joined_grows, ◌⊛◌, kept_grows}
-use Rattle.codec.proofs.Growing.{option_grows, many_grows, counted_grows}
+use Rattle.codec.proofs.Growing.{many_grows, counted_grows}
 use Rattle.ids.specs.declared.limits.TheConstants.{FIRST_VERSION_NODES, GREATEST_NODES}
-use Rattle.msg.specs.declared.body.Body.{Body}
-use Rattle.msg.specs.declared.body.Body.TheVariants as body
 use Rattle.msg.specs.declared.version.Version.{Version}
 use Rattle.msg.specs.declared.version.Version.TheVariants.{First, Second}
-use Rattle.msg.specs.Formats.{generation, reference, optional, put, body_format}
-use Rattle.msg.proofs.Formats.{generation_sound, colour_sound}
-use Rattle.msg.proofs.Formats.{token_sound, body_sound}
+use Rattle.msg.specs.Formats.{generation}
+use Rattle.msg.proofs.Formats.{any, generation_grows, reference_grows, optional_grows, body_grows}
+use Rattle.msg.proofs.Formats.{colour_sound, token_sound}
 use Rattle.msg.specs.Lengths.{reference_long, optional_long}
 use Rattle.arena.specs.declared.Slot.TheVariants as slot
 use Rattle.model.specs.State.{Object}
@@ -67,37 +65,6 @@ start_sound =
     mapped_sound _ _ _ (kept_sound _ is_start (byte_sound ⊗ byte_sound ⊗ version_sound))
     (λ a fits. sym (is_start_is a fits.within.1)) (λ v. refl)
 
--- ---- what messages say
-
-generation_grows : Grows (generation First) (generation Second)
-unfolding number4 number8
-generation_grows = record {
-  first = number4_sound;
-  second = number8_sound;
-  later = λ g. (λ is. omega (arith, is), λ is. tt);
-}
-
-reference_grows : Grows (reference First) (reference Second)
-unfolding reference
-reference_grows =
-    mapped_grows _ _ (same byte_sound ⊛ same number4_sound ⊛ generation_grows) (λ _. refl) (λ _. refl)
-
-optional_grows : Grows (optional First) (optional Second)
-unfolding optional
-optional_grows = option_grows reference_grows
-
-put_grows : Grows (put First) (put Second)
-put_grows = reference_grows ⊛ same byte_sound ⊛ optional_grows
-
-body_later : (b : Body) → Later (body_format First) (body_format Second) b
-unfolding body_format
-body_later (body.Mark target) = reference_grows.later target
-body_later (body.Give label o) = (same number4_sound ⊛ optional_grows).later (label, o)
-body_later (body.Put target place o) = put_grows.later (target, (place, o))
-body_later (body.Get target place label) =
-    (reference_grows ⊛ same byte_sound ⊛ same number4_sound).later (target, (place, label))
-body_later b = (λ is. is, λ is. is)
-
 -- ---- each value of a list has a byte at least
 
 pub slot_long : (v : Version) → IsLong (slot_format v)
@@ -127,10 +94,7 @@ near_optional_grows : Grows (near_optional First) (near_optional Second)
 near_optional_grows = kept_grows _ _ optional_grows (λ _ is. is)
 
 near_body_grows : Grows (near_body First) (near_body Second)
-near_body_grows =
-    kept_grows _ _
-    (record { first = body_sound First; second = body_sound Second; later = body_later })
-    (λ _ is. is)
+near_body_grows = kept_grows _ _ body_grows (λ _ is. is)
 
 object_grows : Grows (object_format First) (object_format Second)
 unfolding object_format places_format width_format
@@ -144,16 +108,11 @@ object_grows =
 occupied_grows : Grows (occupied First) (occupied Second)
 occupied_grows = generation_grows ⊛ object_grows
 
-any : {A : Type 0} (F : Version → Format A) → Grows (F First) (F Second) → (v : Version)
-    → IsSound (F v)
-any F g First = g.first
-any F g Second = g.second
-
 slot_again : (v : Version) (x : StoredSlot) (rest : List ℕ) → Fits (slot_format v) x
     → (slot_format v).read ((slot_format v).spell x ++ rest) ≡ Some (x, rest)
 unfolding slot_format occupied_at
 slot_again v (slot.Free g) rest fits =
-    made_again (generation v) slot.Free (generation_sound v) g rest fits.wide fits.within
+    made_again (generation v) slot.Free (any generation generation_grows v) g rest fits.wide fits.within
 slot_again v (slot.Occupied g o) rest fits =
     made_again (occupied v) (λ x. slot.Occupied x.0 x.1) (any occupied occupied_grows v) (g, o) rest
     fits.wide fits.within
@@ -166,7 +125,7 @@ slot_sound v =
     let occupied_slot = λ (x : ℕ × Object). slot.Occupied x.0 x.1 in
     record {
       takes = tagged_takes F (slots_at v) (
-          found (generation v) F 0 slot.Free (generation_sound v)
+          found (generation v) F 0 slot.Free (any generation generation_grows v)
           (λ _. refl) (λ _ w. w) (λ _ w. w)
           ⊕ found (occupied v) F 1 occupied_slot (any occupied occupied_grows v)
           (λ _. refl) (λ _ w. w) (λ _ w. w)

@@ -16,11 +16,10 @@ use Rattle.msg.specs.declared.version.Version.{Version}
 use Rattle.msg.specs.declared.version.Version.TheVariants.{First, Second}
 use Rattle.msg.specs.Formats.{generation, reference, optional, colour, token, body_format}
 use Rattle.msg.specs.Limits.{optional_fits, body_fits}
-use Rattle.model.specs.State.{Object}
+use Rattle.model.specs.State.{Object, Ring}
 use Rattle.model.specs.declared.event.Letter.{Letter}
 use Rattle.image.specs.declared.parts.Head.{Head}
 use Rattle.image.specs.declared.parts.PhasesParts.{PhasesParts}
-use Rattle.image.specs.declared.parts.RingParts.{RingParts}
 use Rattle.arena.specs.declared.Slot.TheVariants as slot
 use Rattle.image.specs.Links.{StoredLink, StoredSlot}
 
@@ -28,7 +27,7 @@ use Rattle.image.specs.Links.{StoredLink, StoredSlot}
 pub record Stored : Type 0 where
   pub head : Head
   pub phases : PhasesParts
-  pub ring : RingParts
+  pub ring : Ring
   -- at node 0 those of the other nodes in ascending order, elsewhere none
   pub reports : List ℕ
   pub registers : List (Option Ref)
@@ -94,7 +93,7 @@ phases_format =
 unfoldable pub held_format : Format (Option Token)
 held_format = option token
 
-unfoldable pub ring_format : Format RingParts
+unfoldable pub ring_format : Format Ring
 ring_format =
     mapped (colour & signed8 & signed8 & held_format)
     (λ x. record { colour = x.0; earlier = x.1.0; recent = x.1.1.0; token = x.1.1.1 })
@@ -173,7 +172,7 @@ abbrev pub links_told : Head → ℕ
 links_told h = h.nodes - 1
 
 abbrev pub Front : Type 0
-Front = Head × (PhasesParts × RingParts)
+Front = Head × (PhasesParts × Ring)
 
 unfoldable pub front_format : Version → Format Front
 front_format v = head_format v & phases_format & ring_format

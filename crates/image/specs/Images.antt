@@ -2,11 +2,10 @@
 use Rattle.std.specs.Prelude.{ℕ, ◌==◌, if◌then◌else◌, List, [], map, drop}
 use Rattle.std.specs.List.{zip, remove}
 use Rattle.arena.specs.declared.Slot.TheVariants as slot
-use Rattle.model.specs.State.{Slot, Free, Occupied, Retired, Phases, Ring}
+use Rattle.model.specs.State.{Slot, Free, Occupied, Retired, Phases}
 use Rattle.msg.specs.declared.version.Version.TheVariants.{Second}
 use Rattle.model.specs.View.{Link, NodeView}
 use Rattle.image.specs.declared.parts.PhasesParts.{PhasesParts}
-use Rattle.image.specs.declared.parts.RingParts.{RingParts}
 use Rattle.image.specs.Links.{StoredLink, StoredSlot}
 use Rattle.image.specs.Grammar.{Stored, spelling}
 
@@ -31,10 +30,6 @@ abbrev pub phases_by : Phases → PhasesParts
 phases_by p =
     record { cycle = p.cycle; ended = p.ended; swept = p.swept; cursor = p.cursor }
 
-abbrev pub ring_by : Ring → RingParts
-ring_by r =
-    record { colour = r.colour; earlier = r.earlier; recent = r.recent; token = r.token }
-
 -- what the image of a node says; what counts as saved and what is acknowledged isn't in it
 abbrev pub stored_by : NodeView → Stored
 stored_by n = record {
@@ -45,7 +40,7 @@ stored_by n = record {
     slots = n.local.shape.slots;
   };
   phases = phases_by n.local.phases;
-  ring = ring_by n.local.ring;
+  ring = n.local.ring;
   reports = if n.local.own == 0 then drop 1 n.local.phases.reports else [];
   registers = n.local.heap.registers;
   slots = map stored_slot n.local.heap.slots;

@@ -54,12 +54,7 @@ node_of s = record {
       cursor = s.phases.cursor;
       reports = reports_of s.head s.reports;
     };
-    ring = record {
-      colour = s.ring.colour;
-      earlier = s.ring.earlier;
-      recent = s.ring.recent;
-      token = s.ring.token;
-    };
+    ring = s.ring;
     got = got_of s;
   };
   links = insert (map link_of s.links) s.head.own no_link;

@@ -3,8 +3,6 @@
 ghost use Rattle.std.specs.Prelude.{◌≡◌, ◌<◌, ◌≤◌, ◌+◌, ◌==◌, cond, [], ◌∷◌, ◌++◌, length, slice_index_or};
 ghost use Rattle.std.specs.List.{remove};
 ghost use Rattle.codec.specs.Formats.{number4, number8, counted};
-ghost use Rattle.codec.specs.Pieces.{Adds};
-ghost use Rattle.codec.specs.declared.piece.TheConstants.{GREATEST_PIECE};
 ghost use Rattle.codec.specs.Writing.{Puts, PutsAll};
 ghost use Rattle.link.specs.Links.{link_at, got_at, IsLinks};
 ghost use Rattle.msg.specs.declared.version.Version.TheVariants.{Second};
@@ -41,22 +39,13 @@ fn message_at(links: &Links, to: u8, place: u64) -> Message
     }
 }
 
-#[tactic(auto, unfolding(crate::specs::Grammar::message_format), using(crate::proofs::Joins::gained))]
-#[inline(always)]
-fn add_message(piece: &mut Piece, message: Message)
-    requires { length piece.old + 37 ≤ GREATEST_PIECE }
-    ensures { Adds (message_format Second) 37 piece.old piece.new message }
-{
-    piece.u64(message.stamp);
-    add_body(piece, message.body);
-}
-
-#[tactic(auto, using(crate::proofs::Joins::piece_written))]
+#[tactic(auto, unfolding(crate::specs::Grammar::message_format), using(crate::proofs::Joins::gained, crate::proofs::Joins::piece_written))]
 fn put_message(out: &mut Writer, message: Message)
     ensures { Puts (message_format Second) out.old out.new message }
 {
     let mut piece = Piece::new();
-    add_message(&mut piece, message);
+    piece.u64(message.stamp);
+    add_body(&mut piece, message.body);
     out.append(piece.as_slice());
 }
 

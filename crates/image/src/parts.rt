@@ -1,9 +1,10 @@
 //! A node as the parts that its image says. It may be no node's: which parts are one, the node
 //! itself says when it is made of them.
-use heap::{Object, Slot};
+use heap::{Object, Slots};
 use ids::Ref;
 use model::Letter;
-use msg::{Colour, Message, Token};
+use msg::Message;
+use safra::Ring;
 use std::marker::Model;
 
 /// The sizes of the space, and the node's own number.
@@ -23,17 +24,6 @@ pub(crate) struct PhasesParts {
     pub swept: u64,
     /// The next slot to be swept.
     pub cursor: u32,
-}
-
-/// The node's part of the ring that finds the end of marking: its colour, its balances of the
-/// messages that count in the current cycle and of those that the next one counts, and the token
-/// where the node holds it.
-#[derive(Clone, Copy, Debug, PartialEq, Eq)]
-pub(crate) struct RingParts {
-    pub colour: Colour,
-    pub earlier: i64,
-    pub recent: i64,
-    pub token: Option<Token>,
 }
 
 /// What the node holds of the links between it and another one: the highest number of its own
@@ -63,11 +53,11 @@ impl Model for StoredLink {
 pub(crate) struct NodeParts {
     pub head: Head,
     pub phases: PhasesParts,
-    pub ring: RingParts,
+    pub ring: Ring,
     /// At node 0 what each other node reported to have swept, in ascending order; elsewhere none.
     pub reports: Vec<u64>,
     pub registers: Vec<Option<Ref>>,
-    pub slots: Vec<Slot<Object>>,
+    pub slots: Slots<Object>,
     /// The free slots, the next to be used first.
     pub free: Vec<u32>,
     /// The slots of the marked objects that are still to be scanned; the last is scanned first.

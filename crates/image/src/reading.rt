@@ -3,7 +3,7 @@
 ghost use Rattle.std.specs.Prelude.{◌≡◌, ◌≤◌, ◌==◌, ◌&&◌, length, Some, IfOk, IfErr};
 ghost use Rattle.ids.specs.declared.refusal.Refusal.TheVariants.{BadImage, Memory};
 ghost use Rattle.ids.specs.declared.limits.TheConstants.{GREATEST_PLACES};
-ghost use Rattle.codec.specs.Formats.{whole_at};
+ghost use Rattle.codec.specs.Formats.{many, whole_at};
 ghost use Rattle.codec.specs.Reading.{Gives};
 ghost use Rattle.codec.specs.Readers.{Reads, Takes};
 ghost use Rattle.image.specs.Grammar.{reports_told, version_format, start_format, most_nodes};
@@ -16,16 +16,17 @@ ghost use Rattle.image.specs.Grammar.{others_format, stored_format, image_format
 ghost use Rattle.image.specs.Parts.{stored_of};
 
 use crate::lists::{Readable, counted, many};
-use crate::parts::{Head, NodeParts, PhasesParts, RingParts, StoredLink};
+use crate::parts::{Head, NodeParts, PhasesParts, StoredLink};
 use crate::tags::{ABSENT, FIRST, FREE, OCCUPIED, PRESENT, RETIRED, SECOND, START};
 use codec::Reader;
-use heap::{Object, Slot};
+use heap::{Object, Slot, Slots};
 use ids::{FIRST_VERSION_NODES, GREATEST_NODES, GREATEST_PLACES, Ref, Refusal};
 use model::Letter;
 use msg::reading::{
     read_body, read_colour, read_generation, read_optional, read_reference, read_token,
 };
 use msg::{Message, Token, Version, body_fits, optional_fits};
+use safra::Ring;
 use std::alloc::Global;
 
 // ---- what stands before the lists
@@ -133,24 +134,20 @@ fn read_held(reader: &mut Reader) -> Option<Token>
 }
 
 #[tactic(auto, unfolding(crate::specs::Grammar::ring_format), using(crate::proofs::Joins::both_read, crate::proofs::Joins::made))]
-fn read_ring(reader: &mut Reader) -> RingParts
+fn read_ring(reader: &mut Reader) -> Ring
     ensures { Reads ring_format reader.old reader.new result }
 {
     let colour = read_colour(reader);
     let earlier = reader.i64();
     let recent = reader.i64();
     let token = read_held(reader);
-    RingParts {
-        colour,
-        earlier,
-        recent,
-        token,
-    }
+    Ring::from_parts(colour, earlier, recent, token)
 }
 
 // ---- what stands in the lists
 
 #[tactic(auto, using(crate::proofs::Joins::passed))]
+#[inline(always)]
 fn read_near_optional(version: Version, reader: &mut Reader) -> Option<Ref>
     ensures { Reads (near_optional version) reader.old reader.new result }
 {
@@ -160,6 +157,7 @@ fn read_near_optional(version: Version, reader: &mut Reader) -> Option<Ref>
 }
 
 #[tactic(auto, unfolding(crate::specs::Grammar::width_format), using(crate::proofs::Joins::tests))]
+#[inline(always)]
 fn read_width(reader: &mut Reader) -> u8
     ensures value { Reads width_format reader.old reader.new result }
     ensures within { result ≤ GREATEST_PLACES }
@@ -173,6 +171,7 @@ fn read_width(reader: &mut Reader) -> u8
 }
 
 #[tactic(auto, unfolding(crate::specs::Grammar::places_format), using(crate::proofs::Joins::counted_read))]
+#[inline(always)]
 fn read_places(
     alloc: Global,
     version: Version,
@@ -188,6 +187,7 @@ fn read_places(
 }
 
 #[tactic(auto, unfolding(crate::specs::Grammar::object_format), using(crate::proofs::Joins::both_read, crate::proofs::Joins::made))]
+#[inline(always)]
 fn read_object(alloc: Global, version: Version, reader: &mut Reader) -> Result<Object, Refusal>
     ensures value { IfOk result (Reads (object_format version) reader.old reader.new) }
     ensures refused { IfErr result (λ e. e ≡ Memory) }
@@ -202,6 +202,7 @@ fn read_object(alloc: Global, version: Version, reader: &mut Reader) -> Result<O
 }
 
 #[tactic(auto, unfolding(crate::specs::Grammar::occupied_at), using(crate::proofs::Joins::both_read, crate::proofs::Joins::made_of))]
+#[inline(always)]
 fn read_occupied(
     alloc: Global,
     version: Version,
@@ -214,6 +215,23 @@ fn read_occupied(
     let generation = read_generation(reader, version);
     let object = read_object(alloc, version, reader)?;
     Ok(Slot::Occupied(generation, object))
+}
+
+#[tactic(auto, unfolding(crate::specs::Grammar::slot_format), using(crate::proofs::Joins::tags))]
+#[inline(always)]
+fn read_slot(alloc: Global, version: Version, reader: &mut Reader) -> Result<Slot<Object>, Refusal>
+    ensures value { IfOk result (Reads (slot_format version) reader.old reader.new) }
+    ensures refused { IfErr result (λ e. e ≡ Memory) }
+{
+    match reader.u8() {
+        FREE => Ok(Slot::Free(read_generation(reader, version))),
+        OCCUPIED => read_occupied(alloc, version, reader),
+        RETIRED => Ok(Slot::Retired),
+        _ => {
+            reader.fail();
+            Ok(Slot::Retired)
+        }
+    }
 }
 
 impl Readable for Ref {
@@ -263,23 +281,6 @@ impl Readable for Message {
     }
 }
 
-impl Readable for Slot<Object> {
-    ghost format = { slot_format };
-
-    #[tactic(auto, unfolding(crate::specs::Grammar::slot_format), using(crate::proofs::Joins::tags))]
-    fn read(alloc: Global, version: Version, reader: &mut Reader) -> Result<Slot<Object>, Refusal> {
-        match reader.u8() {
-            FREE => Ok(Slot::Free(read_generation(reader, version))),
-            OCCUPIED => read_occupied(alloc, version, reader),
-            RETIRED => Ok(Slot::Retired),
-            _ => {
-                reader.fail();
-                Ok(Slot::Retired)
-            }
-        }
-    }
-}
-
 impl Readable for StoredLink {
     ghost format = { link_format };
 
@@ -309,7 +310,7 @@ fn reports_told(head: Head) -> usize
 }
 
 #[tactic(auto, unfolding(crate::specs::Grammar::front_format), using(crate::proofs::Joins::both_read))]
-fn read_front(version: Version, reader: &mut Reader) -> (Head, (PhasesParts, RingParts))
+fn read_front(version: Version, reader: &mut Reader) -> (Head, (PhasesParts, Ring))
     ensures { Reads (front_format version) reader.old reader.new result }
 {
     let head = read_head(version, reader);
@@ -335,18 +336,46 @@ fn read_told(
     Ok((reports, registers))
 }
 
+// So many slots, up to the first one that isn't there. Where the bytes are fewer than the slots, the
+// reader fails without taking memory.
+#[tactic(auto, using(crate::proofs::Joins::lists))]
+fn read_each_slot(
+    alloc: Global,
+    version: Version,
+    count: u32,
+    reader: &mut Reader,
+) -> Result<Slots<Object>, Refusal>
+    ensures value { IfOk result
+        (λ s. Reads (many (slot_format version) count) reader.old reader.new s.items) }
+    ensures refused { IfErr result (λ e. e ≡ Memory) }
+{
+    let mut slots = Slots::new(alloc, count);
+    reader.require(count as usize);
+    // (what nothing else holds stays in registers)
+    let mut ahead = *reader;
+    for _slot in 0..count {
+        if !ahead.is_open() {
+            break;
+        }
+        slots.push(read_slot(alloc, version, &mut ahead)?)?;
+    }
+    *reader = ahead;
+    Ok(slots)
+}
+
 // The slots, and which of them are free and which grey.
-#[tactic(auto, unfolding(crate::specs::Grammar::slots_format), using(crate::proofs::Joins::both_read))]
+#[tactic(auto, unfolding(crate::specs::Grammar::slots_format), using(crate::proofs::Joins::both_read, crate::proofs::Joins::counted_read))]
 fn read_slots(
     alloc: Global,
     version: Version,
     reader: &mut Reader,
-) -> Result<(Vec<Slot<Object>>, (Vec<u32>, Vec<u32>)), Refusal>
+) -> Result<(Slots<Object>, (Vec<u32>, Vec<u32>)), Refusal>
     ensures value { IfOk result (λ x. Reads (slots_format version) reader.old reader.new
         (x.0.items, (x.1.0.items, x.1.1.items))) }
     ensures refused { IfErr result (λ e. e ≡ Memory) }
 {
-    let slots = counted(alloc, version, reader)?;
+    let count = reader.u32();
+    let slots = read_each_slot(alloc, version, count, reader)?;
     let free = counted(alloc, version, reader)?;
     let grey = counted(alloc, version, reader)?;
     Ok((slots, (free, grey)))

@@ -12,14 +12,13 @@ ghost use Rattle.image.specs.Nodes.{link_of, received_of, reports_of, node_of};
 ghost use Rattle.image.specs.Nodes.{IsStanding, IsImageOf};
 ghost use Rattle.image.specs.Parts.{stored_of};
 
-use crate::parts::{Head, NodeParts, RingParts, StoredLink};
+use crate::parts::{Head, NodeParts, StoredLink};
 use crate::reading::whole;
 use control::Phases;
 use heap::HeapParts;
 use ids::{GREATEST_IMAGE, Refusal, Shape};
 use link::LinkParts;
 use node::{Core, Node};
-use safra::Ring;
 use std::alloc::Global;
 use std::collections::VecDeque;
 
@@ -98,7 +97,7 @@ fn restored(alloc: Global, image: NodeParts) -> Result<Core, Refusal>
         },
         asked,
         phases,
-        ring: given_ring(ring),
+        ring,
         links,
     };
     Core::from_parts(alloc, parts)
@@ -153,15 +152,4 @@ fn given_link(stored: StoredLink) -> LinkParts
         messages: VecDeque::from_vec(unacknowledged),
         taken: received,
     }
-}
-
-fn given_ring(ring: RingParts) -> Ring
-    ensures { result ≡ record {
-      colour = ring.colour;
-      earlier = ring.earlier;
-      recent = ring.recent;
-      token = ring.token;
-    } }
-{
-    Ring::from_parts(ring.colour, ring.earlier, ring.recent, ring.token)
 }

@@ -10,7 +10,7 @@ ghost use Rattle.image.specs.Nodes.{IsImageOf};
 use crate::writing::put_node;
 use codec::Writer;
 use ids::{GREATEST_IMAGE, Refusal};
-use node::{Core, Node};
+use node::Node;
 use std::alloc::Global;
 
 // Room that is taken at once: small images need no more.
@@ -45,17 +45,7 @@ pub fn to_bytes_over(bytes: Vec<u8>, node: &Node) -> Result<Vec<u8>, Refusal>
     ensures last { IfErr result (λ e. e ≡ Memory
         → length (image_of node.now.core) ≤ GREATEST_IMAGE) }
 {
-    core_to_bytes(bytes, node.core())
-}
-
-fn core_to_bytes(bytes: Vec<u8>, core: &Core) -> Result<Vec<u8>, Refusal>
-    ensures written { IfOk result (λ v. v.items ≡ image_of core.now) }
-    ensures image { OnOk result (IsImageOf (image_of core.now) (kept_view core.now)) }
-    ensures refused { IfErr result (λ e. e ≢ Memory
-        → (e ≡ ImageTooLarge) × (GREATEST_IMAGE < length (image_of core.now))) }
-    ensures last { IfErr result (λ e. e ≡ Memory
-        → length (image_of core.now) ≤ GREATEST_IMAGE) }
-{
+    let core = node.core();
     // (this call says of the core what its type holds)
     let _summary = core.state();
     let mut out = Writer::new(bytes, GREATEST_IMAGE as u32, FIRST_BYTES);

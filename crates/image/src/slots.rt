@@ -4,8 +4,6 @@ ghost use Rattle.std.specs.Prelude.{◌≡◌, ◌<◌, ◌≤◌, ◌+◌, [], 
 ghost use Rattle.arena.specs.Arena.{slot_read};
 ghost use Rattle.arena.specs.declared.Slot.TheVariants.{Free, Occupied};
 ghost use Rattle.codec.specs.Formats.{number4, number8, counted};
-ghost use Rattle.codec.specs.Pieces.{Adds};
-ghost use Rattle.codec.specs.declared.piece.TheConstants.{GREATEST_PIECE};
 ghost use Rattle.codec.specs.Writing.{Puts};
 ghost use Rattle.msg.specs.declared.version.Version.TheVariants.{Second};
 ghost use Rattle.image.specs.Grammar.{slot_format, letter_format};
@@ -111,23 +109,14 @@ fn letter_at(heap: &Heap, number: usize) -> Letter
     }
 }
 
-#[tactic(auto, unfolding(crate::specs::Grammar::letter_format), using(crate::proofs::Joins::gained))]
-#[inline(always)]
-fn add_letter(piece: &mut Piece, letter: Letter)
-    requires { length piece.old + 19 ≤ GREATEST_PIECE }
-    ensures { Adds (letter_format Second) 19 piece.old piece.new letter }
-{
-    piece.u8(letter.from);
-    piece.u32(letter.label);
-    add_optional(piece, letter.reference);
-}
-
-#[tactic(auto, using(crate::proofs::Joins::piece_written))]
+#[tactic(auto, unfolding(crate::specs::Grammar::letter_format), using(crate::proofs::Joins::gained, crate::proofs::Joins::piece_written))]
 fn put_letter(out: &mut Writer, letter: Letter)
     ensures { Puts (letter_format Second) out.old out.new letter }
 {
     let mut piece = Piece::new();
-    add_letter(&mut piece, letter);
+    piece.u8(letter.from);
+    piece.u32(letter.label);
+    add_optional(&mut piece, letter.reference);
     out.append(piece.as_slice());
 }
 

@@ -8,7 +8,7 @@ ghost use Rattle.image.specs.Grammar.{head_format, phases_format, held_format};
 ghost use Rattle.image.specs.Grammar.{ring_format, front_format, told_format, slots_format};
 ghost use Rattle.image.specs.Grammar.{others_format, stored_format, image_format};
 ghost use Rattle.image.specs.Grammar.{front_of, told_of, slots_of, others_of};
-ghost use Rattle.image.specs.Images.{phases_by, ring_by, stored_by};
+ghost use Rattle.image.specs.Images.{phases_by, stored_by};
 
 use crate::links::put_links;
 use crate::lists::{put_all, put_counted, put_registers};
@@ -68,7 +68,7 @@ fn add_held(piece: &mut Piece, held: Option<Token>)
 #[inline(always)]
 fn add_ring(piece: &mut Piece, ring: Ring)
     requires { length piece.old + 27 ≤ GREATEST_PIECE }
-    ensures { Adds ring_format 27 piece.old piece.new (ring_by ring) }
+    ensures { Adds ring_format 27 piece.old piece.new ring }
 {
     add_colour(piece, ring.colour());
     piece.i64(ring.earlier());
@@ -77,12 +77,11 @@ fn add_ring(piece: &mut Piece, ring: Ring)
 }
 
 // What stands before the lists, in one piece.
-#[tactic(auto, unfolding(crate::specs::Grammar::front_format), using(crate::proofs::Joins::gained))]
-#[inline(always)]
-fn add_front(piece: &mut Piece, node: &Core)
-    requires { length piece.old + 63 ≤ GREATEST_PIECE }
-    ensures { Adds (front_format Second) 63 piece.old piece.new (front_of (stored_by node.now)) }
+#[tactic(auto, unfolding(crate::specs::Grammar::front_format), using(crate::proofs::Joins::gained, crate::proofs::Joins::piece_written))]
+fn put_front(out: &mut Writer, node: &Core)
+    ensures { Puts (front_format Second) out.old out.new (front_of (stored_by node.now)) }
 {
+    let mut piece = Piece::new();
     let state = node.state();
     let head = Head {
         nodes: state.shape.nodes(),
@@ -90,17 +89,9 @@ fn add_front(piece: &mut Piece, node: &Core)
         registers: state.shape.registers(),
         slots: state.shape.slots(),
     };
-    add_head(piece, head);
-    add_phases(piece, node.phases());
-    add_ring(piece, node.ring());
-}
-
-#[tactic(auto, using(crate::proofs::Joins::piece_written))]
-fn put_front(out: &mut Writer, node: &Core)
-    ensures { Puts (front_format Second) out.old out.new (front_of (stored_by node.now)) }
-{
-    let mut piece = Piece::new();
-    add_front(&mut piece, node);
+    add_head(&mut piece, head);
+    add_phases(&mut piece, node.phases());
+    add_ring(&mut piece, node.ring());
     out.append(piece.as_slice());
 }
 

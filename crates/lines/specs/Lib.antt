@@ -1,4 +1,5 @@
 pub mod Endings
+pub mod Frames
 pub mod Grammar
 pub mod Operands
 pub mod RunLines

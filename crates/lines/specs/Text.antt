@@ -4,7 +4,7 @@ use Rattle.std.specs.Fmt.{signed_decimal}
 use Rattle.ids.specs.declared.refusal.Refusal.{Refusal}
 use Rattle.ids.specs.Refusals.{refusal_text}
 use Rattle.ids.specs.Texts.{optional_text, reference_text}
-use Rattle.msg.specs.Texts.{colour_text}
+use Rattle.lines.specs.Frames.{colour_text}
 use Rattle.msg.specs.declared.body.Token.{Token}
 use Rattle.model.specs.declared.event.Letter.{Letter}
 use Rattle.model.specs.declared.event.Answer.{Answer}

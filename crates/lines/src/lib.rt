@@ -4,6 +4,7 @@
 
 mod asking;
 mod ending;
+mod frames;
 mod front;
 mod line;
 mod operands;
@@ -11,6 +12,7 @@ mod printing;
 mod run_line;
 mod text;
 
+pub use frames::FrameText;
 pub use line::{Line, read_u8, read_u16};
 pub use printing::{print_outcome, print_report};
 pub use run_line::RunLine;

@@ -9,6 +9,7 @@ ghost use Rattle.lines.specs.declared.text.TheConstants.{LONGEST};
 ghost use Rattle.lines.specs.Text.{answer_text as said, counts_text, cycles_text, done_or_more, freed_text, letter_text, outcome_text, passed_text, ring_text, summary_text, yes_or_no};
 
 use crate::ending::Ending;
+use crate::frames::ColourText;
 use ids::{Ref, Refusal};
 use model::{Answer, Letter, Outcome};
 use msg::{Colour, Token};
@@ -202,6 +203,7 @@ impl fmt::Display for RingText {
             recent,
             ..
         } = self.0;
+        let colour = ColourText(colour);
         write!(f, "colour {colour} old {earlier} cur {recent}")
     }
 }

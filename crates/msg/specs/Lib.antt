@@ -4,4 +4,3 @@ pub mod Grammar
 pub mod Frames
 pub mod Lengths
 pub mod Numbers
-pub mod Texts

@@ -25,7 +25,6 @@ mod body;
 mod frame;
 pub mod reading;
 mod tags;
-mod text;
 mod version;
 pub mod writing;
 

@@ -1,6 +1,6 @@
 //! Values in an arena, which count how often one of them is dropped. So a case shows that each
 //! value is dropped once, also by an ending arena, which no clause says.
-use arena::{Arena, Fault, Key, Slot};
+use arena::{Arena, Fault, Key, Slot, Slots};
 use cases::{Line, Out, Stop, read};
 use std::alloc::Global;
 use std::cell::Cell;
@@ -48,13 +48,9 @@ pub fn run(alloc: Global, lines: &[Line<'_>], out: &mut Out) -> Result<(), Stop>
 
 // An arena of one slot that holds the word under this generation.
 fn single(alloc: Global, generation: &str, word: &str) -> Result<Arena<u64>, Stop> {
-    let mut slots = Vec::new(alloc);
+    let mut slots = Slots::new(alloc, 1);
     slots.push(Slot::Occupied(read(generation)?, read(word)?))?;
-    match Arena::from_slots(alloc, 1, slots, &[]) {
-        Ok(arena) => Ok(arena),
-        Err(Fault::Memory) => Err(Stop::Memory),
-        Err(_) => Err(Stop::Unknown),
-    }
+    Arena::from_slots(1, slots, &[]).map_err(|_| Stop::Unknown)
 }
 
 // A command to the arena of words.

@@ -1,7 +1,7 @@
 //! A heap made from its parts, and read part by part. Parts are refused only where no heap has
 //! them, so each saved heap is made again.
-ghost use Rattle.std.specs.Prelude.{◌≡◌, ◌≢◌, length, slice_get, OnOk, IfOk, IfErr};
-ghost use Rattle.ids.specs.declared.refusal.Refusal.TheVariants.{BadImage, Memory};
+ghost use Rattle.std.specs.Prelude.{◌≡◌, length, slice_get, OnOk, IfOk, IfErr};
+ghost use Rattle.ids.specs.declared.refusal.Refusal.TheVariants.{BadImage};
 ghost use Rattle.arena.specs.Arena.{slot_read};
 ghost use Rattle.model.specs.State.{slot_at};
 ghost use Rattle.heap.specs.Heap.{Holds, IsHeapFor, slot_of};
@@ -9,17 +9,16 @@ ghost use Rattle.heap.specs.Parts.{heap_given};
 
 use super::Heap;
 use crate::object::Object;
-use arena::{Arena, Fault, FreeSlots, Slot};
+use arena::{Arena, FreeSlots, Slot, Slots};
 use ids::{Ref, Refusal, Shape};
 use model::Letter;
-use std::alloc::Global;
 use std::collections::VecDeque;
 
 /// What a heap holds, part by part.
 #[derive(Drop)]
 pub struct HeapParts {
     /// The slots that were ever used, from slot 0 on.
-    pub slots: Vec<Slot<Object>>,
+    pub slots: Slots<Object>,
     /// The free ones, the next to be used first.
     pub free: Vec<u32>,
     pub registers: Vec<Option<Ref>>,
@@ -34,14 +33,13 @@ impl Heap {
     ///
     /// It answers [`Refusal::BadImage`] where there aren't as many registers as the shape says, or
     /// there are more slots, or a slot has the generation 0, or the list of the free slots isn't
-    /// exactly those, each once; and [`Refusal::Memory`] where there was no memory for the slots,
-    /// whatever the parts are. It doesn't look at the references, the letters and the grey list.
-    /// Parts that are refused are dropped.
-    pub fn from_parts(alloc: Global, shape: Shape, parts: HeapParts) -> Result<Heap, Refusal>
+    /// exactly those, each once; and no other refusal, since it takes no memory. It doesn't look at
+    /// the references, the letters and the grey list. Parts that are refused are dropped.
+    pub fn from_parts(shape: Shape, parts: HeapParts) -> Result<Heap, Refusal>
         ensures made { IfOk result (λ h. Holds h (heap_given parts) shape.slots) }
         ensures sound { OnOk result (IsHeapFor shape (heap_given parts)) }
-        ensures refused { IfErr result (λ e.
-            e ≢ Memory → (e ≡ BadImage) × (IsHeapFor shape (heap_given parts) → ⊥)) }
+        ensures refused { IfErr result
+            (λ e. (e ≡ BadImage) × (IsHeapFor shape (heap_given parts) → ⊥)) }
     {
         let HeapParts {
             slots,
@@ -53,15 +51,14 @@ impl Heap {
         if registers.len() != usize::from(shape.registers()) {
             return Err(Refusal::BadImage);
         }
-        match Arena::from_slots(alloc, shape.slots(), slots, &free) {
+        match Arena::from_slots(shape.slots(), slots, &free) {
             Ok(objects) => Ok(Heap {
                 objects,
                 registers,
                 letters,
                 grey,
             }),
-            Err(Fault::Shape) => Err(Refusal::BadImage),
-            Err(_) => Err(Refusal::Memory),
+            Err(_) => Err(Refusal::BadImage),
         }
     }
 

@@ -84,7 +84,7 @@ impl Core {
         if !is_bounded(ring, number_sum(&links)) {
             return Err(Refusal::BadImage);
         }
-        let heap = Heap::from_parts(alloc, shape, heap)?;
+        let heap = Heap::from_parts(shape, heap)?;
         Ok(Core::of_tested(shape, own, heap, asked, phases, ring, links))
     }
 

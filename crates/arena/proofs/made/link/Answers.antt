@@ -22,6 +22,8 @@ loop-left-preserved g c =
       linking = rw (ends, c.if-not-link_one.ensures.done refl) links.linking;
       slots = rw (c.if-not-link_one.ensures.done refl) (links.slots ∙ same);
       capacity = rw (c.if-not-link_one.ensures.done refl) before.invariant.capacity;
+      counted = rw (c.if-not-link_one.ensures.done refl)
+          (omega (arith, links.counted, before.invariant.counted, some));
     }
 
 pub returns-then-not-link_one-clause-refused : goal.returns-then-not-link_one-clause-refused
@@ -32,4 +34,4 @@ returns-then-not-link_one-clause-refused g c =
     let ends = drop-back c.args.free.now before.left some before.invariant.left in
     let linked = sym c.link_one.ensures.answer ∙ c.if-not-link_one.true in
     let wrong = refuses before.invariant.linking c.args.free.now (before.left - 1) k ends linked in
-    rw (← before.invariant.slots) wrong
+    (refl, rw (← before.invariant.slots) wrong)

@@ -1,6 +1,6 @@
-use Rattle.std.proofs.Common.{◌≡◌, ◌≤◌, drop, length, map}
+use Rattle.std.proofs.Common.{◌≡◌, ◌≤◌, ◌+◌, drop, length, map, count_by}
 use Rattle.arena.specs.Entry.{slot_of}
-use Rattle.arena.specs.Made.{IsLinking}
+use Rattle.arena.specs.Made.{is_unlinked, IsLinking}
 use Rattle.arena.proofs.made.link.Given as goal
 
 abbrev pub invariant-loop-left : goal.invariant-loop-left
@@ -9,6 +9,8 @@ invariant-loop-left g l = record {
   linking : IsLinking l.entries.items (drop l.left l.free) l.first;
   slots : map slot_of l.entries.items ≡ map slot_of l.fn.entries.items;
   capacity : l.entries.capacity ≡ l.fn.entries.capacity;
+  counted : count_by is_unlinked l.entries.items + length l.free
+      ≡ count_by is_unlinked l.fn.entries.items + l.left;
 }
 
 abbrev pub decreases-loop-left : goal.decreases-loop-left

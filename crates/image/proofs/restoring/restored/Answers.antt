@@ -37,5 +37,4 @@ returns-clause-refused c =
       c.in-Some-from_parts.ensures.value,
       c.in_ok-reports.ensures.made,
       c.from_vec.ensures.items,
-      c.given_ring.ensures,
     ) refl)

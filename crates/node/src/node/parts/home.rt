@@ -4,6 +4,7 @@ ghost use Rattle.std.specs.Prelude.{◌≡◌, ◌↔◌, map, is_some, true, fa
 ghost use Rattle.std.specs.List.{list_all};
 ghost use Rattle.ids.specs.Limits.{IsShape};
 ghost use Rattle.model.specs.Shading.{is_calm};
+ghost use Rattle.arena.specs.Arena.{slot_read};
 ghost use Rattle.heap.specs.Heap.{slot_of};
 ghost use Rattle.node.specs.Parts.{
   local_given,
@@ -19,7 +20,7 @@ ghost use Rattle.node.specs.Parts.{
 };
 
 use super::NodeParts;
-use heap::{Object, Slot};
+use heap::{Object, Slot, Slots};
 use ids::{GREATEST_PLACES, Ref, Shape};
 use model::Letter;
 use std::collections::VecDeque;
@@ -94,11 +95,12 @@ fn are_letters(shape: Shape, own: u8, letters: &VecDeque<Letter>) -> bool
     letters.iter().all(|letter| is_letter(shape, own, *letter))
 }
 
-fn is_slot(shape: Shape, cycle: u64, slot: &Slot<Object>) -> bool
-    ensures { result ≡ is_slot shape cycle (slot_of slot.now) }
+#[inline(always)]
+fn is_slot(shape: Shape, cycle: u64, slot: Slot<&Object>) -> bool
+    ensures { result ≡ is_slot shape cycle (slot_of (slot_read slot.entry)) }
 {
     match slot {
-        Slot::Free(generation) => *generation >= 2,
+        Slot::Free(generation) => generation >= 2,
         Slot::Occupied(_, object) => is_object(shape, cycle, object),
         Slot::Retired => true,
     }
@@ -113,16 +115,15 @@ fn is_object(shape: Shape, cycle: u64, object: &Object) -> bool
         && are_any_named(shape, places)
 }
 
-fn are_slots(shape: Shape, cycle: u64, slots: &[Slot<Object>]) -> bool
-    ensures { result ≡ list_all (is_slot shape cycle) (map slot_of slots.now) }
+fn are_slots(shape: Shape, cycle: u64, slots: &Slots<Object>) -> bool
+    ensures { result ≡ list_all (is_slot shape cycle) (map slot_of slots.now.items) }
 {
-    is_each_slot(shape, cycle, slots)
-}
-
-fn is_each_slot(shape: Shape, cycle: u64, slots: &[Slot<Object>]) -> bool
-    ensures { result ≡ list_all (λ s. is_slot shape cycle (slot_of s)) slots.now }
-{
-    slots.iter().all(|slot| is_slot(shape, cycle, slot))
+    for number in 0..slots.len() {
+        if !is_slot(shape, cycle, slots.slot(number)) {
+            return false;
+        }
+    }
+    true
 }
 
 fn is_report(own: u8, node: usize, report: u64) -> bool

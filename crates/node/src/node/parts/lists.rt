@@ -7,7 +7,7 @@ ghost use Rattle.node.specs.Parts.{is_foreign, is_marked_in, AreAsked, AreGreyIn
 
 use super::home::is_named;
 use barrier::RefSet;
-use heap::{Object, Slot};
+use heap::{Object, Slot, Slots};
 use ids::{Ref, Refusal, Shape};
 use std::alloc::{AllocError, Global};
 
@@ -47,10 +47,10 @@ pub(super) fn asked_once(
 pub(super) fn are_grey(
     alloc: Global,
     cycle: u64,
-    slots: &[Slot<Object>],
+    slots: &Slots<Object>,
     grey: &[u32],
 ) -> Result<bool, AllocError>
-    ensures { IfOk result (λ b. IsTrue b ↔ AreGreyIn cycle (map slot_of slots.now) grey.now) }
+    ensures { IfOk result (λ b. IsTrue b ↔ AreGreyIn cycle (map slot_of slots.now.items) grey.now) }
 {
     let mut came = vec![in alloc; false; slots.len()]?;
     for slot in grey {
@@ -66,12 +66,15 @@ pub(super) fn are_grey(
 }
 
 // Whether there is an object in the slot that the cycle has marked.
-fn is_marked(cycle: u64, slots: &[Slot<Object>], slot: u32) -> bool
-    ensures value { result ≡ is_marked_in cycle (map slot_of slots.now) slot }
-    ensures there { result ≡ true → slot < length slots.now }
+fn is_marked(cycle: u64, slots: &Slots<Object>, slot: u32) -> bool
+    ensures value { result ≡ is_marked_in cycle (map slot_of slots.now.items) slot }
+    ensures there { result ≡ true → slot < length slots.now.items }
 {
-    match slots.get(slot as usize) {
-        Some(Slot::Occupied(_, object)) => object.marked_by() == cycle,
+    if slot as usize >= slots.len() {
+        return false;
+    }
+    match slots.slot(slot as usize) {
+        Slot::Occupied(_, object) => object.marked_by() == cycle,
         _ => false,
     }
 }

@@ -14,11 +14,9 @@ returns-in-Ok-clause-sound c =
       born = born shows sound;
     }
 
-pub returns-in-Err-Shape-clause-refused : goal.returns-in-Err-Shape-clause-refused
-returns-in-Err-Shape-clause-refused c =
+pub returns-clause-refused : goal.returns-clause-refused
+returns-clause-refused c =
     let shows : Shows (heap_given c.args.parts) c.args.parts.slots.items c.args.parts.free.items =
     record { slots = refl; free = refl } in
-    let refused =
-    rw (c.deref.ensures.value, c.slots.ensures.value, c.in-Err-Shape.field-0-is) at
-    c.in-Err-Shape.ensures.refused in
-    λ other. (refl, λ is. refused (sound_from shows (omega arith) is))
+    let refused = rw (c.deref.ensures.value, c.slots.ensures.value) at c.in-Err.ensures.refused.1 in
+    (refl, λ is. refused (sound_from shows (omega arith) is))

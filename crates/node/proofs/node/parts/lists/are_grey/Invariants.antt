@@ -5,6 +5,6 @@ use Rattle.node.proofs.node.parts.lists.are_grey.Given as goal
 
 abbrev pub invariant-loop-slot : goal.invariant-loop-slot
 invariant-loop-slot l = record {
-  size : length l.came.items ≡ length l.slots;
-  came : Came l.cycle (map slot_of l.slots) l.grey l.came.items l.slot-index;
+  size : length l.came.items ≡ length l.slots.items;
+  came : Came l.cycle (map slot_of l.slots.items) l.grey l.came.items l.slot-index;
 }

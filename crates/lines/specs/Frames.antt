@@ -1,4 +1,4 @@
--- The texts of messages and frames.
+-- The texts of messages and frames, as the program prints them.
 use Rattle.std.specs.Prelude.{ℕ, List, ◌++◌, codes, decimal}
 use Rattle.std.specs.Fmt.{signed_decimal}
 use Rattle.ids.specs.Texts.{optional_text, reference_text}
