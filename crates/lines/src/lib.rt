@@ -10,5 +10,5 @@ mod printing;
 mod text;
 
 pub use line::{Line, read_u8, read_u16};
-pub use printing::{print_outcome, print_report};
+pub use printing::{print_answer, print_outcome, print_report};
 pub use text::{OutcomeText, SummaryText, answer_text};
