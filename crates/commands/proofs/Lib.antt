@@ -1,4 +1,4 @@
-pub mod Chains
+pub mod FirstLines
 pub mod Calls
 pub mod Found
 pub mod Printing

@@ -1,15 +1,9 @@
 -- What was printed before a turn of the loop over a script's lines.
 use Rattle.std.proofs.Common.{inl, inr, ◌≡◌, ◌≢◌, ℕ, ◌+◌, ◌≤◌, max, List, [], ◌∷◌, ◌++◌, length, Option, Some, None, Bor, refl, sym, ap, ◌∙◌, subst, arith, append_assoc, append-nil, length-append}
 use Rattle.std.specs.Io.KnownBytes.{Appends, Keeps}
-use Rattle.std.specs.Iterator.Adapters.{enumerate_steps}
-use Rattle.std.specs.Str.Iter.{lines_rest, lines_steps}
 use Rattle.std.specs.Str.Lines.{lines}
-use Rattle.std.specs.declared.iter.Enumerate.{Enumerate}
-use Rattle.std.specs.declared.str.Lines.{Lines}
 use Rattle.std.proofs.KnownBytes.{Appends-nil, Appends-trans, Appends-kept}
-use Rattle.std.proofs.lemmas.Iterator.{YieldsList}
-use Rattle.std.proofs.lemmas.Iterator.Consumers.{YieldsList-end}
-use Rattle.std.proofs.lemmas.Iterator.Splits.{YieldsList-from_lines}
+use Rattle.std.proofs.lemmas.List.{nil_from_length}
 use Rattle.model.specs.World.{World}
 use Rattle.node.specs.Keeping.{Rings}
 use Rattle.commands.specs.declared.script.Reply.{Reply}
@@ -18,7 +12,6 @@ use Rattle.commands.specs.declared.script.State.{State}
 use Rattle.commands.specs.declared.script.State.TheVariants as state
 use Rattle.lines.specs.Grammar.{line_of, words_of}
 use Rattle.commands.specs.Script.{Held, awaited, ShowsHeld, TakesLine, GoesOn, Replies, PrintsNoScript, PrintsReply, PrintsReplies, RunsScript, replied, unread, printed, reply_text, status_after, status_of}
-use Rattle.commands.proofs.Chains.{first_and_rest}
 
 -- a reply after others
 printed_push : (n : ℕ) (rs : List Reply) (r : Reply)
@@ -58,10 +51,11 @@ small_status remaining status old new (replied script all prints) =
     omega (arith, prints.worst, status_of_le prints.replies)
 small_status remaining status old new (unread prints) = no_script_le status old new prints
 
--- where the loop over a script's lines stands: the lines that are left, the space, the status so
--- far and what the output holds, where that is known
+-- where the loop over a script's lines stands: the text that is left, how many lines were passed, the
+-- space, the status so far and what the output holds, where that is known
 pub record Point (S : Type 0) : Type 0 where
-  pub left : Enumerate Lines
+  pub rest : List ℕ
+  pub count : ℕ
   pub state : State S
   pub status : ℕ
   pub output : Option (List ℕ)
@@ -70,29 +64,24 @@ pub record Point (S : Type 0) : Type 0 where
 pub record PrintedBefore {S : Type 0} (shows : S → World → Type 0) (keeps : S → List Rings) (script : List ℕ)
     (start : Option (List ℕ)) (p : Point S) : Type 0 where
   pub replies : List Reply
-  pub counted : length replies ≡ p.left.count
+  pub counted : length replies ≡ p.count
   pub held : Held
   pub shown : ShowsHeld shows keeps p.state held
-  pub texts : List (List ℕ)
-  pub yields : YieldsList lines_steps (λ x. x.now) p.left.iter texts
-  pub follow : (more : List Reply) → Replies held texts more
+  pub follow : (more : List Reply) → Replies held (lines p.rest) more
       → Replies awaited (lines script) (replies ++ more)
   pub worst : p.status ≡ status_of replies
   pub appended : Appends start p.output (printed 1 replies)
 
 -- before the first line
 pub printed_nothing : {S : Type 0} (shows : S → World → Type 0) (keeps : S → List Rings) (script : List ℕ)
-    (it : Enumerate Lines) (known : Option (List ℕ)) → lines_rest it.iter ≡ script → it.count ≡ 0
-    → PrintedBefore shows keeps script known
-    (record { left = it; state = state.Unopened; status = 0; output = known })
-printed_nothing shows keeps script it known all none =
+    (known : Option (List ℕ)) → PrintedBefore shows keeps script known
+    (record { rest = script; count = 0; state = state.Unopened; status = 0; output = known })
+printed_nothing shows keeps script known =
     record {
       replies = [];
-      counted = sym none;
+      counted = refl;
       held = awaited;
       shown = tt;
-      texts = lines script;
-      yields = YieldsList-from_lines script all;
       follow = λ more follows. follows;
       worst = refl;
       appended = Appends-nil known;
@@ -124,12 +113,12 @@ no_last r other e = other (ap status_after e)
 
 -- a turn: the line, and what it came to
 pub record Turn {S : Type 0} (shows : S → World → Type 0) (keeps : S → List Rings) (p q : Point S) : Type 0 where
-  pub index : ℕ
-  pub text : Bor (List ℕ)
+  pub text : List ℕ
   pub status : ℕ
-  pub step : enumerate_steps lines_steps p.left (Some (index, text)) q.left
-  pub says : PrintsReply shows keeps (λ h r later. TakesLine h (line_of (words_of text.now)) r later)
-      (index + 1) p.state q.state p.output q.output status
+  pub step : lines p.rest ≡ text ∷ lines q.rest
+  pub counts : q.count ≡ p.count + 1
+  pub says : PrintsReply shows keeps (λ h r later. TakesLine h (line_of (words_of text)) r later)
+      q.count p.state q.state p.output q.output status
   pub worse : q.status ≡ max p.status status
 
 module _ {S : Type 0} (shows : S → World → Type 0) (keeps : S → List Rings) (script : List ℕ) (start : Option (List ℕ))
@@ -142,15 +131,15 @@ module _ {S : Type 0} (shows : S → World → Type 0) (keeps : S → List Rings
 
   appended_push : Appends start q.output (printed 1 replies_so_far)
   appended_push =
-      let place : turn.index + 1 ≡ 1 + length before.replies =
-      omega (arith, before.counted, turn.step.1) in
-      let more : printed 1 before.replies ++ reply_text (turn.index + 1) reply_now
+      let place : q.count ≡ 1 + length before.replies =
+      omega (arith, before.counted, turn.counts) in
+      let more : printed 1 before.replies ++ reply_text q.count reply_now
       ≡ printed 1 replies_so_far =
       ap (λ k. printed 1 before.replies ++ reply_text k reply_now) place
       ∙ sym (printed_push 1 before.replies reply_now) in
       subst (Appends start q.output) more
       (Appends-trans start p.output q.output (printed 1 before.replies)
-      (reply_text (turn.index + 1) reply_now) before.appended turn.says.prints)
+      (reply_text q.count reply_now) before.appended turn.says.prints)
 
   worst_push : q.status ≡ status_of replies_so_far
   worst_push =
@@ -161,23 +150,20 @@ module _ {S : Type 0} (shows : S → World → Type 0) (keeps : S → List Rings
   -- it does not end the program
   pub printed_more : turn.status ≢ 2 → PrintedBefore shows keeps script start q
   printed_more other =
-      let next = first_and_rest {t = q.left.iter} before.yields turn.text turn.step.0 in
       let taken = turn.says.answers before.held before.shown in
       let goes = no_last reply_now (λ e. other (turn.says.is ∙ e)) in
       record {
         replies = replies_so_far;
         counted =
             let more = length-append before.replies (reply_now ∷ []) in
-            omega (arith, before.counted, turn.step.2, more);
+            omega (arith, before.counted, turn.counts, more);
         held = taken.0;
         shown = taken.2;
-        texts = next.0;
-        yields = next.2;
         follow = λ rs follows.
             subst (Replies awaited (lines script))
             (sym (append_assoc before.replies (reply_now ∷ []) rs))
             (before.follow (reply_now ∷ rs)
-            (subst (λ ls. Replies before.held ls (reply_now ∷ rs)) (sym next.1)
+            (subst (λ ls. Replies before.held ls (reply_now ∷ rs)) (sym turn.step)
             (taken.0, taken.1, goes_on reply_now rs _ goes follows)));
         worst = worst_push;
         appended = appended_push;
@@ -186,30 +172,27 @@ module _ {S : Type 0} (shows : S → World → Type 0) (keeps : S → List Rings
   -- it ends the program
   pub printed_last : turn.status ≡ 2 → PrintsReplies script q.status start q.output
   printed_last last =
-      let next = first_and_rest {t = q.left.iter} before.yields turn.text turn.step.0 in
       let taken = turn.says.answers before.held before.shown in
       let ends = last_reply reply_now (sym turn.says.is ∙ last) in
       record {
         replies = replies_so_far;
         follow = before.follow (reply_now ∷ [])
-            (subst (λ ls. Replies before.held ls (reply_now ∷ [])) (sym next.1)
-            (taken.0, taken.1, ends_here reply_now ends (Replies taken.0 next.0 [])));
+            (subst (λ ls. Replies before.held ls (reply_now ∷ [])) (sym turn.step)
+            (taken.0, taken.1, ends_here reply_now ends (Replies taken.0 (lines q.rest) [])));
         worst = worst_push;
         appended = appended_push;
       }
 
 -- no line is left
 pub printed_all : {S : Type 0} (shows : S → World → Type 0) (keeps : S → List Rings) (script : List ℕ)
-    (start : Option (List ℕ)) (p : Point S) (later : Enumerate Lines)
-    → PrintedBefore shows keeps script start p → enumerate_steps lines_steps p.left None later
-    → PrintsReplies script p.status start p.output
-printed_all shows keeps script start p later before step =
-    let none : [] ≡ before.texts =
-    (YieldsList-end before.yields [] p.left.iter refl None later.iter refl step.0).0 in
+    (start : Option (List ℕ)) (p : Point S) → PrintedBefore shows keeps script start p
+    → length p.rest ≡ 0 → PrintsReplies script p.status start p.output
+printed_all shows keeps script start p before none =
     record {
       replies = before.replies;
       follow = subst (Replies awaited (lines script)) (append-nil before.replies)
-          (before.follow [] (subst (λ ls. Replies before.held ls []) none refl));
+          (before.follow [] (subst (λ t. Replies before.held (lines t) [])
+          (sym (nil_from_length p.rest none)) refl));
       worst = before.worst;
       appended = before.appended;
     }

@@ -1,12 +1,14 @@
 -- How a script's space follows the definitions.
-use Rattle.std.proofs.Common.{◌≡◌, ℕ, true, List, [], Result, Ok, Err, Option, Some, None, is_some, OnSome, IfOk, IfSome, refl, ap, inl, subst}
+use Rattle.std.proofs.Common.{◌≡◌, ◌≢◌, ℕ, true, List, [], Result, Ok, Err, Option, Some, None, is_some, OnSome, IfOk, IfSome, refl, ap, inl, subst}
 use Rattle.std.specs.Result.{result_ok}
 use Rattle.lines.specs.declared.line.Line.{Line}
 use Rattle.lines.specs.Operands.{read}
 use Rattle.ids.specs.Limits.{Shaped}
 use Rattle.ids.specs.declared.refusal.Refusal.{Refusal}
 use Rattle.model.specs.World.{FollowsStep, World, new_world, take_step}
+use Rattle.model.specs.declared.event.Event.{Event}
 use Rattle.model.specs.declared.step.Step.{Step}
+use Rattle.model.specs.declared.step.Step.TheVariants as step
 use Rattle.model.specs.declared.step.Outcome.{Outcome}
 use Rattle.model.specs.declared.step.Outcome.TheVariants as outcome
 use Rattle.commands.specs.declared.script.Reply.TheVariants as reply
@@ -34,6 +36,16 @@ pub read_some : {X : Type 0} (done : Option X) (l : Line) (said : Option Line)
     → read done l ≡ said → is_some done ≡ true → Some l ≡ said
 read_some None l said e done = absurd cc
 read_some (Some d) l said e done = e
+
+-- a step that is no event leaves the sums
+pub no_sweep : (w : World) (s : Step) (o : Outcome) (sums : List ℕ)
+    → ((i : ℕ) (e : Event) → s ≢ step.Act i e) → (P : List ℕ → Type 0) → P sums
+    → P (freed_after w s o sums)
+no_sweep w (step.Act i e) o sums other P p = absurd (other i e refl)
+no_sweep w (step.Save i) o sums other P p = p
+no_sweep w (step.Restart i) o sums other P p = p
+no_sweep w (step.Deliver from to number) o sums other P p = p
+no_sweep w (step.Hand from to) o sums other P p = p
 
 module _ {S : Type 0} (shows : S → World → Type 0) (keeps : S → List Rings) where
   pub made_shows : (h : Held) (sizes : Shaped) (x : S) (f : Freed)

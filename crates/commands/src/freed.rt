@@ -2,10 +2,12 @@
 //! answered, so memory that is refused to them makes later reports fail and no sweep.
 ghost use Rattle.std.specs.Prelude.{◌≡◌, ◌≢◌, ℕ, ◌-◌, ◌+◌, ◌<◌, List, [], IfOk, IfErr, OnSome, slice_index, slice_set};
 ghost use Rattle.ids.specs.declared.refusal.Refusal.TheVariants.{Memory};
+ghost use Rattle.model.specs.declared.step.Outcome.TheVariants as outcome;
+ghost use Rattle.model.specs.declared.step.Step.TheVariants as step;
 ghost use Rattle.commands.specs.Freed.{KeepsSums, freed_in, freed_more, padded, sweeper};
 
 use ids::Refusal;
-use model::{Answer, Event, Outcome, Step};
+use model::{Answer, Event};
 use std::alloc::Global;
 
 /// Of each cycle from the first on, how many objects its sweeps freed. None where memory for that
@@ -74,22 +76,22 @@ fn add_at(sums: &mut Vec<u64>, cycle: usize, count: u64) -> Option<()>
     Some(())
 }
 
-/// The node that a step asks to sweep.
-pub(crate) fn sweeper(step: &Step) -> Option<u8>
-    ensures { result ≡ sweeper step.now }
+/// The node that is asked to sweep, where an event of this node asks for that.
+pub(crate) fn sweeper(node: u8, event: &Event) -> Option<u8>
+    ensures { result ≡ sweeper (step.Act node event.now) }
 {
-    match step {
-        Step::Act(node, Event::Sweep { .. }) => Some(*node),
+    match event {
+        Event::Sweep { .. } => Some(node),
         _ => None,
     }
 }
 
-/// How many objects were freed, where an outcome says so.
-pub(crate) fn freed_in(outcome: &Outcome) -> Option<u32>
-    ensures { result ≡ freed_in outcome.now }
+/// How many objects were freed, where an answer says so.
+pub(crate) fn freed_by(answer: &Answer) -> Option<u32>
+    ensures { result ≡ freed_in (outcome.Answer answer.now) }
 {
-    match outcome {
-        Outcome::Answer(Answer::Freed { count, .. }) => Some(*count),
+    match answer {
+        Answer::Freed { count, .. } => Some(*count),
         _ => None,
     }
 }

@@ -3,6 +3,7 @@
 //! contract says so of every writer that says what it holds.
 #![tactic(auto)]
 
+mod first_line;
 mod frames;
 mod freed;
 mod script;

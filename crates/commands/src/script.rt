@@ -3,11 +3,15 @@
 ghost use Rattle.std.specs.Prelude.{◌≡◌, ◌≤◌, ◌⊎◌, ◌++◌, ◌∷◌, [], ℕ, List, Some, IfOk, IfErr, IfSome, OnSome, IsTrue, ◌≢◌};
 ghost use Rattle.std.specs.Io.KnownBytes.{Appends};
 ghost use Rattle.ids.specs.declared.refusal.Refusal.TheVariants.{Memory, ImageTooLarge};
+ghost use Rattle.model.specs.Steps.{is_own};
+ghost use Rattle.model.specs.declared.event.Event.{Event};
+ghost use Rattle.model.specs.declared.step.Outcome.TheVariants as outcome;
 ghost use Rattle.model.specs.declared.step.Step.{Step};
+ghost use Rattle.model.specs.declared.step.Step.TheVariants as steps;
 ghost use Rattle.model.specs.World.{World, FollowsStep, new_world, is_own_step, is_step_memory_free};
 ghost use Rattle.node.specs.Keeping.{Rings};
 ghost use Rattle.world.specs.Shows.{summary_at};
-ghost use Rattle.world.specs.Spaces.{KeepsAfter, ShowsSpace, step_met};
+ghost use Rattle.world.specs.Spaces.{KeepsAfter, ShowsSpace, outcome_by, step_met};
 ghost use Rattle.commands.specs.Freed.{KeepsSums, freed_with};
 ghost use Rattle.lines.specs.Grammar.{line_of, words_of};
 ghost use Rattle.commands.specs.Script.{MayBeTooLarge, Moves, PrintsNoScript, PrintsReplies};
@@ -15,13 +19,15 @@ ghost use Rattle.commands.specs.Script.{RunsScript, TakesLine, TakesReport, Take
 ghost use Rattle.commands.specs.Script.{TakesState, TakesStep, none_kept, reply_text, status_after};
 ghost use Rattle.commands.specs.Script.{PrintsReply};
 ghost use Rattle.commands.specs.declared.script.Reply.TheVariants as reply;
+ghost use Rattle.commands.specs.declared.script.State.TheVariants as state;
 ghost use Rattle.lines.specs.declared.line.Line.TheVariants as line;
 ghost use Rattle.lines.specs.Text.{refused_text};
 
-use crate::freed::{Freed, freed_in, sweeper};
+use crate::first_line::first_line;
+use crate::freed::{Freed, freed_by, sweeper};
 use ids::{Refusal, Shape};
-use lines::{Line, SummaryText, print_outcome, print_report};
-use model::{Outcome, Step};
+use lines::{Line, SummaryText, print_answer, print_outcome, print_report};
+use model::{Answer, Event, Outcome, Step};
 use node::Summary;
 use std::alloc::Global;
 use std::io;
@@ -66,6 +72,21 @@ trait Space: Drop + Sized {
         ensures too_large { (w : World) → shows self.old w
             → IfErr result (λ e. e ≡ ImageTooLarge → MayBeTooLarge w step) };
 
+    /// Gives a node an event of its own: the step [`Step::Act`], but it gives the node's answer
+    /// alone.
+    fn act(&mut self, node: u8, event: Event) -> Result<Answer, Refusal>
+        requires own { IsTrue (is_own event) }
+        ensures follows { (w : World) → shows self.old w
+            → FollowsStep shows w (step_met (keeps self.old) (steps.Act node event))
+            (outcome_by (λ a. outcome.Answer a) result) self.new }
+        ensures early { (w : World) → shows self.old w
+            → KeepsAfter w (keeps self.old) (steps.Act node event)
+            (outcome_by (λ a. outcome.Answer a) result) (keeps self.new) }
+        ensures memory_free { (w : World) → shows self.old w
+            → IsTrue (is_step_memory_free w (step_met (keeps self.old) (steps.Act node event)))
+            → IfErr result (λ e. e ≢ Memory) }
+        ensures small { IfErr result (λ e. e ≢ ImageTooLarge) };
+
     /// The node of this number in numbers, if there is one.
     fn state(&self, number: u8) -> Option<Summary>
         ensures shown { (w : World) → shows self.now w → result ≡ summary_at w number };
@@ -82,6 +103,11 @@ impl Space for Sim {
 
     fn step(&mut self, step: Step) -> Result<Outcome, Refusal> {
         Sim::step(self, step)
+    }
+
+    #[inline(always)]
+    fn act(&mut self, node: u8, event: Event) -> Result<Answer, Refusal> {
+        Sim::act(self, node, event)
     }
 
     fn state(&self, number: u8) -> Option<Summary> {
@@ -175,8 +201,13 @@ fn run_lines<S: Space, W: Write>(alloc: Global, script: &str, out: &mut W) -> Op
     let mut state = State::<S>::Unopened;
     let mut status = DONE;
     let mut said = Line::Blank;
-    for (index, text) in script.lines().enumerate() {
-        let reached = run_line(alloc, &mut state, &mut said, index + 1, text, out)?;
+    let mut rest = script;
+    let mut number = 0;
+    while !rest.is_empty() {
+        let (text, others) = first_line(rest);
+        rest = others;
+        number += 1;
+        let reached = run_line(alloc, &mut state, &mut said, number, text, out)?;
         status = status.max(reached);
         if reached == UNREADABLE {
             return Some(status);
@@ -210,7 +241,7 @@ fn run_line<S: Space, W: Write>(
 }
 
 /// Takes a step of the space, where it was asked for, and prints what becomes of it. Most lines are
-/// steps, so their outcomes are not moved into replies.
+/// steps, and most steps events, so what they come to is not moved into replies.
 fn run_step<S: Space, W: Write>(
     state: &mut State<S>,
     number: usize,
@@ -225,19 +256,63 @@ fn run_step<S: Space, W: Write>(
     match state {
         State::Unopened => print_no_command(out, number),
         State::Refused(refusal) => print_refusal(out, *refusal),
-        State::Open { space, freed } => {
-            let swept = sweeper(step);
-            match space.step(*step) {
-                Ok(outcome) => {
-                    note(space, freed, swept, freed_in(&outcome));
-                    match print_outcome(out, outcome) {
-                        Ok(()) => Some(DONE),
-                        Err(_) => None,
-                    }
-                }
-                Err(refusal) => print_refusal(out, refusal),
+        State::Open { space, freed } => match step {
+            Step::Act(node, event) => run_event(space, freed, *node, event, out),
+            _ => run_move(space, freed, step, out),
+        },
+    }
+}
+
+/// Gives a node an event, and prints what becomes of it.
+#[inline(always)]
+fn run_event<S: Space, W: Write>(
+    space: &mut S,
+    freed: &mut Freed,
+    node: u8,
+    event: &Event,
+    out: &mut W,
+) -> Option<u8>
+    requires { IsTrue (is_own event.now) }
+    ensures { (number : ℕ) → IfSome result (PrintsReply S.shows S.keeps
+        (λ h r later. TakesStep h (steps.Act node event.now) r later) number
+        (state.Open space.old freed.old) (state.Open space.new freed.new)
+        (W.contents out.old) (W.contents out.new)) }
+{
+    let swept = sweeper(node, event);
+    match &space.act(node, *event) {
+        Ok(answer) => {
+            note(space, freed, swept, freed_by(answer));
+            match print_answer(out, answer) {
+                Ok(()) => Some(DONE),
+                Err(_) => None,
             }
         }
+        Err(refusal) => print_refusal(out, *refusal),
+    }
+}
+
+/// Takes a step that is no event, and prints what becomes of it. (Kept out of what calls it: what
+/// becomes of a step is large.)
+#[inline(never)]
+fn run_move<S: Space, W: Write>(
+    space: &mut S,
+    freed: &mut Freed,
+    step: &Step,
+    out: &mut W,
+) -> Option<u8>
+    requires own { IsTrue (is_own_step step.now) }
+    requires other { (node : ℕ) (event : Event) → step.now ≢ steps.Act node event }
+    ensures { (number : ℕ) → IfSome result (PrintsReply S.shows S.keeps
+        (λ h r later. TakesStep h step.now r later) number
+        (state.Open space.old freed.old) (state.Open space.new freed.new)
+        (W.contents out.old) (W.contents out.new)) }
+{
+    match &space.step(*step) {
+        Ok(outcome) => match print_outcome(out, outcome) {
+            Ok(()) => Some(DONE),
+            Err(_) => None,
+        },
+        Err(refusal) => print_refusal(out, *refusal),
     }
 }
 
@@ -303,7 +378,7 @@ fn print_reply<W: Write>(out: &mut W, number: usize, reply: &Reply) -> Option<u8
 {
     match reply {
         Reply::Nothing => {}
-        Reply::Outcome(outcome) => print_outcome(out, *outcome).ok()?,
+        Reply::Outcome(outcome) => print_outcome(out, outcome).ok()?,
         Reply::Summary(summary) => writeln!(out, "{}", SummaryText(*summary)).ok()?,
         Reply::Report(sums) => print_report(out, sums).ok()?,
         Reply::Refused(refusal) => return print_refusal(out, *refusal),

@@ -10,7 +10,7 @@ use Rattle.std.proofs.lemmas.List.{take-take}
 use Rattle.std.proofs.lemmas.List.Sums.{prefix_len-drop_yes, prefix_len-le-length}
 use Rattle.lines.specs.declared.line.TheConstants.{MOST_DIGITS}
 use Rattle.lines.specs.Grammar.{is_number, u64_of, value_after}
-use Rattle.lines.specs.Words.{digit_count, ends_word, fits_word, is_space, word_end, word_of}
+use Rattle.lines.specs.Words.{digit_count, ends_word, fits_word, is_space, starts_number, word_end, word_of}
 use Rattle.lines.proofs.Numbers.{value_checked}
 use Rattle.lines.proofs.Words.{drop_one, take_one}
 
@@ -51,6 +51,25 @@ module _ (n i : ℕ) (text : List ℕ) (within : i < length text)
 
   pub one_more : digit_count (drop i text) ≡ 1 + digit_count (drop (i + 1) text)
   one_more = prefix_len-drop_yes is_ascii_digit text i 0 within is
+
+-- ---- the first digit
+
+pub no_digits : (text : List ℕ) → starts_number text ≡ false → 0 ≡ digit_count text
+no_digits [] none = refl
+no_digits (c ∷ cs) none = sym (ap (λ (t : Bool). cond t (1 + digit_count cs) 0) none)
+
+pub spell_none : (text : List ℕ) → starts_number text ≡ false
+    → Some 0 ≡ value_after 0 (take (digit_count text) text)
+spell_none text none = ap (λ (k : ℕ). value_after 0 (take k text)) (no_digits text none)
+
+pub some_digit : (text : List ℕ) → starts_number text ≡ true → 0 < length text
+some_digit [] is = absurd cc
+some_digit (c ∷ cs) is = omega arith
+
+pub digit_first : (text : List ℕ) → starts_number text ≡ true
+    → is_ascii_digit (get_or text 0 0) ≡ true
+digit_first [] is = absurd cc
+digit_first (c ∷ cs) is = is
 
 -- tests of numbers that are one more
 eq_suc : (a b : ℕ) → (1 + a == 1 + b) ≡ (a == b)

@@ -1,9 +1,10 @@
 //! The front of a line: its first word, and the number that it spells. All of it is small and is
 //! always inlined, since a result of several words would else go through memory.
-ghost use Rattle.std.specs.Prelude.{◌≡◌, IfSome, take, option_map};
+ghost use Rattle.std.specs.Prelude.{◌≡◌, ◌<◌, ◌-◌, IfSome, length, option_map, slice_index, take, true};
+ghost use Rattle.std.specs.Char.{is_ascii_digit};
 ghost use Rattle.std.specs.List.{prefix_len, position_or_len};
 ghost use Rattle.lines.specs.Grammar.{u64_of, value_after};
-ghost use Rattle.lines.specs.Words.{IsTrimmed, behind, digit_count, ends_word, fits_word, is_space, past, word_of};
+ghost use Rattle.lines.specs.Words.{IsTrimmed, behind, digit_count, ends_word, fits_word, is_space, past, starts_number, word_of};
 
 use crate::line::MOST_DIGITS;
 
@@ -89,15 +90,44 @@ pub(crate) fn read_u64(word: &str) -> Option<u64>
     Some(number)
 }
 
-// The number that the digits at the front spell, where it fits, and how many they are.
+// The number that the digits at the front spell, where it fits, and how many they are. (The first
+// one always fits, and most numbers have no other.)
 #[inline(always)]
+#[tactic(auto, using(crate::proofs::Fronts::no_digits, crate::proofs::Fronts::spell_none, crate::proofs::Fronts::some_digit, crate::proofs::Fronts::digit_first))]
 fn leading_digits(text: &[u8]) -> Option<(u64, usize)>
     ensures number { option_map (λ r. r.0) result
         ≡ value_after 0 (take (digit_count text.now) text.now) }
     ensures len { IfSome result (λ r. r.1 ≡ digit_count text.now) }
 {
-    let mut number: u64 = 0;
-    let mut len = 0;
+    if !starts_number(text) {
+        return Some((0, 0));
+    }
+    more_digits(text, u64::from(text[0] - b'0'))
+}
+
+// Whether a digit stands at the front.
+#[inline(always)]
+fn starts_number(text: &[u8]) -> bool
+    ensures { result ≡ starts_number text.now }
+{
+    match text {
+        [] => false,
+        [byte, ..] => byte.is_ascii_digit(),
+    }
+}
+
+// The same of a text that begins with a digit, which spells this number.
+#[inline(always)]
+fn more_digits(text: &[u8], first: u64) -> Option<(u64, usize)>
+    requires some { 0 < length text.now }
+    requires digit { is_ascii_digit (slice_index text.now 0) ≡ true }
+    requires first { first ≡ slice_index text.now 0 - 48 }
+    ensures number { option_map (λ r. r.0) result
+        ≡ value_after 0 (take (digit_count text.now) text.now) }
+    ensures len { IfSome result (λ r. r.1 ≡ digit_count text.now) }
+{
+    let mut number = first;
+    let mut len = 1;
     while len < text.len() && text[len].is_ascii_digit() {
         number = number
             .checked_mul(10)?

@@ -1,22 +1,33 @@
 //! Prints what a script's lines come to.
 ghost use Rattle.std.specs.Prelude.{◌≡◌, ◌∷◌, [], ◌++◌, OnOk};
 ghost use Rattle.std.specs.Io.KnownBytes.{Appends};
-ghost use Rattle.lines.specs.Text.{cycle_line, outcome_text, report_text};
+ghost use Rattle.lines.specs.Text.{answer_text, cycle_line, outcome_text, report_text};
 
 use crate::ending::Ending;
-use crate::text::put_outcome;
-use model::Outcome;
+use crate::text::{put_answer, put_outcome};
+use model::{Answer, Outcome};
 use std::io;
 use std::io::Write;
 
 /// Prints what became of a step that was not refused, in one call.
-pub fn print_outcome<W: Write>(out: &mut W, outcome: Outcome) -> io::Result<()>
+pub fn print_outcome<W: Write>(out: &mut W, outcome: &Outcome) -> io::Result<()>
     ensures { OnOk result
-        (Appends (W.contents out.old) (W.contents out.new) (outcome_text outcome ++ 10 ∷ [])) }
+        (Appends (W.contents out.old) (W.contents out.new) (outcome_text outcome.now ++ 10 ∷ [])) }
 {
     let mut line = Ending::new();
     line.put_byte(b'\n');
     put_outcome(&mut line, outcome);
+    out.write_all(line.as_bytes())
+}
+
+/// Prints what a node answered, in one call.
+pub fn print_answer<W: Write>(out: &mut W, answer: &Answer) -> io::Result<()>
+    ensures { OnOk result
+        (Appends (W.contents out.old) (W.contents out.new) (answer_text answer.now ++ 10 ∷ [])) }
+{
+    let mut line = Ending::new();
+    line.put_byte(b'\n');
+    put_answer(&mut line, answer);
     out.write_all(line.as_bytes())
 }
 

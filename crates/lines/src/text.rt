@@ -43,7 +43,7 @@ impl fmt::Display for OutcomeText {
 
     fn fmt<W: fmt::Write>(&self, f: &mut fmt::Formatter<W>) -> fmt::Result {
         let mut text = Ending::new();
-        put_outcome(&mut text, self.0);
+        put_outcome(&mut text, &self.0);
         // (each of these texts is ASCII, but no clause says that)
         match str::from_utf8(text.as_bytes()) {
             Ok(text) => f.write_str(text),
@@ -54,39 +54,39 @@ impl fmt::Display for OutcomeText {
 
 /// Puts what became of a step that was not refused before a text.
 #[tactic(auto, using(crate::proofs::Endings::both))]
-pub(crate) fn put_outcome(text: &mut Ending, outcome: Outcome)
+pub(crate) fn put_outcome(text: &mut Ending, outcome: &Outcome)
     requires { (LONGEST ≤ text.old.start) × (text.old.start ≤ ROOM) }
-    ensures grows { Grows (outcome_text outcome) text.old text.new }
+    ensures grows { Grows (outcome_text outcome.now) text.old text.new }
     ensures room { text.new.start ≤ text.old.start }
 {
     match outcome {
         Outcome::Answer(answer) => put_answer(text, answer),
         Outcome::Done => text.put(b"ok"),
-        Outcome::Handed(number) => put_named(text, b"ack ", number),
+        Outcome::Handed(number) => put_named(text, b"ack ", *number),
         Outcome::NoFrame => text.put(b"no frame"),
     }
 }
 
 /// Puts what a node answered before a text.
 #[tactic(auto, using(crate::proofs::Endings::both))]
-fn put_answer(text: &mut Ending, answer: Answer)
+pub(crate) fn put_answer(text: &mut Ending, answer: &Answer)
     requires { (LONGEST ≤ text.old.start) × (text.old.start ≤ ROOM) }
-    ensures grows { Grows (said answer) text.old text.new }
+    ensures grows { Grows (said answer.now) text.old text.new }
     ensures room { text.new.start ≤ text.old.start }
 {
     match answer {
-        Answer::New(reference) => text.put_reference(reference),
+        Answer::New(reference) => text.put_reference(*reference),
         Answer::Done => text.put(b"ok"),
-        Answer::Value(value) => text.put_optional(value),
-        Answer::Word(word) => text.put_number(word),
-        Answer::Sent(number) => put_named(text, b"sent ", number),
+        Answer::Value(value) => text.put_optional(*value),
+        Answer::Word(word) => text.put_number(*word),
+        Answer::Sent(number) => put_named(text, b"sent ", *number),
         Answer::Letter(letter) => put_letter(text, letter),
-        Answer::Begun(cycle) => put_named(text, b"cycle ", cycle),
-        Answer::Scanned(reference) => put_scanned(text, reference),
-        Answer::Passed(token) => put_passed(text, token),
+        Answer::Begun(cycle) => put_named(text, b"cycle ", *cycle),
+        Answer::Scanned(reference) => put_scanned(text, *reference),
+        Answer::Passed(token) => put_passed(text, *token),
         Answer::ProbeAgain => text.put(b"probe again"),
-        Answer::Ended(cycle) => put_named(text, b"ended ", cycle),
-        Answer::Freed { count, done } => put_freed(text, count, done),
+        Answer::Ended(cycle) => put_named(text, b"ended ", *cycle),
+        Answer::Freed { count, done } => put_freed(text, *count, *done),
         Answer::Received => text.put(b"received"),
         Answer::Repeat => text.put(b"repeat"),
         Answer::Early => text.put(b"early"),
@@ -106,9 +106,9 @@ fn put_named(text: &mut Ending, name: &[u8], number: u64)
 
 /// Puts a letter that a program took before a text.
 #[tactic(auto, using(crate::proofs::Endings::both))]
-fn put_letter(text: &mut Ending, letter: Letter)
+fn put_letter(text: &mut Ending, letter: &Letter)
     requires { (LONGEST ≤ text.old.start) × (text.old.start ≤ ROOM) }
-    ensures grows { Grows (letter_text letter) text.old text.new }
+    ensures grows { Grows (letter_text letter.now) text.old text.new }
     ensures room { text.new.start ≤ text.old.start }
 {
     text.put_optional(letter.reference);

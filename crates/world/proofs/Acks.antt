@@ -21,7 +21,8 @@ use Rattle.laws.proofs.Base.{addressed-between}
 use Rattle.site.specs.Sites.{SiteView}
 use Rattle.world.specs.Shows.{ShowsWorld, Stepped, Given, IsPlaced, IsSim, IsAckOf, site_at}
 use Rattle.world.proofs.Refusals.{first-by}
-use Rattle.world.proofs.Steps.{Gives, outcome_by, given, nothing, are-nodes}
+use Rattle.world.specs.Spaces.{outcome_by}
+use Rattle.world.proofs.Steps.{Gives, given, nothing, are-nodes}
 
 pub hand-to-itself : (n : List SiteView) (from to : ℕ) → from < length n → to < length n → from ≡ to
     → Stepped (Ok outcome.NoFrame) n n (step.Hand from to)

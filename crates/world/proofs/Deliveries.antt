@@ -19,7 +19,8 @@ use Rattle.model.specs.World.{World, take_step, moved, released, delivery}
 use Rattle.site.specs.Outboxes.{IsFrameOf}
 use Rattle.site.specs.Sites.{SiteView}
 use Rattle.world.specs.Shows.{ShowsWorld, Stepped, Given, frame_at}
-use Rattle.world.proofs.Steps.{Gives, LetsGo, outcome_by, given, moves, lets-nothing-go, never, nothing, are-nodes}
+use Rattle.world.specs.Spaces.{outcome_by}
+use Rattle.world.proofs.Steps.{Gives, LetsGo, given, moves, lets-nothing-go, never, nothing, are-nodes}
 
 -- a number has a message and its frame, or neither
 both-numbered : (from to place : ℕ) (b : Bool) (sent : Option Message) (frame : Option (List ℕ))

@@ -32,10 +32,10 @@ use Rattle.laws.proofs.Net.{released-grows}
 use Rattle.node.specs.Keeping.{OfAll, Rings, early_after, no_rings, next_event, next_step, met, waiting}
 use Rattle.site.specs.Sites.{SiteView, KeepingSite, Acted, ActedKeeping, Saves, restarted}
 use Rattle.world.specs.Shows.{ShowsWorld, Stepped, Given, IsAckOf, IsSim, IsPlaced, frame_at, no_site, site_at}
-use Rattle.world.specs.Spaces.{SpaceView, GivenSpace, IsOfNet, KeepsAfter, ShowsSpace, SteppedSpace, early_of, given_early, kept_at, keeping_at, site_of, space_of, step_met}
+use Rattle.world.specs.Spaces.{SpaceView, GivenSpace, IsOfNet, KeepsAfter, ShowsSpace, SteppedSpace, early_of, given_early, kept_at, keeping_at, outcome_by, site_of, space_of, step_met}
 use Rattle.node.proofs.Kept.{of-none, after-all}
 use Rattle.world.proofs.Shows.{Changes}
-use Rattle.world.proofs.Steps.{Gives, outcome_by, acted, given-follows, given-free, given-lets-go, given-small, given-unchanged, no-node}
+use Rattle.world.proofs.Steps.{Gives, acted, given-follows, given-free, given-lets-go, given-small, given-unchanged, no-node}
 use Rattle.world.proofs.Acks.{hands}
 use Rattle.world.proofs.Deliveries.{IsReleased, delivered, delivery-gives, delivery-lets-go, found}
 

@@ -28,6 +28,7 @@ use Rattle.node.specs.Invariant.{IsNode}
 use Rattle.node.specs.Summaries.{summary_of}
 use Rattle.site.specs.Sites.{SiteView, Saves, bases, bases_acked}
 use Rattle.world.specs.Shows.{SiteBases, ShowsWorld, SavesTooLarge, Stepped, Given, IsSim, no_site, site_at, site_bases, bases_of, bases_at, bases_after, summary_at}
+use Rattle.world.specs.Spaces.{outcome_by}
 use Rattle.world.proofs.Refusals.{first-refused, first-memory, first-by, step-refused}
 use Rattle.world.proofs.NeverTooLarge.{event-other}
 use Rattle.site.proofs.Refusals.{memory-or}
@@ -165,11 +166,6 @@ LetsGo i e s o =
     (all : List SiteBases) (x : Answer) → bases_after all s (o x)
     ≡ set all i
     (record (bases_at all i) { current = bases_acked (bases_at all i).current (ack_of e) })
-
--- what became of the step
-abbrev pub outcome_by : (Answer → Outcome) → Result Answer Refusal → Result Outcome Refusal
-outcome_by o (Ok x) = Ok (o x)
-outcome_by o (Err f) = Err f
 
 -- what was let go of, after one site changed
 bases-changed : {n m : List SiteView} {i : ℕ} {q p : SiteView} (f : SiteBases → SiteBases)

@@ -97,6 +97,11 @@ KeepsAfter w all s r es = es ≡ all
 
 -- ---- a step
 
+-- what becomes of a step by which a node was given an event, by what the node answered
+abbrev pub outcome_by : (Answer → Outcome) → Result Answer Refusal → Result Outcome Refusal
+outcome_by o (Ok x) = Ok (o x)
+outcome_by o (Err f) = Err f
+
 -- A step against that of the definitions which it is, on each of their spaces that was shown
 -- before.
 abbrev pub FollowsSpace : Result Outcome Refusal → SpaceView → SpaceView → Step → Type 0

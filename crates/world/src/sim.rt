@@ -1,6 +1,6 @@
 //! A space in one thread. It finds the nodes that a step names; what becomes of one node is the
 //! site's matter.
-ghost use Rattle.std.specs.Prelude.{◌≡◌, ◌<◌, length, slice_get, Err, IsTrue, IfOk, IfErr, OnErr, ◌≢◌, ◌↔◌, replicate};
+ghost use Rattle.std.specs.Prelude.{◌≡◌, ◌<◌, length, slice_get, Err, IsTrue, IfOk, IfErr, OnOk, OnErr, ◌≢◌, ◌↔◌, replicate};
 ghost use Rattle.std.specs.Option.{option_copied, option_map};
 ghost use Rattle.ids.specs.declared.refusal.Refusal.TheVariants.{Memory, ImageTooLarge};
 ghost use Rattle.model.specs.Steps.{is_own};
@@ -27,6 +27,7 @@ ghost use Rattle.world.specs.Spaces.{
   ExtendsSpace,
   GivenSpace,
   KeepsAfter,
+  outcome_by,
   step_met,
 };
 
@@ -111,13 +112,37 @@ impl Sim {
         self.take(step)
     }
 
+    /// Gives a node an event that comes from no other node: the step [`Step::Act`], as
+    /// [`Sim::step`] takes it, but it gives the node's answer alone.
+    #[inline(always)]
+    pub fn act(&mut self, node: u8, event: Event) -> Result<Answer, Refusal>
+        requires own { IsTrue (is_own event) }
+        ensures follows { FollowsSpace (outcome_by (λ a. outcome.Answer a) result) self.old self.new
+            (step.Act node event) }
+        ensures runs { ExtendsSpace (outcome_by (λ a. outcome.Answer a) result) self.old self.new
+            (step.Act node event) }
+        ensures lets_go { OnOk result (bases_of self.new.sites ≡ bases_of self.old.sites) }
+        ensures unchanged { OnErr result (self.new.sites ≡ self.old.sites) }
+        ensures turn { step_met self.old.early (step.Act node event) ≢ step.Act node event
+            → IfOk result (λ a. a ≡ answer.Received) }
+        ensures early { (w : World) → ShowsSpace self.old w
+            → KeepsAfter w self.old.early (step.Act node event)
+            (outcome_by (λ a. outcome.Answer a) result) self.new.early }
+        ensures small { IfErr result (λ e. e ≢ ImageTooLarge) }
+        ensures memory_free { (w : World) → ShowsSpace self.old w
+            → IsTrue (is_step_memory_free w (step_met self.old.early (step.Act node event)))
+            → IfErr result (λ e. e ≢ Memory) }
+    {
+        self.answer(node, event)
+    }
+
     #[inline(always)]
     fn take(&mut self, step: Step) -> Result<Outcome, Refusal>
         requires own { IsTrue (is_own_step step) }
         ensures { SteppedSpace result self.old self.new step }
     {
         match step {
-            Step::Act(node, event) => self.act(node, event),
+            Step::Act(node, event) => self.act_step(node, event),
             Step::Save(node) => self.save(node),
             Step::Restart(node) => self.restart(node),
             Step::Deliver { from, to, number } => self.deliver(from, to, number),
@@ -162,15 +187,27 @@ impl Sim {
     }
 
     #[inline(always)]
-    fn act(&mut self, node: u8, event: Event) -> Result<Outcome, Refusal>
+    fn answer(&mut self, node: u8, event: Event) -> Result<Answer, Refusal>
         requires own { IsTrue (is_own event) }
-        ensures { SteppedSpace result self.old self.new (step.Act node event) }
+        ensures { SteppedSpace (outcome_by (λ a. outcome.Answer a) result) self.old self.new
+            (step.Act node event) }
     {
         if node >= self.count() {
             return Err(Refusal::NoNode);
         }
-        let answer = self.give(node, event)?;
-        Ok(Outcome::Answer(answer))
+        self.give(node, event)
+    }
+
+    // (apart from `step`, whose other steps want little)
+    #[inline(never)]
+    fn act_step(&mut self, node: u8, event: Event) -> Result<Outcome, Refusal>
+        requires own { IsTrue (is_own event) }
+        ensures { SteppedSpace result self.old self.new (step.Act node event) }
+    {
+        match self.answer(node, event) {
+            Ok(answer) => Ok(Outcome::Answer(answer)),
+            Err(refusal) => Err(refusal),
+        }
     }
 
     #[inline(never)]

@@ -1,12 +1,22 @@
+use Rattle.std.proofs.Common.{◌+◌, ◌≤◌, length}
+use denote.Text.{Utf8}
+use denote.Shadow.{shadow}
 use Rattle.commands.proofs.Printing.{PrintedBefore}
 use Rattle.commands.proofs.script.run_lines.Given as goal
 
-abbrev pub invariant-loop-index : goal.invariant-loop-index
-invariant-loop-index g l =
+-- what was printed, and that there are no more lines than bytes
+abbrev pub invariant-loop-rest : goal.invariant-loop-rest
+invariant-loop-rest g l =
     let contents = g.W.Write.contents in
-    PrintedBefore g.S.Space.shows g.S.Space.keeps l.script (contents l.initial.out) (record {
-      left = l.index-iterator;
+    shadow (Utf8 l.rest)
+    × (l.number + length l.rest ≤ length l.script)
+    × PrintedBefore g.S.Space.shows g.S.Space.keeps l.script (contents l.initial.out) (record {
+      rest = l.rest;
+      count = l.number;
       state = l.state;
       status = l.status;
       output = contents l.out;
     })
+
+abbrev pub decreases-loop-rest : goal.decreases-loop-rest
+decreases-loop-rest g l = length l.rest

@@ -1,7 +1,7 @@
 use Rattle.std.proofs.Common.{◌≡◌, ◌+◌, ◌-◌, ◌≤◌, length, drop, take}
 use Rattle.lines.specs.Grammar.{value_after}
 use Rattle.lines.specs.Words.{digit_count}
-use Rattle.lines.proofs.front.leading_digits.Given as goal
+use Rattle.lines.proofs.front.more_digits.Given as goal
 
 -- the digits that are left follow those of the number so far
 abbrev pub invariant-loop-len : goal.invariant-loop-len

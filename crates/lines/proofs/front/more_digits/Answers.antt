@@ -1,8 +1,8 @@
 use Rattle.std.proofs.Common.{◌≡◌, ◌+◌, ◌*◌, ◌-◌, ℕ, drop, get_or, sym, ap, ◌∙◌, arith, option_map}
 use Rattle.lines.specs.Grammar.{value_after}
 use Rattle.lines.proofs.Fronts.{digits_of, goes_on, larger, one_more}
-use Rattle.lines.proofs.front.leading_digits.Goals as goal
-use Rattle.lines.proofs.front.leading_digits.Goals.{After-is_ascii_digit}
+use Rattle.lines.proofs.front.more_digits.Goals as goal
+use Rattle.lines.proofs.front.more_digits.Goals.{After-is_ascii_digit}
 
 pub returns-in_err-checked_mul-clause-number : goal.returns-in_err-checked_mul-clause-number
 returns-in_err-checked_mul-clause-number c =
@@ -20,6 +20,18 @@ returns-in_err-number-clause-number c =
     (sym c.is_ascii_digit.ensures.value ∙ c.if-is_ascii_digit.true)
     (λ fits. c.in_err-number.ensures
     (omega (arith, fits, c.in_ok-checked_mul.ensures.1, c.from.ensures))))
+
+pub loop-len-init : goal.loop-len-init
+loop-len-init c =
+    let text = c.args.text.now in
+    let sum : c.args.first ≡ 0 * 10 + (get_or text 0 0 - 48) = omega (arith, c.requires.first) in
+    record {
+      within = omega (arith, c.requires.some);
+      count = one_more 0 0 text c.requires.some c.requires.digit;
+      number = ap (λ (k : ℕ). value_after k (digits_of (drop 1 text))) sum
+          ∙ goes_on 0 0 text c.requires.some c.requires.digit
+          (omega (arith, sum, c.ranges.first.fits));
+    }
 
 pub loop-len-preserved : goal.loop-len-preserved
 loop-len-preserved c =

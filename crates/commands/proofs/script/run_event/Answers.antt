@@ -1,0 +1,54 @@
+use Rattle.std.proofs.Common.{subst, refl, rules}
+use Rattle.model.specs.declared.step.Outcome.TheVariants as outcome
+use Rattle.model.specs.declared.step.Step.TheVariants as step
+use Rattle.commands.specs.Freed.{KeepsSums, freed_in, freed_with}
+use Rattle.commands.specs.declared.script.Reply.TheVariants as reply
+use Rattle.commands.proofs.Replies.{outcome_shows, printed_as, refusal_shows}
+use Rattle.commands.proofs.script.run_event.Goals as goal
+
+pub returns-in-Ok-print_answer : goal.returns-in-Ok-print_answer
+returns-in-Ok-print_answer g c number =
+    let shows = g.S.Space.shows in
+    let keeps = g.S.Space.keeps in
+    let o = outcome.Answer c.in-Ok.answer in
+    record {
+      reply = reply.Outcome o;
+      answers = λ h shown. outcome_shows shows keeps h (step.Act c.args.node c.args.event.now)
+          c.args.space.now _ c.args.freed.now _ o shown (rw c.in-Ok.is at c.act.ensures.follows)
+          (rw c.in-Ok.is at c.act.ensures.early)
+          (λ w sums there kept. subst (λ s. KeepsSums c.note.new.freed.sums
+          (freed_with w s (freed_in o) sums)) c.sweeper-swept.ensures
+          (subst (λ k. KeepsSums c.note.new.freed.sums
+          (freed_with w c.sweeper-swept.result k sums)) c.freed_by.ensures
+          (c.note.ensures w sums there kept)));
+      prints = c.in-Ok-print_answer.ensures;
+      is = refl;
+    }
+
+-- what has to hold of the refusal is searched for, so that another one fails at the fact that it
+-- breaks
+pub returns-in-Err : goal.returns-in-Err
+returns-in-Err g c number =
+    let shows = g.S.Space.shows in
+    let keeps = g.S.Space.keeps in
+    let follows = rw c.in-Err.is at c.act.ensures.follows in
+    let free = rw c.in-Err.is at c.act.ensures.memory_free in
+    let small = rw c.in-Err.is at c.act.ensures.small in
+    let early = rw c.in-Err.is at c.act.ensures.early in
+    printed_as c.print_refusal.result c.print_refusal.ensures.text c.print_refusal.ensures.status
+    (λ text status one. record {
+      reply = reply.Refused c.in-Err.refusal;
+      answers = λ h shown. refusal_shows shows keeps h (step.Act c.args.node c.args.event.now)
+          c.args.space.now _ c.args.freed.now _ shown
+          (λ w s. (
+            record {
+              first = search (rules, (follows w s).0);
+              memory_free = search (rules, free w s);
+              too_large = λ is. absurd (small is);
+            },
+            early w s,
+            (follows w s).1,
+          ));
+      prints = text;
+      is = one;
+    })

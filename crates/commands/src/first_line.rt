@@ -1,0 +1,56 @@
+//! The first line of a text. The end of most lines is near, so the next few bytes are searched at
+//! once before all others.
+ghost use Rattle.std.specs.Prelude.{◌≡◌, ◌<◌, ◌∷◌, length};
+ghost use Rattle.std.specs.Str.Lines.{lines, strip_carriage_return};
+ghost use Rattle.memchr.specs.Find.{IsFirstByte, is_byte};
+
+use memchr::memchr;
+
+// How many bytes are searched first.
+const NEAR: usize = 32;
+
+/// The first line of a text, without what ends it, and what stands behind it. A newline ends a
+/// line, or a carriage return and a newline; the last line may end with the text.
+#[inline(always)]
+pub(crate) fn first_line(text: &str) -> (&str, &str)
+    requires { 0 < length text.now }
+    ensures line { lines text.now ≡ result.0.now ∷ lines result.1.now }
+    ensures less { length result.1.now < length text.now }
+{
+    match line_end(text.as_bytes()) {
+        Some(end) => (without_return(&text[..end]), &text[end + 1..]),
+        None => (text, ""),
+    }
+}
+
+/// The place of the first newline.
+#[inline(always)]
+fn line_end(text: &[u8]) -> Option<usize>
+    ensures { IsFirstByte (is_byte 10) text.now result }
+{
+    match memchr(b'\n', &text[..text.len().min(NEAR)]) {
+        Some(end) => Some(end),
+        None => far_line_end(text),
+    }
+}
+
+/// The same of a line that is long.
+#[inline(never)]
+fn far_line_end(text: &[u8]) -> Option<usize>
+    ensures { IsFirstByte (is_byte 10) text.now result }
+{
+    memchr(b'\n', text)
+}
+
+/// The text without the carriage return at its end, if one stands there.
+#[inline(always)]
+fn without_return(text: &str) -> &str
+    ensures { result.now ≡ strip_carriage_return text.now }
+{
+    let len = text.len();
+    if 0 < len && text.as_bytes()[len - 1] == b'\r' {
+        &text[..len - 1]
+    } else {
+        text
+    }
+}
