@@ -5,7 +5,7 @@ use crate::events::event_of;
 use crate::out::Out;
 use ids::{NodeId, Refusal, Shape};
 use model::{Answer, Event};
-use msg::{Frame, decode, encode};
+use msg::{Colour, Frame, decode, encode};
 use node::{Node, Summary};
 use std::alloc::Global;
 use std::fmt;
@@ -182,10 +182,14 @@ impl fmt::Display for InNumbers {
 }
 
 fn put_cycle<W: fmt::Write>(f: &mut fmt::Formatter<W>, state: &Summary) -> fmt::Result {
+    let colour = match state.colour {
+        Colour::White => "white",
+        Colour::Black => "black",
+    };
     write!(
         f,
-        "cycle {} ended {} swept {} colour {} ",
-        state.cycle, state.ended, state.swept, state.colour
+        "cycle {} ended {} swept {} colour {colour} ",
+        state.cycle, state.ended, state.swept
     )
 }
 

@@ -172,6 +172,7 @@ impl Readable for u64 {
 /// bytes are fewer than the values, the reader fails without taking memory; `Memory` where a growth
 /// was refused.
 #[tactic(auto, using(crate::proofs::Joins::lists))]
+#[inline(always)]
 pub(crate) fn many<T: Readable>(
     alloc: Global,
     version: Version,

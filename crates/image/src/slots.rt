@@ -44,21 +44,14 @@ fn put_occupied(out: &mut Writer, generation: Generation, object: &Object)
     put_all(out, places);
 }
 
-// A free slot's bytes.
-#[tactic(auto, unfolding(crate::specs::Numbers::number8))]
-fn free_bytes(generation: Generation) -> [u8; 9]
-    ensures { result ≡ 0 ∷ number8.spell generation }
-{
-    let mut part = [0; 9];
-    part[0] = FREE;
-    BigEndian::write_u64(&mut part[1..], generation);
-    part
-}
-
+#[tactic(auto, unfolding(crate::specs::Grammar::slot_format), using(crate::proofs::Joins::gained, crate::proofs::Joins::piece_written))]
 fn put_free(out: &mut Writer, generation: Generation)
     ensures { Puts (slot_format Second) out.old out.new (Free generation) }
 {
-    out.append(&free_bytes(generation));
+    let mut piece = Piece::new();
+    piece.u8(FREE);
+    piece.u64(generation);
+    out.append(piece.as_slice());
 }
 
 #[tactic(auto, unfolding(crate::specs::Grammar::slot_format))]

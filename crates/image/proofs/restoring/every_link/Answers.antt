@@ -31,25 +31,25 @@ insert-requires c =
       length-map c.loop-link.yielded link_of,
     )
 
-pub returns-clause-sent : goal.returns-clause-sent
-returns-clause-sent c =
+pub returns : goal.returns
+returns c =
     let all : c.loop-link.yielded ≡ c.args.stored.items = grind (arith, common_steps) in
-    rw (
-      c.in_ok-insert.ensures.items,
-      c.from.ensures,
-      map-insert link_given c.loop-link.links.items c.args.own _,
-      c.new.ensures.items,
-      c.loop-link.invariant.sent,
-      all,
-    ) refl
-
-pub returns-clause-taken : goal.returns-clause-taken
-returns-clause-taken c =
-    let all : c.loop-link.yielded ≡ c.args.stored.items = grind (arith, common_steps) in
-    rw (
-      c.in_ok-insert.ensures.items,
-      c.from.ensures,
-      map-insert taken_given c.loop-link.links.items c.args.own _,
-      c.loop-link.invariant.taken,
-      all,
-    ) refl
+    let links = c.loop-link.links.items in
+    record {
+      sent = rw (
+        c.in_ok-insert.ensures.items,
+        c.from.ensures,
+        map-insert link_given links c.args.own _,
+        c.new.ensures.items,
+        c.loop-link.invariant.sent,
+        all,
+      ) refl;
+      taken = rw (
+        c.in_ok-insert.ensures.items,
+        c.from.ensures,
+        map-insert taken_given links c.args.own _,
+        c.loop-link.invariant.taken,
+        all,
+      ) refl;
+      refused = tt;
+    }
