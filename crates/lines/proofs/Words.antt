@@ -6,7 +6,7 @@ use Rattle.std.proofs.lemmas.Bool.{eqb-true, cond-true, lt-ltb}
 use Rattle.std.proofs.lemmas.List.Sums.{prefix_len-le-length, passes_at_first}
 use Rattle.std.proofs.lemmas.Str.{IsUtf8-drop, IsCharBoundary-after_ascii, IsCharBoundary-from_drop}
 use Rattle.lines.specs.Grammar.{words_of}
-use Rattle.lines.specs.Words.{IsTrimmed, behind, is_space, past, word_end, word_of}
+use Rattle.lines.specs.Words.{IsTrimmed, behind, ends_word, is_space, past, word_end, word_of}
 
 -- the words of a text whose parts are these
 abbrev filled : List (List ℕ) → List (List ℕ)
@@ -153,3 +153,28 @@ pub cut_at_past : (text : List ℕ) → IsUtf8 text → IsCharBoundary text (pre
 cut_at_past text utf8 =
     IsCharBoundary-from_drop text (prefix_len is_space text) (prefix_len-le-length is_space text)
     (past_utf8 text utf8)
+
+-- ---- behind a word
+
+pub past_none : (text : List ℕ) → (length text == 0) ≡ true → text ≡ past text
+past_none [] none = refl
+past_none (b ∷ text) none = let is = eqb-true _ _ none in absurd (omega (arith, is))
+
+pub trimmed_none : (text : List ℕ) → (length text == 0) ≡ true → IsTrimmed text
+trimmed_none [] none = record { none = refl }
+trimmed_none (b ∷ text) none = let is = eqb-true _ _ none in absurd (omega (arith, is))
+
+-- a space ends a word
+pub past_one_space : (text : List ℕ) → ends_word text ≡ true → (length text == 0) ≡ false
+    → past (drop 1 text) ≡ past text
+past_one_space [] ends some = absurd cc
+past_one_space (b ∷ text) ends some =
+    sym (ap (λ (t : Bool). drop (cond t (1 + prefix_len is_space text) 0) (b ∷ text)) ends
+    ∙ drop_one b text (prefix_len is_space text))
+
+pub cut_at_one : (text : List ℕ) → IsUtf8 text → ends_word text ≡ true
+    → (length text == 0) ≡ false → IsCharBoundary text 1
+cut_at_one [] utf8 ends some = absurd cc
+cut_at_one (b ∷ text) utf8 ends some =
+    let is : b ≡ 32 = eqb-true b 32 ends in
+    IsCharBoundary-after_ascii (b ∷ text) 0 utf8 (omega arith) (omega (arith, is))

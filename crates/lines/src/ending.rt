@@ -86,6 +86,7 @@ impl Ending {
     }
 
     /// Puts a reference before it.
+    #[inline(always)]
     #[tactic(auto, using(crate::proofs::Endings::both))]
     pub(crate) fn put_reference(&mut self, reference: Ref)
         requires { (62 ≤ self.old.start) × (self.old.start ≤ ROOM) }
@@ -101,6 +102,7 @@ impl Ending {
     }
 
     /// Puts a reference before it, or a dash where there is none.
+    #[inline(always)]
     pub(crate) fn put_optional(&mut self, reference: Option<Ref>)
         requires { (62 ≤ self.old.start) × (self.old.start ≤ ROOM) }
         ensures grows { Grows (optional_text reference) self.old self.new }

@@ -41,6 +41,19 @@ pub(crate) fn past_spaces(text: &str) -> &str
     &text[space_len(text.as_bytes())..]
 }
 
+// What stands behind the spaces at the front, where a word ends before them.
+#[inline(always)]
+fn past_word(rest: &str) -> &str
+    requires { ends_word rest.now ≡ true }
+    ensures rest { result.now ≡ past rest.now }
+    ensures trimmed { IsTrimmed result.now }
+{
+    if rest.is_empty() {
+        return rest;
+    }
+    past_spaces(&rest[1..])
+}
+
 /// The word at the front, and what stands behind it from the next word on.
 #[inline(always)]
 pub(crate) fn first_word(text: &str) -> (&str, &str)
@@ -70,7 +83,7 @@ pub(crate) fn first_number(text: &str) -> Option<(u64, &str)>
     if !fits_word(len) {
         return None;
     }
-    Some((number, past_spaces(&text[len..])))
+    Some((number, past_word(&text[len..])))
 }
 
 /// The number that the word spells, where it fits.

@@ -68,6 +68,7 @@ pub(crate) fn put_outcome(text: &mut Ending, outcome: &Outcome)
 }
 
 /// Puts what a node answered before a text.
+#[inline(always)]
 #[tactic(auto, using(crate::proofs::Endings::both))]
 pub(crate) fn put_answer(text: &mut Ending, answer: &Answer)
     requires { (LONGEST ≤ text.old.start) × (text.old.start ≤ ROOM) }
@@ -94,6 +95,7 @@ pub(crate) fn put_answer(text: &mut Ending, answer: &Answer)
 }
 
 /// Puts a number, and its name before that.
+#[inline(always)]
 #[tactic(auto, using(crate::proofs::Endings::both))]
 fn put_named(text: &mut Ending, name: &[u8], number: u64)
     requires { (length name.now + 20 ≤ text.old.start) × (text.old.start ≤ ROOM) }

@@ -54,12 +54,21 @@ returns-clause-number c =
     (sym (test at.After-ends_word) ∙ c.if-not-ends_word.false))
     (ap fits_word (sym c.in-Some.ensures.len) ∙ sym c.fits_word.ensures ∙ c.if-not-fits_word.false)
 
+pub past_word-requires : goal.past_word-requires
+past_word-requires c =
+    let at = goal.at.past_word-requires c in
+    let bytes = c.as_bytes-bytes.result.now in
+    ap ends_word (c.range_from.ensures.value
+    ∙ ap (λ t. drop c.in-Some.len t) (sym c.as_bytes-bytes.ensures.value)
+    ∙ ap (λ (k : ℕ). drop k bytes) c.in-Some.ensures.len)
+    ∙ sym (test at.After-ends_word) ∙ c.if-not-ends_word.false
+
 pub returns-clause-rest : goal.returns-clause-rest
 returns-clause-rest c =
     let at = goal.at.returns-clause-rest c in
     let ends = word_ends c.as_bytes-bytes.result.now
     (sym (test at.After-ends_word) ∙ c.if-not-ends_word.false) in
-    c.past_spaces.ensures.rest
+    c.past_word.ensures.rest
     ∙ ap past (c.range_from.ensures.value
     ∙ ap (λ (k : ℕ). drop k c.args.text.now) (c.in-Some.ensures.len ∙ ends
     ∙ ap word_end c.as_bytes-bytes.ensures.value))
