@@ -1,5 +1,5 @@
 -- The first line of a text, by the place of its newline.
-use Rattle.std.proofs.Common.{◌≡◌, ◌∙◌, ℕ, suc, ◌+◌, ◌-◌, ◌<◌, ◌≤◌, ◌==◌, true, false, cond, List, [], ◌∷◌, ◌++◌, length, take, drop, get_or, Option, Some, None, inl, inr, refl, sym, ap, subst, arith, length-take}
+use Rattle.std.proofs.Common.{◌≡◌, ◌∙◌, ℕ, suc, ◌+◌, ◌-◌, ◌<◌, ◌≤◌, ◌==◌, ◌||◌, Bool, true, false, cond, List, [], ◌∷◌, ◌++◌, length, take, drop, get_or, Option, Some, None, inl, inr, refl, sym, ap, subst, arith, length-take}
 use Rattle.std.specs.List.{All, slice_split}
 use Rattle.std.specs.Str.{IsCharBoundary, IsUtf8}
 use Rattle.std.specs.Str.Lines.{lines, lines_of_parts, strip_carriage_return}
@@ -9,7 +9,7 @@ use Rattle.std.proofs.lemmas.Bool.Decides.{eqb_tells}
 use Rattle.std.proofs.lemmas.List.{get_or-take, get_or_default, take-append-drop}
 use Rattle.std.proofs.lemmas.List.Splits.{length-slice_split, slice_split_at, slice_split_none}
 use Rattle.std.proofs.lemmas.Str.{IsCharBoundary-after_ascii, IsCharBoundary-before_ascii}
-use Rattle.memchr.specs.Find.{IsFirstByte, Passes, is_byte}
+use Rattle.memchr.specs.Find.{IsFirstByte, is_byte, is_byte2}
 
 -- what is first in the front of a text is first in it
 pub first_near : (text : List ℕ) (n k : ℕ) → IsFirstByte (is_byte 10) (take n text) (Some k)
@@ -27,6 +27,25 @@ first_near text n k h =
       },
       ap (λ (b : ℕ). b == 10) (sym (same k (omega (arith, h.0.high, len)))) ∙ h.1,
     )
+
+-- two bytes that are the same
+either : (t : Bool) → (t || t) ≡ t
+either true = refl
+either false = refl
+
+pub first_of_two : (text : List ℕ) (r : Option ℕ) → IsFirstByte (is_byte2 10 10) text r
+    → IsFirstByte (is_byte 10) text r
+first_of_two text None h =
+    λ k low high passes. h k low high (either (get_or text k 0 == 10) ∙ passes)
+first_of_two text (Some k) h = (
+  record {
+    low = h.0.low;
+    high = h.0.high;
+    before = λ j low less passes.
+        h.0.before j low less (either (get_or text j 0 == 10) ∙ passes);
+  },
+  sym (either (get_or text k 0 == 10)) ∙ h.1,
+)
 
 parts_cons : (x : List ℕ) (parts : List (List ℕ)) → 0 < length parts
     → lines_of_parts (x ∷ parts) ≡ strip_carriage_return x ∷ lines_of_parts parts

@@ -4,7 +4,7 @@ ghost use Rattle.std.specs.Prelude.{◌≡◌, ◌<◌, ◌∷◌, length};
 ghost use Rattle.std.specs.Str.Lines.{lines, strip_carriage_return};
 ghost use Rattle.memchr.specs.Find.{IsFirstByte, is_byte};
 
-use memchr::memchr;
+use memchr::{memchr, memchr2};
 
 // How many bytes are searched first.
 const NEAR: usize = 32;
@@ -34,12 +34,14 @@ fn line_end(text: &[u8]) -> Option<usize>
     }
 }
 
-/// The same of a line that is long.
+/// The same of a line that is long. (It asks for either of two bytes that are the same: `memchr`
+/// itself is then called in one place only, and is inlined there.)
 #[inline(never)]
+#[tactic(auto, using(crate::proofs::FirstLines::first_of_two))]
 fn far_line_end(text: &[u8]) -> Option<usize>
     ensures { IsFirstByte (is_byte 10) text.now result }
 {
-    memchr(b'\n', text)
+    memchr2(b'\n', b'\n', text)
 }
 
 /// The text without the carriage return at its end, if one stands there.

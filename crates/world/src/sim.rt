@@ -236,7 +236,7 @@ impl Sim {
         Ok(Outcome::Done)
     }
 
-    #[inline(never)]
+    #[inline(always)]
     fn deliver(&mut self, from: u8, to: u8, number: u64) -> Result<Outcome, Refusal>
         ensures { SteppedSpace result self.old self.new (step.Deliver from to number) }
     {
@@ -258,7 +258,7 @@ impl Sim {
         Ok(Outcome::Answer(answer))
     }
 
-    #[inline(never)]
+    #[inline(always)]
     fn hand(&mut self, from: u8, to: u8) -> Result<Outcome, Refusal>
         ensures { SteppedSpace result self.old self.new (step.Hand from to) }
     {
