@@ -1,6 +1,7 @@
 //! A grey object is scanned: it leaves the list, and what its places hold is shaded, so it is
 //! black. If anything is refused, it stays grey.
-ghost use Rattle.std.specs.Prelude.{◌≡◌, false, ◌+◌, ◌<◌, ◌≤◌, ◌^◌, length, IfOk, IfErr, OnOk, OnErr};
+ghost use Rattle.std.specs.Prelude.{◌≡◌, false, ◌+◌, ◌<◌, ◌≤◌, ◌^◌, length, take};
+ghost use Rattle.std.specs.Prelude.{IfOk, IfErr, OnOk, OnErr};
 ghost use Rattle.std.specs.List.{AllByRecursion};
 ghost use Rattle.ids.specs.declared.limits.TheConstants.{GREATEST_COUNTED, GREATEST_NODES};
 ghost use Rattle.model.specs.State.{LocalState, slot_at};
@@ -15,9 +16,11 @@ use crate::asking::ask;
 use crate::ref_set::RefSet;
 use crate::shading::while_marking;
 use heap::Heap;
-use ids::{Ref, Refusal};
+use ids::{GREATEST_PLACES, Ref, Refusal};
 use link::Links;
 use safra::Ring;
+
+const PLACES: usize = GREATEST_PLACES as usize;
 
 /// Scans the grey object that comes last, at the node `own`, which joined `cycle` last and knows
 /// marking to have ended up to the cycle `ended`: the object leaves the list, and what its places
@@ -60,8 +63,9 @@ pub fn scan(
     ensures sound { OnOk result (IsLinks links.new) }
 {
     let slot = heap.last_grey().unwrap();
-    let places = heap.places(slot);
-    let references = while_marking(cycle, ended, &places);
+    let mut places = [None; PLACES];
+    let count = copy_places(heap, slot, &mut places);
+    let references = while_marking(cycle, ended, &places[..count]);
     heap.make_room(references.len(), 0)?;
     let before = ask(asked, links, own, cycle, references)?;
     let scanned = heap.reference_at(own, slot);
@@ -69,4 +73,15 @@ pub fn scan(
     heap.shade(own, cycle, references);
     ring.sent_marks((asked.len() - before) as u64);
     Ok(scanned)
+}
+
+/// Copies what the places of the object in a slot hold, since the heap changes while they are
+/// shaded, and gives how many there are.
+fn copy_places(heap: &Heap, slot: u32, into: &mut [Option<Ref>; PLACES]) -> usize
+    ensures value { take result into.new ≡ places_in (slot_at heap.now.heap slot) }
+    ensures few { result ≤ 8 }
+{
+    let held = heap.places(slot);
+    into[..held.len()].copy_from_slice(held);
+    held.len()
 }

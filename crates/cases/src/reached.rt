@@ -32,8 +32,8 @@ impl Reach<'_> {
         Ok(())
     }
 
-    fn add_places(&mut self, places: [Option<Ref>; 8]) -> Result<(), AllocError> {
-        for place in places.iter() {
+    fn add_places(&mut self, places: &[Option<Ref>]) -> Result<(), AllocError> {
+        for place in places {
             self.add(*place)?;
         }
         Ok(())

@@ -1,59 +1,13 @@
 -- Many references are shaded one after another.
-use Rattle.std.proofs.Common.{◌≡◌, ℕ, ◌+◌, ◌-◌, ◌<◌, ◌≤◌, replicate, Bool, true, false, ◌||◌, List, [], ◌∷◌, ◌++◌, length, drop, get_or, Option, Some, None, option_to_list, refl, sym, ap, ◌∙◌, add-one, drop-cons, append-nil, ◌==◌, zero, suc, ⊎_elim}
+use Rattle.std.proofs.Common.{◌≡◌, ℕ, ◌+◌, ◌<◌, Bool, true, false, ◌||◌, List, [], ◌∷◌, ◌++◌, length, drop, get_or, Option, Some, None, option_to_list, refl, sym, ap, ◌∙◌, add-one, drop-cons, ◌==◌, ⊎_elim}
 use Rattle.std.specs.List.{list_any}
-use Rattle.std.proofs.lemmas.Bool.{cases_Bool, cases_lt, cond-true, cond-false}
-use Rattle.std.proofs.lemmas.List.{get_or_append_left, get_or-append_right, get_or-drop, get_or-replicate, get_or_past}
+use Rattle.std.proofs.lemmas.Bool.{cases_Bool, cond-true, cond-false}
 use Rattle.std.proofs.lemmas.List.Folds.{list_any-append}
 use Rattle.ids.specs.declared.names.Ref.{Ref}
 use Rattle.model.specs.State.{Heap}
 use Rattle.model.specs.Heaps.{object_at}
 use Rattle.model.specs.Shading.{is_unmarked, wakes, make_grey, make_all_grey, filled, roots}
-use Rattle.model.proofs.ShadingParts.{filled-append, make_all_grey-append}
-
--- where nothing is there, nothing is in what is left either
-pub filled-drop : (os : List (Option Ref)) (n : ℕ) → filled os ≡ [] → filled (drop n os) ≡ []
-filled-drop [] zero none = refl
-filled-drop [] (suc n) none = refl
-filled-drop (o ∷ os) zero none = none
-filled-drop (None ∷ os) (suc n) none = filled-drop os n none
-filled-drop (Some r ∷ os) (suc n) none = absurd cc
-
--- as many places as there are stand first, and in the others there is nothing
-pub filled-places : (os ps qs : List (Option Ref)) (n : ℕ) → ps ≡ os → filled qs ≡ []
-    → filled (ps ++ drop n qs) ≡ filled os
-filled-places os ps qs n same none =
-    filled-append ps (drop n qs)
-    ∙ ap (λ (rs : List Ref). filled ps ++ rs) (filled-drop qs n none)
-    ∙ append-nil (filled ps)
-    ∙ ap filled same
-
--- eight places with nothing in them
-abbrev pub nowhere : List (Option Ref)
-nowhere = replicate 8 None
-
--- nothing stands in any of them, nor past them
-pub no_place : (j : ℕ) → get_or nowhere j None ≡ None
-no_place j =
-    ⊎_elim {C = get_or nowhere j None ≡ None}
-    (λ (less : j < 8). get_or-replicate 8 j None None less)
-    (λ (past : 8 ≤ j). get_or_past nowhere j None past)
-    (cases_lt j 8)
-
--- each stands in its own place
-pub each-place : (os ps qs : List (Option Ref)) (n j : ℕ) → ps ≡ os
-    → ((k : ℕ) → get_or qs k None ≡ None)
-    → get_or (ps ++ drop n qs) j None ≡ get_or os j None
-each-place os ps qs n j same none =
-    ⊎_elim
-    (λ (less : j < length ps).
-    get_or_append_left ps (drop n qs) None j less
-    ∙ ap (λ (z : List (Option Ref)). get_or z j None) same)
-    (λ (past : length ps ≤ j).
-    get_or-append_right ps (drop n qs) (length ps) j None refl past
-    ∙ get_or-drop n qs (j - length ps) None ∙ none (n + (j - length ps))
-    ∙ sym (get_or_past ps j None past)
-    ∙ ap (λ (z : List (Option Ref)). get_or z j None) same)
-    (cases_lt j (length ps))
+use Rattle.model.proofs.ShadingParts.{make_all_grey-append}
 
 -- the next one, and those after it
 next_one : (os : List (Option Ref)) (i : ℕ) → i < length os

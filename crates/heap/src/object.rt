@@ -7,7 +7,7 @@ ghost use Rattle.ids.specs.declared.limits.TheConstants.{GREATEST_PLACES};
 ghost use Rattle.ids.specs.declared.refusal.Refusal.TheVariants.{Memory, NoField};
 ghost use Rattle.model.specs.Checks.{guarded};
 ghost use Rattle.model.specs.Heaps.{new_object};
-ghost use Rattle.model.specs.Shading.{with_mark, filled};
+ghost use Rattle.model.specs.Shading.{with_mark};
 
 use ids::{GREATEST_PLACES, Ref, Refusal};
 use std::alloc::Global;
@@ -105,17 +105,6 @@ impl Object {
         let marked = self.mark == cycle;
         self.mark = cycle;
         !marked
-    }
-
-    /// What the places hold, in order, and nothing in those that it doesn't have.
-    pub(crate) fn places(&self) -> [Option<Ref>; 8]
-        ensures filled { filled result ≡ filled self.now.places }
-        ensures each { (j : ℕ) → slice_index_or result j None
-            ≡ slice_index_or self.now.places j None }
-    {
-        let mut places = [None; 8];
-        places[..self.places.len()].copy_from_slice(&self.places);
-        places
     }
 
     /// What stands in the place.

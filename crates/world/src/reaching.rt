@@ -191,7 +191,7 @@ fn add_standing(found: &mut IndexSet<Ref>, node: &Core, reference: Ref) -> Resul
     ensures refused { IfErr result (λ e. e ≡ Memory) }
 {
     if node.is_live(reference) {
-        add_all(found, &node.places(reference.slot))?;
+        add_all(found, node.places(reference.slot))?;
     }
     Ok(())
 }

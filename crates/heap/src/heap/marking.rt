@@ -3,6 +3,7 @@
 ghost use Rattle.std.specs.Prelude.{◌≡◌, ℕ, ◌+◌, ◌^◌, ◌<◌, ◌≤◌, length, slice_index_or};
 ghost use Rattle.std.specs.Prelude.{None, is_none, option_to_list, IsOk, IfSome, IfErr, OnOk};
 ghost use Rattle.std.specs.List.{list_any};
+ghost use Rattle.ids.specs.declared.limits.TheConstants.{GREATEST_PLACES};
 ghost use Rattle.ids.specs.declared.refusal.Refusal.TheVariants.{Memory};
 ghost use Rattle.model.specs.State.{slot_at};
 ghost use Rattle.model.specs.Heaps.{object_at};
@@ -142,17 +143,15 @@ impl Heap {
         }
     }
 
-    /// What the places of the object in a slot hold, in order. An object has at most eight places;
-    /// those that it doesn't have are empty here, and so are all where the slot has no object.
-    #[tactic(auto, using(crate::proofs::Shades::no_place))]
-    pub fn places(&self, slot: u32) -> [Option<Ref>; 8]
-        ensures filled { filled result ≡ filled (places_in (slot_at self.now.heap slot)) }
-        ensures each { (j : ℕ) → slice_index_or result j None
-            ≡ slice_index_or (places_in (slot_at self.now.heap slot)) j None }
+    /// What the places of the object in a slot hold, in order; nothing where the slot has no
+    /// object.
+    pub fn places(&self, slot: u32) -> &[Option<Ref>]
+        ensures value { result.now ≡ places_in (slot_at self.now.heap slot) }
+        ensures few { length result.now ≤ GREATEST_PLACES }
     {
         match self.stored(slot) {
-            Some(object) => object.places(),
-            None => [None; 8],
+            Some(object) => object.contents(),
+            None => &[],
         }
     }
 

@@ -3,7 +3,7 @@
 ghost use Rattle.std.specs.Prelude.{◌≡◌, ℕ, ◌<◌, length, slice_index_or, is_some, None};
 ghost use Rattle.model.specs.State.{got_from, slot_at};
 ghost use Rattle.model.specs.Heaps.{object_at};
-ghost use Rattle.model.specs.Shading.{filled, roots};
+ghost use Rattle.model.specs.Shading.{roots};
 ghost use Rattle.model.specs.Collecting.{places_in};
 ghost use Rattle.model.specs.View.{link_to, message_of};
 ghost use Rattle.node.specs.Invariant.{links_of};
@@ -40,12 +40,10 @@ impl Core {
         self.heap.is_live(object)
     }
 
-    /// What the places of the object in a slot hold, in order; all are empty where the slot has no
+    /// What the places of the object in a slot hold, in order; nothing where the slot has no
     /// object.
-    pub fn places(&self, slot: u32) -> [Option<Ref>; 8]
-        ensures filled { filled result ≡ filled (places_in (slot_at self.now.local.heap slot)) }
-        ensures each { (j : ℕ) → slice_index_or result j None
-            ≡ slice_index_or (places_in (slot_at self.now.local.heap slot)) j None }
+    pub fn places(&self, slot: u32) -> &[Option<Ref>]
+        ensures { result.now ≡ places_in (slot_at self.now.local.heap slot) }
     {
         self.heap.places(slot)
     }
