@@ -3,6 +3,8 @@ pub mod Standing
 pub mod Waiting
 pub mod Found
 pub mod Releasing
+pub mod Seats
+pub mod Marks
 pub mod Opening
 pub mod Refusing
 pub mod NewCells

@@ -1,7 +1,9 @@
-use Rattle.std.proofs.Common.{◌≡◌, true, false, ap, sym, ◌∙◌, Bool}
+use Rattle.std.proofs.Common.{◌≡◌, true, false, ap, sym, ◌∙◌, subst, Bool}
 use Rattle.cell.proofs.Opening.{stays-open}
 use Rattle.model.specs.Steps.{is_shading}
 use Rattle.node.specs.Keeping.{met}
+use Rattle.cell.specs.Cells.{CellView, GoesOn}
+use Rattle.cell.proofs.Marks.{marked-after}
 use Rattle.cell.proofs.Refusing.{never-closed}
 use Rattle.cell.proofs.cell.Cell.act.Goals as goal
 
@@ -24,3 +26,24 @@ returns-clause-closed g c =
           sym c.if-not-is_ready.false ∙ c.is_ready.ensures
           ∙ ap (λ v. v.is_open) c.self.view_is ∙ shut in absurd cc),
     )
+
+pub returns-clause-goes_on : goal.returns-clause-goes_on
+returns-clause-goes_on g c =
+    let cell = c.self.inside in
+    let desk = c.act-answered.new.self in
+    let said = c.act-answered.ensures in
+    subst (λ (v : CellView g.row.D.Denot). GoesOn v _) c.self.view_is
+    record {
+      same = said.same;
+      marked = marked-after _ _ c.act-answered.result _ _ _ _ said.given.acted.known said.unsaved;
+      stays = λ i. record {
+        node = desk.node;
+        saved = said.saved i;
+        seat = desk.seat;
+        places = said.places i;
+        unsaved = desk.is_unsaved;
+        disk = cell.shelf.disk;
+        is_open = cell.shelf.ready;
+        trace = c.push-2.new.self;
+      };
+    }
