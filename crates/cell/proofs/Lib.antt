@@ -5,6 +5,7 @@ pub mod Found
 pub mod Releasing
 pub mod Seats
 pub mod Marks
+pub mod Nexts
 pub mod Opening
 pub mod Refusing
 pub mod NewCells

@@ -3,6 +3,7 @@ use Rattle.std.proofs.lemmas.Result.{err_from_is_err_and}
 use Rattle.node.specs.Keeping.{WholeNode}
 use Rattle.image.proofs.Spelled.{kept_is}
 use Rattle.cell.specs.Opened.{AreBeside, IsReadFrom}
+use Rattle.cell.proofs.Causes.{same-error}
 use Rattle.cell.proofs.OnShelves.{found-kept}
 use Rattle.cell.proofs.Ready.{opened}
 use Rattle.cell.proofs.joining.open.Goals as goal
@@ -26,12 +27,12 @@ returns-in-Ok-clause-read g c =
 pub returns-in_err-nodes-clause-disks : goal.returns-in_err-nodes-clause-disks
 returns-in_err-nodes-clause-disks g c =
     let p = err_from_is_err_and c.from_residual.result c.from_residual.ensures.1 in
-    rw (p.1, p.2) c.in_err-nodes.ensures.disks
+    rw (p.1, p.2) (λ apart. same-error _ _ (c.in_err-nodes.ensures.disks apart))
 
 pub returns-in_err-nodes-clause-other : goal.returns-in_err-nodes-clause-other
 returns-in_err-nodes-clause-other g c =
     let p = err_from_is_err_and c.from_residual.result c.from_residual.ensures.1 in
-    rw (p.1, p.2) c.in_err-nodes.ensures.other
+    rw (p.1, p.2) (λ failed same. c.in_err-nodes.ensures.other (same-error _ _ failed) same)
 
 pub returns-in_err-nodes-clause-cause : goal.returns-in_err-nodes-clause-cause
 returns-in_err-nodes-clause-cause g c =

@@ -32,18 +32,19 @@ returns-clause-goes_on g c =
     let cell = c.self.inside in
     let desk = c.act-answered.new.self in
     let said = c.act-answered.ensures in
-    subst (λ (v : CellView g.row.D.Denot). GoesOn v _) c.self.view_is
+    let new : CellView g.row.D.Denot = record {
+      node = desk.node;
+      saved = desk.saved.value;
+      seat = desk.seat;
+      places = desk.places;
+      unsaved = desk.is_unsaved;
+      disk = cell.shelf.disk;
+      is_open = cell.shelf.ready;
+      trace = c.push-2.new.self;
+    } in
+    subst (λ (v : CellView g.row.D.Denot). GoesOn v new) c.self.view_is
     record {
       same = said.same;
       marked = marked-after _ _ c.act-answered.result _ _ _ _ said.given.acted.known said.unsaved;
-      stays = λ i. record {
-        node = desk.node;
-        saved = said.saved i;
-        seat = desk.seat;
-        places = said.places i;
-        unsaved = desk.is_unsaved;
-        disk = cell.shelf.disk;
-        is_open = cell.shelf.ready;
-        trace = c.push-2.new.self;
-      };
+      stays = λ i. record new { saved = said.saved i; places = said.places i };
     }

@@ -105,7 +105,17 @@ returns-clause-goes_on g c =
     let desk = c.handle-answered.new.self in
     let took = c.take.ensures in
     let said = c.handle-answered.ensures in
-    subst (λ (v : CellView g.row.D.Denot). GoesOn v _) c.self.view_is
+    let new : CellView g.row.D.Denot = record {
+      node = desk.node;
+      saved = desk.saved.value;
+      seat = desk.seat;
+      places = desk.places;
+      unsaved = desk.is_unsaved;
+      disk = cell.shelf.disk;
+      is_open = cell.shelf.ready;
+      trace = c.push.new.self;
+    } in
+    subst (λ (v : CellView g.row.D.Denot). GoesOn v new) c.self.view_is
     record {
       same = same-again cell.desk.seat c.take.new.self.seat desk.seat took.same said.same;
       marked = subst (λ (b : Bool). IsMarked (known cell.desk.seat) (known desk.seat) b desk.is_unsaved)
@@ -113,14 +123,5 @@ returns-clause-goes_on g c =
           (subst (λ (v : Known).
           IsMarked v (known desk.seat) c.take.new.self.is_unsaved desk.is_unsaved)
           c.in_ok-frame.ensures.taken.3.2 said.unsaved);
-      stays = λ i. record {
-        node = desk.node;
-        saved = (said.saved ∙ took.saved) i;
-        seat = desk.seat;
-        places = (said.places ∙ took.places) i;
-        unsaved = desk.is_unsaved;
-        disk = cell.shelf.disk;
-        is_open = cell.shelf.ready;
-        trace = c.push.new.self;
-      };
+      stays = λ i. record new { saved = (said.saved ∙ took.saved) i; places = (said.places ∙ took.places) i };
     }
