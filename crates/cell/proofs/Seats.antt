@@ -1,5 +1,5 @@
 -- A desk whose seat took a step on a mailbox: the seat is the same, and knows the same of its node.
-use Rattle.std.proofs.Common.{◌≡◌, ◌≢◌, ℕ, ◌+◌, ◌*◌, ◌<◌, Bool, true, false, List, Option, Some, None, refl, sym, ap, ◌∙◌, subst}
+use Rattle.std.proofs.Common.{◌≡◌, ◌≢◌, ℕ, ◌+◌, ◌*◌, ◌<◌, Bool, true, false, Option, Some, None, refl, sym, ap, ◌∙◌, subst}
 use Rattle.std.specs.Prelude.{cond}
 use Rattle.std.specs.Option.{option_map}
 use Rattle.msg.specs.Grammar.{Plain}
@@ -13,7 +13,7 @@ use Rattle.wire.specs.Readers.{inbox, known, seat_node, IsSame, IsSeatOf}
 use Rattle.wire.specs.declared.seats.NodeSeat.{NodeSeat}
 use Rattle.wire.specs.declared.seats.Wire.{Wire}
 use Rattle.wire.proofs.Lists.{found-here}
-use Rattle.cell.specs.Desks.{AreTaken, IsSavedNode, IsSeatAt, IsUnsaved, StandsAt}
+use Rattle.cell.specs.Desks.{IsSavedNode, IsSeatAt, IsUnsaved, StandsAt}
 use Rattle.cell.specs.Sending.{frame_due, frame_or_ack, IsSent}
 use Rattle.cell.specs.declared.desk.Desk.{Desk}
 use Rattle.cell.proofs.Releasing.{apart, inside}

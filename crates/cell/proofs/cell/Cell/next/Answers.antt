@@ -11,7 +11,7 @@ returns-clause-pumped g c =
     let said = c.in_ok-answer.ensures in
     next-taken (waiting old.node.early c.args.from) c.args.from (inbox old.seat c.args.from)
     old.node new.node (known old.seat) (known new.seat) old.trace new.trace c.requires.waits
-    c.in_ok-answer.answer (said.given c.requires.ready, (said.memory_free, said.traced))
+    c.in_ok-answer.answer (said.given c.requires.ready, said.memory_free, said.traced)
 
 pub returns-in_err-answer-clause-pumped : goal.returns-in_err-answer-clause-pumped
 returns-in_err-answer-clause-pumped g c =
@@ -22,4 +22,4 @@ returns-in_err-answer-clause-pumped g c =
     rw (p.1, p.2)
     (next-refused (waiting old.node.early c.args.from) c.args.from (inbox old.seat c.args.from)
     old.node new.node (known old.seat) (known new.seat) old.trace new.trace c.requires.waits _
-    (said.given c.requires.ready, (said.memory_free, said.traced)))
+    (said.given c.requires.ready, said.memory_free, said.traced))

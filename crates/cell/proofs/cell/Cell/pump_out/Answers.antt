@@ -28,7 +28,8 @@ returns-clause-stays g c =
       is_open = cell.shelf.ready;
       trace = cell.trace;
     } in
-    subst (λ (v : CellView g.row.D.Denot). new ≡ record v { seat = desk.seat; places = desk.places })
+    subst
+    (λ (v : CellView g.row.D.Denot). new ≡ record v { seat = desk.seat; places = desk.places })
     c.self.view_is
     (λ i. record new { node = said.node i; saved = said.saved i; unsaved = said.unsaved i })
 
@@ -47,7 +48,8 @@ returns-in_err-is_sent-clause-stays g c =
       is_open = cell.shelf.ready;
       trace = cell.trace;
     } in
-    subst (λ (v : CellView g.row.D.Denot). new ≡ record v { seat = desk.seat; places = desk.places })
+    subst
+    (λ (v : CellView g.row.D.Denot). new ≡ record v { seat = desk.seat; places = desk.places })
     c.self.view_is
     (λ i. record new { node = said.node i; saved = said.saved i; unsaved = said.unsaved i })
 

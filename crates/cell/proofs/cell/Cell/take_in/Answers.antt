@@ -118,10 +118,14 @@ returns-clause-goes_on g c =
     subst (λ (v : CellView g.row.D.Denot). GoesOn v new) c.self.view_is
     record {
       same = same-again cell.desk.seat c.take.new.self.seat desk.seat took.same said.same;
-      marked = subst (λ (b : Bool). IsMarked (known cell.desk.seat) (known desk.seat) b desk.is_unsaved)
+      marked = subst
+          (λ (b : Bool). IsMarked (known cell.desk.seat) (known desk.seat) b desk.is_unsaved)
           took.unsaved
           (subst (λ (v : Known).
           IsMarked v (known desk.seat) c.take.new.self.is_unsaved desk.is_unsaved)
           c.in_ok-frame.ensures.taken.3.2 said.unsaved);
-      stays = λ i. record new { saved = (said.saved ∙ took.saved) i; places = (said.places ∙ took.places) i };
+      stays = λ i. record new {
+        saved = (said.saved ∙ took.saved) i;
+        places = (said.places ∙ took.places) i;
+      };
     }

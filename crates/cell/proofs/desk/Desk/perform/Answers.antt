@@ -145,7 +145,8 @@ returns-else-is_counted_answer-clause-given c =
         states = c.in_ok-answer.ensures.states v.pair.current desk.stands.shows;
         unchanged = tt;
         known = sym (cond-false (is_counted a) (ticks c.args.step (pair_by e v.pair) v) v quiet);
-        entered = λ counts. (let never : ◌≡◌ {A = Bool} false true = sym quiet ∙ counts in absurd cc);
+        entered = λ counts.
+            (let never : ◌≡◌ {A = Bool} false true = sym quiet ∙ counts in absurd cc);
       };
       early = c.in_ok-answer.ensures.early;
       turn = c.in_ok-answer.ensures.turn;

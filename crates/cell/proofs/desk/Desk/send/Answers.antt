@@ -1,4 +1,4 @@
-use Rattle.std.proofs.Common.{List, slice_index_or, sym, ap, ◌∙◌, subst, ℕ}
+use Rattle.std.proofs.Common.{List, slice_index_or, sym, ◌∙◌, subst, ℕ}
 use Rattle.msg.specs.Grammar.{Plain}
 use Rattle.wire.specs.Readers.{known}
 use Rattle.wire.specs.Rule.{Spells}

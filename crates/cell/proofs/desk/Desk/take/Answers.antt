@@ -40,7 +40,8 @@ pub clear-bytes-requires-clause-taken : goal.clear-bytes-requires-clause-taken
 clear-bytes-requires-clause-taken c =
     let told = c.in_ok-taken.ensures.taken in
     let same = c.take.ensures.same in
-    let other = other-on c.args.self.now c.args.wire.now c.args.from c.requires.wire c.requires.other in (
+    let desk = c.args.self.now in
+    let other = other-on desk c.args.wire.now c.args.from c.requires.wire c.requires.other in (
       (told.1.0 ∙ sym same.0, told.1.1 ∙ sym same.1),
       subst (λ (k : ℕ). k < c.args.wire.now.nodes) (sym told.0) other.0,
       (
