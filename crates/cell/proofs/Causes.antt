@@ -1,5 +1,5 @@
 -- Why a node is refused from its disk.
-use Rattle.std.proofs.Common.{◌≡◌, ◌≢◌, ◌⊎◌, ◌<◌, ◌≤◌, ℕ, Bool, false, true, List, [], Result, Ok, Err, IfErr, length, drop, get_or, sym, subst, ⊎_elim, arith}
+use Rattle.std.proofs.Common.{◌≡◌, ◌≢◌, ◌⊎◌, ◌<◌, ◌≤◌, ℕ, Bool, false, true, List, [], Result, Ok, Err, IfErr, length, drop, get_or, sym, ap, subst, ⊎_elim, arith}
 use Rattle.ids.specs.Limits.{Shaped}
 use Rattle.ids.specs.declared.limits.TheConstants.{GREATEST_IMAGE}
 use Rattle.ids.specs.declared.refusal.Refusal.{Refusal}
@@ -19,6 +19,11 @@ pub cause-there : {P Q : Refusal → Type 0} (e : Unopened) → ((r : Refusal) �
     → IfRefused P e → IfRefused Q e
 cause-there Disks more is = tt
 cause-there (Refused r) more is = λ other. more r (is other)
+
+-- the same refusal, of another call
+pub same-error : {A B E : Type 0} (e f : E) → ◌≡◌ {A = Result A E} (Err e) (Err f)
+    → ◌≡◌ {A = Result B E} (Err e) (Err f)
+same-error e f is = ap Err (let same : e ≡ f = cc in same)
 
 -- of a new node
 pub creation-cause : {D : Type 0} (seen : D → Areas) (moment faults : D → ℕ) (shape : Shaped)

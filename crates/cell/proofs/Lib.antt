@@ -3,6 +3,9 @@ pub mod Standing
 pub mod Waiting
 pub mod Found
 pub mod Releasing
+pub mod Seats
+pub mod Marks
+pub mod Nexts
 pub mod Opening
 pub mod Refusing
 pub mod NewCells

@@ -1,6 +1,6 @@
 -- A wire between nodes that lie on shelves, and their seats.
 use Rattle.std.proofs.Common.{◌≡◌, ◌<◌, ◌+◌, ◌++◌, ◌∷◌, [], append_assoc, map, ℕ, List, Some, length, length-append, drop, get_or, replicate, slice_get, refl, sym, ap, ◌∙◌, subst, arith}
-use Rattle.std.proofs.lemmas.List.{length-drop, length-map, length-replicate, get_or-map, map-append, map-id}
+use Rattle.std.proofs.lemmas.List.{append-nil, nil_from_length, length-drop, length-map, length-replicate, get_or-map, map-append, map-id}
 use Rattle.std.proofs.Math.ListN.{get_or-map as get_or-mapped}
 use Rattle.std.proofs.Math.Seq.{drop-append_seam}
 use Rattle.std.proofs.lemmas.Option.{slice_get_within, get_or_from_slice_get}
@@ -152,6 +152,12 @@ later-ready {Lies = Lies} {shelves = shelves} {seats = seats} ns ss ts h is =
     subst (λ l. AreReady Lies ns ss l) (sym is.2)
     (subst (λ l. AreReady Lies ns l (drop 1 seats)) (sym is.1)
     (subst (λ l. AreReady Lies l (drop 1 shelves) (drop 1 seats)) (sym is.0) (later h)))
+
+-- all was handed on
+pub handed-on : {A : Type 0} (done left all : List A) → done ++ left ≡ all → length left ≡ 0
+    → done ≡ all
+handed-on done left all were none =
+    sym (append-nil done) ∙ ap (λ l. done ++ l) (sym (nil_from_length left none)) ∙ were
 
 -- what was handed on, and what is left
 pub shifted-by : {A B C : Type 0} (f : A → C) (h : B → C) (done : List A) (left : List B)

@@ -46,3 +46,36 @@ returns-in_err-node-clause-cause g c =
     (subst (λ l. c.remove.result ≡ get_or l 0 c.remove.result) c.loop-number.invariant.rest
     c.remove.ensures.value) is)
     c.in_err-node.ensures.cause)
+
+pub returns-in_err-keep-clause-disks : goal.returns-in_err-keep-clause-disks
+returns-in_err-keep-clause-disks g c = λ apart. absurd (apart (omega arith))
+
+pub returns-in_err-keep-clause-other : goal.returns-in_err-keep-clause-other
+returns-in_err-keep-clause-other g c =
+    let p = err_from_is_err_and c.from_residual-in_err-keep.result
+    c.from_residual-in_err-keep.ensures.1 in
+    rw (p.1, p.2, c.in_err-keep.ensures.refused) (λ failed same. absurd cc)
+
+pub returns-in_err-keep-clause-cause : goal.returns-in_err-keep-clause-cause
+returns-in_err-keep-clause-cause g c =
+    let p = err_from_is_err_and c.from_residual-in_err-keep.result
+    c.from_residual-in_err-keep.ensures.1 in
+    rw (p.1, p.2, c.in_err-keep.ensures.refused) (λ other. absurd (other refl))
+
+pub returns-in_err-keep-2-clause-disks : goal.returns-in_err-keep-2-clause-disks
+returns-in_err-keep-2-clause-disks g c = λ apart. absurd (apart (omega arith))
+
+pub returns-in_err-keep-2-clause-other : goal.returns-in_err-keep-2-clause-other
+returns-in_err-keep-2-clause-other g c =
+    let p = err_from_is_err_and c.from_residual-in_err-keep-2.result
+    c.from_residual-in_err-keep-2.ensures.1 in
+    rw (p.1, p.2, c.in_err-keep-2.ensures.refused) (λ failed same. absurd cc)
+
+pub returns-in_err-keep-2-clause-cause : goal.returns-in_err-keep-2-clause-cause
+returns-in_err-keep-2-clause-cause g c =
+    let p = err_from_is_err_and c.from_residual-in_err-keep-2.result
+    c.from_residual-in_err-keep-2.ensures.1 in
+    rw (p.1, p.2, c.in_err-keep-2.ensures.refused) (λ other. absurd (other refl))
+
+pub returns-in_err-node-clause-disks : goal.returns-in_err-node-clause-disks
+returns-in_err-node-clause-disks g c = λ apart. absurd (apart (omega arith))

@@ -1,7 +1,8 @@
-use Rattle.std.proofs.Common.{◌<◌, All, [], ap, length, arith, subst, sym}
+use Rattle.std.proofs.Common.{◌≡◌, ◌<◌, ◌∙◌, All, [], ap, length, arith, subst, sym}
+use Rattle.std.proofs.lemmas.List.{length-map}
 use Rattle.std.proofs.lemmas.List.Elements.{All-append, All-cons, All-nil}
 use Rattle.cell.specs.Cells.{IsNew}
-use Rattle.cell.proofs.Ready.{first-ready, later-ready, made-new, shifted, shifted-by}
+use Rattle.cell.proofs.Ready.{first-ready, handed-on, later-ready, made-new, shifted, shifted-by}
 use Rattle.cell.proofs.joining.seat_all.Goals as goal
 
 pub new-requires : goal.new-requires
@@ -34,3 +35,19 @@ loop-preserved g c =
           (All-append IsNew _ _ was.new
           (All-cons IsNew _ [] (made-new _ _ _ _ made) (All-nil IsNew)));
     }
+
+pub returns-clause-nodes : goal.returns-clause-nodes
+returns-clause-nodes g c =
+    let none : length c.loop.nodes.items ≡ 0 = omega arith in
+    handed-on _ _ _ c.loop.invariant.nodes none
+
+pub returns-clause-disks : goal.returns-clause-disks
+returns-clause-disks g c =
+    let none : length c.loop.nodes.items ≡ 0 = omega arith in
+    handed-on _ _ _ c.loop.invariant.disks
+    (length-map c.loop.shelves.items (λ s. s.disk) ∙ c.loop.invariant.ready.shelved ∙ none)
+
+pub returns-clause-seats : goal.returns-clause-seats
+returns-clause-seats g c =
+    let none : length c.loop.nodes.items ≡ 0 = omega arith in
+    handed-on _ _ _ c.loop.invariant.seats (c.loop.invariant.ready.seated ∙ none)

@@ -1,4 +1,7 @@
-use Rattle.std.proofs.Common.{◌≡◌, ◌∙◌, sym, true}
+use Rattle.std.proofs.Common.{◌≡◌, ◌∙◌, ap, subst, sym, true, false, Bool}
+use Rattle.std.proofs.lemmas.Result.{err_from_is_err_and}
+use Rattle.cell.specs.Cells.{CellView}
+use Rattle.model.specs.View.{is_other}
 use Rattle.cell.proofs.Opening.{stays-open}
 use Rattle.cell.proofs.cell.Cell.pump_out.Goals as goal
 
@@ -10,3 +13,89 @@ invariant_of-self-inside g c =
     stays-open cell.desk.saved.value desk.saved.value desk.node.core
     (g.D.Disk.seen cell.shelf.disk) (g.D.Disk.may_leave cell.shelf.disk) c.send.ensures.saved
     (cell.shelf.settled ready).0 (cell.while_open ready)
+
+pub returns-clause-stays : goal.returns-clause-stays
+returns-clause-stays g c =
+    let cell = c.self.inside in
+    let desk = c.send.new.self in
+    let said = c.send.ensures in
+    let new : CellView g.row.D.Denot = record {
+      node = desk.node;
+      saved = desk.saved.value;
+      seat = desk.seat;
+      places = desk.places;
+      unsaved = desk.is_unsaved;
+      disk = cell.shelf.disk;
+      is_open = cell.shelf.ready;
+      trace = cell.trace;
+    } in
+    subst
+    (λ (v : CellView g.row.D.Denot). new ≡ record v { seat = desk.seat; places = desk.places })
+    c.self.view_is
+    (λ i. record new { node = said.node i; saved = said.saved i; unsaved = said.unsaved i })
+
+pub returns-in_err-is_sent-clause-stays : goal.returns-in_err-is_sent-clause-stays
+returns-in_err-is_sent-clause-stays g c =
+    let cell = c.self.inside in
+    let desk = c.send.new.self in
+    let said = c.send.ensures in
+    let new : CellView g.row.D.Denot = record {
+      node = desk.node;
+      saved = desk.saved.value;
+      seat = desk.seat;
+      places = desk.places;
+      unsaved = desk.is_unsaved;
+      disk = cell.shelf.disk;
+      is_open = cell.shelf.ready;
+      trace = cell.trace;
+    } in
+    subst
+    (λ (v : CellView g.row.D.Denot). new ≡ record v { seat = desk.seat; places = desk.places })
+    c.self.view_is
+    (λ i. record new { node = said.node i; saved = said.saved i; unsaved = said.unsaved i })
+
+pub returns-in_err-is_sent-clause-refused : goal.returns-in_err-is_sent-clause-refused
+returns-in_err-is_sent-clause-refused g c =
+    let cell = c.self.inside in
+    let desk = c.send.new.self in
+    let said = c.send.ensures in
+    let same = c.in_err-is_sent.ensures.refused in
+    let new : CellView g.row.D.Denot = record {
+      node = desk.node;
+      saved = desk.saved.value;
+      seat = desk.seat;
+      places = desk.places;
+      unsaved = desk.is_unsaved;
+      disk = cell.shelf.disk;
+      is_open = cell.shelf.ready;
+      trace = cell.trace;
+    } in
+    let p = err_from_is_err_and c.from_residual.result c.from_residual.ensures.1 in
+    rw p.1
+    (subst (λ (v : CellView g.row.D.Denot). new ≡ v) c.self.view_is
+    (λ i. record {
+      node = said.node i;
+      saved = said.saved i;
+      seat = same.1 i;
+      places = same.2 i;
+      unsaved = said.unsaved i;
+      disk = cell.shelf.disk;
+      is_open = cell.shelf.ready;
+      trace = cell.trace;
+    }))
+
+pub returns-clause-closed : goal.returns-clause-closed
+returns-clause-closed g c = (
+  λ closed. absurd cc,
+  λ shut. (let never : ◌≡◌ {A = Bool} true false =
+      sym c.if-not-is_ready.false ∙ c.is_ready.ensures ∙ ap (λ v. v.is_open) c.self.view_is
+      ∙ shut in absurd cc),
+)
+
+pub returns-clause-no_node : goal.returns-clause-no_node
+returns-clause-no_node g c = λ _. (
+  λ closed. absurd cc,
+  λ none. (let never : ◌≡◌ {A = Bool} true false =
+      sym c.if-not-is_other.false ∙ c.is_other.ensures
+      ∙ ap (λ v. is_other v.node.core.local c.args.to) c.self.view_is ∙ none in absurd cc),
+)

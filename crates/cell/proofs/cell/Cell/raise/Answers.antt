@@ -1,4 +1,5 @@
-use Rattle.std.proofs.Common.{◌≡◌, ◌∙◌, sym, true}
+use Rattle.std.proofs.Common.{◌≡◌, ◌∙◌, ap, subst, sym, true, false, Bool}
+use Rattle.cell.specs.Cells.{CellView}
 use Rattle.cell.proofs.Opening.{stays-open}
 use Rattle.cell.proofs.cell.Cell.raise.Goals as goal
 
@@ -10,3 +11,42 @@ invariant_of-self-inside g c =
     stays-open cell.desk.saved.value desk.saved.value desk.node.core
     (g.D.Disk.seen cell.shelf.disk) (g.D.Disk.may_leave cell.shelf.disk) c.raise.ensures.saved
     (cell.shelf.settled ready).0 (cell.while_open ready)
+
+pub returns-clause-stays : goal.returns-clause-stays
+returns-clause-stays g c =
+    let cell = c.self.inside in
+    let desk = c.raise.new.self in
+    let said = c.raise.ensures in
+    let new : CellView g.row.D.Denot = record {
+      node = desk.node;
+      saved = desk.saved.value;
+      seat = desk.seat;
+      places = desk.places;
+      unsaved = desk.is_unsaved;
+      disk = cell.shelf.disk;
+      is_open = cell.shelf.ready;
+      trace = cell.trace;
+    } in
+    subst (λ (v : CellView g.row.D.Denot). new ≡ record v { seat = desk.seat }) c.self.view_is
+    (λ i. record new {
+      node = said.node i;
+      saved = said.saved i;
+      places = said.places i;
+      unsaved = said.unsaved i;
+    })
+
+pub returns-clause-closed : goal.returns-clause-closed
+returns-clause-closed g c = (
+  λ closed. absurd cc,
+  λ shut. (let never : ◌≡◌ {A = Bool} true false =
+      sym c.if-not-is_ready.false ∙ c.is_ready.ensures ∙ ap (λ v. v.is_open) c.self.view_is
+      ∙ shut in absurd cc),
+)
+
+pub returns-then-self-ne0-clause-closed : goal.returns-then-self-ne0-clause-closed
+returns-then-self-ne0-clause-closed g c = (
+  λ closed. absurd cc,
+  λ shut. (let never : ◌≡◌ {A = Bool} true false =
+      sym c.if-not-is_ready.false ∙ c.is_ready.ensures ∙ ap (λ v. v.is_open) c.self.view_is
+      ∙ shut in absurd cc),
+)

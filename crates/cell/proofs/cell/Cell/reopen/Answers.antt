@@ -82,3 +82,24 @@ returns-in-Err-clause-saved_still g c =
     (λ ready. open-holds saved (g.D.Disk.seen cell.shelf.disk)
     (g.D.Disk.may_leave cell.shelf.disk) (cell.shelf.settled ready).0 (cell.while_open ready))
     (λ holds. holds) held x (c.reopen.ensures.quiet.crash x may))
+
+pub returns-in-Ok-clause-done : goal.returns-in-Ok-clause-done
+returns-in-Ok-clause-done g c =
+    let desk = c.reopen-in-Ok.new.self in
+    let said = c.reopen-in-Ok.ensures in
+    let new : CellView g.row.D.Denot = record {
+      node = desk.node;
+      saved = desk.saved.value;
+      seat = desk.seat;
+      places = desk.places;
+      unsaved = desk.is_unsaved;
+      disk = c.reopen.new.self.disk;
+      is_open = c.reopen.new.self.ready;
+      trace = c.push.new.self;
+    } in
+    λ i. record new {
+      saved = (said.saved ∙ sym (ap (λ (n : WholeNode). n.core) said.node)) i;
+      places = said.places i;
+      unsaved = said.unsaved i;
+      is_open = c.in-Ok.ensures.ready i;
+    }

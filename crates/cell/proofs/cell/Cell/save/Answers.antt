@@ -3,9 +3,14 @@ use Rattle.std.proofs.lemmas.Bool.{cases_Bool}
 use Rattle.ids.specs.declared.refusal.Refusal.{Refusal}
 use Rattle.ids.specs.declared.refusal.Refusal.TheVariants as refusal
 use Rattle.model.specs.View.{kept_view}
+use Rattle.node.specs.Keeping.{kept_whole}
 use Rattle.image.specs.Images.{image_of}
 use Rattle.disk.specs.Areas.{Areas}
+use Rattle.model.specs.declared.step.Step.TheVariants as step
+use Rattle.wire.specs.Readers.{known, IsSame}
+use Rattle.cell.specs.Cells.{CellView}
 use Rattle.cell.specs.Disks.{OpensTo, OpensToEither}
+use Rattle.cell.specs.Events.{saved_by, Entered}
 use Rattle.cell.proofs.Opening.{failed-left, stays-open}
 use Rattle.cell.proofs.cell.Cell.save.Goals as goal
 
@@ -59,3 +64,54 @@ invariant_of-self-inside-in-Ok g c =
     stays-open (kept_view n) desk.saved.value desk.node.core (g.D.Disk.seen shelf.disk)
     (g.D.Disk.may_leave shelf.disk) c.save-in-Ok.ensures.saved (shelf.settled said.ready).0
     ∣ (image_of n, said.saved, said.readable.0) ∣₁
+
+pub returns-in-Ok-clause-done : goal.returns-in-Ok-clause-done
+returns-in-Ok-clause-done g c =
+    let shelf = c.save.new.self in
+    let desk = c.save-in-Ok.new.self in
+    let said = c.save-in-Ok.ensures in
+    let new : CellView g.row.D.Denot = record {
+      node = desk.node;
+      saved = desk.saved.value;
+      seat = desk.seat;
+      places = desk.places;
+      unsaved = desk.is_unsaved;
+      disk = shelf.disk;
+      is_open = shelf.ready;
+      trace = c.push.new.self;
+    } in
+    subst (λ (v : CellView g.row.D.Denot). new ≡ record v {
+      node = kept_whole v.node;
+      saved = kept_view v.node.core;
+      seat = desk.seat;
+      unsaved = false;
+      disk = shelf.disk;
+      is_open = true;
+      trace = c.push.new.self;
+    }) c.self.view_is
+    (λ i. record new {
+      node = said.node i;
+      saved = said.saved i;
+      places = said.places i;
+      unsaved = said.unsaved i;
+      is_open = c.in-Ok.ensures.ready i;
+    })
+
+pub returns-in-Ok-clause-known : goal.returns-in-Ok-clause-known
+returns-in-Ok-clause-known g c =
+    let desk = c.save-in-Ok.new.self in
+    subst (λ (v : CellView g.row.D.Denot). known desk.seat ≡ saved_by (known v.seat)) c.self.view_is
+    c.save-in-Ok.ensures.known
+
+pub returns-in-Ok-clause-entered : goal.returns-in-Ok-clause-entered
+returns-in-Ok-clause-entered g c =
+    let desk = c.save-in-Ok.new.self in
+    subst
+    (λ (v : CellView g.row.D.Denot).
+    Entered (step.Save (known v.seat).me) (known v.seat) (known desk.seat)) c.self.view_is
+    c.save-in-Ok.ensures.entered
+
+pub returns-in-Ok-clause-same : goal.returns-in-Ok-clause-same
+returns-in-Ok-clause-same g c =
+    subst (λ (v : CellView g.row.D.Denot). IsSame v.seat c.save-in-Ok.new.self.seat) c.self.view_is
+    c.save-in-Ok.ensures.same

@@ -1,17 +1,21 @@
-use Rattle.std.proofs.Common.{◌≡◌, true, [], ◌∷◌, ◌++◌, length, slice_get, Some, sym, ap, ◌∙◌, subst}
+use Rattle.std.proofs.Common.{◌≡◌, ◌<◌, ℕ, Bool, true, [], ◌∷◌, ◌++◌, length, slice_get, Some, sym, ap, ◌∙◌, subst}
 use Rattle.cell.proofs.Opening.{stays-open}
 use Rattle.circular_buffer.specs.Buffer.{keep_last}
 use Rattle.ids.specs.declared.limits.TheConstants.{TRACE_EVENTS}
 use Rattle.laws.proofs.Lookups.{slice_get-last}
 use Rattle.msg.specs.Frames.{plain}
 use Rattle.model.specs.Steps.{is_memory_free}
+use Rattle.model.specs.View.{is_other}
 use Rattle.node.specs.Keeping.{WholeNode}
 use Rattle.trace.specs.Lines.{call_of}
+use Rattle.wire.specs.Rule.{sender}
 use Rattle.wire.specs.Views.{Known}
 use Rattle.wire.specs.Readers.{inbox, known}
-use Rattle.cell.specs.Cells.{CellView}
-use Rattle.cell.specs.Events.{event_of, Handled}
+use Rattle.cell.specs.Cells.{CellView, GoesOn}
+use Rattle.cell.specs.Events.{event_of, Handled, IsMarked}
 use Rattle.cell.specs.Pumping.{TookIn}
+use Rattle.cell.proofs.Releasing.{inside}
+use Rattle.cell.proofs.Seats.{same-again}
 use Rattle.cell.proofs.cell.Cell.take_in.Goals as goal
 
 pub invariant_of-self-inside : goal.invariant_of-self-inside
@@ -75,4 +79,53 @@ returns-clause-took g c =
             call = (c.of.ensures ∙ ap call_of c.event_of.ensures) i;
             outcome = c.outcome.ensures i;
           } ∷ []));
+    }
+
+pub handle-answered-requires-clause-sender : goal.handle-answered-requires-clause-sender
+handle-answered-requires-clause-sender g c =
+    let desk = c.self.inside.desk in
+    let f = plain c.in_ok-frame.frame in
+    let taken = c.in_ok-frame.ensures.taken in
+    let other : is_other desk.node.core.local c.args.from ≡ true =
+    ap (λ v. is_other v.node.core.local c.args.from) c.self.view_is ∙ c.requires.other in
+    subst (λ (v : Known). sender f < v.nodes) (sym taken.3.2)
+    (subst (λ (k : ℕ). k < (known desk.seat).nodes) (sym taken.0)
+    (subst (λ (k : ℕ). c.args.from < k)
+    (desk.stands.nodes ∙ sym desk.at.nodes ∙ desk.seat.sits.nodes_is)
+    (inside desk.node.core.local c.args.from other)))
+
+pub handle-answered-requires-clause-receiver : goal.handle-answered-requires-clause-receiver
+handle-answered-requires-clause-receiver g c =
+    let taken = c.in_ok-frame.ensures.taken in
+    taken.1 ∙ sym (ap (λ (v : Known). v.me) taken.3.2)
+
+pub returns-clause-goes_on : goal.returns-clause-goes_on
+returns-clause-goes_on g c =
+    let cell = c.self.inside in
+    let desk = c.handle-answered.new.self in
+    let took = c.take.ensures in
+    let said = c.handle-answered.ensures in
+    let new : CellView g.row.D.Denot = record {
+      node = desk.node;
+      saved = desk.saved.value;
+      seat = desk.seat;
+      places = desk.places;
+      unsaved = desk.is_unsaved;
+      disk = cell.shelf.disk;
+      is_open = cell.shelf.ready;
+      trace = c.push.new.self;
+    } in
+    subst (λ (v : CellView g.row.D.Denot). GoesOn v new) c.self.view_is
+    record {
+      same = same-again cell.desk.seat c.take.new.self.seat desk.seat took.same said.same;
+      marked = subst
+          (λ (b : Bool). IsMarked (known cell.desk.seat) (known desk.seat) b desk.is_unsaved)
+          took.unsaved
+          (subst (λ (v : Known).
+          IsMarked v (known desk.seat) c.take.new.self.is_unsaved desk.is_unsaved)
+          c.in_ok-frame.ensures.taken.3.2 said.unsaved);
+      stays = λ i. record new {
+        saved = (said.saved ∙ took.saved) i;
+        places = (said.places ∙ took.places) i;
+      };
     }

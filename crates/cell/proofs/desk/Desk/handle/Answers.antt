@@ -8,6 +8,7 @@ use Rattle.model.specs.declared.step.Step.TheVariants as step
 use Rattle.wire.specs.Rule.{receiver, sender}
 use Rattle.wire.specs.Readers.{known}
 use Rattle.cell.specs.Events.{MayAct}
+use Rattle.cell.proofs.Marks.{marked-after}
 use Rattle.cell.proofs.Quiet.{data-may}
 use Rattle.cell.proofs.desk.Desk.handle.Goals as goal
 
@@ -31,3 +32,8 @@ perform-requires-clause-taken c d is =
       at.1 ∙ ap (λ (f : Frame). Some (plain f)) c.in-Data.is
           ∙ (let same : c.in-Data.data ≡ d = cc in ap (λ (x : Data). Some (plain_data x)) same),
     ))
+
+pub returns-in-Data-clause-unsaved : goal.returns-in-Data-clause-unsaved
+returns-in-Data-clause-unsaved c =
+    marked-after _ _ c.perform.result _ _ _ _ c.perform.ensures.given.acted.known
+    c.perform.ensures.unsaved

@@ -1,4 +1,6 @@
-use Rattle.std.proofs.Common.{◌≡◌, List, Ok, sym, ap, ◌∙◌, subst, Result}
+use Rattle.std.proofs.Common.{◌≡◌, Bool, true, false, List, Ok, refl, sym, ap, ◌∙◌, subst, Result}
+use Rattle.std.proofs.lemmas.Result.{err_from_is_err_and}
+use Rattle.std.proofs.lemmas.Bool.{cond-true, cond-false}
 use Rattle.ids.specs.declared.refusal.Refusal.{Refusal}
 use Rattle.msg.specs.Grammar.{Plain}
 use Rattle.model.specs.declared.event.Answer.{Answer}
@@ -7,10 +9,11 @@ use Rattle.model.specs.State.{NodeState}
 use Rattle.model.specs.Steps.{act}
 use Rattle.model.specs.View.{NodeView}
 use Rattle.node.specs.Keeping.{met}
-use Rattle.wire.specs.Views.{Known, Pair}
+use Rattle.wire.specs.Plays.{Happens}
+use Rattle.wire.specs.Views.{Known, Pair, ticks}
 use Rattle.wire.specs.Readers.{known}
 use Rattle.cell.specs.Desks.{AreTaken, IsSavedNode, StandsAt}
-use Rattle.cell.specs.Events.{pair_by, state_of}
+use Rattle.cell.specs.Events.{is_counted, pair_by, state_of, Given}
 use Rattle.cell.proofs.Standing.{behind-acted, stands-moved, stands-quiet}
 use Rattle.cell.proofs.Waiting.{taken-after}
 use Rattle.cell.proofs.desk.Desk.perform.Goals as goal
@@ -85,4 +88,98 @@ invariant_of-self-else-is_counted_answer c =
       taken = subst (AreTaken (known desk.seat).taken) (sym c.in_ok-answer.ensures.early)
           (taken-after (known desk.seat).taken desk.node.core.local desk.node.early c.args.event
           (Ok c.in_ok-answer.answer) desk.taken c.requires.taken);
+    }
+
+pub enter-requires : goal.enter-requires
+enter-requires c =
+    let v = known c.args.self.now.seat in
+    let found = c.in_ok-answer.ensures.states v.pair.current c.args.self.now.stands.shows in
+    let answered : act v.pair.current c.args.meant.now ≡ Ok (found.0, c.in_ok-answer.answer) =
+    ap (act v.pair.current) c.requires.met ∙ found.1 in (
+      c.requires.wire,
+      subst (Happens v c.args.step)
+          (sym (ap (λ (r : Result (NodeState × Answer) Refusal).
+          let q : Pair = record { current = state_of v.pair.current r; saved = v.pair.saved } in q)
+          answered))
+          (c.requires.may.happens found.0 c.in_ok-answer.answer answered
+          (sym c.is_counted_answer.ensures ∙ c.if-is_counted_answer.true)),
+    )
+
+pub returns-then-is_counted_answer-clause-given : goal.returns-then-is_counted_answer-clause-given
+returns-then-is_counted_answer-clause-given c =
+    let desk = c.args.self.now in
+    let v = known desk.seat in
+    let a = c.in_ok-answer.answer in
+    let e = met desk.node.early c.args.event in
+    let counts : is_counted a ≡ true =
+    sym c.is_counted_answer.ensures ∙ c.if-is_counted_answer.true in
+    subst (λ (m : Event).
+    Given c.args.event m c.args.step (Ok a) desk.node c.act.new.self v (known c.enter.new.seat))
+    (sym c.requires.met)
+    record {
+      acted = record {
+        performs = c.in_ok-answer.ensures.performs;
+        states = c.in_ok-answer.ensures.states v.pair.current desk.stands.shows;
+        unchanged = tt;
+        known = c.enter.ensures.ticked
+            ∙ ap (λ (m : Event). ticks c.args.step (pair_by m v.pair) v) c.requires.met
+            ∙ sym (cond-true (is_counted a) (ticks c.args.step (pair_by e v.pair) v) v counts);
+        entered = λ _. c.enter.ensures.entered;
+      };
+      early = c.in_ok-answer.ensures.early;
+      turn = c.in_ok-answer.ensures.turn;
+    }
+
+pub returns-else-is_counted_answer-clause-given : goal.returns-else-is_counted_answer-clause-given
+returns-else-is_counted_answer-clause-given c =
+    let desk = c.args.self.now in
+    let v = known desk.seat in
+    let a = c.in_ok-answer.answer in
+    let e = met desk.node.early c.args.event in
+    let quiet : is_counted a ≡ false =
+    sym c.is_counted_answer.ensures ∙ c.if-is_counted_answer.false in
+    subst (λ (m : Event). Given c.args.event m c.args.step (Ok a) desk.node c.act.new.self v v)
+    (sym c.requires.met)
+    record {
+      acted = record {
+        performs = c.in_ok-answer.ensures.performs;
+        states = c.in_ok-answer.ensures.states v.pair.current desk.stands.shows;
+        unchanged = tt;
+        known = sym (cond-false (is_counted a) (ticks c.args.step (pair_by e v.pair) v) v quiet);
+        entered = λ counts.
+            (let never : ◌≡◌ {A = Bool} false true = sym quiet ∙ counts in absurd cc);
+      };
+      early = c.in_ok-answer.ensures.early;
+      turn = c.in_ok-answer.ensures.turn;
+    }
+
+pub returns-then-is_counted_answer-clause-unsaved :
+    goal.returns-then-is_counted_answer-clause-unsaved
+returns-then-is_counted_answer-clause-unsaved c =
+    sym (cond-true (is_counted c.in_ok-answer.answer) true c.args.self.now.is_unsaved
+    (sym c.is_counted_answer.ensures ∙ c.if-is_counted_answer.true))
+
+pub returns-else-is_counted_answer-clause-unsaved :
+    goal.returns-else-is_counted_answer-clause-unsaved
+returns-else-is_counted_answer-clause-unsaved c =
+    sym (cond-false (is_counted c.in_ok-answer.answer) true c.args.self.now.is_unsaved
+    (sym c.is_counted_answer.ensures ∙ c.if-is_counted_answer.false))
+
+pub returns-in_err-answer-clause-given : goal.returns-in_err-answer-clause-given
+returns-in_err-answer-clause-given c =
+    let desk = c.args.self.now in
+    let v = known desk.seat in
+    let said = c.in_err-answer.ensures in
+    let p = err_from_is_err_and c.from_residual.result c.from_residual.ensures.1 in
+    rw (p.1, p.2, c.requires.met)
+    record {
+      acted = record {
+        performs = said.performs;
+        states = said.states v.pair.current desk.stands.shows;
+        unchanged = said.unchanged;
+        known = refl;
+        entered = tt;
+      };
+      early = said.early;
+      turn = said.turn;
     }

@@ -1,9 +1,27 @@
-use Rattle.std.proofs.Common.{ℕ, slice_index_or, sym, ◌∙◌, subst}
+use Rattle.std.proofs.Common.{List, slice_index_or, sym, ◌∙◌, subst, ℕ}
+use Rattle.msg.specs.Grammar.{Plain}
 use Rattle.wire.specs.Readers.{known}
+use Rattle.wire.specs.Rule.{Spells}
 use Rattle.wire.specs.Plays.{Releases}
+use Rattle.cell.specs.Desks.{AreTaken}
 use Rattle.cell.specs.Sending.{frame_due}
 use Rattle.cell.proofs.Releasing.{due-releases}
+use Rattle.cell.proofs.Seats.{due-to, other-on, sent-pair, sent-taken, steps-on}
 use Rattle.cell.proofs.desk.Desk.send.Goals as goal
+
+pub send-is_sent-requires-clause-to : goal.send-is_sent-requires-clause-to
+send-is_sent-requires-clause-to c =
+    other-on c.args.self.now c.args.wire.now c.args.to c.requires.wire c.requires.other
+
+pub send-is_sent-requires-clause-spelled : goal.send-is_sent-requires-clause-spelled
+send-is_sent-requires-clause-spelled c =
+    subst (λ (f : Plain). Spells f c.in_ok-bytes.bytes.items) c.due-frame.ensures.frame
+    c.in_ok-bytes.ensures.spelled
+
+pub send-is_sent-requires-clause-receiver : goal.send-is_sent-requires-clause-receiver
+send-is_sent-requires-clause-receiver c =
+    due-to c.args.self.now.node.core c.args.to
+    (slice_index_or c.args.self.now.places c.from.result 0)
 
 pub send-is_sent-requires-clause-released : goal.send-is_sent-requires-clause-released
 send-is_sent-requires-clause-released c =
@@ -14,3 +32,35 @@ send-is_sent-requires-clause-released c =
     (sym desk.at.own ∙ desk.seat.sits.me_is)
     (due-releases desk.own desk.nodes (known desk.seat).pair desk.node.core c.args.to place
     desk.stands c.requires.other)
+
+pub invariant_of-self : goal.invariant_of-self
+invariant_of-self c =
+    let desk = c.args.self.now in
+    let sent = c.send-is_sent.ensures.sent in
+    let kept = steps-on desk c.send-is_sent.new.seat c.send-is_sent.ensures.same
+    (sent-pair _ _ c.send-is_sent.result _ _ sent) in
+    record {
+      at = kept.at;
+      stands = kept.stands;
+      was = kept.was;
+      ended_is = kept.ended_is;
+      unsaved = kept.unsaved;
+      taken = subst (λ (ts : List Plain). AreTaken ts desk.node.early)
+          (sym (sent-taken _ _ c.send-is_sent.result _ _ sent)) desk.taken;
+    }
+
+pub invariant_of-self-else-is_sent : goal.invariant_of-self-else-is_sent
+invariant_of-self-else-is_sent c =
+    let desk = c.args.self.now in
+    let sent = c.send-is_sent.ensures.sent in
+    let kept = steps-on desk c.send-is_sent.new.seat c.send-is_sent.ensures.same
+    (sent-pair _ _ c.send-is_sent.result _ _ sent) in
+    record {
+      at = kept.at;
+      stands = kept.stands;
+      was = kept.was;
+      ended_is = kept.ended_is;
+      unsaved = kept.unsaved;
+      taken = subst (λ (ts : List Plain). AreTaken ts desk.node.early)
+          (sym (sent-taken _ _ c.send-is_sent.result _ _ sent)) desk.taken;
+    }

@@ -1,0 +1,33 @@
+-- What a call leaves of the mark that tells whether an event came.
+use Rattle.std.proofs.Common.{◌≡◌, Bool, true, [], ◌∷◌, ◌++◌, length, length-append, Result, Ok, Err, sym, ap, ◌∙◌, ⊎_elim, arith}
+use Rattle.std.proofs.lemmas.Bool.{cases_Bool, cond-true, cond-false}
+use Rattle.ids.specs.declared.refusal.Refusal.{Refusal}
+use Rattle.model.specs.declared.event.Event.{Event}
+use Rattle.model.specs.declared.event.Answer.{Answer}
+use Rattle.model.specs.declared.step.Step.{Step}
+use Rattle.wire.specs.Views.{Known, ticks}
+use Rattle.cell.specs.Events.{is_counted, known_after, pair_by, unsaved_after, IsMarked}
+
+pub marked-after : (e : Event) (s : Step) (r : Result Answer Refusal) (v w : Known) (was is : Bool)
+    → w ≡ known_after e s r v → is ≡ unsaved_after r was → IsMarked v w was is
+marked-after e s (Err x) v w was is known says =
+    (λ _. says, λ differs. absurd (differs (ap (λ (u : Known). u.events) known)))
+marked-after e s (Ok a) v w was is known says =
+    ⊎_elim
+    (λ yes.
+    let grew : w.events ≡ v.events ++ s ∷ [] =
+    ap (λ (u : Known). u.events)
+    (known ∙ cond-true (is_counted a) (ticks s (pair_by e v.pair) v) v yes) in (
+      λ same. absurd (omega (
+        arith,
+        ap length (sym grew ∙ same),
+        length-append v.events (s ∷ []),
+      )),
+      λ _. says ∙ cond-true (is_counted a) true was yes,
+    ))
+    (λ no.
+    let stayed : w.events ≡ v.events =
+    ap (λ (u : Known). u.events)
+    (known ∙ cond-false (is_counted a) (ticks s (pair_by e v.pair) v) v no) in
+    (λ _. says ∙ cond-false (is_counted a) true was no, λ differs. absurd (differs stayed)))
+    (cases_Bool (is_counted a))
