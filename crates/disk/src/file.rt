@@ -72,24 +72,37 @@ fn open_folder<R: Files<File = File>>(
 {
     make_folder(rt, alloc, folder)?;
     let mut select = open_file(rt, alloc, folder, "select")?;
-    if select.try_lock().is_err() {
-        return Err(ErrorKind::ResourceBusy.into());
-    }
+    lock(&select)?;
     let mut a = open_file(rt, alloc, folder, "a")?;
     let mut b = open_file(rt, alloc, folder, "b")?;
     sync_folder(rt, folder)?;
-    let mut memory = MemoryDisk::new(alloc);
-    load(alloc, &mut memory, Area::Select, &mut select)?;
-    load(alloc, &mut memory, Area::A, &mut a)?;
-    load(alloc, &mut memory, Area::B, &mut b)?;
+    let memory = load_all(alloc, &mut select, &mut a, &mut b)?;
     // The files were just read.
-    let mut disk = FileDisk::over(select, a, b, memory);
-    disk.doubted = false;
-    Ok(disk)
+    Ok(FileDisk {
+        select,
+        a,
+        b,
+        memory,
+        doubted: false,
+        stale: false,
+    })
 }
 
 /// Makes a folder, and those above it, where they are absent. Each is synced into the one above it.
 fn make_folder<R: Files<File = File>>(rt: &R, alloc: Global, folder: Path<'_>) -> io::Result<()> {
+    let absent = absent_folders(rt, alloc, folder)?;
+    for path in absent.iter().rev() {
+        make_below(rt, *path)?;
+    }
+    Ok(())
+}
+
+/// Those of a folder and the ones above it that are absent, the lowest first.
+fn absent_folders<'a, R: Files<File = File>>(
+    rt: &R,
+    alloc: Global,
+    folder: Path<'a>,
+) -> io::Result<Vec<Path<'a>>> {
     let mut absent = Vec::new(alloc);
     let mut path = folder;
     for _ in 0..folder.as_str().len() {
@@ -102,17 +115,24 @@ fn make_folder<R: Files<File = File>>(rt: &R, alloc: Global, folder: Path<'_>) -
             None => break,
         }
     }
-    for path in absent.iter().rev() {
-        match fs::create_dir(rt, *path) {
-            Ok(()) => {}
-            Err(error) if error.kind() == ErrorKind::AlreadyExists => {}
-            Err(error) => return Err(error),
-        }
-        if let Some(above) = path.parent() {
-            sync_folder(rt, above)?;
-        }
+    Ok(absent)
+}
+
+/// Makes a folder where it is absent, and syncs it into the one above it.
+fn make_below<R: Files<File = File>>(rt: &R, folder: Path<'_>) -> io::Result<()> {
+    create(rt, folder)?;
+    match folder.parent() {
+        Some(above) => sync_folder(rt, above),
+        None => Ok(()),
     }
-    Ok(())
+}
+
+/// Makes a folder where it is absent.
+fn create<R: Files<File = File>>(rt: &R, folder: Path<'_>) -> io::Result<()> {
+    match fs::create_dir(rt, folder) {
+        Err(error) if error.kind() == ErrorKind::AlreadyExists => Ok(()),
+        made => made,
+    }
 }
 
 /// Opens a file of a folder, or makes it.
@@ -123,13 +143,26 @@ fn open_file<R: Files<File = File>>(
     name: &str,
 ) -> io::Result<File> {
     let path = folder.join(alloc, name)?;
-    let mut options = OpenOptions::new();
-    options.read(true).write(true).create(true);
-    let file = options.open(rt, path.as_path())?;
+    let file = open_or_make(rt, path.as_path())?;
     if !file.metadata()?.is_file() {
         return Err(ErrorKind::InvalidInput.into());
     }
     Ok(file)
+}
+
+/// Opens a file to read and write it, or makes it.
+fn open_or_make<R: Files<File = File>>(rt: &R, path: Path<'_>) -> io::Result<File> {
+    let mut options = OpenOptions::new();
+    options.read(true).write(true).create(true);
+    options.open(rt, path)
+}
+
+/// Locks a file, which is refused while another has it locked.
+fn lock(file: &File) -> io::Result<()> {
+    if file.try_lock().is_err() {
+        return Err(ErrorKind::ResourceBusy.into());
+    }
+    Ok(())
 }
 
 /// After it, the names in a folder stay over a crash.
@@ -140,6 +173,17 @@ fn sync_folder<R: Files<File = File>>(rt: &R, folder: Path<'_>) -> io::Result<()
         folder
     };
     File::open(rt, path)?.sync_all()
+}
+
+/// Reads the three files whole. What they hold counts as unsynced.
+fn load_all(alloc: Global, select: &mut File, a: &mut File, b: &mut File) -> io::Result<MemoryDisk>
+    ensures { IfOk result (λ m. IsUnsynced m.state) }
+{
+    let mut memory = MemoryDisk::new(alloc);
+    load(alloc, &mut memory, Area::Select, select)?;
+    load(alloc, &mut memory, Area::A, a)?;
+    load(alloc, &mut memory, Area::B, b)?;
+    Ok(memory)
 }
 
 /// Reads a file whole. What it holds counts as unsynced.
@@ -226,6 +270,23 @@ impl<F: FileExt + OpenFile> FileDisk<F> {
         }
     }
 
+    /// Writes through to the device what `memory` says, once the files are known to hold it. Whether
+    /// they do, and all went well.
+    fn write_through(&mut self) -> bool
+        ensures { self.new.memory ≡ self.old.memory }
+    {
+        if self.doubted && !self.agrees() {
+            return false;
+        }
+        self.doubted = false;
+        if self.stale && self.write_again().is_err() {
+            self.doubted = true;
+            return false;
+        }
+        self.stale = self.sync_files().is_err();
+        !self.stale
+    }
+
     /// Writes the files through to the device.
     fn sync_files(&self) -> io::Result<()> {
         self.a.sync_all()?;
@@ -263,14 +324,18 @@ fn ends_at<F: FileExt>(file: &F, offset: u64) -> bool {
     }
 }
 
+/// Whether a file holds these bytes at this offset, of which at most `PIECE` are compared.
+fn holds_piece<F: FileExt>(file: &F, offset: u64, bytes: &[u8], piece: &mut [u8; PIECE]) -> bool {
+    let found = &mut piece[..bytes.len().min(PIECE)];
+    file.read_exact_at(found, offset).is_ok() && &*found == bytes
+}
+
 /// Whether a file holds these bytes at this offset, and, where `ends` is true, nothing behind them.
 fn holds<F: FileExt>(file: &F, at: usize, bytes: &[u8], ends: bool) -> bool {
     let mut piece = [0; PIECE];
     let mut offset = at as u64;
     for expected in bytes.chunks(PIECE) {
-        let len = expected.len().min(PIECE);
-        let found = &mut piece[..len];
-        if file.read_exact_at(found, offset).is_err() || &*found != expected {
+        if !holds_piece(file, offset, expected, &mut piece) {
             return false;
         }
         offset = offset.wrapping_add(expected.len() as u64);
@@ -299,16 +364,8 @@ impl<F: FileExt + OpenFile> Disk for FileDisk<F> {
     }
 
     fn write_at(&mut self, area: Area, at: usize, bytes: &[u8]) -> Result<(), DiskFault> {
-        let next = match self
-            .memory
-            .state
-            .prepared(self.memory.alloc, area, at, bytes)
-        {
-            Ok(next) => next,
-            Err(_) => return Err(self.memory.fault(DiskFault::Memory)),
-        };
         // The range is noted before the file is touched.
-        self.memory.risk(area, at, bytes.len())?;
+        let next = self.memory.begin(area, at, bytes)?;
         if self.file(area).write_all_at(bytes, at as u64).is_err() {
             self.doubted = true;
             self.look_again(area, at, bytes.len());
@@ -319,16 +376,7 @@ impl<F: FileExt + OpenFile> Disk for FileDisk<F> {
     }
 
     fn sync(&mut self) -> Result<(), DiskFault> {
-        if self.doubted && !self.agrees() {
-            return Err(self.memory.fault(DiskFault::Device));
-        }
-        self.doubted = false;
-        if self.stale && self.write_again().is_err() {
-            self.doubted = true;
-            return Err(self.memory.fault(DiskFault::Device));
-        }
-        self.stale = self.sync_files().is_err();
-        if self.stale {
+        if !self.write_through() {
             return Err(self.memory.fault(DiskFault::Device));
         }
         self.memory.settle();

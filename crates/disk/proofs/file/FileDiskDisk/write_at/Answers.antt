@@ -9,20 +9,20 @@ use Rattle.disk.proofs.file.FileDiskDisk.write_at.Goals as goal
 pub returns-then-is_err-clause-crash : goal.returns-then-is_err-clause-crash
 returns-then-is_err-clause-crash g c c' left =
     let step = Changes c.args.area (Torn c.args.at (length c.args.bytes.now)) in
-    let noted = c.in_ok-risk.ensures in
+    let noted = c.in_ok-next.ensures in
     let found = c.look_again.new.self.memory.state in
     let change = subst (λ (x : Contents). step (areas_of x) (areas_of found.held)) noted.held
     c.look_again.ensures.change in
-    follows_set step c.args.self.now.memory.state c.risk.new.self.state found noted.crash
+    follows_set step c.args.self.now.memory.state c.begin.new.self.state found noted.crash
     c.look_again.ensures.crash change c'
-    (subst (λ (s : State). leaves s c') c.fault-then-is_err.ensures.state left)
+    (subst (λ (s : State). leaves s c') c.fault.ensures.state left)
 
 pub returns-clause-crash : goal.returns-clause-crash
 returns-clause-crash g c =
     let n = length c.args.bytes.now in
     let s = c.args.self.now.memory.state in
-    let noted = c.in_ok-risk.ensures in
-    let next = c.in-Ok.next.items in
+    let noted = c.in_ok-next.ensures in
+    let next = c.in_ok-next.next.items in
     let held = c.set.ensures.held
     ∙ ap (λ (x : Contents). with_part c.args.area next (areas_of x)) noted.held in
     let change = changed_by_write c.args.area c.args.at n (areas_of s.held)
@@ -31,22 +31,22 @@ returns-clause-crash g c =
       next = next;
       within = c.requires;
       fits = omega arith;
-      made = c.in-Ok.ensures;
+      made = c.in_ok-next.ensures.next;
       held = held;
     }) in
-    follows_set (Changes c.args.area (Torn c.args.at n)) s c.risk.new.self.state c.set.new.self
+    follows_set (Changes c.args.area (Torn c.args.at n)) s c.begin.new.self.state c.set.new.self
     noted.crash
-    (set_leaves c.risk.new.self.state c.set.new.self c.set.ensures.synced c.set.ensures.ranges)
+    (set_leaves c.begin.new.self.state c.set.new.self c.set.ensures.synced c.set.ensures.ranges)
     change
 
 pub returns-then-is_err-clause-torn_too : goal.returns-then-is_err-clause-torn_too
 returns-then-is_err-clause-torn_too g c is d x left torn =
-    subst (λ (s : State). leaves s x) (sym c.fault-then-is_err.ensures.state)
+    subst (λ (s : State). leaves s x) (sym c.fault.ensures.state)
     (risk_left c.look_again.new.self.memory.state x
-    (c.look_again.ensures.risk x (c.in_ok-risk.ensures.torn d x left torn)))
+    (c.look_again.ensures.risk x (c.in_ok-next.ensures.torn d x left torn)))
 
 pub returns-clause-torn : goal.returns-clause-torn
 returns-clause-torn g c =
     set_reaches (Changes c.args.area (Torn c.args.at (length c.args.bytes.now)))
-    c.args.self.now.memory.state c.risk.new.self.state c.set.new.self c.set.ensures.synced
-    c.set.ensures.ranges c.in_ok-risk.ensures.torn
+    c.args.self.now.memory.state c.begin.new.self.state c.set.new.self c.set.ensures.synced
+    c.set.ensures.ranges c.in_ok-next.ensures.torn

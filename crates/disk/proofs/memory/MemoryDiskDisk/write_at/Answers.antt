@@ -14,8 +14,8 @@ returns-then-falters-clause-torn_too c is d x left torn =
 pub returns-clause-crash : goal.returns-clause-crash
 returns-clause-crash c =
     let s = c.args.self.now.state in
-    let noted = c.in_ok-risk-2.ensures in
-    let next = c.in-Ok.next.items in
+    let noted = c.in_ok-next.ensures in
+    let next = c.in_ok-next.next.items in
     let held = c.set.ensures.held
     ∙ ap (λ (x : Contents). with_part c.args.area next (areas_of x)) noted.held in
     let n = length c.args.bytes.now in
@@ -25,15 +25,15 @@ returns-clause-crash c =
       next = next;
       within = c.requires;
       fits = omega arith;
-      made = c.in-Ok.ensures;
+      made = c.in_ok-next.ensures.next;
       held = held;
     }) in
-    let mid = c.risk-2.new.self.state in
+    let mid = c.begin.new.self.state in
     follows_set (Changes c.args.area (Torn c.args.at n)) s mid c.set.new.self noted.crash
     (set_leaves mid c.set.new.self c.set.ensures.synced c.set.ensures.ranges) change
 
 pub returns-clause-torn : goal.returns-clause-torn
 returns-clause-torn c =
     set_reaches (Changes c.args.area (Torn c.args.at (length c.args.bytes.now)))
-    c.args.self.now.state c.risk-2.new.self.state c.set.new.self c.set.ensures.synced
-    c.set.ensures.ranges c.in_ok-risk-2.ensures.torn
+    c.args.self.now.state c.begin.new.self.state c.set.new.self c.set.ensures.synced
+    c.set.ensures.ranges c.in_ok-next.ensures.torn

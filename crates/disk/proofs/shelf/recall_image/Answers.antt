@@ -1,18 +1,14 @@
 use Rattle.std.proofs.Common.{◌≡◌, ◌∙◌, Some}
-use Rattle.std.proofs.lemmas.Result.{err_from_is_err_and}
 use Rattle.disk.specs.Areas.{part}
 use Rattle.disk.specs.Shelf.{half, recorded}
 use Rattle.disk.proofs.Records.{recorded_tells}
-use Rattle.disk.proofs.shelf.recall.Goals as goal
+use Rattle.disk.proofs.shelf.recall_image.Goals as goal
 
-pub returns-in_err-value-clause-memory : goal.returns-in_err-value-clause-memory
-returns-in_err-value-clause-memory g c =
+pub returns-clause-tells : goal.returns-clause-tells
+returns-clause-tells g c =
     let in_b = c.in-Some.in_b in
     let held = part (half in_b) (g.D.Disk.seen c.args.disk.now) in
     let image = c.in_ok-image.image.items in
     let is : recorded held ≡ Some image =
     cc (c.in_ok-image.ensures.image, c.half.ensures, c.synced_side.ensures.quiet.same) in
-    let p = err_from_is_err_and c.from_residual-in_err-value.result
-    c.from_residual-in_err-value.ensures.1 in
-    rw p.1
-    (λ refused. (in_b, c.in_ok-side.ensures.side ∙ c.in-Some.is, recorded_tells held image is))
+    (in_b, c.in_ok-side.ensures.side ∙ c.in-Some.is, recorded_tells held image is)

@@ -1,0 +1,37 @@
+-- Calls of a disk that change nothing of it.
+use Rattle.std.proofs.Common.{◌≡◌, ◌∙◌, ℕ, subst}
+use Rattle.disk.specs.Areas.{Areas}
+use Rattle.disk.specs.Crashes.{Elapses, HasCause, Unmoved}
+use Rattle.disk.proofs.Moments.{goes_on, joined, started, weaker}
+
+module _ {D : Type 0} (seen : D → Areas) (may_leave : D → Areas → Type 0)
+    (moment : D → ℕ) (left_since : D → ℕ → Areas → Type 0) where
+  -- one call
+  pub unmoved : (old new : D) → ((c : Areas) → left_since old (moment old) c → may_leave old c) →
+      seen new ≡ seen old → ((c : Areas) → may_leave new c → may_leave old c) →
+      Elapses (moment old) (moment new) (left_since old) (left_since new) (may_leave new) →
+      Unmoved seen may_leave moment left_since old new
+  unmoved old new here same crash time = record {
+    same = same;
+    crash = crash;
+    any_moment = goes_on moment left_since old old new (may_leave old) (may_leave new)
+        (started moment left_since old (may_leave old) here) time crash;
+  }
+
+  -- one after another
+  pub both_unmoved : (old mid new : D) → Unmoved seen may_leave moment left_since old mid →
+      Unmoved seen may_leave moment left_since mid new →
+      Unmoved seen may_leave moment left_since old new
+  both_unmoved old mid new first second = record {
+    same = second.same ∙ first.same;
+    crash = λ c left. first.crash c (second.crash c left);
+    any_moment = joined moment left_since old mid new (may_leave old) first.any_moment
+        (weaker moment left_since mid new (may_leave mid) (may_leave old) second.any_moment
+        first.crash);
+  }
+
+-- a call that failed, or not, after one that didn't
+pub later_cause : {old mid new : ℕ} {P Q : Type 0} → HasCause old mid P → (P → ⊥) →
+    HasCause mid new Q → HasCause old new Q
+later_cause {new = new} {Q = Q} first fine second =
+    subst (λ n. HasCause n new Q) (first.fine fine) second
