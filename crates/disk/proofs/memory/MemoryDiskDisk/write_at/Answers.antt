@@ -3,7 +3,9 @@ use Rattle.disk.specs.Areas.{Changes, Torn, with_part}
 use Rattle.disk.specs.Record.{areas_of, leaves}
 use Rattle.disk.specs.declared.state.Contents.{Contents}
 use Rattle.disk.specs.declared.state.State.{State}
-use Rattle.disk.proofs.Torn.{changed_by_write, follows_set, risk_left, set_leaves, set_reaches}
+use Rattle.disk.proofs.Times.{elapses_by, elapses_then}
+use Rattle.disk.proofs.Torn.{changed_by_write, changed_none, changed_to, follows_set, risk_left}
+use Rattle.disk.proofs.Torn.{set_leaves, set_reaches}
 use Rattle.disk.proofs.memory.MemoryDiskDisk.write_at.Goals as goal
 
 pub returns-then-falters-clause-torn_too : goal.returns-then-falters-clause-torn_too
@@ -37,3 +39,45 @@ returns-clause-torn c =
     set_reaches (Changes c.args.area (Torn c.args.at (length c.args.bytes.now)))
     c.args.self.now.state c.begin.new.self.state c.set.new.self c.set.ensures.synced
     c.set.ensures.ranges c.in_ok-next.ensures.torn
+
+pub returns-in_err-risk-clause-crash : goal.returns-in_err-risk-clause-crash
+returns-in_err-risk-clause-crash c = c.risk.ensures.crash
+
+pub returns-in_err-risk-clause-time : goal.returns-in_err-risk-clause-time
+returns-in_err-risk-clause-time c =
+    elapses_then c.args.self.now.past.value c.risk.new.self.past.value c.args.self.now.state
+    c.risk.new.self.state c.risk.ensures.time
+
+pub returns-then-falters-clause-failed : goal.returns-then-falters-clause-failed
+returns-then-falters-clause-failed c =
+    changed_none c.args.area c.args.at (length c.args.bytes.now) c.args.self.now.state.held
+    c.fault.new.self.state.held (ap (λ s. s.held) c.fault.ensures.state ∙ c.risk.ensures.held)
+
+pub returns-then-falters-clause-crash : goal.returns-then-falters-clause-crash
+returns-then-falters-clause-crash c x left =
+    c.risk.ensures.crash x (subst (λ (s : State). leaves s x) c.fault.ensures.state left)
+
+pub returns-then-falters-clause-time : goal.returns-then-falters-clause-time
+returns-then-falters-clause-time c =
+    elapses_by c.args.self.now.past.value c.risk.new.self.past.value c.fault.new.self.past.value
+    c.args.self.now.state c.fault.new.self.state c.risk.ensures.time
+    (ap (λ p. p.value) c.fault.ensures.past)
+
+pub returns-in_err-next-clause-crash : goal.returns-in_err-next-clause-crash
+returns-in_err-next-clause-crash c = c.begin.ensures.crash
+
+pub returns-in_err-next-clause-time : goal.returns-in_err-next-clause-time
+returns-in_err-next-clause-time c = c.in_err-next.ensures.time
+
+pub returns-clause-written : goal.returns-clause-written
+returns-clause-written c =
+    let held = areas_of c.args.self.now.state.held in
+    let next = c.in_ok-next.next.items in
+    changed_to c.args.area c.args.at c.args.bytes.now next held (areas_of c.set.new.self.held)
+    c.in_ok-next.ensures.next (c.set.ensures.held
+    ∙ ap (λ (x : Contents). with_part c.args.area next (areas_of x)) c.in_ok-next.ensures.held)
+
+pub returns-clause-time : goal.returns-clause-time
+returns-clause-time c =
+    elapses_then c.args.self.now.past.value c.begin.new.self.past.value
+    c.args.self.now.state c.set.new.self c.in_ok-next.ensures.gone

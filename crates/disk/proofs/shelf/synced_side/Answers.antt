@@ -1,0 +1,16 @@
+use Rattle.disk.proofs.Quiet.{both_unmoved, unmoved}
+use Rattle.disk.proofs.shelf.synced_side.Goals as goal
+
+pub returns-in_err-sync-clause-quiet : goal.returns-in_err-sync-clause-quiet
+returns-in_err-sync-clause-quiet g c =
+    unmoved g.D.Disk.seen g.D.Disk.may_leave g.D.Disk.moment g.D.Disk.left_since
+    c.args.disk.now c.sync.new.self (λ x left. g.met.D.Disk.only_now c.args.disk.now x left)
+    c.sync.ensures.seen c.sync.ensures.crash c.sync.ensures.time
+
+pub returns-clause-quiet : goal.returns-clause-quiet
+returns-clause-quiet g c =
+    both_unmoved g.D.Disk.seen g.D.Disk.may_leave g.D.Disk.moment g.D.Disk.left_since
+    c.args.disk.now c.sync.new.self c.chosen.new.disk
+    (unmoved g.D.Disk.seen g.D.Disk.may_leave g.D.Disk.moment g.D.Disk.left_since
+    c.args.disk.now c.sync.new.self (λ x left. g.met.D.Disk.only_now c.args.disk.now x left)
+    c.sync.ensures.seen c.sync.ensures.crash c.sync.ensures.time) c.chosen.ensures.quiet
