@@ -71,10 +71,7 @@ fn open_folder<R: Files<File = File>>(
     ensures { IfOk result (λ d. IsUnsynced d.memory.state) }
 {
     make_folder(rt, alloc, folder)?;
-    let mut select = open_file(rt, alloc, folder, "select")?;
-    lock(&select)?;
-    let mut a = open_file(rt, alloc, folder, "a")?;
-    let mut b = open_file(rt, alloc, folder, "b")?;
+    let (mut select, mut a, mut b) = open_files(rt, alloc, folder)?;
     sync_folder(rt, folder)?;
     let memory = load_all(alloc, &mut select, &mut a, &mut b)?;
     // The files were just read.
@@ -88,11 +85,25 @@ fn open_folder<R: Files<File = File>>(
     })
 }
 
+/// Opens the three files of a folder, or makes them. The file `select` is locked before the others
+/// are touched.
+fn open_files<R: Files<File = File>>(
+    rt: &R,
+    alloc: Global,
+    folder: Path<'_>,
+) -> io::Result<(File, File, File)> {
+    let select = open_file(rt, alloc, folder, "select")?;
+    lock(&select)?;
+    let a = open_file(rt, alloc, folder, "a")?;
+    let b = open_file(rt, alloc, folder, "b")?;
+    Ok((select, a, b))
+}
+
 /// Makes a folder, and those above it, where they are absent. Each is synced into the one above it.
 fn make_folder<R: Files<File = File>>(rt: &R, alloc: Global, folder: Path<'_>) -> io::Result<()> {
-    let absent = absent_folders(rt, alloc, folder)?;
-    for path in absent.iter().rev() {
-        make_below(rt, *path)?;
+    let mut absent = absent_folders(rt, alloc, folder)?;
+    while let Some(path) = absent.pop() {
+        make_below(rt, path)?;
     }
     Ok(())
 }
@@ -106,7 +117,7 @@ fn absent_folders<'a, R: Files<File = File>>(
     let mut absent = Vec::new(alloc);
     let mut path = folder;
     for _ in 0..folder.as_str().len() {
-        if path.as_str().is_empty() || path.try_exists(rt)? {
+        if !is_absent(rt, path)? {
             break;
         }
         absent.push(path)?;
@@ -116,6 +127,11 @@ fn absent_folders<'a, R: Files<File = File>>(
         }
     }
     Ok(absent)
+}
+
+/// Whether a folder with a name isn't there.
+fn is_absent<R: Files<File = File>>(rt: &R, folder: Path<'_>) -> io::Result<bool> {
+    Ok(!folder.as_str().is_empty() && !folder.try_exists(rt)?)
 }
 
 /// Makes a folder where it is absent, and syncs it into the one above it.
