@@ -1,5 +1,5 @@
--- Calls of a disk that change nothing of it.
-use Rattle.std.proofs.Common.{◌≡◌, ◌∙◌, ℕ, subst}
+-- Calls of a disk that change nothing of it, and the count of those that failed.
+use Rattle.std.proofs.Common.{◌≡◌, ◌∙◌, ℕ, subst, arith}
 use Rattle.disk.specs.Areas.{Areas}
 use Rattle.disk.specs.Crashes.{Elapses, HasCause, Unmoved}
 use Rattle.disk.proofs.Moments.{goes_on, joined, started, weaker}
@@ -35,3 +35,25 @@ pub later_cause : {old mid new : ℕ} {P Q : Type 0} → HasCause old mid P → 
     HasCause mid new Q → HasCause old new Q
 later_cause {new = new} {Q = Q} first fine second =
     subst (λ n. HasCause n new Q) (first.fine fine) second
+
+-- a failure is handed on
+pub same_cause : {old new : ℕ} {P Q : Type 0} → HasCause old new P → P → Q → HasCause old new Q
+same_cause cause p q = record {
+  later = cause.later;
+  failed = λ _. cause.failed p;
+  fine = λ none. absurd (none q);
+}
+
+-- a failure is counted, where the count stood as before
+pub counted_cause : {old mid new : ℕ} {P Q : Type 0} → mid ≡ old → HasCause mid new P → P → Q →
+    HasCause old new Q
+counted_cause {new = new} {P = P} same cause p q =
+    same_cause (subst (λ n. HasCause n new P) same cause) p q
+
+-- nothing failed
+pub no_cause : {old new : ℕ} {Q : Type 0} → new ≡ old → (Q → ⊥) → HasCause old new Q
+no_cause same none = record {
+  later = omega (arith, same);
+  failed = λ q. absurd (none q);
+  fine = λ _. same;
+}

@@ -1,8 +1,9 @@
-use Rattle.std.proofs.Common.{subst, sym}
+use Rattle.std.proofs.Common.{subst, sym, refl}
 use Rattle.std.proofs.lemmas.Result.{on_ok_weaker}
 use Rattle.disk.specs.Areas.{Holds}
 use Rattle.disk.specs.Crashes.{Only}
 use Rattle.disk.proofs.Moments.{goes_on}
+use Rattle.disk.proofs.Quiet.{later_cause, same_cause}
 use Rattle.disk.proofs.save.put_both.Goals as goal
 
 pub returns-clause-any_moment : goal.returns-clause-any_moment
@@ -28,3 +29,11 @@ returns-clause-durable g c =
     on_ok_weaker c.sync.result
     (λ only. subst (λ x. Only x (g.D.Disk.may_leave c.sync.new.self))
     (sym c.sync.ensures.seen) only) c.sync.ensures.durable
+
+pub returns-in_err-write_both-clause-cause : goal.returns-in_err-write_both-clause-cause
+returns-in_err-write_both-clause-cause g c =
+    same_cause c.in_err-write_both.ensures.cause refl c.from_residual.ensures.0
+
+pub returns-clause-cause : goal.returns-clause-cause
+returns-clause-cause g c =
+    later_cause c.in_ok-write_both.ensures.cause (λ is. absurd cc) c.sync.ensures.cause

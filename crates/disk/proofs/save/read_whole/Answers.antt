@@ -1,6 +1,6 @@
-use Rattle.std.proofs.Common.{arith}
+use Rattle.std.proofs.Common.{arith, refl}
 use Rattle.std.proofs.lemmas.Bool.Decides.{nat_tests}
-use Rattle.disk.proofs.Quiet.{unmoved}
+use Rattle.disk.proofs.Quiet.{same_cause, unmoved}
 use Rattle.disk.proofs.Records.{whole_read}
 use Rattle.disk.proofs.save.read_whole.Goals as goal
 
@@ -20,3 +20,11 @@ pub returns-clause-whole : goal.returns-clause-whole
 returns-clause-whole g c =
     whole_read _ c.in_ok-found.ensures.bytes (λ is. grind (arith, nat_tests))
     (λ is. grind (arith, nat_tests))
+
+pub returns-in_err-found-clause-cause : goal.returns-in_err-found-clause-cause
+returns-in_err-found-clause-cause g c =
+    same_cause c.in_err-found.ensures.cause refl c.from_residual.ensures.0
+
+pub returns-clause-cause : goal.returns-clause-cause
+returns-clause-cause g c =
+    c.in_ok-found.ensures.cause

@@ -1,4 +1,5 @@
-use Rattle.disk.proofs.Quiet.{both_unmoved, unmoved}
+use Rattle.std.proofs.Common.{refl}
+use Rattle.disk.proofs.Quiet.{both_unmoved, later_cause, same_cause, unmoved}
 use Rattle.disk.proofs.shelf.synced_side.Goals as goal
 
 pub returns-in_err-sync-clause-quiet : goal.returns-in_err-sync-clause-quiet
@@ -14,3 +15,11 @@ returns-clause-quiet g c =
     (unmoved g.D.Disk.seen g.D.Disk.may_leave g.D.Disk.moment g.D.Disk.left_since
     c.args.disk.now c.sync.new.self (λ x left. g.met.D.Disk.only_now c.args.disk.now x left)
     c.sync.ensures.seen c.sync.ensures.crash c.sync.ensures.time) c.chosen.ensures.quiet
+
+pub returns-in_err-sync-clause-cause : goal.returns-in_err-sync-clause-cause
+returns-in_err-sync-clause-cause g c =
+    same_cause c.in_err-sync.ensures.cause refl c.from_residual.ensures.0
+
+pub returns-clause-cause : goal.returns-clause-cause
+returns-clause-cause g c =
+    later_cause c.in_ok-sync.ensures.cause (λ is. absurd cc) c.chosen.ensures.cause

@@ -1,7 +1,8 @@
-use Rattle.std.proofs.Common.{◌∙◌, ap, subst, sym}
+use Rattle.std.proofs.Common.{◌∙◌, ap, subst, sym, refl}
 use Rattle.disk.specs.Record.{leaves}
 use Rattle.disk.specs.declared.state.State.{State}
 use Rattle.disk.proofs.Times.{elapses_same}
+use Rattle.disk.proofs.Quiet.{counted_cause, same_cause}
 use Rattle.disk.proofs.file.FileDiskDisk.read.Goals as goal
 
 pub returns-in_err-n-clause-crash : goal.returns-in_err-n-clause-crash
@@ -45,3 +46,15 @@ returns-clause-time g c =
     elapses_same c.args.self.now.memory.past.value c.read.new.self.past.value
     c.args.self.now.memory.state c.read.new.self.state (ap (λ p. p.value) c.read.ensures.past)
     c.read.ensures.state
+
+pub returns-in_err-n-clause-cause : goal.returns-in_err-n-clause-cause
+returns-in_err-n-clause-cause g c =
+    same_cause c.in_err-n.ensures.cause refl c.from_residual.ensures.0
+
+pub returns-then-not-holds-clause-cause : goal.returns-then-not-holds-clause-cause
+returns-then-not-holds-clause-cause g c =
+    counted_cause (c.in_ok-n.ensures.cause.fine (λ is. absurd cc)) c.fault.ensures.counted tt refl
+
+pub returns-clause-cause : goal.returns-clause-cause
+returns-clause-cause g c =
+    c.in_ok-n.ensures.cause

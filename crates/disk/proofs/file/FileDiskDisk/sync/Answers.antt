@@ -1,9 +1,10 @@
-use Rattle.std.proofs.Common.{◌∙◌, ap, subst, sym}
+use Rattle.std.proofs.Common.{◌∙◌, ap, subst, sym, refl}
 use Rattle.disk.specs.Crashes.{Elapses, Only}
 use Rattle.disk.specs.Record.{areas_of, leaves, left_since, moments}
 use Rattle.disk.specs.declared.memory.MemoryDisk.{MemoryDisk}
 use Rattle.disk.specs.declared.state.State.{State}
 use Rattle.disk.proofs.Times.{elapses_same, elapses_then}
+use Rattle.disk.proofs.Quiet.{counted_cause, no_cause}
 use Rattle.disk.proofs.file.FileDiskDisk.sync.Goals as goal
 
 pub returns-then-not-write_through-clause-crash : goal.returns-then-not-write_through-clause-crash
@@ -43,3 +44,12 @@ returns-clause-time g c =
     let mid = c.write_through.new.self.memory in
     subst P c.write_through.ensures
     (elapses_then mid.past.value later.past.value mid.state later.state c.settle.ensures.time)
+
+pub returns-then-not-write_through-clause-cause : goal.returns-then-not-write_through-clause-cause
+returns-then-not-write_through-clause-cause g c =
+    counted_cause (ap (λ m. m.failures) c.write_through.ensures) c.fault.ensures.counted tt refl
+
+pub returns-clause-cause : goal.returns-clause-cause
+returns-clause-cause g c =
+    no_cause (c.settle.ensures.failures ∙ ap (λ m. m.failures) c.write_through.ensures)
+    (λ is. absurd cc)

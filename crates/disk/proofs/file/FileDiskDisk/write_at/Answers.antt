@@ -1,4 +1,4 @@
-use Rattle.std.proofs.Common.{◌∙◌, ap, subst, sym, length, arith}
+use Rattle.std.proofs.Common.{◌∙◌, ap, subst, sym, length, arith, refl}
 use Rattle.disk.specs.Areas.{Changes, Torn, with_part}
 use Rattle.disk.specs.Record.{areas_of, leaves}
 use Rattle.disk.specs.declared.state.Contents.{Contents}
@@ -6,6 +6,7 @@ use Rattle.disk.specs.declared.state.State.{State}
 use Rattle.disk.proofs.Times.{elapses_by, elapses_then}
 use Rattle.disk.proofs.Torn.{changed_by_write, changed_to, follows_set, risk_left, set_leaves}
 use Rattle.disk.proofs.Torn.{set_reaches}
+use Rattle.disk.proofs.Quiet.{counted_cause, same_cause}
 use Rattle.disk.proofs.file.FileDiskDisk.write_at.Goals as goal
 
 pub returns-then-is_err-clause-crash : goal.returns-then-is_err-clause-crash
@@ -81,3 +82,16 @@ pub returns-clause-time : goal.returns-clause-time
 returns-clause-time g c =
     elapses_then c.args.self.now.memory.past.value c.begin.new.self.past.value
     c.args.self.now.memory.state c.set.new.self c.in_ok-next.ensures.gone
+
+pub returns-in_err-next-clause-cause : goal.returns-in_err-next-clause-cause
+returns-in_err-next-clause-cause g c =
+    same_cause c.in_err-next.ensures.cause refl c.from_residual.ensures.0
+
+pub returns-then-is_err-clause-cause : goal.returns-then-is_err-clause-cause
+returns-then-is_err-clause-cause g c =
+    counted_cause (c.look_again.ensures.failures
+    ∙ c.in_ok-next.ensures.cause.fine (λ is. absurd cc)) c.fault.ensures.counted tt refl
+
+pub returns-clause-cause : goal.returns-clause-cause
+returns-clause-cause g c =
+    c.in_ok-next.ensures.cause

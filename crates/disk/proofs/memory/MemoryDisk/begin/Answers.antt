@@ -1,8 +1,9 @@
-use Rattle.std.proofs.Common.{ap, length, subst, sym}
+use Rattle.std.proofs.Common.{ap, length, subst, sym, refl}
 use Rattle.disk.specs.Record.{leaves}
 use Rattle.disk.specs.declared.state.State.{State}
 use Rattle.disk.proofs.Times.{elapses_same}
 use Rattle.disk.proofs.Torn.{follows_still}
+use Rattle.disk.proofs.Quiet.{counted_cause, same_cause}
 use Rattle.disk.proofs.memory.MemoryDisk.begin.Goals as goal
 
 pub returns-in-Err-clause-crash : goal.returns-in-Err-clause-crash
@@ -26,3 +27,15 @@ returns-in_err-risk-clause-crash c = c.risk.ensures.crash
 
 pub returns-clause-gone : goal.returns-clause-gone
 returns-clause-gone c = c.risk.ensures.time
+
+pub returns-in-Err-clause-cause : goal.returns-in-Err-clause-cause
+returns-in-Err-clause-cause c =
+    counted_cause refl c.fault.ensures.counted tt refl
+
+pub returns-in_err-risk-clause-cause : goal.returns-in_err-risk-clause-cause
+returns-in_err-risk-clause-cause c =
+    same_cause c.in_err-risk.ensures.cause refl c.from_residual.ensures.0
+
+pub returns-clause-cause : goal.returns-clause-cause
+returns-clause-cause c =
+    c.in_ok-risk.ensures.cause
