@@ -10,9 +10,11 @@
 //! disk is there.
 ghost use Rattle.std.specs.Prelude.{◌≡◌, ◌⊎◌, ◌≤◌, length, IfErr, IfOk, OnOk};
 ghost use Rattle.disk.specs.Areas.{Areas, Changes, Torn, part};
+ghost use Rattle.disk.specs.Memory.{blank, held_by};
 ghost use Rattle.disk.specs.Record.{areas_of, at_risk, leaves, moments, left_since, reads_left};
 ghost use Rattle.disk.specs.Record.{counts_now, IsUnsynced, Loaded, only_now};
 
+use crate::state::Range;
 use crate::{Area, Disk, DiskFault, MemoryDisk};
 use ids::Refusal;
 use std::alloc::{AllocError, Global};
@@ -73,7 +75,8 @@ fn open_folder<R: Files<File = File>>(
     make_folder(rt, alloc, folder)?;
     let (mut select, mut a, mut b) = open_files(rt, alloc, folder)?;
     sync_folder(rt, folder)?;
-    let memory = load_all(alloc, &mut select, &mut a, &mut b)?;
+    let mut memory = MemoryDisk::new(alloc);
+    load_all(alloc, &mut memory, &mut select, &mut a, &mut b)?;
     // The files were just read.
     Ok(FileDisk {
         select,
@@ -159,7 +162,12 @@ fn open_file<R: Files<File = File>>(
     name: &str,
 ) -> io::Result<File> {
     let path = folder.join(alloc, name)?;
-    let file = open_or_make(rt, path.as_path())?;
+    open_regular(rt, path.as_path())
+}
+
+/// Opens a file, or makes it. It is refused where it isn't a regular one.
+fn open_regular<R: Files<File = File>>(rt: &R, path: Path<'_>) -> io::Result<File> {
+    let file = open_or_make(rt, path)?;
     if !file.metadata()?.is_file() {
         return Err(ErrorKind::InvalidInput.into());
     }
@@ -191,15 +199,21 @@ fn sync_folder<R: Files<File = File>>(rt: &R, folder: Path<'_>) -> io::Result<()
     File::open(rt, path)?.sync_all()
 }
 
-/// Reads the three files whole. What they hold counts as unsynced.
-fn load_all(alloc: Global, select: &mut File, a: &mut File, b: &mut File) -> io::Result<MemoryDisk>
-    ensures { IfOk result (λ m. IsUnsynced m.state) }
+/// Reads the three files whole into a disk that holds nothing. What they hold counts as unsynced.
+fn load_all(
+    alloc: Global,
+    memory: &mut MemoryDisk,
+    select: &mut File,
+    a: &mut File,
+    b: &mut File,
+) -> io::Result<()>
+    requires { held_by memory.old ≡ blank }
+
+    ensures { OnOk result (IsUnsynced memory.new.state) }
 {
-    let mut memory = MemoryDisk::new(alloc);
-    load(alloc, &mut memory, Area::Select, select)?;
-    load(alloc, &mut memory, Area::A, a)?;
-    load(alloc, &mut memory, Area::B, b)?;
-    Ok(memory)
+    load(alloc, memory, Area::Select, select)?;
+    load(alloc, memory, Area::A, a)?;
+    load(alloc, memory, Area::B, b)
 }
 
 /// Reads a file whole. What it holds counts as unsynced.
@@ -253,14 +267,20 @@ impl<F: FileExt + OpenFile> FileDisk<F> {
     /// Writes each range again that was written since the last sync.
     fn write_again(&self) -> io::Result<()> {
         for range in &self.memory.state.ranges {
-            let held = self.memory.state.held.part(range.area);
-            if range.at < held.len() {
-                let rest = &held[range.at..];
-                let bytes = &rest[..range.len.min(rest.len())];
-                self.file(range.area).write_all_at(bytes, range.at as u64)?;
-            }
+            self.write_range(range)?;
         }
         Ok(())
+    }
+
+    /// Writes what the disk holds in a range.
+    fn write_range(&self, range: &Range) -> io::Result<()> {
+        let held = self.memory.state.held.part(range.area);
+        if range.at >= held.len() {
+            return Ok(());
+        }
+        let rest = &held[range.at..];
+        let bytes = &rest[..range.len.min(rest.len())];
+        self.file(range.area).write_all_at(bytes, range.at as u64)
     }
 
     /// Takes what stands in a range of a file after a write there has failed. Where that can't be
