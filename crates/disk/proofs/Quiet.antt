@@ -1,5 +1,6 @@
 -- Calls of a disk that change nothing of it, and the count of those that failed.
-use Rattle.std.proofs.Common.{◌≡◌, ◌∙◌, ℕ, subst, arith}
+use Rattle.std.proofs.Common.{◌≡◌, ◌∙◌, ℕ, Result, Err, IsErrOf, true, refl}
+use Rattle.std.proofs.Common.{subst, arith}
 use Rattle.disk.specs.Areas.{Areas}
 use Rattle.disk.specs.Crashes.{Elapses, HasCause, Unmoved}
 use Rattle.disk.proofs.Moments.{goes_on, joined, started, weaker}
@@ -30,25 +31,28 @@ module _ {D : Type 0} (seen : D → Areas) (may_leave : D → Areas → Type 0)
         first.crash);
   }
 
--- a call that failed, or not, after one that didn't
-pub later_cause : {old mid new : ℕ} {P Q : Type 0} → HasCause old mid P → (P → ⊥) →
-    HasCause mid new Q → HasCause old new Q
-later_cause {new = new} {Q = Q} first fine second =
-    subst (λ n. HasCause n new Q) (first.fine fine) second
+-- a call that failed, or not, where the count stood as before
+pub later_cause : {old mid new : ℕ} {Q : Type 0} → mid ≡ old → HasCause mid new Q →
+    HasCause old new Q
+later_cause {new = new} {Q = Q} same cause = subst (λ n. HasCause n new Q) same cause
 
--- a failure is handed on
-pub same_cause : {old new : ℕ} {P Q : Type 0} → HasCause old new P → P → Q → HasCause old new Q
+-- the same in other words
+same_cause : {old new : ℕ} {P Q : Type 0} → HasCause old new P → P → Q → HasCause old new Q
 same_cause cause p q = record {
   later = cause.later;
   failed = λ _. cause.failed p;
   fine = λ none. absurd (none q);
 }
 
--- a failure is counted, where the count stood as before
+-- the failure of a call that is known to have failed
+pub err_cause : {old new : ℕ} {Q : Type 0} → HasCause old new (true ≡ true) → Q →
+    HasCause old new Q
+err_cause cause q = same_cause cause refl q
+
+-- a failure is counted then
 pub counted_cause : {old mid new : ℕ} {P Q : Type 0} → mid ≡ old → HasCause mid new P → P → Q →
     HasCause old new Q
-counted_cause {new = new} {P = P} same cause p q =
-    same_cause (subst (λ n. HasCause n new P) same cause) p q
+counted_cause same cause p q = same_cause (later_cause same cause) p q
 
 -- nothing failed
 pub no_cause : {old new : ℕ} {Q : Type 0} → new ≡ old → (Q → ⊥) → HasCause old new Q
@@ -56,4 +60,13 @@ no_cause same none = record {
   later = omega (arith, same);
   failed = λ q. absurd (none q);
   fine = λ _. same;
+}
+
+-- a refusal is handed on, at another type of value
+pub handed_cause : {old new : ℕ} {T U E : Type 0} {e x : E} {r : Result U E} → r ≡ Err e →
+    HasCause old new (IsErrOf {T = T} (Err e) x) → HasCause old new (IsErrOf r x)
+handed_cause is cause = record {
+  later = cause.later;
+  failed = λ same. cause.failed (cc);
+  fine = λ none. cause.fine (λ same. none (cc));
 }

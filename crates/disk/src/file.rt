@@ -306,8 +306,8 @@ impl<F: FileExt + OpenFile> FileDisk<F> {
         }
     }
 
-    /// Writes through to the device what `memory` says, once the files are known to hold it. Whether
-    /// they do, and all went well.
+    /// Writes the files through to the device, once they are known to hold what `memory` says.
+    /// Whether they do, and all went well.
     fn write_through(&mut self) -> bool
         ensures { self.new.memory ≡ self.old.memory }
     {

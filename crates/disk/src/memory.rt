@@ -138,8 +138,8 @@ impl MemoryDisk {
         }
     }
 
-    // An area as it is to be once these bytes are written at this offset, in whose range a crash may
-    // leave any bytes from now on. Where memory is refused, all is as it was.
+    // An area as it is to be once these bytes are written at this offset. From now on a crash may
+    // leave any bytes in their range. Where memory is refused, all is as it was.
     pub(crate) fn begin(
         &mut self,
         area: Area,

@@ -131,7 +131,8 @@ pub(crate) fn swap<D: Disk>(
     put(disk, Area::Select, &[choice])
 }
 
-/// Reads as many bytes as `into` has, from the offset `at` of an area on. Whether there are so many.
+/// Reads as many bytes as `into` has, from the offset `at` of an area on. Whether there are so
+/// many.
 fn read_whole<D: Disk>(
     disk: &mut D,
     area: Area,

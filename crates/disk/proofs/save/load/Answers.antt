@@ -1,6 +1,7 @@
-use Rattle.std.proofs.Common.{ap, arith, length}
+use Rattle.std.proofs.Common.{ap, arith, length, ◌∙◌, Err, inr}
+use Rattle.std.proofs.lemmas.Result.{err_from_is_err_and}
 use Rattle.disk.specs.Areas.{part}
-use Rattle.disk.proofs.Quiet.{both_unmoved}
+use Rattle.disk.proofs.Quiet.{both_unmoved, err_cause, handed_cause, later_cause, no_cause}
 use Rattle.disk.proofs.Records.{recorded_cut, image_read}
 use Rattle.disk.proofs.save.load.Goals as goal
 
@@ -38,3 +39,36 @@ returns-clause-quiet g c =
     both_unmoved g.D.Disk.seen g.D.Disk.may_leave g.D.Disk.moment g.D.Disk.left_since
     c.args.disk.now c.told_length.new.disk c.read_whole.new.disk c.told_length.ensures.quiet
     c.read_whole.ensures.quiet
+
+pub returns-in_err-len-clause-cause : goal.returns-in_err-len-clause-cause
+returns-in_err-len-clause-cause g c =
+    let p = err_from_is_err_and c.from_residual.result c.from_residual.ensures.1 in
+    handed_cause (p.1 ∙ ap Err p.2) c.in_err-len.ensures.cause
+
+pub returns-in_err-len-clause-others : goal.returns-in_err-len-clause-others
+returns-in_err-len-clause-others g c =
+    let p = err_from_is_err_and c.from_residual.result c.from_residual.ensures.1 in
+    rw (p.1, p.2) (inr c.in_err-len.ensures.others)
+
+pub returns-in_err-read_whole-clause-cause : goal.returns-in_err-read_whole-clause-cause
+returns-in_err-read_whole-clause-cause g c =
+    let exit = c.from_residual-in_err-read_whole in
+    let p = err_from_is_err_and exit.result exit.ensures.1 in
+    later_cause (c.in_ok-len.ensures.cause.fine (λ is. absurd cc))
+    (err_cause c.in_err-read_whole.ensures.cause (p.1 ∙ ap Err p.2))
+
+pub returns-in_err-read_whole-clause-others : goal.returns-in_err-read_whole-clause-others
+returns-in_err-read_whole-clause-others g c =
+    let exit = c.from_residual-in_err-read_whole in
+    let p = err_from_is_err_and exit.result exit.ensures.1 in
+    rw p.1 (inr (inr p.2))
+
+pub returns-then-not-branch-clause-cause : goal.returns-then-not-branch-clause-cause
+returns-then-not-branch-clause-cause g c =
+    later_cause (c.in_ok-len.ensures.cause.fine (λ is. absurd cc))
+    (no_cause (c.in_ok-read_whole.ensures.cause.fine (λ is. absurd cc)) (λ is. absurd cc))
+
+pub returns-clause-cause : goal.returns-clause-cause
+returns-clause-cause g c =
+    later_cause (c.in_ok-len.ensures.cause.fine (λ is. absurd cc))
+    (no_cause (c.in_ok-read_whole.ensures.cause.fine (λ is. absurd cc)) (λ is. absurd cc))

@@ -1,9 +1,9 @@
-use Rattle.std.proofs.Common.{length, subst, sym, refl}
+use Rattle.std.proofs.Common.{length, subst, sym}
 use Rattle.std.proofs.lemmas.Result.{on_ok_weaker}
 use Rattle.disk.specs.Areas.{Changes, Holds, Torn}
 use Rattle.disk.specs.Crashes.{Only}
 use Rattle.disk.proofs.Moments.{goes_on, wrote}
-use Rattle.disk.proofs.Quiet.{later_cause, same_cause}
+use Rattle.disk.proofs.Quiet.{err_cause, later_cause}
 use Rattle.disk.proofs.save.put.Goals as goal
 
 pub returns-in_err-write_at-clause-any_moment : goal.returns-in_err-write_at-clause-any_moment
@@ -44,8 +44,8 @@ returns-clause-durable g c =
 
 pub returns-in_err-write_at-clause-cause : goal.returns-in_err-write_at-clause-cause
 returns-in_err-write_at-clause-cause g c =
-    same_cause c.in_err-write_at.ensures.cause refl c.from_residual.ensures.0
+    err_cause c.in_err-write_at.ensures.cause c.from_residual.ensures.0
 
 pub returns-clause-cause : goal.returns-clause-cause
 returns-clause-cause g c =
-    later_cause c.in_ok-write_at.ensures.cause (λ is. absurd cc) c.sync.ensures.cause
+    later_cause (c.in_ok-write_at.ensures.cause.fine (λ is. absurd cc)) c.sync.ensures.cause

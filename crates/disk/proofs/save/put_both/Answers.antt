@@ -1,9 +1,9 @@
-use Rattle.std.proofs.Common.{subst, sym, refl}
+use Rattle.std.proofs.Common.{subst, sym}
 use Rattle.std.proofs.lemmas.Result.{on_ok_weaker}
 use Rattle.disk.specs.Areas.{Holds}
 use Rattle.disk.specs.Crashes.{Only}
 use Rattle.disk.proofs.Moments.{goes_on}
-use Rattle.disk.proofs.Quiet.{later_cause, same_cause}
+use Rattle.disk.proofs.Quiet.{err_cause, later_cause}
 use Rattle.disk.proofs.save.put_both.Goals as goal
 
 pub returns-clause-any_moment : goal.returns-clause-any_moment
@@ -32,8 +32,8 @@ returns-clause-durable g c =
 
 pub returns-in_err-write_both-clause-cause : goal.returns-in_err-write_both-clause-cause
 returns-in_err-write_both-clause-cause g c =
-    same_cause c.in_err-write_both.ensures.cause refl c.from_residual.ensures.0
+    err_cause c.in_err-write_both.ensures.cause c.from_residual.ensures.0
 
 pub returns-clause-cause : goal.returns-clause-cause
 returns-clause-cause g c =
-    later_cause c.in_ok-write_both.ensures.cause (λ is. absurd cc) c.sync.ensures.cause
+    later_cause (c.in_ok-write_both.ensures.cause.fine (λ is. absurd cc)) c.sync.ensures.cause

@@ -1,6 +1,6 @@
-use Rattle.std.proofs.Common.{arith, refl}
+use Rattle.std.proofs.Common.{arith}
 use Rattle.std.proofs.lemmas.Bool.Decides.{nat_tests}
-use Rattle.disk.proofs.Quiet.{same_cause, unmoved}
+use Rattle.disk.proofs.Quiet.{err_cause, unmoved}
 use Rattle.disk.proofs.Records.{whole_read}
 use Rattle.disk.proofs.save.read_whole.Goals as goal
 
@@ -23,7 +23,7 @@ returns-clause-whole g c =
 
 pub returns-in_err-found-clause-cause : goal.returns-in_err-found-clause-cause
 returns-in_err-found-clause-cause g c =
-    same_cause c.in_err-found.ensures.cause refl c.from_residual.ensures.0
+    err_cause c.in_err-found.ensures.cause c.from_residual.ensures.0
 
 pub returns-clause-cause : goal.returns-clause-cause
 returns-clause-cause g c =

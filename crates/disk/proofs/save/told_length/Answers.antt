@@ -1,4 +1,6 @@
-use Rattle.std.proofs.Common.{◌∙◌, sym, arith}
+use Rattle.std.proofs.Common.{◌∙◌, Err, ap, inr, sym, arith}
+use Rattle.std.proofs.lemmas.Result.{err_from_is_err_and}
+use Rattle.disk.proofs.Quiet.{err_cause, no_cause}
 use Rattle.disk.proofs.Records.{recorded_short, recorded_long, told_read}
 use Rattle.disk.proofs.save.told_length.Goals as goal
 
@@ -26,3 +28,26 @@ returns-clause-tells g c =
       omega (arith, whole.enough c.if-not-branch.false),
       omega (arith, returns-clause-told g c, c.if-len-gt-GREATEST_IMAGE.false),
     )
+
+pub returns-in_err-read_whole-clause-cause : goal.returns-in_err-read_whole-clause-cause
+returns-in_err-read_whole-clause-cause g c =
+    let p = err_from_is_err_and c.from_residual.result c.from_residual.ensures.1 in
+    err_cause c.in_err-read_whole.ensures.cause (p.1 ∙ ap Err p.2)
+
+pub returns-in_err-read_whole-clause-others : goal.returns-in_err-read_whole-clause-others
+returns-in_err-read_whole-clause-others g c =
+    let p = err_from_is_err_and c.from_residual.result c.from_residual.ensures.1 in
+    rw p.1 (inr p.2)
+
+pub returns-then-not-branch-clause-cause : goal.returns-then-not-branch-clause-cause
+returns-then-not-branch-clause-cause g c =
+    no_cause (c.in_ok-read_whole.ensures.cause.fine (λ is. absurd cc)) (λ is. absurd cc)
+
+pub returns-then-len-gt-GREATEST_IMAGE-clause-cause :
+    goal.returns-then-len-gt-GREATEST_IMAGE-clause-cause
+returns-then-len-gt-GREATEST_IMAGE-clause-cause g c =
+    no_cause (c.in_ok-read_whole.ensures.cause.fine (λ is. absurd cc)) (λ is. absurd cc)
+
+pub returns-clause-cause : goal.returns-clause-cause
+returns-clause-cause g c =
+    no_cause (c.in_ok-read_whole.ensures.cause.fine (λ is. absurd cc)) (λ is. absurd cc)

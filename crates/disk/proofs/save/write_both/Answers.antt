@@ -1,9 +1,9 @@
-use Rattle.std.proofs.Common.{◌≡◌, [], length, true, false, sym, subst, refl}
+use Rattle.std.proofs.Common.{◌≡◌, [], length, true, false, sym, subst}
 use Rattle.std.proofs.lemmas.Result.{on_ok_weaker}
 use Rattle.disk.specs.Areas.{Areas, Holds, Torn}
 use Rattle.disk.proofs.Moments.{goes_on, started}
 use Rattle.disk.proofs.Sides.{still_blank}
-use Rattle.disk.proofs.Quiet.{later_cause, same_cause}
+use Rattle.disk.proofs.Quiet.{err_cause, later_cause}
 use Rattle.disk.proofs.save.write_both.Goals as goal
 
 pub returns-in_err-write_at-clause-crash : goal.returns-in_err-write_at-clause-crash
@@ -64,8 +64,8 @@ returns-clause-b g c =
 
 pub returns-in_err-write_at-clause-cause : goal.returns-in_err-write_at-clause-cause
 returns-in_err-write_at-clause-cause g c =
-    same_cause c.in_err-write_at.ensures.cause refl c.from_residual.ensures.0
+    err_cause c.in_err-write_at.ensures.cause c.from_residual.ensures.0
 
 pub returns-clause-cause : goal.returns-clause-cause
 returns-clause-cause g c =
-    later_cause c.in_ok-write_at.ensures.cause (λ is. absurd cc) c.write_at-2.ensures.cause
+    later_cause (c.in_ok-write_at.ensures.cause.fine (λ is. absurd cc)) c.write_at-2.ensures.cause

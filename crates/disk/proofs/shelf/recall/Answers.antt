@@ -1,4 +1,5 @@
-use Rattle.std.proofs.Common.{◌≡◌, ◌≢◌, subst}
+use Rattle.disk.proofs.Quiet.{handed_cause, no_cause}
+use Rattle.std.proofs.Common.{◌≡◌, ◌≢◌, ◌∙◌, Err, ap, subst}
 use Rattle.std.proofs.lemmas.Result.{err_from_is_err_and}
 use Rattle.ids.specs.declared.refusal.Refusal.TheVariants.{Memory}
 use Rattle.disk.proofs.shelf.recall.Goals as goal
@@ -21,3 +22,17 @@ returns-clause-value g c = (
   subst (λ l. g.P.Persist.reads l c.in_ok-value.value) c.deref.ensures.value
       c.in_ok-value.ensures.value,
 )
+
+pub returns-in_err-in_b-clause-cause : goal.returns-in_err-in_b-clause-cause
+returns-in_err-in_b-clause-cause g c =
+    let p = err_from_is_err_and c.from_residual.result c.from_residual.ensures.1 in
+    handed_cause (p.1 ∙ ap Err p.2) c.in_err-in_b.ensures.cause
+
+pub returns-in_err-in_b-clause-others : goal.returns-in_err-in_b-clause-others
+returns-in_err-in_b-clause-others g c =
+    let p = err_from_is_err_and c.from_residual.result c.from_residual.ensures.1 in
+    rw (p.1, p.2) c.in_err-in_b.ensures.others
+
+pub returns-clause-cause : goal.returns-clause-cause
+returns-clause-cause g c =
+    no_cause (c.in_ok-in_b.ensures.cause.fine (λ is. absurd cc)) (λ is. absurd cc)

@@ -1,5 +1,4 @@
-use Rattle.std.proofs.Common.{refl}
-use Rattle.disk.proofs.Quiet.{both_unmoved, later_cause, same_cause, unmoved}
+use Rattle.disk.proofs.Quiet.{both_unmoved, err_cause, later_cause, unmoved}
 use Rattle.disk.proofs.shelf.synced_side.Goals as goal
 
 pub returns-in_err-sync-clause-quiet : goal.returns-in_err-sync-clause-quiet
@@ -18,8 +17,8 @@ returns-clause-quiet g c =
 
 pub returns-in_err-sync-clause-cause : goal.returns-in_err-sync-clause-cause
 returns-in_err-sync-clause-cause g c =
-    same_cause c.in_err-sync.ensures.cause refl c.from_residual.ensures.0
+    err_cause c.in_err-sync.ensures.cause c.from_residual.ensures.0
 
 pub returns-clause-cause : goal.returns-clause-cause
 returns-clause-cause g c =
-    later_cause c.in_ok-sync.ensures.cause (λ is. absurd cc) c.chosen.ensures.cause
+    later_cause (c.in_ok-sync.ensures.cause.fine (λ is. absurd cc)) c.chosen.ensures.cause

@@ -2,7 +2,7 @@ use Rattle.std.proofs.Common.{◌∙◌, ap, subst, sym, refl}
 use Rattle.disk.specs.Record.{leaves}
 use Rattle.disk.specs.declared.state.State.{State}
 use Rattle.disk.proofs.Times.{elapses_same}
-use Rattle.disk.proofs.Quiet.{counted_cause, same_cause}
+use Rattle.disk.proofs.Quiet.{counted_cause, err_cause}
 use Rattle.disk.proofs.file.FileDiskDisk.read.Goals as goal
 
 pub returns-in_err-n-clause-crash : goal.returns-in_err-n-clause-crash
@@ -30,7 +30,8 @@ returns-then-not-holds-clause-kept g c x left =
 pub returns-then-not-holds-clause-time : goal.returns-then-not-holds-clause-time
 returns-then-not-holds-clause-time g c =
     elapses_same c.args.self.now.memory.past.value c.fault.new.self.past.value
-    c.args.self.now.memory.state c.fault.new.self.state (ap (λ p. p.value) (c.fault.ensures.past ∙ c.read.ensures.past))
+    c.args.self.now.memory.state c.fault.new.self.state
+    (ap (λ p. p.value) (c.fault.ensures.past ∙ c.read.ensures.past))
     (c.fault.ensures.state ∙ c.read.ensures.state)
 
 pub returns-clause-crash : goal.returns-clause-crash
@@ -49,7 +50,7 @@ returns-clause-time g c =
 
 pub returns-in_err-n-clause-cause : goal.returns-in_err-n-clause-cause
 returns-in_err-n-clause-cause g c =
-    same_cause c.in_err-n.ensures.cause refl c.from_residual.ensures.0
+    err_cause c.in_err-n.ensures.cause c.from_residual.ensures.0
 
 pub returns-then-not-holds-clause-cause : goal.returns-then-not-holds-clause-cause
 returns-then-not-holds-clause-cause g c =

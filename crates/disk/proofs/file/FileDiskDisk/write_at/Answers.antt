@@ -6,7 +6,7 @@ use Rattle.disk.specs.declared.state.State.{State}
 use Rattle.disk.proofs.Times.{elapses_by, elapses_then}
 use Rattle.disk.proofs.Torn.{changed_by_write, changed_to, follows_set, risk_left, set_leaves}
 use Rattle.disk.proofs.Torn.{set_reaches}
-use Rattle.disk.proofs.Quiet.{counted_cause, same_cause}
+use Rattle.disk.proofs.Quiet.{counted_cause, err_cause}
 use Rattle.disk.proofs.file.FileDiskDisk.write_at.Goals as goal
 
 pub returns-then-is_err-clause-crash : goal.returns-then-is_err-clause-crash
@@ -85,7 +85,7 @@ returns-clause-time g c =
 
 pub returns-in_err-next-clause-cause : goal.returns-in_err-next-clause-cause
 returns-in_err-next-clause-cause g c =
-    same_cause c.in_err-next.ensures.cause refl c.from_residual.ensures.0
+    err_cause c.in_err-next.ensures.cause c.from_residual.ensures.0
 
 pub returns-then-is_err-clause-cause : goal.returns-then-is_err-clause-cause
 returns-then-is_err-clause-cause g c =

@@ -3,7 +3,7 @@ use Rattle.disk.specs.Record.{leaves}
 use Rattle.disk.specs.declared.state.State.{State}
 use Rattle.disk.proofs.Times.{elapses_same}
 use Rattle.disk.proofs.Torn.{follows_still}
-use Rattle.disk.proofs.Quiet.{counted_cause, same_cause}
+use Rattle.disk.proofs.Quiet.{counted_cause, err_cause}
 use Rattle.disk.proofs.memory.MemoryDisk.begin.Goals as goal
 
 pub returns-in-Err-clause-crash : goal.returns-in-Err-clause-crash
@@ -34,7 +34,7 @@ returns-in-Err-clause-cause c =
 
 pub returns-in_err-risk-clause-cause : goal.returns-in_err-risk-clause-cause
 returns-in_err-risk-clause-cause c =
-    same_cause c.in_err-risk.ensures.cause refl c.from_residual.ensures.0
+    err_cause c.in_err-risk.ensures.cause c.from_residual.ensures.0
 
 pub returns-clause-cause : goal.returns-clause-cause
 returns-clause-cause c =

@@ -6,7 +6,7 @@ use Rattle.disk.specs.declared.state.State.{State}
 use Rattle.disk.proofs.Times.{elapses_by, elapses_then}
 use Rattle.disk.proofs.Torn.{changed_by_write, changed_none, changed_to, follows_set, risk_left}
 use Rattle.disk.proofs.Torn.{set_leaves, set_reaches}
-use Rattle.disk.proofs.Quiet.{counted_cause, same_cause}
+use Rattle.disk.proofs.Quiet.{counted_cause, err_cause}
 use Rattle.disk.proofs.memory.MemoryDiskDisk.write_at.Goals as goal
 
 pub returns-then-falters-clause-torn_too : goal.returns-then-falters-clause-torn_too
@@ -85,15 +85,16 @@ returns-clause-time c =
 
 pub returns-in_err-risk-clause-cause : goal.returns-in_err-risk-clause-cause
 returns-in_err-risk-clause-cause c =
-    same_cause c.in_err-risk.ensures.cause refl c.from_residual.ensures.0
+    err_cause c.in_err-risk.ensures.cause c.from_residual.ensures.0
 
 pub returns-then-falters-clause-cause : goal.returns-then-falters-clause-cause
 returns-then-falters-clause-cause c =
-    counted_cause (c.in_ok-risk.ensures.cause.fine (λ is. absurd cc)) c.fault.ensures.counted tt refl
+    counted_cause (c.in_ok-risk.ensures.cause.fine (λ is. absurd cc)) c.fault.ensures.counted tt
+    refl
 
 pub returns-in_err-next-clause-cause : goal.returns-in_err-next-clause-cause
 returns-in_err-next-clause-cause c =
-    same_cause c.in_err-next.ensures.cause refl c.from_residual-in_err-next.ensures.0
+    err_cause c.in_err-next.ensures.cause c.from_residual-in_err-next.ensures.0
 
 pub returns-clause-cause : goal.returns-clause-cause
 returns-clause-cause c =

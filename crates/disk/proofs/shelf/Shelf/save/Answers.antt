@@ -1,4 +1,5 @@
-use Rattle.std.proofs.Common.{◌∙◌, ap, inl, subst}
+use Rattle.std.proofs.Common.{◌∙◌, ⊎_elim, ap, inl, inr, refl, subst}
+use Rattle.std.proofs.lemmas.Result.{err_from_is_err_and}
 use Rattle.disk.specs.Crashes.{LeavesOnly}
 use Rattle.disk.specs.Shelf.{OldOrNew, opened}
 use Rattle.disk.proofs.Moments.{started}
@@ -24,3 +25,20 @@ returns-clause-any_moment g c is =
     subst (λ l. LeavesOnly g.D.Disk.moment g.D.Disk.left_since old c.swap.new.disk
     (OldOrNew (opened (g.D.Disk.seen old)) l)) (c.deref.ensures.value
     ∙ c.in_ok-image.ensures.image) c.swap.ensures.any_moment
+
+pub returns-in_err-image-clause-unchanged : goal.returns-in_err-image-clause-unchanged
+returns-in_err-image-clause-unchanged g c =
+    let p = err_from_is_err_and c.from_residual.result c.from_residual.ensures.1 in
+    rw p.1 (λ _. (refl, refl))
+
+pub returns-in_err-image-clause-others : goal.returns-in_err-image-clause-others
+returns-in_err-image-clause-others g c =
+    let p = err_from_is_err_and c.from_residual.result c.from_residual.ensures.1 in
+    rw (p.1, p.2)
+    (⊎_elim (λ m. inr (inr (inl m))) (λ t. inr (inl t)) c.in_err-image.ensures.others)
+
+pub returns-in_err-swap-clause-others : goal.returns-in_err-swap-clause-others
+returns-in_err-swap-clause-others g c =
+    let exit = c.from_residual-in_err-swap in
+    let p = err_from_is_err_and exit.result exit.ensures.1 in
+    rw p.1 (inr (inr (inr p.2)))
