@@ -3,3 +3,4 @@ pub mod Torn
 pub mod Records
 pub mod Sides
 pub mod Moments
+pub mod Quiet

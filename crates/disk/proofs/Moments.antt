@@ -1,10 +1,12 @@
 -- How a run of calls of a disk goes on.
-use Rattle.std.proofs.Common.{◌≡◌, Bool, length, List, [], Some, inl, inr, ⊎_elim, ℕ, arith}
-use Rattle.disk.specs.Areas.{Areas, Changes, Torn}
-use Rattle.disk.specs.Crashes.{Elapses, LeavesOnly}
+use Rattle.std.proofs.Common.{◌≡◌, Bool, length, List, [], Some, inl, inr, ⊎_elim, ℕ, arith, subst}
+use Rattle.std.proofs.Common.{sym}
+use Rattle.disk.specs.Areas.{Areas, Changes, Torn, part}
+use Rattle.disk.specs.Crashes.{Elapses, Follows, LeavesOnly, Only}
 use Rattle.disk.specs.Shelf.{recorded, opened, NoneOrNew, OldOrNew}
 use Rattle.disk.specs.declared.device.Area.{Area}
 use Rattle.disk.specs.declared.device.Area.TheVariants.{Select}
+use Rattle.disk.proofs.Torn.{torn_same, unchanged}
 use Rattle.disk.proofs.Sides.{Aside, first_selector, torn_half, torn_choice}
 
 module _ {D : Type 0} (moment : D → ℕ) (left_since : D → ℕ → Areas → Type 0) where
@@ -29,6 +31,21 @@ module _ {D : Type 0} (moment : D → ℕ) (left_since : D → ℕ → Areas →
     before = λ t c le left. ⊎_elim (so_far.before t c le) (λ now. inr (here c now))
         (time.nothing_else t c (omega (arith, le, so_far.later)) left);
   }
+
+  -- an area is written, where a crash left what a read gives
+  pub wrote : (old new : D) (s : Areas) (before after : Areas → Type 0) (area : Area) (n : ℕ) →
+      Only s before → ((c : Areas) → left_since old (moment old) c → before c) →
+      Follows (Changes area (Torn 0 n)) before after →
+      Elapses (moment old) (moment new) (left_since old) (left_since new) after →
+      LeavesOnly moment left_since old new (Changes area (Torn 0 n) s)
+  wrote old new s before after area n only here follows time =
+      let P : Areas → Type 0 = λ c. Changes area (Torn 0 n) s c in
+      let nothing : P s = unchanged area (Torn 0 n) s (torn_same 0 n (part area s)) in
+      goes_on old old new P after
+      (started old P (λ c left. subst P (sym (only c (here c left))) nothing)) time
+      (λ c left.
+      let from = follows c left in
+      subst (λ (x : Areas). Changes area (Torn 0 n) x c) (only from.0 from.1) from.2)
 
   -- what has P has Q
   pub weaker : (old new : D) (P Q : Areas → Type 0) → LeavesOnly moment left_since old new P →

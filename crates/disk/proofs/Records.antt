@@ -1,13 +1,14 @@
 -- What is written for an image, and what is read.
-use Rattle.std.proofs.Common.{◌≡◌, ℕ, ◌+◌, ◌≤◌, ◌<◌, List, [], ◌++◌, length, take, drop, Some, None}
-use Rattle.std.proofs.Common.{inl, inr, refl, ◌∙◌, ap, arith, length-append, length-drop}
+use Rattle.std.proofs.Common.{◌≡◌, ℕ, ◌+◌, ◌-◌, ◌≤◌, ◌<◌, List, [], ◌++◌, length, take, drop, Some}
+use Rattle.std.proofs.Common.{None, Bool, true, false, inl, inr, refl, sym, ◌∙◌, ap, arith}
+use Rattle.std.proofs.Common.{length-append, length-drop}
 use Rattle.std.specs.Int.{w64, to_be_bytes, from_be_bytes}
 use Rattle.std.proofs.lemmas.Nat.{from_be_bytes-to_be_bytes_8}
-use Rattle.std.proofs.lemmas.List.{append-nil, length-take-le, drop_all, take_at, drop_at}
-use Rattle.std.proofs.lemmas.List.{append_assoc}
+use Rattle.std.proofs.lemmas.List.{append-nil, append_assoc, drop_all, take_at, drop_at}
+use Rattle.std.proofs.lemmas.List.{length-take-le}
 use Rattle.std.proofs.lemmas.Bool.Decides.{leb_tells, nat_tests}
 use Rattle.ids.specs.declared.limits.TheConstants.{GREATEST_IMAGE}
-use Rattle.disk.specs.Areas.{Holds, Reads}
+use Rattle.disk.specs.Areas.{Holds, IsWhole, Reads}
 use Rattle.disk.specs.Shelf.{told, recorded, record_of, TellsLength}
 
 -- what is read of an area that tells a length
@@ -68,35 +69,36 @@ recorded_holds image old new fits is =
     recorded_is new n tells fits (omega (arith, long))
     ∙ ap (λ (l : List ℕ). Some (take n l)) behind ∙ ap Some (take_at image rest n refl)
 
--- a buffer of len bytes, `old` before, was filled with what is held from this offset on
-pub record Filled (held : List ℕ) (at len : ℕ) (new : List ℕ) : Type 0 where
-  pub old : List ℕ
-  pub n : ℕ
-  pub read : Reads held at n old new
-  pub size : length old ≡ len
-  pub all : len ≤ n
+-- what was read is all that the buffer takes, where so much was read
+pub whole_read : {held old new : List ℕ} {at n : ℕ} (all : Bool) → Reads held at n old new →
+    (all ≡ true → length old ≤ n) → (all ≡ false → n < length old) → IsWhole held at all old new
+whole_read {held} {old} {new} {at} {n} all read enough short = record {
+  enough = λ is. omega (arith, read.count, enough is);
+  bytes = λ is.
+      let whole : n ≡ length old = omega (arith, read.count, enough is) in
+      let none : drop n old ≡ [] = drop_all n old (omega (arith, whole)) in
+      read.bytes ∙ ap (λ (l : List ℕ). take n (drop at held) ++ l) none
+      ∙ append-nil (take n (drop at held)) ∙ ap (λ k. take k (drop at held)) whole;
+  short = λ is. omega (arith, read.count, short is);
+}
 
-filled_is : (held : List ℕ) (at len : ℕ) (new : List ℕ) → Filled held at len new →
-    new ≡ take len (drop at held)
-filled_is held at len new f =
-    let is : f.n ≡ len = omega (arith, f.read.count, f.size, f.all) in
-    let none : drop f.n f.old ≡ [] = drop_all f.n f.old (omega (arith, is, f.size)) in
-    f.read.bytes ∙ ap (λ (l : List ℕ). take f.n (drop at held) ++ l) none
-    ∙ append-nil (take f.n (drop at held)) ∙ ap (λ k. take k (drop at held)) is
-
--- the eight bytes that were read tell the length
-pub told_read : (held old new : List ℕ) (n : ℕ) →
-    Reads held 0 n old new → length old ≡ 8 → 8 ≤ n → from_be_bytes w64 new ≡ told held
+-- the first eight bytes tell the length
+pub told_read : (held new : List ℕ) → new ≡ take 8 held → told held ≡ from_be_bytes w64 new
 unfolding told
-told_read held old new n read size all = ap (from_be_bytes w64)
-    (filled_is held 0 8 new (record { old = old; n = n; read = read; size = size; all = all }))
+told_read held new is = sym (ap (from_be_bytes w64) is)
 
--- what was read behind them is the image
-pub loaded : (held : List ℕ) (len : ℕ) (new rest : List ℕ) → Filled held 8 len new →
-    take len (new ++ rest) ≡ take len (drop 8 held)
-loaded held len new rest f =
-    let here = filled_is held 8 len new f in
-    let long : length new ≡ len =
-    ap length here ∙ length-take-le len (drop 8 held)
-    (omega (arith, length-drop 8 held, f.read.count, f.size, f.all)) in
-    take_at new rest len long ∙ here
+-- as many bytes as they tell, read behind them, are the image
+pub image_read : {held held' old new : List ℕ} {all : Bool} (rest : List ℕ) (n : ℕ) →
+    IsWhole held' 8 all old new → all ≡ true → length old ≡ n → held' ≡ held → told held ≡ n →
+    TellsLength held → recorded held ≡ Some (take n (new ++ rest))
+image_read {held} {held'} {old} {new} rest n whole all size same tells fits =
+    let is : new ≡ take n (drop 8 held') =
+    whole.bytes all ∙ ap (λ k. take k (drop 8 held')) size in
+    let within : length held' ≡ length held = ap length same in
+    let enough : n ≤ length held' - 8 = omega (arith, whole.enough all, size) in
+    let long : length new ≡ n =
+    ap length is ∙ length-take-le n (drop 8 held') (omega (arith, length-drop 8 held')) in
+    recorded_is held n tells (omega (arith, tells, fits.1))
+    (omega (arith, within, fits.0, enough))
+    ∙ ap (λ (l : List ℕ). Some (take n (drop 8 l))) (sym same)
+    ∙ ap Some (sym (take_at new rest n long ∙ is))

@@ -1,5 +1,5 @@
 -- What a crash may have left, once a moment more is over.
-use Rattle.std.proofs.Common.{inl, inr, ⊎_elim, ℕ, ◌+◌, subst, arith}
+use Rattle.std.proofs.Common.{◌≡◌, inl, inr, ⊎_elim, ℕ, ◌+◌, subst, sym, arith}
 use Rattle.disk.specs.Areas.{Areas}
 use Rattle.disk.specs.Crashes.{Elapses}
 use Rattle.disk.specs.Record.{leaves, moments, left_since, IsThen}
@@ -22,11 +22,22 @@ elapses_then past (Then' m before state) s s' is =
       keeps = λ t c le l. inl (⊎_elim (λ over. inl over) (λ now. inr (le, now)) l);
     }))
 
--- no moment passes, and a crash may leave the same
-pub elapses_same : (moment : ℕ) (since : ℕ → Areas → Type 0) (may_leave : Areas → Type 0) →
-    Elapses moment moment since since may_leave
-elapses_same moment since may_leave = record {
-  later = omega arith;
-  nothing_else = λ t c le l. inl l;
-  keeps = λ t c le l. l;
-}
+-- so also where the past is named otherwise
+pub elapses_by : (past mid later : Past) (s s' : State) → IsThen past s mid → later ≡ mid →
+    Elapses (moments past) (moments later) (left_since past s) (left_since later s') (leaves s')
+elapses_by past mid later s s' is same =
+    let P : Past → Type 0 = λ p.
+    Elapses (moments past) (moments p) (left_since past s) (left_since p s') (leaves s') in
+    subst P (sym same) (elapses_then past mid s s' is)
+
+-- no moment passes, and the state stays
+pub elapses_same : (past later : Past) (s s' : State) → later ≡ past → s' ≡ s →
+    Elapses (moments past) (moments later) (left_since past s) (left_since later s') (leaves s')
+elapses_same past later s s' same stays =
+    let P : Past → State → Type 0 = λ p x.
+    Elapses (moments past) (moments p) (left_since past s) (left_since p x) (leaves x) in
+    subst (λ p. P p s') (sym same) (subst (P past) (sym stays) (record {
+      later = omega arith;
+      nothing_else = λ t c le l. inl l;
+      keeps = λ t c le l. l;
+    }))

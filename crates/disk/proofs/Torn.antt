@@ -2,11 +2,12 @@
 use Rattle.std.specs.declared.alloc.Global.{Global}
 use Rattle.std.proofs.Common.{Vec, ◌≡◌, ◌⊎◌, ◌↔◌, inl, inr, ⊎_elim, ℕ, ◌+◌, ◌-◌, ◌≤◌, List, [], ◌∷◌}
 use Rattle.std.proofs.Common.{◌++◌, length, take, drop, replicate, refl, sym, ◌∙◌, ap, subst, arith}
+use Rattle.std.proofs.Common.{◌<◌, suc, get_or, add-one, drop-cons}
 use Rattle.std.proofs.Common.{Bool, cond, length-append, length-drop, append_assoc}
 use Rattle.std.proofs.lemmas.List.{take_at, drop_at, drop-drop, drop_all, length-take-le}
 use Rattle.std.proofs.lemmas.List.{length-replicate}
 use Rattle.std.proofs.lemmas.Bool.Decides.{leb_tells}
-use Rattle.disk.specs.Areas.{Areas, part, with_part, Changes, Torn, pasted}
+use Rattle.disk.specs.Areas.{Areas, part, with_part, Changes, Holds, Torn, pasted}
 use Rattle.disk.specs.Crashes.{Follows, Only, Reaches}
 use Rattle.disk.specs.Record.{areas_of, synced, reads_left, torn_in, torn_by, at_risk, leaves}
 use Rattle.disk.specs.Record.{filled_in, filled_by, filled, IsUnsynced, Loaded}
@@ -184,6 +185,14 @@ changed_by_write area at n d d' w =
     subst (λ (x : Areas). Changes area (Torn at n) d x) (sym w.held)
     (changed area (Torn at n) d w.next torn)
 
+-- and where all of them were
+pub changed_to : (area : Area) (at : ℕ) (bytes next : List ℕ) (d d' : Areas) →
+    next ≡ pasted at bytes (part area d) → d' ≡ with_part area next d →
+    Changes area (Holds at bytes) d d'
+changed_to area at bytes next d d' made held =
+    subst (λ (x : Areas). Changes area (Holds at bytes) d x) (sym held)
+    (changed area (Holds at bytes) d next made)
+
 -- a state that says the same
 same_leaves : (s s' : State) → s'.held ≡ s.held → synced s' ≡ synced s →
     s'.ranges.items ≡ s.ranges.items → (c : Areas) → leaves s' c → leaves s c
@@ -205,6 +214,23 @@ pub follows_same : (area : Area) (at n : ℕ) (s s' : State) → s'.held ≡ s.h
 follows_same area at n s s' held same ranges c left = (
   c,
   same_leaves s s' held same ranges c left,
+  unchanged area (Torn at n) c (torn_same at n (part area c)),
+)
+
+-- nothing was written
+pub changed_none : (area : Area) (at n : ℕ) (held held' : Contents) → held' ≡ held →
+    Changes area (Torn at n) (areas_of held) (areas_of held')
+changed_none area at n held held' same =
+    let d = areas_of held in
+    subst (λ (x : Contents). Changes area (Torn at n) d (areas_of x)) (sym same)
+    (unchanged area (Torn at n) d (torn_same at n (part area d)))
+
+-- the state stays
+pub follows_still : (area : Area) (at n : ℕ) (s s' : State) → s' ≡ s →
+    Follows (Changes area (Torn at n)) (leaves s) (leaves s')
+follows_still area at n s s' same c left = (
+  c,
+  subst (λ (x : State). leaves x c) same left,
   unchanged area (Torn at n) c (torn_same at n (part area c)),
 )
 
@@ -304,6 +330,19 @@ fills_torn fill (r ∷ ranges) P m p =
 pub filled_left : (fill : ℕ) (s : State) → leaves s (filled fill s)
 unfolding leaves at_risk filled
 filled_left fill s = inr (fills_torn fill s.ranges.items (λ x. x ≡ synced s) (synced s) refl)
+
+-- the next range is filled
+pub filled_next : (fill i : ℕ) (read ranges : List Range) (r : Range) (d d' : Areas)
+    {whole : Areas} → read ≡ ranges → i < length read → r ≡ get_or read i r →
+    d' ≡ filled_in fill r d → filled_by fill (drop i ranges) d ≡ whole →
+    filled_by fill (drop (i + 1) ranges) d' ≡ whole
+filled_next fill i read ranges r d d' same within is next so_far =
+    let inside : i < length ranges = omega (arith, ap length same, within) in
+    let here : r ≡ get_or ranges i r = is ∙ ap (λ (rs : List Range). get_or rs i r) same in
+    let first : drop i ranges ≡ r ∷ drop (suc i) ranges =
+    drop-cons ranges i r inside ∙ ap (λ (x : Range). x ∷ drop (suc i) ranges) (sym here) in
+    rw add-one (ap (filled_by fill (drop (suc i) ranges)) next
+    ∙ ap (λ (rs : List Range). filled_by fill rs d) (sym first) ∙ so_far)
 
 -- once every range was filled
 pub all_filled : (fill i : ℕ) (s : State) (ranges : List Range) (d : Areas) →

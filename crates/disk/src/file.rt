@@ -10,9 +10,11 @@
 //! disk is there.
 ghost use Rattle.std.specs.Prelude.{◌≡◌, ◌⊎◌, ◌≤◌, length, IfErr, IfOk, OnOk};
 ghost use Rattle.disk.specs.Areas.{Areas, Changes, Torn, part};
+ghost use Rattle.disk.specs.Memory.{blank, held_by};
 ghost use Rattle.disk.specs.Record.{areas_of, at_risk, leaves, moments, left_since, reads_left};
 ghost use Rattle.disk.specs.Record.{counts_now, IsUnsynced, Loaded, only_now};
 
+use crate::state::Range;
 use crate::{Area, Disk, DiskFault, MemoryDisk};
 use ids::Refusal;
 use std::alloc::{AllocError, Global};
@@ -71,29 +73,54 @@ fn open_folder<R: Files<File = File>>(
     ensures { IfOk result (λ d. IsUnsynced d.memory.state) }
 {
     make_folder(rt, alloc, folder)?;
-    let mut select = open_file(rt, alloc, folder, "select")?;
-    if select.try_lock().is_err() {
-        return Err(ErrorKind::ResourceBusy.into());
-    }
-    let mut a = open_file(rt, alloc, folder, "a")?;
-    let mut b = open_file(rt, alloc, folder, "b")?;
+    let (mut select, mut a, mut b) = open_files(rt, alloc, folder)?;
     sync_folder(rt, folder)?;
     let mut memory = MemoryDisk::new(alloc);
-    load(alloc, &mut memory, Area::Select, &mut select)?;
-    load(alloc, &mut memory, Area::A, &mut a)?;
-    load(alloc, &mut memory, Area::B, &mut b)?;
+    load_all(alloc, &mut memory, &mut select, &mut a, &mut b)?;
     // The files were just read.
-    let mut disk = FileDisk::over(select, a, b, memory);
-    disk.doubted = false;
-    Ok(disk)
+    Ok(FileDisk {
+        select,
+        a,
+        b,
+        memory,
+        doubted: false,
+        stale: false,
+    })
+}
+
+/// Opens the three files of a folder, or makes them. The file `select` is locked before the others
+/// are touched.
+fn open_files<R: Files<File = File>>(
+    rt: &R,
+    alloc: Global,
+    folder: Path<'_>,
+) -> io::Result<(File, File, File)> {
+    let select = open_file(rt, alloc, folder, "select")?;
+    lock(&select)?;
+    let a = open_file(rt, alloc, folder, "a")?;
+    let b = open_file(rt, alloc, folder, "b")?;
+    Ok((select, a, b))
 }
 
 /// Makes a folder, and those above it, where they are absent. Each is synced into the one above it.
 fn make_folder<R: Files<File = File>>(rt: &R, alloc: Global, folder: Path<'_>) -> io::Result<()> {
+    let mut absent = absent_folders(rt, alloc, folder)?;
+    while let Some(path) = absent.pop() {
+        make_below(rt, path)?;
+    }
+    Ok(())
+}
+
+/// Those of a folder and the ones above it that are absent, the lowest first.
+fn absent_folders<'a, R: Files<File = File>>(
+    rt: &R,
+    alloc: Global,
+    folder: Path<'a>,
+) -> io::Result<Vec<Path<'a>>> {
     let mut absent = Vec::new(alloc);
     let mut path = folder;
     for _ in 0..folder.as_str().len() {
-        if path.as_str().is_empty() || path.try_exists(rt)? {
+        if !is_absent(rt, path)? {
             break;
         }
         absent.push(path)?;
@@ -102,17 +129,29 @@ fn make_folder<R: Files<File = File>>(rt: &R, alloc: Global, folder: Path<'_>) -
             None => break,
         }
     }
-    for path in absent.iter().rev() {
-        match fs::create_dir(rt, *path) {
-            Ok(()) => {}
-            Err(error) if error.kind() == ErrorKind::AlreadyExists => {}
-            Err(error) => return Err(error),
-        }
-        if let Some(above) = path.parent() {
-            sync_folder(rt, above)?;
-        }
+    Ok(absent)
+}
+
+/// Whether a folder with a name isn't there.
+fn is_absent<R: Files<File = File>>(rt: &R, folder: Path<'_>) -> io::Result<bool> {
+    Ok(!folder.as_str().is_empty() && !folder.try_exists(rt)?)
+}
+
+/// Makes a folder where it is absent, and syncs it into the one above it.
+fn make_below<R: Files<File = File>>(rt: &R, folder: Path<'_>) -> io::Result<()> {
+    create(rt, folder)?;
+    match folder.parent() {
+        Some(above) => sync_folder(rt, above),
+        None => Ok(()),
     }
-    Ok(())
+}
+
+/// Makes a folder where it is absent.
+fn create<R: Files<File = File>>(rt: &R, folder: Path<'_>) -> io::Result<()> {
+    match fs::create_dir(rt, folder) {
+        Err(error) if error.kind() == ErrorKind::AlreadyExists => Ok(()),
+        made => made,
+    }
 }
 
 /// Opens a file of a folder, or makes it.
@@ -123,13 +162,31 @@ fn open_file<R: Files<File = File>>(
     name: &str,
 ) -> io::Result<File> {
     let path = folder.join(alloc, name)?;
-    let mut options = OpenOptions::new();
-    options.read(true).write(true).create(true);
-    let file = options.open(rt, path.as_path())?;
+    open_regular(rt, path.as_path())
+}
+
+/// Opens a file, or makes it. It is refused where it isn't a regular one.
+fn open_regular<R: Files<File = File>>(rt: &R, path: Path<'_>) -> io::Result<File> {
+    let file = open_or_make(rt, path)?;
     if !file.metadata()?.is_file() {
         return Err(ErrorKind::InvalidInput.into());
     }
     Ok(file)
+}
+
+/// Opens a file to read and write it, or makes it.
+fn open_or_make<R: Files<File = File>>(rt: &R, path: Path<'_>) -> io::Result<File> {
+    let mut options = OpenOptions::new();
+    options.read(true).write(true).create(true);
+    options.open(rt, path)
+}
+
+/// Locks a file, which is refused while another has it locked.
+fn lock(file: &File) -> io::Result<()> {
+    if file.try_lock().is_err() {
+        return Err(ErrorKind::ResourceBusy.into());
+    }
+    Ok(())
 }
 
 /// After it, the names in a folder stay over a crash.
@@ -140,6 +197,23 @@ fn sync_folder<R: Files<File = File>>(rt: &R, folder: Path<'_>) -> io::Result<()
         folder
     };
     File::open(rt, path)?.sync_all()
+}
+
+/// Reads the three files whole into a disk that holds nothing. What they hold counts as unsynced.
+fn load_all(
+    alloc: Global,
+    memory: &mut MemoryDisk,
+    select: &mut File,
+    a: &mut File,
+    b: &mut File,
+) -> io::Result<()>
+    requires { held_by memory.old ≡ blank }
+
+    ensures { OnOk result (IsUnsynced memory.new.state) }
+{
+    load(alloc, memory, Area::Select, select)?;
+    load(alloc, memory, Area::A, a)?;
+    load(alloc, memory, Area::B, b)
 }
 
 /// Reads a file whole. What it holds counts as unsynced.
@@ -193,14 +267,20 @@ impl<F: FileExt + OpenFile> FileDisk<F> {
     /// Writes each range again that was written since the last sync.
     fn write_again(&self) -> io::Result<()> {
         for range in &self.memory.state.ranges {
-            let held = self.memory.state.held.part(range.area);
-            if range.at < held.len() {
-                let rest = &held[range.at..];
-                let bytes = &rest[..range.len.min(rest.len())];
-                self.file(range.area).write_all_at(bytes, range.at as u64)?;
-            }
+            self.write_range(range)?;
         }
         Ok(())
+    }
+
+    /// Writes what the disk holds in a range.
+    fn write_range(&self, range: &Range) -> io::Result<()> {
+        let held = self.memory.state.held.part(range.area);
+        if range.at >= held.len() {
+            return Ok(());
+        }
+        let rest = &held[range.at..];
+        let bytes = &rest[..range.len.min(rest.len())];
+        self.file(range.area).write_all_at(bytes, range.at as u64)
     }
 
     /// Takes what stands in a range of a file after a write there has failed. Where that can't be
@@ -224,6 +304,23 @@ impl<F: FileExt + OpenFile> FileDisk<F> {
         if let Ok(next) = self.memory.state.prepared(alloc, area, at, &found) {
             self.memory.state.set(area, next);
         }
+    }
+
+    /// Writes the files through to the device, once they are known to hold what `memory` says.
+    /// Whether they do, and all went well.
+    fn write_through(&mut self) -> bool
+        ensures { self.new.memory ≡ self.old.memory }
+    {
+        if self.doubted && !self.agrees() {
+            return false;
+        }
+        self.doubted = false;
+        if self.stale && self.write_again().is_err() {
+            self.doubted = true;
+            return false;
+        }
+        self.stale = self.sync_files().is_err();
+        !self.stale
     }
 
     /// Writes the files through to the device.
@@ -263,14 +360,18 @@ fn ends_at<F: FileExt>(file: &F, offset: u64) -> bool {
     }
 }
 
+/// Whether a file holds these bytes at this offset, of which at most `PIECE` are compared.
+fn holds_piece<F: FileExt>(file: &F, offset: u64, bytes: &[u8], piece: &mut [u8; PIECE]) -> bool {
+    let found = &mut piece[..bytes.len().min(PIECE)];
+    file.read_exact_at(found, offset).is_ok() && &*found == bytes
+}
+
 /// Whether a file holds these bytes at this offset, and, where `ends` is true, nothing behind them.
 fn holds<F: FileExt>(file: &F, at: usize, bytes: &[u8], ends: bool) -> bool {
     let mut piece = [0; PIECE];
     let mut offset = at as u64;
     for expected in bytes.chunks(PIECE) {
-        let len = expected.len().min(PIECE);
-        let found = &mut piece[..len];
-        if file.read_exact_at(found, offset).is_err() || &*found != expected {
+        if !holds_piece(file, offset, expected, &mut piece) {
             return false;
         }
         offset = offset.wrapping_add(expected.len() as u64);
@@ -299,16 +400,8 @@ impl<F: FileExt + OpenFile> Disk for FileDisk<F> {
     }
 
     fn write_at(&mut self, area: Area, at: usize, bytes: &[u8]) -> Result<(), DiskFault> {
-        let next = match self
-            .memory
-            .state
-            .prepared(self.memory.alloc, area, at, bytes)
-        {
-            Ok(next) => next,
-            Err(_) => return Err(self.memory.fault(DiskFault::Memory)),
-        };
         // The range is noted before the file is touched.
-        self.memory.risk(area, at, bytes.len())?;
+        let next = self.memory.begin(area, at, bytes)?;
         if self.file(area).write_all_at(bytes, at as u64).is_err() {
             self.doubted = true;
             self.look_again(area, at, bytes.len());
@@ -319,16 +412,7 @@ impl<F: FileExt + OpenFile> Disk for FileDisk<F> {
     }
 
     fn sync(&mut self) -> Result<(), DiskFault> {
-        if self.doubted && !self.agrees() {
-            return Err(self.memory.fault(DiskFault::Device));
-        }
-        self.doubted = false;
-        if self.stale && self.write_again().is_err() {
-            self.doubted = true;
-            return Err(self.memory.fault(DiskFault::Device));
-        }
-        self.stale = self.sync_files().is_err();
-        if self.stale {
+        if !self.write_through() {
             return Err(self.memory.fault(DiskFault::Device));
         }
         self.memory.settle();

@@ -2,7 +2,7 @@
 //! sync only as long as a crash may bring that back.
 ghost use Rattle.std.specs.Prelude.{◌≡◌, ◌≤◌, ◌↔◌, length, IfOk, IfErr, IsErr, IsErrOf, OnOk};
 ghost use Rattle.std.specs.Prelude.{IsTrue, OnErr, ⊤};
-ghost use Rattle.disk.specs.Areas.{Areas, Changes, Holds, Reads, Torn, part};
+ghost use Rattle.disk.specs.Areas.{Areas, Changes, Holds, Reads, Torn, part, pasted};
 ghost use Rattle.disk.specs.Crashes.{Elapses, Follows, HasCause, Only, Reaches};
 ghost use Rattle.disk.specs.Record.{areas_of, at_risk, leaves, moments, left_since, IsThen};
 ghost use Rattle.disk.specs.Record.{reads_left, counts_now, only_now};
@@ -138,6 +138,43 @@ impl MemoryDisk {
         }
     }
 
+    // An area as it is to be once these bytes are written at this offset. From now on a crash may
+    // leave any bytes in their range. Where memory is refused, all is as it was.
+    pub(crate) fn begin(
+        &mut self,
+        area: Area,
+        at: usize,
+        bytes: &[u8],
+    ) -> Result<Vec<u8>, DiskFault>
+        requires { at ≤ length (part area (areas_of self.old.state.held)) }
+
+        ensures next { IfOk result (λ v.
+            v.items ≡ pasted at bytes.now (part area (areas_of self.old.state.held))) }
+        ensures held { self.new.state.held ≡ self.old.state.held }
+        ensures crash { Follows (Changes area (Torn at (length bytes.now)))
+            (leaves self.old.state) (leaves self.new.state) }
+        ensures torn { OnOk result (Reaches (Changes area (Torn at (length bytes.now)))
+            (leaves self.old.state) (at_risk self.new.state)) }
+        ensures refused { OnErr result
+            ((c : Areas) → leaves self.new.state c ↔ leaves self.old.state c) }
+        ensures memory { IfErr result (λ e. e ≡ DiskFault.Memory) }
+        ensures gone { OnOk result
+            (IsThen self.old.past.value self.old.state self.new.past.value) }
+        ensures time { OnErr result
+            (Elapses (moments self.old.past.value) (moments self.new.past.value)
+            (left_since self.old.past.value self.old.state)
+            (left_since self.new.past.value self.new.state) (leaves self.new.state)) }
+        ensures plan { self.new.plan ≡ self.old.plan }
+        ensures cause { HasCause self.old.failures self.new.failures (IsErr result) }
+    {
+        let next = match self.state.prepared(self.alloc, area, at, bytes) {
+            Ok(next) => next,
+            Err(_) => return Err(self.fault(DiskFault::Memory)),
+        };
+        self.risk(area, at, bytes.len())?;
+        Ok(next)
+    }
+
     /// The disk that a crash now leaves where each byte that was written since the last sync became
     /// `fill`. Nothing of it fails, and a crash leaves it so.
     pub fn after_crash(&self, fill: u8) -> Result<MemoryDisk, Refusal>
@@ -147,10 +184,7 @@ impl MemoryDisk {
         ensures faultless { IfOk result IsFaultless }
         ensures memory { IfErr result (λ e. e ≡ Refusal.Memory) }
     {
-        let mut left = self.state.last_synced(self.alloc)?;
-        for range in &self.state.ranges {
-            left.fill(self.alloc, range, fill)?;
-        }
+        let left = self.state.filled(self.alloc, fill)?;
         Ok(MemoryDisk::holding(self.alloc, left))
     }
 }
@@ -211,11 +245,7 @@ impl Disk for MemoryDisk {
             self.risk(area, at, bytes.len())?;
             return Err(self.fault(DiskFault::Device));
         }
-        let next = match self.state.prepared(self.alloc, area, at, bytes) {
-            Ok(next) => next,
-            Err(_) => return Err(self.fault(DiskFault::Memory)),
-        };
-        self.risk(area, at, bytes.len())?;
+        let next = self.begin(area, at, bytes)?;
         self.state.set(area, next);
         Ok(())
     }

@@ -4,10 +4,10 @@ ghost use Rattle.std.specs.Prelude.{◌≡◌, ◌≢◌, ◌⊎◌, ◌%◌, �
 ghost use Rattle.std.specs.Prelude.{IsErrOf, OnOk, Some, None, false, not};
 ghost use Rattle.ids.specs.declared.refusal.Refusal.TheVariants.{Disk as DiskRefused};
 ghost use Rattle.ids.specs.declared.limits.TheConstants.{GREATEST_IMAGE};
-ghost use Rattle.disk.specs.Areas.{Areas, Changes, Holds, Torn, part};
+ghost use Rattle.disk.specs.Areas.{Areas, Changes, Holds, IsWhole, Torn, part};
 ghost use Rattle.disk.specs.Crashes.{HasCause, LeavesOnly, Only, Unmoved};
 ghost use Rattle.disk.specs.Shelf.{IsSettled, NoneOrNew, OldOrNew, half as half_of, opened};
-ghost use Rattle.disk.specs.Shelf.{record_of, recorded, side, TellsLength};
+ghost use Rattle.disk.specs.Shelf.{record_of, recorded, side, told, TellsLength};
 
 use crate::{Area, Disk, DiskFault};
 use ids::{GREATEST_IMAGE, Refusal};
@@ -131,6 +131,44 @@ pub(crate) fn swap<D: Disk>(
     put(disk, Area::Select, &[choice])
 }
 
+/// Reads as many bytes as `into` has, from the offset `at` of an area on. Whether there are so
+/// many.
+fn read_whole<D: Disk>(
+    disk: &mut D,
+    area: Area,
+    at: usize,
+    into: &mut [u8],
+) -> Result<bool, DiskFault>
+    ensures whole { IfOk result (λ all.
+        IsWhole (part area (D.seen disk.old)) at all into.old into.new) }
+    ensures quiet { Unmoved D.seen D.may_leave D.moment D.left_since disk.old disk.new }
+    ensures cause { HasCause (D.faults disk.old) (D.faults disk.new) (IsErr result) }
+{
+    let found = disk.read(area, at, into)?;
+    Ok(found >= into.len())
+}
+
+/// How long the image of an area is, as its first bytes tell. Refused BadImage where there are too
+/// few, or they tell more than an image may have.
+fn told_length<D: Disk>(disk: &mut D, area: Area) -> Result<usize, Refusal>
+    ensures told { IfOk result (λ n. told (part area (D.seen disk.old)) ≡ n) }
+    ensures tells { OnOk result (TellsLength (part area (D.seen disk.old))) }
+    ensures none { IsErrOf result Refusal.BadImage → recorded (part area (D.seen disk.old)) ≡ None }
+    ensures quiet { Unmoved D.seen D.may_leave D.moment D.left_since disk.old disk.new }
+    ensures cause { HasCause (D.faults disk.old) (D.faults disk.new) (IsErrOf result Refusal.Disk) }
+    ensures others { IfErr result (λ e. (e ≡ Refusal.BadImage) ⊎ (e ≡ Refusal.Disk)) }
+{
+    let mut head = [0; HEAD];
+    if !read_whole(disk, area, 0, &mut head)? {
+        return Err(Refusal::BadImage);
+    }
+    let len = u64::from_be_bytes(head);
+    if len > GREATEST_IMAGE {
+        return Err(Refusal::BadImage);
+    }
+    Ok(len as usize)
+}
+
 /// Reads the image that an area holds. Refused BadImage where there is none, and Memory where the
 /// area tells more than there is memory for.
 pub(crate) fn load<D: Disk>(alloc: Global, disk: &mut D, area: Area) -> Result<Vec<u8>, Refusal>
@@ -142,18 +180,9 @@ pub(crate) fn load<D: Disk>(alloc: Global, disk: &mut D, area: Area) -> Result<V
     ensures others { IfErr result (λ e. (e ≡ Refusal.Memory)
         ⊎ ((e ≡ Refusal.BadImage) ⊎ (e ≡ Refusal.Disk))) }
 {
-    let mut head = [0; HEAD];
-    let told = disk.read(area, 0, &mut head)?;
-    if told < HEAD {
-        return Err(Refusal::BadImage);
-    }
-    let len = u64::from_be_bytes(head);
-    if len > GREATEST_IMAGE {
-        return Err(Refusal::BadImage);
-    }
-    let mut image = vec![in alloc; 0; len as usize]?;
-    let found = disk.read(area, HEAD, &mut image)?;
-    if found < image.len() {
+    let len = told_length(disk, area)?;
+    let mut image = vec![in alloc; 0; len]?;
+    if !read_whole(disk, area, HEAD, &mut image)? {
         return Err(Refusal::BadImage);
     }
     Ok(image)
@@ -166,8 +195,7 @@ pub(crate) fn chosen<D: Disk>(disk: &mut D) -> Result<Option<bool>, DiskFault>
     ensures cause { HasCause (D.faults disk.old) (D.faults disk.new) (IsErr result) }
 {
     let mut first = [0; 1];
-    let told = disk.read(Area::Select, 0, &mut first)?;
-    if told == 0 {
+    if !read_whole(disk, Area::Select, 0, &mut first)? {
         return Ok(None);
     }
     Ok(Some(first[0] % 2 == 1))

@@ -8,7 +8,7 @@ ghost use Rattle.ids.specs.declared.limits.TheConstants.{GREATEST_IMAGE};
 ghost use Rattle.disk.specs.Areas.{Areas};
 ghost use Rattle.disk.specs.Crashes.{Grew, HasCause, LeavesOnly, Only, Unmoved};
 ghost use Rattle.disk.specs.Shelf.{IsReadAs, IsSettled, NoneOrNew, OldOrNew, SelectsLength};
-ghost use Rattle.disk.specs.Shelf.{opened, side};
+ghost use Rattle.disk.specs.Shelf.{opened, record_of, side};
 
 use crate::save::{chosen, half, lay, load, record, swap};
 use crate::{Disk, DiskFault, MemoryDisk, Persist};
@@ -64,8 +64,30 @@ pub fn is_blank<D: Disk>(disk: &mut D) -> Result<bool, DiskFault>
     Ok(side.is_none())
 }
 
-/// Syncs a disk, so that no crash takes back what is read, and then gives the value that it holds
-/// and the side where its image is.
+/// Syncs a disk, so that no crash takes back what is read, and then gives the image that it opens
+/// to and the side where that is.
+fn recall_image<D: Disk>(alloc: Global, disk: &mut D) -> Result<(bool, Vec<u8>), Refusal>
+    ensures side { IfOk result (λ r. side (D.seen disk.old).select ≡ Some r.0) }
+    ensures image { IfOk result (λ r. opened (D.seen disk.old) ≡ Some r.1.items) }
+    ensures tells { OnOk result (SelectsLength (D.seen disk.old)) }
+    ensures durable { OnOk result (Only (D.seen disk.new) (D.may_leave disk.new)) }
+    ensures bad { IsErrOf result Refusal.BadImage → opened (D.seen disk.old) ≡ None }
+    ensures memory { IsErrOf result Refusal.Memory → SelectsLength (D.seen disk.old) }
+    ensures quiet { Unmoved D.seen D.may_leave D.moment D.left_since disk.old disk.new }
+    ensures cause { HasCause (D.faults disk.old) (D.faults disk.new) (IsErrOf result Refusal.Disk) }
+    ensures others { IfErr result (λ e. (e ≡ Refusal.Memory)
+        ⊎ ((e ≡ Refusal.BadImage) ⊎ (e ≡ Refusal.Disk))) }
+{
+    let side = synced_side(disk)?;
+    let Some(in_b) = side else {
+        return Err(Refusal::BadImage);
+    };
+    let image = load(alloc, disk, half(in_b))?;
+    Ok((in_b, image))
+}
+
+/// Gives the value that a disk holds, as [`recall_image`] gives its image, and the side where that
+/// is.
 fn recall<D: Disk, P: Persist>(alloc: Global, disk: &mut D) -> Result<(bool, P::Value), Refusal>
 where
     P::Value: Drop,
@@ -80,13 +102,24 @@ where
     ensures others { IfErr result (λ e. (e ≡ Refusal.Memory)
         ⊎ ((e ≡ Refusal.BadImage) ⊎ (e ≡ Refusal.Disk))) }
 {
-    let side = synced_side(disk)?;
-    let Some(in_b) = side else {
-        return Err(Refusal::BadImage);
-    };
-    let image = load(alloc, disk, half(in_b))?;
+    let (in_b, image) = recall_image(alloc, disk)?;
     let value = P::from_bytes(alloc, &image)?;
     Ok((in_b, value))
+}
+
+/// The image of a value, and what is written for it. Refused as [`Persist::to_bytes`], and Memory.
+fn spelled<P: Persist>(alloc: Global, value: &P::Value) -> Result<(Vec<u8>, Vec<u8>), Refusal>
+    ensures image { IfOk result (λ r. r.0.items ≡ P.image value.now) }
+    ensures bytes { IfOk result (λ r. r.1.items ≡ record_of (P.image value.now)) }
+    ensures readable { OnOk result (P.reads (P.image value.now) (P.saved value.now)) }
+    ensures within { OnOk result (length (P.image value.now) ≤ GREATEST_IMAGE) }
+    ensures too_large { IfErr result (λ e.
+        e ≡ Refusal.ImageTooLarge ↔ GREATEST_IMAGE < length (P.image value.now)) }
+    ensures others { IfErr result (λ e. (e ≡ Refusal.Memory) ⊎ (e ≡ Refusal.ImageTooLarge)) }
+{
+    let image = P::to_bytes(alloc, value)?;
+    let bytes = record(alloc, &image)?;
+    Ok((image, bytes))
 }
 
 impl<D: Disk> Shelf<D> {
@@ -124,13 +157,9 @@ impl<D: Disk> Shelf<D> {
         ensures others { IfErr result (λ e. (e.1 ≡ Refusal.Memory)
             ⊎ ((e.1 ≡ Refusal.ImageTooLarge) ⊎ (e.1 ≡ Refusal.Disk))) }
     {
-        let image = match P::to_bytes(alloc, value) {
-            Ok(image) => image,
+        let (image, bytes) = match spelled::<P>(alloc, value) {
+            Ok(both) => both,
             Err(refusal) => return Err((disk, refusal)),
-        };
-        let bytes = match record(alloc, &image) {
-            Ok(bytes) => bytes,
-            Err(_) => return Err((disk, Refusal::Memory)),
         };
         match lay(&mut disk, &image, &bytes) {
             Ok(()) => {}
@@ -237,8 +266,7 @@ impl<D: Disk> Shelf<D> {
         if !self.ready {
             return Err(Refusal::Closed);
         }
-        let image = P::to_bytes(self.alloc, value)?;
-        let bytes = record(self.alloc, &image)?;
+        let (image, bytes) = spelled::<P>(self.alloc, value)?;
         self.ready = false;
         swap(&mut self.disk, self.in_b, &image, &bytes)?;
         self.in_b = !self.in_b;

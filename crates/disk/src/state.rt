@@ -95,7 +95,7 @@ impl Contents {
 }
 
 impl State {
-    ghost use Rattle.disk.specs.Record.{areas_of, at_risk, leaves, synced};
+    ghost use Rattle.disk.specs.Record.{areas_of, at_risk, filled, leaves, synced};
 
     /// A disk that holds this, all of it synced.
     pub(crate) fn new(alloc: Global, held: Contents) -> State
@@ -121,6 +121,17 @@ impl State {
             a: copied(alloc, &self.kept_a, &self.held.a)?,
             b: copied(alloc, &self.kept_b, &self.held.b)?,
         })
+    }
+
+    /// What a crash leaves where each byte that was written since the last sync became `fill`.
+    pub(crate) fn filled(&self, alloc: Global, fill: u8) -> Result<Contents, AllocError>
+        ensures { IfOk result (λ c. areas_of c ≡ filled fill self.now) }
+    {
+        let mut left = self.last_synced(alloc)?;
+        for range in &self.ranges {
+            left.fill(alloc, range, fill)?;
+        }
+        Ok(left)
     }
 
     /// An area as it is to be once these bytes are written at this offset.

@@ -1,87 +1,74 @@
-use Rattle.std.proofs.Common.{◌≡◌, ◌∙◌, ap, refl, sym, arith, length, List, ℕ, ◌≤◌, ◌+◌, Some, take}
-use Rattle.std.proofs.Common.{drop}
-use Rattle.ids.specs.declared.limits.TheConstants.{GREATEST_IMAGE}
-use Rattle.disk.specs.Shelf.{told}
+use Rattle.std.proofs.Common.{ap, arith, length, ◌∙◌, Err, inr}
+use Rattle.std.proofs.lemmas.Result.{err_from_is_err_and}
 use Rattle.disk.specs.Areas.{part}
-use Rattle.disk.proofs.Records.{recorded_short, recorded_long, recorded_cut, recorded_is, told_read}
-use Rattle.disk.proofs.Records.{loaded}
+use Rattle.disk.proofs.Quiet.{both_unmoved, err_cause, handed_cause, later_cause, no_cause}
+use Rattle.disk.proofs.Records.{recorded_cut, image_read}
 use Rattle.disk.proofs.save.load.Goals as goal
 
-pub returns-then-told-lt-HEAD-clause-none : goal.returns-then-told-lt-HEAD-clause-none
-returns-then-told-lt-HEAD-clause-none g c bad =
-    recorded_short _ (omega (arith, c.in_ok-told.ensures.bytes.count, c.if-told-lt-HEAD.true))
-
-pub returns-then-len-gt-GREATEST_IMAGE-clause-none :
-    goal.returns-then-len-gt-GREATEST_IMAGE-clause-none
-returns-then-len-gt-GREATEST_IMAGE-clause-none g c bad =
-    let tells = told_read _ _ _ c.in_ok-told.told c.in_ok-told.ensures.bytes refl
-    c.if-told-lt-HEAD.false in
-    recorded_long _
-    (omega (arith, tells, c.from_be_bytes-len.ensures, c.if-len-gt-GREATEST_IMAGE.true))
-
-pub returns-then-found-len-clause-none : goal.returns-then-found-len-clause-none
-returns-then-found-len-clause-none g c bad =
-    let tells = told_read _ _ _ c.in_ok-told.told c.in_ok-told.ensures.bytes refl
-    c.if-told-lt-HEAD.false in
-    let size = ap (λ d. length (part c.args.area d)) c.read.ensures.seen in
+pub returns-then-not-branch-clause-none : goal.returns-then-not-branch-clause-none
+returns-then-not-branch-clause-none g c bad =
     recorded_cut _ (omega (
       arith,
-      tells,
-      size,
-      c.from_be_bytes-len.ensures,
+      c.in_ok-read_whole.ensures.whole.short c.if-not-branch.true,
+      ap (λ d. length (part c.args.area d)) c.told_length.ensures.quiet.same,
+      c.in_ok-len.ensures.told,
       c.in_ok-image.ensures.len,
       c.deref_mut.ensures.len,
-      c.len.ensures,
-      c.in_ok-found.ensures.bytes.count,
-      c.if-found-len.true,
-      c.in_ok-told.ensures.bytes.count,
-      c.if-told-lt-HEAD.false,
     ))
-
-pub returns-in_err-image-clause-memory : goal.returns-in_err-image-clause-memory
-returns-in_err-image-clause-memory g c refused =
-    let long = c.in_ok-told.ensures.bytes.count in
-    let tells = told_read _ _ _ c.in_ok-told.told c.in_ok-told.ensures.bytes refl
-    c.if-told-lt-HEAD.false in (
-      omega (arith, long, c.if-told-lt-HEAD.false),
-      omega (arith, tells, c.from_be_bytes-len.ensures, c.if-len-gt-GREATEST_IMAGE.false),
-    )
 
 pub returns-clause-image : goal.returns-clause-image
 returns-clause-image g c =
-    let held = part c.args.area (g.D.Disk.seen c.args.disk.now) in
-    let later = part c.args.area (g.D.Disk.seen c.read.new.self) in
-    let same : later ≡ held = ap (part c.args.area) c.read.ensures.seen in
-    let len = c.in_ok-image.image.len in
-    let tells = told_read _ _ _ c.in_ok-told.told c.in_ok-told.ensures.bytes refl
-    c.if-told-lt-HEAD.false in
-    let told_len : told held ≡ len =
-    omega (arith, tells, c.from_be_bytes-len.ensures, c.in_ok-image.ensures.len) in
-    let read = c.in_ok-found.ensures.bytes in
-    let all : len ≤ c.in_ok-found.found = omega (arith, c.len.ensures, c.if-found-len.false) in
-    let within : len + 8 ≤ length held = omega (
-      arith,
-      ap length same,
-      read.count,
-      all,
-      c.deref_mut.ensures.len,
-      c.in_ok-told.ensures.bytes.count,
-      c.if-told-lt-HEAD.false,
-    ) in
-    let fits : len ≤ GREATEST_IMAGE = omega (
-      arith,
-      tells,
-      told_len,
-      c.from_be_bytes-len.ensures,
-      c.if-len-gt-GREATEST_IMAGE.false,
-    ) in
-    let is = loaded later len c.read-2.new.into
-    (drop (length c.read-2.new.into) c.in_ok-image.image.items) (record {
-      old = c.deref_mut.result.now;
-      n = c.in_ok-found.found;
-      read = read;
-      size = c.deref_mut.ensures.len;
-      all = all;
-    }) in
-    recorded_is held len told_len fits within
-    ∙ ap Some (sym (is ∙ ap (λ (l : List ℕ). take len (drop 8 l)) same))
+    image_read _ c.in_ok-image.image.len c.in_ok-read_whole.ensures.whole c.if-not-branch.false
+    c.deref_mut.ensures.len (ap (part c.args.area) c.told_length.ensures.quiet.same)
+    (omega (arith, c.in_ok-len.ensures.told, c.in_ok-image.ensures.len)) c.in_ok-len.ensures.tells
+
+pub returns-in_err-read_whole-clause-quiet : goal.returns-in_err-read_whole-clause-quiet
+returns-in_err-read_whole-clause-quiet g c =
+    both_unmoved g.D.Disk.seen g.D.Disk.may_leave g.D.Disk.moment g.D.Disk.left_since
+    c.args.disk.now c.told_length.new.disk c.read_whole.new.disk c.told_length.ensures.quiet
+    c.read_whole.ensures.quiet
+
+pub returns-then-not-branch-clause-quiet : goal.returns-then-not-branch-clause-quiet
+returns-then-not-branch-clause-quiet g c =
+    both_unmoved g.D.Disk.seen g.D.Disk.may_leave g.D.Disk.moment g.D.Disk.left_since
+    c.args.disk.now c.told_length.new.disk c.read_whole.new.disk c.told_length.ensures.quiet
+    c.read_whole.ensures.quiet
+
+pub returns-clause-quiet : goal.returns-clause-quiet
+returns-clause-quiet g c =
+    both_unmoved g.D.Disk.seen g.D.Disk.may_leave g.D.Disk.moment g.D.Disk.left_since
+    c.args.disk.now c.told_length.new.disk c.read_whole.new.disk c.told_length.ensures.quiet
+    c.read_whole.ensures.quiet
+
+pub returns-in_err-len-clause-cause : goal.returns-in_err-len-clause-cause
+returns-in_err-len-clause-cause g c =
+    let p = err_from_is_err_and c.from_residual.result c.from_residual.ensures.1 in
+    handed_cause (p.1 ∙ ap Err p.2) c.in_err-len.ensures.cause
+
+pub returns-in_err-len-clause-others : goal.returns-in_err-len-clause-others
+returns-in_err-len-clause-others g c =
+    let p = err_from_is_err_and c.from_residual.result c.from_residual.ensures.1 in
+    rw (p.1, p.2) (inr c.in_err-len.ensures.others)
+
+pub returns-in_err-read_whole-clause-cause : goal.returns-in_err-read_whole-clause-cause
+returns-in_err-read_whole-clause-cause g c =
+    let exit = c.from_residual-in_err-read_whole in
+    let p = err_from_is_err_and exit.result exit.ensures.1 in
+    later_cause (c.in_ok-len.ensures.cause.fine (λ is. absurd cc))
+    (err_cause c.in_err-read_whole.ensures.cause (p.1 ∙ ap Err p.2))
+
+pub returns-in_err-read_whole-clause-others : goal.returns-in_err-read_whole-clause-others
+returns-in_err-read_whole-clause-others g c =
+    let exit = c.from_residual-in_err-read_whole in
+    let p = err_from_is_err_and exit.result exit.ensures.1 in
+    rw p.1 (inr (inr p.2))
+
+pub returns-then-not-branch-clause-cause : goal.returns-then-not-branch-clause-cause
+returns-then-not-branch-clause-cause g c =
+    later_cause (c.in_ok-len.ensures.cause.fine (λ is. absurd cc))
+    (no_cause (c.in_ok-read_whole.ensures.cause.fine (λ is. absurd cc)) (λ is. absurd cc))
+
+pub returns-clause-cause : goal.returns-clause-cause
+returns-clause-cause g c =
+    later_cause (c.in_ok-len.ensures.cause.fine (λ is. absurd cc))
+    (no_cause (c.in_ok-read_whole.ensures.cause.fine (λ is. absurd cc)) (λ is. absurd cc))

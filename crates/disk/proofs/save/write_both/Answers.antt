@@ -3,6 +3,7 @@ use Rattle.std.proofs.lemmas.Result.{on_ok_weaker}
 use Rattle.disk.specs.Areas.{Areas, Holds, Torn}
 use Rattle.disk.proofs.Moments.{goes_on, started}
 use Rattle.disk.proofs.Sides.{still_blank}
+use Rattle.disk.proofs.Quiet.{err_cause, later_cause}
 use Rattle.disk.proofs.save.write_both.Goals as goal
 
 pub returns-in_err-write_at-clause-crash : goal.returns-in_err-write_at-clause-crash
@@ -60,3 +61,11 @@ returns-clause-b g c =
     on_ok_weaker c.write_at-2.result
     (λ written. subst (λ b. Holds 0 c.args.bytes.now b (g.D.Disk.seen c.write_at-2.new.self).b)
     c.in_ok-write_at.ensures.written.2 written.0) c.write_at-2.ensures.written
+
+pub returns-in_err-write_at-clause-cause : goal.returns-in_err-write_at-clause-cause
+returns-in_err-write_at-clause-cause g c =
+    err_cause c.in_err-write_at.ensures.cause c.from_residual.ensures.0
+
+pub returns-clause-cause : goal.returns-clause-cause
+returns-clause-cause g c =
+    later_cause (c.in_ok-write_at.ensures.cause.fine (λ is. absurd cc)) c.write_at-2.ensures.cause

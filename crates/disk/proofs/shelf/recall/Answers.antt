@@ -1,18 +1,38 @@
-use Rattle.std.proofs.Common.{◌≡◌, ◌∙◌, Some}
+use Rattle.disk.proofs.Quiet.{handed_cause, no_cause}
+use Rattle.std.proofs.Common.{◌≡◌, ◌≢◌, ◌∙◌, Err, ap, subst}
 use Rattle.std.proofs.lemmas.Result.{err_from_is_err_and}
-use Rattle.disk.specs.Areas.{part}
-use Rattle.disk.specs.Shelf.{half, recorded}
-use Rattle.disk.proofs.Records.{recorded_tells}
+use Rattle.ids.specs.declared.refusal.Refusal.TheVariants.{Memory}
 use Rattle.disk.proofs.shelf.recall.Goals as goal
 
-pub returns-in_err-value-clause-memory : goal.returns-in_err-value-clause-memory
-returns-in_err-value-clause-memory g c =
-    let in_b = c.in-Some.in_b in
-    let held = part (half in_b) (g.D.Disk.seen c.args.disk.now) in
-    let image = c.in_ok-image.image.items in
-    let is : recorded held ≡ Some image =
-    cc (c.in_ok-image.ensures.image, c.half.ensures, c.synced_side.ensures.quiet.same) in
-    let p = err_from_is_err_and c.from_residual-in_err-value.result
-    c.from_residual-in_err-value.ensures.1 in
-    rw p.1
-    (λ refused. (in_b, c.in_ok-side.ensures.side ∙ c.in-Some.is, recorded_tells held image is))
+pub returns-in_err-value-clause-bad : goal.returns-in_err-value-clause-bad
+returns-in_err-value-clause-bad g c =
+    let exit = c.from_residual-in_err-value in
+    let p = err_from_is_err_and exit.result exit.ensures.1 in
+    rw (p.1, p.2) (λ is value read.
+    let same : read.0 ≡ c.deref.result.now =
+    cc (read.1, c.in_ok-in_b.ensures.image, c.deref.ensures.value) in
+    let other : c.in_err-value.field-0.0 ≢ Memory = λ was. absurd cc in
+    (c.in_err-value.ensures.refused other).1 value
+    (subst (λ l. g.P.Persist.reads l value) same read.2))
+
+pub returns-clause-value : goal.returns-clause-value
+returns-clause-value g c = (
+  c.in_ok-in_b.image.items,
+  c.in_ok-in_b.ensures.image,
+  subst (λ l. g.P.Persist.reads l c.in_ok-value.value) c.deref.ensures.value
+      c.in_ok-value.ensures.value,
+)
+
+pub returns-in_err-in_b-clause-cause : goal.returns-in_err-in_b-clause-cause
+returns-in_err-in_b-clause-cause g c =
+    let p = err_from_is_err_and c.from_residual.result c.from_residual.ensures.1 in
+    handed_cause (p.1 ∙ ap Err p.2) c.in_err-in_b.ensures.cause
+
+pub returns-in_err-in_b-clause-others : goal.returns-in_err-in_b-clause-others
+returns-in_err-in_b-clause-others g c =
+    let p = err_from_is_err_and c.from_residual.result c.from_residual.ensures.1 in
+    rw (p.1, p.2) c.in_err-in_b.ensures.others
+
+pub returns-clause-cause : goal.returns-clause-cause
+returns-clause-cause g c =
+    no_cause (c.in_ok-in_b.ensures.cause.fine (λ is. absurd cc)) (λ is. absurd cc)

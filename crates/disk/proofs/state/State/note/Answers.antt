@@ -1,4 +1,4 @@
-use Rattle.std.proofs.Common.{rules, ◌≡◌, [], ◌∷◌, ◌++◌, refl}
+use Rattle.std.proofs.Common.{rules, ◌≡◌, refl}
 use Rattle.std.proofs.lemmas.Result.{err_from_is_err_and}
 use Rattle.disk.proofs.Torn.{follows_noted, follows_same, reaches_noted, pushed, unnoted}
 use Rattle.disk.specs.declared.state.Range.{Range}

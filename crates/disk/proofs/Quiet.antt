@@ -1,0 +1,72 @@
+-- Calls of a disk that change nothing of it, and the count of those that failed.
+use Rattle.std.proofs.Common.{◌≡◌, ◌∙◌, ℕ, Result, Err, IsErrOf, true, refl}
+use Rattle.std.proofs.Common.{subst, arith}
+use Rattle.disk.specs.Areas.{Areas}
+use Rattle.disk.specs.Crashes.{Elapses, HasCause, Unmoved}
+use Rattle.disk.proofs.Moments.{goes_on, joined, started, weaker}
+
+module _ {D : Type 0} (seen : D → Areas) (may_leave : D → Areas → Type 0)
+    (moment : D → ℕ) (left_since : D → ℕ → Areas → Type 0) where
+  -- one call
+  pub unmoved : (old new : D) → ((c : Areas) → left_since old (moment old) c → may_leave old c) →
+      seen new ≡ seen old → ((c : Areas) → may_leave new c → may_leave old c) →
+      Elapses (moment old) (moment new) (left_since old) (left_since new) (may_leave new) →
+      Unmoved seen may_leave moment left_since old new
+  unmoved old new here same crash time = record {
+    same = same;
+    crash = crash;
+    any_moment = goes_on moment left_since old old new (may_leave old) (may_leave new)
+        (started moment left_since old (may_leave old) here) time crash;
+  }
+
+  -- one after another
+  pub both_unmoved : (old mid new : D) → Unmoved seen may_leave moment left_since old mid →
+      Unmoved seen may_leave moment left_since mid new →
+      Unmoved seen may_leave moment left_since old new
+  both_unmoved old mid new first second = record {
+    same = second.same ∙ first.same;
+    crash = λ c left. first.crash c (second.crash c left);
+    any_moment = joined moment left_since old mid new (may_leave old) first.any_moment
+        (weaker moment left_since mid new (may_leave mid) (may_leave old) second.any_moment
+        first.crash);
+  }
+
+-- a call that failed, or not, where the count stood as before
+pub later_cause : {old mid new : ℕ} {Q : Type 0} → mid ≡ old → HasCause mid new Q →
+    HasCause old new Q
+later_cause {new = new} {Q = Q} same cause = subst (λ n. HasCause n new Q) same cause
+
+-- the same in other words
+same_cause : {old new : ℕ} {P Q : Type 0} → HasCause old new P → P → Q → HasCause old new Q
+same_cause cause p q = record {
+  later = cause.later;
+  failed = λ _. cause.failed p;
+  fine = λ none. absurd (none q);
+}
+
+-- the failure of a call that is known to have failed
+pub err_cause : {old new : ℕ} {Q : Type 0} → HasCause old new (true ≡ true) → Q →
+    HasCause old new Q
+err_cause cause q = same_cause cause refl q
+
+-- a failure is counted then
+pub counted_cause : {old mid new : ℕ} {P Q : Type 0} → mid ≡ old → HasCause mid new P → P → Q →
+    HasCause old new Q
+counted_cause same cause p q = same_cause (later_cause same cause) p q
+
+-- nothing failed
+pub no_cause : {old new : ℕ} {Q : Type 0} → new ≡ old → (Q → ⊥) → HasCause old new Q
+no_cause same none = record {
+  later = omega (arith, same);
+  failed = λ q. absurd (none q);
+  fine = λ _. same;
+}
+
+-- a refusal is handed on, at another type of value
+pub handed_cause : {old new : ℕ} {T U E : Type 0} {e x : E} {r : Result U E} → r ≡ Err e →
+    HasCause old new (IsErrOf {T = T} (Err e) x) → HasCause old new (IsErrOf r x)
+handed_cause is cause = record {
+  later = cause.later;
+  failed = λ same. cause.failed (cc);
+  fine = λ none. cause.fine (λ same. none (cc));
+}

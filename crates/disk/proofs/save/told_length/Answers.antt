@@ -1,0 +1,53 @@
+use Rattle.std.proofs.Common.{◌∙◌, Err, ap, inr, sym, arith}
+use Rattle.std.proofs.lemmas.Result.{err_from_is_err_and}
+use Rattle.disk.proofs.Quiet.{err_cause, no_cause}
+use Rattle.disk.proofs.Records.{recorded_short, recorded_long, told_read}
+use Rattle.disk.proofs.save.told_length.Goals as goal
+
+pub returns-then-not-branch-clause-none : goal.returns-then-not-branch-clause-none
+returns-then-not-branch-clause-none g c bad =
+    recorded_short _ (c.in_ok-read_whole.ensures.whole.short c.if-not-branch.true)
+
+pub returns-then-len-gt-GREATEST_IMAGE-clause-none :
+    goal.returns-then-len-gt-GREATEST_IMAGE-clause-none
+returns-then-len-gt-GREATEST_IMAGE-clause-none g c bad =
+    let tells = told_read _ c.read_whole.new.into
+    (c.in_ok-read_whole.ensures.whole.bytes c.if-not-branch.false) in
+    recorded_long _
+    (omega (arith, tells, c.from_be_bytes-len.ensures, c.if-len-gt-GREATEST_IMAGE.true))
+
+pub returns-clause-told : goal.returns-clause-told
+returns-clause-told g c =
+    told_read _ c.read_whole.new.into
+    (c.in_ok-read_whole.ensures.whole.bytes c.if-not-branch.false)
+    ∙ sym c.from_be_bytes-len.ensures
+
+pub returns-clause-tells : goal.returns-clause-tells
+returns-clause-tells g c =
+    let whole = c.in_ok-read_whole.ensures.whole in (
+      omega (arith, whole.enough c.if-not-branch.false),
+      omega (arith, returns-clause-told g c, c.if-len-gt-GREATEST_IMAGE.false),
+    )
+
+pub returns-in_err-read_whole-clause-cause : goal.returns-in_err-read_whole-clause-cause
+returns-in_err-read_whole-clause-cause g c =
+    let p = err_from_is_err_and c.from_residual.result c.from_residual.ensures.1 in
+    err_cause c.in_err-read_whole.ensures.cause (p.1 ∙ ap Err p.2)
+
+pub returns-in_err-read_whole-clause-others : goal.returns-in_err-read_whole-clause-others
+returns-in_err-read_whole-clause-others g c =
+    let p = err_from_is_err_and c.from_residual.result c.from_residual.ensures.1 in
+    rw p.1 (inr p.2)
+
+pub returns-then-not-branch-clause-cause : goal.returns-then-not-branch-clause-cause
+returns-then-not-branch-clause-cause g c =
+    no_cause (c.in_ok-read_whole.ensures.cause.fine (λ is. absurd cc)) (λ is. absurd cc)
+
+pub returns-then-len-gt-GREATEST_IMAGE-clause-cause :
+    goal.returns-then-len-gt-GREATEST_IMAGE-clause-cause
+returns-then-len-gt-GREATEST_IMAGE-clause-cause g c =
+    no_cause (c.in_ok-read_whole.ensures.cause.fine (λ is. absurd cc)) (λ is. absurd cc)
+
+pub returns-clause-cause : goal.returns-clause-cause
+returns-clause-cause g c =
+    no_cause (c.in_ok-read_whole.ensures.cause.fine (λ is. absurd cc)) (λ is. absurd cc)
