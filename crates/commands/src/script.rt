@@ -29,19 +29,11 @@ use ids::{Refusal, Shape};
 use lines::{Line, SummaryText, print_answer, print_outcome, print_report};
 use model::{Answer, Event, Outcome, Step};
 use node::Summary;
+use statuses::{DONE, REFUSED, UNREADABLE};
 use std::alloc::Global;
 use std::io;
 use std::io::{ErrorKind, Read, Write};
 use world::Sim;
-
-/// The status where all is done.
-pub const DONE: u8 = 0;
-
-/// The status where some line was refused, memory was refused, or output failed.
-pub const REFUSED: u8 = 1;
-
-/// The status where words, a file or a script's line can't be read.
-pub const UNREADABLE: u8 = 2;
 
 /// What a script runs over.
 trait Space: Drop + Sized {
