@@ -60,7 +60,8 @@ pub fn scan(
     ensures sound { OnOk result (IsLinks links.new) }
 {
     let slot = heap.last_grey().unwrap();
-    let places = heap.places(slot);
+    let mut places = [None; 8];
+    heap.read_places(slot, &mut places);
     let references = while_marking(cycle, ended, &places);
     heap.make_room(references.len(), 0)?;
     let before = ask(asked, links, own, cycle, references)?;

@@ -107,15 +107,14 @@ impl Object {
         !marked
     }
 
-    /// What the places hold, in order, and nothing in those that it doesn't have.
-    pub(crate) fn places(&self) -> [Option<Ref>; 8]
-        ensures filled { filled result ≡ filled self.now.places }
-        ensures each { (j : ℕ) → slice_index_or result j None
+    /// Reads what the places hold, in order, and nothing in those that it doesn't have.
+    pub(crate) fn read_places(&self, places: &mut [Option<Ref>; 8])
+        ensures filled { filled places.new ≡ filled self.now.places }
+        ensures each { (j : ℕ) → slice_index_or places.new j None
             ≡ slice_index_or self.now.places j None }
     {
-        let mut places = [None; 8];
+        *places = [None; 8];
         places[..self.places.len()].copy_from_slice(&self.places);
-        places
     }
 
     /// What stands in the place.

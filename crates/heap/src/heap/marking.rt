@@ -144,15 +144,26 @@ impl Heap {
 
     /// What the places of the object in a slot hold, in order. An object has at most eight places;
     /// those that it doesn't have are empty here, and so are all where the slot has no object.
-    #[tactic(auto, using(crate::proofs::Shades::no_place))]
     pub fn places(&self, slot: u32) -> [Option<Ref>; 8]
         ensures filled { filled result ≡ filled (places_in (slot_at self.now.heap slot)) }
         ensures each { (j : ℕ) → slice_index_or result j None
             ≡ slice_index_or (places_in (slot_at self.now.heap slot)) j None }
     {
+        let mut places = [None; 8];
+        self.read_places(slot, &mut places);
+        places
+    }
+
+    /// Reads the same to where it stays: eight references are many to hand on.
+    #[tactic(auto, using(crate::proofs::Shades::no_place))]
+    pub fn read_places(&self, slot: u32, places: &mut [Option<Ref>; 8])
+        ensures filled { filled places.new ≡ filled (places_in (slot_at self.now.heap slot)) }
+        ensures each { (j : ℕ) → slice_index_or places.new j None
+            ≡ slice_index_or (places_in (slot_at self.now.heap slot)) j None }
+    {
         match self.stored(slot) {
-            Some(object) => object.places(),
-            None => [None; 8],
+            Some(object) => object.read_places(places),
+            None => *places = [None; 8],
         }
     }
 

@@ -18,13 +18,13 @@ returns-in_err-before-clause-refused c p at =
     c.from_residual-in_err-before.ensures.1 in
     let slot : c.unwrap-slot.result ≡ last_grey h =
     rw c.unwrap-slot.ensures at c.last_grey.ensures.value in
-    let held = c.places-places.ensures.filled
+    let held = c.read_places.ensures.filled
     ∙ ap (λ (k : ℕ). filled (places_in (slot_at h k))) slot in
     rw (r.1, r.2)
     (subst (λ (w : Work). IsRefused a.links.now w.sends c.in_err-before.field-0.0)
     (scan-work p h a.asked.now.keys a.ring.now)
     (shaded-refused a.own a.cycle a.ended p at (without_last_grey h) a.asked.now.keys a.ring.now
-    c.places-places.result _ c.while_marking-references.ensures _ a.links.now _ held
+    c.read_places.new.places _ c.while_marking-references.ensures _ a.links.now _ held
     c.in_err-before.ensures.refused))
 
 pub returns-clause-done : goal.returns-clause-done
@@ -35,7 +35,7 @@ returns-clause-done c p at =
     let told = c.in_ok-before.ensures in
     let slot : c.unwrap-slot.result ≡ last_grey h =
     rw c.unwrap-slot.ensures at c.last_grey.ensures.value in
-    let held = c.places-places.ensures.filled
+    let held = c.read_places.ensures.filled
     ∙ ap (λ (k : ℕ). filled (places_in (slot_at h k))) slot in
     let without = c.pop_grey.ensures.heap
     ∙ ap without_last_grey c.make_room.ensures.same.heap in
@@ -49,4 +49,4 @@ returns-clause-done c p at =
     c.ask.new.links)
     (scan-work p h a.asked.now.keys a.ring.now)
     (shaded-done a.own a.cycle a.ended p at (without_last_grey h) a.asked.now.keys a.ring.now
-    c.places-places.result us c.while_marking-references.ensures held grey told.done count)
+    c.read_places.new.places us c.while_marking-references.ensures held grey told.done count)

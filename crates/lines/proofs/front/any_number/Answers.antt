@@ -3,8 +3,8 @@ use Rattle.std.proofs.Math.Seq.{take-length}
 use Rattle.lines.specs.Grammar.{u64_of, value_after}
 use Rattle.lines.specs.Words.{digit_count, ends_word, fits_word, past, word_end, word_of}
 use Rattle.lines.proofs.Fronts.{IsNumberAt, digits_of, not_fitting, not_value, not_whole, number_is, word_ends, word_goes_on, word_number}
-use Rattle.lines.proofs.front.first_number.Goals as goal
-use Rattle.lines.proofs.front.first_number.Goals.{After-as_bytes-bytes, After-ends_word}
+use Rattle.lines.proofs.front.any_number.Goals as goal
+use Rattle.lines.proofs.front.any_number.Goals.{After-as_bytes-bytes, After-ends_word}
 
 at_front : (c : After-as_bytes-bytes)
     → IsNumberAt (digit_count c.as_bytes-bytes.result.now) (word_end c.as_bytes-bytes.result.now)

@@ -2,7 +2,7 @@ use Rattle.std.proofs.Common.{ℕ, None, replicate, refl, ap, get_or, ◌∙◌}
 use Rattle.model.specs.State.{Object}
 use Rattle.model.specs.Shading.{filled}
 use Rattle.heap.proofs.Shades.{filled-places, each-place, no_place}
-use Rattle.heap.proofs.object.Object.places.Goals as goal
+use Rattle.heap.proofs.object.Object.read_places.Goals as goal
 
 pub returns-clause-filled : goal.returns-clause-filled
 returns-clause-filled c =
