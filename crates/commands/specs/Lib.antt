@@ -1,4 +1,3 @@
-pub mod Called
 pub mod Frames
 pub mod Freed
 pub mod Script

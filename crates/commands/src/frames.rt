@@ -1,15 +1,14 @@
 //! Frames, read from the words that spell their bytes. Words that are no hexadecimal digits, and
 //! bytes that are no frame, are told apart by the status.
-ghost use Rattle.std.specs.Prelude.{◌≡◌, ◌≤◌, ◌∷◌, [], ◌++◌, ◌⊎◌, IfOk};
+ghost use Rattle.std.specs.Prelude.{◌≡◌, ◌≤◌, ◌∷◌, [], ◌++◌, ◌⊎◌, IfOk, codes};
 ghost use Rattle.std.specs.Io.KnownBytes.{Appends};
 ghost use Rattle.commands.specs.Frames.{PrintsDecoded, PrintsSpelled};
 ghost use Rattle.lines.specs.Text.{refused_text};
 
-use crate::script::{DONE, REFUSED};
-use crate::words::{WordsError, print_refused_words};
 use hex::FromHexError;
 use ids::Refusal;
 use lines::FrameText;
+use statuses::{DONE, REFUSED, UNREADABLE};
 use std::alloc::Global;
 use std::io;
 use std::io::Write;
@@ -38,7 +37,7 @@ fn print_decoded<W: Write>(alloc: Global, word: &str, out: &mut W) -> io::Result
     match hex::decode(alloc, word) {
         Ok(bytes) => print_frame(out, bytes.as_slice()),
         Err(FromHexError::OutOfMemory) => print_refusal(out, Refusal::Memory),
-        Err(_) => print_refused_words(out, WordsError::Unknown),
+        Err(_) => print_refused_word(out),
     }
 }
 
@@ -55,6 +54,16 @@ fn print_frame<W: Write>(out: &mut W, bytes: &[u8]) -> io::Result<u8>
         }
         Err(refusal) => print_refusal(out, refusal),
     }
+}
+
+/// Prints that the word is no hexadecimal digits, and answers its status; the error is that output
+/// failed.
+fn print_refused_word<W: Write>(out: &mut W) -> io::Result<u8>
+    ensures { IfOk result (λ status. (status ≡ 2)
+        × Appends (W.contents out.old) (W.contents out.new) (codes "words refused" ++ 10 ∷ [])) }
+{
+    writeln!(out, "words refused")?;
+    Ok(UNREADABLE)
 }
 
 /// Prints a refusal, and answers its status; the error is that output failed.

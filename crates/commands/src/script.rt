@@ -26,22 +26,14 @@ ghost use Rattle.lines.specs.Text.{refused_text};
 use crate::first_line::first_line;
 use crate::freed::{Freed, freed_by, sweeper};
 use ids::{Refusal, Shape};
-use lines::{Line, SummaryText, print_answer, print_outcome, print_report};
+use lines::{Line, Printer, SummaryText, print_outcome, print_report};
 use model::{Answer, Event, Outcome, Step};
 use node::Summary;
+use statuses::{DONE, REFUSED, UNREADABLE};
 use std::alloc::Global;
 use std::io;
 use std::io::{ErrorKind, Read, Write};
 use world::Sim;
-
-/// The status where all is done.
-pub const DONE: u8 = 0;
-
-/// The status where some line was refused, memory was refused, or output failed.
-pub const REFUSED: u8 = 1;
-
-/// The status where words, a file or a script's line can't be read.
-pub const UNREADABLE: u8 = 2;
 
 /// What a script runs over.
 trait Space: Drop + Sized {
@@ -201,13 +193,22 @@ fn run_lines<S: Space, W: Write>(alloc: Global, script: &str, out: &mut W) -> Op
     let mut state = State::<S>::Unopened;
     let mut status = DONE;
     let mut said = Line::Blank;
+    let mut printer = Printer::new();
     let mut rest = script;
     let mut number = 0;
     while !rest.is_empty() {
         let (text, others) = first_line(rest);
         rest = others;
         number += 1;
-        let reached = run_line(alloc, &mut state, &mut said, number, text, out)?;
+        let reached = run_line(
+            alloc,
+            &mut state,
+            &mut said,
+            &mut printer,
+            number,
+            text,
+            out,
+        )?;
         status = status.max(reached);
         if reached == UNREADABLE {
             return Some(status);
@@ -223,6 +224,7 @@ fn run_line<S: Space, W: Write>(
     alloc: Global,
     state: &mut State<S>,
     said: &mut Line,
+    printer: &mut Printer,
     number: usize,
     text: &str,
     out: &mut W,
@@ -235,7 +237,7 @@ fn run_line<S: Space, W: Write>(
         return print_no_command(out, number);
     }
     match &*said {
-        Line::Step(step) => run_step(state, number, step, out),
+        Line::Step(step) => run_step(state, printer, number, step, out),
         other => run_other(alloc, state, number, other, out),
     }
 }
@@ -244,6 +246,7 @@ fn run_line<S: Space, W: Write>(
 /// steps, and most steps events, so what they come to is not moved into replies.
 fn run_step<S: Space, W: Write>(
     state: &mut State<S>,
+    printer: &mut Printer,
     number: usize,
     step: &Step,
     out: &mut W,
@@ -257,7 +260,7 @@ fn run_step<S: Space, W: Write>(
         State::Unopened => print_no_command(out, number),
         State::Refused(refusal) => print_refusal(out, *refusal),
         State::Open { space, freed } => match step {
-            Step::Act(node, event) => run_event(space, freed, *node, event, out),
+            Step::Act(node, event) => run_event(space, freed, printer, *node, event, out),
             _ => run_move(space, freed, step, out),
         },
     }
@@ -268,6 +271,7 @@ fn run_step<S: Space, W: Write>(
 fn run_event<S: Space, W: Write>(
     space: &mut S,
     freed: &mut Freed,
+    printer: &mut Printer,
     node: u8,
     event: &Event,
     out: &mut W,
@@ -282,7 +286,7 @@ fn run_event<S: Space, W: Write>(
     match &space.act(node, *event) {
         Ok(answer) => {
             note(space, freed, swept, freed_by(answer));
-            match print_answer(out, answer) {
+            match printer.print(out, answer) {
                 Ok(()) => Some(DONE),
                 Err(_) => None,
             }

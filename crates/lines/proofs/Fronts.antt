@@ -18,7 +18,7 @@ abbrev pub digits_of : List ℕ → List ℕ
 digits_of text = take (digit_count text) text
 
 -- the number at a digit
-at_digit : (n c : ℕ) (cs : List ℕ) → is_ascii_digit c ≡ true
+pub at_digit : (n c : ℕ) (cs : List ℕ) → is_ascii_digit c ≡ true
     → value_after n (digits_of (c ∷ cs)) ≡ cond (nat_lt (n * 10 + (c - 48)) (2 ^ 64))
     (value_after (n * 10 + (c - 48)) (digits_of cs)) None
 at_digit n c cs is =

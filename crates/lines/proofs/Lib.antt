@@ -1,6 +1,7 @@
 pub mod Endings
 pub mod Fronts
 pub mod Numbers
+pub mod OneDigit
 pub mod Own
 pub mod Readings
 pub mod Reports

@@ -1,5 +1,5 @@
 -- The words of a text, one after another.
-use Rattle.std.specs.Prelude.{ℕ, ◌≡◌, ◌==◌, nat_lt, nat_le, ◌&&◌, Bool, true, false, List, [], ◌∷◌, take, drop}
+use Rattle.std.specs.Prelude.{ℕ, ◌≡◌, ◌==◌, nat_lt, nat_le, ◌&&◌, Bool, true, false, not, List, [], ◌∷◌, take, drop}
 use Rattle.std.specs.Char.{is_ascii_digit}
 use Rattle.std.specs.List.{prefix_len, position_or_len}
 use Rattle.lines.specs.declared.line.TheConstants.{MOST_DIGITS}
@@ -35,6 +35,12 @@ digit_count text = prefix_len is_ascii_digit text
 abbrev pub ends_word : List ℕ → Bool
 ends_word [] = true
 ends_word (byte ∷ bytes) = is_space byte
+
+-- one digit stands at the front, and behind it one space
+abbrev pub is_one_digit : List ℕ → Bool
+is_one_digit (digit ∷ space ∷ next ∷ bytes) =
+    is_ascii_digit digit && (is_space space && not (is_space next))
+is_one_digit text = false
 
 -- a number may have so many digits
 abbrev pub fits_word : ℕ → Bool

@@ -32,6 +32,15 @@ impl Ending {
         }
     }
 
+    /// Becomes the end of any text again.
+    #[inline(always)]
+    pub(crate) fn clear(&mut self)
+        ensures empty { held self.new ≡ [] }
+        ensures room { self.new.start ≡ ROOM }
+    {
+        self.start = ROOM;
+    }
+
     /// What is there.
     pub(crate) fn as_bytes(&self) -> &[u8]
         requires { self.now.start ≤ ROOM }

@@ -4,7 +4,7 @@ ghost use Rattle.std.specs.Prelude.{◌≡◌, ◌<◌, ◌-◌, IfSome, length,
 ghost use Rattle.std.specs.Char.{is_ascii_digit};
 ghost use Rattle.std.specs.List.{prefix_len, position_or_len};
 ghost use Rattle.lines.specs.Grammar.{u64_of, value_after};
-ghost use Rattle.lines.specs.Words.{IsTrimmed, behind, digit_count, ends_word, fits_word, is_space, past, starts_number, word_of};
+ghost use Rattle.lines.specs.Words.{IsTrimmed, behind, digit_count, ends_word, fits_word, is_one_digit, is_space, past, starts_number, word_of};
 
 use crate::line::MOST_DIGITS;
 
@@ -66,9 +66,25 @@ pub(crate) fn first_word(text: &str) -> (&str, &str)
 }
 
 /// The number that the word at the front spells, where it spells one, and what stands behind it
-/// from the next word on. The digits are read once.
+/// from the next word on. (Most numbers have one digit, and one space behind it: those are told
+/// apart first.)
 #[inline(always)]
+#[tactic(auto, using(crate::proofs::OneDigit::one_there, crate::proofs::OneDigit::one_digit))]
 pub(crate) fn first_number(text: &str) -> Option<(u64, &str)>
+    ensures number { option_map (λ r. r.0) result ≡ u64_of (word_of text.now) }
+    ensures rest { IfSome result (λ r. r.1.now ≡ behind text.now) }
+    ensures trimmed { IfSome result (λ r. IsTrimmed r.1.now) }
+{
+    let bytes = text.as_bytes();
+    if is_one_digit(bytes) {
+        return Some((u64::from(bytes[0] - b'0'), &text[2..]));
+    }
+    any_number(text)
+}
+
+// The same of any text. The digits are read once.
+#[inline(always)]
+fn any_number(text: &str) -> Option<(u64, &str)>
     ensures number { option_map (λ r. r.0) result ≡ u64_of (word_of text.now) }
     ensures rest { IfSome result (λ r. r.1.now ≡ behind text.now) }
     ensures trimmed { IfSome result (λ r. IsTrimmed r.1.now) }
@@ -116,6 +132,17 @@ fn leading_digits(text: &[u8]) -> Option<(u64, usize)>
         return Some((0, 0));
     }
     more_digits(text, u64::from(text[0] - b'0'))
+}
+
+// Whether one digit stands at the front, and behind it one space.
+#[inline(always)]
+fn is_one_digit(text: &[u8]) -> bool
+    ensures { result ≡ is_one_digit text.now }
+{
+    match text {
+        [digit, space, next, ..] => digit.is_ascii_digit() && *space == b' ' && *next != b' ',
+        _ => false,
+    }
 }
 
 // Whether a digit stands at the front.

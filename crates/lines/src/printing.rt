@@ -20,15 +20,31 @@ pub fn print_outcome<W: Write>(out: &mut W, outcome: &Outcome) -> io::Result<()>
     out.write_all(line.as_bytes())
 }
 
-/// Prints what a node answered, in one call.
-pub fn print_answer<W: Write>(out: &mut W, answer: &Answer) -> io::Result<()>
-    ensures { OnOk result
-        (Appends (W.contents out.old) (W.contents out.new) (answer_text answer.now ++ 10 ∷ [])) }
-{
-    let mut line = Ending::new();
-    line.put_byte(b'\n');
-    put_answer(&mut line, answer);
-    out.write_all(line.as_bytes())
+/// Prints what nodes answer. The text of each answer is made in the same place, since a new one
+/// would be made zero first.
+#[derive(Clone, Copy)]
+pub struct Printer {
+    line: Ending,
+}
+
+impl Printer {
+    /// Before any answer.
+    pub fn new() -> Printer {
+        Printer {
+            line: Ending::new(),
+        }
+    }
+
+    /// Prints what a node answered, in one call.
+    pub fn print<W: Write>(&mut self, out: &mut W, answer: &Answer) -> io::Result<()>
+        ensures { OnOk result (Appends (W.contents out.old) (W.contents out.new)
+            (answer_text answer.now ++ 10 ∷ [])) }
+    {
+        self.line.clear();
+        self.line.put_byte(b'\n');
+        put_answer(&mut self.line, answer);
+        out.write_all(self.line.as_bytes())
+    }
 }
 
 /// Prints how many objects the sweeps of each cycle freed, a line for each.

@@ -67,7 +67,8 @@ pub(crate) fn put_outcome(text: &mut Ending, outcome: &Outcome)
     }
 }
 
-/// Puts what a node answered before a text.
+/// Puts what a node answered before a text. (What it calls is inlined too, so that an answer need
+/// not stand in memory.)
 #[inline(always)]
 #[tactic(auto, using(crate::proofs::Endings::both))]
 pub(crate) fn put_answer(text: &mut Ending, answer: &Answer)
@@ -107,6 +108,7 @@ fn put_named(text: &mut Ending, name: &[u8], number: u64)
 }
 
 /// Puts a letter that a program took before a text.
+#[inline(always)]
 #[tactic(auto, using(crate::proofs::Endings::both))]
 fn put_letter(text: &mut Ending, letter: &Letter)
     requires { (LONGEST ≤ text.old.start) × (text.old.start ≤ ROOM) }
@@ -121,6 +123,7 @@ fn put_letter(text: &mut Ending, letter: &Letter)
     text.put(b"from ");
 }
 
+#[inline(always)]
 #[tactic(auto, using(crate::proofs::Endings::both))]
 fn put_scanned(text: &mut Ending, reference: Ref)
     requires { (LONGEST ≤ text.old.start) × (text.old.start ≤ ROOM) }
@@ -131,6 +134,7 @@ fn put_scanned(text: &mut Ending, reference: Ref)
     text.put(b"scanned ");
 }
 
+#[inline(always)]
 #[tactic(auto, using(crate::proofs::Endings::both))]
 fn put_passed(text: &mut Ending, token: Token)
     requires { (LONGEST ≤ text.old.start) × (text.old.start ≤ ROOM) }
@@ -146,6 +150,7 @@ fn put_passed(text: &mut Ending, token: Token)
     text.put(b"passed ");
 }
 
+#[inline(always)]
 #[tactic(auto, using(crate::proofs::Endings::both))]
 fn put_freed(text: &mut Ending, count: u32, done: bool)
     requires { (LONGEST ≤ text.old.start) × (text.old.start ≤ ROOM) }

@@ -5,11 +5,12 @@ ghost use Rattle.std.specs.Arc.{arc_value};
 ghost use Rattle.model.specs.Steps.{is_own};
 ghost use Rattle.wire.specs.Readers.{IsWatchOf};
 
-use commands::{DONE, REFUSED, UNREADABLE, print_unread};
+use commands::print_unread;
 use disk::{Disk, FileDisk, MemoryDisk};
 use ids::Refusal;
 use lines::{OutcomeText, RunLine};
 use model::{Answer, Event, Outcome};
+use statuses::{DONE, REFUSED, UNREADABLE};
 use std::alloc::Global;
 use std::fs::File;
 use std::io::{Read, Write};

@@ -119,13 +119,21 @@ impl Node {
         self.handle(event)
     }
 
+    // (What the two calls write stands in places of their own, so that the answers of all other
+    // events need not go through memory.)
     #[inline(always)]
     fn handle(&mut self, event: Event) -> Result<Answer, Refusal>
         ensures { Handled self.old self.new event result }
     {
         match event {
-            Event::Data(frame) => self.take(frame),
-            Event::Next { from } => self.next(from),
+            Event::Data(frame) => {
+                let taken = self.take(frame);
+                taken
+            }
+            Event::Next { from } => {
+                let taken = self.next(from);
+                taken
+            }
             _ => self.core.perform(event),
         }
     }

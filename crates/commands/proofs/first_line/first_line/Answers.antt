@@ -1,6 +1,6 @@
 use Rattle.std.proofs.Common.{◌≡◌, ◌∙◌, ◌-◌, ℕ, Some, None, ap, arith, subst, take}
 use Rattle.memchr.specs.Find.{IsFirstByte, is_byte}
-use Rattle.commands.proofs.FirstLines.{after_end, before_end, line_first, line_only}
+use Rattle.commands.proofs.FirstLines.{after_end, line_first, line_only}
 use Rattle.commands.proofs.first_line.first_line.Goals as goal
 
 pub range_from-requires : goal.range_from-requires

@@ -1,4 +1,3 @@
-use Rattle.std.proofs.Common.{subst, sym, rules}
 use Rattle.commands.proofs.FirstLines.{first_near}
 use Rattle.commands.proofs.first_line.line_end.Goals as goal
 

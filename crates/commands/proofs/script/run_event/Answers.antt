@@ -6,8 +6,8 @@ use Rattle.commands.specs.declared.script.Reply.TheVariants as reply
 use Rattle.commands.proofs.Replies.{outcome_shows, printed_as, refusal_shows}
 use Rattle.commands.proofs.script.run_event.Goals as goal
 
-pub returns-in-Ok-print_answer : goal.returns-in-Ok-print_answer
-returns-in-Ok-print_answer g c number =
+pub returns-in-Ok-print : goal.returns-in-Ok-print
+returns-in-Ok-print g c number =
     let shows = g.S.Space.shows in
     let keeps = g.S.Space.keeps in
     let o = outcome.Answer c.in-Ok.answer in
@@ -21,7 +21,7 @@ returns-in-Ok-print_answer g c number =
           (subst (λ k. KeepsSums c.note.new.freed.sums
           (freed_with w c.sweeper-swept.result k sums)) c.freed_by.ensures
           (c.note.ensures w sums there kept)));
-      prints = c.in-Ok-print_answer.ensures;
+      prints = c.in-Ok-print.ensures;
       is = refl;
     }
 

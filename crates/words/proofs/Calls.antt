@@ -14,7 +14,7 @@ use Rattle.clap.proofs.SimpleLemmas.{is_false}
 use Rattle.clap.proofs.WalkLemmas.{both}
 use Rattle.clap.specs.declared.error.kind.ErrorKind.{ErrorKind}
 use Rattle.clap.specs.declared.error.kind.ErrorKind.TheVariants.{DisplayHelp, InvalidSubcommand, MissingRequiredArgument, UnknownArgument}
-use Rattle.commands.specs.Called.{Called, call_in, called_of, decode_of, has_no_dash, is_dashed, program, sim, decode, sim_of}
+use Rattle.words.specs.Called.{Called, call_in, called_of, decode_of, has_no_dash, is_dashed, program, sim, decode, sim_of}
 
 -- such a word is no flag, nor `--`
 record IsBare (v : Text) : Type 0 where

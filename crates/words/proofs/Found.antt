@@ -15,11 +15,11 @@ use Rattle.clap.specs.declared.parser.matches.ArgMatches.{ArgMatches}
 use Rattle.clap.specs.declared.parser.matches.ArgMatches.TheViews.{out-ArgMatches, out-SubCommand}
 use Rattle.clap.specs.declared.parser.matches.SubCommand.{SubCommand}
 use Rattle.clap.proofs.WalkLemmas.{first_value-rows}
-use Rattle.commands.specs.Called.{Reads, TellsMemory, call_in, call_of, called_of, decode, has_no_dash, program, sim}
-use Rattle.commands.specs.declared.words.Command.{Command}
-use Rattle.commands.specs.declared.words.WordsError.{WordsError}
-use Rattle.commands.specs.declared.words.WordsError.TheVariants.{OutOfMemory, Unknown}
-use Rattle.commands.proofs.Calls.{agrees, known, unknown}
+use Rattle.words.specs.Called.{Reads, TellsMemory, call_in, call_of, called_of, decode, has_no_dash, program, sim}
+use Rattle.words.specs.declared.command.Command.{Command}
+use Rattle.words.specs.declared.fault.WordsError.{WordsError}
+use Rattle.words.specs.declared.fault.WordsError.TheVariants.{OutOfMemory, Unknown}
+use Rattle.words.proofs.Calls.{agrees, known, unknown}
 use Rattle.clap.specs.declared.error.Error.{Error}
 use Rattle.clap.specs.declared.error.kind.ErrorKind.TheVariants as kind
 

@@ -1,7 +1,7 @@
 use Rattle.std.proofs.Common.{◌∙◌, sym, ap, Some, None, option_map}
-use Rattle.commands.specs.Called.{call_of}
-use Rattle.commands.proofs.Found.{says_decode, says_nothing, says_sim}
-use Rattle.commands.proofs.words.command_in.Goals as goal
+use Rattle.words.specs.Called.{call_of}
+use Rattle.words.proofs.Found.{says_decode, says_nothing, says_sim}
+use Rattle.words.proofs.command.command_in.Goals as goal
 
 pub returns-in_err-get_str-in-decode-default : goal.returns-in_err-get_str-in-decode-default
 returns-in_err-get_str-in-decode-default c =

@@ -2,8 +2,8 @@ use Rattle.std.proofs.Common.{◌≡◌, ◌∙◌, [], ap, arith, map, string_b
 use Rattle.std.proofs.lemmas.List.{length-map}
 use Rattle.std.proofs.lemmas.Result.{err_from_is_err_and}
 use Rattle.clap.specs.Words.{HasKind, fault_of, is_simple, is_simple_and_free, subcommand_of}
-use Rattle.commands.proofs.Found.{read_refused, read_taken}
-use Rattle.commands.proofs.words.Command.known_in.Goals as goal
+use Rattle.words.proofs.Found.{read_refused, read_taken}
+use Rattle.words.proofs.command.Command.known_in.Goals as goal
 
 pub returns-in_err-matches : goal.returns-in_err-matches
 returns-in_err-matches c =

@@ -1,21 +1,13 @@
 //! The words with which the program is called. The kit's reader of arguments takes them apart;
 //! words that begin with a dash are its matter alone, but for `run`, whose `--` is told apart here.
-ghost use Rattle.std.specs.Prelude.{◌≡◌, ◌<◌, ◌≤◌, ◌++◌, ◌∷◌, [], false, None, Ok, IfOk, OnOk, IsTrue, codes, drop, is_some, length, map, option_and_then, option_map, string_bytes};
-ghost use Rattle.std.specs.Io.KnownBytes.{Appends};
+ghost use Rattle.std.specs.Prelude.{◌≡◌, ◌<◌, ◌≤◌, false, None, Ok, IfOk, IsTrue, codes, drop, is_some, length, map, option_and_then, option_map, string_bytes};
 ghost use Rattle.std.specs.Str.{bytes_eq};
-ghost use Rattle.std.specs.IoError.{error_kind};
-ghost use Rattle.clap.specs.Words.{app_of, kind_of, rule_of, subcommand_rows_of, with_subcommand};
-ghost use Rattle.clap.specs.declared.error.ErrorKind.TheVariants as parse;
-ghost use Rattle.std.specs.declared.io.ErrorKind.TheVariants as io;
-ghost use Rattle.commands.specs.declared.words.WordsError.TheVariants.{OutOfMemory};
-ghost use Rattle.commands.specs.Called.{IsRead, Reads, TellsMemory, asked_of, call_in, call_of, called_of, has_no_dash, is_dashed, none_of, one_of, operands, program, run, run_from, run_of, with_one_word};
+ghost use Rattle.clap.specs.Words.{app_of, rule_of, subcommand_rows_of, with_subcommand};
+ghost use Rattle.words.specs.Called.{IsRead, Reads, asked_of, call_in, call_of, called_of, has_no_dash, is_dashed, none_of, one_of, operands, program, run, run_from, run_of, with_one_word};
 
-use crate::script::{REFUSED, UNREADABLE};
-use clap::error::ErrorKind;
-use clap::{Arg, ArgMatches, Error};
+use crate::fault::WordsError;
+use clap::{Arg, ArgMatches};
 use std::alloc::{AllocError, Global};
-use std::io;
-use std::io::Write;
 
 /// What the program is asked to do.
 #[derive(Clone, Copy)]
@@ -26,45 +18,6 @@ pub enum Command<'a> {
     Decode { hex: &'a str },
     /// Runs the script of a file over node threads, which the configuration of a file describes.
     Run { config: &'a str, script: &'a str },
-}
-
-/// Why words are no command.
-#[derive(Clone, Copy)]
-pub enum WordsError {
-    /// Memory was wanted and refused.
-    OutOfMemory,
-    /// They are none that the program knows, or ask for help.
-    Unknown,
-}
-
-impl From<Error> for WordsError {
-    ghost from_gives = { λ e fault. TellsMemory parse.OutOfMemory (kind_of e) fault };
-
-    fn from(error: Error) -> WordsError {
-        match error.kind() {
-            ErrorKind::OutOfMemory => WordsError::OutOfMemory,
-            _ => WordsError::Unknown,
-        }
-    }
-}
-
-impl From<io::Error> for WordsError {
-    ghost from_gives = { λ e fault. TellsMemory io.OutOfMemory (error_kind e) fault };
-
-    fn from(error: io::Error) -> WordsError {
-        match error.kind() {
-            io::ErrorKind::OutOfMemory => WordsError::OutOfMemory,
-            _ => WordsError::Unknown,
-        }
-    }
-}
-
-impl From<AllocError> for WordsError {
-    ghost from_gives = { λ _ fault. fault ≡ OutOfMemory };
-
-    fn from(_error: AllocError) -> WordsError {
-        WordsError::OutOfMemory
-    }
 }
 
 impl<'a> Command<'a> {
@@ -220,19 +173,4 @@ fn with_command<'a>(
 {
     let command = clap::Command::new(alloc, name).arg(word)?;
     app.subcommand(command)
-}
-
-/// Prints that the words are no command, and answers the status: 1 for want of memory, else 2. The
-/// error is that output failed.
-pub fn print_refused_words<W: Write>(out: &mut W, error: WordsError) -> io::Result<u8>
-    ensures printed { OnOk result
-        (Appends (W.contents out.old) (W.contents out.new) (codes "words refused" ++ 10 ∷ [])) }
-    ensures memory { error ≡ WordsError.OutOfMemory → IfOk result (λ status. status ≡ 1) }
-    ensures unknown { error ≡ WordsError.Unknown → IfOk result (λ status. status ≡ 2) }
-{
-    writeln!(out, "words refused")?;
-    Ok(match error {
-        WordsError::OutOfMemory => REFUSED,
-        WordsError::Unknown => UNREADABLE,
-    })
 }

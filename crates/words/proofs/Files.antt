@@ -1,7 +1,7 @@
 -- The words before and after the `--` that ends options.
 use Rattle.std.proofs.Common.{◌≡◌, refl, ℕ, false, List, ◌∷◌, Option, Some, None}
 use Rattle.std.specs.Prelude.{is_some, option_and_then, option_map}
-use Rattle.commands.specs.Called.{none_of, one_of, run, run_from}
+use Rattle.words.specs.Called.{none_of, one_of, run, run_from}
 
 -- one more word than none, than one, and than two
 pub none_more : (word : List ℕ) (words : Option (List (List ℕ)))

@@ -4,10 +4,10 @@ use Rattle.std.specs.List.{list_all}
 use Rattle.std.specs.Option.{option_map_or}
 use Rattle.std.specs.Str.{bytes_eq}
 use Rattle.clap.specs.Words.{App, Row, Rule, Shape, first_of, new_app, new_rule, with_rule, with_subcommand}
-use Rattle.commands.specs.declared.words.Command.{Command}
-use Rattle.commands.specs.declared.words.Command.TheVariants as command
-use Rattle.commands.specs.declared.words.WordsError.{WordsError}
-use Rattle.commands.specs.declared.words.WordsError.TheVariants.{OutOfMemory, Unknown}
+use Rattle.words.specs.declared.command.Command.{Command}
+use Rattle.words.specs.declared.command.Command.TheVariants as command
+use Rattle.words.specs.declared.fault.WordsError.{WordsError}
+use Rattle.words.specs.declared.fault.WordsError.TheVariants.{OutOfMemory, Unknown}
 
 -- what the program is asked to do
 pub data Called : Type 0 where
