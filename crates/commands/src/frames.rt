@@ -8,10 +8,10 @@ ghost use Rattle.lines.specs.Text.{refused_text};
 use hex::FromHexError;
 use ids::Refusal;
 use lines::FrameText;
-use statuses::{DONE, REFUSED, UNREADABLE};
 use std::alloc::Global;
 use std::io;
 use std::io::Write;
+use words::{DONE, REFUSED, UNREADABLE};
 
 /// Prints the frame that the word spells, two hexadecimal digits of either case for each byte, and
 /// answers the program's status: 0. Where the bytes spell no frame, as no bytes at all, it prints

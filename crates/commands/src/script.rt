@@ -29,10 +29,10 @@ use ids::{Refusal, Shape};
 use lines::{Line, Printer, SummaryText, print_outcome, print_report};
 use model::{Answer, Event, Outcome, Step};
 use node::Summary;
-use statuses::{DONE, REFUSED, UNREADABLE};
 use std::alloc::Global;
 use std::io;
 use std::io::{ErrorKind, Read, Write};
+use words::{DONE, REFUSED, UNREADABLE};
 use world::Sim;
 
 /// What a script runs over.

@@ -7,7 +7,6 @@ ghost use Rattle.std.specs.Prelude.{◌≤◌, IfOk};
 mod running;
 
 use commands::{decode, print_unread, sim};
-use statuses::REFUSED;
 use std::fs::File;
 use std::io::{BufWriter, Read};
 use std::process::ExitCode;
@@ -16,7 +15,7 @@ use std::sync::Wait;
 use std::thread::Threads;
 use std::time::Clock;
 use std::{env, fs, io};
-use words::{Command, WordsError, print_refused_words};
+use words::{Command, REFUSED, WordsError, print_refused_words};
 
 fn main(rt: HostRuntime) -> ExitCode {
     let status = match run(&rt) {

@@ -10,7 +10,6 @@ use disk::{Disk, FileDisk, MemoryDisk};
 use ids::Refusal;
 use lines::{OutcomeText, RunLine};
 use model::{Answer, Event, Outcome};
-use statuses::{DONE, REFUSED, UNREADABLE};
 use std::alloc::Global;
 use std::fs::File;
 use std::io::{Read, Write};
@@ -21,6 +20,7 @@ use std::time::{Clock, Duration};
 use std::{io, thread};
 use supervisor::{Config, OpenFault, Space};
 use wire::Watch;
+use words::{DONE, REFUSED, UNREADABLE};
 use workers::{Gate, Point, Stage};
 
 /// How many microseconds a worker pauses before a turn, for each node of the space: the frames of

@@ -8,9 +8,9 @@ ghost use Rattle.std.specs.declared.io.ErrorKind.TheVariants as io;
 ghost use Rattle.words.specs.declared.fault.WordsError.TheVariants.{OutOfMemory};
 ghost use Rattle.words.specs.Called.{TellsMemory};
 
+use crate::status::{REFUSED, UNREADABLE};
 use clap::Error;
 use clap::error::ErrorKind;
-use statuses::{REFUSED, UNREADABLE};
 use std::alloc::AllocError;
 use std::io;
 use std::io::Write;

@@ -1,5 +1,4 @@
 //! The statuses with which the program ends.
-#![tactic(auto)]
 
 /// All is done.
 pub const DONE: u8 = 0;
