@@ -1,6 +1,8 @@
 -- Calls of a disk that change nothing of it, and the count of those that failed.
-use Rattle.std.proofs.Common.{◌≡◌, ◌∙◌, ℕ, Result, Err, IsErrOf, true, refl}
-use Rattle.std.proofs.Common.{subst, arith}
+use Rattle.std.proofs.Common.{◌≡◌, ◌∙◌, ℕ, Result, Ok, Err, IsErrOf, true}
+use Rattle.std.proofs.Common.{refl, subst, arith}
+use Rattle.ids.specs.declared.refusal.Refusal.{Refusal}
+use Rattle.ids.specs.declared.refusal.Refusal.TheVariants.{BadImage, Disk}
 use Rattle.disk.specs.Areas.{Areas}
 use Rattle.disk.specs.Crashes.{Elapses, HasCause, Unmoved}
 use Rattle.disk.proofs.Moments.{goes_on, joined, started, weaker}
@@ -70,3 +72,10 @@ handed_cause is cause = record {
   failed = λ same. cause.failed (cc);
   fine = λ none. cause.fine (λ same. none (cc));
 }
+
+-- what didn't fail isn't refused, and a bad image is no failure of the disk
+pub ok_no_err : {T E : Type 0} {x : T} {e : E} → Ok x ≡ Err e → ⊥
+ok_no_err is = absurd cc
+
+pub bad_no_disk : {T : Type 0} {r : Result T Refusal} → r ≡ Err BadImage → IsErrOf r Disk → ⊥
+bad_no_disk bad is = absurd cc

@@ -1,7 +1,8 @@
-use Rattle.std.proofs.Common.{ap, arith, length, ◌∙◌, Err, inr}
+use Rattle.std.proofs.Common.{ap, arith, length, ◌∙◌, Err, inr, refl}
 use Rattle.std.proofs.lemmas.Result.{err_from_is_err_and}
+use Rattle.std.proofs.lemmas.Bool.{false≢true}
 use Rattle.disk.specs.Areas.{part}
-use Rattle.disk.proofs.Quiet.{both_unmoved, err_cause, handed_cause, later_cause, no_cause}
+use Rattle.disk.proofs.Quiet.{bad_no_disk, both_unmoved, err_cause, handed_cause, later_cause, no_cause, ok_no_err}
 use Rattle.disk.proofs.Records.{recorded_cut, image_read}
 use Rattle.disk.proofs.save.load.Goals as goal
 
@@ -54,7 +55,7 @@ pub returns-in_err-read_whole-clause-cause : goal.returns-in_err-read_whole-clau
 returns-in_err-read_whole-clause-cause g c =
     let exit = c.from_residual-in_err-read_whole in
     let p = err_from_is_err_and exit.result exit.ensures.1 in
-    later_cause (c.in_ok-len.ensures.cause.fine (λ is. absurd cc))
+    later_cause (c.in_ok-len.ensures.cause.fine ok_no_err)
     (err_cause c.in_err-read_whole.ensures.cause (p.1 ∙ ap Err p.2))
 
 pub returns-in_err-read_whole-clause-others : goal.returns-in_err-read_whole-clause-others
@@ -65,10 +66,10 @@ returns-in_err-read_whole-clause-others g c =
 
 pub returns-then-not-branch-clause-cause : goal.returns-then-not-branch-clause-cause
 returns-then-not-branch-clause-cause g c =
-    later_cause (c.in_ok-len.ensures.cause.fine (λ is. absurd cc))
-    (no_cause (c.in_ok-read_whole.ensures.cause.fine (λ is. absurd cc)) (λ is. absurd cc))
+    later_cause (c.in_ok-len.ensures.cause.fine ok_no_err)
+    (no_cause (c.in_ok-read_whole.ensures.cause.fine false≢true) (bad_no_disk refl))
 
 pub returns-clause-cause : goal.returns-clause-cause
 returns-clause-cause g c =
-    later_cause (c.in_ok-len.ensures.cause.fine (λ is. absurd cc))
-    (no_cause (c.in_ok-read_whole.ensures.cause.fine (λ is. absurd cc)) (λ is. absurd cc))
+    later_cause (c.in_ok-len.ensures.cause.fine ok_no_err)
+    (no_cause (c.in_ok-read_whole.ensures.cause.fine false≢true) ok_no_err)

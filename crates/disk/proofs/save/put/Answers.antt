@@ -1,5 +1,6 @@
 use Rattle.std.proofs.Common.{length, subst, sym}
 use Rattle.std.proofs.lemmas.Result.{on_ok_weaker}
+use Rattle.std.proofs.lemmas.Bool.{false≢true}
 use Rattle.disk.specs.Areas.{Changes, Holds, Torn}
 use Rattle.disk.specs.Crashes.{Only}
 use Rattle.disk.proofs.Moments.{goes_on, wrote}
@@ -48,4 +49,4 @@ returns-in_err-write_at-clause-cause g c =
 
 pub returns-clause-cause : goal.returns-clause-cause
 returns-clause-cause g c =
-    later_cause (c.in_ok-write_at.ensures.cause.fine (λ is. absurd cc)) c.sync.ensures.cause
+    later_cause (c.in_ok-write_at.ensures.cause.fine false≢true) c.sync.ensures.cause

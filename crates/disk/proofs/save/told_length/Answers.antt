@@ -1,6 +1,7 @@
-use Rattle.std.proofs.Common.{◌∙◌, Err, ap, inr, sym, arith}
+use Rattle.std.proofs.Common.{◌∙◌, Err, ap, inr, sym, arith, refl}
 use Rattle.std.proofs.lemmas.Result.{err_from_is_err_and}
-use Rattle.disk.proofs.Quiet.{err_cause, no_cause}
+use Rattle.std.proofs.lemmas.Bool.{false≢true}
+use Rattle.disk.proofs.Quiet.{bad_no_disk, err_cause, no_cause, ok_no_err}
 use Rattle.disk.proofs.Records.{recorded_short, recorded_long, told_read}
 use Rattle.disk.proofs.save.told_length.Goals as goal
 
@@ -41,13 +42,13 @@ returns-in_err-read_whole-clause-others g c =
 
 pub returns-then-not-branch-clause-cause : goal.returns-then-not-branch-clause-cause
 returns-then-not-branch-clause-cause g c =
-    no_cause (c.in_ok-read_whole.ensures.cause.fine (λ is. absurd cc)) (λ is. absurd cc)
+    no_cause (c.in_ok-read_whole.ensures.cause.fine false≢true) (bad_no_disk refl)
 
 pub returns-then-len-gt-GREATEST_IMAGE-clause-cause :
     goal.returns-then-len-gt-GREATEST_IMAGE-clause-cause
 returns-then-len-gt-GREATEST_IMAGE-clause-cause g c =
-    no_cause (c.in_ok-read_whole.ensures.cause.fine (λ is. absurd cc)) (λ is. absurd cc)
+    no_cause (c.in_ok-read_whole.ensures.cause.fine false≢true) (bad_no_disk refl)
 
 pub returns-clause-cause : goal.returns-clause-cause
 returns-clause-cause g c =
-    no_cause (c.in_ok-read_whole.ensures.cause.fine (λ is. absurd cc)) (λ is. absurd cc)
+    no_cause (c.in_ok-read_whole.ensures.cause.fine false≢true) ok_no_err

@@ -1,5 +1,6 @@
 use Rattle.std.proofs.Common.{◌≡◌, [], length, true, false, sym, subst}
 use Rattle.std.proofs.lemmas.Result.{on_ok_weaker}
+use Rattle.std.proofs.lemmas.Bool.{false≢true}
 use Rattle.disk.specs.Areas.{Areas, Holds, Torn}
 use Rattle.disk.proofs.Moments.{goes_on, started}
 use Rattle.disk.proofs.Sides.{still_blank}
@@ -68,4 +69,4 @@ returns-in_err-write_at-clause-cause g c =
 
 pub returns-clause-cause : goal.returns-clause-cause
 returns-clause-cause g c =
-    later_cause (c.in_ok-write_at.ensures.cause.fine (λ is. absurd cc)) c.write_at-2.ensures.cause
+    later_cause (c.in_ok-write_at.ensures.cause.fine false≢true) c.write_at-2.ensures.cause

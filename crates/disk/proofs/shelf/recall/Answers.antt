@@ -1,4 +1,4 @@
-use Rattle.disk.proofs.Quiet.{handed_cause, no_cause}
+use Rattle.disk.proofs.Quiet.{handed_cause, no_cause, ok_no_err}
 use Rattle.std.proofs.Common.{◌≡◌, ◌≢◌, ◌∙◌, Err, ap, subst}
 use Rattle.std.proofs.lemmas.Result.{err_from_is_err_and}
 use Rattle.ids.specs.declared.refusal.Refusal.TheVariants.{Memory}
@@ -35,4 +35,4 @@ returns-in_err-in_b-clause-others g c =
 
 pub returns-clause-cause : goal.returns-clause-cause
 returns-clause-cause g c =
-    no_cause (c.in_ok-in_b.ensures.cause.fine (λ is. absurd cc)) (λ is. absurd cc)
+    no_cause (c.in_ok-in_b.ensures.cause.fine ok_no_err) ok_no_err

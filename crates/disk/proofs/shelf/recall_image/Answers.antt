@@ -1,8 +1,9 @@
 use Rattle.std.proofs.Common.{◌≡◌, ◌∙◌, Some, sym, Err, ap, inr}
 use Rattle.std.proofs.lemmas.Result.{err_from_is_err_and}
+use Rattle.std.proofs.lemmas.Bool.{false≢true}
 use Rattle.disk.specs.Areas.{part}
 use Rattle.disk.specs.Shelf.{half, recorded}
-use Rattle.disk.proofs.Quiet.{both_unmoved, err_cause, handed_cause, later_cause, no_cause}
+use Rattle.disk.proofs.Quiet.{both_unmoved, err_cause, handed_cause, later_cause, no_cause, ok_no_err}
 use Rattle.disk.proofs.Records.{recorded_tells}
 use Rattle.disk.proofs.shelf.recall_image.Goals as goal
 
@@ -46,7 +47,7 @@ pub returns-in_err-image-clause-cause : goal.returns-in_err-image-clause-cause
 returns-in_err-image-clause-cause g c =
     let exit = c.from_residual-in_err-image in
     let p = err_from_is_err_and exit.result exit.ensures.1 in
-    later_cause (c.in_ok-side.ensures.cause.fine (λ is. absurd cc))
+    later_cause (c.in_ok-side.ensures.cause.fine false≢true)
     (handed_cause (p.1 ∙ ap Err p.2) c.in_err-image.ensures.cause)
 
 pub returns-in_err-image-clause-others : goal.returns-in_err-image-clause-others
@@ -57,5 +58,5 @@ returns-in_err-image-clause-others g c =
 
 pub returns-clause-cause : goal.returns-clause-cause
 returns-clause-cause g c =
-    later_cause (c.in_ok-side.ensures.cause.fine (λ is. absurd cc))
-    (no_cause (c.in_ok-image.ensures.cause.fine (λ is. absurd cc)) (λ is. absurd cc))
+    later_cause (c.in_ok-side.ensures.cause.fine false≢true)
+    (no_cause (c.in_ok-image.ensures.cause.fine ok_no_err) ok_no_err)

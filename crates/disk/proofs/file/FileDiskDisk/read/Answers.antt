@@ -1,4 +1,5 @@
 use Rattle.std.proofs.Common.{◌∙◌, ap, subst, sym, refl}
+use Rattle.std.proofs.lemmas.Bool.{false≢true}
 use Rattle.disk.specs.Record.{leaves}
 use Rattle.disk.specs.declared.state.State.{State}
 use Rattle.disk.proofs.Times.{elapses_same}
@@ -54,7 +55,7 @@ returns-in_err-n-clause-cause g c =
 
 pub returns-then-not-holds-clause-cause : goal.returns-then-not-holds-clause-cause
 returns-then-not-holds-clause-cause g c =
-    counted_cause (c.in_ok-n.ensures.cause.fine (λ is. absurd cc)) c.fault.ensures.counted tt refl
+    counted_cause (c.in_ok-n.ensures.cause.fine false≢true) c.fault.ensures.counted tt refl
 
 pub returns-clause-cause : goal.returns-clause-cause
 returns-clause-cause g c =

@@ -1,4 +1,5 @@
 use Rattle.std.proofs.Common.{◌∙◌, ap, subst, sym, refl}
+use Rattle.std.proofs.lemmas.Bool.{false≢true}
 use Rattle.disk.specs.Crashes.{Elapses, Only}
 use Rattle.disk.specs.Record.{areas_of, leaves, left_since, moments}
 use Rattle.disk.specs.declared.memory.MemoryDisk.{MemoryDisk}
@@ -52,4 +53,4 @@ returns-then-not-write_through-clause-cause g c =
 pub returns-clause-cause : goal.returns-clause-cause
 returns-clause-cause g c =
     no_cause (c.settle.ensures.failures ∙ ap (λ m. m.failures) c.write_through.ensures)
-    (λ is. absurd cc)
+    false≢true

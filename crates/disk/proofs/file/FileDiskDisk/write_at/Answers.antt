@@ -1,4 +1,5 @@
 use Rattle.std.proofs.Common.{◌∙◌, ap, subst, sym, length, arith, refl}
+use Rattle.std.proofs.lemmas.Bool.{false≢true}
 use Rattle.disk.specs.Areas.{Changes, Torn, with_part}
 use Rattle.disk.specs.Record.{areas_of, leaves}
 use Rattle.disk.specs.declared.state.Contents.{Contents}
@@ -90,7 +91,7 @@ returns-in_err-next-clause-cause g c =
 pub returns-then-is_err-clause-cause : goal.returns-then-is_err-clause-cause
 returns-then-is_err-clause-cause g c =
     counted_cause (c.look_again.ensures.failures
-    ∙ c.in_ok-next.ensures.cause.fine (λ is. absurd cc)) c.fault.ensures.counted tt refl
+    ∙ c.in_ok-next.ensures.cause.fine false≢true) c.fault.ensures.counted tt refl
 
 pub returns-clause-cause : goal.returns-clause-cause
 returns-clause-cause g c =

@@ -1,4 +1,5 @@
 use Rattle.std.proofs.Common.{refl}
+use Rattle.std.proofs.lemmas.Bool.{false≢true}
 use Rattle.disk.proofs.Quiet.{counted_cause, no_cause}
 use Rattle.disk.proofs.memory.MemoryDiskDisk.read.Goals as goal
 
@@ -8,4 +9,4 @@ returns-then-falters-clause-cause c =
 
 pub returns-clause-cause : goal.returns-clause-cause
 returns-clause-cause c =
-    no_cause refl (λ is. absurd cc)
+    no_cause refl false≢true

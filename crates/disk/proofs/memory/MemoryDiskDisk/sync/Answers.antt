@@ -1,4 +1,5 @@
 use Rattle.std.proofs.Common.{ap, subst, sym, refl}
+use Rattle.std.proofs.lemmas.Bool.{false≢true}
 use Rattle.disk.specs.Record.{leaves}
 use Rattle.disk.specs.declared.state.State.{State}
 use Rattle.disk.proofs.Times.{elapses_same, elapses_then}
@@ -29,4 +30,4 @@ returns-then-falters-clause-cause c =
 
 pub returns-clause-cause : goal.returns-clause-cause
 returns-clause-cause c =
-    no_cause c.settle.ensures.failures (λ is. absurd cc)
+    no_cause c.settle.ensures.failures false≢true

@@ -1,4 +1,5 @@
 use Rattle.std.proofs.Common.{◌∙◌, ap, length, subst, sym, arith, refl}
+use Rattle.std.proofs.lemmas.Bool.{false≢true}
 use Rattle.disk.specs.Areas.{Changes, Torn, with_part}
 use Rattle.disk.specs.Record.{areas_of, leaves}
 use Rattle.disk.specs.declared.state.Contents.{Contents}
@@ -89,7 +90,7 @@ returns-in_err-risk-clause-cause c =
 
 pub returns-then-falters-clause-cause : goal.returns-then-falters-clause-cause
 returns-then-falters-clause-cause c =
-    counted_cause (c.in_ok-risk.ensures.cause.fine (λ is. absurd cc)) c.fault.ensures.counted tt
+    counted_cause (c.in_ok-risk.ensures.cause.fine false≢true) c.fault.ensures.counted tt
     refl
 
 pub returns-in_err-next-clause-cause : goal.returns-in_err-next-clause-cause
