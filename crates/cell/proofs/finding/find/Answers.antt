@@ -76,6 +76,3 @@ returns-in_err-keep-2-clause-cause g c =
     let p = err_from_is_err_and c.from_residual-in_err-keep-2.result
     c.from_residual-in_err-keep-2.ensures.1 in
     rw (p.1, p.2, c.in_err-keep-2.ensures.refused) (λ other. absurd (other refl))
-
-pub returns-in_err-node-clause-disks : goal.returns-in_err-node-clause-disks
-returns-in_err-node-clause-disks g c = λ apart. absurd (apart (omega arith))

@@ -1,14 +1,7 @@
-use Rattle.std.proofs.Common.{◌≡◌, ◌≢◌, ◌++◌, ◌∷◌, [], true, false, ap, sym, ◌∙◌, subst, Bool, IfErr, IsTrue}
-use Rattle.circular_buffer.specs.Buffer.{keep_last}
-use Rattle.ids.specs.declared.limits.TheConstants.{TRACE_EVENTS}
-use Rattle.ids.specs.declared.refusal.Refusal.TheVariants.{Memory}
-use Rattle.trace.specs.Lines.{call_of}
-use Rattle.trace.specs.declared.trace.Line.{Line}
-use Rattle.wire.specs.Readers.{known}
+use Rattle.std.proofs.Common.{◌≡◌, true, false, ap, sym, ◌∙◌, subst, Bool}
 use Rattle.cell.proofs.Opening.{stays-open}
-use Rattle.model.specs.Steps.{is_memory_free, is_shading}
-use Rattle.node.specs.Keeping.{met, own_step}
-use Rattle.cell.specs.Events.{outcome_of, Given}
+use Rattle.model.specs.Steps.{is_shading}
+use Rattle.node.specs.Keeping.{met}
 use Rattle.cell.specs.Cells.{CellView, GoesOn}
 use Rattle.cell.proofs.Marks.{marked-after}
 use Rattle.cell.proofs.Refusing.{never-closed}
@@ -55,38 +48,3 @@ returns-clause-goes_on g c =
       marked = marked-after _ _ c.act-answered.result _ _ _ _ said.given.acted.known said.unsaved;
       stays = λ i. record new { saved = said.saved i; places = said.places i };
     }
-
-pub returns-clause-given : goal.returns-clause-given
-returns-clause-given g c = λ _.
-    let desk = c.act-answered.new.self in
-    subst
-    (λ (v : CellView g.row.D.Denot).
-    Given c.args.event (met v.node.early c.args.event)
-    (own_step v.node.early (known v.seat).me c.args.event) c.act-answered.result v.node desk.node
-    (known v.seat) (known desk.seat)) c.self.view_is c.act-answered.ensures.given
-
-pub returns-clause-memory_free : goal.returns-clause-memory_free
-returns-clause-memory_free g c =
-    subst
-    (λ (v : CellView g.row.D.Denot).
-    IsTrue (is_memory_free v.node.core.local (met v.node.early c.args.event))
-    → IfErr c.act-answered.result (λ e. e ≢ Memory)) c.self.view_is
-    c.act-answered.ensures.memory_free
-
-pub returns-clause-shut : goal.returns-clause-shut
-returns-clause-shut g c = λ shut. (let never : ◌≡◌ {A = Bool} true false =
-    sym c.if-not-is_ready.false ∙ c.is_ready.ensures ∙ ap (λ v. v.is_open) c.self.view_is ∙ shut in
-    absurd cc)
-
-pub returns-clause-traced : goal.returns-clause-traced
-returns-clause-traced g c =
-    let line : Line = record {
-      call = call_of c.args.event;
-      outcome = outcome_of c.act-answered.result;
-    } in
-    subst
-    (λ (v : CellView g.row.D.Denot).
-    c.push-2.new.self ≡ keep_last TRACE_EVENTS (v.trace ++ line ∷ [])) c.self.view_is
-    (c.push-2.ensures
-    ∙ (λ i. keep_last TRACE_EVENTS (c.self.inside.trace
-    ++ record { call = c.of-2.ensures i; outcome = c.outcome.ensures i } ∷ [])))

@@ -1,7 +1,6 @@
-use Rattle.std.proofs.Common.{◌≡◌, ◌∙◌, ap, subst, sym, true, false, Bool}
+use Rattle.std.proofs.Common.{◌≡◌, ◌∙◌, subst, sym, true}
 use Rattle.std.proofs.lemmas.Result.{err_from_is_err_and}
 use Rattle.cell.specs.Cells.{CellView}
-use Rattle.model.specs.View.{is_other}
 use Rattle.cell.proofs.Opening.{stays-open}
 use Rattle.cell.proofs.cell.Cell.pump_out.Goals as goal
 
@@ -83,19 +82,3 @@ returns-in_err-is_sent-clause-refused g c =
       is_open = cell.shelf.ready;
       trace = cell.trace;
     }))
-
-pub returns-clause-closed : goal.returns-clause-closed
-returns-clause-closed g c = (
-  λ closed. absurd cc,
-  λ shut. (let never : ◌≡◌ {A = Bool} true false =
-      sym c.if-not-is_ready.false ∙ c.is_ready.ensures ∙ ap (λ v. v.is_open) c.self.view_is
-      ∙ shut in absurd cc),
-)
-
-pub returns-clause-no_node : goal.returns-clause-no_node
-returns-clause-no_node g c = λ _. (
-  λ closed. absurd cc,
-  λ none. (let never : ◌≡◌ {A = Bool} true false =
-      sym c.if-not-is_other.false ∙ c.is_other.ensures
-      ∙ ap (λ v. is_other v.node.core.local c.args.to) c.self.view_is ∙ none in absurd cc),
-)

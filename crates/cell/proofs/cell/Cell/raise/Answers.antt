@@ -1,4 +1,4 @@
-use Rattle.std.proofs.Common.{◌≡◌, ◌∙◌, ap, subst, sym, true, false, Bool}
+use Rattle.std.proofs.Common.{◌≡◌, ◌∙◌, subst, sym, true}
 use Rattle.cell.specs.Cells.{CellView}
 use Rattle.cell.proofs.Opening.{stays-open}
 use Rattle.cell.proofs.cell.Cell.raise.Goals as goal
@@ -34,19 +34,3 @@ returns-clause-stays g c =
       places = said.places i;
       unsaved = said.unsaved i;
     })
-
-pub returns-clause-closed : goal.returns-clause-closed
-returns-clause-closed g c = (
-  λ closed. absurd cc,
-  λ shut. (let never : ◌≡◌ {A = Bool} true false =
-      sym c.if-not-is_ready.false ∙ c.is_ready.ensures ∙ ap (λ v. v.is_open) c.self.view_is
-      ∙ shut in absurd cc),
-)
-
-pub returns-then-self-ne0-clause-closed : goal.returns-then-self-ne0-clause-closed
-returns-then-self-ne0-clause-closed g c = (
-  λ closed. absurd cc,
-  λ shut. (let never : ◌≡◌ {A = Bool} true false =
-      sym c.if-not-is_ready.false ∙ c.is_ready.ensures ∙ ap (λ v. v.is_open) c.self.view_is
-      ∙ shut in absurd cc),
-)

@@ -6,11 +6,8 @@ use Rattle.model.specs.View.{kept_view}
 use Rattle.node.specs.Keeping.{kept_whole}
 use Rattle.image.specs.Images.{image_of}
 use Rattle.disk.specs.Areas.{Areas}
-use Rattle.model.specs.declared.step.Step.TheVariants as step
-use Rattle.wire.specs.Readers.{known, IsSame}
 use Rattle.cell.specs.Cells.{CellView}
 use Rattle.cell.specs.Disks.{OpensTo, OpensToEither}
-use Rattle.cell.specs.Events.{saved_by, Entered}
 use Rattle.cell.proofs.Opening.{failed-left, stays-open}
 use Rattle.cell.proofs.cell.Cell.save.Goals as goal
 
@@ -96,22 +93,3 @@ returns-in-Ok-clause-done g c =
       unsaved = said.unsaved i;
       is_open = c.in-Ok.ensures.ready i;
     })
-
-pub returns-in-Ok-clause-known : goal.returns-in-Ok-clause-known
-returns-in-Ok-clause-known g c =
-    let desk = c.save-in-Ok.new.self in
-    subst (λ (v : CellView g.row.D.Denot). known desk.seat ≡ saved_by (known v.seat)) c.self.view_is
-    c.save-in-Ok.ensures.known
-
-pub returns-in-Ok-clause-entered : goal.returns-in-Ok-clause-entered
-returns-in-Ok-clause-entered g c =
-    let desk = c.save-in-Ok.new.self in
-    subst
-    (λ (v : CellView g.row.D.Denot).
-    Entered (step.Save (known v.seat).me) (known v.seat) (known desk.seat)) c.self.view_is
-    c.save-in-Ok.ensures.entered
-
-pub returns-in-Ok-clause-same : goal.returns-in-Ok-clause-same
-returns-in-Ok-clause-same g c =
-    subst (λ (v : CellView g.row.D.Denot). IsSame v.seat c.save-in-Ok.new.self.seat) c.self.view_is
-    c.save-in-Ok.ensures.same

@@ -1,5 +1,4 @@
-use Rattle.std.proofs.Common.{◌≡◌, Bool, true, false, List, Ok, refl, sym, ap, ◌∙◌, subst, Result}
-use Rattle.std.proofs.lemmas.Result.{err_from_is_err_and}
+use Rattle.std.proofs.Common.{◌≡◌, Bool, true, false, List, Ok, sym, ap, ◌∙◌, subst, Result}
 use Rattle.std.proofs.lemmas.Bool.{cond-true, cond-false}
 use Rattle.ids.specs.declared.refusal.Refusal.{Refusal}
 use Rattle.msg.specs.Grammar.{Plain}
@@ -151,35 +150,4 @@ returns-else-is_counted_answer-clause-given c =
       };
       early = c.in_ok-answer.ensures.early;
       turn = c.in_ok-answer.ensures.turn;
-    }
-
-pub returns-then-is_counted_answer-clause-unsaved :
-    goal.returns-then-is_counted_answer-clause-unsaved
-returns-then-is_counted_answer-clause-unsaved c =
-    sym (cond-true (is_counted c.in_ok-answer.answer) true c.args.self.now.is_unsaved
-    (sym c.is_counted_answer.ensures ∙ c.if-is_counted_answer.true))
-
-pub returns-else-is_counted_answer-clause-unsaved :
-    goal.returns-else-is_counted_answer-clause-unsaved
-returns-else-is_counted_answer-clause-unsaved c =
-    sym (cond-false (is_counted c.in_ok-answer.answer) true c.args.self.now.is_unsaved
-    (sym c.is_counted_answer.ensures ∙ c.if-is_counted_answer.false))
-
-pub returns-in_err-answer-clause-given : goal.returns-in_err-answer-clause-given
-returns-in_err-answer-clause-given c =
-    let desk = c.args.self.now in
-    let v = known desk.seat in
-    let said = c.in_err-answer.ensures in
-    let p = err_from_is_err_and c.from_residual.result c.from_residual.ensures.1 in
-    rw (p.1, p.2, c.requires.met)
-    record {
-      acted = record {
-        performs = said.performs;
-        states = said.states v.pair.current desk.stands.shows;
-        unchanged = said.unchanged;
-        known = refl;
-        entered = tt;
-      };
-      early = said.early;
-      turn = said.turn;
     }
