@@ -1,15 +1,24 @@
 //! What the cases of `trials` are made of: their lines as words, what they print, events, dice, how
-//! large a space is, and what is found in one at the end. A node, and a shelf over a disk, take the
-//! commands that several subjects have.
+//! large a space is, and what is found in one at the end; and the subjects that need neither a wire
+//! nor threads: nodes, bytes that are cut or changed, disks in memory and in files, arenas, and
+//! lists of steps with a collection cycle after them.
 #![tactic(auto)]
 
+pub mod arenas;
 mod case;
+pub mod collected;
+pub mod crashes;
 mod dice;
+pub mod disks;
 mod events;
+pub mod files;
 mod folders;
 mod found;
+pub mod frames;
+mod lent;
 pub mod nodes;
 mod out;
+mod random;
 mod reached;
 mod shelves;
 mod sizes;
@@ -19,6 +28,7 @@ pub use dice::Dice;
 pub use events::{event_of, own_event_of};
 pub use folders::{disks_in, nodes_in};
 pub use found::{Found, Noted, compare_letters};
+pub use lent::Lent;
 pub use out::{Out, Tally};
 pub use reached::count_reached;
 pub use shelves::{Bench, Held, area_of, node_on};

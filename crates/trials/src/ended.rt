@@ -3,13 +3,14 @@
 //! is what was reached.
 ghost use Rattle.std.specs.Prelude.{◌≡◌, IfSome, false, is_some, true};
 
+use crate::endings::{Ends, ending};
+use crate::player::{Player, REGISTERS, away, compare_all};
 use crate::quiet::turn_all;
 use crate::spaces::MANY;
 use cases::{Dice, Found, Line, Out, Stop, count_reached, disks_in, nodes_in, read};
 use disk::FileDisk;
 use ids::Refusal;
 use model::Answer;
-use players::{Ends, Player, REGISTERS, away, compare_all, ending};
 use std::alloc::{AllocError, Global};
 use std::fs::File;
 use std::rt::Files;

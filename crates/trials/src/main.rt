@@ -2,19 +2,30 @@
 //! it, whose answer is printed. `tests/README.md` lists the commands.
 #![tactic(auto)]
 
+mod cells;
 mod ended;
+mod endings;
+mod gates;
+mod mailboxes;
+mod member;
+mod names;
 mod openings;
+mod player;
+mod program;
 mod programs;
 mod quiet;
 mod revived;
+mod reviving;
+mod shared;
 mod space;
 mod spaces;
 mod threads;
 mod turning;
+mod turns;
+mod writing;
 
 use cases::nodes::{self, shape_of};
-use cases::{Line, Out, Stop, read_lines};
-use players::turns;
+use cases::{Line, Out, Stop, arenas, collected, disks, files, frames, read_lines};
 use std::alloc::Global;
 use std::fs::File;
 use std::io;
@@ -23,8 +34,6 @@ use std::rt::Files;
 use std::sync::Wait;
 use std::thread::Threads;
 use std::time::Clock;
-use subjects::{arenas, collected, disks, files, frames};
-use wired::{cells, mailboxes, names, shared};
 
 /// Output or memory was refused.
 const FAILED: u8 = 1;

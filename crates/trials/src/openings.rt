@@ -1,11 +1,10 @@
 //! Spaces that are opened on disks in memory, which can be told to fail and to crash. No worker is
 //! started.
-use cases::{Line, Out, Size, Stop, blank_disks, read};
+use cases::crashes::{change, put_crashes};
+use cases::{Lent, Line, Out, Size, Stop, blank_disks, read};
 use disk::MemoryDisk;
 use ids::Refusal;
 use std::alloc::Global;
-use subjects::Lent;
-use subjects::crashes::{change, put_crashes};
 use supervisor::{Config, OpenFault, Space};
 
 /// A case over the disks of spaces.

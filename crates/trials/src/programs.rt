@@ -2,11 +2,12 @@
 //! printed is the same in each schedule in which every try comes to its end.
 ghost use Rattle.std.specs.Prelude.{◌≡◌, false, is_some};
 
+use crate::gates::{Pauses, pause, pausing};
+use crate::program::{Program, Went, play_all};
 use crate::spaces::opened;
 use cases::Size;
 use cell::Shared;
 use disk::Disk;
-use players::{Pauses, Program, Went, pause, pausing, play_all};
 use std::alloc::{AllocError, Global};
 use std::sync::atomic::AtomicU64;
 use std::sync::{Arc, Wait};

@@ -2,13 +2,13 @@
 //! what it hadn't acknowledged comes again.
 ghost use Rattle.std.specs.Prelude.{◌≡◌, is_some, true};
 
-use crate::spaces::{MANY, opened};
-use cases::Size;
-use disk::MemoryDisk;
-use players::reviving::{
+use crate::reviving::{
     NODE, Seen, accept, ended_at, ending_gate, give, holding_gate, last_line, reads_word,
     write_word,
 };
+use crate::spaces::{MANY, opened};
+use cases::Size;
+use disk::MemoryDisk;
 use std::alloc::Global;
 use std::sync::Wait;
 use std::thread::Threads;

@@ -1,15 +1,16 @@
 //! Spaces whose nodes have workers. What is printed is the same in each schedule.
 ghost use Rattle.std.specs.Prelude.{◌≡◌, false, IfSome, is_some};
 
+use crate::gates::{Pauses, holding, pause, pausing, stage_of};
 use crate::programs::run_programs;
 use crate::revived::revive;
 use crate::space::meet;
 use crate::turning::turn_often;
+use crate::writing::is_writing;
 use cases::{Line, Out, Size, Stop, blank_disks, read};
 use disk::MemoryDisk;
 use ids::Refusal;
 use model::Event;
-use players::{Pauses, holding, is_writing, pause, pausing, stage_of};
 use std::alloc::Global;
 use std::sync::{Arc, Wait};
 use std::thread::Threads;

@@ -1,15 +1,15 @@
 //! Threads that work on one wire at once. What is printed is the same whatever their schedule.
+use crate::mailboxes::exchange_frames;
+use crate::member::{Member, finish, take_turns};
 use crate::spaces::opened;
 use cases::{Line, Out, Size, Stop, read};
 use cell::Shared;
 use disk::Disk;
-use players::{Member, finish, take_turns};
 use std::alloc::{AllocError, Global};
 use std::sync::Wait;
 use std::sync::atomic::AtomicU64;
 use std::thread::Threads;
 use supervisor::Space;
-use wired::mailboxes::exchange_frames;
 
 // The ring of a space's cells, each of which is to give so many letters.
 fn ring<'a, R: Wait, D: Disk + Drop>(

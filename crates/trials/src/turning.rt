@@ -1,8 +1,8 @@
 //! The turns of workers, one after another on one thread, without the workers of a team. It shows
 //! nothing but how long they take.
 use crate::spaces::opened;
+use crate::writing::take_turns_writing;
 use cases::Size;
-use players::take_turns_writing;
 use std::alloc::Global;
 use std::sync::Wait;
 

@@ -1,0 +1,144 @@
+//! Values in an arena, which count how often one of them is dropped. So a case shows that each
+//! value is dropped once, also by an ending arena, which no clause says.
+use crate::{Line, Out, Stop, read};
+use arena::{Arena, Fault, Key, Slot, Slots};
+use std::alloc::Global;
+use std::cell::Cell;
+
+/// A value that counts in a cell how often one like it is dropped.
+struct Counted<'a> {
+    drops: &'a Cell<u64>,
+}
+
+impl Drop for Counted<'_> {
+    fn drop(self) {
+        let Counted { drops } = self;
+        drops.set(drops.get().wrapping_add(1));
+    }
+}
+
+// How many values are stored, taken out, and stored again.
+#[derive(Clone, Copy)]
+struct Plan {
+    limit: u32,
+    stored: u32,
+    taken: u32,
+    again: u32,
+}
+
+/// A case over arenas: one of words, which commands name slots of, and those whose drops count.
+pub fn run(alloc: Global, lines: &[Line<'_>], out: &mut Out) -> Result<(), Stop> {
+    let mut arena = Arena::with_limit(alloc, 0);
+    for line in lines {
+        match out.at(line) {
+            ["limit", limit] => {
+                arena = Arena::with_limit(alloc, read(limit)?);
+                out.text("ok");
+            }
+            ["single", generation, word] => {
+                arena = single(alloc, generation, word)?;
+                out.text("ok");
+            }
+            ["drops", words @ ..] => take(alloc, words, out)?,
+            words => on_words(&mut arena, words, out)?,
+        }
+    }
+    Ok(())
+}
+
+// An arena of one slot that holds the word under this generation.
+fn single(alloc: Global, generation: &str, word: &str) -> Result<Arena<u64>, Stop> {
+    let mut slots = Slots::new(alloc, 1);
+    slots.push(Slot::Occupied(read(generation)?, read(word)?))?;
+    Arena::from_slots(1, slots, &[]).map_err(|_| Stop::Unknown)
+}
+
+// A command to the arena of words.
+fn on_words(arena: &mut Arena<u64>, words: &[&str], out: &mut Out) -> Result<(), Stop> {
+    match words {
+        ["high"] => out.show(&arena.high()),
+        ["insert", word] => put_inserted(arena.insert(read(word)?), out),
+        ["key-at", slot] => put_key(arena.key_at(read(slot)?), out),
+        ["remove", slot, generation] => put_word(arena.remove(key_of(slot, generation)?), out),
+        ["get", slot, generation] => put_word(arena.get(key_of(slot, generation)?).copied(), out),
+        _ => return Err(Stop::Unknown),
+    }
+    Ok(())
+}
+
+fn key_of(slot: &str, generation: &str) -> Result<Key, Stop> {
+    Ok(Key {
+        slot: read(slot)?,
+        generation: read(generation)?,
+    })
+}
+
+fn put_inserted(inserted: Result<Key, (u64, Fault)>, out: &mut Out) {
+    match inserted {
+        Ok(key) => put_key(Some(key), out),
+        Err((word, fault)) => out.show(&format_args!("{word} {fault:?}")),
+    }
+}
+
+fn put_key(key: Option<Key>, out: &mut Out) {
+    match key {
+        Some(Key { slot, generation }) => out.show(&format_args!("{slot}.{generation}")),
+        None => out.text("-"),
+    }
+}
+
+fn put_word(word: Option<u64>, out: &mut Out) {
+    match word {
+        Some(word) => out.show(&word),
+        None => out.text("-"),
+    }
+}
+
+// Counts the drops of an arena in which so many values are stored, taken out, and stored again.
+fn take(alloc: Global, words: &[&str], out: &mut Out) -> Result<(), Stop> {
+    let [limit, stored, taken, again] = words else {
+        return Err(Stop::Unknown);
+    };
+    let plan = Plan {
+        limit: read(limit)?,
+        stored: read(stored)?,
+        taken: read(taken)?,
+        again: read(again)?,
+    };
+    let drops = Cell::new(0);
+    let [stored, taken, again] = counts(alloc, plan, &drops);
+    let ended = drops.get();
+    out.show(&format_args!("{stored} {taken} {again} {ended}"));
+    Ok(())
+}
+
+// How many values were dropped after each part of the plan; the arena then ends.
+fn counts(alloc: Global, plan: Plan, drops: &Cell<u64>) -> [u64; 3] {
+    let mut arena = Arena::with_limit(alloc, plan.limit);
+    store(&mut arena, drops, plan.stored);
+    let stored = drops.get();
+    take_out(&mut arena, plan.taken);
+    let taken = drops.get();
+    store(&mut arena, drops, plan.again);
+    [stored, taken, drops.get()]
+}
+
+// Stores so many values; one that is refused is let go.
+fn store<'a>(arena: &mut Arena<Counted<'a>>, drops: &'a Cell<u64>, count: u32) {
+    for _ in 0..count {
+        let _ = arena.insert(Counted { drops });
+    }
+}
+
+// Takes out what the first so many slots hold first, and lets go of it.
+fn take_out(arena: &mut Arena<Counted<'_>>, count: u32) {
+    for slot in 0..count {
+        if arena.is_empty() {
+            return;
+        }
+        let _ = arena.remove(Key {
+            slot,
+            generation: 1,
+        });
+    }
+}

@@ -1,0 +1,172 @@
+//! A disk in memory, which can be told to fail and to crash. A case sees what an opening finds
+//! after each of the crashes that may come.
+use crate::{Bench, Held, Line, Out, Stop, Tally, node_on, read};
+use disk::{MemoryDisk, is_blank};
+use ids::Refusal;
+use std::alloc::Global;
+
+#[derive(Drop)]
+struct Disks {
+    alloc: Global,
+    bench: Bench<MemoryDisk>,
+    // The image that was noted as the old one.
+    old: Vec<u8>,
+}
+
+/// A case over a disk in memory.
+pub fn run(alloc: Global, lines: &[Line<'_>], out: &mut Out) -> Result<(), Stop> {
+    let mut disks = Disks::new(alloc);
+    let done = disks.take_all(lines, out);
+    drop(disks);
+    done
+}
+
+impl Disks {
+    fn new(alloc: Global) -> Disks {
+        Disks {
+            alloc,
+            bench: Bench::new(alloc),
+            old: Vec::new(alloc),
+        }
+    }
+
+    // The image of the node counts as the old one from now on.
+    fn note(&mut self, out: &mut Out) -> Result<(), Stop> {
+        let Some(node) = &self.bench.nodes.node else {
+            return Err(Stop::Unknown);
+        };
+        match image::to_bytes(self.alloc, node) {
+            Ok(bytes) => {
+                self.old = bytes;
+                out.text("ok");
+            }
+            Err(refusal) => out.refused(refusal),
+        }
+        Ok(())
+    }
+
+    // The disk is the one that a crash leaves.
+    fn crash(&mut self, fill: u8, out: &mut Out) -> Result<(), Stop> {
+        let left = after_crash(&self.bench.held, fill)?;
+        self.bench.hold(left, out);
+        Ok(())
+    }
+
+    // For each byte with which a crash may fill what wasn't synced, what the disk then opens to.
+    fn crashes(&self, out: &mut Out) -> Result<(), Stop> {
+        let Some(node) = &self.bench.nodes.node else {
+            return Err(Stop::Unknown);
+        };
+        let new = match image::to_bytes(self.alloc, node) {
+            Ok(new) => new,
+            Err(refusal) => {
+                out.refused(refusal);
+                return Ok(());
+            }
+        };
+        let mut tally = Tally::<5>::new();
+        for fill in 0..=u8::MAX {
+            let left = after_crash(&self.bench.held, fill)?;
+            tally.add(opens_to(self.alloc, left, &self.old, &new) as usize);
+        }
+        tally.put(&NAMES, out);
+        Ok(())
+    }
+
+    fn take_all(&mut self, lines: &[Line<'_>], out: &mut Out) -> Result<(), Stop> {
+        for line in lines {
+            self.take(out.at(line), out)?;
+        }
+        Ok(())
+    }
+
+    fn take(&mut self, words: &[&str], out: &mut Out) -> Result<(), Stop> {
+        match words {
+            [verb] => self.take_word(verb, words, out),
+            ["fail", k] => fail(&mut self.bench.held, read(k)?, out),
+            ["fail-once", k] => fail_once(&mut self.bench.held, read(k)?, out),
+            ["crash", fill] => self.crash(read(fill)?, out),
+            words => self.bench.take(words, out),
+        }
+    }
+
+    // A command of one word.
+    fn take_word(&mut self, verb: &str, words: &[&str], out: &mut Out) -> Result<(), Stop> {
+        match verb {
+            "fresh" => self.bench.hold(Ok(MemoryDisk::new(self.alloc)), out),
+            "crashes" => return self.crashes(out),
+            "note" => return self.note(out),
+            _ => return self.bench.take(words, out),
+        }
+        Ok(())
+    }
+}
+
+// The k-th call of the disk from now fails, and no later one.
+fn fail_once(held: &mut Held<MemoryDisk>, k: u64, out: &mut Out) -> Result<(), Stop> {
+    match held {
+        Held::Loose(disk) => disk.fail_once(k),
+        Held::Shelved(shelf) => shelf.fail_once(k),
+        Held::Nothing => return Err(Stop::Unknown),
+    }
+    out.text("ok");
+    Ok(())
+}
+
+// From now on the k-th call of the disk and all later ones fail.
+fn fail(held: &mut Held<MemoryDisk>, k: u64, out: &mut Out) -> Result<(), Stop> {
+    match held {
+        Held::Loose(disk) => disk.fail_from(k),
+        Held::Shelved(shelf) => shelf.fail_from(k),
+        Held::Nothing => return Err(Stop::Unknown),
+    }
+    out.text("ok");
+    Ok(())
+}
+
+fn after_crash(held: &Held<MemoryDisk>, fill: u8) -> Result<Result<MemoryDisk, Refusal>, Stop> {
+    match held {
+        Held::Loose(disk) => Ok(disk.after_crash(fill)),
+        Held::Shelved(shelf) => Ok(shelf.after_crash(fill)),
+        Held::Nothing => Err(Stop::Unknown),
+    }
+}
+
+/// What a disk opens to.
+#[derive(Clone, Copy)]
+enum Opening {
+    Blank,
+    Old,
+    New,
+    Other,
+    Refused,
+}
+
+const NAMES: [&str; 5] = ["blank", "old", "new", "other", "refused"];
+
+fn opens_to(alloc: Global, left: Result<MemoryDisk, Refusal>, old: &[u8], new: &[u8]) -> Opening {
+    let Ok(mut disk) = left else {
+        return Opening::Refused;
+    };
+    match is_blank(&mut disk) {
+        Ok(true) => Opening::Blank,
+        _ => which(image_on(alloc, disk), old, new),
+    }
+}
+
+// The image of the node that a disk opens to.
+fn image_on(alloc: Global, disk: MemoryDisk) -> Result<Vec<u8>, Refusal> {
+    let node = node_on(alloc, disk)?;
+    let image = image::to_bytes(alloc, &node);
+    drop(node);
+    image
+}
+
+fn which(found: Result<Vec<u8>, Refusal>, old: &[u8], new: &[u8]) -> Opening {
+    match found {
+        Ok(image) if image.as_slice() == old => Opening::Old,
+        Ok(image) if image.as_slice() == new => Opening::New,
+        Ok(_) => Opening::Other,
+        Err(_) => Opening::Refused,
+    }
+}
