@@ -4,11 +4,12 @@ ghost use Rattle.std.specs.Prelude.{◌≡◌};
 ghost use Rattle.model.specs.World.{is_own_step};
 
 use crate::random::{NODES, new_space, next_delivery, next_program_turn};
+use crate::reaching::reach;
 use crate::{Dice, Line, Out, Stop, read};
 use ids::{Ref, Refusal};
 use model::{Answer, Event, Outcome, Step};
 use std::alloc::Global;
-use world::{Sim, reach};
+use world::Sim;
 
 /// More rounds than it takes until nothing is on its way, or a cycle is swept everywhere.
 const ROUNDS: u32 = 100;

@@ -20,6 +20,7 @@ pub mod nodes;
 mod out;
 mod random;
 mod reached;
+mod reaching;
 mod shelves;
 mod sizes;
 
@@ -31,5 +32,6 @@ pub use found::{Found, Noted, compare_letters};
 pub use lent::Lent;
 pub use out::{Out, Tally};
 pub use reached::count_reached;
+pub use reaching::reach;
 pub use shelves::{Bench, Held, area_of, node_on};
 pub use sizes::{Size, blank_disks};

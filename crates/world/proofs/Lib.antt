@@ -7,8 +7,4 @@ pub mod Acks
 pub mod Held
 pub mod New
 pub mod Runs
-pub mod Finding
-pub mod Following
-pub mod Reading
-pub mod Reached
 pub mod Answers

@@ -1,4 +1,3 @@
 pub mod Shows
-pub mod Reach
 pub mod Spaces
 pub mod Answered

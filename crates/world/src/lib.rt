@@ -4,10 +4,8 @@
 #![tactic(auto)]
 
 mod headline;
-mod reaching;
 mod sim;
 
 pub use headline::laws;
 pub use model::{Answer, Event, Letter, Outcome, Step};
-pub use reaching::reach;
 pub use sim::Sim;

@@ -171,7 +171,7 @@ impl Sim {
     }
 
     /// The site of the node of this number.
-    pub(crate) fn site(&self, number: u8) -> &Site
+    pub fn site(&self, number: u8) -> &Site
         requires { number < length self.now.sites }
         ensures { result.now.site ≡ site_at self.now.sites number }
     {

@@ -1,0 +1,4 @@
+mod Finding
+mod Following
+mod Reading
+mod Reached
