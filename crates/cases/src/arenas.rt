@@ -1,6 +1,7 @@
 //! Values in an arena, which count how often one of them is dropped. So a case shows that each
 //! value is dropped once, also by an ending arena, which no clause says.
-use crate::{Line, Out, Stop, read};
+use crate::case::{Line, Stop, read};
+use crate::out::Out;
 use arena::{Arena, Fault, Key, Slot, Slots};
 use std::alloc::Global;
 use std::cell::Cell;
@@ -17,15 +18,6 @@ impl Drop for Counted<'_> {
     }
 }
 
-// How many values are stored, taken out, and stored again.
-#[derive(Clone, Copy)]
-struct Plan {
-    limit: u32,
-    stored: u32,
-    taken: u32,
-    again: u32,
-}
-
 /// A case over arenas: one of words, which commands name slots of, and those whose drops count.
 pub fn run(alloc: Global, lines: &[Line<'_>], out: &mut Out) -> Result<(), Stop> {
     let mut arena = Arena::with_limit(alloc, 0);
@@ -39,7 +31,10 @@ pub fn run(alloc: Global, lines: &[Line<'_>], out: &mut Out) -> Result<(), Stop>
                 arena = single(alloc, generation, word)?;
                 out.text("ok");
             }
-            ["drops", words @ ..] => take(alloc, words, out)?,
+            ["drops", limit, stored, taken, again] => {
+                let counts = [read(stored)?, read(taken)?, read(again)?];
+                put_drops(alloc, read(limit)?, counts, out);
+            }
             words => on_words(&mut arena, words, out)?,
         }
     }
@@ -94,33 +89,25 @@ fn put_word(word: Option<u64>, out: &mut Out) {
     }
 }
 
-// Counts the drops of an arena in which so many values are stored, taken out, and stored again.
-fn take(alloc: Global, words: &[&str], out: &mut Out) -> Result<(), Stop> {
-    let [limit, stored, taken, again] = words else {
-        return Err(Stop::Unknown);
-    };
-    let plan = Plan {
-        limit: read(limit)?,
-        stored: read(stored)?,
-        taken: read(taken)?,
-        again: read(again)?,
-    };
+// How often values were dropped in an arena in which so many are stored, taken out, and stored again,
+// after each of these; and once it has ended.
+fn put_drops(alloc: Global, limit: u32, counts: [u32; 3], out: &mut Out) {
     let drops = Cell::new(0);
-    let [stored, taken, again] = counts(alloc, plan, &drops);
+    let [stored, taken, again] = dropped(alloc, limit, counts, &drops);
     let ended = drops.get();
     out.show(&format_args!("{stored} {taken} {again} {ended}"));
-    Ok(())
 }
 
-// How many values were dropped after each part of the plan; the arena then ends.
-fn counts(alloc: Global, plan: Plan, drops: &Cell<u64>) -> [u64; 3] {
-    let mut arena = Arena::with_limit(alloc, plan.limit);
-    store(&mut arena, drops, plan.stored);
-    let stored = drops.get();
-    take_out(&mut arena, plan.taken);
-    let taken = drops.get();
-    store(&mut arena, drops, plan.again);
-    [stored, taken, drops.get()]
+// The same after each of the three; the arena then ends.
+fn dropped(alloc: Global, limit: u32, counts: [u32; 3], drops: &Cell<u64>) -> [u64; 3] {
+    let [stored, taken, again] = counts;
+    let mut arena = Arena::with_limit(alloc, limit);
+    store(&mut arena, drops, stored);
+    let after_storing = drops.get();
+    take_out(&mut arena, taken);
+    let after_taking = drops.get();
+    store(&mut arena, drops, again);
+    [after_storing, after_taking, drops.get()]
 }
 
 // Stores so many values; one that is refused is let go.

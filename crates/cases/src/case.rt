@@ -1,10 +1,11 @@
 //! A case as lines of words, and what words say. The first line that is no command ends it.
+use crate::out::Out;
 use hex::FromHexError;
 use std::alloc::{AllocError, AllocFailed, Global};
 use std::str::FromStr;
 
 /// Why a case goes no further.
-#[derive(Clone, Copy, Debug, PartialEq, Eq)]
+#[derive(Clone, Copy)]
 pub enum Stop {
     /// The line is no command, or none that can be done now.
     Unknown,
@@ -30,6 +31,24 @@ pub struct Line<'a> {
     /// Which line of the case it is, counted from 1.
     pub number: usize,
     pub words: Vec<&'a str>,
+}
+
+/// What takes the commands of a case, one after another.
+pub trait Subject {
+    /// Does what the words of a line say, and prints what comes of it.
+    fn take(&mut self, words: &[&str], out: &mut Out) -> Result<(), Stop>;
+}
+
+/// Gives the subject all lines of a case, and lets go of it.
+pub fn take_all<S: Subject + Drop>(
+    mut subject: S,
+    lines: &[Line<'_>],
+    out: &mut Out,
+) -> Result<(), Stop> {
+    for line in lines {
+        subject.take(out.at(line), out)?;
+    }
+    Ok(())
 }
 
 /// The lines of a case that hold words, but comments.

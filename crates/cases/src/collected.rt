@@ -1,15 +1,21 @@
 //! A whole cycle frees what can't be reached and nothing else, after lists of steps of programs
 //! that look random. What can be reached is worked out anew, by no means of the collector's.
-ghost use Rattle.std.specs.Prelude.{◌≡◌};
-ghost use Rattle.model.specs.World.{is_own_step};
+ghost use Rattle.std.specs.Prelude.{◌≡◌, true};
+ghost use Rattle.model.specs.Steps.{is_own};
 
-use crate::random::{NODES, new_space, next_delivery, next_program_turn};
+use crate::case::{Stop, read};
+use crate::dice::Dice;
+use crate::out::Out;
 use crate::reaching::reach;
-use crate::{Dice, Line, Out, Stop, read};
-use ids::{Ref, Refusal};
+use ids::{Ref, Refusal, Shape};
 use model::{Answer, Event, Outcome, Step};
 use std::alloc::Global;
 use world::Sim;
+
+/// How many nodes such a space has.
+const NODES: u8 = 3;
+
+const REGISTERS: u8 = 3;
 
 /// More rounds than it takes until nothing is on its way, or a cycle is swept everywhere.
 const ROUNDS: u32 = 100;
@@ -17,36 +23,11 @@ const ROUNDS: u32 = 100;
 /// More messages than a list sends from one node to another, and more slots than a node has.
 const MANY: u32 = 10_000;
 
-/// A case over lists of steps.
-pub fn run(alloc: Global, lines: &[Line<'_>], out: &mut Out) -> Result<(), Stop> {
-    for line in lines {
-        let ["collect", lists, turns, least] = out.at(line) else {
-            return Err(Stop::Unknown);
-        };
-        collect(alloc, read(lists)?, read(turns)?, read(least)?, out);
-    }
-    Ok(())
-}
-
-// So many lists of so many turns, each with a cycle after it.
-fn collect(alloc: Global, lists: u64, turns: u32, least: u64, out: &mut Out) {
-    let mut found = Found {
-        freed: 0,
-        kept: 0,
-        missing: 0,
-        left: 0,
-        unended: 0,
-    };
-    let done = run_lists(alloc, lists, turns, &mut found);
-    found.put(least, out);
-    out.done(done);
-}
-
 /// How many objects the cycles freed, and how many they kept that were reached just before them.
 /// How many references that were reached name no object after the cycle; how many objects are there
 /// then that weren't reached; how many cycles didn't come to their end.
 #[derive(Drop)]
-struct Found {
+struct Sums {
     freed: u64,
     kept: u64,
     missing: u64,
@@ -54,195 +35,249 @@ struct Found {
     unended: u64,
 }
 
-impl Found {
-    // What was wrong, and whether the lists went far enough to free so many objects, and to keep
-    // as many.
-    fn put(&self, least: u64, out: &mut Out) {
-        out.show(&self.missing);
-        out.show(&self.left);
-        out.show(&self.unended);
-        out.debug(&(self.freed >= least && self.kept >= least));
-    }
+/// A command over lists of steps.
+pub fn take(alloc: Global, words: &[&str], out: &mut Out) -> Result<(), Stop> {
+    let ["collect", lists, turns, least] = words else {
+        return Err(Stop::Unknown);
+    };
+    let mut sums = Sums {
+        freed: 0,
+        kept: 0,
+        missing: 0,
+        left: 0,
+        unended: 0,
+    };
+    let least: u64 = read(least)?;
+    let done = run_lists(alloc, read(lists)?, read(turns)?, &mut sums);
+    out.show(&sums.missing);
+    out.show(&sums.left);
+    out.show(&sums.unended);
+    out.debug(&(sums.freed >= least && sums.kept >= least));
+    out.done(done);
+    Ok(())
 }
 
-fn run_lists(alloc: Global, lists: u64, turns: u32, found: &mut Found) -> Result<(), Refusal> {
+// So many lists of so many turns, each with a cycle after it.
+fn run_lists(alloc: Global, lists: u64, turns: u32, sums: &mut Sums) -> Result<(), Refusal> {
     for seed in 0..lists {
-        run_list(alloc, Dice { state: seed }, turns, found)?;
+        run_list(alloc, seed, turns, sums)?;
     }
     Ok(())
 }
 
-fn run_list(alloc: Global, mut dice: Dice, turns: u32, found: &mut Found) -> Result<(), Refusal> {
-    let mut walk = Walk {
-        sim: new_space(alloc)?,
+fn run_list(alloc: Global, seed: u64, turns: u32, sums: &mut Sums) -> Result<(), Refusal> {
+    let mut dice = Dice {
+        state: seed,
+        first: 0,
+        registers: REGISTERS,
     };
-    walk.take_turns(&mut dice, turns);
-    let done = walk.collect(alloc, found);
-    drop(walk);
+    let mut sim = new_space(alloc)?;
+    for _turn in 0..turns {
+        take_turn(&mut sim, &mut dice);
+    }
+    let done = collect(alloc, &mut sim, sums);
+    drop(sim);
     done
 }
 
-// Whether the step may be asked of a space, which itself hands messages to nodes.
-fn is_own(step: Step) -> bool
-    ensures { result ≡ is_own_step step }
+fn new_space(alloc: Global) -> Result<Sim, Refusal> {
+    match Shape::new(NODES, u16::from(REGISTERS), 16) {
+        Some(shape) => Sim::new(alloc, shape),
+        None => Err(Refusal::NoNode),
+    }
+}
+
+// What happens next where no collection runs: a step of a program, a save with deliveries, or an
+// acknowledgement.
+fn take_turn(sim: &mut Sim, dice: &mut Dice) {
+    let node = dice.below(NODES);
+    match dice.below(16) {
+        0..=5 => act(sim, node, dice.own_event()),
+        6..=9 => act(sim, node, sent_event(dice)),
+        10 => hand(sim, other_node(dice, node), node),
+        _ => save_and_send(sim, node, other_node(dice, node)),
+    }
+}
+
+// A node other than this one.
+fn other_node(dice: &mut Dice, node: u8) -> u8 {
+    let steps = dice.below(NODES - 1).wrapping_add(1);
+    node.wrapping_add(steps) % NODES
+}
+
+// What a program may do with other nodes.
+fn sent_event(dice: &mut Dice) -> Event
+    ensures { is_own result ≡ true }
 {
-    !matches!(step, Step::Act(_, Event::Data(_) | Event::Ack(_)))
+    match dice.below(6) {
+        0 | 1 => Event::Give {
+            to: dice.below(NODES),
+            label: 0,
+            register: dice.register(),
+        },
+        2 | 3 => Event::Accept {
+            register: dice.register(),
+        },
+        _ => dice.asking_event(),
+    }
 }
 
-/// A space in which no cycle has begun yet.
-#[derive(Drop)]
-struct Walk {
-    sim: Sim,
+fn act(sim: &mut Sim, node: u8, event: Event)
+    requires { is_own event ≡ true }
+{
+    let _ = sim.act(node, event);
 }
 
-impl Walk {
-    fn take_turns(&mut self, dice: &mut Dice, turns: u32) {
-        for _turn in 0..turns {
-            for step in next_program_turn(dice, &self.sim).iter() {
-                let _outcome = self.take_step(*step);
+fn hand(sim: &mut Sim, from: u8, to: u8) {
+    let _ = sim.step(Step::Hand { from, to });
+}
+
+fn save(sim: &mut Sim, node: u8) {
+    let _ = sim.step(Step::Save(node));
+}
+
+// Whether the message of this number is new to the receiver, and was taken in.
+fn deliver(sim: &mut Sim, from: u8, to: u8, number: u64) -> bool {
+    match sim.step(Step::Deliver { from, to, number }) {
+        Ok(outcome) => outcome == Outcome::Answer(Answer::Received),
+        Err(_) => false,
+    }
+}
+
+// The number of the message that the receiver took in last from the sender.
+fn taken(sim: &Sim, from: u8, to: u8) -> u64 {
+    match sim.node(to) {
+        Some(receiver) => receiver.core().taken_from(from),
+        None => 0,
+    }
+}
+
+// A node is saved, and another one takes in messages from it: the next three, and one again.
+fn save_and_send(sim: &mut Sim, from: u8, to: u8) {
+    save(sim, from);
+    let last = taken(sim, from, to);
+    for ahead in [1, 2, 3, 0] {
+        deliver(sim, from, to, last.saturating_add(ahead));
+    }
+}
+
+// One cycle, once all messages were taken in and all nodes saved; what was reached just before it
+// against what is there after it.
+fn collect(alloc: Global, sim: &mut Sim, sums: &mut Sums) -> Result<(), Refusal> {
+    let is_settled = settle(sim);
+    if sim.count() != NODES {
+        return Err(Refusal::NoNode);
+    }
+    let reached = reach(alloc, sim, &[false; 3])?;
+    if !(run_cycle(sim, sums) && is_settled) {
+        sums.unended = sums.unended.saturating_add(1);
+    }
+    compare(sim, reached.as_slice(), sums);
+    Ok(())
+}
+
+// Whether nothing is on its way any more, and each node is as it was saved.
+fn settle(sim: &mut Sim) -> bool {
+    for _round in 0..ROUNDS {
+        if !exchange(sim) {
+            return true;
+        }
+    }
+    false
+}
+
+// Saves each node and hands over what it sent; whether anything was taken in.
+fn exchange(sim: &mut Sim) -> bool {
+    let mut is_busy = false;
+    for from in 0..NODES {
+        save(sim, from);
+        for to in 0..NODES {
+            if hand_over(sim, from, to) {
+                is_busy = true;
             }
         }
     }
+    is_busy
+}
 
-    // Takes a step, if there is one; None where it is refused.
-    fn take_step(&mut self, step: Option<Step>) -> Option<Outcome> {
-        let step = step?;
-        if !is_own(step) {
-            return None;
-        }
-        self.sim.step(step).ok()
-    }
-
-    fn act(&mut self, node: u8, event: Event) -> Option<Outcome> {
-        self.take_step(Some(Step::Act(node, event)))
-    }
-
-    // One cycle, once all messages were taken in and all nodes saved; what was reached just before
-    // it against what is there after it.
-    fn collect(&mut self, alloc: Global, found: &mut Found) -> Result<(), Refusal> {
-        let is_settled = self.settle();
-        if self.sim.count() != NODES {
-            return Err(Refusal::NoNode);
-        }
-        let reached = reach(alloc, &self.sim, &[false; 3])?;
-        if !(self.run_cycle(found) && is_settled) {
-            found.unended = found.unended.saturating_add(1);
-        }
-        self.compare(reached.as_slice(), found);
-        Ok(())
-    }
-
-    // Whether nothing is on its way any more, and each node is as it was saved.
-    fn settle(&mut self) -> bool {
-        for _round in 0..ROUNDS {
-            if !self.exchange() {
-                return true;
-            }
-        }
-        false
-    }
-
-    // Saves each node and hands over what it sent; whether anything was taken in.
-    fn exchange(&mut self) -> bool {
-        let mut is_busy = false;
-        for from in 0..NODES {
-            let _outcome = self.take_step(Some(Step::Save(from)));
-            for to in 0..NODES {
-                if self.hand_over(from, to) {
-                    is_busy = true;
-                }
-            }
-        }
-        is_busy
-    }
-
-    fn next(&self, from: u8, to: u8) -> Option<Step> {
-        next_delivery(&self.sim, from, to)
-    }
-
-    // Hands over all that was released from one node to another; whether anything was taken in.
-    fn hand_over(&mut self, from: u8, to: u8) -> bool {
-        for taken in 0..MANY {
-            let next = self.next(from, to);
-            match self.take_step(next) {
-                Some(Outcome::Answer(Answer::Received)) => {}
-                _ => return taken > 0,
-            }
-        }
-        true
-    }
-
-    // The first cycle, without steps of programs; whether every node has swept it then.
-    fn run_cycle(&mut self, found: &mut Found) -> bool {
-        let _outcome = self.act(0, Event::Begin);
-        for _round in 0..ROUNDS {
-            for node in 0..NODES {
-                self.work(node, found);
-            }
-            self.exchange();
-            if self.has_swept() {
-                return true;
-            }
-        }
-        false
-    }
-
-    // All that the collector may do at a node now.
-    fn work(&mut self, node: u8, found: &mut Found) {
-        for _object in 0..MANY {
-            if self.act(node, Event::Scan).is_none() {
-                break;
-            }
-        }
-        let _passed = self.act(node, Event::Pass);
-        if let Some(Outcome::Answer(Answer::Freed { count, .. })) = self.act(
-            node,
-            Event::Sweep { count: MANY },
-        ) {
-            found.freed = found.freed.saturating_add(u64::from(count));
+// Hands over all that was released from one node to another; whether anything was taken in.
+fn hand_over(sim: &mut Sim, from: u8, to: u8) -> bool {
+    for count in 0..MANY {
+        let next = taken(sim, from, to).saturating_add(1);
+        if !deliver(sim, from, to, next) {
+            return count > 0;
         }
     }
+    true
+}
 
-    fn has_swept(&self) -> bool {
-        for number in 0..NODES {
-            match self.sim.state(number) {
-                Some(summary) if summary.swept == 1 => {}
-                _ => return false,
-            }
+// The first cycle, without steps of programs; whether every node has swept it then.
+fn run_cycle(sim: &mut Sim, sums: &mut Sums) -> bool {
+    act(sim, 0, Event::Begin);
+    for _round in 0..ROUNDS {
+        for node in 0..NODES {
+            work(sim, node, sums);
         }
-        true
-    }
-
-    // The references come once each, so where all name objects and there are no more objects than
-    // these, they are the same.
-    fn compare(&self, reached: &[Ref], found: &mut Found) {
-        let mut kept = 0_u64;
-        for reference in reached {
-            if self.is_there(*reference) {
-                kept = kept.saturating_add(1);
-            } else {
-                found.missing = found.missing.saturating_add(1);
-            }
-        }
-        found.kept = found.kept.saturating_add(kept);
-        found.left = found.left.saturating_add(self.live().saturating_sub(kept));
-    }
-
-    fn is_there(&self, reference: Ref) -> bool {
-        match self.sim.node(reference.node) {
-            Some(node) => node.core().is_live(reference),
-            None => false,
+        exchange(sim);
+        if has_swept(sim) {
+            return true;
         }
     }
+    false
+}
 
-    // How many objects there are.
-    fn live(&self) -> u64 {
-        let mut live = 0_u64;
-        for number in 0..NODES {
-            if let Some(summary) = self.sim.state(number) {
-                live = live.saturating_add(u64::from(summary.live));
-            }
+// All that the collector may do at a node now.
+fn work(sim: &mut Sim, node: u8, sums: &mut Sums) {
+    for _object in 0..MANY {
+        if sim.act(node, Event::Scan).is_err() {
+            break;
         }
-        live
     }
+    act(sim, node, Event::Pass);
+    if let Ok(Answer::Freed { count, .. }) = sim.act(node, Event::Sweep { count: MANY }) {
+        sums.freed = sums.freed.saturating_add(u64::from(count));
+    }
+}
+
+fn has_swept(sim: &Sim) -> bool {
+    for number in 0..NODES {
+        match sim.state(number) {
+            Some(summary) if summary.swept == 1 => {}
+            _ => return false,
+        }
+    }
+    true
+}
+
+// The references come once each, so where all name objects and there are no more objects than
+// these, they are the same.
+fn compare(sim: &Sim, reached: &[Ref], sums: &mut Sums) {
+    let mut kept = 0_u64;
+    for reference in reached {
+        if is_there(sim, *reference) {
+            kept = kept.saturating_add(1);
+        } else {
+            sums.missing = sums.missing.saturating_add(1);
+        }
+    }
+    sums.kept = sums.kept.saturating_add(kept);
+    sums.left = sums.left.saturating_add(live(sim).saturating_sub(kept));
+}
+
+fn is_there(sim: &Sim, reference: Ref) -> bool {
+    match sim.node(reference.node) {
+        Some(node) => node.core().is_live(reference),
+        None => false,
+    }
+}
+
+// How many objects there are.
+fn live(sim: &Sim) -> u64 {
+    let mut live = 0_u64;
+    for number in 0..NODES {
+        if let Some(summary) = sim.state(number) {
+            live = live.saturating_add(u64::from(summary.live));
+        }
+    }
+    live
 }

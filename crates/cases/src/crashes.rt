@@ -1,5 +1,7 @@
 //! A disk of a space, which can be told to fail and to crash, and what it then opens to.
-use crate::{Out, Stop, Tally, node_on, read};
+use crate::case::{Stop, read};
+use crate::out::{Out, count, put_tally};
+use crate::shelves::node_on;
 use disk::{MemoryDisk, is_blank};
 use ids::Refusal;
 use std::alloc::Global;
@@ -23,36 +25,29 @@ pub fn change(disk: &mut MemoryDisk, verb: &str, number: &str, out: &mut Out) ->
 }
 
 /// What a disk opens to.
-#[derive(Clone, Copy)]
-enum Found {
-    Blank,
-    Node,
-    Other,
-    Refused,
-}
-
 const NAMES: [&str; 4] = ["blank", "node", "other", "refused"];
 
 /// For each byte with which a crash may fill what wasn't synced, what the disk of this node then
 /// opens to.
 pub fn put_crashes(alloc: Global, disk: &MemoryDisk, node: u8, out: &mut Out) {
-    let mut tally = Tally::<4>::new();
+    let mut tally = [0; 5];
     for fill in 0..=u8::MAX {
-        tally.add(opens_to(alloc, disk.after_crash(fill), node) as usize);
+        count(&mut tally, opens_to(alloc, disk.after_crash(fill), node));
     }
-    tally.put(&NAMES, out);
+    put_tally(&NAMES, &tally, out);
 }
 
-fn opens_to(alloc: Global, left: Result<MemoryDisk, Refusal>, own: u8) -> Found {
+// The place of that among `NAMES`.
+fn opens_to(alloc: Global, left: Result<MemoryDisk, Refusal>, own: u8) -> usize {
     let Ok(mut disk) = left else {
-        return Found::Refused;
+        return 3;
     };
     if is_blank(&mut disk) == Ok(true) {
-        return Found::Blank;
+        return 0;
     }
     match node_on(alloc, disk) {
-        Ok(node) if node.state().own == own => Found::Node,
-        Ok(_) => Found::Other,
-        Err(_) => Found::Refused,
+        Ok(node) if node.state().own == own => 1,
+        Ok(_) => 2,
+        Err(_) => 3,
     }
 }

@@ -1,28 +1,24 @@
 //! A disk in memory, which can be told to fail and to crash. A case sees what an opening finds
 //! after each of the crashes that may come.
-use crate::{Bench, Held, Line, Out, Stop, Tally, node_on, read};
+use crate::case::{Stop, Subject, read};
+use crate::out::{Out, count, put_tally};
+use crate::shelves::{Bench, Held, node_on};
 use disk::{MemoryDisk, is_blank};
 use ids::Refusal;
 use std::alloc::Global;
 
+/// A disk in memory, and the image that it may go back to.
 #[derive(Drop)]
-struct Disks {
+pub struct Disks {
     alloc: Global,
     bench: Bench<MemoryDisk>,
     // The image that was noted as the old one.
     old: Vec<u8>,
 }
 
-/// A case over a disk in memory.
-pub fn run(alloc: Global, lines: &[Line<'_>], out: &mut Out) -> Result<(), Stop> {
-    let mut disks = Disks::new(alloc);
-    let done = disks.take_all(lines, out);
-    drop(disks);
-    done
-}
-
 impl Disks {
-    fn new(alloc: Global) -> Disks {
+    /// No disk yet.
+    pub fn new(alloc: Global) -> Disks {
         Disks {
             alloc,
             bench: Bench::new(alloc),
@@ -64,30 +60,13 @@ impl Disks {
                 return Ok(());
             }
         };
-        let mut tally = Tally::<5>::new();
+        let mut tally = [0; 5];
         for fill in 0..=u8::MAX {
             let left = after_crash(&self.bench.held, fill)?;
-            tally.add(opens_to(self.alloc, left, &self.old, &new) as usize);
+            count(&mut tally, opens_to(self.alloc, left, &self.old, &new));
         }
-        tally.put(&NAMES, out);
+        put_tally(&NAMES, &tally, out);
         Ok(())
-    }
-
-    fn take_all(&mut self, lines: &[Line<'_>], out: &mut Out) -> Result<(), Stop> {
-        for line in lines {
-            self.take(out.at(line), out)?;
-        }
-        Ok(())
-    }
-
-    fn take(&mut self, words: &[&str], out: &mut Out) -> Result<(), Stop> {
-        match words {
-            [verb] => self.take_word(verb, words, out),
-            ["fail", k] => fail(&mut self.bench.held, read(k)?, out),
-            ["fail-once", k] => fail_once(&mut self.bench.held, read(k)?, out),
-            ["crash", fill] => self.crash(read(fill)?, out),
-            words => self.bench.take(words, out),
-        }
     }
 
     // A command of one word.
@@ -99,6 +78,18 @@ impl Disks {
             _ => return self.bench.take(words, out),
         }
         Ok(())
+    }
+}
+
+impl Subject for Disks {
+    fn take(&mut self, words: &[&str], out: &mut Out) -> Result<(), Stop> {
+        match words {
+            [verb] => self.take_word(verb, words, out),
+            ["fail", k] => fail(&mut self.bench.held, read(k)?, out),
+            ["fail-once", k] => fail_once(&mut self.bench.held, read(k)?, out),
+            ["crash", fill] => self.crash(read(fill)?, out),
+            words => self.bench.take(words, out),
+        }
     }
 }
 
@@ -133,24 +124,21 @@ fn after_crash(held: &Held<MemoryDisk>, fill: u8) -> Result<Result<MemoryDisk, R
 }
 
 /// What a disk opens to.
-#[derive(Clone, Copy)]
-enum Opening {
-    Blank,
-    Old,
-    New,
-    Other,
-    Refused,
-}
-
 const NAMES: [&str; 5] = ["blank", "old", "new", "other", "refused"];
 
-fn opens_to(alloc: Global, left: Result<MemoryDisk, Refusal>, old: &[u8], new: &[u8]) -> Opening {
+// The place of that among `NAMES`.
+fn opens_to(alloc: Global, left: Result<MemoryDisk, Refusal>, old: &[u8], new: &[u8]) -> usize {
     let Ok(mut disk) = left else {
-        return Opening::Refused;
+        return 4;
     };
-    match is_blank(&mut disk) {
-        Ok(true) => Opening::Blank,
-        _ => which(image_on(alloc, disk), old, new),
+    if is_blank(&mut disk) == Ok(true) {
+        return 0;
+    }
+    match image_on(alloc, disk) {
+        Ok(image) if image.as_slice() == old => 1,
+        Ok(image) if image.as_slice() == new => 2,
+        Ok(_) => 3,
+        Err(_) => 4,
     }
 }
 
@@ -160,13 +148,4 @@ fn image_on(alloc: Global, disk: MemoryDisk) -> Result<Vec<u8>, Refusal> {
     let image = image::to_bytes(alloc, &node);
     drop(node);
     image
-}
-
-fn which(found: Result<Vec<u8>, Refusal>, old: &[u8], new: &[u8]) -> Opening {
-    match found {
-        Ok(image) if image.as_slice() == old => Opening::Old,
-        Ok(image) if image.as_slice() == new => Opening::New,
-        Ok(_) => Opening::Other,
-        Err(_) => Opening::Refused,
-    }
 }

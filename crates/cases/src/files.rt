@@ -1,6 +1,8 @@
 //! Disks in files of a folder, some of which fail as they are told to. Those that fail stand in for
 //! files of the system, call by call.
-use crate::{Bench, Line, Out, Stop, area_of, bytes_of};
+use crate::case::{Line, Stop, Subject, bytes_of, take_all};
+use crate::out::Out;
+use crate::shelves::{Bench, area_of};
 use disk::{Area, FileDisk, MemoryDisk};
 use ids::Refusal;
 use std::alloc::Global;
@@ -17,10 +19,7 @@ pub fn run<R: Files<File = File> + Print + AllocGlobal>(
     out: &mut Out,
 ) -> Result<(), Stop> {
     let plans = Plans::new();
-    let mut folders = Folders::new(rt, &plans);
-    let done = folders.take_all(lines, out);
-    drop(folders);
-    done
+    take_all(Folders::new(rt, &plans), lines, out)
 }
 
 #[derive(Drop)]
@@ -63,15 +62,7 @@ impl<'a, R: Files<File = File> + Print + AllocGlobal> Folders<'a, R> {
         Ok(())
     }
 
-    fn take_all(&mut self, lines: &[Line<'_>], out: &mut Out) -> Result<(), Stop> {
-        for line in lines {
-            self.take(out.at(line), out)?;
-            out.flush(self.rt);
-        }
-        Ok(())
-    }
-
-    fn take(&mut self, words: &[&str], out: &mut Out) -> Result<(), Stop> {
+    fn take_words(&mut self, words: &[&str], out: &mut Out) -> Result<(), Stop> {
         match words {
             ["at", path] => {
                 let path = below(path)?;
@@ -83,6 +74,14 @@ impl<'a, R: Files<File = File> + Print + AllocGlobal> Folders<'a, R> {
             ["flaky", words @ ..] => self.take_flaky(words, out),
             words => self.bench.take(words, out),
         }
+    }
+}
+
+impl<R: Files<File = File> + Print + AllocGlobal> Subject for Folders<'_, R> {
+    fn take(&mut self, words: &[&str], out: &mut Out) -> Result<(), Stop> {
+        self.take_words(words, out)?;
+        out.flush(self.rt);
+        Ok(())
     }
 }
 

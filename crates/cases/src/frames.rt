@@ -1,28 +1,14 @@
 //! Bytes that are cut or changed: what is still read as a frame or as a node. What is read is to be
 //! spelled so again.
-use crate::{Line, Out, Stop, Tally, bytes_of};
+use crate::case::{Stop, bytes_of};
+use crate::out::{Out, Tally, count, put_tally};
 use ids::Refusal;
 use msg::{decode, encode};
 use std::alloc::{AllocError, Global};
 
-/// What becomes of bytes.
-#[derive(Clone, Copy)]
-enum Met {
-    /// They are what they are read as, spelled again.
-    Read,
-    /// They are refused, as no spelling.
-    Refused,
-    Other,
-}
-
+/// What becomes of bytes: they are what they are read as, spelled again; they are refused, as no
+/// spelling; or anything else.
 const NAMES: [&str; 3] = ["read", "refused", "other"];
-
-/// What bytes may spell.
-#[derive(Clone, Copy, PartialEq, Eq)]
-enum Kind {
-    Frame,
-    Image,
-}
 
 // The bytes that the frame has which these spell.
 fn frame_again(alloc: Global, bytes: &[u8]) -> Result<Vec<u8>, Refusal> {
@@ -37,90 +23,73 @@ fn image_again(alloc: Global, bytes: &[u8]) -> Result<Vec<u8>, Refusal> {
     again
 }
 
-fn became(again: Result<Vec<u8>, Refusal>, bytes: &[u8]) -> Met {
-    match again {
-        Ok(again) if again.as_slice() == bytes => Met::Read,
-        Err(Refusal::BadFrame | Refusal::BadImage) => Met::Refused,
-        _ => Met::Other,
-    }
-}
-
-fn meet(alloc: Global, kind: Kind, bytes: &[u8]) -> usize {
-    let again = match kind {
-        Kind::Frame => frame_again(alloc, bytes),
-        Kind::Image => image_again(alloc, bytes),
+// The place among `NAMES` of what becomes of the bytes, as a frame or as an image.
+fn meet(alloc: Global, is_frame: bool, bytes: &[u8]) -> usize {
+    let again = if is_frame {
+        frame_again(alloc, bytes)
+    } else {
+        image_again(alloc, bytes)
     };
-    became(again, bytes) as usize
-}
-
-fn read_once(alloc: Global, kind: Kind, bytes: &[u8]) -> Tally<3> {
-    let mut tally = Tally::<3>::new();
-    tally.add(meet(alloc, kind, bytes));
-    tally
+    match again {
+        Ok(again) if again.as_slice() == bytes => 0,
+        Err(Refusal::BadFrame | Refusal::BadImage) => 1,
+        _ => 2,
+    }
 }
 
 // All shorter beginnings of the bytes, and these with one byte more.
-fn cut(alloc: Global, kind: Kind, bytes: &[u8]) -> Result<Tally<3>, AllocError> {
-    let mut tally = Tally::<3>::new();
+fn cut(
+    alloc: Global,
+    is_frame: bool,
+    mut bytes: Vec<u8>,
+    tally: &mut Tally,
+) -> Result<(), AllocError> {
     for len in 0..bytes.len() {
-        tally.add(meet(alloc, kind, &bytes[..len]));
+        count(tally, meet(alloc, is_frame, &bytes[..len]));
     }
-    let mut longer = Vec::from_slice(alloc, bytes)?;
-    longer.push(0)?;
-    tally.add(meet(alloc, kind, &longer));
-    Ok(tally)
+    bytes.push(0)?;
+    count(tally, meet(alloc, is_frame, &bytes));
+    Ok(())
 }
 
 // The bytes with each value in this place.
-fn change_one(alloc: Global, kind: Kind, bytes: &mut [u8], at: usize, tally: &mut Tally<3>) {
+fn change_one(alloc: Global, is_frame: bool, bytes: &mut [u8], at: usize, tally: &mut Tally) {
     if at >= bytes.len() {
         return;
     }
     let before = bytes[at];
     for value in 0..=u8::MAX {
         bytes[at] = value;
-        tally.add(meet(alloc, kind, bytes));
+        count(tally, meet(alloc, is_frame, bytes));
     }
     bytes[at] = before;
 }
 
 // The bytes with each value in each place.
-fn change(alloc: Global, kind: Kind, mut bytes: Vec<u8>) -> Tally<3> {
-    let mut tally = Tally::<3>::new();
+fn change(alloc: Global, is_frame: bool, mut bytes: Vec<u8>, tally: &mut Tally) {
     for at in 0..bytes.len() {
-        change_one(alloc, kind, &mut bytes, at, &mut tally);
-    }
-    tally
-}
-
-fn kind_of(word: &str) -> Result<Kind, Stop> {
-    match word {
-        "frame" => Ok(Kind::Frame),
-        "image" => Ok(Kind::Image),
-        _ => Err(Stop::Unknown),
+        change_one(alloc, is_frame, &mut bytes, at, tally);
     }
 }
 
-/// A case over bytes that may spell a frame or a node.
-pub fn run(alloc: Global, lines: &[Line<'_>], out: &mut Out) -> Result<(), Stop> {
-    for line in lines {
-        take(alloc, out.at(line), out)?;
-    }
-    Ok(())
-}
-
-fn take(alloc: Global, words: &[&str], out: &mut Out) -> Result<(), Stop> {
+/// A command over bytes that may spell a frame or a node.
+pub fn take(alloc: Global, words: &[&str], out: &mut Out) -> Result<(), Stop> {
     let [verb, kind, digits] = words else {
         return Err(Stop::Unknown);
     };
-    let kind = kind_of(kind)?;
-    let bytes = bytes_of(alloc, digits)?;
-    let tally = match *verb {
-        "read" => read_once(alloc, kind, &bytes),
-        "cuts" => cut(alloc, kind, &bytes)?,
-        "changes" => change(alloc, kind, bytes),
+    let is_frame = match *kind {
+        "frame" => true,
+        "image" => false,
         _ => return Err(Stop::Unknown),
     };
-    tally.put(&NAMES, out);
+    let bytes = bytes_of(alloc, digits)?;
+    let mut tally = [0; 5];
+    match *verb {
+        "read" => count(&mut tally, meet(alloc, is_frame, &bytes)),
+        "cuts" => cut(alloc, is_frame, bytes, &mut tally)?,
+        "changes" => change(alloc, is_frame, bytes, &mut tally),
+        _ => return Err(Stop::Unknown),
+    }
+    put_tally(&NAMES, &tally, out);
     Ok(())
 }

@@ -1,6 +1,6 @@
 //! A disk, and a shelf over it that keeps the node of the case. In memory and in files it takes the
 //! same commands.
-use crate::case::{Stop, bytes_of, read};
+use crate::case::{Stop, Subject, bytes_of, read};
 use crate::nodes::Nodes;
 use crate::out::Out;
 use disk::{Area, Disk, DiskFault, MemoryDisk, Shelf, is_blank};
@@ -101,9 +101,10 @@ impl<D: Disk + Drop> Bench<D> {
         Ok(())
     }
 
-    fn leave(&mut self, out: &mut Out) {
+    fn leave(&mut self, out: &mut Out) -> Result<(), Stop> {
         drop(mem::replace(&mut self.held, Held::Nothing));
         out.text("ok");
+        Ok(())
     }
 
     // A command of one word.
@@ -113,16 +114,14 @@ impl<D: Disk + Drop> Bench<D> {
             "open" => self.open(out),
             "save" => self.save(1, out),
             "reopen" => self.reopen(out),
-            "leave" => {
-                self.leave(out);
-                Ok(())
-            }
+            "leave" => self.leave(out),
             _ => self.nodes.take(words, out),
         }
     }
+}
 
-    /// A command to the disk, the shelf or the node.
-    pub fn take(&mut self, words: &[&str], out: &mut Out) -> Result<(), Stop> {
+impl<D: Disk + Drop> Subject for Bench<D> {
+    fn take(&mut self, words: &[&str], out: &mut Out) -> Result<(), Stop> {
         match words {
             ["repeat", count, "save"] => self.save(read(count)?, out),
             ["disk", words @ ..] => match &mut self.held {

@@ -4,11 +4,12 @@ ghost use Rattle.std.specs.Prelude.{◌≡◌, true, All, IfOk};
 ghost use Rattle.model.specs.Steps.{is_own};
 ghost use Rattle.wire.specs.Readers.{IsSeatOf, IsWatchOf};
 
-use cases::nodes::{InNumbers, put_frame, put_image};
-use cases::{Line, Out, Stop, blank_disks, node_on, own_event_of, read};
+use cases::nodes::{put_frame, put_image};
+use cases::{Line, Out, Stop, Subject, blank_disks, event_of, node_on, read, take_all};
 use cell::{Cell, Unopened};
 use disk::MemoryDisk;
 use ids::{Refusal, Shape};
+use lines::SummaryText;
 use model::{Answer, Event};
 use node::Node;
 use std::alloc::Global;
@@ -128,15 +129,13 @@ fn on_wire(
 ) -> Result<Result<(), Stop>, Refusal> {
     let (wire, cells, watch) = open_cells(alloc, shape)?;
     let cells = seat_all(alloc, &wire, cells)?;
-    let mut subject = Cells {
+    let cells = Cells {
         alloc,
         wire: &wire,
         watch,
         cells,
     };
-    let done = subject.take_all(lines, out);
-    drop(subject);
-    Ok(done)
+    Ok(take_all(cells, lines, out))
 }
 
 // The cells of a case, and a watch that hears nothing.
@@ -154,14 +153,9 @@ impl Cells<'_> {
         let seen = self.wire.look(&mut self.watch);
         out.show(&seen.number);
     }
+}
 
-    fn take_all(&mut self, lines: &[Line<'_>], out: &mut Out) -> Result<(), Stop> {
-        for line in lines {
-            self.take(out.at(line), out)?;
-        }
-        Ok(())
-    }
-
+impl Subject for Cells<'_> {
     fn take(&mut self, words: &[&str], out: &mut Out) -> Result<(), Stop> {
         match words {
             ["look"] => {
@@ -215,7 +209,7 @@ fn ask(alloc: Global, seated: &mut Seated<'_>, words: &[&str], out: &mut Out) ->
                 out,
             );
         }
-        words => return act(seated, words, out),
+        words => return act(alloc, seated, words, out),
     }
     Ok(())
 }
@@ -229,34 +223,32 @@ fn ask_word(
 ) -> Result<(), Stop> {
     match verb {
         "unsaved" => out.debug(&seated.is_unsaved()),
-        "state" => out.show(&InNumbers(seated.cell.node().state())),
+        "state" => out.show(&SummaryText(seated.cell.node().state())),
         "bytes" => put_image(alloc, seated.cell.node(), out),
         "trace" => put_trace(seated, out),
-        _ => return act(seated, words, out),
+        _ => return act(alloc, seated, words, out),
     }
     Ok(())
 }
 
-fn act(seated: &mut Seated<'_>, words: &[&str], out: &mut Out) -> Result<(), Stop> {
+fn act(alloc: Global, seated: &mut Seated<'_>, words: &[&str], out: &mut Out) -> Result<(), Stop> {
     match words {
         ["repeat", count, words @ ..] => {
-            out.answer(seated.repeat(own_event_of(words)?, read(count)?));
+            out.answer(seated.repeat(event_of(alloc, words)?, read(count)?));
         }
-        words => out.answer(seated.act(own_event_of(words)?)),
+        words => out.answer(seated.act(event_of(alloc, words)?)),
     }
     Ok(())
 }
 
 fn put_trace(seated: &Seated<'_>, out: &mut Out) {
     match seated.cell.trace_lines() {
-        Ok(lines) => put_texts(&lines, out),
+        Ok(lines) => {
+            for line in &lines {
+                out.text(line.as_str());
+            }
+        }
         Err(refusal) => out.refused(refusal),
-    }
-}
-
-fn put_texts(lines: &[String], out: &mut Out) {
-    for line in lines {
-        out.text(line.as_str());
     }
 }
 
@@ -264,7 +256,7 @@ fn put_texts(lines: &[String], out: &mut Out) {
 fn put_crashed(alloc: Global, seated: &Seated<'_>, fill: u8, out: &mut Out) {
     match crashed(alloc, seated, fill) {
         Ok(node) => {
-            out.show(&InNumbers(node.state()));
+            out.show(&SummaryText(node.state()));
             drop(node);
         }
         Err(refusal) => out.refused(refusal),

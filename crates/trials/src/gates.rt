@@ -1,7 +1,7 @@
-//! Gates of workers, which pause before each turn or hold a worker up, and how long who waits
-//! pauses.
+//! Gates of workers, which pause before each turn, hold a worker up or end it, and how long who
+//! waits pauses.
 use cases::Stop;
-use std::alloc::{AllocError, Global};
+use std::alloc::Global;
 use std::sync::atomic::{AtomicBool, Ordering};
 use std::sync::{Arc, Wait};
 use std::thread;
@@ -12,12 +12,12 @@ use workers::{Gate, Point, Stage};
 const PAUSE: u64 = 200;
 
 /// Sleeps as long as a worker pauses before each turn.
-pub fn pause<R: Clock>(rt: &R) {
+pub(crate) fn pause<R: Clock>(rt: &R) {
     thread::sleep(rt, Duration::from_micros(PAUSE));
 }
 
-/// Waits until the flag is set.
-pub(crate) fn await_flag<R: Clock + Wait>(rt: &R, flag: &AtomicBool) {
+// Waits until the flag is set.
+fn await_flag<R: Clock + Wait>(rt: &R, flag: &AtomicBool) {
     for _ in rt.forever() {
         if flag.load(Ordering::SeqCst) {
             return;
@@ -28,97 +28,83 @@ pub(crate) fn await_flag<R: Clock + Wait>(rt: &R, flag: &AtomicBool) {
 
 /// A gate that never holds a worker up.
 #[derive(Drop)]
-pub struct Open;
+pub(crate) struct Open;
 
 impl Gate for Open {
     fn at(&self, _point: Point) {}
 }
 
-/// A gate that pauses before each turn.
+/// A gate that pauses before each turn. It may hold a node's worker at a stage until it may go,
+/// where another one's turn begins once the first one waits, and lets it go at its end; and it may
+/// end a worker at a point.
 #[derive(Drop)]
-pub struct Pauses<R> {
+pub(crate) struct Holds<R> {
     rt: R,
-}
-
-impl<R: Clock> Gate for Pauses<R> {
-    fn at(&self, point: Point) {
-        if point.stage == Stage::Start {
-            pause(&self.rt);
-        }
-    }
-}
-
-/// A gate that pauses before each turn.
-pub fn pausing<R: Clone + Drop>(rt: &R, alloc: Global) -> Option<Arc<Pauses<R>>> {
-    let pauses = Pauses {
-        rt: rt.clone().ok()?,
-    };
-    Arc::new(alloc, pauses).ok()
-}
-
-/// A gate that pauses before each turn, and holds a node at a stage until the other one's turn is
-/// over, which begins once the first one waits.
-#[derive(Drop)]
-pub struct Held<R> {
-    rt: R,
-    later: u8,
-    stage: Stage,
+    held: Option<(u8, Stage)>,
+    end: Option<Point>,
     waits: AtomicBool,
-    over: AtomicBool,
+    may_go: AtomicBool,
 }
 
-impl<R: Clock + Wait> Held<R> {
-    // The node that is held.
-    fn hold(&self, stage: Stage) {
-        if stage == self.stage {
-            self.waits.store(true, Ordering::SeqCst);
-            await_flag(&self.rt, &self.over);
-        }
+impl<R> Holds<R> {
+    /// From now on the worker that is held may go on.
+    pub(crate) fn let_go(&self) {
+        self.may_go.store(true, Ordering::SeqCst);
+    }
+}
+
+impl<R: Clock + Wait> Holds<R> {
+    fn hold(&self) {
+        self.waits.store(true, Ordering::SeqCst);
+        await_flag(&self.rt, &self.may_go);
     }
 
-    // The other one.
+    // The worker that isn't held.
     fn pass(&self, stage: Stage) {
         match stage {
             Stage::Start => await_flag(&self.rt, &self.waits),
-            Stage::Sent => self.over.store(true, Ordering::SeqCst),
+            Stage::Sent => self.let_go(),
             _ => {}
         }
     }
 }
 
-impl<R: Clock + Wait> Gate for Held<R> {
+impl<R: Clock + Wait> Gate for Holds<R> {
     fn at(&self, point: Point) {
         if point.stage == Stage::Start {
             pause(&self.rt);
         }
-        if point.node == self.later {
-            self.hold(point.stage);
-        } else {
-            self.pass(point.stage);
+        match self.held {
+            Some((node, _)) if node != point.node => self.pass(point.stage),
+            Some((_, stage)) if stage == point.stage => self.hold(),
+            _ => {}
         }
+    }
+
+    fn go_on(&self, point: Point) -> bool {
+        self.end != Some(point)
     }
 }
 
-/// A gate that holds node `later` at this stage until the other one's turn is over.
-pub fn holding<R: Clone + Drop>(
+/// A gate that holds this node's worker at this stage, and ends one at this point, if any.
+pub(crate) fn gate<R: Clone + Drop>(
     rt: &R,
     alloc: Global,
-    later: u8,
-    stage: Stage,
-) -> Result<Arc<Held<R>>, AllocError> {
-    let rt = rt.clone()?;
-    let held = Held {
-        rt,
-        later,
-        stage,
+    held: Option<(u8, Stage)>,
+    end: Option<Point>,
+) -> Option<Arc<Holds<R>>> {
+    let holds = Holds {
+        rt: rt.clone().ok()?,
+        held,
+        end,
         waits: AtomicBool::new(false),
-        over: AtomicBool::new(false),
+        may_go: AtomicBool::new(false),
     };
-    Ok(Arc::new(alloc, held)?)
+    Arc::new(alloc, holds).ok()
 }
 
 /// The stage of a turn that the word names.
-pub fn stage_of(word: &str) -> Result<Stage, Stop> {
+pub(crate) fn stage_of(word: &str) -> Result<Stage, Stop> {
     match word {
         "Start" => Ok(Stage::Start),
         "TakenIn" => Ok(Stage::TakenIn),

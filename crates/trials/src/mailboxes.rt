@@ -14,7 +14,7 @@ ghost use Rattle.wire.specs.Readers.{
 };
 ghost use Rattle.trials.specs.Cells.{AreSeated};
 
-use cases::{Line, Out, Stop, read};
+use cases::{Line, Out, Stop, Subject, read, take_all};
 use ids::{Cycle, NodeId, Refusal, Shape};
 use msg::{Ack, Frame, encode};
 use node::Node;
@@ -101,24 +101,6 @@ impl Joined {
         out.show(&seen.number);
     }
 
-    fn take_all(&mut self, lines: &[Line<'_>], out: &mut Out) -> Result<(), Stop> {
-        for line in lines {
-            self.take(out.at(line), out)?;
-        }
-        Ok(())
-    }
-
-    fn take(&mut self, words: &[&str], out: &mut Out) -> Result<(), Stop> {
-        match words {
-            [verb] => self.take_word(verb, out),
-            ["repeat", count] => {
-                out.answer(self.repeat(read(count)?));
-                Ok(())
-            }
-            _ => Err(Stop::Unknown),
-        }
-    }
-
     fn take_word(&mut self, verb: &str, out: &mut Out) -> Result<(), Stop> {
         match verb {
             "send" => out.answer(send(&self.wire, self.alloc, &mut self.first)),
@@ -133,14 +115,25 @@ impl Joined {
     }
 }
 
+impl Subject for Joined {
+    fn take(&mut self, words: &[&str], out: &mut Out) -> Result<(), Stop> {
+        match words {
+            [verb] => self.take_word(verb, out),
+            ["repeat", count] => {
+                out.answer(self.repeat(read(count)?));
+                Ok(())
+            }
+            _ => Err(Stop::Unknown),
+        }
+    }
+}
+
 /// A case over a wire between two new nodes.
-pub fn run(alloc: Global, lines: &[Line<'_>], out: &mut Out) -> Result<(), Stop> {
-    let Ok(mut joined) = Joined::new(alloc) else {
-        return Err(Stop::Memory);
-    };
-    let done = joined.take_all(lines, out);
-    drop(joined);
-    done
+pub(crate) fn run(alloc: Global, lines: &[Line<'_>], out: &mut Out) -> Result<(), Stop> {
+    match Joined::new(alloc) {
+        Ok(joined) => take_all(joined, lines, out),
+        Err(_) => Err(Stop::Memory),
+    }
 }
 
 // The new nodes of a shape.

@@ -1,16 +1,9 @@
 //! The limit of cycles, and laws. A law does nothing when it is called.
-use cases::{Line, Out, Stop, read};
+use cases::{Out, Stop, read};
 use ids::Cycle;
 
-/// A case over cycles and laws.
-pub fn run(lines: &[Line<'_>], out: &mut Out) -> Result<(), Stop> {
-    for line in lines {
-        take(out.at(line), out)?;
-    }
-    Ok(())
-}
-
-fn take(words: &[&str], out: &mut Out) -> Result<(), Stop> {
+/// A command over cycles and laws.
+pub(crate) fn take(words: &[&str], out: &mut Out) -> Result<(), Stop> {
     match words {
         ["cycle", number] => put(Cycle::new(read(number)?), out),
         ["laws"] => {

@@ -5,7 +5,7 @@ ghost use Rattle.std.specs.Prelude.{◌≡◌, true};
 ghost use Rattle.model.specs.Steps.{is_own};
 
 use crate::member::beside;
-use cases::{Dice, Found, Noted, compare_letters};
+use cases::{ASKED, Dice, Found, Noted, compare_letters};
 use ids::Refusal;
 use model::{Answer, Event, Letter};
 use std::alloc::{AllocError, Global};
@@ -18,29 +18,30 @@ const GIVEN: u16 = 0;
 // The register of the object whose word says which letter was taken last, and one more.
 const TAKEN: u16 = 1;
 
-// The other registers begin here, and so many they are.
+// The other registers begin here.
 const OTHERS: u16 = 2;
 
-const OTHER_COUNT: u8 = 4;
-
 /// How many registers a program uses.
-pub const REGISTERS: u16 = 6;
-
-// How many places an object has.
-const PLACES: u8 = 2;
-
-// The label of what a Get brings.
-const ASKED: u32 = u32::MAX;
+pub(crate) const REGISTERS: u16 = 6;
 
 // More letters than wait at a node.
 const LETTERS: u32 = 10_000;
+
+/// The dice of such a program.
+pub(crate) fn dice_of(seed: u64) -> Dice {
+    Dice {
+        state: seed,
+        first: OTHERS,
+        registers: 4,
+    }
+}
 
 /// The program of a node. It gives letters to the next node's program, takes those of the one
 /// before it, and for the rest does what the dice say. After each letter it writes into the word of
 /// an object how far it is, so that after a restart it knows which letters the node still knows of,
 /// but for one.
 #[derive(Drop)]
-pub struct Player {
+pub(crate) struct Player {
     next: u8,
     previous: u8,
     label: u32,
@@ -57,11 +58,6 @@ fn act<R: Wait, S: Site>(rt: &R, cell: &S, event: Event) -> Result<Answer, Refus
     cell.act(rt, event)
 }
 
-// One of the registers that the dice may change.
-fn register(dice: &mut Dice) -> u16 {
-    u16::from(dice.below(OTHER_COUNT)).saturating_add(OTHERS)
-}
-
 fn write_word<R: Wait, S: Site>(rt: &R, cell: &S, object: u16, label: u32) {
     let word = u64::from(label) + 1;
     let _ = act(rt, cell, Event::SetWord { object, word });
@@ -72,52 +68,6 @@ fn word<R: Wait, S: Site>(rt: &R, cell: &S, object: u16) -> u64 {
     match act(rt, cell, Event::Word { object }) {
         Ok(Answer::Word(word)) => word,
         _ => 0,
-    }
-}
-
-// What a program may do with what it holds.
-fn own_event(dice: &mut Dice) -> Event
-    ensures { is_own result ≡ true }
-{
-    let (object, register) = (register(dice), register(dice));
-    let place = dice.below(PLACES);
-    match dice.below(8) {
-        0..=2 => Event::Alloc {
-            register,
-            places: PLACES,
-        },
-        3 | 4 => Event::Drop { register },
-        5 => Event::Load {
-            register,
-            object,
-            place,
-        },
-        6 => Event::Clear { object, place },
-        _ => Event::Store {
-            object,
-            place,
-            register,
-        },
-    }
-}
-
-// What it may ask of another node.
-fn asking_event(dice: &mut Dice) -> Event
-    ensures { is_own result ≡ true }
-{
-    let (object, register) = (register(dice), register(dice));
-    let place = dice.below(PLACES);
-    match dice.below(2) {
-        0 => Event::Put {
-            object,
-            place,
-            register,
-        },
-        _ => Event::Get {
-            object,
-            place,
-            label: ASKED,
-        },
     }
 }
 
@@ -136,7 +86,7 @@ fn cut(letters: &mut Vec<Noted>, label: u64) {
 
 impl Player {
     /// The program of a node among so many, which has the objects for its words, and is saved so.
-    pub fn new<R: Wait, S: Site>(
+    pub(crate) fn new<R: Wait, S: Site>(
         rt: &R,
         alloc: Global,
         cell: &S,
@@ -163,13 +113,13 @@ impl Player {
     }
 
     /// Its node was restarted.
-    pub fn restart<R: Wait, S: Site>(&mut self, rt: &R, cell: &S) {
+    pub(crate) fn restart<R: Wait, S: Site>(&mut self, rt: &R, cell: &S) {
         cut(&mut self.given, word(rt, cell, GIVEN));
         cut(&mut self.taken, word(rt, cell, TAKEN));
     }
 
     /// Does something.
-    pub fn step<R: Wait, S: Site>(
+    pub(crate) fn step<R: Wait, S: Site>(
         &mut self,
         rt: &R,
         cell: &S,
@@ -177,14 +127,14 @@ impl Player {
         may_give: bool,
     ) -> Result<(), AllocError> {
         match dice.below(16) {
-            0..=3 if may_give => self.give(rt, cell, register(dice)),
-            0..=7 => self.take(rt, cell, register(dice)),
+            0..=3 if may_give => self.give(rt, cell, dice.register()),
+            0..=7 => self.take(rt, cell, dice.register()),
             8 => {
-                let _ = act(rt, cell, asking_event(dice));
+                let _ = act(rt, cell, dice.asking_event());
                 Ok(())
             }
             _ => {
-                let _ = act(rt, cell, own_event(dice));
+                let _ = act(rt, cell, dice.own_event());
                 Ok(())
             }
         }
@@ -214,8 +164,8 @@ impl Player {
         Ok(self.given.push(noted)?)
     }
 
-    /// Takes a letter, where one is there.
-    pub(crate) fn take<R: Wait, S: Site>(
+    // Takes a letter, where one is there.
+    fn take<R: Wait, S: Site>(
         &mut self,
         rt: &R,
         cell: &S,
@@ -230,8 +180,13 @@ impl Player {
         }
     }
 
-    /// Takes all letters that are there.
-    pub fn take_all<R: Wait, S: Site>(&mut self, rt: &R, cell: &S) -> Result<(), AllocError> {
+    /// Its node was restarted; it takes all letters that are there.
+    pub(crate) fn take_all<R: Wait, S: Site>(
+        &mut self,
+        rt: &R,
+        cell: &S,
+    ) -> Result<(), AllocError> {
+        self.restart(rt, cell);
         for _ in 0..LETTERS {
             self.take(rt, cell, OTHERS)?;
         }
@@ -275,7 +230,7 @@ fn after(players: &[Player], place: usize) -> Option<&Player> {
 }
 
 /// How many letters of the program in this place weren't taken yet.
-pub fn away(players: &[Player], place: usize) -> usize {
+pub(crate) fn away(players: &[Player], place: usize) -> usize {
     match (players.get(place), after(players, place)) {
         (Some(player), Some(next)) => player.given.len().saturating_sub(next.taken.len()),
         _ => 0,
@@ -283,7 +238,7 @@ pub fn away(players: &[Player], place: usize) -> usize {
 }
 
 /// What came of the letters of these programs.
-pub fn compare_all(players: &[Player], found: &mut Found) {
+pub(crate) fn compare_all(players: &[Player], found: &mut Found) {
     for (place, player) in players.iter().enumerate() {
         if let Some(next) = after(players, place) {
             compare_letters(&player.given, &next.taken, found);

@@ -6,7 +6,7 @@ ghost use Rattle.cell.specs.Names.{name_of, IsNamed};
 ghost use Rattle.wire.specs.Readers.{IsSeatOf, IsWatchOf};
 
 use crate::cells::open_cells;
-use cases::{Line, Out, Stop, own_event_of, read};
+use cases::{Line, Out, Stop, Subject, event_of, read, take_all};
 use cell::{Cell, Naming, SharedOn};
 use disk::MemoryDisk;
 use ids::{Refusal, Shape};
@@ -17,7 +17,9 @@ use wire::{Watch, Wire};
 
 // The cells, their wire, which has the name of `W` in proofs, and a watch of it.
 #[derive(Drop)]
-struct Sharing<W: Naming> {
+struct Sharing<'a, W: Naming, R> {
+    rt: &'a R,
+    alloc: Global,
     wire: Arc<Wire>,
     watch: Watch,
     cells: Vec<SharedOn<MemoryDisk, W>>,
@@ -25,13 +27,13 @@ struct Sharing<W: Naming> {
     ghost named: { W.wire ≡ Some (name_of (arc_value wire)) },
 }
 
-impl<W: Naming> Sharing<W> {
+impl<W: Naming, R: Wait> Sharing<'_, W, R> {
     // Raises what the cell's node, as saved, counts as ended; the watch is told.
-    fn raise<R: Wait>(&mut self, rt: &R, number: usize) -> Result<Result<(), Refusal>, Stop> {
+    fn raise(&mut self, number: usize) -> Result<Result<(), Refusal>, Stop> {
         let Some(cell) = self.cells.get(number) else {
             return Err(Stop::Unknown);
         };
-        match cell.raise(rt) {
+        match cell.raise(self.rt) {
             Ok(raised) => {
                 self.watch.hear(&raised);
                 Ok(Ok(()))
@@ -44,20 +46,15 @@ impl<W: Naming> Sharing<W> {
         let seen = self.wire.look(&mut self.watch);
         out.show(&seen.number);
     }
+}
 
-    fn take_all<R: Wait>(&mut self, rt: &R, lines: &[Line<'_>], out: &mut Out) -> Result<(), Stop> {
-        for line in lines {
-            self.take(rt, out.at(line), out)?;
-        }
-        Ok(())
-    }
-
-    fn take<R: Wait>(&mut self, rt: &R, words: &[&str], out: &mut Out) -> Result<(), Stop> {
+impl<W: Naming, R: Wait> Subject for Sharing<'_, W, R> {
+    fn take(&mut self, words: &[&str], out: &mut Out) -> Result<(), Stop> {
         match words {
             ["look"] => self.look(out),
-            [number, "raise"] => out.done(self.raise(rt, read(number)?)?),
+            [number, "raise"] => out.done(self.raise(read(number)?)?),
             [number, words @ ..] => match self.cells.get(read::<usize>(number)?) {
-                Some(cell) => return on_cell(rt, cell, words, out),
+                Some(cell) => return on_cell(self.rt, self.alloc, cell, words, out),
                 None => return Err(Stop::Unknown),
             },
             [] => return Err(Stop::Unknown),
@@ -69,6 +66,7 @@ impl<W: Naming> Sharing<W> {
 // A command to a cell.
 fn on_cell<R: Wait, W: Naming>(
     rt: &R,
+    alloc: Global,
     cell: &SharedOn<MemoryDisk, W>,
     words: &[&str],
     out: &mut Out,
@@ -79,7 +77,7 @@ fn on_cell<R: Wait, W: Naming>(
         ["unsaved"] => out.debug(&cell.unsaved(rt)),
         ["send", to] => out.answer(cell.pump_out(rt, read(to)?)),
         ["receive", from] => out.answer(cell.pump_in(rt, read(from)?)),
-        words => out.answer(cell.act(rt, own_event_of(words)?)),
+        words => out.answer(cell.act(rt, event_of(alloc, words)?)),
     }
     Ok(())
 }
@@ -152,8 +150,12 @@ fn named<W: Naming, R: Wait>(
     requires name { W.wire ≡ Some (name_of (arc_value wire)) }
 {
     let cells = share_all::<W>(alloc, &wire, cells)?;
-    let mut sharing = Sharing { wire, watch, cells };
-    let done = sharing.take_all(rt, lines, out);
-    drop(sharing);
-    Ok(done)
+    let sharing = Sharing {
+        rt,
+        alloc,
+        wire,
+        watch,
+        cells,
+    };
+    Ok(take_all(sharing, lines, out))
 }

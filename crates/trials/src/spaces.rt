@@ -1,13 +1,13 @@
 //! Spaces whose nodes have workers. What is printed is the same in each schedule.
 ghost use Rattle.std.specs.Prelude.{◌≡◌, false, IfSome, is_some};
 
-use crate::gates::{Pauses, holding, pause, pausing, stage_of};
+use crate::gates::{Holds, gate, pause, stage_of};
 use crate::programs::run_programs;
 use crate::revived::revive;
 use crate::space::meet;
-use crate::turning::turn_often;
-use crate::writing::is_writing;
-use cases::{Line, Out, Size, Stop, blank_disks, read};
+use crate::turning::{turn_often, writes_of};
+use cases::{Out, Size, Stop, blank_disks, read};
+use cell::Shared;
 use disk::MemoryDisk;
 use ids::Refusal;
 use model::Event;
@@ -15,18 +15,25 @@ use std::alloc::Global;
 use std::sync::{Arc, Wait};
 use std::thread::Threads;
 use std::time::Clock;
-use supervisor::{Config, Space};
+use supervisor::{Config, OpenFault, Space};
 use workers::{Report, Stage};
 
 /// More turns than a worker takes in the time that a case has.
 pub(crate) const MANY: u32 = 1_000_000;
 
+/// The configuration of a space of this size.
+pub(crate) fn config_of(alloc: Global, size: Size) -> Result<Config, OpenFault> {
+    match size.text(alloc) {
+        Ok(text) => Config::from_text(alloc, text.as_str()),
+        Err(_) => Err(OpenFault::Refused(Refusal::Memory)),
+    }
+}
+
 /// A new space in memory, of this size.
 pub(crate) fn opened(alloc: Global, size: Size) -> Option<Space<MemoryDisk>>
     ensures { IfSome result (λ s. is_some s.team ≡ false) }
 {
-    let text = size.text(alloc).ok()?;
-    let config = Config::from_text(alloc, text.as_str()).ok()?;
+    let config = config_of(alloc, size).ok()?;
     match Space::open(alloc, &config, blank_disks(alloc, size.nodes).ok()?) {
         Ok(space) => Some(space),
         Err(_) => None,
@@ -38,10 +45,10 @@ fn take_turn<R>(rt: &R, alloc: Global, later: u8, stage: Stage) -> Option<Vec<Re
 where
     R: Clock + Threads + Wait + Clone + Send + Sync + Drop + 'static,
 {
-    let gate = holding(rt, alloc, later, stage).ok()?;
+    let gate = gate(rt, alloc, Some((later, stage)), None)?;
     let mut space = opened(alloc, Size::pair(1))?;
-    let given = give(rt, &space);
-    if given.is_some() && space.start(rt, gate).is_ok() {
+    let given = give(rt, space.program(0)?, 1);
+    if given.is_ok() && space.start(rt, gate).is_ok() {
         await_end(rt, &space);
     }
     Some(space.close(rt))
@@ -57,20 +64,26 @@ fn await_end<R: Clock + Wait>(rt: &R, space: &Space<MemoryDisk>) {
     }
 }
 
-fn give<R: Wait>(rt: &R, space: &Space<MemoryDisk>) -> Option<()> {
-    let program = space.program(0)?;
+/// Node 0's program makes an object, and gives node 1 so many letters with it.
+pub(crate) fn give<R: Wait>(
+    rt: &R,
+    program: &Shared<MemoryDisk>,
+    count: u32,
+) -> Result<(), Refusal> {
     let object = Event::Alloc {
         register: 0,
         places: 0,
     };
-    program.act(rt, object).ok()?;
-    let letter = Event::Give {
-        to: 1,
-        label: 4,
-        register: 0,
-    };
-    program.act(rt, letter).ok()?;
-    Some(())
+    program.act(rt, object)?;
+    for label in 0..count {
+        let letter = Event::Give {
+            to: 1,
+            label: label + 1,
+            register: 0,
+        };
+        program.act(rt, letter)?;
+    }
+    Ok(())
 }
 
 // A space is let go while its workers have many turns left. The gate is the last thing that they
@@ -79,7 +92,7 @@ fn leave<R>(rt: &R, alloc: Global) -> Option<()>
 where
     R: Clock + Threads + Wait + Clone + Send + Sync + Drop + 'static,
 {
-    let gate = pausing(rt, alloc)?;
+    let gate = gate(rt, alloc, None, None)?;
     start(rt, alloc, &gate)?;
     for _ in rt.forever() {
         if Arc::strong_count(&gate) == 1 {
@@ -91,7 +104,7 @@ where
 }
 
 // Starts a space, and lets go of it.
-fn start<R>(rt: &R, alloc: Global, gate: &Arc<Pauses<R>>) -> Option<()>
+fn start<R>(rt: &R, alloc: Global, gate: &Arc<Holds<R>>) -> Option<()>
 where
     R: Clock + Threads + Wait + Clone + Send + Sync + Drop + 'static,
 {
@@ -119,11 +132,10 @@ fn start_all<R>(rt: &R, alloc: Global, nodes: u8) -> Option<Started>
 where
     R: Clock + Threads + Wait + Clone + Send + Sync + Drop + 'static,
 {
-    let gate = pausing(rt, alloc)?;
+    let gate = gate(rt, alloc, None, None)?;
     let size = Size {
         nodes,
-        slots: 8,
-        turns: MANY,
+        ..Size::pair(MANY)
     };
     let mut space = opened(alloc, size)?;
     let answer = space.start(rt, gate.clone().ok()?);
@@ -138,18 +150,8 @@ where
     })
 }
 
-/// A case over spaces.
-pub(crate) fn run<R>(rt: &R, alloc: Global, lines: &[Line<'_>], out: &mut Out) -> Result<(), Stop>
-where
-    R: Clock + Threads + Wait + Clone + Send + Sync + Drop + 'static,
-{
-    for line in lines {
-        take(rt, alloc, out.at(line), out)?;
-    }
-    Ok(())
-}
-
-fn take<R>(rt: &R, alloc: Global, words: &[&str], out: &mut Out) -> Result<(), Stop>
+/// A command over spaces.
+pub(crate) fn take<R>(rt: &R, alloc: Global, words: &[&str], out: &mut Out) -> Result<(), Stop>
 where
     R: Clock + Threads + Wait + Clone + Send + Sync + Drop + 'static,
 {
@@ -181,14 +183,14 @@ where
             let size = Size {
                 nodes: read(nodes)?,
                 slots: read(slots)?,
-                turns: MANY,
+                ..Size::pair(MANY)
             };
             out.debug(&run_programs(rt, alloc, size, read(rounds)?));
         }
         ["turns", nodes, objects, turns, what] => {
             let (nodes, objects) = (read(nodes)?, read(objects)?);
-            let is_writing = is_writing(what)?;
-            out.debug(&turn_often(rt, alloc, nodes, objects, read(turns)?, is_writing));
+            let (turns, writes) = (read(turns)?, writes_of(what)?);
+            out.debug(&turn_often(rt, alloc, nodes, objects, turns, writes));
         }
         _ => return Err(Stop::Unknown),
     }

@@ -2,7 +2,7 @@
 use crate::mailboxes::exchange_frames;
 use crate::member::{Member, finish, take_turns};
 use crate::spaces::opened;
-use cases::{Line, Out, Size, Stop, read};
+use cases::{Out, Size, Stop, read};
 use cell::Shared;
 use disk::Disk;
 use std::alloc::{AllocError, Global};
@@ -66,7 +66,7 @@ fn exchange<R: Threads + Wait + Sync>(
     let size = Size {
         nodes,
         slots: 2,
-        turns: 1,
+        ..Size::pair(1)
     };
     let space = opened(alloc, size)?;
     let done = exchange_in(rt, alloc, &space, nodes, letters, turns).ok();
@@ -74,20 +74,8 @@ fn exchange<R: Threads + Wait + Sync>(
     done
 }
 
-/// A case of threads.
-pub(crate) fn run<R: Threads + Wait + Sync>(
-    rt: &R,
-    alloc: Global,
-    lines: &[Line<'_>],
-    out: &mut Out,
-) -> Result<(), Stop> {
-    for line in lines {
-        take(rt, alloc, out.at(line), out)?;
-    }
-    Ok(())
-}
-
-fn take<R: Threads + Wait + Sync>(
+/// A command over threads.
+pub(crate) fn take<R: Threads + Wait + Sync>(
     rt: &R,
     alloc: Global,
     words: &[&str],

@@ -1,6 +1,6 @@
 //! Turns of a worker over a site that notes what it is asked, and answers from a script. So the
 //! calls of a turn are seen in their order.
-use cases::{Line, Out, Stop, read};
+use cases::{Out, Stop, read};
 use ids::{Ref, Refusal};
 use model::{Answer, Event};
 use std::alloc::Global;
@@ -101,15 +101,13 @@ impl Gate for Recorder {
     }
 }
 
-/// A case of turns.
-pub fn run<R: Wait>(rt: &R, alloc: Global, lines: &[Line<'_>], out: &mut Out) -> Result<(), Stop> {
-    for line in lines {
-        take(rt, alloc, out.at(line), out)?;
-    }
-    Ok(())
-}
-
-fn take<R: Wait>(rt: &R, alloc: Global, words: &[&str], out: &mut Out) -> Result<(), Stop> {
+/// A command over turns.
+pub(crate) fn take<R: Wait>(
+    rt: &R,
+    alloc: Global,
+    words: &[&str],
+    out: &mut Out,
+) -> Result<(), Stop> {
     let ["turn", node, nodes, scanned, unsaved] = words else {
         return Err(Stop::Unknown);
     };
