@@ -1,4 +1,4 @@
 mod Finding
 mod Following
 mod Reading
-mod Reached
+mod Searched

@@ -1,6 +1,6 @@
 //! Values in an arena, which count how often one of them is dropped. So a case shows that each
 //! value is dropped once, also by an ending arena, which no clause says.
-use crate::case::{Line, Stop, read};
+use crate::case::{Line, Stop, number, verb};
 use crate::out::Out;
 use arena::{Arena, Fault, Key, Slot, Slots};
 use std::alloc::Global;
@@ -22,49 +22,47 @@ impl Drop for Counted<'_> {
 pub fn run(alloc: Global, lines: &[Line<'_>], out: &mut Out) -> Result<(), Stop> {
     let mut arena = Arena::with_limit(alloc, 0);
     for line in lines {
-        match out.at(line) {
-            ["limit", limit] => {
-                arena = Arena::with_limit(alloc, read(limit)?);
+        let words = out.at(line);
+        match verb(words) {
+            "limit" => {
+                arena = Arena::with_limit(alloc, number(words, 1)?);
                 out.text("ok");
             }
-            ["single", generation, word] => {
-                arena = single(alloc, generation, word)?;
+            "single" => {
+                arena = single(alloc, number(words, 1)?, number(words, 2)?)?;
                 out.text("ok");
             }
-            ["drops", limit, stored, taken, again] => {
-                let counts = [read(stored)?, read(taken)?, read(again)?];
-                put_drops(alloc, read(limit)?, counts, out);
-            }
-            words => on_words(&mut arena, words, out)?,
+            "drops" => put_drops(alloc, words, out)?,
+            _ => on_words(&mut arena, words, out)?,
         }
     }
     Ok(())
 }
 
 // An arena of one slot that holds the word under this generation.
-fn single(alloc: Global, generation: &str, word: &str) -> Result<Arena<u64>, Stop> {
+fn single(alloc: Global, generation: u64, word: u64) -> Result<Arena<u64>, Stop> {
     let mut slots = Slots::new(alloc, 1);
-    slots.push(Slot::Occupied(read(generation)?, read(word)?))?;
+    slots.push(Slot::Occupied(generation, word))?;
     Arena::from_slots(1, slots, &[]).map_err(|_| Stop::Unknown)
 }
 
 // A command to the arena of words.
 fn on_words(arena: &mut Arena<u64>, words: &[&str], out: &mut Out) -> Result<(), Stop> {
-    match words {
-        ["high"] => out.show(&arena.high()),
-        ["insert", word] => put_inserted(arena.insert(read(word)?), out),
-        ["key-at", slot] => put_key(arena.key_at(read(slot)?), out),
-        ["remove", slot, generation] => put_word(arena.remove(key_of(slot, generation)?), out),
-        ["get", slot, generation] => put_word(arena.get(key_of(slot, generation)?).copied(), out),
+    match verb(words) {
+        "high" => out.show(&arena.high()),
+        "insert" => put_inserted(arena.insert(number(words, 1)?), out),
+        "key-at" => put_key(arena.key_at(number(words, 1)?), out),
+        "remove" => put_word(arena.remove(key_of(words)?), out),
+        "get" => put_word(arena.get(key_of(words)?).copied(), out),
         _ => return Err(Stop::Unknown),
     }
     Ok(())
 }
 
-fn key_of(slot: &str, generation: &str) -> Result<Key, Stop> {
+fn key_of(words: &[&str]) -> Result<Key, Stop> {
     Ok(Key {
-        slot: read(slot)?,
-        generation: read(generation)?,
+        slot: number(words, 1)?,
+        generation: number(words, 2)?,
     })
 }
 
@@ -89,13 +87,16 @@ fn put_word(word: Option<u64>, out: &mut Out) {
     }
 }
 
-// How often values were dropped in an arena in which so many are stored, taken out, and stored again,
-// after each of these; and once it has ended.
-fn put_drops(alloc: Global, limit: u32, counts: [u32; 3], out: &mut Out) {
+// How often values were dropped in an arena in which so many are stored, taken out, and stored
+// again, after each of these; and once it has ended.
+fn put_drops(alloc: Global, words: &[&str], out: &mut Out) -> Result<(), Stop> {
+    let limit = number(words, 1)?;
+    let counts = [number(words, 2)?, number(words, 3)?, number(words, 4)?];
     let drops = Cell::new(0);
     let [stored, taken, again] = dropped(alloc, limit, counts, &drops);
     let ended = drops.get();
     out.show(&format_args!("{stored} {taken} {again} {ended}"));
+    Ok(())
 }
 
 // The same after each of the three; the arena then ends.

@@ -3,7 +3,7 @@
 ghost use Rattle.std.specs.Prelude.{◌≡◌, true};
 ghost use Rattle.model.specs.Steps.{is_own};
 
-use crate::case::{Stop, read};
+use crate::case::{Stop, number, verb};
 use crate::dice::Dice;
 use crate::out::Out;
 use crate::reaching::reach;
@@ -37,9 +37,11 @@ struct Sums {
 
 /// A command over lists of steps.
 pub fn take(alloc: Global, words: &[&str], out: &mut Out) -> Result<(), Stop> {
-    let ["collect", lists, turns, least] = words else {
+    if verb(words) != "collect" {
         return Err(Stop::Unknown);
-    };
+    }
+    let (lists, turns) = (number(words, 1)?, number(words, 2)?);
+    let least: u64 = number(words, 3)?;
     let mut sums = Sums {
         freed: 0,
         kept: 0,
@@ -47,8 +49,7 @@ pub fn take(alloc: Global, words: &[&str], out: &mut Out) -> Result<(), Stop> {
         left: 0,
         unended: 0,
     };
-    let least: u64 = read(least)?;
-    let done = run_lists(alloc, read(lists)?, read(turns)?, &mut sums);
+    let done = run_lists(alloc, lists, turns, &mut sums);
     out.show(&sums.missing);
     out.show(&sums.left);
     out.show(&sums.unended);

@@ -1,26 +1,32 @@
 //! A disk of a space, which can be told to fail and to crash, and what it then opens to.
-use crate::case::{Stop, read};
+use crate::case::{Stop, number, verb};
 use crate::out::{Out, count, put_tally};
 use crate::shelves::node_on;
 use disk::{MemoryDisk, is_blank};
 use ids::Refusal;
 use std::alloc::Global;
 
-/// Lets the disk fail or crash, as the words say.
-pub fn change(disk: &mut MemoryDisk, verb: &str, number: &str, out: &mut Out) -> Result<(), Stop> {
-    match verb {
-        "fail" => disk.fail_from(read(number)?),
-        "fail-once" => disk.fail_once(read(number)?),
-        "crash" => match disk.after_crash(read(number)?) {
-            Ok(left) => *disk = left,
-            Err(refusal) => {
-                out.refused(refusal);
-                return Ok(());
-            }
-        },
+/// Lets the disk fail or crash, as the words say: the verb, the disk's node and a number.
+pub fn change(disk: &mut MemoryDisk, words: &[&str], out: &mut Out) -> Result<(), Stop> {
+    match verb(words) {
+        "fail" => disk.fail_from(number(words, 2)?),
+        "fail-once" => disk.fail_once(number(words, 2)?),
+        "crash" => return crash(disk, number(words, 2)?, out),
         _ => return Err(Stop::Unknown),
     }
     out.text("ok");
+    Ok(())
+}
+
+// The disk that a crash leaves takes its place.
+fn crash(disk: &mut MemoryDisk, fill: u8, out: &mut Out) -> Result<(), Stop> {
+    match disk.after_crash(fill) {
+        Ok(left) => {
+            *disk = left;
+            out.text("ok");
+        }
+        Err(refusal) => out.refused(refusal),
+    }
     Ok(())
 }
 

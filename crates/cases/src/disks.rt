@@ -1,6 +1,6 @@
 //! A disk in memory, which can be told to fail and to crash. A case sees what an opening finds
 //! after each of the crashes that may come.
-use crate::case::{Stop, Subject, read};
+use crate::case::{Stop, Subject, number, verb};
 use crate::out::{Out, count, put_tally};
 use crate::shelves::{Bench, Held, node_on};
 use disk::{MemoryDisk, is_blank};
@@ -68,28 +68,20 @@ impl Disks {
         put_tally(&NAMES, &tally, out);
         Ok(())
     }
-
-    // A command of one word.
-    fn take_word(&mut self, verb: &str, words: &[&str], out: &mut Out) -> Result<(), Stop> {
-        match verb {
-            "fresh" => self.bench.hold(Ok(MemoryDisk::new(self.alloc)), out),
-            "crashes" => return self.crashes(out),
-            "note" => return self.note(out),
-            _ => return self.bench.take(words, out),
-        }
-        Ok(())
-    }
 }
 
 impl Subject for Disks {
     fn take(&mut self, words: &[&str], out: &mut Out) -> Result<(), Stop> {
-        match words {
-            [verb] => self.take_word(verb, words, out),
-            ["fail", k] => fail(&mut self.bench.held, read(k)?, out),
-            ["fail-once", k] => fail_once(&mut self.bench.held, read(k)?, out),
-            ["crash", fill] => self.crash(read(fill)?, out),
-            words => self.bench.take(words, out),
+        match verb(words) {
+            "fresh" => self.bench.hold(Ok(MemoryDisk::new(self.alloc)), out),
+            "crashes" => return self.crashes(out),
+            "note" => return self.note(out),
+            "fail" => return fail(&mut self.bench.held, number(words, 1)?, out),
+            "fail-once" => return fail_once(&mut self.bench.held, number(words, 1)?, out),
+            "crash" => return self.crash(number(words, 1)?, out),
+            _ => return self.bench.take(words, out),
         }
+        Ok(())
     }
 }
 

@@ -3,7 +3,7 @@
 ghost use Rattle.std.specs.Prelude.{◌≡◌, true, IfOk};
 ghost use Rattle.model.specs.Steps.{is_own};
 
-use crate::case::Stop;
+use crate::case::{Stop, read};
 use lines::Line;
 use model::{Event, Step};
 use std::alloc::{AllocError, Global};
@@ -14,6 +14,16 @@ pub fn event_of(alloc: Global, words: &[&str]) -> Result<Event, Stop>
 {
     match Line::parse(script_line(alloc, words)?.as_str()) {
         Some(Line::Step(Step::Act(_node, event))) => Ok(event),
+        _ => Err(Stop::Unknown),
+    }
+}
+
+/// The event that is to be repeated, and how often: `repeat COUNT EVENT`.
+pub fn repeated(alloc: Global, words: &[&str]) -> Result<(Event, u64), Stop>
+    ensures { IfOk result (λ r. is_own r.0 ≡ true) }
+{
+    match words {
+        [_, count, words @ ..] => Ok((event_of(alloc, words)?, read(count)?)),
         _ => Err(Stop::Unknown),
     }
 }

@@ -1,6 +1,6 @@
 //! Disks in files of a folder, some of which fail as they are told to. Those that fail stand in for
 //! files of the system, call by call.
-use crate::case::{Line, Stop, Subject, bytes_of, take_all};
+use crate::case::{Line, Stop, Subject, bytes_of, take_all, verb, word};
 use crate::out::Out;
 use crate::shelves::{Bench, area_of};
 use disk::{Area, FileDisk, MemoryDisk};
@@ -48,32 +48,41 @@ impl<'a, R: Files<File = File> + Print + AllocGlobal> Folders<'a, R> {
         self.flaky.hold(disk.map_err(refusal_of), out);
     }
 
+    // The plan of the file that the second word names.
+    fn plan(&self, words: &[&str]) -> Result<&'a Plan, Stop> {
+        Ok(self.plans.of(area_of(word(words, 1)?)?))
+    }
+
     // A command to the disk whose files fail.
     fn take_flaky(&mut self, words: &[&str], out: &mut Out) -> Result<(), Stop> {
-        match words {
-            ["at", path] => self.hold_flaky(below(path)?, out),
-            ["next", area, word] => {
-                self.plans.of(area_of(area)?).next.set(next_of(word)?);
+        match verb(words) {
+            "at" => self.hold_flaky(below(word(words, 1)?)?, out),
+            "next" => {
+                self.plan(words)?.next.set(next_of(word(words, 2)?)?);
                 out.text("ok");
             }
-            ["writes", area] => out.show(&self.plans.of(area_of(area)?).writes.get()),
-            words => return self.flaky.take(words, out),
+            "writes" => out.show(&self.plan(words)?.writes.get()),
+            _ => return self.flaky.take(words, out),
         }
         Ok(())
     }
 
+    fn hold(&mut self, path: &str, out: &mut Out) {
+        let disk = FileDisk::at(self.rt, self.alloc, path);
+        self.bench.hold(disk, out);
+    }
+
     fn take_words(&mut self, words: &[&str], out: &mut Out) -> Result<(), Stop> {
-        match words {
-            ["at", path] => {
-                let path = below(path)?;
-                self.bench
-                    .hold(FileDisk::at(self.rt, self.alloc, path), out);
-                Ok(())
-            }
-            ["file", words @ ..] => on_files(self.rt, words, out),
-            ["flaky", words @ ..] => self.take_flaky(words, out),
-            words => self.bench.take(words, out),
+        let [first, rest @ ..] = words else {
+            return Err(Stop::Unknown);
+        };
+        match *first {
+            "at" => self.hold(below(word(words, 1)?)?, out),
+            "file" => return on_files(self.rt, rest, out),
+            "flaky" => return self.take_flaky(rest, out),
+            _ => return self.bench.take(words, out),
         }
+        Ok(())
     }
 }
 
@@ -95,29 +104,17 @@ fn on_files<R: Files<File = File> + AllocGlobal>(
     words: &[&str],
     out: &mut Out,
 ) -> Result<(), Stop> {
-    match words {
-        [verb, path] => on_path(rt, verb, below(path)?, out),
-        ["put", path, digits] => {
-            let bytes = bytes_of(rt.alloc(), digits)?;
-            put_done(fs::write(rt, below(path)?, bytes.as_slice()), out);
-            Ok(())
-        }
-        _ => Err(Stop::Unknown),
-    }
-}
-
-fn on_path<R: Files<File = File> + AllocGlobal>(
-    rt: &R,
-    verb: &str,
-    path: &str,
-    out: &mut Out,
-) -> Result<(), Stop> {
-    match verb {
+    let path = below(word(words, 1)?)?;
+    match verb(words) {
         "bytes" => put_bytes(rt, path, out),
         "folder" => put_done(fs::create_dir_all(rt, path), out),
         "clean" => {
             let _ = fs::remove_dir_all(rt, path);
             out.text("ok");
+        }
+        "put" => {
+            let bytes = bytes_of(rt.alloc(), word(words, 2)?)?;
+            put_done(fs::write(rt, path, bytes.as_slice()), out);
         }
         _ => return Err(Stop::Unknown),
     }

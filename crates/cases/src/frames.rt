@@ -1,6 +1,6 @@
 //! Bytes that are cut or changed: what is still read as a frame or as a node. What is read is to be
 //! spelled so again.
-use crate::case::{Stop, bytes_of};
+use crate::case::{Stop, bytes_of, verb, word};
 use crate::out::{Out, Tally, count, put_tally};
 use ids::Refusal;
 use msg::{decode, encode};
@@ -72,19 +72,21 @@ fn change(alloc: Global, is_frame: bool, mut bytes: Vec<u8>, tally: &mut Tally) 
     }
 }
 
+// Whether bytes of this kind spell a frame, and not an image.
+fn is_frame(kind: &str) -> Result<bool, Stop> {
+    match kind {
+        "frame" => Ok(true),
+        "image" => Ok(false),
+        _ => Err(Stop::Unknown),
+    }
+}
+
 /// A command over bytes that may spell a frame or a node.
 pub fn take(alloc: Global, words: &[&str], out: &mut Out) -> Result<(), Stop> {
-    let [verb, kind, digits] = words else {
-        return Err(Stop::Unknown);
-    };
-    let is_frame = match *kind {
-        "frame" => true,
-        "image" => false,
-        _ => return Err(Stop::Unknown),
-    };
-    let bytes = bytes_of(alloc, digits)?;
+    let is_frame = is_frame(word(words, 1)?)?;
+    let bytes = bytes_of(alloc, word(words, 2)?)?;
     let mut tally = [0; 5];
-    match *verb {
+    match verb(words) {
         "read" => count(&mut tally, meet(alloc, is_frame, &bytes)),
         "cuts" => cut(alloc, is_frame, bytes, &mut tally)?,
         "changes" => change(alloc, is_frame, bytes, &mut tally),

@@ -23,9 +23,9 @@ mod reaching;
 mod shelves;
 mod sizes;
 
-pub use case::{Line, Stop, Subject, read, read_lines, take_all};
+pub use case::{Line, Stop, Subject, number, read, read_lines, take_all, verb, word};
 pub use dice::{ASKED, Dice};
-pub use events::event_of;
+pub use events::{event_of, repeated};
 pub use folders::{disks_in, nodes_in};
 pub use found::{Found, Noted, compare_letters};
 pub use lent::Lent;

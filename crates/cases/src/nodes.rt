@@ -1,7 +1,7 @@
 //! One node: its events, its frames and its image. It may be made of any image, so a case reaches
 //! nodes that no short run does.
-use crate::case::{Stop, Subject, bytes_of, read};
-use crate::events::event_of;
+use crate::case::{Stop, Subject, bytes_of, number, verb, word};
+use crate::events::{event_of, repeated};
 use crate::out::Out;
 use ids::{NodeId, Refusal, Shape};
 use lines::SummaryText;
@@ -34,8 +34,9 @@ impl Nodes {
         }
     }
 
-    fn make(&mut self, shape: Shape, own: u8, out: &mut Out) -> Result<(), Stop> {
-        let own = NodeId::new(own).ok_or(Stop::Unknown)?;
+    fn make(&mut self, words: &[&str], out: &mut Out) -> Result<(), Stop> {
+        let shape = shape_of(words)?;
+        let own = NodeId::new(number(words, 4)?).ok_or(Stop::Unknown)?;
         self.set(Node::new(self.alloc, shape, own), out);
         Ok(())
     }
@@ -49,12 +50,10 @@ impl Nodes {
 
 impl Subject for Nodes {
     fn take(&mut self, words: &[&str], out: &mut Out) -> Result<(), Stop> {
-        match words {
-            ["new", nodes, registers, slots, own] => {
-                self.make(shape_of(nodes, registers, slots)?, read(own)?, out)
-            }
-            ["image", digits] => self.read(digits, out),
-            words => match &mut self.node {
+        match verb(words) {
+            "new" => self.make(words, out),
+            "image" => self.read(word(words, 1)?, out),
+            _ => match &mut self.node {
                 Some(node) => on_node(self.alloc, node, words, out),
                 None => Err(Stop::Unknown),
             },
@@ -62,42 +61,50 @@ impl Subject for Nodes {
     }
 }
 
-/// The shape that the words say.
-pub fn shape_of(nodes: &str, registers: &str, slots: &str) -> Result<Shape, Stop> {
-    Shape::new(read(nodes)?, read(registers)?, read(slots)?).ok_or(Stop::Unknown)
+/// The shape that the words behind the first one say.
+pub fn shape_of(words: &[&str]) -> Result<Shape, Stop> {
+    let (nodes, registers) = (number(words, 1)?, number(words, 2)?);
+    Shape::new(nodes, registers, number(words, 3)?).ok_or(Stop::Unknown)
 }
 
 // A command to a node.
 fn on_node(alloc: Global, node: &mut Node, words: &[&str], out: &mut Out) -> Result<(), Stop> {
-    match words {
-        ["bytes"] => put_image(alloc, node, out),
-        ["state"] => out.show(&SummaryText(node.state())),
-        ["kept"] => {
+    match verb(words) {
+        "bytes" => put_image(alloc, node, out),
+        "state" => out.show(&SummaryText(node.state())),
+        "kept" => {
             node.kept();
             out.text("ok");
         }
-        ["frame", digits] => {
-            let bytes = bytes_of(alloc, digits)?;
+        "frame" => {
+            let bytes = bytes_of(alloc, word(words, 1)?)?;
             out.answer(take_frame(node, &bytes));
         }
-        words => return ask(alloc, node, words, out),
+        _ => return ask_frame(alloc, node, words, out),
     }
     Ok(())
 }
 
 // Asks a node for a frame, or gives it an event.
-fn ask(alloc: Global, node: &mut Node, words: &[&str], out: &mut Out) -> Result<(), Stop> {
-    match words {
-        ["frame-at", to, place] => put_frame(alloc, node.frame_at(read(to)?, read(place)?), out),
-        ["numbered", to, number] => {
-            let frame = node.core().numbered_frame(read(to)?, read(number)?);
-            put_frame(alloc, frame, out);
-        }
-        ["ack-for", from] => put_frame(alloc, node.ack_for(read(from)?), out),
-        ["repeat", count, words @ ..] => {
-            out.answer(repeat(node, event_of(alloc, words)?, read(count)?));
-        }
-        words => out.answer(node.act(event_of(alloc, words)?)),
+fn ask_frame(alloc: Global, node: &mut Node, words: &[&str], out: &mut Out) -> Result<(), Stop> {
+    let frame = match verb(words) {
+        "frame-at" => node.frame_at(number(words, 1)?, number(words, 2)?),
+        "numbered" => node
+            .core()
+            .numbered_frame(number(words, 1)?, number(words, 2)?),
+        "ack-for" => node.ack_for(number(words, 1)?),
+        _ => return act(alloc, node, words, out),
+    };
+    put_frame(alloc, frame, out);
+    Ok(())
+}
+
+fn act(alloc: Global, node: &mut Node, words: &[&str], out: &mut Out) -> Result<(), Stop> {
+    if verb(words) == "repeat" {
+        let (event, count) = repeated(alloc, words)?;
+        out.answer(repeat(node, event, count));
+    } else {
+        out.answer(node.act(event_of(alloc, words)?));
     }
     Ok(())
 }

@@ -95,7 +95,7 @@ fn add_roots(found: &mut IndexSet<Ref>, sim: &Sim, read: &[Option<Core>]) -> Res
 }
 
 /// Adds what the node's registers and letters hold.
-fn add_held(found: &mut IndexSet<Ref>, node: &Core) -> Result<(), Refusal>
+pub(crate) fn add_held(found: &mut IndexSet<Ref>, node: &Core) -> Result<(), Refusal>
     ensures done { OnOk result (Adds found.old.keys found.new.keys (IsHeld node.now)) }
     ensures refused { IfErr result (λ e. e ≡ Memory) }
 {
@@ -186,7 +186,11 @@ fn follow(found: &mut IndexSet<Ref>, sim: &Sim, read: &[Option<Core>]) -> Result
 }
 
 /// Adds what stands in the places of the node's object, while it is live.
-fn add_standing(found: &mut IndexSet<Ref>, node: &Core, reference: Ref) -> Result<(), Refusal>
+pub(crate) fn add_standing(
+    found: &mut IndexSet<Ref>,
+    node: &Core,
+    reference: Ref,
+) -> Result<(), Refusal>
     ensures done { OnOk result (Adds found.old.keys found.new.keys (Standing node.now reference)) }
     ensures refused { IfErr result (λ e. e ≡ Memory) }
 {

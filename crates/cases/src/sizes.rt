@@ -2,8 +2,8 @@
 use disk::MemoryDisk;
 use std::alloc::{AllocError, Global};
 
-/// How many nodes a space has, each with so many registers and slots, and how many turns its workers
-/// take at most.
+/// How many nodes a space has, each with so many registers and slots, and how many turns its
+/// workers take at most.
 #[derive(Clone, Copy)]
 pub struct Size {
     pub nodes: u8,

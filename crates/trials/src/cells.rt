@@ -5,7 +5,10 @@ ghost use Rattle.model.specs.Steps.{is_own};
 ghost use Rattle.wire.specs.Readers.{IsSeatOf, IsWatchOf};
 
 use cases::nodes::{put_frame, put_image};
-use cases::{Line, Out, Stop, Subject, blank_disks, event_of, node_on, read, take_all};
+use cases::{
+    Line, Out, Stop, Subject, blank_disks, event_of, node_on, number, read, repeated, take_all,
+    verb,
+};
 use cell::{Cell, Unopened};
 use disk::MemoryDisk;
 use ids::{Refusal, Shape};
@@ -157,16 +160,16 @@ impl Cells<'_> {
 
 impl Subject for Cells<'_> {
     fn take(&mut self, words: &[&str], out: &mut Out) -> Result<(), Stop> {
-        match words {
-            ["look"] => {
-                self.look(out);
-                Ok(())
-            }
-            [number, words @ ..] => match self.cells.get_mut(read::<usize>(number)?) {
-                Some(seated) => on_cell(self.alloc, seated, words, out),
-                None => Err(Stop::Unknown),
-            },
-            [] => Err(Stop::Unknown),
+        let [first, words @ ..] = words else {
+            return Err(Stop::Unknown);
+        };
+        if *first == "look" {
+            self.look(out);
+            return Ok(());
+        }
+        match self.cells.get_mut(read::<usize>(first)?) {
+            Some(seated) => on_cell(self.alloc, seated, words, out),
+            None => Err(Stop::Unknown),
         }
     }
 }
@@ -178,66 +181,52 @@ fn on_cell(
     words: &[&str],
     out: &mut Out,
 ) -> Result<(), Stop> {
-    match words {
-        ["save"] => out.done(seated.save()),
-        ["reopen"] => out.done(seated.reopen()),
-        ["raise"] => out.done(seated.raise()),
-        ["send", to] => out.answer(seated.send(read(to)?)),
-        ["receive", from] => out.answer(seated.receive(read(from)?)),
-        ["fail", k] => {
-            seated.fail(read(k)?);
-            out.text("ok");
+    match verb(words) {
+        "save" => out.done(seated.save()),
+        "reopen" => out.done(seated.reopen()),
+        "raise" => out.done(seated.raise()),
+        "send" => out.answer(seated.send(number(words, 1)?)),
+        "receive" => out.answer(seated.receive(number(words, 1)?)),
+        "repeat" => {
+            let (event, count) = repeated(alloc, words)?;
+            out.answer(seated.repeat(event, count));
         }
-        ["fail-once", k] => {
-            seated.fail_once(read(k)?);
-            out.text("ok");
-        }
-        words => return ask(alloc, seated, words, out),
+        _ => return ask(alloc, seated, words, out),
     }
     Ok(())
 }
 
-// A question to a cell, or an event of its node.
+// A question to a cell.
 fn ask(alloc: Global, seated: &mut Seated<'_>, words: &[&str], out: &mut Out) -> Result<(), Stop> {
-    match words {
-        [verb] => return ask_word(alloc, seated, verb, words, out),
-        ["crash", fill] => put_crashed(alloc, seated, read(fill)?, out),
-        ["frame-at", to, place] => {
-            put_frame(
-                alloc,
-                seated.cell.node().frame_at(read(to)?, read(place)?),
-                out,
-            );
-        }
-        words => return act(alloc, seated, words, out),
-    }
-    Ok(())
-}
-
-fn ask_word(
-    alloc: Global,
-    seated: &mut Seated<'_>,
-    verb: &str,
-    words: &[&str],
-    out: &mut Out,
-) -> Result<(), Stop> {
-    match verb {
+    match verb(words) {
         "unsaved" => out.debug(&seated.is_unsaved()),
         "state" => out.show(&SummaryText(seated.cell.node().state())),
         "bytes" => put_image(alloc, seated.cell.node(), out),
         "trace" => put_trace(seated, out),
+        "frame-at" => {
+            let frame = seated
+                .cell
+                .node()
+                .frame_at(number(words, 1)?, number(words, 2)?);
+            put_frame(alloc, frame, out);
+        }
+        "crash" => put_crashed(alloc, seated, number(words, 1)?, out),
         _ => return act(alloc, seated, words, out),
     }
     Ok(())
 }
 
+// Lets the cell's disk fail, or gives its node an event.
 fn act(alloc: Global, seated: &mut Seated<'_>, words: &[&str], out: &mut Out) -> Result<(), Stop> {
-    match words {
-        ["repeat", count, words @ ..] => {
-            out.answer(seated.repeat(event_of(alloc, words)?, read(count)?));
+    match verb(words) {
+        "fail" => seated.fail(number(words, 1)?),
+        "fail-once" => seated.fail_once(number(words, 1)?),
+        _ => {
+            out.answer(seated.act(event_of(alloc, words)?));
+            return Ok(());
         }
-        words => out.answer(seated.act(event_of(alloc, words)?)),
     }
+    out.text("ok");
     Ok(())
 }
 

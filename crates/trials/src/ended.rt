@@ -7,7 +7,7 @@ use crate::endings::{Ends, ending};
 use crate::player::{Player, REGISTERS, away, compare_all, dice_of};
 use crate::quiet::turn_all;
 use crate::spaces::{MANY, config_of};
-use cases::{Dice, Found, Out, Size, Stop, count_reached, disks_in, nodes_in, read};
+use cases::{Dice, Found, Out, Size, Stop, count_reached, disks_in, nodes_in, number, verb};
 use disk::FileDisk;
 use ids::Refusal;
 use model::Answer;
@@ -241,15 +241,15 @@ pub(crate) fn take<R>(rt: &R, alloc: Global, words: &[&str], out: &mut Out) -> R
 where
     R: Files<File = File> + Clock + Threads + Wait + Clone + Send + Sync + Drop + 'static,
 {
-    let (nodes, millis, seed, least) = match words {
-        ["run", nodes, millis, seed] => (nodes, millis, seed, None),
-        ["try", nodes, millis, seed, least] => (nodes, millis, seed, Some(read(least)?)),
+    let least = match verb(words) {
+        "run" => None,
+        "try" => Some(number(words, 4)?),
         _ => return Err(Stop::Unknown),
     };
     let plan = Plan {
-        nodes: read(nodes)?,
-        millis: read(millis)?,
-        seed: read(seed)?,
+        nodes: number(words, 1)?,
+        millis: number(words, 2)?,
+        seed: number(words, 3)?,
     };
     put(found_in(rt, alloc, plan), least, out);
     Ok(())

@@ -1,6 +1,5 @@
 //! Gates of workers, which pause before each turn, hold a worker up or end it, and how long who
 //! waits pauses.
-use cases::Stop;
 use std::alloc::Global;
 use std::sync::atomic::{AtomicBool, Ordering};
 use std::sync::{Arc, Wait};
@@ -101,16 +100,4 @@ pub(crate) fn gate<R: Clone + Drop>(
         may_go: AtomicBool::new(false),
     };
     Arc::new(alloc, holds).ok()
-}
-
-/// The stage of a turn that the word names.
-pub(crate) fn stage_of(word: &str) -> Result<Stage, Stop> {
-    match word {
-        "Start" => Ok(Stage::Start),
-        "TakenIn" => Ok(Stage::TakenIn),
-        "Collected" => Ok(Stage::Collected),
-        "Saved" => Ok(Stage::Saved),
-        "Sent" => Ok(Stage::Sent),
-        _ => Err(Stop::Unknown),
-    }
 }

@@ -14,7 +14,7 @@ ghost use Rattle.wire.specs.Readers.{
 };
 ghost use Rattle.trials.specs.Cells.{AreSeated};
 
-use cases::{Line, Out, Stop, Subject, read, take_all};
+use cases::{Line, Out, Stop, Subject, number, take_all, verb};
 use ids::{Cycle, NodeId, Refusal, Shape};
 use msg::{Ack, Frame, encode};
 use node::Node;
@@ -100,31 +100,21 @@ impl Joined {
         let seen = self.wire.look(&mut self.watch);
         out.show(&seen.number);
     }
+}
 
-    fn take_word(&mut self, verb: &str, out: &mut Out) -> Result<(), Stop> {
-        match verb {
+impl Subject for Joined {
+    fn take(&mut self, words: &[&str], out: &mut Out) -> Result<(), Stop> {
+        match verb(words) {
             "send" => out.answer(send(&self.wire, self.alloc, &mut self.first)),
             "receive" => put_received(receive(&self.wire, &mut self.second), out),
             "fill" => self.fill(out),
             "empty" => self.empty(out),
             "raise" => self.raise(out),
             "look" => self.look(out),
+            "repeat" => out.answer(self.repeat(number(words, 1)?)),
             _ => return Err(Stop::Unknown),
         }
         Ok(())
-    }
-}
-
-impl Subject for Joined {
-    fn take(&mut self, words: &[&str], out: &mut Out) -> Result<(), Stop> {
-        match words {
-            [verb] => self.take_word(verb, out),
-            ["repeat", count] => {
-                out.answer(self.repeat(read(count)?));
-                Ok(())
-            }
-            _ => Err(Stop::Unknown),
-        }
     }
 }
 

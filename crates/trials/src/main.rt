@@ -24,7 +24,7 @@ mod turns;
 
 use cases::disks::Disks;
 use cases::nodes::{Nodes, shape_of};
-use cases::{Line, Out, Stop, arenas, collected, files, frames, read_lines, take_all};
+use cases::{Line, Out, Stop, arenas, collected, files, frames, read_lines, take_all, verb};
 use std::alloc::Global;
 use std::fs::File;
 use std::io;
@@ -100,21 +100,15 @@ where
     let [first, lines @ ..] = lines else {
         return Ok(());
     };
-    match out.at(first) {
-        [subject] => take_subject(rt, alloc, subject, lines, out),
-        [subject, nodes, registers, slots] => {
-            let shape = shape_of(nodes, registers, slots)?;
-            match *subject {
-                "cells" => cells::run(alloc, shape, lines, out),
-                "shared" => shared::run(rt, alloc, shape, lines, out),
-                _ => Err(Stop::Unknown),
-            }
-        }
-        _ => Err(Stop::Unknown),
+    let words = out.at(first);
+    match verb(words) {
+        "cells" => cells::run(alloc, shape_of(words)?, lines, out),
+        "shared" => shared::run(rt, alloc, shape_of(words)?, lines, out),
+        subject => take_subject(rt, alloc, subject, lines, out),
     }
 }
 
-// The subjects of one word.
+// The subjects that have no shape.
 fn take_subject<R>(
     rt: &R,
     alloc: Global,

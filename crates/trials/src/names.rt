@@ -1,12 +1,12 @@
 //! The limit of cycles, and laws. A law does nothing when it is called.
-use cases::{Out, Stop, read};
+use cases::{Out, Stop, number, verb};
 use ids::Cycle;
 
 /// A command over cycles and laws.
 pub(crate) fn take(words: &[&str], out: &mut Out) -> Result<(), Stop> {
-    match words {
-        ["cycle", number] => put(Cycle::new(read(number)?), out),
-        ["laws"] => {
+    match verb(words) {
+        "cycle" => put(Cycle::new(number(words, 1)?), out),
+        "laws" => {
             call_laws();
             out.text("ok");
         }

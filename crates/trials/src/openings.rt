@@ -2,7 +2,7 @@
 //! started.
 use crate::spaces::config_of;
 use cases::crashes::{change, put_crashes};
-use cases::{Lent, Line, Out, Size, Stop, blank_disks, read};
+use cases::{Lent, Line, Out, Size, Stop, blank_disks, number, verb};
 use disk::MemoryDisk;
 use ids::Refusal;
 use std::alloc::Global;
@@ -23,18 +23,17 @@ fn take(
     words: &[&str],
     out: &mut Out,
 ) -> Result<(), Stop> {
-    match words {
-        ["fresh", nodes] => {
-            *held = blank_disks(alloc, read(nodes)?)?;
+    match verb(words) {
+        "fresh" => {
+            *held = blank_disks(alloc, number(words, 1)?)?;
             out.text("ok");
         }
-        ["open"] => open(alloc, held, out),
-        ["crashes", node] => {
-            let node = read(node)?;
+        "open" => open(alloc, held, out),
+        "crashes" => {
+            let node = number(words, 1)?;
             put_crashes(alloc, disk_of(held, node)?, node, out);
         }
-        [verb, node, number] => change(disk_of(held, read(node)?)?, verb, number, out)?,
-        _ => return Err(Stop::Unknown),
+        _ => change(disk_of(held, number(words, 1)?)?, words, out)?,
     }
     Ok(())
 }

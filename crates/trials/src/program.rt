@@ -4,7 +4,6 @@ ghost use Rattle.model.specs.Steps.{is_own};
 
 use crate::gates::pause;
 use crate::member::beside;
-use cases::ASKED;
 use ids::{Ref, Refusal};
 use model::{Answer, Event, Letter};
 use std::alloc::Global;
@@ -24,6 +23,9 @@ const OTHER: u16 = 1;
 
 // A register that stays empty.
 const EMPTY: u16 = 2;
+
+// The label of what a Get brings. A letter of another program has its number as label.
+const ASKED: u32 = u32::MAX;
 
 // How often who waits tries again, with a pause each time, until it gives up.
 const TRIES: u32 = 100_000;

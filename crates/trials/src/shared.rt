@@ -6,7 +6,7 @@ ghost use Rattle.cell.specs.Names.{name_of, IsNamed};
 ghost use Rattle.wire.specs.Readers.{IsSeatOf, IsWatchOf};
 
 use crate::cells::open_cells;
-use cases::{Line, Out, Stop, Subject, event_of, read, take_all};
+use cases::{Line, Out, Stop, Subject, event_of, number, read, take_all, verb};
 use cell::{Cell, Naming, SharedOn};
 use disk::MemoryDisk;
 use ids::{Refusal, Shape};
@@ -46,20 +46,33 @@ impl<W: Naming, R: Wait> Sharing<'_, W, R> {
         let seen = self.wire.look(&mut self.watch);
         out.show(&seen.number);
     }
+
+    // A command to the cell whose number comes first.
+    fn take_number(&mut self, words: &[&str], out: &mut Out) -> Result<(), Stop> {
+        let [first, words @ ..] = words else {
+            return Err(Stop::Unknown);
+        };
+        let place = read(first)?;
+        if verb(words) == "raise" {
+            out.done(self.raise(place)?);
+            return Ok(());
+        }
+        match self.cells.get(place) {
+            Some(cell) => on_cell(self.rt, self.alloc, cell, words, out),
+            None => Err(Stop::Unknown),
+        }
+    }
 }
 
 impl<W: Naming, R: Wait> Subject for Sharing<'_, W, R> {
     fn take(&mut self, words: &[&str], out: &mut Out) -> Result<(), Stop> {
-        match words {
-            ["look"] => self.look(out),
-            [number, "raise"] => out.done(self.raise(read(number)?)?),
-            [number, words @ ..] => match self.cells.get(read::<usize>(number)?) {
-                Some(cell) => return on_cell(self.rt, self.alloc, cell, words, out),
-                None => return Err(Stop::Unknown),
-            },
-            [] => return Err(Stop::Unknown),
+        match verb(words) {
+            "look" => {
+                self.look(out);
+                Ok(())
+            }
+            _ => self.take_number(words, out),
         }
-        Ok(())
     }
 }
 
@@ -71,13 +84,13 @@ fn on_cell<R: Wait, W: Naming>(
     words: &[&str],
     out: &mut Out,
 ) -> Result<(), Stop> {
-    match words {
-        ["save"] => out.done(cell.save(rt)),
-        ["reopen"] => out.done(cell.reopen(rt)),
-        ["unsaved"] => out.debug(&cell.unsaved(rt)),
-        ["send", to] => out.answer(cell.pump_out(rt, read(to)?)),
-        ["receive", from] => out.answer(cell.pump_in(rt, read(from)?)),
-        words => out.answer(cell.act(rt, event_of(alloc, words)?)),
+    match verb(words) {
+        "save" => out.done(cell.save(rt)),
+        "reopen" => out.done(cell.reopen(rt)),
+        "unsaved" => out.debug(&cell.unsaved(rt)),
+        "send" => out.answer(cell.pump_out(rt, number(words, 1)?)),
+        "receive" => out.answer(cell.pump_in(rt, number(words, 1)?)),
+        _ => out.answer(cell.act(rt, event_of(alloc, words)?)),
     }
     Ok(())
 }

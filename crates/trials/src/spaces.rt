@@ -1,12 +1,12 @@
 //! Spaces whose nodes have workers. What is printed is the same in each schedule.
 ghost use Rattle.std.specs.Prelude.{◌≡◌, false, IfSome, is_some};
 
-use crate::gates::{Holds, gate, pause, stage_of};
+use crate::gates::{Holds, gate, pause};
 use crate::programs::run_programs;
 use crate::revived::revive;
 use crate::space::meet;
 use crate::turning::{turn_often, writes_of};
-use cases::{Out, Size, Stop, blank_disks, read};
+use cases::{Out, Size, Stop, blank_disks, number, verb, word};
 use cell::Shared;
 use disk::MemoryDisk;
 use ids::Refusal;
@@ -150,25 +150,38 @@ where
     })
 }
 
+// The stage of a turn that the word names.
+fn stage_of(word: &str) -> Result<Stage, Stop> {
+    match word {
+        "Start" => Ok(Stage::Start),
+        "TakenIn" => Ok(Stage::TakenIn),
+        "Collected" => Ok(Stage::Collected),
+        "Saved" => Ok(Stage::Saved),
+        "Sent" => Ok(Stage::Sent),
+        _ => Err(Stop::Unknown),
+    }
+}
+
 /// A command over spaces.
 pub(crate) fn take<R>(rt: &R, alloc: Global, words: &[&str], out: &mut Out) -> Result<(), Stop>
 where
     R: Clock + Threads + Wait + Clone + Send + Sync + Drop + 'static,
 {
-    match words {
-        ["meet", turns] => {
-            let size = Size::pair(read(turns)?);
+    match verb(words) {
+        "meet" => {
+            let size = Size::pair(number(words, 1)?);
             let text = size.text(alloc)?;
             let reports = meet(rt, alloc, text.as_str(), blank_disks(alloc, size.nodes)?);
             out.debug(&reports.map(|reports| reports.len()));
         }
-        ["turn", later, stage] => {
-            out.debug(&take_turn(rt, alloc, read(later)?, stage_of(stage)?));
+        "turn" => {
+            let stage = stage_of(word(words, 2)?)?;
+            out.debug(&take_turn(rt, alloc, number(words, 1)?, stage));
         }
-        ["leave"] => out.debug(&leave(rt, alloc)),
-        ["revive", stage] => out.debug(&revive(rt, alloc, stage_of(stage)?)),
-        ["start", nodes] => out.debug(&start_all(rt, alloc, read(nodes)?)),
-        words => return take_many(rt, alloc, words, out),
+        "leave" => out.debug(&leave(rt, alloc)),
+        "revive" => out.debug(&revive(rt, alloc, stage_of(word(words, 1)?)?)),
+        "start" => out.debug(&start_all(rt, alloc, number(words, 1)?)),
+        _ => return take_many(rt, alloc, words, out),
     }
     Ok(())
 }
@@ -178,19 +191,17 @@ fn take_many<R>(rt: &R, alloc: Global, words: &[&str], out: &mut Out) -> Result<
 where
     R: Clock + Threads + Wait + Clone + Send + Sync + Drop + 'static,
 {
-    match words {
-        ["programs", nodes, slots, rounds] => {
-            let size = Size {
-                nodes: read(nodes)?,
-                slots: read(slots)?,
-                ..Size::pair(MANY)
-            };
-            out.debug(&run_programs(rt, alloc, size, read(rounds)?));
-        }
-        ["turns", nodes, objects, turns, what] => {
-            let (nodes, objects) = (read(nodes)?, read(objects)?);
-            let (turns, writes) = (read(turns)?, writes_of(what)?);
-            out.debug(&turn_often(rt, alloc, nodes, objects, turns, writes));
+    let (nodes, slots) = (number(words, 1)?, number(words, 2)?);
+    let size = Size {
+        nodes,
+        slots,
+        ..Size::pair(MANY)
+    };
+    match verb(words) {
+        "programs" => out.debug(&run_programs(rt, alloc, size, number(words, 3)?)),
+        "turns" => {
+            let writes = writes_of(word(words, 4)?)?;
+            out.debug(&turn_often(rt, alloc, size, number(words, 3)?, writes));
         }
         _ => return Err(Stop::Unknown),
     }

@@ -2,7 +2,7 @@
 use crate::mailboxes::exchange_frames;
 use crate::member::{Member, finish, take_turns};
 use crate::spaces::opened;
-use cases::{Out, Size, Stop, read};
+use cases::{Out, Size, Stop, number, verb};
 use cell::Shared;
 use disk::Disk;
 use std::alloc::{AllocError, Global};
@@ -81,12 +81,13 @@ pub(crate) fn take<R: Threads + Wait + Sync>(
     words: &[&str],
     out: &mut Out,
 ) -> Result<(), Stop> {
-    match words {
-        ["ring", nodes, letters, turns] => {
-            let done = exchange(rt, alloc, read(nodes)?, read(letters)?, read(turns)?);
+    match verb(words) {
+        "ring" => {
+            let (nodes, letters) = (number(words, 1)?, number(words, 2)?);
+            let done = exchange(rt, alloc, nodes, letters, number(words, 3)?);
             out.debug(&done.ok_or(Stop::Memory)?);
         }
-        ["frames", tries] => out.answer(exchange_frames(rt, alloc, read(tries)?)),
+        "frames" => out.answer(exchange_frames(rt, alloc, number(words, 1)?)),
         _ => return Err(Stop::Unknown),
     }
     Ok(())

@@ -34,48 +34,35 @@ fn act<R: Wait, S: Site>(rt: &R, site: &S, event: Event, count: u32) -> u64
     refused
 }
 
-// So many turns of node 0 among so many, once it has so many objects, and is saved so. How many
-// events were refused.
-fn take_turns<R: Wait, S: Site>(
-    rt: &R,
-    site: &S,
-    nodes: u8,
-    objects: u32,
-    turns: u32,
-    writes: u32,
-) -> u64 {
+// So many turns of node 0, once its slots are full, and it is saved so. How many events were
+// refused.
+fn take_turns<R: Wait, S: Site>(rt: &R, site: &S, size: Size, turns: u32, writes: u32) -> u64 {
     let object = Event::Alloc {
         register: 0,
         places: 0,
     };
-    let mut refused = act(rt, site, object, objects);
+    let mut refused = act(rt, site, object, size.slots);
     let _ = site.save(rt);
     for _ in 0..turns {
         let word = Event::SetWord { object: 0, word: 7 };
         refused = refused.saturating_add(act(rt, site, word, writes));
-        drop(turn_node(rt, site, &Open, 0, nodes, 1));
+        drop(turn_node(rt, site, &Open, 0, size.nodes, 1));
     }
     refused
 }
 
-/// Has node 0 of so many, with so many objects, take so many turns, before each of which its
+/// Has node 0 of a space, all of whose slots it fills, take so many turns, before each of which its
 /// program writes a word so often. How many events were refused.
 pub(crate) fn turn_often<R: Wait>(
     rt: &R,
     alloc: Global,
-    nodes: u8,
-    objects: u32,
+    size: Size,
     turns: u32,
     writes: u32,
 ) -> Option<u64> {
-    let size = Size {
-        nodes,
-        slots: objects,
-        ..Size::pair(1)
-    };
     let space = opened(alloc, size)?;
     let refused = match space.program(0) {
-        Some(site) => Some(take_turns(rt, site, nodes, objects, turns, writes)),
+        Some(site) => Some(take_turns(rt, site, size, turns, writes)),
         None => None,
     };
     drop(space);

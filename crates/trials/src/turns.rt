@@ -1,6 +1,6 @@
 //! Turns of a worker over a site that notes what it is asked, and answers from a script. So the
 //! calls of a turn are seen in their order.
-use cases::{Out, Stop, read};
+use cases::{Out, Stop, number, verb};
 use ids::{Ref, Refusal};
 use model::{Answer, Event};
 use std::alloc::Global;
@@ -108,11 +108,11 @@ pub(crate) fn take<R: Wait>(
     words: &[&str],
     out: &mut Out,
 ) -> Result<(), Stop> {
-    let ["turn", node, nodes, scanned, unsaved] = words else {
+    if verb(words) != "turn" {
         return Err(Stop::Unknown);
-    };
-    let (node, nodes) = (read(node)?, read(nodes)?);
-    let recorder = Recorder::new(alloc, read(scanned)?, read(unsaved)?);
+    }
+    let (node, nodes) = (number(words, 1)?, number(words, 2)?);
+    let recorder = Recorder::new(alloc, number(words, 3)?, number(words, 4)?);
     drop(turn_node(rt, &recorder, &recorder, node, nodes, 1));
     recorder.put(out);
     drop(recorder);

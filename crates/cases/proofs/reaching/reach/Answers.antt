@@ -1,5 +1,5 @@
 use Rattle.std.proofs.Common.{◌∙◌}
-use Rattle.cases.proofs.Reached.{once-sorted, reached}
+use Rattle.cases.proofs.Searched.{once-sorted, reached}
 use Rattle.cases.proofs.reaching.reach.Goals as goal
 
 pub returns-clause-reached : goal.returns-clause-reached
