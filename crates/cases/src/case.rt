@@ -1,10 +1,11 @@
 //! A case as lines of words, and what words say. The first line that is no command ends it.
+use crate::out::Out;
 use hex::FromHexError;
 use std::alloc::{AllocError, AllocFailed, Global};
 use std::str::FromStr;
 
 /// Why a case goes no further.
-#[derive(Clone, Copy, Debug, PartialEq, Eq)]
+#[derive(Clone, Copy)]
 pub enum Stop {
     /// The line is no command, or none that can be done now.
     Unknown,
@@ -32,28 +33,50 @@ pub struct Line<'a> {
     pub words: Vec<&'a str>,
 }
 
+/// What takes the commands of a case, one after another.
+pub trait Subject {
+    /// Does what the words of a line say, and prints what comes of it.
+    fn take(&mut self, words: &[&str], out: &mut Out) -> Result<(), Stop>;
+}
+
+/// Gives the subject all lines of a case, and lets go of it.
+pub fn take_all<S: Subject + Drop>(
+    mut subject: S,
+    lines: &[Line<'_>],
+    out: &mut Out,
+) -> Result<(), Stop> {
+    for line in lines {
+        subject.take(out.at(line), out)?;
+    }
+    Ok(())
+}
+
 /// The lines of a case that hold words, but comments.
 pub fn read_lines<'a>(alloc: Global, text: &'a str) -> Result<Vec<Line<'a>>, AllocError> {
     let mut lines = Vec::new(alloc);
-    for (index, line) in text.lines().enumerate() {
-        if !is_silent(line) {
-            lines.push(line_of(alloc, index + 1, line)?)?;
+    let mut number = 0usize;
+    for line in text.split('\n') {
+        number = number.saturating_add(1);
+        let words = words_of(alloc, line)?;
+        if !words.is_empty() {
+            lines.push(Line { number, words })?;
         }
     }
     Ok(lines)
 }
 
-fn line_of<'a>(alloc: Global, number: usize, line: &'a str) -> Result<Line<'a>, AllocError> {
-    let words = line
-        .split(' ')
-        .filter(|word| !word.is_empty())
-        .collect(alloc)?;
-    Ok(Line { number, words })
-}
-
-fn is_silent(line: &str) -> bool {
-    let line = line.trim_start_matches(' ');
-    line.is_empty() || line.starts_with('#')
+// The words of a line; none where it is a comment.
+fn words_of<'a>(alloc: Global, line: &'a str) -> Result<Vec<&'a str>, AllocError> {
+    let mut words = Vec::new(alloc);
+    for word in line.split(' ') {
+        if words.is_empty() && word.starts_with('#') {
+            break;
+        }
+        if !word.is_empty() {
+            words.push(word)?;
+        }
+    }
+    Ok(words)
 }
 
 /// The number that the word spells.
@@ -65,6 +88,30 @@ where
         Ok(number) => Ok(number),
         Err(_) => Err(Stop::Unknown),
     }
+}
+
+/// The first word of a line.
+pub fn verb<'a>(words: &[&'a str]) -> &'a str {
+    match words.first() {
+        Some(verb) => *verb,
+        None => "",
+    }
+}
+
+/// The word in this place of a line.
+pub fn word<'a>(words: &[&'a str], place: usize) -> Result<&'a str, Stop> {
+    match words.get(place) {
+        Some(word) => Ok(*word),
+        None => Err(Stop::Unknown),
+    }
+}
+
+/// The number in this place of a line.
+pub fn number<T: FromStr>(words: &[&str], place: usize) -> Result<T, Stop>
+where
+    T::Err: Drop,
+{
+    read(word(words, place)?)
 }
 
 /// The bytes of two hexadecimal digits each; `-` stands for none.

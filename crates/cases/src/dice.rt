@@ -1,9 +1,23 @@
-//! Numbers that look random, the same ones for each seed. So a run that failed can be run again.
+//! Numbers that look random, the same ones for each seed, and what a program does by them. So a run
+//! that failed can be run again.
+ghost use Rattle.std.specs.Prelude.{◌≡◌, true};
+ghost use Rattle.model.specs.Steps.{is_own};
 
-/// Dice, as the number that a throw leaves.
+use model::Event;
+
+/// How many places an object of such a program has.
+const PLACES: u8 = 2;
+
+/// The label of what its Gets bring.
+pub const ASKED: u32 = u32::MAX;
+
+/// Dice, as the number that a throw leaves, of a program that uses so many registers from the first
+/// one on.
 #[derive(Drop)]
 pub struct Dice {
     pub state: u64,
+    pub first: u16,
+    pub registers: u8,
 }
 
 impl Dice {
@@ -12,5 +26,60 @@ impl Dice {
         let grown = self.state.wrapping_mul(6_364_136_223_846_793_005);
         self.state = grown.wrapping_add(1_442_695_040_888_963_407);
         ((self.state >> 33) % u64::from(sides.max(1))) as u8
+    }
+
+    /// One of the registers.
+    pub fn register(&mut self) -> u16 {
+        u16::from(self.below(self.registers)).saturating_add(self.first)
+    }
+
+    /// What a program may do with what it holds.
+    pub fn own_event(&mut self) -> Event
+        ensures { is_own result ≡ true }
+    {
+        let (object, register) = (self.register(), self.register());
+        let place = self.below(PLACES);
+        match self.below(8) {
+            0 | 1 => Event::Alloc {
+                register,
+                places: PLACES,
+            },
+            2 => Event::Copy {
+                register,
+                source: object,
+            },
+            3 | 4 => Event::Drop { register },
+            5 => Event::Load {
+                register,
+                object,
+                place,
+            },
+            6 => Event::Store {
+                object,
+                place,
+                register,
+            },
+            _ => Event::Clear { object, place },
+        }
+    }
+
+    /// What it may ask of another node.
+    pub fn asking_event(&mut self) -> Event
+        ensures { is_own result ≡ true }
+    {
+        let (object, register) = (self.register(), self.register());
+        let place = self.below(PLACES);
+        match self.below(2) {
+            0 => Event::Put {
+                object,
+                place,
+                register,
+            },
+            _ => Event::Get {
+                object,
+                place,
+                label: ASKED,
+            },
+        }
     }
 }

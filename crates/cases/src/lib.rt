@@ -1,25 +1,34 @@
 //! What the cases of `trials` are made of: their lines as words, what they print, events, dice, how
-//! large a space is, and what is found in one at the end. A node, and a shelf over a disk, take the
-//! commands that several subjects have.
+//! large a space is, and what is found in one at the end; and the subjects that need neither a wire
+//! nor threads: nodes, bytes that are cut or changed, disks in memory and in files, arenas, and
+//! lists of steps with a collection cycle after them.
 #![tactic(auto)]
 
+pub mod arenas;
 mod case;
+pub mod collected;
+pub mod crashes;
 mod dice;
+pub mod disks;
 mod events;
+pub mod files;
 mod folders;
 mod found;
+pub mod frames;
+mod lent;
 pub mod nodes;
 mod out;
 mod reached;
 mod shelves;
 mod sizes;
 
-pub use case::{Line, Stop, bytes_of, read, read_lines};
-pub use dice::Dice;
-pub use events::{event_of, own_event_of};
+pub use case::{Line, Stop, Subject, number, read, read_lines, take_all, verb, word};
+pub use dice::{ASKED, Dice};
+pub use events::{event_of, repeated};
 pub use folders::{disks_in, nodes_in};
 pub use found::{Found, Noted, compare_letters};
-pub use out::{Out, Tally};
+pub use lent::Lent;
+pub use out::Out;
 pub use reached::count_reached;
-pub use shelves::{Bench, Held, area_of, node_on};
+pub use shelves::node_on;
 pub use sizes::{Size, blank_disks};

@@ -41,9 +41,7 @@ impl Out {
 
     /// A line of this text.
     pub fn text(&mut self, text: &str) {
-        if writeln!(self.text, "{text}").is_err() {
-            self.failed = true;
-        }
+        self.show(&text);
     }
 
     /// A line that shows the value.
@@ -55,24 +53,18 @@ impl Out {
 
     /// A line that shows the value with the names of its parts.
     pub fn debug<T: Debug>(&mut self, value: &T) {
-        if writeln!(self.text, "{value:?}").is_err() {
-            self.failed = true;
-        }
+        self.show(&format_args!("{value:?}"));
     }
 
     /// That the line of the case is no command.
     pub fn unknown(&mut self) {
         let line = self.line;
-        if writeln!(self.text, "line {line}: not a command").is_err() {
-            self.failed = true;
-        }
+        self.show(&format_args!("line {line}: not a command"));
     }
 
     /// The refusal, by its number and name.
     pub fn refused(&mut self, refusal: Refusal) {
-        if writeln!(self.text, "refused {refusal}").is_err() {
-            self.failed = true;
-        }
+        self.show(&format_args!("refused {refusal}"));
     }
 
     /// `ok`, or the refusal.
@@ -101,34 +93,29 @@ impl Out {
             Err(_) => self.failed = true,
         }
     }
+
+    /// The bytes, or the refusal.
+    pub fn spelled(&mut self, spelled: Result<Vec<u8>, Refusal>) {
+        match spelled {
+            Ok(bytes) => self.bytes(&bytes),
+            Err(refusal) => self.refused(refusal),
+        }
+    }
 }
 
 /// How often each of some things came.
-#[derive(Clone, Copy)]
-pub struct Tally<const N: usize> {
-    counts: [u64; N],
+pub type Tally = [u64; 5];
+
+/// The one of this place came once more.
+pub fn count(tally: &mut Tally, place: usize) {
+    if place < tally.len() {
+        tally[place] = tally[place].saturating_add(1);
+    }
 }
 
-impl<const N: usize> Tally<N> {
-    /// None came yet.
-    pub fn new() -> Tally<N> {
-        Tally { counts: [0; N] }
-    }
-
-    /// The one of this place came once more.
-    pub fn add(&mut self, place: usize) {
-        if place < N {
-            self.counts[place] = self.counts[place].saturating_add(1);
-        }
-    }
-
-    /// A line for each, with its name.
-    pub fn put(&self, names: &[&str], out: &mut Out) {
-        for place in 0..N {
-            if place < names.len() {
-                let (name, count) = (names[place], self.counts[place]);
-                out.show(&format_args!("{name} {count}"));
-            }
-        }
+/// A line for each that has a name.
+pub fn put_tally(names: &[&str], tally: &Tally, out: &mut Out) {
+    for (name, count) in names.iter().zip(tally.iter()) {
+        out.show(&format_args!("{name} {count}"));
     }
 }

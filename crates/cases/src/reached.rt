@@ -2,66 +2,12 @@
 //! what isn't reached is to be gone.
 use crate::found::Found;
 use ids::{Ref, Refusal};
-use node::Node;
-use std::alloc::{AllocError, Global};
+use indexmap::IndexSet;
+use node::{Core, Node};
+use std::alloc::Global;
 
 // More references than are reached.
 const MANY: usize = 1_000_000;
-
-// What is reached from the roots of nodes.
-#[derive(Drop)]
-struct Reach<'a> {
-    nodes: &'a [Node],
-    found: Vec<Ref>,
-    // How many of them name no object.
-    missing: u64,
-}
-
-impl Reach<'_> {
-    fn add(&mut self, reference: Option<Ref>) -> Result<(), AllocError> {
-        match reference {
-            Some(reference) if !self.found.contains(&reference) => Ok(self.found.push(reference)?),
-            _ => Ok(()),
-        }
-    }
-
-    fn add_roots(&mut self, node: &Node) -> Result<(), AllocError> {
-        for number in 0..node.core().root_count() {
-            self.add(node.core().root(number))?;
-        }
-        Ok(())
-    }
-
-    fn add_places(&mut self, places: &[Option<Ref>]) -> Result<(), AllocError> {
-        for place in places {
-            self.add(*place)?;
-        }
-        Ok(())
-    }
-
-    // What the places of an object hold.
-    fn follow(&mut self, reference: Ref) -> Result<(), AllocError> {
-        match self.nodes.get(usize::from(reference.node)) {
-            Some(node) if node.core().is_live(reference) => {
-                self.add_places(node.core().places(reference.slot))
-            }
-            _ => {
-                self.missing = self.missing.saturating_add(1);
-                Ok(())
-            }
-        }
-    }
-
-    fn follow_all(&mut self) -> Result<(), AllocError> {
-        for number in 0..MANY {
-            match self.found.get(number).copied() {
-                Some(reference) => self.follow(reference)?,
-                None => return Ok(()),
-            }
-        }
-        Ok(())
-    }
-}
 
 // How many objects there are.
 fn live(nodes: &[Node]) -> u64 {
@@ -93,19 +39,53 @@ fn look_each(nodes: &[Node], cycle: u64, found: &mut Found) {
     }
 }
 
-fn reach_from_all(alloc: Global, nodes: &[Node]) -> Result<(u64, u64), AllocError> {
-    let mut reach = Reach {
-        nodes,
-        found: Vec::new(alloc),
-        missing: 0,
-    };
-    for node in nodes {
-        reach.add_roots(node)?;
+fn add(reached: &mut IndexSet<Ref>, reference: Option<Ref>) -> Result<(), Refusal> {
+    if let Some(reference) = reference {
+        reached.insert(reference)?;
     }
-    reach.follow_all()?;
-    let reached = (reach.found.len() as u64, reach.missing);
-    drop(reach);
-    Ok(reached)
+    Ok(())
+}
+
+fn add_all(reached: &mut IndexSet<Ref>, references: &[Option<Ref>]) -> Result<(), Refusal> {
+    for reference in references {
+        add(reached, *reference)?;
+    }
+    Ok(())
+}
+
+// Adds what the node's program holds.
+fn add_roots(reached: &mut IndexSet<Ref>, node: &Core) -> Result<(), Refusal> {
+    for number in 0..node.root_count() {
+        add(reached, node.root(number))?;
+    }
+    Ok(())
+}
+
+// Adds what is reached from the references that are there; how many of all these name no object.
+fn follow_all(nodes: &[Node], reached: &mut IndexSet<Ref>) -> Result<u64, Refusal> {
+    let mut missing = 0u64;
+    for next in 0..MANY {
+        let Some(&reference) = reached.get_index(next) else {
+            break;
+        };
+        match nodes.get(usize::from(reference.node)) {
+            Some(node) if node.core().is_live(reference) => {
+                add_all(reached, node.core().places(reference.slot))?;
+            }
+            _ => missing = missing.saturating_add(1),
+        }
+    }
+    Ok(missing)
+}
+
+// How many references are reached, and how many of them name no object.
+fn reach_all(alloc: Global, nodes: &[Node]) -> Result<(u64, u64), Refusal> {
+    let mut reached = IndexSet::new(alloc);
+    for node in nodes {
+        add_roots(&mut reached, node.core())?;
+    }
+    let missing = follow_all(nodes, &mut reached)?;
+    Ok((reached.len() as u64, missing))
 }
 
 /// What is there and what is reached, once nothing is on its way and this cycle is swept
@@ -117,7 +97,7 @@ pub fn count_reached(
     found: &mut Found,
 ) -> Result<(), Refusal> {
     look_each(nodes, cycle, found);
-    let (reached, missing) = reach_from_all(alloc, nodes)?;
+    let (reached, missing) = reach_all(alloc, nodes)?;
     found.missing = missing;
     found.kept = reached.saturating_sub(missing);
     found.left = live(nodes).saturating_sub(found.kept);

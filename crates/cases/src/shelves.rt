@@ -1,6 +1,6 @@
 //! A disk, and a shelf over it that keeps the node of the case. In memory and in files it takes the
 //! same commands.
-use crate::case::{Stop, bytes_of, read};
+use crate::case::{Stop, Subject, bytes_of, number, verb, word};
 use crate::nodes::Nodes;
 use crate::out::Out;
 use disk::{Area, Disk, DiskFault, MemoryDisk, Shelf, is_blank};
@@ -101,36 +101,40 @@ impl<D: Disk + Drop> Bench<D> {
         Ok(())
     }
 
-    fn leave(&mut self, out: &mut Out) {
+    fn leave(&mut self, out: &mut Out) -> Result<(), Stop> {
         drop(mem::replace(&mut self.held, Held::Nothing));
         out.text("ok");
+        Ok(())
     }
 
-    // A command of one word.
-    fn take_word(&mut self, verb: &str, words: &[&str], out: &mut Out) -> Result<(), Stop> {
-        match verb {
+    // `repeat COUNT save`, or an event that is repeated.
+    fn repeat(&mut self, words: &[&str], out: &mut Out) -> Result<(), Stop> {
+        if word(words, 2)? == "save" {
+            self.save(number(words, 1)?, out)
+        } else {
+            self.nodes.take(words, out)
+        }
+    }
+
+    fn take_disk(&mut self, words: &[&str], out: &mut Out) -> Result<(), Stop> {
+        match &mut self.held {
+            Held::Loose(disk) => on_disk(self.nodes.alloc, disk, words, out),
+            Held::Nothing | Held::Shelved(_) => Err(Stop::Unknown),
+        }
+    }
+}
+
+impl<D: Disk + Drop> Subject for Bench<D> {
+    fn take(&mut self, words: &[&str], out: &mut Out) -> Result<(), Stop> {
+        match verb(words) {
             "create" => self.create(out),
             "open" => self.open(out),
             "save" => self.save(1, out),
             "reopen" => self.reopen(out),
-            "leave" => {
-                self.leave(out);
-                Ok(())
-            }
+            "leave" => self.leave(out),
+            "repeat" => self.repeat(words, out),
+            "disk" => self.take_disk(words, out),
             _ => self.nodes.take(words, out),
-        }
-    }
-
-    /// A command to the disk, the shelf or the node.
-    pub fn take(&mut self, words: &[&str], out: &mut Out) -> Result<(), Stop> {
-        match words {
-            ["repeat", count, "save"] => self.save(read(count)?, out),
-            ["disk", words @ ..] => match &mut self.held {
-                Held::Loose(disk) => on_disk(self.nodes.alloc, disk, words, out),
-                Held::Nothing | Held::Shelved(_) => Err(Stop::Unknown),
-            },
-            [verb] => self.take_word(verb, words, out),
-            words => self.nodes.take(words, out),
         }
     }
 }
@@ -171,47 +175,48 @@ fn refusal_of(_fault: DiskFault) -> Refusal {
     Refusal::Disk
 }
 
-// A command to a disk.
+// A command to a disk, which stands behind the first word.
 fn on_disk<D: Disk>(
     alloc: Global,
     disk: &mut D,
     words: &[&str],
     out: &mut Out,
 ) -> Result<(), Stop> {
-    match words {
-        ["sync"] => out.done(disk.sync().map_err(refusal_of)),
-        ["blank"] => out.answer(is_blank(disk).map_err(refusal_of)),
-        ["failures"] => out.show(&disk.failures()),
-        [verb, area, at, word] => {
-            return on_area(alloc, disk, verb, area_of(area)?, read(at)?, word, out);
-        }
+    match word(words, 1)? {
+        "sync" => out.done(disk.sync().map_err(refusal_of)),
+        "blank" => out.answer(is_blank(disk).map_err(refusal_of)),
+        "failures" => out.show(&disk.failures()),
+        "read" => return read_from(alloc, disk, words, out),
+        "write" => return write_to(alloc, disk, words, out),
         _ => return Err(Stop::Unknown),
     }
     Ok(())
 }
 
-// A read or a write of an area from an offset on.
-fn on_area<D: Disk>(
+// `disk read AREA AT COUNT`
+fn read_from<D: Disk>(
     alloc: Global,
     disk: &mut D,
-    verb: &str,
-    area: Area,
-    at: usize,
-    word: &str,
+    words: &[&str],
     out: &mut Out,
 ) -> Result<(), Stop> {
-    match verb {
-        "read" => {
-            let mut into = vec![in alloc; 0; read(word)?]?;
-            put_read(disk, area, at, &mut into, out);
-        }
-        "write" => {
-            let bytes = bytes_of(alloc, word)?;
-            let done = write(disk, area, at, &bytes)?;
-            out.done(done.map_err(refusal_of));
-        }
-        _ => return Err(Stop::Unknown),
-    }
+    let area = area_of(word(words, 2)?)?;
+    let mut into = vec![in alloc; 0; number(words, 4)?]?;
+    put_read(disk, area, number(words, 3)?, &mut into, out);
+    Ok(())
+}
+
+// `disk write AREA AT BYTES`
+fn write_to<D: Disk>(
+    alloc: Global,
+    disk: &mut D,
+    words: &[&str],
+    out: &mut Out,
+) -> Result<(), Stop> {
+    let area = area_of(word(words, 2)?)?;
+    let bytes = bytes_of(alloc, word(words, 4)?)?;
+    let done = write(disk, area, number(words, 3)?, &bytes)?;
+    out.done(done.map_err(refusal_of));
     Ok(())
 }
 

@@ -2,20 +2,22 @@
 use disk::MemoryDisk;
 use std::alloc::{AllocError, Global};
 
-/// How many nodes a space has, each with three registers and so many slots, and how many turns its
+/// How many nodes a space has, each with so many registers and slots, and how many turns its
 /// workers take at most.
 #[derive(Clone, Copy)]
 pub struct Size {
     pub nodes: u8,
+    pub registers: u16,
     pub slots: u32,
     pub turns: u32,
 }
 
 impl Size {
-    /// Two nodes of eight slots.
+    /// Two nodes of three registers and eight slots.
     pub fn pair(turns: u32) -> Size {
         Size {
             nodes: 2,
+            registers: 3,
             slots: 8,
             turns,
         }
@@ -25,10 +27,13 @@ impl Size {
     pub fn text(self, alloc: Global) -> Result<String, AllocError> {
         let Size {
             nodes,
+            registers,
             slots,
             turns,
         } = self;
-        format!(in alloc; "nodes = {nodes}\nregisters = 3\nslots = {slots}\nturns = {turns}\n")
+        format!(in alloc;
+            "nodes = {nodes}\nregisters = {registers}\nslots = {slots}\nturns = {turns}\n"
+        )
     }
 }
 

@@ -3,13 +3,14 @@
 //! is what was reached.
 ghost use Rattle.std.specs.Prelude.{◌≡◌, IfSome, false, is_some, true};
 
+use crate::endings::{Ends, ending};
+use crate::player::{Player, REGISTERS, away, compare_all, dice_of};
 use crate::quiet::turn_all;
-use crate::spaces::MANY;
-use cases::{Dice, Found, Line, Out, Stop, count_reached, disks_in, nodes_in, read};
+use crate::spaces::{MANY, config_of};
+use cases::{Dice, Found, Out, Size, Stop, count_reached, disks_in, nodes_in, number, verb};
 use disk::FileDisk;
 use ids::Refusal;
 use model::Answer;
-use players::{Ends, Player, REGISTERS, away, compare_all, ending};
 use std::alloc::{AllocError, Global};
 use std::fs::File;
 use std::rt::Files;
@@ -17,7 +18,7 @@ use std::sync::{Arc, Wait};
 use std::thread;
 use std::thread::Threads;
 use std::time::{Clock, Duration, Instant};
-use supervisor::{Config, Space};
+use supervisor::Space;
 
 // How many letters may be on their way to a node.
 const GREATEST_AWAY: usize = 20;
@@ -109,19 +110,17 @@ fn is_over<R: Clock>(rt: &R, end: Instant) -> bool {
     }
 }
 
-fn text_of(alloc: Global, nodes: u8) -> Result<String, AllocError> {
-    let (registers, slots, turns) = (REGISTERS, SLOTS, MANY);
-    format!(in alloc;
-        "nodes = {nodes}\nregisters = {registers}\nslots = {slots}\nturns = {turns}\n"
-    )
-}
-
 // The space on these disks.
 fn opened<R: Files<File = File>>(rt: &R, alloc: Global, plan: Plan) -> Option<Space<FileDisk>>
     ensures { IfSome result (λ s. is_some s.team ≡ false) }
 {
-    let text = text_of(alloc, plan.nodes).ok()?;
-    let config = Config::from_text(alloc, text.as_str()).ok()?;
+    let size = Size {
+        nodes: plan.nodes,
+        registers: REGISTERS,
+        slots: SLOTS,
+        turns: MANY,
+    };
+    let config = config_of(alloc, size).ok()?;
     let disks = disks_in(rt, alloc, plan.seed, plan.nodes).ok()?;
     match Space::open(alloc, &config, disks) {
         Ok(space) => Some(space),
@@ -163,7 +162,7 @@ where
         nodes: plan.nodes,
         space,
         gate,
-        dice: Dice { state: plan.seed },
+        dice: dice_of(plan.seed),
         players,
         ends: 0,
     };
@@ -179,18 +178,7 @@ where
     Some((players, ends))
 }
 
-// Its space came back.
-fn restart_all<R: Wait>(rt: &R, space: &Space<FileDisk>, players: &mut [Player]) {
-    for (place, player) in players.iter_mut().enumerate() {
-        if let Ok(node) = u8::try_from(place)
-            && let Some(cell) = space.program(node)
-        {
-            player.restart(rt, cell);
-        }
-    }
-}
-
-// Each takes the letters that are there.
+// Its space came back: each takes the letters that are there.
 fn take_all<R: Wait>(
     rt: &R,
     space: &Space<FileDisk>,
@@ -220,7 +208,6 @@ where
     R: Files<File = File> + Wait,
 {
     let space = opened(rt, alloc, plan)?;
-    restart_all(rt, &space, players);
     turn_all(rt, &space, plan.nodes);
     let taken = take_all(rt, &space, players);
     turn_all(rt, &space, plan.nodes);
@@ -249,30 +236,20 @@ where
     Some(found)
 }
 
-/// A case of workers that end.
-pub(crate) fn run<R>(rt: &R, alloc: Global, lines: &[Line<'_>], out: &mut Out) -> Result<(), Stop>
+/// A command over workers that end.
+pub(crate) fn take<R>(rt: &R, alloc: Global, words: &[&str], out: &mut Out) -> Result<(), Stop>
 where
     R: Files<File = File> + Clock + Threads + Wait + Clone + Send + Sync + Drop + 'static,
 {
-    for line in lines {
-        take(rt, alloc, out.at(line), out)?;
-    }
-    Ok(())
-}
-
-fn take<R>(rt: &R, alloc: Global, words: &[&str], out: &mut Out) -> Result<(), Stop>
-where
-    R: Files<File = File> + Clock + Threads + Wait + Clone + Send + Sync + Drop + 'static,
-{
-    let (nodes, millis, seed, least) = match words {
-        ["run", nodes, millis, seed] => (nodes, millis, seed, None),
-        ["try", nodes, millis, seed, least] => (nodes, millis, seed, Some(read(least)?)),
+    let least = match verb(words) {
+        "run" => None,
+        "try" => Some(number(words, 4)?),
         _ => return Err(Stop::Unknown),
     };
     let plan = Plan {
-        nodes: read(nodes)?,
-        millis: read(millis)?,
-        seed: read(seed)?,
+        nodes: number(words, 1)?,
+        millis: number(words, 2)?,
+        seed: number(words, 3)?,
     };
     put(found_in(rt, alloc, plan), least, out);
     Ok(())

@@ -2,19 +2,29 @@
 //! it, whose answer is printed. `tests/README.md` lists the commands.
 #![tactic(auto)]
 
+mod cells;
 mod ended;
+mod endings;
+mod gates;
+mod mailboxes;
+mod member;
+mod names;
 mod openings;
+mod player;
+mod program;
 mod programs;
 mod quiet;
 mod revived;
+mod shared;
 mod space;
 mod spaces;
 mod threads;
 mod turning;
+mod turns;
 
-use cases::nodes::{self, shape_of};
-use cases::{Line, Out, Stop, read_lines};
-use players::turns;
+use cases::disks::Disks;
+use cases::nodes::{Nodes, shape_of};
+use cases::{Line, Out, Stop, arenas, collected, files, frames, read_lines, take_all, verb};
 use std::alloc::Global;
 use std::fs::File;
 use std::io;
@@ -23,8 +33,6 @@ use std::rt::Files;
 use std::sync::Wait;
 use std::thread::Threads;
 use std::time::Clock;
-use subjects::{arenas, collected, disks, files, frames};
-use wired::{cells, mailboxes, names, shared};
 
 /// Output or memory was refused.
 const FAILED: u8 = 1;
@@ -92,21 +100,15 @@ where
     let [first, lines @ ..] = lines else {
         return Ok(());
     };
-    match out.at(first) {
-        [subject] => take_subject(rt, alloc, subject, lines, out),
-        [subject, nodes, registers, slots] => {
-            let shape = shape_of(nodes, registers, slots)?;
-            match *subject {
-                "cells" => cells::run(alloc, shape, lines, out),
-                "shared" => shared::run(rt, alloc, shape, lines, out),
-                _ => Err(Stop::Unknown),
-            }
-        }
-        _ => Err(Stop::Unknown),
+    let words = out.at(first);
+    match verb(words) {
+        "cells" => cells::run(alloc, shape_of(words)?, lines, out),
+        "shared" => shared::run(rt, alloc, shape_of(words)?, lines, out),
+        subject => take_subject(rt, alloc, subject, lines, out),
     }
 }
 
-// The subjects of one word.
+// The subjects that have no shape.
 fn take_subject<R>(
     rt: &R,
     alloc: Global,
@@ -128,31 +130,34 @@ where
         + 'static,
 {
     match subject {
-        "ends" => ended::run(rt, alloc, lines, out),
+        "node" => take_all(Nodes::new(alloc), lines, out),
+        "disk" => take_all(Disks::new(alloc), lines, out),
+        "opening" => openings::run(alloc, lines, out),
         "files" => files::run(rt, lines, out),
-        "space" => spaces::run(rt, alloc, lines, out),
-        "threads" => threads::run(rt, alloc, lines, out),
-        "turns" => turns::run(rt, alloc, lines, out),
-        _ => take_simple(alloc, subject, lines, out),
+        "wire" => mailboxes::run(alloc, lines, out),
+        "arena" => arenas::run(alloc, lines, out),
+        "bytes" | "ends" | "lists" | "names" | "space" | "threads" | "turns" => {
+            for line in lines {
+                take(rt, alloc, subject, out.at(line), out)?;
+            }
+            Ok(())
+        }
+        _ => Err(Stop::Unknown),
     }
 }
 
-// The subjects of one word that need neither files nor threads.
-fn take_simple(
-    alloc: Global,
-    subject: &str,
-    lines: &[Line<'_>],
-    out: &mut Out,
-) -> Result<(), Stop> {
+// A command of a subject that keeps nothing from one line to the next.
+fn take<R>(rt: &R, alloc: Global, subject: &str, words: &[&str], out: &mut Out) -> Result<(), Stop>
+where
+    R: Files<File = File> + Clock + Threads + Wait + Clone + Send + Sync + Drop + 'static,
+{
     match subject {
-        "node" => nodes::run(alloc, lines, out),
-        "disk" => disks::run(alloc, lines, out),
-        "opening" => openings::run(alloc, lines, out),
-        "bytes" => frames::run(alloc, lines, out),
-        "names" => names::run(lines, out),
-        "lists" => collected::run(alloc, lines, out),
-        "wire" => mailboxes::run(alloc, lines, out),
-        "arena" => arenas::run(alloc, lines, out),
-        _ => Err(Stop::Unknown),
+        "bytes" => frames::take(alloc, words, out),
+        "ends" => ended::take(rt, alloc, words, out),
+        "lists" => collected::take(alloc, words, out),
+        "names" => names::take(words, out),
+        "space" => spaces::take(rt, alloc, words, out),
+        "threads" => threads::take(rt, alloc, words, out),
+        _ => turns::take(rt, alloc, words, out),
     }
 }

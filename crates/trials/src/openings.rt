@@ -1,12 +1,12 @@
 //! Spaces that are opened on disks in memory, which can be told to fail and to crash. No worker is
 //! started.
-use cases::{Line, Out, Size, Stop, blank_disks, read};
+use crate::spaces::config_of;
+use cases::crashes::{change, put_crashes};
+use cases::{Lent, Line, Out, Size, Stop, blank_disks, number, verb};
 use disk::MemoryDisk;
 use ids::Refusal;
 use std::alloc::Global;
-use subjects::Lent;
-use subjects::crashes::{change, put_crashes};
-use supervisor::{Config, OpenFault, Space};
+use supervisor::{OpenFault, Space};
 
 /// A case over the disks of spaces.
 pub(crate) fn run(alloc: Global, lines: &[Line<'_>], out: &mut Out) -> Result<(), Stop> {
@@ -23,18 +23,17 @@ fn take(
     words: &[&str],
     out: &mut Out,
 ) -> Result<(), Stop> {
-    match words {
-        ["fresh", nodes] => {
-            *held = blank_disks(alloc, read(nodes)?)?;
+    match verb(words) {
+        "fresh" => {
+            *held = blank_disks(alloc, number(words, 1)?)?;
             out.text("ok");
         }
-        ["open"] => open(alloc, held, out),
-        ["crashes", node] => {
-            let node = read(node)?;
+        "open" => open(alloc, held, out),
+        "crashes" => {
+            let node = number(words, 1)?;
             put_crashes(alloc, disk_of(held, node)?, node, out);
         }
-        [verb, node, number] => change(disk_of(held, read(node)?)?, verb, number, out)?,
-        _ => return Err(Stop::Unknown),
+        _ => change(disk_of(held, number(words, 1)?)?, words, out)?,
     }
     Ok(())
 }
@@ -55,7 +54,11 @@ fn open(alloc: Global, held: &mut [MemoryDisk], out: &mut Out) {
 }
 
 fn opened(alloc: Global, held: &mut [MemoryDisk]) -> Result<(), OpenFault> {
-    let config = config_of(alloc, held.len())?;
+    let size = Size {
+        nodes: u8::try_from(held.len()).unwrap_or(u8::MAX),
+        ..Size::pair(1)
+    };
+    let config = config_of(alloc, size)?;
     let mut lent = Vec::new(alloc);
     let disks = held.iter_mut();
     for disk in disks {
@@ -66,17 +69,4 @@ fn opened(alloc: Global, held: &mut [MemoryDisk]) -> Result<(), OpenFault> {
     let space = Space::open(alloc, &config, lent)?;
     drop(space);
     Ok(())
-}
-
-// A configuration of so many nodes.
-fn config_of(alloc: Global, nodes: usize) -> Result<Config, OpenFault> {
-    let size = Size {
-        nodes: u8::try_from(nodes).unwrap_or(u8::MAX),
-        slots: 8,
-        turns: 1,
-    };
-    match size.text(alloc) {
-        Ok(text) => Config::from_text(alloc, text.as_str()),
-        Err(_) => Err(OpenFault::Refused(Refusal::Memory)),
-    }
 }

@@ -2,11 +2,12 @@
 //! printed is the same in each schedule in which every try comes to its end.
 ghost use Rattle.std.specs.Prelude.{◌≡◌, false, is_some};
 
+use crate::gates::{Holds, gate, pause};
+use crate::program::{Program, Went, play_all};
 use crate::spaces::opened;
 use cases::Size;
 use cell::Shared;
 use disk::Disk;
-use players::{Pauses, Program, Went, pause, pausing, play_all};
 use std::alloc::{AllocError, Global};
 use std::sync::atomic::AtomicU64;
 use std::sync::{Arc, Wait};
@@ -94,7 +95,7 @@ fn start_and_play<R, D>(
     rt: &R,
     alloc: Global,
     space: &mut Space<D>,
-    gate: Arc<Pauses<R>>,
+    gate: Arc<Holds<R>>,
     nodes: u8,
     rounds: u32,
 ) -> Option<Went>
@@ -115,7 +116,7 @@ pub(crate) fn run_programs<R>(rt: &R, alloc: Global, size: Size, rounds: u32) ->
 where
     R: Clock + Threads + Wait + Clone + Send + Sync + Drop + 'static,
 {
-    let gate = pausing(rt, alloc)?;
+    let gate = gate(rt, alloc, None, None)?;
     let mut space = opened(alloc, size)?;
     let went = start_and_play(rt, alloc, &mut space, gate, size.nodes, rounds);
     let reports = space.close(rt);

@@ -1,6 +1,6 @@
 //! A space after all programs are over, which takes its turns on one thread.
+use crate::gates::Open;
 use disk::Disk;
-use players::Open;
 use std::sync::Wait;
 use supervisor::Space;
 use workers::turn_node;

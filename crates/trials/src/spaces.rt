@@ -1,31 +1,39 @@
 //! Spaces whose nodes have workers. What is printed is the same in each schedule.
 ghost use Rattle.std.specs.Prelude.{◌≡◌, false, IfSome, is_some};
 
+use crate::gates::{Holds, gate, pause};
 use crate::programs::run_programs;
 use crate::revived::revive;
 use crate::space::meet;
-use crate::turning::turn_often;
-use cases::{Line, Out, Size, Stop, blank_disks, read};
+use crate::turning::{turn_often, writes_of};
+use cases::{Out, Size, Stop, blank_disks, number, verb, word};
+use cell::Shared;
 use disk::MemoryDisk;
 use ids::Refusal;
 use model::Event;
-use players::{Pauses, holding, is_writing, pause, pausing, stage_of};
 use std::alloc::Global;
 use std::sync::{Arc, Wait};
 use std::thread::Threads;
 use std::time::Clock;
-use supervisor::{Config, Space};
+use supervisor::{Config, OpenFault, Space};
 use workers::{Report, Stage};
 
 /// More turns than a worker takes in the time that a case has.
 pub(crate) const MANY: u32 = 1_000_000;
 
+/// The configuration of a space of this size.
+pub(crate) fn config_of(alloc: Global, size: Size) -> Result<Config, OpenFault> {
+    match size.text(alloc) {
+        Ok(text) => Config::from_text(alloc, text.as_str()),
+        Err(_) => Err(OpenFault::Refused(Refusal::Memory)),
+    }
+}
+
 /// A new space in memory, of this size.
 pub(crate) fn opened(alloc: Global, size: Size) -> Option<Space<MemoryDisk>>
     ensures { IfSome result (λ s. is_some s.team ≡ false) }
 {
-    let text = size.text(alloc).ok()?;
-    let config = Config::from_text(alloc, text.as_str()).ok()?;
+    let config = config_of(alloc, size).ok()?;
     match Space::open(alloc, &config, blank_disks(alloc, size.nodes).ok()?) {
         Ok(space) => Some(space),
         Err(_) => None,
@@ -37,10 +45,10 @@ fn take_turn<R>(rt: &R, alloc: Global, later: u8, stage: Stage) -> Option<Vec<Re
 where
     R: Clock + Threads + Wait + Clone + Send + Sync + Drop + 'static,
 {
-    let gate = holding(rt, alloc, later, stage).ok()?;
+    let gate = gate(rt, alloc, Some((later, stage)), None)?;
     let mut space = opened(alloc, Size::pair(1))?;
-    let given = give(rt, &space);
-    if given.is_some() && space.start(rt, gate).is_ok() {
+    let given = give(rt, space.program(0)?, 1);
+    if given.is_ok() && space.start(rt, gate).is_ok() {
         await_end(rt, &space);
     }
     Some(space.close(rt))
@@ -56,20 +64,26 @@ fn await_end<R: Clock + Wait>(rt: &R, space: &Space<MemoryDisk>) {
     }
 }
 
-fn give<R: Wait>(rt: &R, space: &Space<MemoryDisk>) -> Option<()> {
-    let program = space.program(0)?;
+/// Node 0's program makes an object, and gives node 1 so many letters with it.
+pub(crate) fn give<R: Wait>(
+    rt: &R,
+    program: &Shared<MemoryDisk>,
+    count: u32,
+) -> Result<(), Refusal> {
     let object = Event::Alloc {
         register: 0,
         places: 0,
     };
-    program.act(rt, object).ok()?;
-    let letter = Event::Give {
-        to: 1,
-        label: 4,
-        register: 0,
-    };
-    program.act(rt, letter).ok()?;
-    Some(())
+    program.act(rt, object)?;
+    for label in 0..count {
+        let letter = Event::Give {
+            to: 1,
+            label: label + 1,
+            register: 0,
+        };
+        program.act(rt, letter)?;
+    }
+    Ok(())
 }
 
 // A space is let go while its workers have many turns left. The gate is the last thing that they
@@ -78,7 +92,7 @@ fn leave<R>(rt: &R, alloc: Global) -> Option<()>
 where
     R: Clock + Threads + Wait + Clone + Send + Sync + Drop + 'static,
 {
-    let gate = pausing(rt, alloc)?;
+    let gate = gate(rt, alloc, None, None)?;
     start(rt, alloc, &gate)?;
     for _ in rt.forever() {
         if Arc::strong_count(&gate) == 1 {
@@ -90,7 +104,7 @@ where
 }
 
 // Starts a space, and lets go of it.
-fn start<R>(rt: &R, alloc: Global, gate: &Arc<Pauses<R>>) -> Option<()>
+fn start<R>(rt: &R, alloc: Global, gate: &Arc<Holds<R>>) -> Option<()>
 where
     R: Clock + Threads + Wait + Clone + Send + Sync + Drop + 'static,
 {
@@ -118,11 +132,10 @@ fn start_all<R>(rt: &R, alloc: Global, nodes: u8) -> Option<Started>
 where
     R: Clock + Threads + Wait + Clone + Send + Sync + Drop + 'static,
 {
-    let gate = pausing(rt, alloc)?;
+    let gate = gate(rt, alloc, None, None)?;
     let size = Size {
         nodes,
-        slots: 8,
-        turns: MANY,
+        ..Size::pair(MANY)
     };
     let mut space = opened(alloc, size)?;
     let answer = space.start(rt, gate.clone().ok()?);
@@ -137,35 +150,38 @@ where
     })
 }
 
-/// A case over spaces.
-pub(crate) fn run<R>(rt: &R, alloc: Global, lines: &[Line<'_>], out: &mut Out) -> Result<(), Stop>
-where
-    R: Clock + Threads + Wait + Clone + Send + Sync + Drop + 'static,
-{
-    for line in lines {
-        take(rt, alloc, out.at(line), out)?;
+// The stage of a turn that the word names.
+fn stage_of(word: &str) -> Result<Stage, Stop> {
+    match word {
+        "Start" => Ok(Stage::Start),
+        "TakenIn" => Ok(Stage::TakenIn),
+        "Collected" => Ok(Stage::Collected),
+        "Saved" => Ok(Stage::Saved),
+        "Sent" => Ok(Stage::Sent),
+        _ => Err(Stop::Unknown),
     }
-    Ok(())
 }
 
-fn take<R>(rt: &R, alloc: Global, words: &[&str], out: &mut Out) -> Result<(), Stop>
+/// A command over spaces.
+pub(crate) fn take<R>(rt: &R, alloc: Global, words: &[&str], out: &mut Out) -> Result<(), Stop>
 where
     R: Clock + Threads + Wait + Clone + Send + Sync + Drop + 'static,
 {
-    match words {
-        ["meet", turns] => {
-            let size = Size::pair(read(turns)?);
+    match verb(words) {
+        "meet" => {
+            let size = Size::pair(number(words, 1)?);
             let text = size.text(alloc)?;
             let reports = meet(rt, alloc, text.as_str(), blank_disks(alloc, size.nodes)?);
             out.debug(&reports.map(|reports| reports.len()));
         }
-        ["turn", later, stage] => {
-            out.debug(&take_turn(rt, alloc, read(later)?, stage_of(stage)?));
+        "turn" => {
+            let stage = stage_of(word(words, 2)?)?;
+            out.debug(&take_turn(rt, alloc, number(words, 1)?, stage));
         }
-        ["leave"] => out.debug(&leave(rt, alloc)),
-        ["revive", stage] => out.debug(&revive(rt, alloc, stage_of(stage)?)),
-        ["start", nodes] => out.debug(&start_all(rt, alloc, read(nodes)?)),
-        words => return take_many(rt, alloc, words, out),
+        "leave" => out.debug(&leave(rt, alloc)),
+        "revive" => out.debug(&revive(rt, alloc, stage_of(word(words, 1)?)?)),
+        "start" => out.debug(&start_all(rt, alloc, number(words, 1)?)),
+        _ => return take_many(rt, alloc, words, out),
     }
     Ok(())
 }
@@ -175,19 +191,17 @@ fn take_many<R>(rt: &R, alloc: Global, words: &[&str], out: &mut Out) -> Result<
 where
     R: Clock + Threads + Wait + Clone + Send + Sync + Drop + 'static,
 {
-    match words {
-        ["programs", nodes, slots, rounds] => {
-            let size = Size {
-                nodes: read(nodes)?,
-                slots: read(slots)?,
-                turns: MANY,
-            };
-            out.debug(&run_programs(rt, alloc, size, read(rounds)?));
-        }
-        ["turns", nodes, objects, turns, what] => {
-            let (nodes, objects) = (read(nodes)?, read(objects)?);
-            let is_writing = is_writing(what)?;
-            out.debug(&turn_often(rt, alloc, nodes, objects, read(turns)?, is_writing));
+    let (nodes, slots) = (number(words, 1)?, number(words, 2)?);
+    let size = Size {
+        nodes,
+        slots,
+        ..Size::pair(MANY)
+    };
+    match verb(words) {
+        "programs" => out.debug(&run_programs(rt, alloc, size, number(words, 3)?)),
+        "turns" => {
+            let writes = writes_of(word(words, 4)?)?;
+            out.debug(&turn_often(rt, alloc, size, number(words, 3)?, writes));
         }
         _ => return Err(Stop::Unknown),
     }

@@ -1,15 +1,15 @@
 //! Threads that work on one wire at once. What is printed is the same whatever their schedule.
+use crate::mailboxes::exchange_frames;
+use crate::member::{Member, finish, take_turns};
 use crate::spaces::opened;
-use cases::{Line, Out, Size, Stop, read};
+use cases::{Out, Size, Stop, number, verb};
 use cell::Shared;
 use disk::Disk;
-use players::{Member, finish, take_turns};
 use std::alloc::{AllocError, Global};
 use std::sync::Wait;
 use std::sync::atomic::AtomicU64;
 use std::thread::Threads;
 use supervisor::Space;
-use wired::mailboxes::exchange_frames;
 
 // The ring of a space's cells, each of which is to give so many letters.
 fn ring<'a, R: Wait, D: Disk + Drop>(
@@ -66,7 +66,7 @@ fn exchange<R: Threads + Wait + Sync>(
     let size = Size {
         nodes,
         slots: 2,
-        turns: 1,
+        ..Size::pair(1)
     };
     let space = opened(alloc, size)?;
     let done = exchange_in(rt, alloc, &space, nodes, letters, turns).ok();
@@ -74,31 +74,20 @@ fn exchange<R: Threads + Wait + Sync>(
     done
 }
 
-/// A case of threads.
-pub(crate) fn run<R: Threads + Wait + Sync>(
-    rt: &R,
-    alloc: Global,
-    lines: &[Line<'_>],
-    out: &mut Out,
-) -> Result<(), Stop> {
-    for line in lines {
-        take(rt, alloc, out.at(line), out)?;
-    }
-    Ok(())
-}
-
-fn take<R: Threads + Wait + Sync>(
+/// A command over threads.
+pub(crate) fn take<R: Threads + Wait + Sync>(
     rt: &R,
     alloc: Global,
     words: &[&str],
     out: &mut Out,
 ) -> Result<(), Stop> {
-    match words {
-        ["ring", nodes, letters, turns] => {
-            let done = exchange(rt, alloc, read(nodes)?, read(letters)?, read(turns)?);
+    match verb(words) {
+        "ring" => {
+            let (nodes, letters) = (number(words, 1)?, number(words, 2)?);
+            let done = exchange(rt, alloc, nodes, letters, number(words, 3)?);
             out.debug(&done.ok_or(Stop::Memory)?);
         }
-        ["frames", tries] => out.answer(exchange_frames(rt, alloc, read(tries)?)),
+        "frames" => out.answer(exchange_frames(rt, alloc, number(words, 1)?)),
         _ => return Err(Stop::Unknown),
     }
     Ok(())

@@ -1,29 +1,68 @@
-//! The turns of workers, one after another on one thread, without the workers of a team. It shows
-//! nothing but how long they take.
+//! The turns of a worker at one node, one after another on one thread, without the workers of a
+//! team. It shows nothing but how long they take.
+ghost use Rattle.std.specs.Prelude.{◌≡◌, true};
+ghost use Rattle.model.specs.Steps.{is_own};
+
+use crate::gates::Open;
 use crate::spaces::opened;
-use cases::Size;
-use players::take_turns_writing;
+use cases::{Size, Stop};
+use model::Event;
 use std::alloc::Global;
 use std::sync::Wait;
+use workers::{Site, turn_node};
 
-/// Has node 0 of so many, with so many objects, take so many turns, before each of which its
-/// program writes a word, or doesn't. How many events were refused.
+/// How many words are written before each turn, as the case says: where one is, each turn saves the
+/// node.
+pub(crate) fn writes_of(word: &str) -> Result<u32, Stop> {
+    match word {
+        "writing" => Ok(1),
+        "idle" => Ok(0),
+        _ => Err(Stop::Unknown),
+    }
+}
+
+// An event of a node's program, so often; how often it was refused.
+fn act<R: Wait, S: Site>(rt: &R, site: &S, event: Event, count: u32) -> u64
+    requires { is_own event ≡ true }
+{
+    let mut refused = 0u64;
+    for _ in 0..count {
+        if site.act(rt, event).is_err() {
+            refused = refused.saturating_add(1);
+        }
+    }
+    refused
+}
+
+// So many turns of node 0, once its slots are full, and it is saved so. How many events were
+// refused.
+fn take_turns<R: Wait, S: Site>(rt: &R, site: &S, size: Size, turns: u32, writes: u32) -> u64 {
+    let object = Event::Alloc {
+        register: 0,
+        places: 0,
+    };
+    let mut refused = act(rt, site, object, size.slots);
+    let _ = site.save(rt);
+    for _ in 0..turns {
+        let word = Event::SetWord { object: 0, word: 7 };
+        refused = refused.saturating_add(act(rt, site, word, writes));
+        drop(turn_node(rt, site, &Open, 0, size.nodes, 1));
+    }
+    refused
+}
+
+/// Has node 0 of a space, all of whose slots it fills, take so many turns, before each of which its
+/// program writes a word so often. How many events were refused.
 pub(crate) fn turn_often<R: Wait>(
     rt: &R,
     alloc: Global,
-    nodes: u8,
-    objects: u32,
+    size: Size,
     turns: u32,
-    is_writing: bool,
+    writes: u32,
 ) -> Option<u64> {
-    let size = Size {
-        nodes,
-        slots: objects,
-        turns: 1,
-    };
     let space = opened(alloc, size)?;
     let refused = match space.program(0) {
-        Some(site) => Some(take_turns_writing(rt, site, nodes, objects, turns, is_writing)),
+        Some(site) => Some(take_turns(rt, site, size, turns, writes)),
         None => None,
     };
     drop(space);

@@ -1,0 +1,143 @@
+//! A disk in memory, which can be told to fail and to crash. A case sees what an opening finds
+//! after each of the crashes that may come.
+use crate::case::{Stop, Subject, number, verb};
+use crate::out::{Out, count, put_tally};
+use crate::shelves::{Bench, Held, node_on};
+use disk::{MemoryDisk, is_blank};
+use ids::Refusal;
+use std::alloc::Global;
+
+/// A disk in memory, and the image that it may go back to.
+#[derive(Drop)]
+pub struct Disks {
+    alloc: Global,
+    bench: Bench<MemoryDisk>,
+    // The image that was noted as the old one.
+    old: Vec<u8>,
+}
+
+impl Disks {
+    /// No disk yet.
+    pub fn new(alloc: Global) -> Disks {
+        Disks {
+            alloc,
+            bench: Bench::new(alloc),
+            old: Vec::new(alloc),
+        }
+    }
+
+    // The image of the node counts as the old one from now on.
+    fn note(&mut self, out: &mut Out) -> Result<(), Stop> {
+        let Some(node) = &self.bench.nodes.node else {
+            return Err(Stop::Unknown);
+        };
+        match image::to_bytes(self.alloc, node) {
+            Ok(bytes) => {
+                self.old = bytes;
+                out.text("ok");
+            }
+            Err(refusal) => out.refused(refusal),
+        }
+        Ok(())
+    }
+
+    // The disk is the one that a crash leaves.
+    fn crash(&mut self, fill: u8, out: &mut Out) -> Result<(), Stop> {
+        let left = after_crash(&self.bench.held, fill)?;
+        self.bench.hold(left, out);
+        Ok(())
+    }
+
+    // For each byte with which a crash may fill what wasn't synced, what the disk then opens to.
+    fn crashes(&self, out: &mut Out) -> Result<(), Stop> {
+        let Some(node) = &self.bench.nodes.node else {
+            return Err(Stop::Unknown);
+        };
+        let new = match image::to_bytes(self.alloc, node) {
+            Ok(new) => new,
+            Err(refusal) => {
+                out.refused(refusal);
+                return Ok(());
+            }
+        };
+        let mut tally = [0; 5];
+        for fill in 0..=u8::MAX {
+            let left = after_crash(&self.bench.held, fill)?;
+            count(&mut tally, opens_to(self.alloc, left, &self.old, &new));
+        }
+        put_tally(&NAMES, &tally, out);
+        Ok(())
+    }
+}
+
+impl Subject for Disks {
+    fn take(&mut self, words: &[&str], out: &mut Out) -> Result<(), Stop> {
+        match verb(words) {
+            "fresh" => self.bench.hold(Ok(MemoryDisk::new(self.alloc)), out),
+            "crashes" => return self.crashes(out),
+            "note" => return self.note(out),
+            "fail" => return fail(&mut self.bench.held, number(words, 1)?, out),
+            "fail-once" => return fail_once(&mut self.bench.held, number(words, 1)?, out),
+            "crash" => return self.crash(number(words, 1)?, out),
+            _ => return self.bench.take(words, out),
+        }
+        Ok(())
+    }
+}
+
+// The k-th call of the disk from now fails, and no later one.
+fn fail_once(held: &mut Held<MemoryDisk>, k: u64, out: &mut Out) -> Result<(), Stop> {
+    match held {
+        Held::Loose(disk) => disk.fail_once(k),
+        Held::Shelved(shelf) => shelf.fail_once(k),
+        Held::Nothing => return Err(Stop::Unknown),
+    }
+    out.text("ok");
+    Ok(())
+}
+
+// From now on the k-th call of the disk and all later ones fail.
+fn fail(held: &mut Held<MemoryDisk>, k: u64, out: &mut Out) -> Result<(), Stop> {
+    match held {
+        Held::Loose(disk) => disk.fail_from(k),
+        Held::Shelved(shelf) => shelf.fail_from(k),
+        Held::Nothing => return Err(Stop::Unknown),
+    }
+    out.text("ok");
+    Ok(())
+}
+
+fn after_crash(held: &Held<MemoryDisk>, fill: u8) -> Result<Result<MemoryDisk, Refusal>, Stop> {
+    match held {
+        Held::Loose(disk) => Ok(disk.after_crash(fill)),
+        Held::Shelved(shelf) => Ok(shelf.after_crash(fill)),
+        Held::Nothing => Err(Stop::Unknown),
+    }
+}
+
+/// What a disk opens to.
+const NAMES: [&str; 5] = ["blank", "old", "new", "other", "refused"];
+
+// The place of that among `NAMES`.
+fn opens_to(alloc: Global, left: Result<MemoryDisk, Refusal>, old: &[u8], new: &[u8]) -> usize {
+    let Ok(mut disk) = left else {
+        return 4;
+    };
+    if is_blank(&mut disk) == Ok(true) {
+        return 0;
+    }
+    match image_on(alloc, disk) {
+        Ok(image) if image.as_slice() == old => 1,
+        Ok(image) if image.as_slice() == new => 2,
+        Ok(_) => 3,
+        Err(_) => 4,
+    }
+}
+
+// The image of the node that a disk opens to.
+fn image_on(alloc: Global, disk: MemoryDisk) -> Result<Vec<u8>, Refusal> {
+    let node = node_on(alloc, disk)?;
+    let image = image::to_bytes(alloc, &node);
+    drop(node);
+    image
+}

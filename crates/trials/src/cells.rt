@@ -1,0 +1,257 @@
+//! Cells of new nodes on a wire, which are saved in memory. Their disks can be told to fail and to
+//! crash.
+ghost use Rattle.std.specs.Prelude.{◌≡◌, true, All, IfOk};
+ghost use Rattle.model.specs.Steps.{is_own};
+ghost use Rattle.wire.specs.Readers.{IsSeatOf, IsWatchOf};
+
+use cases::nodes::{put_frame, put_image};
+use cases::{
+    Line, Out, Stop, Subject, blank_disks, event_of, node_on, number, read, repeated, take_all,
+    verb,
+};
+use cell::{Cell, Unopened};
+use disk::MemoryDisk;
+use ids::{Refusal, Shape};
+use lines::SummaryText;
+use model::{Answer, Event};
+use node::Node;
+use std::alloc::Global;
+use wire::{Inbound, Outbound, Watch, Wire};
+
+// A cell, with the wire on which it sits.
+#[derive(Drop)]
+struct Seated<'a> {
+    wire: &'a Wire,
+    cell: Cell<MemoryDisk>,
+    ghost sits: { IsSeatOf wire.now cell.seat },
+}
+
+impl Seated<'_> {
+    fn act(&mut self, event: Event) -> Result<Answer, Refusal>
+        requires { is_own event ≡ true }
+    {
+        self.cell.act(self.wire, event)
+    }
+
+    // The event, so often, up to the first refusal; the last answer.
+    fn repeat(&mut self, event: Event, count: u64) -> Result<Answer, Refusal>
+        requires { is_own event ≡ true }
+    {
+        let mut last = Answer::Done;
+        for _ in 0..count {
+            last = self.act(event)?;
+        }
+        Ok(last)
+    }
+
+    fn save(&mut self) -> Result<(), Refusal> {
+        self.cell.save(self.wire)
+    }
+
+    fn reopen(&mut self) -> Result<(), Refusal> {
+        self.cell.reopen(self.wire)
+    }
+
+    fn send(&mut self, to: u8) -> Result<Outbound, Refusal> {
+        self.cell.pump_out(self.wire, to)
+    }
+
+    fn receive(&mut self, from: u8) -> Result<Inbound, Refusal> {
+        self.cell.pump_in(self.wire, from)
+    }
+
+    fn raise(&mut self) -> Result<(), Refusal> {
+        match self.cell.raise(self.wire) {
+            Ok(_raised) => Ok(()),
+            Err(refusal) => Err(refusal),
+        }
+    }
+
+    fn is_unsaved(&self) -> bool {
+        self.cell.unsaved()
+    }
+
+    // From now on the k-th call of its disk fails, and all later ones.
+    fn fail(&mut self, k: u64) {
+        self.cell.fail_from(k);
+    }
+
+    fn fail_once(&mut self, k: u64) {
+        self.cell.fail_once(k);
+    }
+}
+
+/// The wire between the new nodes of a shape, their cells in order, with disks in memory, and a
+/// watch.
+pub(crate) fn open_cells(
+    alloc: Global,
+    shape: Shape,
+) -> Result<(Wire, Vec<Cell<MemoryDisk>>, Watch), Refusal>
+    ensures seats { IfOk result (λ r. All (λ c. IsSeatOf r.0 c.seat) r.1.items) }
+    ensures watch { IfOk result (λ r. IsWatchOf r.0 r.2) }
+{
+    match cell::open(alloc, shape, blank_disks(alloc, shape.nodes())?, 1) {
+        Ok((wire, cells, mut watches)) => {
+            let watch = watches.remove(0);
+            Ok((wire, cells, watch))
+        }
+        Err(Unopened::Refused(refusal)) => Err(refusal),
+        Err(Unopened::Disks) => Err(Refusal::NoNode),
+    }
+}
+
+// Cells, in order, with their wire.
+fn seat_all<'a>(
+    alloc: Global,
+    wire: &'a Wire,
+    mut cells: Vec<Cell<MemoryDisk>>,
+) -> Result<Vec<Seated<'a>>, Refusal>
+    requires { All (λ c. IsSeatOf wire.now c.seat) cells.items }
+{
+    let mut seated = Vec::new(alloc);
+    for _ in 0..cells.len() {
+        let cell = cells.remove(0);
+        seated.push(Seated { wire, cell })?;
+    }
+    Ok(seated)
+}
+
+/// A case over the cells of new nodes.
+pub fn run(alloc: Global, shape: Shape, lines: &[Line<'_>], out: &mut Out) -> Result<(), Stop> {
+    match on_wire(alloc, shape, lines, out) {
+        Ok(taken) => taken,
+        Err(_) => Err(Stop::Memory),
+    }
+}
+
+fn on_wire(
+    alloc: Global,
+    shape: Shape,
+    lines: &[Line<'_>],
+    out: &mut Out,
+) -> Result<Result<(), Stop>, Refusal> {
+    let (wire, cells, watch) = open_cells(alloc, shape)?;
+    let cells = seat_all(alloc, &wire, cells)?;
+    let cells = Cells {
+        alloc,
+        wire: &wire,
+        watch,
+        cells,
+    };
+    Ok(take_all(cells, lines, out))
+}
+
+// The cells of a case, and a watch that hears nothing.
+#[derive(Drop)]
+struct Cells<'a> {
+    alloc: Global,
+    wire: &'a Wire,
+    watch: Watch,
+    cells: Vec<Seated<'a>>,
+    ghost looks: { IsWatchOf wire.now watch },
+}
+
+impl Cells<'_> {
+    fn look(&mut self, out: &mut Out) {
+        let seen = self.wire.look(&mut self.watch);
+        out.show(&seen.number);
+    }
+}
+
+impl Subject for Cells<'_> {
+    fn take(&mut self, words: &[&str], out: &mut Out) -> Result<(), Stop> {
+        let [first, words @ ..] = words else {
+            return Err(Stop::Unknown);
+        };
+        if *first == "look" {
+            self.look(out);
+            return Ok(());
+        }
+        match self.cells.get_mut(read::<usize>(first)?) {
+            Some(seated) => on_cell(self.alloc, seated, words, out),
+            None => Err(Stop::Unknown),
+        }
+    }
+}
+
+// A command to a cell.
+fn on_cell(
+    alloc: Global,
+    seated: &mut Seated<'_>,
+    words: &[&str],
+    out: &mut Out,
+) -> Result<(), Stop> {
+    match verb(words) {
+        "save" => out.done(seated.save()),
+        "reopen" => out.done(seated.reopen()),
+        "raise" => out.done(seated.raise()),
+        "send" => out.answer(seated.send(number(words, 1)?)),
+        "receive" => out.answer(seated.receive(number(words, 1)?)),
+        "repeat" => {
+            let (event, count) = repeated(alloc, words)?;
+            out.answer(seated.repeat(event, count));
+        }
+        _ => return ask(alloc, seated, words, out),
+    }
+    Ok(())
+}
+
+// A question to a cell.
+fn ask(alloc: Global, seated: &mut Seated<'_>, words: &[&str], out: &mut Out) -> Result<(), Stop> {
+    match verb(words) {
+        "unsaved" => out.debug(&seated.is_unsaved()),
+        "state" => out.show(&SummaryText(seated.cell.node().state())),
+        "bytes" => put_image(alloc, seated.cell.node(), out),
+        "trace" => put_trace(seated, out),
+        "frame-at" => {
+            let frame = seated
+                .cell
+                .node()
+                .frame_at(number(words, 1)?, number(words, 2)?);
+            put_frame(alloc, frame, out);
+        }
+        "crash" => put_crashed(alloc, seated, number(words, 1)?, out),
+        _ => return act(alloc, seated, words, out),
+    }
+    Ok(())
+}
+
+// Lets the cell's disk fail, or gives its node an event.
+fn act(alloc: Global, seated: &mut Seated<'_>, words: &[&str], out: &mut Out) -> Result<(), Stop> {
+    match verb(words) {
+        "fail" => seated.fail(number(words, 1)?),
+        "fail-once" => seated.fail_once(number(words, 1)?),
+        _ => {
+            out.answer(seated.act(event_of(alloc, words)?));
+            return Ok(());
+        }
+    }
+    out.text("ok");
+    Ok(())
+}
+
+fn put_trace(seated: &Seated<'_>, out: &mut Out) {
+    match seated.cell.trace_lines() {
+        Ok(lines) => {
+            for line in &lines {
+                out.text(line.as_str());
+            }
+        }
+        Err(refusal) => out.refused(refusal),
+    }
+}
+
+// The node that a crash now leaves on the cell's disk, in numbers.
+fn put_crashed(alloc: Global, seated: &Seated<'_>, fill: u8, out: &mut Out) {
+    match crashed(alloc, seated, fill) {
+        Ok(node) => {
+            out.show(&SummaryText(node.state()));
+            drop(node);
+        }
+        Err(refusal) => out.refused(refusal),
+    }
+}
+
+fn crashed(alloc: Global, seated: &Seated<'_>, fill: u8) -> Result<Node, Refusal> {
+    node_on(alloc, seated.cell.after_crash(fill)?)
+}

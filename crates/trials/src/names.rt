@@ -1,0 +1,33 @@
+//! The limit of cycles, and laws. A law does nothing when it is called.
+use cases::{Out, Stop, number, verb};
+use ids::Cycle;
+
+/// A command over cycles and laws.
+pub(crate) fn take(words: &[&str], out: &mut Out) -> Result<(), Stop> {
+    match verb(words) {
+        "cycle" => put(Cycle::new(number(words, 1)?), out),
+        "laws" => {
+            call_laws();
+            out.text("ok");
+        }
+        _ => return Err(Stop::Unknown),
+    }
+    Ok(())
+}
+
+fn put(cycle: Option<Cycle>, out: &mut Out) {
+    match cycle {
+        Some(cycle) => out.show(&cycle.number),
+        None => out.text("-"),
+    }
+}
+
+// Each law is called once.
+fn call_laws() {
+    msg::grammar();
+    image::grammar();
+    image::nodes_spelled();
+    image::nodes_saved();
+    world::laws();
+    cell::laws();
+}

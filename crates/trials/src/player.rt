@@ -1,0 +1,249 @@
+//! Programs that do what the dice say, and know which of their letters are to come, whatever the
+//! restarts of their nodes lose. A program writes the label of its last letter into an object, so
+//! that a restart tells it which letters are still known.
+ghost use Rattle.std.specs.Prelude.{◌≡◌, true};
+ghost use Rattle.model.specs.Steps.{is_own};
+
+use crate::member::beside;
+use cases::{ASKED, Dice, Found, Noted, compare_letters};
+use ids::Refusal;
+use model::{Answer, Event, Letter};
+use std::alloc::{AllocError, Global};
+use std::sync::Wait;
+use workers::Site;
+
+// The register of the object whose word says which letter is to be given next.
+const GIVEN: u16 = 0;
+
+// The register of the object whose word says which letter was taken last, and one more.
+const TAKEN: u16 = 1;
+
+// The other registers begin here.
+const OTHERS: u16 = 2;
+
+/// How many registers a program uses.
+pub(crate) const REGISTERS: u16 = 6;
+
+// More letters than wait at a node.
+const LETTERS: u32 = 10_000;
+
+/// The dice of such a program.
+pub(crate) fn dice_of(seed: u64) -> Dice {
+    Dice {
+        state: seed,
+        first: OTHERS,
+        registers: 4,
+    }
+}
+
+/// The program of a node. It gives letters to the next node's program, takes those of the one
+/// before it, and for the rest does what the dice say. After each letter it writes into the word of
+/// an object how far it is, so that after a restart it knows which letters the node still knows of,
+/// but for one.
+#[derive(Drop)]
+pub(crate) struct Player {
+    next: u8,
+    previous: u8,
+    label: u32,
+    given: Vec<Noted>,
+    taken: Vec<Noted>,
+    // How many letters came that must not: not from the node before, again, or out of order.
+    wrong: u64,
+}
+
+// An event of a program, which may be refused.
+fn act<R: Wait, S: Site>(rt: &R, cell: &S, event: Event) -> Result<Answer, Refusal>
+    requires { is_own event ≡ true }
+{
+    cell.act(rt, event)
+}
+
+fn write_word<R: Wait, S: Site>(rt: &R, cell: &S, object: u16, label: u32) {
+    let word = u64::from(label) + 1;
+    let _ = act(rt, cell, Event::SetWord { object, word });
+}
+
+// The word of an object; 0 where it has none.
+fn word<R: Wait, S: Site>(rt: &R, cell: &S, object: u16) -> u64 {
+    match act(rt, cell, Event::Word { object }) {
+        Ok(Answer::Word(word)) => word,
+        _ => 0,
+    }
+}
+
+// What is left after a restart: the letters below this label, and maybe one more.
+fn cut(letters: &mut Vec<Noted>, label: u64) {
+    let later = letters
+        .iter()
+        .position(|letter| u64::from(letter.label) >= label);
+    if let Some(place) = later {
+        letters.truncate(place.saturating_add(1));
+        if let Some(last) = letters.last_mut() {
+            last.is_sure = false;
+        }
+    }
+}
+
+impl Player {
+    /// The program of a node among so many, which has the objects for its words, and is saved so.
+    pub(crate) fn new<R: Wait, S: Site>(
+        rt: &R,
+        alloc: Global,
+        cell: &S,
+        node: u8,
+        nodes: u8,
+    ) -> Result<Player, Refusal> {
+        let (previous, next) = beside(node, nodes);
+        for register in 0..OTHERS {
+            let object = Event::Alloc {
+                register,
+                places: 0,
+            };
+            let _ = act(rt, cell, object)?;
+        }
+        cell.save(rt)?;
+        Ok(Player {
+            next,
+            previous,
+            label: 0,
+            given: Vec::new(alloc),
+            taken: Vec::new(alloc),
+            wrong: 0,
+        })
+    }
+
+    /// Its node was restarted.
+    pub(crate) fn restart<R: Wait, S: Site>(&mut self, rt: &R, cell: &S) {
+        cut(&mut self.given, word(rt, cell, GIVEN));
+        cut(&mut self.taken, word(rt, cell, TAKEN));
+    }
+
+    /// Does something.
+    pub(crate) fn step<R: Wait, S: Site>(
+        &mut self,
+        rt: &R,
+        cell: &S,
+        dice: &mut Dice,
+        may_give: bool,
+    ) -> Result<(), AllocError> {
+        match dice.below(16) {
+            0..=3 if may_give => self.give(rt, cell, dice.register()),
+            0..=7 => self.take(rt, cell, dice.register()),
+            8 => {
+                let _ = act(rt, cell, dice.asking_event());
+                Ok(())
+            }
+            _ => {
+                let _ = act(rt, cell, dice.own_event());
+                Ok(())
+            }
+        }
+    }
+
+    fn give<R: Wait, S: Site>(
+        &mut self,
+        rt: &R,
+        cell: &S,
+        register: u16,
+    ) -> Result<(), AllocError> {
+        let label = self.label;
+        let letter = Event::Give {
+            to: self.next,
+            label,
+            register,
+        };
+        if act(rt, cell, letter).is_err() {
+            return Ok(());
+        }
+        write_word(rt, cell, GIVEN, label);
+        self.label = label.saturating_add(1);
+        let noted = Noted {
+            label,
+            is_sure: true,
+        };
+        Ok(self.given.push(noted)?)
+    }
+
+    // Takes a letter, where one is there.
+    fn take<R: Wait, S: Site>(
+        &mut self,
+        rt: &R,
+        cell: &S,
+        register: u16,
+    ) -> Result<(), AllocError> {
+        match act(rt, cell, Event::Accept { register }) {
+            Ok(Answer::Letter(letter)) if letter.label != ASKED => {
+                write_word(rt, cell, TAKEN, letter.label);
+                self.note(letter)
+            }
+            _ => Ok(()),
+        }
+    }
+
+    /// Its node was restarted; it takes all letters that are there.
+    pub(crate) fn take_all<R: Wait, S: Site>(
+        &mut self,
+        rt: &R,
+        cell: &S,
+    ) -> Result<(), AllocError> {
+        self.restart(rt, cell);
+        for _ in 0..LETTERS {
+            self.take(rt, cell, OTHERS)?;
+        }
+        Ok(())
+    }
+
+    // A letter comes that is later than all others, or the one of which it isn't sure that it was
+    // taken.
+    fn note(&mut self, letter: Letter) -> Result<(), AllocError> {
+        let label = letter.label;
+        let last = self.taken.last().copied();
+        if letter.from != self.previous || is_wrong(last, label) {
+            self.wrong = self.wrong.saturating_add(1);
+            return Ok(());
+        }
+        if let Some(last) = last
+            && last.label == label
+        {
+            let _ = self.taken.pop();
+        }
+        let noted = Noted {
+            label,
+            is_sure: true,
+        };
+        Ok(self.taken.push(noted)?)
+    }
+}
+
+// Whether a letter of this label must not come after the last one.
+fn is_wrong(last: Option<Noted>, label: u32) -> bool {
+    match last {
+        Some(last) => label < last.label || (label == last.label && last.is_sure),
+        None => false,
+    }
+}
+
+// The program that takes the letters of this one.
+fn after(players: &[Player], place: usize) -> Option<&Player> {
+    let next = place.saturating_add(1);
+    players.get(if next < players.len() { next } else { 0 })
+}
+
+/// How many letters of the program in this place weren't taken yet.
+pub(crate) fn away(players: &[Player], place: usize) -> usize {
+    match (players.get(place), after(players, place)) {
+        (Some(player), Some(next)) => player.given.len().saturating_sub(next.taken.len()),
+        _ => 0,
+    }
+}
+
+/// What came of the letters of these programs.
+pub(crate) fn compare_all(players: &[Player], found: &mut Found) {
+    for (place, player) in players.iter().enumerate() {
+        if let Some(next) = after(players, place) {
+            compare_letters(&player.given, &next.taken, found);
+        }
+        found.letters = found.letters.saturating_add(player.taken.len() as u64);
+        found.wrong = found.wrong.saturating_add(player.wrong);
+    }
+}
