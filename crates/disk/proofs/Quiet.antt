@@ -1,10 +1,10 @@
 -- Calls of a disk that change nothing of it, and the count of those that failed.
-use Rattle.std.proofs.Common.{◌≡◌, ◌∙◌, ℕ, Result, Ok, Err, IsErrOf, true}
-use Rattle.std.proofs.Common.{refl, subst, arith}
+use Rattle.std.proofs.Common.{◌≡◌, ◌∙◌, ℕ, Result, Ok, Err, IsErrOf, OnOk, true}
+use Rattle.std.proofs.Common.{refl, sym, subst, arith}
 use Rattle.ids.specs.declared.refusal.Refusal.{Refusal}
-use Rattle.ids.specs.declared.refusal.Refusal.TheVariants.{BadImage, Disk}
+use Rattle.ids.specs.declared.refusal.Refusal.TheVariants.{BadImage, Closed, Disk}
 use Rattle.disk.specs.Areas.{Areas}
-use Rattle.disk.specs.Crashes.{Elapses, HasCause, Unmoved}
+use Rattle.disk.specs.Crashes.{Elapses, HasCause, Only, Unmoved}
 use Rattle.disk.proofs.Moments.{goes_on, joined, started, weaker}
 
 module _ {D : Type 0} (seen : D → Areas) (may_leave : D → Areas → Type 0)
@@ -32,6 +32,13 @@ module _ {D : Type 0} (seen : D → Areas) (may_leave : D → Areas → Type 0)
         (weaker moment left_since mid new (may_leave mid) (may_leave old) second.any_moment
         first.crash);
   }
+
+  -- after a sync
+  pub still_only : {T E : Type 0} {mid new : D} (r : Result T E) →
+      Unmoved seen may_leave moment left_since mid new → Only (seen mid) (may_leave mid) →
+      OnOk r (Only (seen new) (may_leave new))
+  still_only (Ok x) quiet only = λ c left. only c (quiet.crash c left) ∙ sym quiet.same
+  still_only (Err e) quiet only = tt
 
 -- a call that failed, or not, where the count stood as before
 pub later_cause : {old mid new : ℕ} {Q : Type 0} → mid ≡ old → HasCause mid new Q →
@@ -79,3 +86,7 @@ ok_no_err is = absurd cc
 
 pub bad_no_disk : {T : Type 0} {r : Result T Refusal} → r ≡ Err BadImage → IsErrOf r Disk → ⊥
 bad_no_disk bad is = absurd cc
+
+-- nor is a refusal for being closed
+pub closed_no_disk : {T : Type 0} → IsErrOf {T = T} (Err Closed) Disk → ⊥
+closed_no_disk is = absurd cc

@@ -1,7 +1,7 @@
 -- What a step on one area makes of what a disk opens to.
 use Rattle.std.proofs.Common.{◌≡◌, ◌⊎◌, inl, inr, ⊎_elim, ℕ, ◌≤◌, ◌%◌, ◌==◌, Bool, true, false, not}
-use Rattle.std.proofs.Common.{List, [], ◌∷◌, length, Option, Some, Result, Ok, Err, OnOk, is_some}
-use Rattle.std.proofs.Common.{refl, sym, ◌∙◌, ap, subst, arith}
+use Rattle.std.proofs.Common.{List, [], ◌∷◌, length, Option, Some, None, Result, Ok, Err, OnOk}
+use Rattle.std.proofs.Common.{is_some, refl, sym, ◌∙◌, ap, subst, arith}
 use Rattle.disk.specs.Areas.{Areas, part, Changes, Holds, Torn}
 use Rattle.disk.specs.Crashes.{Follows, Only}
 use Rattle.ids.specs.declared.limits.TheConstants.{GREATEST_IMAGE}
@@ -25,6 +25,10 @@ kept_aside step false s c is ch = (
   ap (λ (o : Option Bool). image_at o c) (ap side ch.1 ∙ is) ∙ ap recorded ch.2
       ∙ sym (ap (λ (o : Option Bool). image_at o s) is),
 )
+
+-- nothing is selected: the disk opens to nothing
+pub unselected : (s : Areas) → side s.select ≡ None → opened s ≡ None
+unselected s is = ap (λ (o : Option Bool). image_at o s) is
 
 -- a step on a side leaves an empty selector empty
 pub still_blank : (in_b : Bool) (step : List ℕ → List ℕ → Type 0) (old new : Areas → Type 0) →

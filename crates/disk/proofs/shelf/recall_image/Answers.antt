@@ -1,10 +1,12 @@
-use Rattle.std.proofs.Common.{◌≡◌, ◌∙◌, Some, sym, Err, ap, inr}
+use Rattle.std.proofs.Common.{◌≡◌, ◌∙◌, Some, sym, Err, ap, inr, refl}
 use Rattle.std.proofs.lemmas.Result.{err_from_is_err_and}
 use Rattle.std.proofs.lemmas.Bool.{false≢true}
 use Rattle.disk.specs.Areas.{part}
 use Rattle.disk.specs.Shelf.{half, recorded}
-use Rattle.disk.proofs.Quiet.{both_unmoved, err_cause, handed_cause, later_cause, no_cause, ok_no_err}
+use Rattle.disk.proofs.Quiet.{bad_no_disk, both_unmoved, err_cause, handed_cause, later_cause}
+use Rattle.disk.proofs.Quiet.{no_cause, ok_no_err}
 use Rattle.disk.proofs.Records.{recorded_tells}
+use Rattle.disk.proofs.Sides.{unselected}
 use Rattle.disk.proofs.shelf.recall_image.Goals as goal
 
 pub returns-clause-tells : goal.returns-clause-tells
@@ -60,3 +62,11 @@ pub returns-clause-cause : goal.returns-clause-cause
 returns-clause-cause g c =
     later_cause (c.in_ok-side.ensures.cause.fine false≢true)
     (no_cause (c.in_ok-image.ensures.cause.fine ok_no_err) ok_no_err)
+
+pub returns-in_default-clause-bad : goal.returns-in_default-clause-bad
+returns-in_default-clause-bad g c _ =
+    unselected (g.D.Disk.seen c.args.disk.now) (c.in_ok-side.ensures.side ∙ c.in_default.is)
+
+pub returns-in_default-clause-cause : goal.returns-in_default-clause-cause
+returns-in_default-clause-cause g c =
+    no_cause (c.in_ok-side.ensures.cause.fine false≢true) (bad_no_disk refl)

@@ -1,8 +1,9 @@
-use Rattle.std.proofs.Common.{◌∙◌, ⊎_elim, ap, inl, inr, refl, subst}
+use Rattle.std.proofs.Common.{◌∙◌, ⊎_elim, Err, ap, inl, inr, refl, subst}
 use Rattle.std.proofs.lemmas.Result.{err_from_is_err_and}
 use Rattle.disk.specs.Crashes.{LeavesOnly}
 use Rattle.disk.specs.Shelf.{OldOrNew, opened}
 use Rattle.disk.proofs.Moments.{started}
+use Rattle.disk.proofs.Quiet.{closed_no_disk}
 use Rattle.disk.proofs.shelf.Shelf.save.Goals as goal
 
 pub returns-in_err-image-clause-any_moment : goal.returns-in_err-image-clause-any_moment
@@ -42,3 +43,19 @@ returns-in_err-swap-clause-others g c =
     let exit = c.from_residual-in_err-swap in
     let p = err_from_is_err_and exit.result exit.ensures.1 in
     rw p.1 (inr (inr (inr p.2)))
+
+pub returns-then-not-self-clause-disk : goal.returns-then-not-self-clause-disk
+returns-then-not-self-clause-disk g c is = absurd (closed_no_disk is)
+
+pub returns-then-not-self-clause-readable : goal.returns-then-not-self-clause-readable
+returns-then-not-self-clause-readable g c is =
+    absurd (closed_no_disk {T = Unit} (ap Err is))
+
+pub returns-then-not-self-clause-closed : goal.returns-then-not-self-clause-closed
+returns-then-not-self-clause-closed g c = (λ _. c.if-not-self.true, λ _. refl)
+
+pub swap-requires-clause-settled : goal.swap-requires-clause-settled
+swap-requires-clause-settled g c = c.args.self.now.settled c.if-not-self.false
+
+pub invariant_of-self-2 : goal.invariant_of-self-2
+invariant_of-self-2 g c = record { settled = λ _. c.in_ok-swap.ensures.settled }

@@ -1,0 +1,8 @@
+use Rattle.std.proofs.Common.{rules}
+use Rattle.disk.proofs.Quiet.{still_only}
+use Rattle.disk.proofs.shelf.synced_side.Goals as goal
+
+pub returns-clause-durable : goal.returns-clause-durable
+returns-clause-durable g c =
+    still_only g.D.Disk.seen g.D.Disk.may_leave g.D.Disk.moment g.D.Disk.left_since
+    c.chosen.result c.chosen.ensures.quiet (search rules)
