@@ -1,5 +1,5 @@
 -- Each event on the heap alone keeps what is true of every node.
-use Rattle.std.proofs.Common.{◌≡◌, ℕ, ◌<◌, ◌≤◌, List, [], ◌∷◌, drop, length, get_or, Some, None, Ok, ap, sym, ◌∙◌, subst, arith, length-append, le_refl}
+use Rattle.std.proofs.Common.{◌≡◌, ℕ, ◌<◌, ◌≤◌, List, [], ◌∷◌, drop, length, get_or, Some, None, Ok, ap, sym, ◌∙◌, subst, arith, rules, length-append, le_refl}
 use Rattle.std.proofs.lemmas.Bool.{leb-true}
 use Rattle.std.proofs.lemmas.List.{length-set}
 use Rattle.ids.specs.declared.limits.TheConstants.{GREATEST_PLACES}
@@ -9,11 +9,15 @@ use Rattle.model.specs.Checks.{AllPass}
 use Rattle.model.specs.State.{Object, Slot, Occupied, Retired, Heap, register_at}
 use Rattle.model.specs.Heaps.{next_generation, slots_with, heap_alloc, alloc_tests, alloc_heap, with_object, new_object, new_reference, named, heap_copy, copy_tests, heap_drop, drop_tests, heap_accept, accept_tests, letter_taken, oldest_letter, heap_store, store_tests, with_place, heap_clear, clear_tests, heap_set_word, word_tests, with_word}
 use Rattle.model.specs.References.{IsWithin}
-use Rattle.model.specs.View.{NodeView}
+use Rattle.model.specs.declared.event.Answer.TheVariants as answer
+use Rattle.model.specs.declared.event.Event.TheVariants as event
+use Rattle.model.specs.Steps.{allocated}
+use Rattle.model.specs.View.{NodeView, view_act}
 use Rattle.model.proofs.Checks.{guarded-ok, guarded-passes}
 use Rattle.model.proofs.References.{holds-letter_gone, holds-with_register, holds-with_object, holds-with_place, holds-with_word}
 use Rattle.model.proofs.Stocks.{stocked-letter_gone, stocked-object, stocked-place, stocked-register, stocked-word}
 use Rattle.node.specs.Invariant.{IsNode}
+use Rattle.node.proofs.Events.{okay}
 use Rattle.node.proofs.Nodes.{node-heap}
 
 -- the node with this heap
@@ -34,6 +38,14 @@ pub record Allocates (n : NodeView) (limit cycle register places : ℕ) (g : Hea
     pub done : heap_alloc limit n.local.own cycle n.local.heap register places ≡ Ok (g, r)
     pub slot : r.slot < n.local.shape.slots
     pub generation : 1 ≤ r.generation
+
+-- and that is the answer
+pub alloc-answered : (n : NodeView) (register places : ℕ) {g : Heap} {r : Ref}
+    → heap_alloc n.local.shape.slots n.local.own n.local.phases.cycle n.local.heap register places
+    ≡ Ok (g, r)
+    → view_act n (event.Alloc register places) ≡ okay (with_heap n g) (answer.New r)
+unfolding heap_alloc allocated view_act
+alloc-answered n register places h = search rules
 
 module _ (n : NodeView) (old : IsNode n) where
   pub node-allocated : {limit cycle register places : ℕ} {g : Heap} {r : Ref}
