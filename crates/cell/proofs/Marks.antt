@@ -1,5 +1,5 @@
 -- What a call leaves of the mark that tells whether an event came.
-use Rattle.std.proofs.Common.{◌≡◌, ◌+◌, Bool, true, [], ◌∷◌, ◌++◌, length, length-append, Result, Ok, Err, sym, ap, ◌∙◌, ⊎_elim, arith}
+use Rattle.std.proofs.Common.{◌≡◌, Bool, true, [], ◌∷◌, ◌++◌, length, length-append, Result, Ok, Err, sym, ap, ◌∙◌, ⊎_elim, arith}
 use Rattle.std.proofs.lemmas.Bool.{cases_Bool, cond-true, cond-false}
 use Rattle.ids.specs.declared.refusal.Refusal.{Refusal}
 use Rattle.model.specs.declared.event.Event.{Event}

@@ -1,8 +1,12 @@
-use Rattle.std.proofs.Common.{◌≡◌, ◌∙◌, subst, sym, true}
+use Rattle.std.proofs.Common.{◌≡◌, ◌∙◌, Bool, ap, slice_index_or, subst, sym, true}
 use Rattle.std.proofs.lemmas.Result.{err_from_is_err_and}
 use Rattle.cell.specs.Cells.{CellView}
+use Rattle.wire.specs.Readers.{known, outbox}
+use Rattle.cell.specs.Pumping.{is_out}
+use Rattle.cell.specs.Sending.{frame_due, places_after, IsSent}
 use Rattle.cell.proofs.Opening.{stays-open}
 use Rattle.cell.proofs.cell.Cell.pump_out.Goals as goal
+use Rattle.cell.proofs.cell.Cell.pump_out.Goals.{then-is_sent, else-is_sent}
 
 pub invariant_of-self-inside : goal.invariant_of-self-inside
 invariant_of-self-inside g c =
@@ -82,3 +86,35 @@ returns-in_err-is_sent-clause-refused g c =
       is_open = cell.shelf.ready;
       trace = cell.trace;
     }))
+
+pub returns-clause-sent : goal.returns-clause-sent
+returns-clause-sent g c =
+    let desk = c.self.inside.desk in
+    let to = c.args.to in
+    let after = known c.send.new.self.seat in
+    let out : is_out c.if-is_sent.result ≡ c.in_ok-is_sent.is_sent =
+    elim c.if-is_sent.branch [
+      | then-is_sent w ↦ ap is_out w.result-is ∙ sym w.if-is_sent.true
+      | else-is_sent w ↦ ap is_out w.result-is ∙ sym w.if-is_sent.false
+    ] in
+    subst (λ (v : CellView g.row.D.Denot).
+    IsSent (outbox v.seat to) (frame_due v.node.core to (slice_index_or v.places to 0))
+    (is_out c.if-is_sent.result) (known v.seat) after) c.self.view_is
+    (subst (λ (b : Bool).
+    IsSent (outbox desk.seat to) (frame_due desk.node.core to (slice_index_or desk.places to 0)) b
+    (known desk.seat) after) (sym out) c.in_ok-is_sent.ensures.sent)
+
+pub returns-clause-places : goal.returns-clause-places
+returns-clause-places g c =
+    let desk = c.self.inside.desk in
+    let to = c.args.to in
+    let after = c.send.new.self.places in
+    let out : is_out c.if-is_sent.result ≡ c.in_ok-is_sent.is_sent =
+    elim c.if-is_sent.branch [
+      | then-is_sent w ↦ ap is_out w.result-is ∙ sym w.if-is_sent.true
+      | else-is_sent w ↦ ap is_out w.result-is ∙ sym w.if-is_sent.false
+    ] in
+    subst (λ (v : CellView g.row.D.Denot).
+    after ≡ places_after (is_out c.if-is_sent.result) v.node.core to v.places) c.self.view_is
+    (subst (λ (b : Bool). after ≡ places_after b desk.node.core to desk.places) (sym out)
+    c.in_ok-is_sent.ensures.places)

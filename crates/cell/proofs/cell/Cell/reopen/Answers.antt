@@ -1,8 +1,12 @@
-use Rattle.std.proofs.Common.{◌≡◌, ◌⊎◌, Bool, IsTrue, inl, inr, ⊎_elim, sym, ap, ◌∙◌, subst}
+use Rattle.std.proofs.Common.{◌≡◌, ◌⊎◌, Bool, IsTrue, inl, inr, ⊎_elim, false, refl, sym, ap, ◌∙◌, subst, [], ◌∷◌, ◌++◌}
+use Rattle.circular_buffer.specs.Buffer.{keep_last}
+use Rattle.ids.specs.declared.limits.TheConstants.{TRACE_EVENTS}
 use Rattle.node.specs.Keeping.{WholeNode}
-use Rattle.wire.specs.Readers.{known}
+use Rattle.trace.specs.declared.call.Call.TheVariants as call
+use Rattle.trace.specs.declared.call.Outcome.TheVariants as outcome
+use Rattle.wire.specs.Readers.{known, IsSame}
 use Rattle.cell.specs.Cells.{CellView}
-use Rattle.cell.specs.Disks.{HoldsSaved, OpensTo, is_same_image}
+use Rattle.cell.specs.Disks.{HoldsSaved, OpensTo, OpensToNode, is_same_image}
 use Rattle.cell.specs.Events.{found_step, reopened_by, restarted_by, Entered}
 use Rattle.cell.proofs.Opening.{core-found, image-found, never-bad, open-holds, saved-found, stays-open, which-found}
 use Rattle.cell.proofs.cell.Cell.reopen.Goals as goal
@@ -103,3 +107,63 @@ returns-in-Ok-clause-done g c =
       unsaved = said.unsaved i;
       is_open = c.in-Ok.ensures.ready i;
     }
+
+pub returns-in-Ok-clause-opened : goal.returns-in-Ok-clause-opened
+returns-in-Ok-clause-opened g c =
+    let node = c.reopen-in-Ok.new.self.node in
+    subst (λ (v : CellView g.row.D.Denot). OpensToNode node (g.D.Disk.seen v.disk)) c.self.view_is
+    (subst (λ (n : WholeNode). OpensToNode n (g.D.Disk.seen c.self.inside.shelf.disk))
+    (sym c.reopen-in-Ok.ensures.node) c.in-Ok.ensures.opened)
+
+pub returns-in-Ok-clause-known : goal.returns-in-Ok-clause-known
+returns-in-Ok-clause-known g c =
+    let desk = c.reopen-in-Ok.new.self in
+    let old = c.self.inside.desk in
+    subst (λ (v : CellView g.row.D.Denot).
+    known desk.seat ≡ reopened_by (is_same_image desk.node.core v.saved) (known v.seat))
+    c.self.view_is
+    (c.reopen-in-Ok.ensures.known
+    ∙ ap (λ (n : WholeNode). reopened_by (is_same_image n.core old.saved.value) (known old.seat))
+    (sym c.reopen-in-Ok.ensures.node))
+
+pub returns-in-Ok-clause-same : goal.returns-in-Ok-clause-same
+returns-in-Ok-clause-same g c =
+    subst (λ (v : CellView g.row.D.Denot). IsSame v.seat c.reopen-in-Ok.new.self.seat)
+    c.self.view_is c.reopen-in-Ok.ensures.same
+
+pub returns-in-Ok-clause-traced : goal.returns-in-Ok-clause-traced
+returns-in-Ok-clause-traced g c =
+    subst (λ (v : CellView g.row.D.Denot).
+    c.push.new.self ≡ keep_last TRACE_EVENTS (v.trace
+    ++ record { call = call.Reopen; outcome = outcome.Done } ∷ [])) c.self.view_is c.push.ensures
+
+pub returns-in-Err-clause-refused : goal.returns-in-Err-clause-refused
+returns-in-Err-clause-refused g c =
+    let desk = c.self.inside.desk in
+    let shelf = c.reopen.new.self in
+    let trace = c.push-in-Err.new.self in
+    let new : CellView g.row.D.Denot = record {
+      node = desk.node;
+      saved = desk.saved.value;
+      seat = desk.seat;
+      places = desk.places;
+      unsaved = desk.is_unsaved;
+      disk = shelf.disk;
+      is_open = shelf.ready;
+      trace = trace;
+    } in
+    subst (λ (v : CellView g.row.D.Denot).
+    new ≡ record v { disk = shelf.disk; is_open = false; trace = trace }) c.self.view_is
+    (λ i. record new { is_open = c.in-Err.ensures.shut refl i })
+
+pub returns-in-Err-clause-same : goal.returns-in-Err-clause-same
+returns-in-Err-clause-same g c =
+    subst (λ (v : CellView g.row.D.Denot). IsSame v.seat c.self.inside.desk.seat) c.self.view_is
+    (refl, refl, refl, refl, refl)
+
+pub returns-in-Err-clause-traced : goal.returns-in-Err-clause-traced
+returns-in-Err-clause-traced g c =
+    subst (λ (v : CellView g.row.D.Denot).
+    c.push-in-Err.new.self ≡ keep_last TRACE_EVENTS (v.trace
+    ++ record { call = call.Reopen; outcome = outcome.Refused c.in-Err.refusal } ∷ []))
+    c.self.view_is c.push-in-Err.ensures

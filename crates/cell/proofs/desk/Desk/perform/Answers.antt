@@ -151,3 +151,15 @@ returns-else-is_counted_answer-clause-given c =
       early = c.in_ok-answer.ensures.early;
       turn = c.in_ok-answer.ensures.turn;
     }
+
+pub returns-then-is_counted_answer-clause-unsaved
+    : goal.returns-then-is_counted_answer-clause-unsaved
+returns-then-is_counted_answer-clause-unsaved c =
+    sym (cond-true (is_counted c.in_ok-answer.answer) true c.args.self.now.is_unsaved
+    (sym c.is_counted_answer.ensures ∙ c.if-is_counted_answer.true))
+
+pub returns-else-is_counted_answer-clause-unsaved
+    : goal.returns-else-is_counted_answer-clause-unsaved
+returns-else-is_counted_answer-clause-unsaved c =
+    sym (cond-false (is_counted c.in_ok-answer.answer) true c.args.self.now.is_unsaved
+    (sym c.is_counted_answer.ensures ∙ c.if-is_counted_answer.false))
