@@ -122,8 +122,8 @@ impl<D: Disk> Cell<D> {
         Some(answered)
     }
 
-    /// Sends a frame to another node: the released message in the next place of the window, if there
-    /// is one, else the acknowledgement of what a saved state has received. After an
+    /// Sends a frame to another node: the released message in the next place of the window, if
+    /// there is one, else the acknowledgement of what a saved state has received. After an
     /// acknowledgement, the window is sent from its start again. `Full` if the mailbox wasn't
     /// empty.
     ///
