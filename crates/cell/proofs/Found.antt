@@ -31,7 +31,7 @@ shows-kept n s h = record {
       (record { within = (h.links i).within; unacknowledged = (h.links i).unacknowledged });
 }
 
--- a node that is read from its image and shows a state is at a desk in which that state is saved
+-- a node that is read from its image shows its state with everything saved
 pub stands-read : (me width : ℕ) (s : NodeState) (n : NodeView) → n.local.own ≡ me
     → n.local.shape.nodes ≡ width → Shows n s → HasImage n
     → StandsAt me width (both_states s) n

@@ -1,4 +1,4 @@
--- What a space left on its disks is the world in which it goes on.
+-- What a space left on its disks is the world in which it continues.
 use Rattle.std.proofs.Common.{◌≡◌, ◌≢◌, ℕ, zero, suc, true, Bool, List, [], ◌∷◌, ◌++◌, Option, Some, None, Ok, Err, append_assoc, length, length-append, set, refl, sym, ap, ◌∙◌, subst, arith}
 use Rattle.std.specs.Prelude.{cond}
 use Rattle.std.proofs.Math.Logic.{∥∥₁_elim}

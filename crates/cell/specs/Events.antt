@@ -85,8 +85,8 @@ pub record Acknowledged (a : Ack) (result : Result Answer Refusal) (old new : Wh
   pub early : new.early ≡ old.early
   pub known : w ≡ v
 
--- What a caller owes that gives a node an event which is this step: if it counts, it happens to the
--- seat's node; if it doesn't count, nothing changes.
+-- What is required to give a node this event as this step: if the event counts, the step happens to
+-- the seat's node; if it doesn't count, nothing changes.
 pub record MayAct (v : Known) (e : Event) (s : Step) : Type 0 where
   pub happens : (t : NodeState) (a : Answer) → act v.pair.current e ≡ Ok (t, a) → IsEventful a
       → Happens v s (record { current = t; saved = v.pair.saved })

@@ -26,8 +26,8 @@ use trace::Trace;
 /// closed cell refuses every event, save and frame with `Closed` until a reopening succeeds.
 ///
 /// Every event enters the history of the space once: an event of the node's own, a message that is
-/// received, a save, a reopening. A refused call enters nothing. Reading a word, a repeat, an early
-/// message, an acknowledgement and moving a frame don't enter anything either.
+/// received, a save, a reopening. A refused call enters nothing; neither do reading a word, a
+/// repeat, an early message, an acknowledgement or moving a frame.
 ///
 /// Each message that the node keeps until its turn is one that the seat took from the wire. No save
 /// holds it, and a reopening loses it.

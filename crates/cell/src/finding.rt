@@ -133,7 +133,7 @@ fn node_of<D: Disk + Drop>(
 /// created, else those that the disks hold.
 ///
 /// Fails with `Disks` if the number of disks is not the number of nodes, or if a disk holds a node
-/// of another shape or number. Fails with `Refused`, of
+/// of another shape or number. Otherwise it fails with `Refused` of one of these:
 ///
 /// - `BadImage`, if something was created on a disk and it opens to no node;
 /// - `ImageTooLarge`, if a disk is blank and the image of its new node would be longer than an

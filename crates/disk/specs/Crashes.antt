@@ -2,11 +2,11 @@
 use Rattle.std.specs.Prelude.{◌≡◌, ◌⊎◌, ℕ, ◌+◌, ◌^◌, ◌<◌, ◌≤◌}
 use Rattle.disk.specs.Areas.{Areas}
 
--- each outcome that a crash may leave now results by a step from one that it could leave before
+-- each outcome of a crash that is possible now is one step from one that was possible before
 abbrev pub Follows : (Areas → Areas → Type 0) → (Areas → Type 0) → (Areas → Type 0) → Type 0
 Follows step old new = (c : Areas) → new c → (d : Areas) × old d × step d c
 
--- each outcome that results by a step from one that a crash could leave before, it may leave now
+-- each outcome of a crash that is one step from one that was possible before is possible now
 abbrev pub Reaches : (Areas → Areas → Type 0) → (Areas → Type 0) → (Areas → Type 0) → Type 0
 Reaches step old new = (d c : Areas) → old d → step d c → new c
 

@@ -140,7 +140,7 @@ impl MemoryDisk {
         }
     }
 
-    // The content of an area after these bytes will be written at this offset. From now on a crash
+    // The content that an area will have once these bytes are written at this offset. A crash now
     // may leave any bytes in their range. If memory runs out, nothing changes.
     pub(crate) fn begin(
         &mut self,

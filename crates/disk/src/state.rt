@@ -134,7 +134,7 @@ impl State {
         Ok(left)
     }
 
-    /// The content of an area after these bytes will be written at this offset.
+    /// The content that an area will have once these bytes are written at this offset.
     pub(crate) fn prepared(
         &self,
         alloc: Global,

@@ -105,7 +105,7 @@ reports_back : (b : Bool) (nodes : ℕ) (rs : List ℕ) → length rs ≡ cond b
 reports_back true nodes rs len = refl
 reports_back false nodes rs len = sym (nil_from_length rs len)
 
--- the image of the node that was said says the same
+-- the node that `s` says has an image that says `s`
 pub says_back : (v : Version) (s : Stored) → Fits v s → stored_by (node_of s) ≡ s
 says_back v s fits =
     let reports = reports_back (s.head.own == 0) s.head.nodes s.reports (reports_count v s fits) in

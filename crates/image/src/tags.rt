@@ -9,7 +9,7 @@ pub const FIRST: u8 = 1;
 /// The second version of the format, after the start. It is read and written.
 pub const SECOND: u8 = 2;
 
-/// In place of a token that is absent.
+/// In place of a token, or of a register's reference, that is absent.
 pub const ABSENT: u8 = 0;
 
 /// Before a token that may be absent.

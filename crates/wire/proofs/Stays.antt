@@ -19,7 +19,7 @@ use Rattle.laws.proofs.Lookups.{slice_get-push}
 use Rattle.wire.proofs.Boxes.{put, at_put, holder, set-at}
 use Rattle.wire.proofs.Visits.{filter-here, filter-else, visits-push}
 
--- what the other seats read of a seat is equal in both
+-- both views are equal in what the other seats read of a seat
 pub record IsAlike (v w : Known) : Type 0 where
   pub role : w.role ≡ v.role
   pub me : w.me ≡ v.me
@@ -51,7 +51,7 @@ still-seat = record {
   shown = refl;
 }
 
--- what a mailbox reads of a seat is equal in both
+-- both views are equal in what a mailbox reads of a seat
 pub record IsLike (m : ℕ) (v w : Known) : Type 0 where
   pub fills : has m w.filling ≡ has m v.filling
   pub empties : found m w.emptying ≡ found m v.emptying

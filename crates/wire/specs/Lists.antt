@@ -10,7 +10,7 @@ abbrev pub without : ℕ → List ℕ → List ℕ
 without m [] = []
 without m (x ∷ xs) = cond (x == m) (without m xs) (x ∷ without m xs)
 
--- the frame with this number
+-- the frame listed under this mailbox number
 abbrev pub found : ℕ → List (ℕ × Plain) → Option Plain
 found m [] = None
 found m (x ∷ xs) = cond (x.0 == m) (Some x.1) (found m xs)

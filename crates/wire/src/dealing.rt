@@ -46,7 +46,7 @@ impl Wire {
     ///
     /// For n nodes it allocates n * n mailboxes, each a word and an empty vector, and in each seat
     /// room for 2 * n mailbox numbers. No other call makes any of these larger. Fails with `Memory`
-    /// if an allocation fails; nothing is left then.
+    /// if an allocation fails; then nothing stays allocated.
     pub fn new(
         alloc: Global,
         shape: Shape,

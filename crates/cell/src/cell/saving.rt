@@ -177,7 +177,8 @@ impl Cell<MemoryDisk> {
         self.shelf.fail_from(k);
     }
 
-    /// The `k`-th call of the disk from now on fails, once; see [`MemoryDisk::fail_once`].
+    /// The `k`-th call of the disk from now on fails, and no later one; see
+    /// [`MemoryDisk::fail_once`].
     pub fn fail_once(&mut self, k: u64)
         ensures plan { self.new.disk.plan ≡ fails_once k }
         ensures state { self.new.disk.state ≡ self.old.disk.state }
