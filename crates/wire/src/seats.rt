@@ -15,7 +15,7 @@ use std::snapshot::Snapshot;
 
 /// What the threads of a space's nodes share: a mailbox from each node to each other one, the count
 /// of the events of all nodes, and a board with the last cycle that node 0 showed as ended. Every
-/// call is on `&self`, allocates nothing and never waits.
+/// call except [`new`](Wire::new) is on `&self` and allocates nothing, and no call waits.
 pub struct Wire {
     // The mailboxes, then the count, then the board.
     pub(crate) table: Table<Vec<u8>, View, Opening, WireRule, Global>,
