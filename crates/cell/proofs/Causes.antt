@@ -1,4 +1,4 @@
--- Why a node is refused from its disk.
+-- Why opening a node from its disk fails.
 use Rattle.std.proofs.Common.{◌≡◌, ◌≢◌, ◌⊎◌, ◌<◌, ◌≤◌, ℕ, Bool, false, true, List, [], Result, Ok, Err, IfErr, length, drop, get_or, sym, ap, subst, ⊎_elim, arith}
 use Rattle.ids.specs.Limits.{Shaped}
 use Rattle.ids.specs.declared.limits.TheConstants.{GREATEST_IMAGE}
@@ -14,7 +14,7 @@ use Rattle.cell.specs.declared.fault.Unopened.{Unopened}
 use Rattle.cell.specs.declared.fault.Unopened.TheVariants.{Disks, Refused}
 use Rattle.cell.proofs.OnShelves.{first-there}
 
--- of one among several
+-- a cause for one node is a cause for the list
 pub cause-there : {P Q : Refusal → Type 0} (e : Unopened) → ((r : Refusal) → P r → Q r)
     → IfRefused P e → IfRefused Q e
 cause-there Disks more is = tt
@@ -25,7 +25,7 @@ pub same-error : {A B E : Type 0} (e f : E) → ◌≡◌ {A = Result A E} (Err 
     → ◌≡◌ {A = Result B E} (Err e) (Err f)
 same-error e f is = ap Err (let same : e ≡ f = cc in same)
 
--- of a new node
+-- for a new node
 pub creation-cause : {D : Type 0} (seen : D → Areas) (moment faults : D → ℕ) (shape : Shaped)
     (own : ℕ) (disk after : D) (e : Refusal) → (seen disk).select ≡ []
     → (e ≡ ImageTooLarge → GREATEST_IMAGE < length (whole_image (new_whole shape own)))
@@ -41,7 +41,7 @@ creation-cause seen moment faults shape own disk after e blank large later faile
     record { after = after; later = later; failed = failed is }))
     which
 
--- of one that is read
+-- for a node that is read
 pub reading-cause : {D : Type 0} (seen : D → Areas) (moment faults : D → ℕ) (shape : Shaped)
     (own : ℕ) (disk after : D) (e : Refusal) → (seen disk).select ≢ []
     → (e ≡ BadImage → (n : WholeNode) → OpensToNode n (seen disk) → ⊥)
@@ -57,11 +57,11 @@ reading-cause seen moment faults shape own disk after e written none later faile
     record { after = after; later = later; failed = failed is }))
     which
 
--- an Ok is no Err
+-- an `Ok` is not an `Err`
 pub no-error : ◌≡◌ {A = Bool} false true → ⊥
 no-error never = absurd cc
 
--- of a disk on which no call failed before
+-- for a disk on which no call failed before
 pub earlier-cause : {D : Type 0} (seen : D → Areas) (moment faults : D → ℕ) (shape : Shaped)
     (own : ℕ) (old new : D) (e : Refusal) → seen new ≡ seen old → moment old ≤ moment new
     → faults new ≡ faults old → IsCause seen moment faults shape own new e
@@ -87,7 +87,7 @@ earlier-causes seen moment faults shape own old new (Err e) same later fine is =
     cause-there e
     (λ r. earlier-cause seen moment faults shape own old new r same later fine) is
 
--- it is so of the place of what stands first in the rest of a list
+-- what holds of the first element of the rest holds at its place in the list
 pub place-there : {X : Type 0} {Is : ℕ → X → Type 0} (xs : List X) (number : ℕ) (x : X)
     → number < length xs → x ≡ get_or (drop number xs) 0 x → Is number x → HasPlace Is xs
 place-there xs number x inside first is = record {

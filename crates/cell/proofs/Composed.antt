@@ -1,4 +1,4 @@
--- The theorems on lists of steps, of what cells do.
+-- The theorems on lists of steps, applied to what cells do.
 use Rattle.std.proofs.Common.{◌≡◌, ◌⊎◌, ℕ, ◌+◌, ◌<◌, Bool, true, false, List, [], ◌++◌, map, length, Ok, Err, refl, sym, ap, ◌∙◌, subst}
 use Rattle.ids.specs.Limits.{IsShape, Shaped}
 use Rattle.ids.specs.declared.limits.TheConstants.{WINDOW}
@@ -28,7 +28,7 @@ use Rattle.wire.specs.Views.{Pair}
 use Rattle.cell.specs.Events.{is_counted, emptied, Handled}
 use Rattle.cell.specs.Laws.{IsReached, NoneRefusedInTurn, SweepsFreeNoneReachable}
 
--- what a list of events leads to from a world that a run reaches, a run reaches too
+-- if a list of events starts from a world that a run reaches, a run reaches its end too
 onward : (w : World) (log : List Step) (r : IsReached w)
     → run (new_world r.shape) (r.steps ++ log) ≡ run w log
 onward w log r =
@@ -40,7 +40,7 @@ new-reached shape limits =
 
 -- ---- Sweeps
 
--- the theorem, of one world
+-- the theorem, for one world
 abbrev SweptIn : World → Type 0
 SweptIn w =
     (choice : ℕ → Bool) (i count : ℕ) (s : NodeState) (a : Answer) (r : Ref) → choice i ≡ false

@@ -31,7 +31,7 @@ shows-kept n s h = record {
       (record { within = (h.links i).within; unacknowledged = (h.links i).unacknowledged });
 }
 
--- one that is read from its image, and shows a state, stands where that is saved
+-- a node that is read from its image shows its state with everything saved
 pub stands-read : (me width : ℕ) (s : NodeState) (n : NodeView) → n.local.own ≡ me
     → n.local.shape.nodes ≡ width → Shows n s → HasImage n
     → StandsAt me width (both_states s) n
@@ -56,19 +56,19 @@ pub saved-read : (me width : ℕ) (s : NodeState) (n : NodeView) → n.local.own
 saved-read me width s n own nodes shows image =
     record { own = own; nodes = nodes; shows = shows; image = ∣ image ∣₁ }
 
--- what a reopening enters may happen
+-- the step that a reopening enters may happen
 pub found-happens : (same : Bool) (v : Known)
     → Happens v (found_step same v.me) (found_pair same v.pair)
 found-happens true v = (refl, refl)
 found-happens false v = (refl, refl)
 
--- nodes that are written alike, each of which was read from an image, are the same
+-- nodes with equal images, each of which was read from an image, are the same
 same-nodes : (m n : NodeView) → is_same_image m n ≡ true → HasImage m → ∥ HasImage n ∥₁ → m ≡ n
 same-nodes m n same first second =
     let bytes : image_of m ≡ image_of n = (bytes_eq-Decides (image_of m) (image_of n)).0 same in
     ∥∥₁_elim second (hlevel props) (λ read. image_of_same m n first read bytes)
 
--- the node that was found stands where the reopening leaves the seat
+-- the node that was found is in the state in which the reopening leaves the seat
 pub record IsFound (me width : ℕ) (p : Pair) (found : NodeView) : Type 0 where
   pub stands : StandsAt me width p found
   pub saved : IsSavedNode me width p.saved found

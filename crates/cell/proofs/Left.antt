@@ -1,4 +1,4 @@
--- What a space left on its disks is the world in which it goes on.
+-- What a space left on its disks is the world in which it continues.
 use Rattle.std.proofs.Common.{◌≡◌, ◌≢◌, ℕ, zero, suc, true, Bool, List, [], ◌∷◌, ◌++◌, Option, Some, None, Ok, Err, append_assoc, length, length-append, set, refl, sym, ap, ◌∙◌, subst, arith}
 use Rattle.std.specs.Prelude.{cond}
 use Rattle.std.proofs.Math.Logic.{∥∥₁_elim}
@@ -28,9 +28,9 @@ use Rattle.cell.proofs.Found.{stands-read}
 use Rattle.cell.proofs.Opening.{core-found, image-found, same-found}
 use Rattle.cell.proofs.Places.{mapped-from}
 
--- ---- All nodes go on as they were saved
+-- ---- All nodes restart from their saved states
 
--- so many nodes, from this one on
+-- restarts of this many nodes, from this one on
 abbrev restarts : ℕ → ℕ → List Step
 restarts k zero = []
 restarts k (suc n) = step.Restart k ∷ restarts (suc k) n

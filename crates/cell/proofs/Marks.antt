@@ -1,4 +1,4 @@
--- What a call leaves of the mark that tells whether an event came.
+-- How a call sets the mark that says whether an event happened.
 use Rattle.std.proofs.Common.{◌≡◌, Bool, true, [], ◌∷◌, ◌++◌, length, length-append, Result, Ok, Err, sym, ap, ◌∙◌, ⊎_elim, arith}
 use Rattle.std.proofs.lemmas.Bool.{cases_Bool, cond-true, cond-false}
 use Rattle.ids.specs.declared.refusal.Refusal.{Refusal}

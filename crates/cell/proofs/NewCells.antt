@@ -17,7 +17,7 @@ use Rattle.wire.proofs.NewWires.{new-at}
 use Rattle.cell.specs.Desks.{IsAtSeat}
 use Rattle.cell.specs.Disks.{OpensToNode}
 
--- it stands at its own seat, as the wire was made
+-- a new node is at its own seat, as the wire was made
 pub at-seat : (shape : Shaped) (own : ℕ) (wire : Wire) (s : NodeSeat)
     → opened_with wire ≡ new_world shape → wire.nodes ≡ shape.nodes → own < shape.nodes
     → IsSeated wire own s → IsAtSeat (new_view shape own) s
@@ -33,7 +33,7 @@ at-seat shape own wire s opening width inside seated =
       saved = ap (λ (p : Pair). p.saved) pair ∙ sym (ap (λ (p : Pair). p.current) pair);
     }
 
--- it is what the disk opens to on which it was created
+-- the disk on which the node was created opens to it
 pub opens-new : (shape : Shaped) (own : ℕ) (n : WholeNode) (c : Areas) → n ≡ new_whole shape own
     → opened c ≡ Some (whole_image n) → IsWholeOf (whole_image n) (saved_whole n)
     → OpensToNode n c

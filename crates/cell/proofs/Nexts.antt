@@ -1,4 +1,4 @@
--- What became of the message that waits, where one does.
+-- What happened to the waiting message, if one waits.
 use Rattle.std.proofs.Common.{◌≡◌, ◌≢◌, ℕ, true, List, [], ◌∷◌, ◌++◌, Option, None, Some, is_some, Result, Ok, Err, IfErr, IsTrue}
 use Rattle.circular_buffer.specs.Buffer.{keep_last}
 use Rattle.ids.specs.declared.limits.TheConstants.{TRACE_EVENTS}

@@ -1,4 +1,4 @@
--- Nodes as they lie on shelves, one after another.
+-- Nodes on their shelves, one after another.
 use Rattle.std.proofs.Common.{◌≡◌, ◌<◌, ◌+◌, ◌↔◌, Bool, true, false, Result, Ok, Err, IfOk, IsTrue, ℕ, List, [], ◌∷◌, ◌++◌, Some, length, length-append, drop, get_or, slice_get, ap, ◌∙◌, sym, subst, arith, ⊎_elim}
 use Rattle.std.proofs.lemmas.List.{get_or-drop}
 use Rattle.std.proofs.lemmas.Option.{slice_get_within, get_or_from_slice_get}
@@ -35,7 +35,7 @@ module _ {S : Type 0} (Lies : WholeNode → S → Type 0) (shape : Shaped) where
         (pushed-at nodes n k m there);
   }
 
--- what holds of all that lies on a shelf holds of each node
+-- what holds of everything on a shelf holds of each node
 pub found-kept : {S : Type 0} {Lies : WholeNode → S → Type 0} {shape : Shaped}
     {nodes : List WholeNode} {shelves : List S}
     → ((n : WholeNode) (s : S) → Lies n s → kept_view n.core ≡ n.core) → AreFound Lies shape nodes shelves
@@ -57,7 +57,7 @@ more-found {Lies = Lies} {shape = shape} {nodes = nodes} {shelves = shelves} ns 
     (next-found Lies shape nodes shelves n s h
     (subst (λ (i : ℕ). IsNodeOf shape i n.core) (sym count) it.0) it.1))
 
--- one more node beside what it was read from, which is the first of the rest
+-- one more node next to what it was read from, which is the first of the rest
 pub next-beside : {X : Type 0} (Is : ℕ → X → WholeNode → Type 0) (xs : List X)
     (nodes : List WholeNode) (number : ℕ) (ns : List WholeNode) (x : X) (n : WholeNode)
     → AreBeside Is xs nodes → length nodes ≡ number → x ≡ get_or (drop number xs) 0 x
@@ -85,7 +85,7 @@ read-held shape own seen now (Ok r) blank is exact same opens = record {
 }
 read-held shape own seen now (Err e) blank is exact same opens = opens
 
--- what stands first in the rest of a list stands there in the whole
+-- the first element of the rest of a list, by its place in the whole list
 pub first-there : {X : Type 0} (xs : List X) (number : ℕ) (x : X) → number < length xs
     → x ≡ get_or (drop number xs) 0 x → slice_get xs number ≡ Some x
 first-there xs number x inside first =

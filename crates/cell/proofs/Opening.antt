@@ -15,14 +15,14 @@ use Rattle.disk.specs.declared.state.State.{State}
 use Rattle.node.specs.Keeping.{WholeNode, alone}
 use Rattle.cell.specs.Disks.{HoldsSaved, OpensTo, OpensToEither, OpensToNode, is_same_image}
 
--- what is saved of the node that was found, and the node of it
+-- the core of the node that was found
 pub core-found : (n : WholeNode) (c : Areas) → OpensToNode n c → OpensTo n.core c
 core-found n c found = (found.0, found.1, found.2.0)
 
 pub whole-found : (n : NodeView) (c : Areas) → OpensTo n c → OpensToNode (alone n) c
 whole-found n c found = (found.0, found.1, (found.2, refl))
 
--- a disk opens to one node at most
+-- a disk opens to at most one node
 pub same-found : (m n : NodeView) (c : Areas) → OpensTo m c → OpensTo n c → m ≡ n
 same-found m n c first second =
     let both : ◌≡◌ {A = Option (List ℕ)} (Some second.0) (Some first.0) =
@@ -37,7 +37,7 @@ image-found n c found = (found.0, found.2)
 same-image : (m n : NodeView) → m ≡ n → is_same_image m n ≡ true
 same-image m n same = (bytes_eq-Decides (image_of m) (image_of n)).1 (ap image_of same)
 
--- where another image was found than that of the node saved last, it is the present node's
+-- if the image that was found isn't that of the last saved node, it is the current node's
 pub which-found : (saved n found : NodeView) (c : Areas) → OpensTo found c
     → ∥ OpensToEither saved n c ∥₁ → is_same_image found saved ≡ false → found ≡ kept_view n
 which-found saved n found c there left other =
@@ -64,25 +64,25 @@ never-bad saved n c left none =
     (⊎_elim (λ was. none (alone saved) (whole-found saved c was))
     (λ now. none (alone (kept_view n)) (whole-found (kept_view n) c now)))
 
--- a crash leaves what is read, and that opens to the node saved last
+-- a crash leaves what is read, and that opens to the last saved node
 settled-left : (saved n : NodeView) (seen c : Areas) → c ≡ seen → ∥ OpensTo saved seen ∥₁
     → ∥ OpensToEither saved n c ∥₁
 settled-left saved n seen c same was =
     ∥∥₁_map was (λ there. inl (subst (OpensTo saved) (sym same) there))
 
--- it opens to the node saved last, under another name
+-- the disk opens to the last saved node, under another name
 open-stays : (was saved : NodeView) (seen : Areas) → saved ≡ was → ∥ OpensTo was seen ∥₁
     → ∥ OpensTo saved seen ∥₁
 open-stays was saved seen same opens =
     subst (λ (m : NodeView). ∥ OpensTo m seen ∥₁) (sym same) opens
 
--- so whatever a crash leaves opens to it, where that is what is read
+-- so if a crash leaves only what is read, whatever it leaves opens to that node
 pub open-holds : (saved : NodeView) (seen : Areas) (may_leave : Areas → Type 0)
     → Only seen may_leave → ∥ OpensTo saved seen ∥₁ → HoldsSaved may_leave saved
 open-holds saved seen may_leave only opens x may =
     subst (λ (c : Areas). ∥ OpensTo saved c ∥₁) (sym (only x may)) opens
 
--- what an open cell keeps, where the disk stays and what was saved on it
+-- what an open cell guarantees, if the disk and what was saved on it stay the same
 pub stays-open : {ready : Bool} (was saved n : NodeView) (seen : Areas) (may_leave : Areas → Type 0)
     → saved ≡ was → Only seen may_leave → ∥ OpensTo was seen ∥₁
     → (IsTrue ready → ∥ OpensTo saved seen ∥₁)
@@ -91,7 +91,7 @@ stays-open was saved n seen may_leave same only opens =
     let still = open-stays was saved seen same opens in
     (λ _. still, ((λ x may. settled-left saved n seen x (only x may) still), tt))
 
--- what a cell keeps whose disk in memory was told when to fail
+-- what a cell guarantees whose disk in memory was given a plan of failures
 pub told-to-fail : (ready was : Bool) (saved n : NodeView) (old new : State) → new ≡ old
     → ready ≡ was → (IsTrue was → ∥ OpensTo saved (areas_of old.held) ∥₁)
     → ((x : Areas) → leaves old x → ∥ OpensToEither saved n x ∥₁)
@@ -103,7 +103,7 @@ told-to-fail ready was saved n old new same as_before opens left = (
   ((λ x may. left x (subst (λ (s : State). leaves s x) same may)), tt),
 )
 
--- what a crash leaves after a save that failed on the disk
+-- what a crash leaves after a save in which the disk failed
 pub failed-left : {D : Type 0} (seen : D → Areas) (may_leave : D → Areas → Type 0)
     (moment : D → ℕ) (left_since : D → ℕ → Areas → Type 0) (old new : D) (saved n : NodeView)
     → ((t : ℕ) (c : Areas) → t ≤ moment new → may_leave new c → left_since new t c)

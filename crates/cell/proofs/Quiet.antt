@@ -1,4 +1,4 @@
--- What is no event leaves the node's state as it was, and a frame that was taken may be given to
+-- What isn't an event leaves the node's state as it was, and a frame that was taken may be given to
 -- the node.
 use Rattle.std.proofs.Common.{◌≡◌, ℕ, ◌<◌, true, false, [], ◌∷◌, slice_get, Some, Result, Ok, refl, sym, ap, ◌∙◌, subst}
 use Rattle.std.proofs.Math.Logic.{∥∥₁_map}

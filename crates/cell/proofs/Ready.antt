@@ -1,4 +1,4 @@
--- A wire between nodes that lie on shelves, and their seats.
+-- A wire between nodes on their shelves, and their seats.
 use Rattle.std.proofs.Common.{◌≡◌, ◌<◌, ◌+◌, ◌++◌, ◌∷◌, [], append_assoc, map, ℕ, List, Some, length, length-append, drop, get_or, replicate, slice_get, refl, sym, ap, ◌∙◌, subst, arith}
 use Rattle.std.proofs.lemmas.List.{append-nil, nil_from_length, length-drop, length-map, length-replicate, get_or-map, map-append, map-id}
 use Rattle.std.proofs.Math.ListN.{get_or-map as get_or-mapped}
@@ -22,7 +22,7 @@ use Rattle.cell.specs.Desks.{IsAtSeat}
 use Rattle.cell.specs.Opened.{AreFound, AreReady, IsNodeOf, IsReady, cores, no_message, sent_of, state_of, world_of}
 use Rattle.cell.proofs.Places.{mapped-from, mapped-there}
 
--- ---- The states of nodes whose messages all are saved
+-- ---- The states of nodes whose messages are all saved
 
 many-sent : (l : Link) → length (sent_of l) ≡ used l
 many-sent l =
@@ -153,13 +153,13 @@ later-ready {Lies = Lies} {shelves = shelves} {seats = seats} ns ss ts h is =
     (subst (λ l. AreReady Lies ns l (drop 1 seats)) (sym is.1)
     (subst (λ l. AreReady Lies l (drop 1 shelves) (drop 1 seats)) (sym is.0) (later h)))
 
--- all was handed on
+-- everything was passed on
 pub handed-on : {A : Type 0} (done left all : List A) → done ++ left ≡ all → length left ≡ 0
     → done ≡ all
 handed-on done left all were none =
     sym (append-nil done) ∙ ap (λ l. done ++ l) (sym (nil_from_length left none)) ∙ were
 
--- what was handed on, and what is left
+-- what was passed on, and what is left
 pub shifted-by : {A B C : Type 0} (f : A → C) (h : B → C) (done : List A) (left : List B)
     (all : List C) (now : List A) (last : A) (first : B) (rest : List B)
     → map f done ++ map h left ≡ all → now ≡ done ++ last ∷ [] → f last ≡ h first
@@ -182,7 +182,7 @@ shifted f done left all now last first rest were is same front some after =
     ∙ shifted-by f (λ b. b) done left all now last first rest
     (ap (λ l. map f done ++ l) (map-id left) ∙ were) is same front some after
 
--- a cell that was made so is new
+-- a cell that was made in this way is new
 pub made-new : {D : Type 0} (c : CellView D) (n : WholeNode) (seat : NodeSeat) (disk : D)
     → c ≡ new_cell n seat disk → IsNew c
 made-new c n seat disk made = made ∙ sym (ap (λ v. new_cell v.node v.seat v.disk) made)

@@ -1,4 +1,4 @@
--- No node answers an event that it is closed.
+-- No node refuses an event with `Closed`.
 use Rattle.std.proofs.Common.{◌≡◌, ℕ, Bool, true, false, ◌==◌, ◌&&◌, not, List, [], ◌∷◌, ◌++◌, map, Option, Some, None, Result, Ok, Err, refl, sym, ap, ◌∙◌, subst}
 use Rattle.std.proofs.lemmas.Bool.{and_parts}
 use Rattle.ids.specs.Refusals.{number_of}
@@ -24,7 +24,7 @@ use Rattle.model.specs.Effects.{Effect}
 use Rattle.model.specs.Steps.{tests, made, ack_of, all_tests, checked}
 use Rattle.model.specs.View.{Link, NodeView, Performs, ack_tests, let_go, used, view_act, view_after}
 
--- none of these tests refuses so
+-- none of these tests refuses with `Closed`
 lack : List (Bool × Refusal) → Bool
 lack [] = true
 lack (c ∷ cs) = not (number_of c.1 == 24) && lack cs
@@ -81,7 +81,7 @@ view-not-closed n e refused =
     (checked (tests n.local e ++ ack_tests n (ack_of e)) (map used n.links)
     (made n.local (map used n.links) e)) Closed refused)
 
--- nor does a call that makes the event
+-- nor does a call that performs the event
 pub never-closed : (shading : Bool) (e : Event) (n m : NodeView) (r : Result Answer Refusal)
     → Performs shading r m (view_act n e) → r ≡ Err Closed → ⊥
 never-closed shading e n m (Ok a) performs closed = absurd cc

@@ -19,7 +19,7 @@ use Rattle.wire.specs.Rule.{Spells}
 use Rattle.cell.specs.Desks.{StandsAt}
 use Rattle.cell.specs.Sending.{frame_or_ack, frame_due}
 
--- bytes spell one frame at most
+-- bytes spell at most one frame
 pub one_frame : {bytes : List ℕ} (f g : Plain) → Spells f bytes → Spells g bytes → f ≡ g
 one_frame f g first second =
     (no_spelling_begins_another f g [] first.0 second.0
@@ -37,7 +37,7 @@ pub inside : (p : LocalState) (to : ℕ) → is_other p to ≡ true → to < p.s
 inside p to other =
     ltb-true to p.shape.nodes (and_parts (nat_lt to p.shape.nodes) (not (to == p.own)) other).0
 
--- what stands in a released place of a window
+-- a message in a released place of a window
 record IsInPlace (l : Link) (place : ℕ) (x : Message) : Type 0 where
   before : l.base + place < l.kept
   there : slice_get l.unacknowledged place ≡ Some x
@@ -58,7 +58,7 @@ in-place l place x found =
           (slice_get l.unacknowledged place) None may) ∙ found in absurd cc
     ]
 
--- a message in place k of what was sent is the one numbered k + 1
+-- the message in place k of what was sent has the number k + 1
 numbered-in : (sent : List Message) (k number : ℕ) (x : Message) → number ≡ k + 1
     → slice_get sent k ≡ Some x → numbered sent number ≡ Some x
 numbered-in sent k number x is there =
@@ -67,7 +67,7 @@ numbered-in sent k number x is there =
     ∙ ap (slice_get sent) (let before : number - 1 ≡ k = omega (arith, is) in before)
     ∙ there
 
--- such a message was sent by the saved state
+-- the saved state sent such a message
 saved-place : (me width : ℕ) (p : Pair) (n : NodeView) (to place : ℕ) (x : Message)
     → StandsAt me width p n → released_at (link_to n to) place ≡ Some x
     → slice_get (sent_to p.saved to) ((link_to n to).base + place) ≡ Some x

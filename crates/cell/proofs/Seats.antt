@@ -1,4 +1,5 @@
--- A desk whose seat took a step on a mailbox: the seat is the same, and knows the same of its node.
+-- A desk whose seat took a step on a mailbox: the seat is the same, and knows the same about its
+-- node.
 use Rattle.std.proofs.Common.{◌≡◌, ◌≢◌, ℕ, ◌+◌, ◌*◌, ◌<◌, Bool, true, false, Option, Some, None, refl, sym, ap, ◌∙◌, subst}
 use Rattle.std.specs.Prelude.{cond}
 use Rattle.std.specs.Option.{option_map}
@@ -30,7 +31,7 @@ same-again r s t first next = (
   next.4 ∙ first.4,
 )
 
--- another node of the space, as the wire has it
+-- another node of the space, in terms of the wire
 pub other-on : (desk : Desk) (w : Wire) (to : ℕ) → IsSeatOf w desk.seat
     → is_other desk.node.core.local to ≡ true → (to < w.nodes) × (to ≢ seat_node desk.seat)
 other-on desk w to of other = (
@@ -39,7 +40,7 @@ other-on desk w to of other = (
   λ same. apart desk.node.core.local to other (same ∙ desk.at.own ∙ sym desk.stands.own),
 )
 
--- what a desk keeps of a seat
+-- what a desk needs of a seat
 pub record Keeps (desk : Desk) (t : NodeSeat) : Type 0 where
   pub at : IsSeatAt desk.own desk.nodes t
   pub stands : StandsAt desk.own desk.nodes (known t).pair desk.node.core
@@ -59,7 +60,7 @@ steps-on desk t same pair = record {
   unsaved = subst (IsUnsaved desk.is_unsaved) (sym pair) desk.unsaved;
 }
 
--- the mailbox that was just taken from, and what is found in it
+-- the mailbox that was just taken from, and the frame in it
 pub found-taken : (s t : NodeSeat) (from at place : ℕ) (f : Plain) → IsSame s t → at ≡ from
     → known t ≡ takes_in (inbox s from) place f (known s)
     → (inbox t at ≡ inbox s from) × (found (inbox t at) (known t).emptying ≡ Some f)
@@ -72,7 +73,7 @@ found-taken s t from at place f same is known_is =
 
 -- ---- Frames that go out
 
--- a frame that goes out, or doesn't, changes nothing that is known of the node
+-- sending a frame, or failing to, changes nothing that the seat knows of the node's states
 pub sent-pair : (box : ℕ) (f : Plain) (sent : Bool) (v w : Known) → IsSent box f sent v w
     → w.pair ≡ v.pair
 sent-pair box f true v w h = ap (λ (u : Known). u.pair) h.2

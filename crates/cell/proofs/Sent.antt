@@ -1,4 +1,4 @@
--- A shared cell may cross threads where its disk may.
+-- A shared cell may be sent to, and shared with, other threads if its disk may be sent.
 use denote.RattleType.{RattleType}
 use denote.Struct.Declared.{shape}
 use denote.Struct.Struct.{Struct}

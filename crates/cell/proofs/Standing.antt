@@ -1,4 +1,4 @@
--- A node at a desk stands as the desk says, also after a call.
+-- The node at a desk is in the state that the desk says, also after a call.
 use Rattle.std.proofs.Common.{◌≡◌, ℕ, List, [], ◌++◌, length, take, drop, get_or, Result, Ok, Err, OnErr, sym, ap, ◌∙◌, subst, append-nil}
 use Rattle.std.proofs.lemmas.List.{take-append-drop}
 use Rattle.std.proofs.Math.Seq.{take-append_seam}
@@ -18,7 +18,7 @@ use Rattle.model.specs.declared.event.Event.TheVariants as event
 use Rattle.cell.proofs.Quiet.{quiet-ack}
 use Rattle.cell.specs.Desks.{IsBehind, StandsAt}
 
--- a list that begins with another one still does when it has grown
+-- a list that begins with another one still does after it has grown
 grown : (xs ys zs : List Message) → take (length xs) ys ≡ xs → Grows ys zs
     → take (length xs) zs ≡ xs
 grown xs ys zs front more =
@@ -38,7 +38,7 @@ behind-itself s j =
     ap (take (length (sent_to s j))) (sym (append-nil (sent_to s j)))
     ∙ take-append_seam (sent_to s j) []
 
--- the node took an event, and shows the state after it
+-- the node performed an event, and shows the state after it
 pub stands-moved : (me width : ℕ) (p : Pair) (t : NodeState) (n m : NodeView) (e : Event)
     → StandsAt me width p n → Leaves n m e → Shows m t → IsBehind p.saved t
     → StandsAt me width (record { current = t; saved = p.saved }) m
@@ -55,13 +55,13 @@ stands-moved me width p t n m e h leaves shows behind = record {
   behind = behind;
 }
 
--- it took one that changes no state
+-- it performed one that changes no state
 pub stands-quiet : (me width : ℕ) (p : Pair) (t : NodeState) (n m : NodeView) (e : Event)
     → StandsAt me width p n → Leaves n m e → Shows m t → t ≡ p.current → StandsAt me width p m
 stands-quiet me width p t n m e h leaves shows same =
     stands-moved me width p p.current n m e h leaves (subst (Shows m) same shows) h.behind
 
--- it was given an acknowledgement, whatever became of that
+-- it was given an acknowledgement, whatever the outcome
 pub stands-acknowledged : (me width : ℕ) (p : Pair) (n m : NodeView) (x : Ack)
     (r : Result Answer Refusal) → StandsAt me width p n → Leaves n m (event.Ack x)
     → Follows (event.Ack x) r m (act p.current (event.Ack x)) → OnErr r (m ≡ n)

@@ -1,4 +1,4 @@
--- A message that waits for its turn: its frame was taken, and what it is as an event.
+-- A message that waits for its turn: its frame was taken, and which event it is.
 use Rattle.std.proofs.Common.{◌≡◌, ℕ, zero, suc, ◌<◌, true, List, [], ◌∷◌, ◌++◌, length, Option, Some, None, is_some, Result, refl, sym, ◌∙◌, subst, arith}
 use Rattle.std.proofs.Math.Logic.{∥∥₁_map}
 use Rattle.ids.specs.declared.limits.TheConstants.{WINDOW}
@@ -58,7 +58,7 @@ waits-within (x ∷ xs) zero d there = omega arith
 waits-within (x ∷ xs) (suc k) d there =
     let inside = waits-within xs k d there in omega (arith, inside)
 
--- a message that waits may be delivered to the node that sits so
+-- a waiting message may be delivered to a node at its seat
 pub waiting-may : (v : Known) (n : WholeNode) (from : ℕ) (d : Data) → SitsAt v n
     → waiting n.early from ≡ Some d → MayAct v (event.Data d) (step.Deliver from v.me d.number)
 waiting-may v n from d h there =
@@ -69,7 +69,7 @@ waiting-may v n from d h there =
     (data-may v d (h.taken.each from 0 d there) (at.receiver ∙ h.own)
     (subst (λ (i : ℕ). i < v.nodes) (sym at.sender) inside))
 
--- any event but Next is the same to the core
+-- any event except `Next` is the same to the core
 pub same-met : (es : Rings) (own : ℕ) (e : Event) → ((from : ℕ) → e ≡ event.Next from → ⊥)
     → (e ≡ met es e) × (step.Act own e ≡ own_step es own e)
 same-met es own (event.Next from) never = absurd (never from refl)
@@ -82,7 +82,7 @@ own-brings taken e own d is =
     let never : is_own (event.Data d) ≡ true = subst (λ (x : Event). is_own x ≡ true) is own in
     absurd cc
 
--- what waits, where something does
+-- the waiting message, if there is one
 pub some-waits : (o : Option Data) → is_some o ≡ true → (d : Data) × (o ≡ Some d)
 some-waits None waits = absurd cc
 some-waits (Some d) waits = (d, refl)

@@ -1,5 +1,5 @@
--- A cell as its callers see it: what it is, what it keeps between two calls, and what a call leaves
--- as it was.
+-- A cell as its callers see it: what it is, what it guarantees between two calls, and what a call
+-- leaves unchanged.
 use Rattle.std.specs.Prelude.{◌≡◌, ℕ, Bool, true, false, List, [], IsTrue, replicate}
 use Rattle.ids.specs.declared.limits.TheConstants.{GREATEST_NODES}
 use Rattle.model.specs.View.{NodeView}
@@ -13,18 +13,18 @@ use Rattle.cell.specs.Disks.{HoldsSaved, OpensToEither}
 use Rattle.cell.specs.Events.{IsMarked}
 
 pub record CellView (D : Type 0) : Type 0 where
-  -- the node as it stands, with the messages that it keeps until their turn
+  -- the current node, with the messages that it keeps until their turn
   pub node : WholeNode
-  -- the node that was saved last
+  -- the last saved node
   pub saved : NodeView
   pub seat : NodeSeat
-  -- for each node the place in the window to it whose frame is sent next
+  -- for each node: the place, in the window to it, of the frame that is sent next
   pub places : List ℕ
-  -- whether an event came since the last save or reopening
+  -- whether an event happened since the last save or reopening
   pub unsaved : Bool
   pub disk : D
   pub is_open : Bool
-  -- the last calls and what came of them, the oldest first
+  -- the last calls and their outcomes, oldest first
   pub trace : List Line
 
 -- a cell that was just made
@@ -43,10 +43,10 @@ new_cell node seat disk = record {
 abbrev pub IsNew : {D : Type 0} → CellView D → Type 0
 IsNew c = c ≡ new_cell c.node c.seat c.disk
 
--- What each cell keeps between two calls. The node shows the state in which its seat's events leave
--- it, and the one that was saved last shows the state that they leave saved. While the cell is open,
--- the disk opens to that one, also after a crash; and in any case to that one or to the node as it
--- stands.
+-- What each cell guarantees between two calls. The node shows the current state that its seat's
+-- events lead to, and the last saved node shows the saved state. While the cell is open, the disk
+-- opens to the last saved node, even after a crash. In any case it opens to that node or to the
+-- current one.
 pub record IsKept {D : Type 0} (may_leave : D → Areas → Type 0) (c : CellView D) : Type 0 where
   pub stands : StandsAt (seat_node c.seat) c.seat.nodes (known c.seat).pair c.node.core
   pub was : IsSavedNode (seat_node c.seat) c.seat.nodes (known c.seat).pair.saved c.saved
@@ -55,8 +55,9 @@ pub record IsKept {D : Type 0} (may_leave : D → Areas → Type 0) (c : CellVie
   pub while_open : IsTrue c.is_open → HoldsSaved (may_leave c.disk) c.saved
   pub left : (x : Areas) → may_leave c.disk x → ∥ OpensToEither c.saved c.node.core x ∥₁
 
--- What a call leaves that gives the node an event or a frame: the seat is the same one, and the mark
--- tells whether an event came; what was saved, the disk and the places in the windows stay.
+-- What a call that gives the node an event or a frame leaves unchanged. The seat is the same, and
+-- the mark says whether an event happened. The saved node, the disk and the places in the windows
+-- stay the same.
 pub record GoesOn {D : Type 0} (old new : CellView D) : Type 0 where
   pub same : IsSame old.seat new.seat
   pub marked : IsMarked (known old.seat) (known new.seat) old.unsaved new.unsaved

@@ -1,4 +1,4 @@
--- What is kept of a node and its seat between two calls.
+-- What holds of a node and its seat between two calls.
 use Rattle.std.specs.Prelude.{◌≡◌, ℕ, Bool, false, List, Some, length, slice_get, take}
 use Rattle.msg.specs.Frames.{plain_data}
 use Rattle.msg.specs.Grammar.{Plain}
@@ -11,18 +11,18 @@ use Rattle.wire.specs.Views.{Pair}
 use Rattle.wire.specs.Readers.{known, seat_node}
 use Rattle.wire.specs.declared.seats.NodeSeat.{NodeSeat}
 
--- the seat of this node, in a space of so many
+-- the seat of this node, in a space of this many nodes
 pub record IsSeatAt (me width : ℕ) (s : NodeSeat) : Type 0 where
   pub own : seat_node s ≡ me
   pub nodes : s.nodes ≡ width
 
--- what the saved state has sent, the current one has sent too, and perhaps more after it
+-- all that the saved state has sent, the current one has sent too, perhaps with more after it
 abbrev pub IsBehind : NodeState → NodeState → Type 0
 IsBehind saved current =
     (j : ℕ) → take (length (sent_to saved j)) (sent_to current j) ≡ sent_to saved j
 
--- The node shows the current state of the pair, and counts as saved what the saved one has: its
--- messages are released up to there, and what that has taken in is acknowledged.
+-- The node shows the current state of the pair, and counts as saved what the saved state has: its
+-- messages are released up to there, and what that state has received is acknowledged.
 pub record StandsAt (me width : ℕ) (p : Pair) (n : NodeView) : Type 0 where
   pub own : n.local.own ≡ me
   pub nodes : n.local.shape.nodes ≡ width
@@ -31,14 +31,14 @@ pub record StandsAt (me width : ℕ) (p : Pair) (n : NodeView) : Type 0 where
   pub acks : n.acks ≡ p.saved.local.got
   pub behind : IsBehind p.saved p.current
 
--- the node shows the state, and is read from bytes
+-- the node shows the state, and was read from bytes
 pub record IsSavedNode (me width : ℕ) (s : NodeState) (n : NodeView) : Type 0 where
   pub own : n.local.own ≡ me
   pub nodes : n.local.shape.nodes ≡ width
   pub shows : Shows n s
   pub image : ∥ HasImage n ∥₁
 
--- where this is false, the current state is the saved one
+-- if this is false, the current state is the saved one
 abbrev pub IsUnsaved : Bool → Pair → Type 0
 IsUnsaved unsaved p = unsaved ≡ false → p.current ≡ p.saved
 
@@ -50,7 +50,7 @@ IsTaken taken d = ∥ ((k : ℕ) × (slice_get taken k ≡ Some (plain_data d)))
 pub record AreTaken (taken : List Plain) (es : Rings) : Type 0 where
   pub each : OfAll (λ from d. IsTaken taken d) es
 
--- the node stands where its own seat says, with all saved
+-- the node is in the state that its own seat knows, with everything saved
 pub record IsAtSeat (n : NodeView) (s : NodeSeat) : Type 0 where
   pub own : n.local.own ≡ seat_node s
   pub nodes : n.local.shape.nodes ≡ s.nodes

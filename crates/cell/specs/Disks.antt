@@ -12,19 +12,18 @@ use Rattle.disk.specs.Shelf.{IsReadAs, opened}
 abbrev pub OpensTo : NodeView → Areas → Type 0
 OpensTo n c = IsReadAs IsImageOf (opened c) n
 
--- the disk opens to this node, which keeps no message
+-- the disk opens to this node, which keeps no early message
 abbrev pub OpensToNode : WholeNode → Areas → Type 0
 OpensToNode n c = IsReadAs IsWholeOf (opened c) n
 
--- the disk opens to the node that was saved last, or to the one that stands now, as it is once it
--- is saved
+-- the disk opens to the last saved node, or to the current one as it is once saved
 abbrev pub OpensToEither : NodeView → NodeView → Areas → Type 0
 OpensToEither saved n c = OpensTo saved c ⊎ OpensTo (kept_view n) c
 
--- the nodes are written alike, so they are the same where each was read from an image
+-- The nodes have equal images. So they are the same node if each was read from an image.
 abbrev pub is_same_image : NodeView → NodeView → Bool
 is_same_image m n = bytes_eq (image_of m) (image_of n)
 
--- whatever a crash leaves opens to the node that was saved last
+-- whatever a crash leaves opens to the last saved node
 abbrev pub HoldsSaved : (Areas → Type 0) → NodeView → Type 0
 HoldsSaved may_leave saved = (c : Areas) → may_leave c → ∥ OpensTo saved c ∥₁

@@ -1,4 +1,4 @@
--- What a call makes of a node, and of what its seat knows.
+-- What a call does to a node, and to what its seat knows.
 use Rattle.std.specs.Prelude.{◌≡◌, ◌≢◌, ℕ, Bool, true, false, cond, Result, Ok, Err, IfOk, OnErr}
 use Rattle.ids.specs.declared.refusal.Refusal.{Refusal}
 use Rattle.msg.specs.Grammar.{Plain}
@@ -22,11 +22,12 @@ use Rattle.wire.specs.Plays.{Enters, Happens, IsEventful}
 use Rattle.trace.specs.declared.call.Outcome as trace
 use Rattle.trace.specs.declared.call.Outcome.TheVariants as traced
 
--- whether what a node answered is an event of the space, where it wasn't given an acknowledgement
+-- whether a node's answer is that of an event of the space, provided that it wasn't given an
+-- acknowledgement
 abbrev pub is_counted : Answer → Bool
 is_counted a = is_eventful (Ok (outcome.Answer a))
 
--- the state after an event, or the same one where it was refused
+-- the state after an event, or the same state if the event was refused
 abbrev pub state_of : NodeState → Result (NodeState × Answer) Refusal → NodeState
 state_of s (Ok x) = x.0
 state_of s (Err e) = s
@@ -35,30 +36,30 @@ state_of s (Err e) = s
 abbrev pub pair_by : Event → Pair → Pair
 pair_by e p = record { current = state_of p.current (act p.current e); saved = p.saved }
 
--- The seat's list of events grows by this one where the event was answered, and counts; else
--- nothing comes.
+-- The seat's list of events grows by this one if the event was answered and counts; else it stays
+-- the same.
 abbrev pub known_after : Event → Step → Result Answer Refusal → Known → Known
 known_after e s (Ok a) v = cond (is_counted a) (ticks s (pair_by e v.pair) v) v
 known_after e s (Err r) v = v
 
--- whether an event came since the last save, after this answer
+-- whether, after this answer, an event happened since the last save
 abbrev pub unsaved_after : Result Answer Refusal → Bool → Bool
 unsaved_after (Ok a) was = cond (is_counted a) true was
 unsaved_after (Err r) was = was
 
--- the same after a call, by what came to the seat's events
+-- the same after a call, depending on whether the seat's events changed
 abbrev pub IsMarked : Known → Known → Bool → Bool → Type 0
 IsMarked v w was is = (w.events ≡ v.events → is ≡ was) × (w.events ≢ v.events → is ≡ true)
 
--- The step entered the history of the space: some list of events leads to what the seat knew before,
--- and with this step after it to what the seat knows now.
+-- The step entered the history of the space: some list of events leads to what the seat knew
+-- before, and with this step after it to what the seat knows now.
 abbrev pub Entered : Step → Known → Known → Type 0
 Entered s v w = (count : ℕ) × Enters s v count w
 
--- The node was given an event, which is this step of the space: what it answered, and how it stands
--- afterwards, is what the definitions say of the state that it showed; and what it was refused is
--- the first refusal that applies. What is refused, reads a word, repeats a message or comes before
--- its turn is no event; all else entered the history.
+-- The node was given an event, which is this step of the space. Its answer and its state afterwards
+-- are what the definitions say of the state that it showed; a refusal is the first one that
+-- applies. A refused event, the reading of a word, a repeat and an early message are not events of
+-- the space. Everything else entered the history.
 pub record Acted (e : Event) (s : Step) (result : Result Answer Refusal) (old new : NodeView)
     (v w : Known) : Type 0 where
   pub performs : Performs (is_shading e) result new (view_act old e)
@@ -67,15 +68,15 @@ pub record Acted (e : Event) (s : Step) (result : Result Answer Refusal) (old ne
   pub known : w ≡ known_after e s result v
   pub entered : IfOk result (λ a. is_counted a ≡ true → Entered s v w)
 
--- The same of a node with the messages that it keeps until their turn, where this is what the
--- event was to its core: Next of a message that waits takes that in, or refuses it.
+-- The same for a node with the messages that it keeps until their turn; `met` is what the event was
+-- to its core. `Next` of a waiting message receives that message, or refuses it.
 pub record Given (e met : Event) (s : Step) (result : Result Answer Refusal) (old new : WholeNode)
     (v w : Known) : Type 0 where
   pub acted : Acted met s result old.core new.core v w
   pub early : new.early ≡ early_after old.core.local old.early e result
   pub turn : met ≢ e → IfOk result (λ a. a ≡ answer.Received)
 
--- the same of an acknowledgement, which is no event
+-- the same for an acknowledgement, which is not an event
 pub record Acknowledged (a : Ack) (result : Result Answer Refusal) (old new : WholeNode)
     (v w : Known) : Type 0 where
   pub performs : Performs false result new.core (view_act old.core (event.Ack a))
@@ -84,8 +85,8 @@ pub record Acknowledged (a : Ack) (result : Result Answer Refusal) (old new : Wh
   pub early : new.early ≡ old.early
   pub known : w ≡ v
 
--- What is asked of who gives a node an event that is this step: where it counts, it happens to the
--- seat's node; where it doesn't, nothing changes.
+-- What is required to give a node this event as this step: if the event counts, the step happens to
+-- the seat's node; if it doesn't count, nothing changes.
 pub record MayAct (v : Known) (e : Event) (s : Step) : Type 0 where
   pub happens : (t : NodeState) (a : Answer) → act v.pair.current e ≡ Ok (t, a) → IsEventful a
       → Happens v s (record { current = t; saved = v.pair.saved })
@@ -99,13 +100,13 @@ abbrev pub event_of : Frame → Event
 event_of (frame.Data d) = event.Data d
 event_of (frame.Ack a) = event.Ack a
 
--- what the seat knows once it has taken the frame from a mailbox, and emptied that, by steps of these
--- places
+-- what the seat knows once it has taken the frame from a mailbox and emptied the mailbox, by steps
+-- at these places
 abbrev pub emptied : ℕ → ℕ → ℕ → Plain → Known → Known
 emptied box taken cleared f v = clears box cleared (takes_in box taken f v)
 
--- What became of a frame: a message is given to the node as this delivery, and an acknowledgement
--- as what it is.
+-- What happened to a frame: a message is given to the node as this delivery, an acknowledgement as
+-- itself.
 abbrev pub Handled : Frame → Result Answer Refusal → WholeNode → WholeNode → Known → Known → Type 0
 Handled (frame.Data d) result old new v w =
     Given (event.Data d) (event.Data d) (step.Deliver d.from v.me d.number) result old new v w
@@ -119,8 +120,8 @@ both_states s = record { current = s; saved = s }
 abbrev pub saved_by : Known → Known
 saved_by v = ticks (step.Save v.me) (both_states v.pair.current) v
 
--- A reopening is a restart where the node that was found has the image of the one saved last; else
--- the save after which the disk failed.
+-- A reopening is a restart if the node that was found has the image of the last saved one; else it
+-- is the save after which the disk failed.
 abbrev pub found_step : Bool → ℕ → Step
 found_step same i = cond same (step.Restart i) (step.Save i)
 
@@ -135,7 +136,7 @@ restarted_by v = reopened_by true v
 
 -- ---- traces
 
--- what the trace says of an answer
+-- what the trace records of an answer
 abbrev pub outcome_of_answer : Answer → trace.Outcome
 outcome_of_answer answer.Repeat = traced.Repeat
 outcome_of_answer answer.Early = traced.Early

@@ -1,6 +1,6 @@
--- What the theorems on lists of steps say of cells. The premises are what the calls of a cell
--- ensure, that the node shows the seat's state, as each cell keeps, and that a run reaches the
--- world in which the wire was made: its nodes were new then, or as a run had saved them.
+-- What the theorems on lists of steps say about cells. The premises are what a cell's calls ensure,
+-- that the node shows the seat's state (as each cell guarantees), and that a run reaches the world
+-- in which the wire was made. In that world the nodes were new, or as a run had saved them.
 use Rattle.std.specs.Prelude.{◌≡◌, ◌≢◌, ◌⊎◌, ℕ, ◌+◌, ◌<◌, Bool, false, List, [], ◌∷◌, ◌++◌, length, slice_get, Some, Ok, Err}
 use Rattle.ids.specs.Limits.{Shaped, IsShape}
 use Rattle.ids.specs.declared.names.Ref.{Ref}
@@ -36,19 +36,19 @@ pub record IsReached (w : World) : Type 0 where
   pub steps : List Step
   pub by : w ≡ run (new_world shape) steps
 
--- all nodes go on as they were saved
+-- all nodes restart from their saved states
 abbrev pub restarted : World → World
 restarted w = record { current = w.saved; saved = w.saved }
 
--- What a cell left on its disk, as its type says, also after a crash: the disk opens to a node that
--- shows this state, the one that was saved last.
+-- What a cell left on its disk, as its type guarantees, even after a crash: the disk opens to a
+-- node that shows this state, the last saved one.
 pub record IsLeft (me width : ℕ) (s : NodeState) (c : Areas) : Type 0 where
   pub node : NodeView
   pub saved : IsSavedNode me width s node
   pub opens : ∥ OpensTo node c ∥₁
 
--- Nodes that are read from what the cells of a space left stand in the world in which all go on as
--- they were saved, so that world can be the one in which a wire begins.
+-- Nodes that are read from what the cells of a space left have the states of the world in which all
+-- nodes restart from their saved states. So a wire can begin in that world.
 abbrev pub LeftIsOpened : Type 0
 LeftIsOpened =
     (shape : Shaped) (w : World) (nodes : List WholeNode) → length w.saved ≡ shape.nodes
@@ -57,8 +57,8 @@ LeftIsOpened =
     × IsLeft k shape.nodes (node_at w.saved k) c × IsReadFrom shape k c n)
     → AreOpened shape (cores nodes) (restarted w)
 
--- Where nothing was ever created on any of the disks, the nodes that are read from them are new,
--- and the world that is made of them is that of new nodes.
+-- If nothing was ever created on any of the disks, the nodes that are read from them are new, and
+-- their world is that of new nodes.
 abbrev pub BlankIsNew : Type 0
 BlankIsNew =
     (shape : Shaped) (nodes : List WholeNode) → length nodes ≡ shape.nodes
@@ -66,7 +66,7 @@ BlankIsNew =
     × IsReadFrom shape k c n)
     → world_of (cores nodes) ≡ new_world shape
 
--- what the sweep of the node i leaves where it was
+-- the sweep of node i leaves every reachable object of the node in its slot
 abbrev pub KeepsReachable : World → ℕ → NodeView → NodeView → Type 0
 KeepsReachable w i old new =
     (choice : ℕ → Bool) (r : Ref) → choice i ≡ false → Reachable (cut w choice) r → r.node ≡ i
@@ -74,15 +74,15 @@ KeepsReachable w i old new =
     × (slot_at old.local.heap r.slot ≡ Occupied r.generation o)
     × (slot_at new.local.heap r.slot ≡ Occupied r.generation o)
 
--- a cell's call by which its node swept
+-- a cell's call in which its node swept
 pub record HasSwept (count : ℕ) (old new : WholeNode) (v w : Known) : Type 0 where
   pub answer : Answer
   pub given : Given (event.Sweep count) (event.Sweep count) (step.Act v.me (event.Sweep count))
       (Ok answer) old new v w
 
--- A cell's sweep frees nothing that is reachable: some list of events, the sweep its last, leads
--- to what the seat knows; and what can be reached just before the sweep, in a cut that takes the
--- node's current state, is in its slot before and after.
+-- A cell's sweep frees nothing that is reachable. Some list of events that ends with the sweep
+-- leads to what the seat knows. Take a cut just before the sweep that picks the node's current
+-- state: what is reachable in it is in its slot before and after the sweep.
 abbrev pub SweepsFreeNoneReachable : Type 0
 SweepsFreeNoneReachable =
     (count : ℕ) (old new : WholeNode) (v w : Known) → IsReached v.opening
@@ -104,9 +104,9 @@ pub record HasRefused (d : Data) (e : Refusal) (old : WholeNode) (v : Known) : T
   pub took : TookIn box from (Err e) old new v w before after
   pub is : took.frame ≡ frame.Data d
 
--- A message that a cell took from the wire is refused in three cases alone: for want of memory,
--- where one that it makes the node send would need a number above the greatest, and where it comes
--- so long before its turn that the node has no place for it.
+-- A cell refuses a message that it took from the wire in three cases only. The message is so early
+-- that the node has no place for it; a message that it makes the node send would need a number
+-- above the greatest; or memory runs out.
 abbrev pub NoneRefusedInTurn : Type 0
 NoneRefusedInTurn =
     (d : Data) (e : Refusal) (old : WholeNode) (v : Known) → IsReached v.opening

@@ -1,4 +1,4 @@
--- Which wire something is of, told apart in proofs alone.
+-- Which wire something belongs to; only proofs distinguish wires.
 use Rattle.std.specs.Prelude.{◌≡◌, Option}
 use Rattle.std.specs.Option.{ForSome}
 use Rattle.atomic_table.specs.Seated.{TableId}
@@ -22,6 +22,6 @@ seat_name s = record { table = s.seat.table_id; opening = (known s).opening }
 abbrev pub raised_on : Raised → Name
 raised_on r = record { table = r.of.value.table_id; opening = raised_opening r }
 
--- it is of this wire, where one is named
+-- it belongs to this wire, if one is named
 abbrev pub IsNamed : Option Name → Name → Type 0
 IsNamed wire it = ForSome wire (λ t. it ≡ t)

@@ -1,4 +1,4 @@
--- Nodes as they lie on shelves, and a wire between them.
+-- Nodes on their shelves, and a wire between them.
 use Rattle.std.specs.Prelude.{◌≡◌, ◌≢◌, ◌<◌, ℕ, [], List, ◌++◌, length, map, replicate, Some, slice_get}
 use Rattle.ids.specs.Limits.{Shaped}
 use Rattle.ids.specs.declared.limits.TheConstants.{GREATEST_IMAGE}
@@ -19,7 +19,7 @@ use Rattle.cell.specs.Disks.{OpensTo, OpensToNode}
 use Rattle.cell.specs.declared.fault.Unopened.{Unopened}
 use Rattle.cell.specs.declared.fault.Unopened.TheVariants.{Disks, Refused}
 
--- what is saved of nodes
+-- the cores of nodes, which are what is saved
 abbrev pub cores : List WholeNode → List NodeView
 cores ns = map (λ n. n.core) ns
 
@@ -28,29 +28,30 @@ pub record IsNodeOf (shape : Shaped) (own : ℕ) (n : NodeView) : Type 0 where
   pub shaped : n.local.shape ≡ shape
   pub numbered : n.local.own ≡ own
 
--- the node of this number, from a disk that reads so: a new one where nothing was ever created,
--- else the one to which the disk opens
+-- the node of this number, from a disk that reads as `seen`: a new one if nothing was ever created
+-- there, else the one that the disk opens to
 pub record IsReadFrom (shape : Shaped) (own : ℕ) (seen : Areas) (n : WholeNode) : Type 0 where
   pub blank : seen.select ≡ [] → n ≡ new_whole shape own
   pub held : seen.select ≢ [] → OpensToNode n seen
 
--- a disk that reads so holds the node of another space, or one of another number
+-- a disk that reads as `seen` holds the node of another space, or one with another number
 pub record HoldsAnother (shape : Shaped) (own : ℕ) (seen : Areas) : Type 0 where
   pub node : NodeView
   pub opens : OpensTo node seen
   pub is_other : IsNodeOf shape own node → ⊥
 
--- something was created on a disk that reads so, and it opens to no node
+-- something was created on a disk that reads as `seen`, and it opens to no node
 pub record HoldsNone (seen : Areas) : Type 0 where
   pub written : seen.select ≢ []
   pub none : (n : WholeNode) → OpensToNode n seen → ⊥
 
--- nothing was created on a disk that reads so, and the image of the new node is too large for one
+-- nothing was created on a disk that reads as `seen`, and the new node's image is longer than an
+-- image may be
 pub record IsTooLarge (shape : Shaped) (own : ℕ) (seen : Areas) : Type 0 where
   pub blank : seen.select ≡ []
   pub large : GREATEST_IMAGE < length (whole_image (new_whole shape own))
 
--- why the node of this number is refused from a disk, but for want of memory
+-- why opening the node of this number from a disk fails, other than for lack of memory
 abbrev pub IsCause : {D : Type 0} → (D → Areas) → (D → ℕ) → (D → ℕ) → Shaped → ℕ → D → Refusal
     → Type 0
 IsCause seen moment faults shape own disk Disk = HasFailed moment faults disk
@@ -58,34 +59,33 @@ IsCause seen moment faults shape own disk BadImage = HoldsNone (seen disk)
 IsCause seen moment faults shape own disk ImageTooLarge = IsTooLarge shape own (seen disk)
 IsCause seen moment faults shape own disk e = ⊥
 
--- what is so of a refusal that isn't Memory
+-- what holds of a refusal other than `Memory`; `Disks` isn't a refusal
 abbrev pub IfRefused : (Refusal → Type 0) → Unopened → Type 0
 IfRefused P Disks = Unit {0}
 IfRefused P (Refused e) = e ≢ Memory → P e
 
--- a place of a list of which something is so
+-- a place of a list at which a property holds
 pub record HasPlace {X : Type 0} (Is : ℕ → X → Type 0) (xs : List X) : Type 0 where
   pub place : ℕ
   pub value : X
   pub there : slice_get xs place ≡ Some value
   pub is : Is place value
 
--- what is so of each place of two lists
+-- a property holds at each place of two lists
 abbrev pub AreBeside : {X : Type 0} → (ℕ → X → WholeNode → Type 0) → List X → List WholeNode
     → Type 0
 AreBeside {X} Is xs nodes =
     (k : ℕ) (x : X) (n : WholeNode) → slice_get xs k ≡ Some x → slice_get nodes k ≡ Some n → Is k x n
 
--- In whatever way a node lies on a shelf: the nodes of a shape in order, each on the shelf in its
--- place.
+-- For any meaning of `Lies`: the nodes of a shape in order, each on the shelf in its place.
 pub record AreFound {S : Type 0} (Lies : WholeNode → S → Type 0) (shape : Shaped)
     (nodes : List WholeNode) (shelves : List S) : Type 0 where
   pub same : length shelves ≡ length nodes
   pub each : (k : ℕ) (n : WholeNode) (s : S) → slice_get nodes k ≡ Some n
       → slice_get shelves k ≡ Some s → IsNodeOf shape k n.core × Lies n s
 
--- A world in which nodes stand whose messages all are saved. What was acknowledged is nowhere kept:
--- any message may stand there.
+-- A world whose states the nodes show, with all their messages saved. What was acknowledged isn't
+-- kept anywhere, so any message may be in its place.
 abbrev pub no_message : Message
 no_message = record { stamp = 0; body = body.Begin }
 
@@ -98,7 +98,7 @@ state_of n = record { local = n.local; sent = map sent_of n.links }
 abbrev pub world_of : List NodeView → World
 world_of nodes = record { current = map state_of nodes; saved = map state_of nodes }
 
--- a node that lies on its shelf, at its own seat
+-- a node on its shelf, at its own seat
 pub record IsReady {S : Type 0} (Lies : WholeNode → S → Type 0) (n : WholeNode) (s : S)
     (seat : NodeSeat) : Type 0 where
   pub stands : IsAtSeat n.core seat

@@ -1,4 +1,4 @@
--- What became of a frame from another node, and of one to another node.
+-- What happened to a frame from another node, and to one for another node.
 use Rattle.std.specs.Prelude.{◌≡◌, ◌≢◌, ℕ, Bool, true, false, List, [], ◌∷◌, ◌++◌, Option, Some, None, Result, Ok, Err, IfErr, IsTrue}
 use Rattle.circular_buffer.specs.Buffer.{keep_last}
 use Rattle.ids.specs.declared.limits.TheConstants.{TRACE_EVENTS}
@@ -25,9 +25,10 @@ use Rattle.wire.specs.declared.pumped.Outbound.{Outbound}
 use Rattle.wire.specs.declared.pumped.Outbound.TheVariants as outbound
 use Rattle.cell.specs.Events.{emptied, event_of, outcome_of, Given, Handled}
 
--- The seat took a frame from that node, to its own, which some list of events that leads to the
--- seat's pair has released; the mailbox was emptied, the node was given the frame and answered this,
--- and a line of it came to the trace. What takes no memory isn't refused for want of it.
+-- The seat took a frame from that node to its own node. Some list of events that leads to the
+-- seat's pair has released the frame. The mailbox was emptied, the node was given the frame and
+-- answered this, and a line about it was added to the trace. What takes no memory isn't refused for
+-- lack of memory.
 pub record TookIn (box from : ℕ) (result : Result Answer Refusal) (old new : WholeNode)
     (v w : Known) (before after : List Line) : Type 0 where
   pub frame : Frame
@@ -44,8 +45,8 @@ pub record TookIn (box from : ℕ) (result : Result Answer Refusal) (old new : W
   pub traced : after ≡ keep_last TRACE_EVENTS (before
       ++ record { call = call_of (event_of frame); outcome = outcome_of result } ∷ [])
 
--- The message that waited was given to the node as its delivery, which answered this, and a line of
--- it came to the trace. The mailbox wasn't looked at.
+-- The waiting message was given to the node as its delivery, with this answer, and a line about it
+-- was added to the trace. The mailbox wasn't touched.
 pub record TookNext (from : ℕ) (d : Data) (result : Result Answer Refusal) (old new : WholeNode)
     (v w : Known) (before after : List Line) : Type 0 where
   pub given : Given (event.Next from) (event.Data d) (step.Deliver from v.me d.number) result
@@ -55,15 +56,15 @@ pub record TookNext (from : ℕ) (d : Data) (result : Result Answer Refusal) (ol
   pub traced : after ≡ keep_last TRACE_EVENTS (before
       ++ record { call = call_of (event.Next from); outcome = outcome_of result } ∷ [])
 
--- the seat took a step on the mailbox that found it not full, and nothing else came of it
+-- the seat took a step on the mailbox that found it not full, and did nothing else
 pub record SawEmpty (box : ℕ) (old new : WholeNode) (v w : Known) (before after : List Line)
     : Type 0 where
   pub found : FindsOther box 1 v w
   pub node : new ≡ old
   pub trace : after ≡ before
 
--- What became of the message that waits, or where none does of a mailbox from another node. That is
--- called empty only where the seat took a step on it that found it not full.
+-- What happened to the waiting message, or if none waits, to a mailbox from another node. The
+-- mailbox is called empty only if the seat took a step on it that found it not full.
 abbrev pub PumpedBy : Option Data → ℕ → ℕ → Result Inbound Refusal → WholeNode → WholeNode → Known
     → Known → List Line → List Line → Type 0
 PumpedBy (Some d) box from (Ok inbound.Empty) old new v w before after = ⊥
@@ -78,7 +79,7 @@ PumpedBy None box from (Ok (inbound.Event a)) old new v w before after =
 PumpedBy None box from (Err e) old new v w before after =
     TookIn box from (Err e) old new v w before after
 
--- ---- The same of cells
+-- ---- The same for cells
 
 abbrev pub FoundEmpty : {D : Type 0} → ℕ → CellView D → CellView D → Type 0
 FoundEmpty from old new =

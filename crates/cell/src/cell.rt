@@ -1,6 +1,6 @@
-//! A node with its disk, its seat and a trace. What joins them stands in its type: each event
-//! entered the one history of the space, and while the cell is open its disk opens to the node that
-//! was saved last.
+//! A node with its disk, its seat and a trace. The type's invariant connects them: each event
+//! entered the one history of the space, and while the cell is open, its disk opens to the last
+//! saved node.
 ghost use Rattle.std.specs.Prelude.{◌≡◌, IsTrue};
 ghost use Rattle.disk.specs.Areas.{Areas};
 ghost use Rattle.cell.specs.Disks.{OpensTo, OpensToEither};
@@ -17,16 +17,17 @@ use trace::Trace;
 
 /// A node at its seat on a wire, the shelf that it is saved on, and a trace of its last calls.
 ///
-/// While the cell is open, the node shows the state in which the seat's events leave it, its disk
-/// opens to a node that shows the one saved last, also after a crash, and what counts as saved in
-/// the node is what that one holds. A save that is refused Disk closes the cell, and so does a
-/// reopening that is refused; its disk then opens to a node that shows the one state or the other,
-/// also after a crash. A closed cell refuses every event, save and frame with Closed, until a
-/// reopening is Ok.
+/// The node shows the state that the seat's events lead to; what it counts as saved is what the
+/// last saved node holds. While the cell is open, its disk opens to a node that shows the last
+/// saved state, even after a crash.
 ///
-/// Every event enters the history of the space once: one of the node's own, a message that is taken
-/// in, a save, a reopening. What is refused enters nothing, nor does reading a word, a message that
-/// was taken in before or comes before its turn, an acknowledgement, and moving a frame.
+/// A save that fails with `Disk` closes the cell, and so does a failed reopening. The disk then
+/// opens to a node that shows either the last saved state or the current one, even after a crash. A
+/// closed cell refuses every event, save and frame with `Closed` until a reopening succeeds.
+///
+/// Every event enters the history of the space once: an event of the node's own, a message that is
+/// received, a save, a reopening. A refused call enters nothing; neither do reading a word, a
+/// repeat, an early message, an acknowledgement or moving a frame.
 ///
 /// Each message that the node keeps until its turn is one that the seat took from the wire. No save
 /// holds it, and a reopening loses it.
@@ -40,7 +41,7 @@ pub struct Cell<D: Disk> {
         → ∥ OpensToEither desk.saved.value desk.node.core c ∥₁ },
 }
 
-// Written out, so that the crates above need not prove anew how each field is dropped.
+// Written out, so that the crates above need not prove again how each field is dropped.
 impl<D: Disk + Drop> Drop for Cell<D> {
     fn drop(self) {
         let Cell {

@@ -1,5 +1,5 @@
-//! A node at its seat, without its disk. Each call that performs an event of the node enters it in
-//! the history too, so the node shows what its seat's events lead to.
+//! A node at its seat, without its disk. Each call that performs an event of the node also enters
+//! it in the history, so the node always shows what its seat's events lead to.
 ghost use Rattle.std.specs.Prelude.{◌≡◌};
 ghost use Rattle.wire.specs.Readers.{known};
 ghost use Rattle.cell.specs.Desks.{AreTaken, IsSeatAt, IsSavedNode, IsUnsaved, StandsAt};
@@ -9,8 +9,8 @@ use node::{Core, Node};
 use std::snapshot::Snapshot;
 use wire::NodeSeat;
 
-// A node as it stands, with the messages that it keeps until their turn, and as it was saved last,
-// and its seat.
+// The current node with the messages that it keeps until their turn, the last saved node, and the
+// seat.
 #[derive(Drop)]
 pub(crate) struct Desk {
     pub(crate) own: u8,
@@ -20,9 +20,9 @@ pub(crate) struct Desk {
     // The last cycle that the saved state knows to have ended.
     pub(crate) ended: Cycle,
     pub(crate) seat: NodeSeat,
-    // For each node the place in the window to it whose frame is sent next.
+    // For each node: the place, in the window to it, of the frame that is sent next.
     pub(crate) places: [u8; GREATEST_NODES as usize],
-    // Whether an event came since the last save or reopening.
+    // Whether an event happened since the last save or reopening.
     pub(crate) is_unsaved: bool,
     ghost at: { IsSeatAt own nodes seat },
     ghost stands: { StandsAt own nodes (known seat).pair node.core },

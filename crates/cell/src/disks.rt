@@ -1,5 +1,5 @@
-//! What a disk does for the node at a desk: it gives back the node that was saved. That enters the
-//! history as a restart, or as the save in which the disk failed.
+//! What a disk does for the node at a desk: it returns the saved node. That enters the history as a
+//! restart, or as the save in which the disk failed.
 ghost use Rattle.std.specs.Prelude.{◌≡◌, false, replicate};
 ghost use Rattle.ids.specs.declared.limits.TheConstants.{GREATEST_NODES};
 ghost use Rattle.model.specs.View.{kept_view};
@@ -28,7 +28,7 @@ fn ended_by(node: &Node) -> Cycle
 }
 
 impl Desk {
-    // A node that is read from bytes, at its seat.
+    // A desk for a node that was read from bytes, at its seat.
     pub(crate) fn new(node: Node, seat: NodeSeat) -> Desk
         requires seat { IsAtSeat node.core seat }
         requires image { HasImage node.core }
@@ -52,7 +52,7 @@ impl Desk {
         }
     }
 
-    // Its node was saved, and is read from what was written.
+    // Records that the node was saved. What was written reads back as this node.
     pub(crate) fn save(&mut self, wire: &Wire)
         requires wire { IsSeatOf wire.now self.old.seat }
         requires image { HasImage (kept_view self.old.node.core) }
@@ -72,7 +72,7 @@ impl Desk {
         self.is_unsaved = false;
     }
 
-    // This node was found on its disk: the one that was saved last, or its own as it stands.
+    // Takes the node that was found on the disk: the last saved one, or the current one as saved.
     pub(crate) fn reopen(&mut self, wire: &Wire, found: Node)
         requires wire { IsSeatOf wire.now self.old.seat }
         requires image { HasImage found.core }

@@ -1,5 +1,5 @@
-//! How an event enters the history of the space. Which event it is, proofs alone know; these
-//! functions hand it from the node to the wire.
+//! How an event enters the history of the space. Only proofs know which event it is; these
+//! functions pass it from the node to the wire.
 ghost use Rattle.std.specs.Prelude.{◌≡◌};
 ghost use Rattle.model.specs.declared.step.Step.{Step as StepOf};
 ghost use Rattle.model.specs.declared.step.Step.TheVariants as step;
@@ -13,7 +13,7 @@ use node::Core;
 use std::snapshot::Snapshot;
 use wire::{NodeSeat, Wire};
 
-// Enters a step of the seat's node that the event is. Proofs alone read the two.
+// Enters the step of the seat's node that the event is. Only proofs read the step and the event.
 pub(crate) fn enter(wire: &Wire, seat: &mut NodeSeat, _step: Step, _event: &Event)
     ghost happened: { StepOf × Pair }
     requires wire { IsSeatOf wire.now seat.old }
@@ -35,8 +35,8 @@ pub(crate) fn enter_save(wire: &Wire, seat: &mut NodeSeat)
     wire.tick(seat);
 }
 
-// Enters the restart, or the save, of the seat's node by which this node was found on its disk.
-// Proofs alone read the two nodes.
+// Enters what led to the node that was found on the disk: a restart of the seat's node, or its
+// save. Only proofs read the two nodes.
 pub(crate) fn enter_found(wire: &Wire, seat: &mut NodeSeat, _found: &Core, _saved: &Snapshot<Core>)
     ghost happened: { StepOf × Pair }
     requires wire { IsSeatOf wire.now seat.old }

@@ -1,5 +1,5 @@
-//! Events of the node at a desk. One that counts enters the history in the same call; what changes
-//! nothing, as a repeat or a word that is read, enters nothing.
+//! Events of the node at a desk. An event that counts enters the history in the same call. What
+//! changes nothing, such as a repeat or the reading of a word, doesn't enter it.
 ghost use Rattle.std.specs.Prelude.{◌≡◌, ◌≢◌, true, IfErr, IsTrue};
 ghost use Rattle.ids.specs.declared.refusal.Refusal.TheVariants.{Memory};
 ghost use Rattle.model.specs.Steps.{is_memory_free, is_own};
@@ -17,8 +17,8 @@ use model::{Answer, Event, Step};
 use msg::Ack;
 use wire::Wire;
 
-// Whether an answer is that of an event that counts. Reading a word doesn't, nor does a message
-// that was taken in before or comes before its turn.
+// Whether an answer is that of an event that counts. Reading a word doesn't count, nor does a
+// repeat or an early message.
 fn is_counted_answer(answer: &Answer) -> bool
     ensures { result ≡ is_counted answer.now }
 {
@@ -40,8 +40,8 @@ fn is_counted_answer(answer: &Answer) -> bool
 }
 
 impl Desk {
-    // What an event of the node's own is to its core, and as a step of the space: Next of a message
-    // that waits delivers it.
+    // What an event of the node's own is to its core, and which step of the space it is. `Next` of
+    // a waiting message is the delivery of that message.
     fn meant(&self, event: Event) -> (Event, Step)
         requires own { is_own event ≡ true }
         ensures event { result.0 ≡ met self.now.node.early event }
@@ -81,7 +81,8 @@ impl Desk {
         self.perform(wire, event, &meant, step)
     }
 
-    // Gives the node an event that is this to its core, and this step of the space.
+    // Gives the node an event; `meant` is what it is to the core, `step` which step of the space it
+    // is.
     pub(crate) fn perform(
         &mut self,
         wire: &Wire,

@@ -1,13 +1,13 @@
-//! Why the cells of a space aren't opened: the disks aren't those of the space, or something was
-//! refused. The first cause that is found ends the opening.
+//! Why the cells of a space could not be opened: the disks don't belong to the space, or a call
+//! failed. The first cause that is found ends the opening.
 use ids::Refusal;
 
-/// Why the cells of a space aren't opened.
+/// Why the cells of a space could not be opened.
 #[derive(Clone, Copy, Debug, PartialEq, Eq)]
 pub enum Unopened {
-    /// There are fewer or more disks than nodes, or a disk holds a node of another space, or one
-    /// of another number.
+    /// The number of disks is not the number of nodes, or a disk holds a node of another space or
+    /// with another number.
     Disks,
-    /// A node, its disk or the wire was refused.
+    /// A node, its disk or the wire failed with this refusal.
     Refused(Refusal),
 }

@@ -1,5 +1,5 @@
-//! Nodes as their disks hold them. A blank disk gets a new node, any other tells the one that was
-//! saved last; what isn't a node of this place is refused.
+//! Nodes as their disks hold them. A blank disk gets a new node; any other disk gives the last
+//! saved one. Anything but a node of this place is refused.
 //!
 //! ```text
 //! the disk of node k                                  the node, or why there is none
@@ -7,11 +7,11 @@
 //! it opens to node k of a space of this shape         that node as it was saved last
 //! it opens to another node, or of another shape       Disks
 //! something was created on it, and it opens to none   BadImage
-//! a call of it failed in this one                     Disk
+//! a call of the disk failed                           Disk
 //! ```
 //!
-//! The first refusal ends the opening, and all disks are given up; so does another number of disks
-//! than nodes, before any is looked at.
+//! The first failure ends the opening, and all disks are dropped. If the number of disks is wrong,
+//! the opening fails before any disk is read.
 ghost use Rattle.std.specs.Prelude.{◌≡◌, ◌≢◌, ◌++◌, [], ◌∷◌, false, true, IfErr, IfOk, IsErrOf, IsTrue, OnOk};
 ghost use Rattle.std.specs.Prelude.{◌<◌, length, vec_len};
 ghost use Rattle.ids.specs.declared.refusal.Refusal.TheVariants.{Memory};
@@ -55,7 +55,7 @@ fn create_node<D: Disk + Drop>(
     }
 }
 
-// Whether a node is the one of this number in a space of this shape.
+// Whether a node has this number and this shape.
 fn is_node_of(node: &Node, shape: Shape, own: NodeId) -> bool
     ensures is { IsTrue result → IsNodeOf shape own.number node.now.core }
     ensures other { result ≡ false → IsNodeOf shape own.number node.now.core → ⊥ }
@@ -78,7 +78,7 @@ fn keep<T: Drop>(values: &mut Vec<T>, value: T) -> Result<(), Unopened>
     }
 }
 
-// The node that a disk holds, if it is the one of this number in a space of this shape.
+// The node that a disk holds, if it has this number and this shape.
 fn read_node<D: Disk + Drop>(
     alloc: Global,
     shape: Shape,
@@ -105,8 +105,8 @@ fn read_node<D: Disk + Drop>(
     }
 }
 
-// The node of this number: a new one where nothing was ever created on the disk, else the one that
-// the disk holds.
+// The node of this number: a new one if nothing was ever created on the disk, else the one that the
+// disk holds.
 fn node_of<D: Disk + Drop>(
     alloc: Global,
     shape: Shape,
@@ -129,14 +129,19 @@ fn node_of<D: Disk + Drop>(
     }
 }
 
-/// The nodes of a space, in order, each on its shelf: new ones where nothing was ever created on a
-/// disk, else those that the disks hold.
+/// The nodes of a space, in order, each on its shelf: new ones for disks on which nothing was ever
+/// created, else those that the disks hold.
 ///
-/// `Disks` where there are fewer or more disks than nodes, or where a disk holds a node of another
-/// shape or number. `Refused` with BadImage where something was created on a disk and it opens to no
-/// node; with ImageTooLarge where a disk is blank and the image of its new node would be longer than
-/// an image may be; with Disk where a call of a disk failed in this one; with Memory where a growth
-/// was refused; with nothing else. All disks are then given up.
+/// Fails with `Disks` if the number of disks is not the number of nodes, or if a disk holds a node
+/// of another shape or number. Otherwise it fails with `Refused` of one of these:
+///
+/// - `BadImage`, if something was created on a disk and it opens to no node;
+/// - `ImageTooLarge`, if a disk is blank and the image of its new node would be longer than an
+/// image may be;
+/// - `Disk`, if a call of a disk failed during this call;
+/// - `Memory`, if an allocation failed.
+///
+/// There are no other causes. After a failure all disks are dropped.
 pub fn find<D: Disk + Drop>(
     alloc: Global,
     shape: Shape,

@@ -1,5 +1,5 @@
-//! The cells of nodes that lie on shelves, and the wire between them. The caller names the world in
-//! which the nodes stand; the theorems hold where a run reaches it.
+//! Makes the cells of nodes that are on shelves, and the wire between them. The caller names the
+//! world whose states the nodes are in; the theorems hold if a run reaches it.
 ghost use Rattle.std.specs.Prelude.{◌≡◌, ◌≢◌, true, All, IfErr, IfOk, IsErrOf, map, vec_len};
 ghost use Rattle.ids.specs.declared.refusal.Refusal.TheVariants.{Memory};
 ghost use Rattle.model.specs.World.{World};
@@ -55,12 +55,12 @@ fn seat_all<D: Disk + Drop>(
     Ok(cells)
 }
 
-/// The wire between nodes that lie on their shelves, their cells in order, and so many watches. The
-/// wire begins in a world that the caller names, in which all is saved: the nodes stand as it says.
-/// So what a run reaches is told of the cells by [`laws`](crate::laws), where the world is one that
-/// a run left on the disks.
+/// Makes the wire between nodes on their shelves, their cells in order, and the given number of
+/// watches. The wire begins in a world that the caller names, in which everything is saved and
+/// whose states the nodes show. If a run left that world on the disks, [`laws`](crate::laws)
+/// applies to the cells.
 ///
-/// `Memory` where a growth was refused; what was handed in is then given up.
+/// Fails with `Memory` if an allocation fails; all arguments are then dropped.
 pub fn join<D: Disk + Drop>(
     alloc: Global,
     shape: Shape,
@@ -85,12 +85,13 @@ pub fn join<D: Disk + Drop>(
     Ok((wire, cells, watching))
 }
 
-/// The cells of a space, in order, the wire between them, and so many watches. Each node is a new
-/// one where nothing was ever created on its disk, else the one that the disk holds. The wire
-/// begins in the world of those nodes, in which all is saved, and what was acknowledged before is
-/// unknown; [`find`] and [`join`] are for who knows more of it.
+/// Opens the cells of a space, in order, the wire between them, and the given number of watches. A
+/// disk on which nothing was ever created gets a new node; any other gives the node that it holds.
+/// The wire begins in the world of those nodes, in which everything is saved and what was
+/// acknowledged before is unknown. A caller that knows more of that world uses [`find`] and
+/// [`join`].
 ///
-/// Refused as [`find`] and [`join`]; all disks are then given up.
+/// Fails as [`find`] and [`join`] do; all disks are then dropped.
 pub fn open<D: Disk + Drop>(
     alloc: Global,
     shape: Shape,

@@ -1,37 +1,37 @@
-//! A node at its seat on a wire, with the disk that it is saved on: each call is one event of the
-//! space, or none. What the threads of all nodes do with their cells is thereby one run of the
-//! space, and every theorem over runs holds of it.
+//! A node at its seat on a wire, with the disk that it is saved on. Each call is at most one event
+//! of the space. So what the threads of all nodes do with their cells is one run of the space, and
+//! every theorem about runs applies to it.
 //!
 //! ```text
 //! call       what enters the history
-//! act        the event of the node, where it is answered; reading a word is none
-//! pump_in    the delivery, where a message is taken in
+//! act        the node's event, if it is answered; reading a word is not an event
+//! pump_in    the delivery, if a message is received
 //! save       the save
 //! pump_out   nothing
-//! reopen     a restart; after a save in which the disk failed, that save where the disk has it
+//! reopen     a restart; after a save in which the disk failed, that save if the disk has it
 //! raise      nothing
 //! ```
 //!
-//! Between two calls these hold (`IsKept` in `specs/Cells.antt`; [`Cell::node`] says them):
+//! These hold between any two calls (`IsKept` in `specs/Cells.antt`, ensured by [`Cell::node`]):
 //!
-//! - the node shows the state in which the seat's events leave it, and counts as released and
-//! acknowledged what the state has that was saved last;
+//! - The node shows the state that the seat's events lead to. What it counts as released and
+//! acknowledged is what the last saved state holds.
 //!
-//! - while the cell is open, its disk opens to a node that shows the state saved last, also after a
-//! crash; where [`Cell::unsaved`] is false, that is the current one;
+//! - While the cell is open, its disk opens to a node that shows the last saved state, even after a
+//! crash. If [`Cell::unsaved`] is false, that is also the current state.
 //!
-//! - a save in which the disk failed closes the cell, and so does a reopening that is refused: the
-//! disk then opens to the state saved last or to the current one, and every call that acts or moves
-//! a frame is refused Closed until a reopening is Ok, which is never refused BadImage;
+//! - A save in which the disk fails closes the cell, and so does a failed reopening. The disk then
+//! opens to the last saved state or to the current one. Every call that acts or moves a frame fails
+//! with `Closed` until a reopening succeeds. A reopening never fails with `BadImage`.
 //!
-//! - each message that the node keeps until its turn is one whose frame the seat took; no save
+//! - Each message that the node keeps until its turn is one whose frame the seat took. No save
 //! holds it, and a reopening loses it.
 //!
-//! A mailbox keeps order, and yet a message may come before its turn: where its receiver restarted,
-//! or refused one, or where an acknowledgement came in the middle of a window, whose places are
-//! counted from there. [`Cell::pump_out`] goes through the window once more then, and hands over
-//! what is missing. So nothing leaves a node that its saved state doesn't hold, and no restart
-//! takes back what another was told.
+//! A mailbox keeps order, yet a message can be early: its receiver restarted or refused a message,
+//! or an acknowledgement arrived in the middle of a window, whose places are counted from the last
+//! message acknowledged. [`Cell::pump_out`] then goes through the window once more and delivers
+//! what is missing. So nothing leaves a node unless its saved state holds it, and no restart takes
+//! back what another node was told.
 #![tactic(auto)]
 
 mod cell;

@@ -1,5 +1,5 @@
-//! Frames between the node at a desk and others. What is due is told by the window and by what was
-//! saved, so nothing leaves that a restart could take back.
+//! Frames between the node at a desk and other nodes. The window and the saved state determine what
+//! is due, so nothing leaves that a restart could take back.
 ghost use Rattle.std.specs.Prelude.{
   ◌≡◌,
   ◌≢◌,
@@ -43,8 +43,8 @@ use node::Node;
 use std::alloc::Global;
 use wire::{NodeSeat, Raised, Wire};
 
-// The frame that a node sends next to another one, where this is the place in the window; and the
-// place after it.
+// The frame that a node sends next to another one, given the place in the window, and the place
+// after that.
 fn due(node: &Node, to: u8, place: u8) -> (Frame, u8)
     requires { IsTrue (is_other node.now.core.local to) }
     ensures frame { plain result.0 ≡ frame_due node.now.core to place }
@@ -59,8 +59,8 @@ fn due(node: &Node, to: u8, place: u8) -> (Frame, u8)
     }
 }
 
-// Sends the frame that is next, by its bytes, where the mailbox is empty. Proofs alone read the
-// node and the place.
+// Sends the next frame as bytes, if the mailbox is empty, and returns whether it was. Only proofs
+// read the node and the place.
 fn send(wire: &Wire, seat: &mut NodeSeat, _node: &Node, to: u8, _place: u8, bytes: Vec<u8>) -> bool
     requires wire { IsSeatOf wire.now seat.old }
     requires to { (to < width wire.now) × (to ≢ seat_node seat.old) }
@@ -80,7 +80,7 @@ fn send(wire: &Wire, seat: &mut NodeSeat, _node: &Node, to: u8, _place: u8, byte
 }
 
 impl Desk {
-    // Sends the frame that is next to another node, and says whether the mailbox was empty.
+    // Sends the next frame to another node, and returns whether the mailbox was empty.
     pub(crate) fn send(&mut self, wire: &Wire, alloc: Global, to: u8) -> Result<bool, Refusal>
         requires wire { IsSeatOf wire.now self.old.seat }
         requires other { IsTrue (is_other self.old.node.core.local to) }
@@ -106,8 +106,8 @@ impl Desk {
         Ok(is_sent)
     }
 
-    // Takes the frame that is there from another node, and empties its mailbox. None where that
-    // wasn't full.
+    // Takes the frame in the mailbox from another node, and empties the mailbox. None if it wasn't
+    // full.
     pub(crate) fn take(&mut self, wire: &Wire, from: u8) -> Option<Frame>
         requires wire { IsSeatOf wire.now self.old.seat }
         requires other { IsTrue (is_other self.old.node.core.local from) }
@@ -131,7 +131,7 @@ impl Desk {
         }
     }
 
-    // Shows the cycle that the saved state knows to have ended.
+    // Shows on the board the cycle that the saved state knows to have ended.
     pub(crate) fn raise(&mut self, wire: &Wire) -> Raised
         requires wire { IsSeatOf wire.now self.old.seat }
         requires first { self.old.own ≡ 0 }

@@ -1,5 +1,5 @@
-//! A cell that the threads of a program share. Each call locks for that call alone, so what is true
-//! of a cell between two calls is true whenever the lock is free.
+//! A cell that the threads of a program share. Each call locks the cell for its own duration, so
+//! what holds of a cell between two calls holds whenever the lock is free.
 ghost use Rattle.std.specs.Prelude.{◌≡◌, ◌≢◌, ◌⊎◌, true, IfErr, IfOk};
 ghost use Rattle.std.specs.Arc.{arc_value};
 ghost use Rattle.ids.specs.declared.refusal.Refusal.TheVariants as refusal;
@@ -17,8 +17,8 @@ use std::sync::{Arc, Mutex, Wait};
 use wire::{Inbound, Outbound, Raised, Wire};
 use workers::Site;
 
-/// Names a wire in proofs, so that what was raised through one shared cell can be told to a watch
-/// of the same wire.
+/// Names a wire in proofs, so that a watch of the same wire can use what was raised through a
+/// shared cell.
 pub trait Naming {
     ghost use Rattle.std.specs.Prelude.{Option};
     ghost use Rattle.cell.specs.Names.{Name};
@@ -51,14 +51,15 @@ struct Held<D: Disk, W: Naming> {
     ghost named: { IsNamed W.wire (seat_name cell.seat) },
 }
 
-/// A cell that threads share, with its wire: each call locks it for that call alone. Between two
-/// calls all that the cell keeps of its node, seat and disk holds, and the seat is one of the wire.
-/// No clause says what a call did to the cell, since another thread's call may come next.
+/// A cell that threads share, with its wire. Each call locks the cell for its own duration. Between
+/// two calls, all that the cell guarantees about its node, seat and disk holds, and the seat
+/// belongs to the wire. No clause says what a call did to the cell, because another thread's call
+/// may follow before the caller looks.
 pub struct SharedOn<D: Disk, W: Naming> {
     held: Mutex<Held<D, W>>,
 }
 
-// Written out, so that the crates above need not prove anew how each field is dropped.
+// Written out, so that the crates above need not prove again how each field is dropped.
 impl<D: Disk + Drop, W: Naming> Drop for SharedOn<D, W> {
     fn drop(self) {
         let SharedOn { held: _ } = self;
@@ -124,7 +125,7 @@ impl<D: Disk, W: Naming> Held<D, W> {
 }
 
 impl<D: Disk, W: Naming> SharedOn<D, W> {
-    /// Shares a cell whose seat is one of the wire.
+    /// Shares a cell whose seat belongs to the wire.
     pub fn new(cell: Cell<D>, wire: Arc<Wire>) -> SharedOn<D, W>
         requires seat { IsSeatOf (arc_value wire) cell.seat }
         requires name { IsNamed W.wire (name_of (arc_value wire)) }
@@ -138,20 +139,20 @@ impl<D: Disk, W: Naming> SharedOn<D, W> {
         }
     }
 
-    /// Gives the node an event of its own, as [`Cell::act`] does.
+    /// Gives the node an event of its own; see [`Cell::act`].
     pub fn act<R: Wait>(&self, rt: &R, event: Event) -> Result<Answer, Refusal>
         requires own { is_own event ≡ true }
     {
         self.held.lock(rt).act(event)
     }
 
-    /// Gives the node the message from another node that waits, or else the frame that is there, as
-    /// [`Cell::pump_in`] does.
+    /// Gives the node the waiting message from another node, or else the frame in the mailbox from
+    /// there; see [`Cell::pump_in`].
     pub fn pump_in<R: Wait>(&self, rt: &R, from: u8) -> Result<Inbound, Refusal> {
         self.held.lock(rt).pump_in(from)
     }
 
-    /// Saves the node, as [`Cell::save`] does.
+    /// Saves the node; see [`Cell::save`].
     pub fn save<R: Wait>(&self, rt: &R) -> Result<(), Refusal>
         ensures others { IfErr result (λ e. (e ≡ refusal.Closed) ⊎ ((e ≡ refusal.ImageTooLarge)
             ⊎ ((e ≡ refusal.Memory) ⊎ (e ≡ refusal.Disk)))) }
@@ -159,7 +160,7 @@ impl<D: Disk, W: Naming> SharedOn<D, W> {
         self.held.lock(rt).save()
     }
 
-    /// Sends another node the frame that is next, as [`Cell::pump_out`] does.
+    /// Sends the next frame to another node; see [`Cell::pump_out`].
     pub fn pump_out<R: Wait>(&self, rt: &R, to: u8) -> Result<Outbound, Refusal>
         ensures others { IfErr result (λ e. (e ≡ refusal.Closed)
             ⊎ ((e ≡ refusal.NoNode) ⊎ (e ≡ refusal.Memory))) }
@@ -167,15 +168,15 @@ impl<D: Disk, W: Naming> SharedOn<D, W> {
         self.held.lock(rt).pump_out(to)
     }
 
-    /// Takes up the node that the disk holds, as [`Cell::reopen`] does.
+    /// Loads the node that the disk holds; see [`Cell::reopen`].
     pub fn reopen<R: Wait>(&self, rt: &R) -> Result<(), Refusal>
         ensures others { IfErr result (λ e. (e ≡ refusal.Memory) ⊎ (e ≡ refusal.Disk)) }
     {
         self.held.lock(rt).reopen()
     }
 
-    /// Shows on the wire's board what node 0, as saved, counts as ended, as [`Cell::raise`] does.
-    /// Where the wire is named, what is raised is of that wire.
+    /// Shows on the wire's board the last cycle that the saved node 0 counts as ended; see
+    /// [`Cell::raise`]. If the wire is named, the result belongs to that wire.
     pub fn raise<R: Wait>(&self, rt: &R) -> Result<Raised, Refusal>
         ensures raised { IfOk result (λ r. IsNamed W.wire (raised_on r)) }
         ensures others { IfErr result (λ e. e ≢ refusal.Closed → e ≡ refusal.NotDirector) }
@@ -183,13 +184,13 @@ impl<D: Disk, W: Naming> SharedOn<D, W> {
         self.held.lock(rt).raise()
     }
 
-    /// Whether an event came since the last save or reopening.
+    /// Whether an event happened since the last save or reopening.
     pub fn unsaved<R: Wait>(&self, rt: &R) -> bool {
         self.held.lock(rt).unsaved()
     }
 
-    /// The texts of the cell's last calls, the oldest first, as [`Cell::trace_lines`] gives them, also
-    /// while it is closed. `Memory` where a growth was refused.
+    /// The cell's last calls as text, oldest first, even while the cell is closed; see
+    /// [`Cell::trace_lines`]. Fails with `Memory` if an allocation fails.
     pub fn trace_lines<R: Wait>(&self, rt: &R) -> Result<Vec<String>, Refusal>
         ensures refused { IfErr result (λ e. e ≡ refusal.Memory) }
     {

@@ -1,5 +1,5 @@
-//! What a trace says of a call's answer. It keeps whether the call was done, a repeat, early or
-//! refused, and nothing of the answer itself.
+//! What a trace records of a call's answer: whether the call was done, a repeat, early or refused.
+//! It keeps nothing of the answer itself.
 ghost use Rattle.std.specs.Prelude.{◌≡◌};
 ghost use Rattle.cell.specs.Events.{outcome_of, outcome_of_answer};
 

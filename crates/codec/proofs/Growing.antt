@@ -1,4 +1,5 @@
--- What a format spells, another one spells too, in fields that are at least as wide. Both are sound.
+-- What one format spells, another one spells too, in fields that are at least as wide. Both are
+-- sound.
 use Rattle.std.proofs.Common.{◌≡◌, List, [], ◌∷◌, ℕ, Option, Some, None, length, true}
 use Rattle.std.specs.Prelude.{Bool}
 use Rattle.std.specs.List.{AllByRecursion}

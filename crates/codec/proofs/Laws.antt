@@ -1,4 +1,4 @@
--- What is made of sound formats is sound.
+-- What is composed of sound formats is sound.
 use Rattle.std.proofs.Common.{◌≡◌, ℕ, zero, suc, ◌≤◌, ◌<◌, Bool, true, false, cond, ltb, eqb}
 use Rattle.std.proofs.Common.{List, [], ◌∷◌, ◌++◌, length, Option, Some, None, ◌⊎◌, inl, inr, refl}
 use Rattle.std.proofs.Common.{sym, ap, subst, ◌∙◌, append_assoc, arith}
@@ -141,7 +141,7 @@ module _ {A : Type 0} (F : Format A) (test : A → Bool) (sound : IsSound F) whe
   pub kept_sound : IsSound (kept F test)
   kept_sound = record { takes = kept_takes; again = kept_again }
 
--- ---- a value behind one of several tags
+-- ---- a value after one of several tags
 
 -- which way a test went
 chosen : {A : Type 0} (b : Bool) (x y z : A) → cond b x y ≡ z
@@ -149,7 +149,7 @@ chosen : {A : Type 0} (b : Bool) (x y z : A) → cond b x y ≡ z
 chosen true x y z e = inl (refl, e)
 chosen false x y z e = inr (refl, e)
 
--- what is read behind the tag is spelled so with it
+-- what is read after the tag is spelled that way, with the tag
 abbrev pub IsFound : {A : Type 0} → Format A → ℕ × Reader A → Type 0
 IsFound {A = A} F choice =
     (bytes : List ℕ) (x : A × List ℕ) → IsBytes bytes → choice.1 bytes ≡ Some x

@@ -1,4 +1,4 @@
--- Numbers that are read are those that were written, and the other way round.
+-- Numbers that are read are those that were written, and vice versa.
 use Rattle.std.proofs.Common.{◌≡◌, ℕ, suc, ◌+◌, ◌^◌, ◌<◌, ◌≤◌, false, true, ltb, List, [], ◌∷◌, ◌++◌}
 use Rattle.std.proofs.Common.{length, take, drop, Some, cond, None, Bool, refl, sym, ap, subst, ◌∙◌}
 use Rattle.std.proofs.Common.{arith, inl, inr}
@@ -28,7 +28,7 @@ IsBytes-take n bytes h i =
           rw (get_or_past (take n bytes) i 0 (omega (arith, length-take n bytes))) (omega arith)
     ]
 
--- a test that lets none pass
+-- if a choice between `None` and a value gives a value, the test was false
 none_else : {A : Type 0} (b : Bool) (x y : A) → cond b None (Some x) ≡ Some y
     → (b ≡ false) × (x ≡ y)
 none_else true x y e = absurd cc

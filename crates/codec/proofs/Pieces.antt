@@ -1,4 +1,4 @@
--- What a piece was given, one after another, and what becomes of it.
+-- What was appended to a piece, one text after another, and what is then written.
 use Rattle.std.proofs.Common.{ℕ, ◌+◌, ◌≤◌, List, [], ◌∷◌, ◌++◌, ◌∙◌, ap, subst}
 use Rattle.std.proofs.Common.{append_assoc, arith}
 use Rattle.std.specs.Prelude.{⊤}
@@ -16,7 +16,7 @@ module _ {a b c x y : List ℕ} {m n k : ℕ} {P Q : Type 0} (one : Gains a b x 
     known = (one.known, two.known);
   }
 
--- what follows of a fact is known too, and there may be room to spare
+-- what follows from a fact is known too, and there may be room to spare
 pub gains_so : {a b x : List ℕ} {m k : ℕ} {P Q : Type 0} → (P → Q) → Gains a b x m P → m ≤ k
     → Gains a b x k Q
 gains_so follows g most = record {

@@ -128,7 +128,7 @@ module _ {A : Type 0} where
       → Reads (tagged spell choices) a c x
   of_tag spell choices took others = record { is = (behind_tag choices took others).is }
 
-  -- no more than the tag
+  -- nothing after the tag
   pub alone : (make : ⊤ → A) (a : Reader) {x : A} → make tt ≡ x
       → Takes (made_at nothing make) a a (Some x)
   alone make a same = record { is = rw (← same) refl }
@@ -146,7 +146,7 @@ pub ruleset tags = (of_tag, behind_tag, alone, unknown, no_value, made_of)
 
 -- ---- lists
 
--- how many there are, and each
+-- how many there are, and each of them
 pub counted_read : {A : Type 0} {count : Format ℕ} (F : Format A) {a b c : Reader} {n : ℕ}
     {xs : List A} → Reads count a b n → Reads (many F n) b c xs → Reads (counted count F) a c xs
 counted_read F first others =
@@ -157,7 +157,7 @@ abbrev pub with_front : {A : Type 0} → List A → Option (List A × List ℕ)
     → Option (List A × List ℕ)
 with_front front read = read >>= λ x. Some (front ++ x.0, x.1)
 
--- the first of n values were read, and so many others are still to come
+-- the first of n values were read, and `others` more are still to come
 pub record ReadsFirst {A : Type 0} (F : Format A) (old new : Reader) (xs : List A) (others : ℕ)
     (n : ℕ) : Type 0 where
   pub is : with_front xs (left new >>= each_at F.read others) ≡ (left old >>= each_at F.read n)
@@ -178,7 +178,7 @@ module _ {A : Type 0} (F : Format A) where
         by None = refl
         by (Some bytes) = one bytes (ltb (length bytes) n) refl
 
-  -- there are not as many bytes
+  -- there aren't that many bytes
   pub too_many : (n : ℕ) (a b : Reader) → Takes (enough n) a b (Some tt) → is_open b ≡ false
       → Reads (many F n) a b []
   too_many n a b there closed = record { is = each_of n a b there ∙ by (left b) closed } where

@@ -30,7 +30,7 @@ module _ {A : Type 0} (F : Format A) (sound : IsSound F) where
       ap F.read (sym (append-nil (F.spell a))) ∙ sound.again a [] fits in
       rw read refl
 
-  -- no spelling begins another
+  -- no spelling is a prefix of another one
   pub begins_none : (a b : A) (rest : List ℕ) → Fits F a → Fits F b
       → F.spell a ++ rest ≡ F.spell b → (rest ≡ []) × (a ≡ b)
   begins_none a b rest fa fb same =

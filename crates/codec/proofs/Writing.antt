@@ -30,7 +30,7 @@ unwritten a = record {
   known = λ is. tt;
 }
 
--- what follows of a fact is known too
+-- what follows from a fact is known too
 pub so : {a b : Writer} {x : List ℕ} {P Q : Type 0} → (P → Q) → Writes a b x P → Writes a b x Q
 so follows w = record {
   limit = w.limit;
@@ -39,7 +39,7 @@ so follows w = record {
   known = λ is. follows (w.known is);
 }
 
--- ---- one of a list more
+-- ---- one more of a list
 
 all_append : {A : Type 0} (P : A → Type 0) (xs ys : List A) → AllByRecursion P xs
     → AllByRecursion P ys → AllByRecursion P (xs ++ ys)
@@ -75,7 +75,7 @@ alone spell P x a b w = record {
   known = λ has. (w.known has, tt);
 }
 
--- the element of the next number
+-- the element with the next number
 pub written_more : {A : Type 0} (spell : A → List ℕ) (P : A → Type 0) (xs : List A) (i : ℕ) (x : A)
     → i < length xs → x ≡ get_or xs i x → (a b c : Writer)
     → Writes a b (flat_map spell (take i xs)) (AllByRecursion P (take i xs))
@@ -97,7 +97,7 @@ pub first : {a b c : Writer} {n : ℕ} {y : List ℕ} {P Q : Type 0} → Writes 
     → Writes b c y Q → Writes a c (n ∷ y) (P × Q)
 first one others = both one others
 
--- a list of more values than may come
+-- a list of more values than are allowed
 pub uncounted : {A : Type 0} (spell : A → List ℕ) (P : A → Type 0) (xs : List A) (n : ℕ)
     (a b : Writer) → IsBeyond n a b → n ≡ length xs → ((x : A) → 0 < length (spell x))
     → Writes a b (number4.spell (length xs) ++ flat_map spell xs)

@@ -1,4 +1,4 @@
--- How values are spelled as bytes, one way made of others.
+-- How values are spelled as bytes; formats are composed of other formats.
 use Rattle.std.specs.Prelude.{ℕ, ℤ, zero, suc, ◌<◌, ◌^◌, ◌≡◌, ◌==◌, List, [], ◌∷◌, ◌++◌, length}
 use Rattle.std.specs.Prelude.{drop, Bool, Option, Some, None, IfSome, IsTrue, nat_lt, ⊤}
 use Rattle.std.specs.Prelude.{if◌then◌else◌}
@@ -19,9 +19,9 @@ Reader A = List ℕ → Option (A × List ℕ)
 -- how the values of a type are spelled
 pub record Format (A : Type 0) : Type 1 where
   pub spell : A → List ℕ
-  -- that numbers are no wider than their fields, as the types of the code say
+  -- that numbers fit into their fields, as the types of the code ensure
   pub IsWide : A → Type 0
-  -- that the value is within the limits, as a reader tests
+  -- that the value is within the limits, as a reader checks
   pub IsWithin : A → Type 0
   pub read : Reader A
 
@@ -44,12 +44,12 @@ byte = record {
   read = byte_at;
 }
 
--- a number of so many bytes
+-- a number of this many bytes
 abbrev pub number_at : ℕ → Reader ℕ
 number_at n bytes =
     if nat_lt (length bytes) n then None else Some (big_number n bytes, drop n bytes)
 
--- a number, the highest byte first
+-- a number, big-endian
 abbrev pub number : Width → Format ℕ
 number w = record {
   spell = to_be_bytes w;
@@ -67,7 +67,7 @@ number4 = number w32
 unfoldable pub number8 : Format ℕ
 number8 = number w64
 
--- a number in two's complement: itself, or 2^64 more where it is negative
+-- a number in two's complement: the number itself, or 2^64 more if it is negative
 unfoldable pub signed8 : Format ℤ
 signed8 = record {
   spell = λ q. to_be_bytes w64 (cast_unsigned w64 q);
@@ -76,7 +76,7 @@ signed8 = record {
   read = λ bytes. number_at 8 bytes >>= λ n. Some (cast_signed w64 n.0, n.1);
 }
 
--- ---- one value made of others
+-- ---- values that are composed of others
 
 -- no byte
 abbrev pub nothing : Format ⊤
@@ -87,7 +87,7 @@ nothing = record {
   read = λ bytes. Some (tt, bytes);
 }
 
--- what is made of a value: parts says what of
+-- a value that `make` makes of another one; `parts` returns that other one
 abbrev pub mapped : {A B : Type 0} → Format A → (A → B) → (B → A) → Format B
 mapped F make parts = record {
   spell = λ b. F.spell (parts b);
@@ -96,7 +96,7 @@ mapped F make parts = record {
   read = λ bytes. F.read bytes >>= λ a. Some (make a.0, a.1);
 }
 
--- a value, and another one whose way the first one says
+-- a value, and another one whose format depends on the first one
 abbrev pub joined : {A B : Type 0} → Format A → (A → Format B) → Format (A × B)
 joined F G = record {
   spell = λ x. F.spell x.0 ++ (G x.0).spell x.1;
@@ -121,7 +121,7 @@ kept F test = record {
 
 -- ---- one of several
 
--- what follows a tag, by the tags that may stand there
+-- what follows a tag, for each tag that is allowed
 abbrev pub behind : {A : Type 0} → List (ℕ × Reader A) → ℕ → Reader A
 behind [] tag rest = None
 behind (choice ∷ others) tag rest =
@@ -147,7 +147,7 @@ tag number F a = record {
   is_within = F.IsWithin a;
 }
 
--- a value behind a tag that says of which kind it is; the choices are how each kind is read
+-- a value after a tag that says of which kind it is; `choices` says how each kind is read
 abbrev pub tagged : {A : Type 0} → (A → Behind) → List (ℕ × Reader A) → Format A
 tagged behind choices = record {
   spell = λ a. (behind a).bytes;
@@ -177,7 +177,7 @@ each_at read (suc n) bytes =
     read bytes >>= λ first. each_at read n first.1 >>= λ others.
     Some (first.0 ∷ others.0, others.1)
 
--- so many values, which are looked for where there are as many bytes at least
+-- this many values, which are read only if there are at least as many bytes
 unfoldable pub many_at : {A : Type 0} → Reader A → ℕ → Reader (List A)
 many_at read n bytes = if nat_lt (length bytes) n then None else each_at read n bytes
 
@@ -189,7 +189,7 @@ many F n = record {
   read = many_at F.read n;
 }
 
--- how many, and each
+-- how many there are, and each of them
 abbrev pub counted : {A : Type 0} → Format ℕ → Format A → Format (List A)
 counted count F = mapped (joined count (many F)) (λ x. x.1) (λ xs. (length xs, xs))
 

@@ -1,4 +1,4 @@
--- Numbers have a byte at least.
+-- Numbers have at least one byte.
 use Rattle.std.proofs.Common.{zero-le, suc-le-suc}
 use Rattle.codec.specs.Formats.{number4, number8}
 use Rattle.codec.specs.Reading.{IsLong}

@@ -1,9 +1,9 @@
--- What a piece was given.
+-- What was appended to a piece.
 use Rattle.std.specs.Prelude.{◌≡◌, ◌≤◌, ◌+◌, ℕ, List, ◌++◌, length}
 use Rattle.std.specs.List.{flat_map, AllByRecursion}
 use Rattle.codec.specs.Formats.{Format}
 
--- a text of so many bytes at most, and a fact that is known of it
+-- a text of at most `most` bytes, and a fact that is known about it
 pub record Gains (old new text : List ℕ) (most : ℕ) (fact : Type 0) : Type 0 where
   pub is : new ≡ old ++ text
   pub few : length new ≤ length old + most

@@ -5,7 +5,7 @@ use Rattle.ids.specs.declared.refusal.Refusal.{Refusal}
 use Rattle.ids.specs.declared.refusal.Refusal.TheVariants.{Memory, BadImage}
 use Rattle.codec.specs.Formats.{Format, Fits}
 
--- What a function gave, seen by view, is what reading gives; or memory was refused.
+-- What a function returned, seen through `view`, is what reading gives; or memory ran out.
 abbrev pub Gives : {X Y : Type 0} → (X → Y) → Result X Refusal → Option Y → Type 0
 Gives view (Ok x) read = read ≡ Some (view x)
 Gives view (Err e) read = e ≢ Memory → (e ≡ BadImage) × (read ≡ None)
@@ -19,13 +19,13 @@ pub record Took {A : Type 0} (F : Format A) (bytes : List ℕ) (x : A × List �
   pub rest : IsBytes x.1
   pub fits : Fits F x.0
 
--- What is read is spelled so, and what is spelled so is read, whatever follows it. So no spelling
--- begins another.
+-- What is read has that spelling, and what has a spelling is read, whatever follows it. So no
+-- spelling is a prefix of another one.
 pub record IsSound {A : Type 0} (F : Format A) : Type 0 where
   pub takes : (bytes : List ℕ) (x : A × List ℕ) → IsBytes bytes → F.read bytes ≡ Some x
       → Took F bytes x
   pub again : (a : A) (rest : List ℕ) → Fits F a → F.read (F.spell a ++ rest) ≡ Some (a, rest)
 
--- each spelling has a byte at least
+-- each spelling has at least one byte
 abbrev pub IsLong : {A : Type 0} → Format A → Type 0
 IsLong {A = A} F = (a : A) → 0 < length (F.spell a)

@@ -16,8 +16,8 @@ Holds w All text = w.bytes.items ≡ text
 Holds w (Counted n) text = HasNone w × ((n ≡ length text) × (n ≤ w.limit))
 Holds w TooMany text = HasNone w × (w.limit < length text)
 
--- All that the writer was given is this text. It holds it, unless it is longer than the limit or
--- memory was refused.
+-- Everything that the writer was given is this text. It holds the text, unless that is longer than
+-- the limit or memory ran out.
 abbrev pub Says : Writer → List ℕ → Type 0
 Says w text = Holds w w.kept text
 
@@ -30,21 +30,21 @@ IsWithin w TooMany = ⊥
 abbrev pub IsOpen : Writer → Type 0
 IsOpen w = IsWithin w w.kept
 
--- it holds what it held, all of it, and there is room for this text
+-- it holds everything that it held, and there is room for this text
 pub record HasRoom (old new : Writer) (text : List ℕ) : Type 0 where
   pub all : old.kept ≡ All
   pub kept : new.kept ≡ All
   pub items : new.bytes.items ≡ old.bytes.items
   pub room : vec_len new.bytes + length text ≤ vec_capacity new.bytes
 
--- The writer was given this text more. Where that is within the limit, the fact is known.
+-- The writer was also given this text. If the whole is within the limit, the fact is known.
 pub record Writes (old new : Writer) (text : List ℕ) (fact : Type 0) : Type 0 where
   pub limit : new.limit ≡ old.limit
   pub back : IsOpen new → IsOpen old
   pub more : (before : List ℕ) → Says old before → Says new (before ++ text)
   pub known : IsOpen new → fact
 
--- it was given a text of so many bytes at least, which is longer than the limit
+-- it was given a text of at least this many bytes, which is longer than the limit
 pub record IsBeyond (least : ℕ) (old new : Writer) : Type 0 where
   pub any : (text : List ℕ) → least ≤ length text → Writes old new text ⊥
 

@@ -1,11 +1,11 @@
-//! Values as bytes: each kind of value has a format, which says how it is spelled, and no spelling
-//! of a format begins another.
+//! Values as bytes: each kind of value has a format, which says how it is spelled. No spelling of a
+//! format is a prefix of another one.
 //!
-//! `specs/Formats.antt` has the formats of numbers, and of what is made of other values: one after
-//! another, one that may be missing, one of several behind a tag, a list. A [`Reader`] takes values
-//! from the front of bytes, and a [`Writer`] is given them one after another, up to a limit.
-//! Records of a few bytes are put together in a [`Piece`] first, so that they are written at once.
-//! So a record is described by one line, and read and written by one function each.
+//! `specs/Formats.antt` defines the formats of numbers, and of values that are composed of others:
+//! a sequence, an optional value, one of several kinds after a tag, a list. A [`Reader`] takes
+//! values from the front of bytes. A [`Writer`] appends values, up to a limit. Records of a few
+//! bytes are put together in a [`Piece`] first and then written at once. So a record is described
+//! by one line, and read and written by one function each.
 #![tactic(auto)]
 
 mod piece;

@@ -1,4 +1,4 @@
-//! A few bytes that are put together before they are written.
+//! A short buffer for bytes that are put together before they are written.
 ghost use Rattle.std.specs.Prelude.{◌≡◌, ◌+◌, ◌≤◌, ◌++◌, [], length};
 ghost use Rattle.codec.specs.Formats.{byte, number2, number4, number8, signed8};
 ghost use Rattle.codec.specs.Pieces.{Adds};
@@ -6,11 +6,11 @@ ghost use Rattle.codec.specs.declared.piece.TheConstants.{GREATEST_PIECE};
 
 use std::marker::Model;
 
-/// So many bytes a piece has at most.
+/// The greatest number of bytes in a piece.
 pub const GREATEST_PIECE: usize = 112;
 
-/// A few bytes that are put together before they are written, [`GREATEST_PIECE`] at most. They take
-/// no memory, so no call fails.
+/// A short buffer for bytes that are put together before they are written, at most
+/// [`GREATEST_PIECE`] of them. It allocates nothing, so no call fails.
 #[derive(Drop)]
 pub struct Piece {
     bytes: [u8; GREATEST_PIECE],
@@ -47,7 +47,7 @@ impl Piece {
         &self.bytes[..self.len]
     }
 
-    /// Puts these bytes behind the others. There is room for them.
+    /// Appends these bytes. The piece must have room for them.
     #[inline(always)]
     pub fn append(&mut self, part: &[u8])
         requires { length self.old + length part.now ≤ GREATEST_PIECE }

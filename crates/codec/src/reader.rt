@@ -1,5 +1,6 @@
-//! Values from the front of bytes, one after another. A reader that has failed gives nothing any
-//! more and says so at its end, so who reads a value tests nothing in between.
+//! Reads values from the front of bytes, one after another. Errors are sticky: once a reader has
+//! failed it stays so, and [`finish`](Reader::finish) reports it. So callers need not check each
+//! value.
 ghost use Rattle.std.specs.Prelude.{◌≡◌, ◌≤◌, length, Some, None};
 ghost use Rattle.byteorder.specs.Endian.{big_number};
 ghost use Rattle.codec.specs.Formats.{byte, number_at, number2, number4, number8, signed8};
@@ -7,12 +8,12 @@ ghost use Rattle.codec.specs.Readers.{left, is_open, is_whole, enough, passing, 
 
 use byteorder::{BigEndian, ByteOrder};
 
-/// Values from the front of bytes, one after another. Once one isn't there it has failed: what it
-/// gives from then on means nothing, and [`finish`](Reader::finish) says so. No call before that
-/// fails.
+/// Reads values from the front of bytes, one after another. Once a value is missing or is rejected,
+/// the reader has failed: what it returns from then on means nothing, and
+/// [`finish`](Reader::finish) reports the failure. No call before that returns an error.
 #[derive(Clone, Copy)]
 pub struct Reader<'a> {
-    // What is left. None once it has failed.
+    // What is left; `None` once the reader has failed.
     rest: Option<&'a [u8]>,
 }
 
@@ -26,7 +27,7 @@ impl<'a> Reader<'a> {
         Reader { rest: Some(bytes) }
     }
 
-    // The next bytes, so many of them and eight at most.
+    // The next `count` bytes, at most eight.
     fn take(&mut self, count: usize) -> &'a [u8]
         requires { count ≤ 8 }
         ensures enough { count ≤ length result.now }
@@ -46,7 +47,7 @@ impl<'a> Reader<'a> {
         }
     }
 
-    /// A byte.
+    /// Reads a byte.
     pub fn u8(&mut self) -> u8
         ensures { Reads byte self.old self.new result }
     {
@@ -62,7 +63,7 @@ impl<'a> Reader<'a> {
         }
     }
 
-    /// A number in two bytes.
+    /// Reads a number in two bytes.
     #[tactic(auto, unfolding(crate::specs::Formats::number2))]
     pub fn u16(&mut self) -> u16
         ensures { Reads number2 self.old self.new result }
@@ -70,7 +71,7 @@ impl<'a> Reader<'a> {
         BigEndian::read_u16(self.take(2))
     }
 
-    /// A number in four bytes.
+    /// Reads a number in four bytes.
     #[tactic(auto, unfolding(crate::specs::Formats::number4))]
     pub fn u32(&mut self) -> u32
         ensures { Reads number4 self.old self.new result }
@@ -78,7 +79,7 @@ impl<'a> Reader<'a> {
         BigEndian::read_u32(self.take(4))
     }
 
-    /// A number in eight bytes.
+    /// Reads a number in eight bytes.
     #[tactic(auto, unfolding(crate::specs::Formats::number8))]
     pub fn u64(&mut self) -> u64
         ensures { Reads number8 self.old self.new result }
@@ -86,7 +87,7 @@ impl<'a> Reader<'a> {
         BigEndian::read_u64(self.take(8))
     }
 
-    /// A number in eight bytes, in two's complement.
+    /// Reads a number in eight bytes, in two's complement.
     #[tactic(auto, unfolding(crate::specs::Formats::signed8))]
     pub fn i64(&mut self) -> i64
         ensures { Reads signed8 self.old self.new result }
@@ -94,7 +95,7 @@ impl<'a> Reader<'a> {
         BigEndian::read_i64(self.take(8))
     }
 
-    /// Fails unless the test was passed, which is of a value that was read.
+    /// Makes the reader fail unless a value that was read has passed a test.
     pub fn check(&mut self, passed: bool)
         ensures { Takes (passing passed) self.old self.new (Some tt) }
     {
@@ -103,28 +104,28 @@ impl<'a> Reader<'a> {
         }
     }
 
-    /// Fails: what was read is none that may stand there.
+    /// Makes the reader fail: what was read is not allowed there.
     pub fn fail(&mut self)
         ensures { left self.new ≡ None }
     {
         self.rest = None;
     }
 
-    /// Fails where fewer bytes are left.
+    /// Makes the reader fail if fewer than `least` bytes are left.
     pub fn require(&mut self, least: usize)
         ensures { Takes (enough least) self.old self.new (Some tt) }
     {
         self.check(self.rest.is_some_and(|rest| least <= rest.len()));
     }
 
-    /// Whether it hasn't failed.
+    /// Whether the reader hasn't failed.
     pub fn is_open(&self) -> bool
         ensures { result ≡ is_open self.now }
     {
         self.rest.is_some()
     }
 
-    /// Whether all that was read was there, and nothing is left.
+    /// Whether everything that was read was there, and nothing is left.
     pub fn finish(self) -> bool
         ensures { result ≡ is_whole self.entry }
     {

@@ -1,5 +1,6 @@
-//! Bytes that are written one after another, up to a limit. A writer that has failed keeps none any
-//! more and says so at its end, so who writes a value tests nothing in between.
+//! Writes bytes one after another, up to a limit. Errors are sticky: after the first one the writer
+//! discards everything and reports it in [`finish`](Writer::finish). So callers need not check each
+//! write.
 ghost use Rattle.std.specs.Prelude.{◌≡◌, ◌≢◌, ◌<◌, ◌≤◌, [], List, ℕ, length, nat_le, ⊤, true, false};
 ghost use Rattle.std.specs.Prelude.{OnOk, IfOk, IfErr};
 ghost use Rattle.codec.specs.Formats.{byte, number4, number8};
@@ -8,30 +9,32 @@ ghost use Rattle.ids.specs.declared.refusal.Refusal.TheVariants.{Memory, ImageTo
 
 use ids::Refusal;
 
-/// What became of the bytes that a writer was given.
+/// What happened to the bytes that a writer was given.
 #[derive(Clone, Copy)]
 pub(crate) enum Kept {
     /// All are there. They may be more than the limit.
     All,
-    /// None is there, since memory was refused. They are so many, within the limit.
+    /// None are there, because an allocation failed. This is their number, which is within the
+    /// limit.
     Counted(usize),
-    /// None is there, since they are more than the limit.
+    /// None are there, because they are more than the limit.
     TooMany,
 }
 
-/// Bytes that are written one after another, up to a limit. Once they would be more, or memory is
-/// refused, none is kept any more, and [`finish`](Writer::finish) says so: no call before it fails.
+/// Writes bytes one after another, up to a limit. Once there would be more, or an allocation fails,
+/// all bytes are dropped, and [`finish`](Writer::finish) returns the error. No call before that
+/// returns one.
 #[derive(Drop)]
 pub struct Writer {
-    // Without room for any where none is kept, so that one test tells all before a write.
+    // Has no capacity if nothing is kept, so that one comparison before a write covers all cases.
     bytes: Vec<u8>,
     limit: u32,
     kept: Kept,
 }
 
 impl Writer {
-    /// A writer of so many bytes at most, in the memory of these, which are let go of. It takes
-    /// more as bytes come, and for the first of them at once.
+    /// A writer of at most `limit` bytes, in the memory of `bytes`, whose content is dropped. It
+    /// reserves room for `first` bytes at once, and more as bytes are written.
     pub fn new(bytes: Vec<u8>, limit: u32, first: usize) -> Writer
         ensures limit { result.limit ≡ limit }
         ensures empty { Says result [] }
@@ -61,7 +64,7 @@ impl Writer {
         }
     }
 
-    // Makes room for these bytes. Where it can't be had they are counted, and none is kept.
+    // Makes room for these bytes. If that fails, they are counted and nothing is kept.
     #[cold]
     #[inline(never)]
     fn grow(&mut self, part: &[u8]) -> bool
@@ -86,7 +89,7 @@ impl Writer {
         false
     }
 
-    // Lets go of all bytes.
+    // Drops all bytes.
     fn give_up(&mut self, kept: Kept)
         ensures limit { self.new.limit ≡ self.old.limit }
         ensures kept { self.new.kept ≡ kept }
@@ -101,8 +104,8 @@ impl Writer {
     ///
     /// # Errors
     ///
-    /// [`Refusal::ImageTooLarge`] where they are more than the limit. Where they are not,
-    /// [`Refusal::Memory`] where memory was refused.
+    /// [`Refusal::ImageTooLarge`] if they are more than the limit. Otherwise [`Refusal::Memory`] if
+    /// an allocation failed.
     pub fn finish(self) -> Result<Vec<u8>, Refusal>
         ensures within { OnOk result (IsOpen self) }
         ensures written { (text : List ℕ) → Says self text → IfOk result (λ v. v.items ≡ text) }
@@ -135,8 +138,9 @@ impl Writer {
         self.append(&number.to_be_bytes());
     }
 
-    /// Appends how many values follow in four bytes, and tells whether they may come. If not, it is
-    /// as if a text had come that is too long, with so many bytes at least.
+    /// Appends how many values follow, in four bytes, and returns whether that many are allowed,
+    /// which they are up to the limit. If not, the writer fails as if it had been given a text of
+    /// at least that many bytes.
     #[tactic(auto, unfolding(crate::specs::Formats::number4))]
     pub fn count(&mut self, count: usize) -> bool
         ensures told { result ≡ nat_le count self.old.limit }

@@ -1,4 +1,4 @@
--- How a run of calls of a disk goes on.
+-- Runs of calls of a disk, one call after another.
 use Rattle.std.proofs.Common.{◌≡◌, Bool, length, List, [], Some, inl, inr, ⊎_elim, ℕ, arith, subst}
 use Rattle.std.proofs.Common.{sym}
 use Rattle.disk.specs.Areas.{Areas, Changes, Torn, part}
@@ -19,7 +19,7 @@ module _ {D : Type 0} (moment : D → ℕ) (left_since : D → ℕ → Areas →
     before = λ t c le left. inl left;
   }
 
-  -- one call more, after which a crash leaves what has P
+  -- one more call, after which a crash leaves only areas that satisfy P
   pub goes_on : (old mid new : D) (P may_leave : Areas → Type 0) →
       LeavesOnly moment left_since old mid P →
       Elapses (moment mid) (moment new) (left_since mid) (left_since new) may_leave →
@@ -32,7 +32,7 @@ module _ {D : Type 0} (moment : D → ℕ) (left_since : D → ℕ → Areas →
         (time.nothing_else t c (omega (arith, le, so_far.later)) left);
   }
 
-  -- an area is written, where a crash left what a read gives
+  -- an area is written, when before a crash left what a read gives
   pub wrote : (old new : D) (s : Areas) (before after : Areas → Type 0) (area : Area) (n : ℕ) →
       Only s before → ((c : Areas) → left_since old (moment old) c → before c) →
       Follows (Changes area (Torn 0 n)) before after →
@@ -47,7 +47,7 @@ module _ {D : Type 0} (moment : D → ℕ) (left_since : D → ℕ → Areas →
       let from = follows c left in
       subst (λ (x : Areas). Changes area (Torn 0 n) x c) (only from.0 from.1) from.2)
 
-  -- what has P has Q
+  -- what satisfies P satisfies Q
   pub weaker : (old new : D) (P Q : Areas → Type 0) → LeavesOnly moment left_since old new P →
       ((c : Areas) → P c → Q c) → LeavesOnly moment left_since old new Q
   weaker old new P Q run more = record {
@@ -79,7 +79,7 @@ module _ {D : Type 0} (moment : D → ℕ) (left_since : D → ℕ → Areas →
       (weaker mid new (Changes Select (Torn 0 1) s) (NoneOrNew image) second
       (λ c torn. first_selector s c image held.0 held.1 torn))
 
-  -- the image is written aside, and then the selector is
+  -- the image is written into the other area, and then the selector is written
   pub swapped : {in_b : Bool} {area : Area} {image bytes : List ℕ} {s t : Areas} (old mid new : D) →
       Aside in_b area image bytes s t →
       LeavesOnly moment left_since old mid (Changes area (Torn 0 (length bytes)) s) →

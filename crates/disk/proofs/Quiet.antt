@@ -1,4 +1,4 @@
--- Calls of a disk that change nothing of it, and the count of those that failed.
+-- Calls that change nothing of a disk, and the count of calls that failed.
 use Rattle.std.proofs.Common.{◌≡◌, ◌∙◌, ℕ, Result, Ok, Err, IsErrOf, OnOk, true}
 use Rattle.std.proofs.Common.{refl, sym, subst, arith}
 use Rattle.ids.specs.declared.refusal.Refusal.{Refusal}
@@ -40,12 +40,12 @@ module _ {D : Type 0} (seen : D → Areas) (may_leave : D → Areas → Type 0)
   still_only (Ok x) quiet only = λ c left. only c (quiet.crash c left) ∙ sym quiet.same
   still_only (Err e) quiet only = tt
 
--- a call that failed, or not, where the count stood as before
+-- a call that failed, or not, when the count was the same before
 pub later_cause : {old mid new : ℕ} {Q : Type 0} → mid ≡ old → HasCause mid new Q →
     HasCause old new Q
 later_cause {new = new} {Q = Q} same cause = subst (λ n. HasCause n new Q) same cause
 
--- the same in other words
+-- the same with equivalent propositions
 same_cause : {old new : ℕ} {P Q : Type 0} → HasCause old new P → P → Q → HasCause old new Q
 same_cause cause p q = record {
   later = cause.later;
@@ -71,7 +71,7 @@ no_cause same none = record {
   fine = λ _. same;
 }
 
--- a refusal is handed on, at another type of value
+-- a refusal is passed on, at another type of value
 pub handed_cause : {old new : ℕ} {T U E : Type 0} {e x : E} {r : Result U E} → r ≡ Err e →
     HasCause old new (IsErrOf {T = T} (Err e) x) → HasCause old new (IsErrOf r x)
 handed_cause is cause = record {
@@ -80,13 +80,13 @@ handed_cause is cause = record {
   fine = λ none. cause.fine (λ same. none (cc));
 }
 
--- what didn't fail isn't refused, and a bad image is no failure of the disk
+-- what succeeded isn't refused, and `BadImage` is no failure of the disk
 pub ok_no_err : {T E : Type 0} {x : T} {e : E} → Ok x ≡ Err e → ⊥
 ok_no_err is = absurd cc
 
 pub bad_no_disk : {T : Type 0} {r : Result T Refusal} → r ≡ Err BadImage → IsErrOf r Disk → ⊥
 bad_no_disk bad is = absurd cc
 
--- nor is a refusal for being closed
+-- nor is `Closed`
 pub closed_no_disk : {T : Type 0} → IsErrOf {T = T} (Err Closed) Disk → ⊥
 closed_no_disk is = absurd cc

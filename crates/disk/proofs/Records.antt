@@ -11,7 +11,7 @@ use Rattle.ids.specs.declared.limits.TheConstants.{GREATEST_IMAGE}
 use Rattle.disk.specs.Areas.{Holds, IsWhole, Reads}
 use Rattle.disk.specs.Shelf.{told, recorded, record_of, TellsLength}
 
--- what is read of an area that tells a length
+-- what is read from an area that says a length
 pub recorded_is : (held : List ℕ) (n : ℕ) → told held ≡ n → n ≤ GREATEST_IMAGE →
     n + 8 ≤ length held → recorded held ≡ Some (take n (drop 8 held))
 unfolding recorded
@@ -22,7 +22,7 @@ recorded_is held n is fits within =
     grind (arith, nat_tests, small, inside) in
     here ∙ ap (λ k. Some (take k (drop 8 held))) is
 
--- an area that is too short, or tells too much, holds no image
+-- an area that is too short, or says too great a length, holds no image
 pub recorded_short : (held : List ℕ) → length held < 8 → recorded held ≡ None
 unfolding recorded
 recorded_short held short = grind (arith, nat_tests)
@@ -35,7 +35,7 @@ pub recorded_cut : (held : List ℕ) → length held < told held + 8 → recorde
 unfolding recorded
 recorded_cut held cut = grind (arith, nat_tests)
 
--- an area that holds an image tells how long it is
+-- an area that holds an image says how long it is
 pub recorded_tells : (held image : List ℕ) → recorded held ≡ Some image → TellsLength held
 recorded_tells held image is = (
   elim (leb_tells 8 (length held)) [
@@ -69,7 +69,7 @@ recorded_holds image old new fits is =
     recorded_is new n tells fits (omega (arith, long))
     ∙ ap (λ (l : List ℕ). Some (take n l)) behind ∙ ap Some (take_at image rest n refl)
 
--- what was read is all that the buffer takes, where so much was read
+-- what was read fills the buffer, if that many bytes were read
 pub whole_read : {held old new : List ℕ} {at n : ℕ} (all : Bool) → Reads held at n old new →
     (all ≡ true → length old ≤ n) → (all ≡ false → n < length old) → IsWhole held at all old new
 whole_read {held} {old} {new} {at} {n} all read enough short = record {
@@ -82,12 +82,12 @@ whole_read {held} {old} {new} {at} {n} all read enough short = record {
   short = λ is. omega (arith, read.count, short is);
 }
 
--- the first eight bytes tell the length
+-- the first eight bytes say the length
 pub told_read : (held new : List ℕ) → new ≡ take 8 held → told held ≡ from_be_bytes w64 new
 unfolding told
 told_read held new is = sym (ap (from_be_bytes w64) is)
 
--- as many bytes as they tell, read behind them, are the image
+-- as many bytes as the length says, read right after it, are the image
 pub image_read : {held held' old new : List ℕ} {all : Bool} (rest : List ℕ) (n : ℕ) →
     IsWhole held' 8 all old new → all ≡ true → length old ≡ n → held' ≡ held → told held ≡ n →
     TellsLength held → recorded held ≡ Some (take n (new ++ rest))

@@ -1,4 +1,4 @@
--- What a step on one area makes of what a disk opens to.
+-- How a step on one area affects what a disk opens to.
 use Rattle.std.proofs.Common.{◌≡◌, ◌⊎◌, inl, inr, ⊎_elim, ℕ, ◌≤◌, ◌%◌, ◌==◌, Bool, true, false, not}
 use Rattle.std.proofs.Common.{List, [], ◌∷◌, length, Option, Some, None, Result, Ok, Err, OnOk}
 use Rattle.std.proofs.Common.{is_some, refl, sym, ◌∙◌, ap, subst, arith}
@@ -11,7 +11,7 @@ use Rattle.disk.specs.Shelf.{record_of, recorded, side, half, image_at, opened, 
 use Rattle.disk.specs.Shelf.{IsSettled}
 use Rattle.disk.specs.declared.device.Area.TheVariants.{Select, A, B}
 
--- the area that isn't selected: the disk opens to what it did
+-- a step on the area that isn't selected: the disk opens to the same as before
 pub kept_aside : (step : List ℕ → List ℕ → Type 0) (in_b : Bool) (s c : Areas) →
     side s.select ≡ Some in_b → Changes (half (not in_b)) step s c →
     (side c.select ≡ Some in_b) × (opened c ≡ opened s)
@@ -26,7 +26,7 @@ kept_aside step false s c is ch = (
       ∙ sym (ap (λ (o : Option Bool). image_at o s) is),
 )
 
--- nothing is selected: the disk opens to nothing
+-- if nothing is selected, the disk opens to nothing
 pub unselected : (s : Areas) → side s.select ≡ None → opened s ≡ None
 unselected s is = ap (λ (o : Option Bool). image_at o s) is
 
@@ -108,7 +108,7 @@ written_selector in_b v s c says ch =
     same true = ch.2
     same false = ch.1
 
--- the selector was written and synced, over a disk with an image on that side
+-- the selector was written and synced, on a disk with an image on that side
 pub settled_by : {D T E : Type 0} (seen : D → Areas)
     (may_leave : D → Areas → Type 0) (in_b : Bool) (v : ℕ) (image : List ℕ) (s : Areas) (new : D)
     (r : Result T E) → (v % 2 == 1) ≡ in_b → OnOk r (Only (seen new) (may_leave new)) →
@@ -124,7 +124,7 @@ changed_part Select step s c ch = ch.0
 changed_part A step s c ch = ch.0
 changed_part B step s c ch = ch.0
 
--- an image was written, by these bytes, into the area that isn't selected
+-- an image was written, as these bytes, into the area that isn't selected
 pub record Aside (in_b : Bool) (area : Area) (image bytes : List ℕ) (s c : Areas) : Type 0 where
   pub other : area ≡ half (not in_b)
   pub selected : side s.select ≡ Some in_b
@@ -134,7 +134,7 @@ pub record Aside (in_b : Bool) (area : Area) (image bytes : List ℕ) (s c : Are
 
 module _ {in_b : Bool} {area : Area} {image bytes : List ℕ} {s c : Areas}
     (aside : Aside in_b area image bytes s c) where
-  -- until it is written whole too, the disk opens to what it did
+  -- even if that write is torn, the disk opens to the same as before
   pub torn_half : (x : Areas) → Changes area (Torn 0 (length bytes)) s x → opened x ≡ opened s
   torn_half x ch = (kept_aside (Torn 0 (length bytes)) in_b s x aside.selected
       (subst (λ a. Changes a (Torn 0 (length bytes)) s x) aside.other ch)).1

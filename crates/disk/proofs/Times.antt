@@ -1,4 +1,4 @@
--- What a crash may have left, once a moment more is over.
+-- What a crash may have left, once one more moment has passed.
 use Rattle.std.proofs.Common.{◌≡◌, inl, inr, ⊎_elim, ℕ, ◌+◌, subst, sym, arith}
 use Rattle.disk.specs.Areas.{Areas}
 use Rattle.disk.specs.Crashes.{Elapses}
@@ -22,7 +22,7 @@ elapses_then past (Then' m before state) s s' is =
       keeps = λ t c le l. inl (⊎_elim (λ over. inl over) (λ now. inr (le, now)) l);
     }))
 
--- so also where the past is named otherwise
+-- the same if the past has another name
 pub elapses_by : (past mid later : Past) (s s' : State) → IsThen past s mid → later ≡ mid →
     Elapses (moments past) (moments later) (left_since past s) (left_since later s') (leaves s')
 elapses_by past mid later s s' is same =
@@ -30,7 +30,7 @@ elapses_by past mid later s s' is same =
     Elapses (moments past) (moments p) (left_since past s) (left_since p s') (leaves s') in
     subst P (sym same) (elapses_then past mid s s' is)
 
--- no moment passes, and the state stays
+-- no moment passes, and the state stays the same
 pub elapses_same : (past later : Past) (s s' : State) → later ≡ past → s' ≡ s →
     Elapses (moments past) (moments later) (left_since past s) (left_since later s') (leaves s')
 elapses_same past later s s' same stays =

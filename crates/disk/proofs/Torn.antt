@@ -30,7 +30,7 @@ unchanged Select step d is = (is, refl, refl)
 unchanged A step d is = (is, refl, refl)
 unchanged B step d is = (is, refl, refl)
 
--- what is written, all of it or a front part, is one of the things that may stand there
+-- what is written, all of it or a prefix, is one of the possible outcomes
 pub torn_pasted : (at n : ℕ) (bytes old : List ℕ) → at ≤ length old → length bytes ≤ n →
     Torn at n old (pasted at bytes old)
 torn_pasted at n bytes old le fits =
@@ -64,7 +64,7 @@ torn_same at n old = record {
   no_longer = omega arith;
 }
 
--- a range more
+-- one more range
 torn_push : (ranges : List Range) (r : Range) (P : Areas → Type 0) (c : Areas) →
     torn_by (ranges ++ r ∷ []) P c ↔ torn_in r (torn_by ranges P) c
 torn_push [] r P c = (λ torn. torn, λ torn. torn)
@@ -83,14 +83,14 @@ pub risk_left : (s : State) (c : Areas) → at_risk s c → leaves s c
 unfolding leaves
 risk_left s c risk = inr risk
 
--- a range is noted, before which the disk held what it does now
+-- a range is recorded, before which the disk held what it holds now
 pub record Noted (r : Range) (s s' : State) : Type 0 where
   pub before : r.before.value ≡ s.held
   pub held : s'.held ≡ s.held
   pub synced : synced s' ≡ synced s
   pub noted : s'.ranges.items ≡ s.ranges.items ++ r ∷ []
 
--- so it is where the range is pushed behind the others
+-- this holds if the range is pushed after the others
 pub pushed : {s : State} (r : Range) (rs : Vec Range Global) → r.before.value ≡ s.held
     → rs.items ≡ s.ranges.items ++ r ∷ [] → Noted r s (record s { ranges = rs })
 pushed r rs before items = record {
@@ -133,7 +133,7 @@ reaches_noted {r} {s} {s'} note d c (inl held) torn =
 reaches_noted {r} {s} {s'} note d c (inr risk) torn =
     (risk_noted note c).1 (d, inr risk, torn)
 
--- other bytes are held, and what was synced and the ranges stay
+-- other bytes are held, while what was synced and the ranges stay the same
 pub set_leaves : (s s' : State) → synced s' ≡ synced s → s'.ranges ≡ s.ranges →
     (c : Areas) → leaves s' c → (c ≡ areas_of s'.held) ⊎ leaves s c
 unfolding leaves
@@ -154,7 +154,7 @@ unfolding leaves
 set_reaches step s mid s' same ranges noted d c left torn =
     inr (set_risk mid s' same ranges c (noted d c left torn))
 
--- a range is noted, and then other bytes are held in it
+-- a range is recorded, and then other bytes are held in it
 pub follows_set : (step : Areas → Areas → Type 0) (s mid s' : State) →
     Follows step (leaves s) (leaves mid) →
     ((c : Areas) → leaves s' c → (c ≡ areas_of s'.held) ⊎ leaves mid c) →
@@ -185,7 +185,7 @@ changed_by_write area at n d d' w =
     subst (λ (x : Areas). Changes area (Torn at n) d x) (sym w.held)
     (changed area (Torn at n) d w.next torn)
 
--- and where all of them were
+-- and when all of them were written
 pub changed_to : (area : Area) (at : ℕ) (bytes next : List ℕ) (d d' : Areas) →
     next ≡ pasted at bytes (part area d) → d' ≡ with_part area next d →
     Changes area (Holds at bytes) d d'
@@ -200,7 +200,7 @@ unfolding leaves
 same_leaves s s' held same ranges c (inl now) = inl (now ∙ ap areas_of held)
 same_leaves s s' held same ranges c (inr torn) = inr (risk_same s s' same ranges c torn)
 
--- there was no room to note a range
+-- there was no memory to record a range
 pub unnoted : (s s' : State) → s'.held ≡ s.held → synced s' ≡ synced s →
     s'.ranges.items ≡ s.ranges.items → (c : Areas) → leaves s' c ↔ leaves s c
 unnoted s s' held same ranges c = (
@@ -225,7 +225,7 @@ changed_none area at n held held' same =
     subst (λ (x : Contents). Changes area (Torn at n) d (areas_of x)) (sym same)
     (unchanged area (Torn at n) d (torn_same at n (part area d)))
 
--- the state stays
+-- the state stays the same
 pub follows_still : (area : Area) (at n : ℕ) (s s' : State) → s' ≡ s →
     Follows (Changes area (Torn at n)) (leaves s) (leaves s')
 follows_still area at n s s' same c left = (
@@ -234,7 +234,7 @@ follows_still area at n s s' same c left = (
   unchanged area (Torn at n) c (torn_same at n (part area c)),
 )
 
--- all is synced
+-- everything is synced
 pub only_synced : (s : State) (d : Areas) → areas_of s.held ≡ d → synced s ≡ d →
     s.ranges.items ≡ [] → Only d (leaves s)
 unfolding leaves at_risk
@@ -249,7 +249,7 @@ pub settled_leaves : (s s' : State) → areas_of s'.held ≡ areas_of s.held →
 settled_leaves s s' held same none c left =
     subst (leaves s) (sym (only_synced s' (areas_of s.held) held same none c left)) (reads_left s)
 
--- any bytes may stand where the area was loaded
+-- any bytes are possible in an area that was loaded
 any_torn : (old new : List ℕ) (n : ℕ) → old ≡ [] → length new ≤ n → Torn 0 n old new
 any_torn old new n none fits = record {
   before = refl;
@@ -288,7 +288,7 @@ part_with Select next d = refl
 part_with A next d = refl
 part_with B next d = refl
 
--- a range from the start is noted, and then the area holds so many other bytes
+-- a range from the start is recorded, and then the area holds as many other bytes
 pub loaded_by : (area : Area) (n : ℕ) (next : List ℕ) (s mid s' : State) → length next ≡ n →
     mid.held ≡ s.held → areas_of s'.held ≡ with_part area next (areas_of mid.held) →
     Reaches (Changes area (Torn 0 n)) (leaves s) (leaves s') → Loaded area s s'
@@ -326,7 +326,7 @@ fills_torn fill [] P m p = p
 fills_torn fill (r ∷ ranges) P m p =
     fills_torn fill ranges (torn_in r P) (filled_in fill r m) (m, inr p, fill_torn fill r m)
 
--- what a crash leaves where each byte that was written became this one, it may leave
+-- a crash may leave what results if each byte that was written became this one
 pub filled_left : (fill : ℕ) (s : State) → leaves s (filled fill s)
 unfolding leaves at_risk filled
 filled_left fill s = inr (fills_torn fill s.ranges.items (λ x. x ≡ synced s) (synced s) refl)

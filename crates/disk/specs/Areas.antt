@@ -16,13 +16,13 @@ part Select d = d.select
 part A d = d.a
 part B d = d.b
 
--- other bytes in one area
+-- one area with its bytes replaced
 abbrev pub with_part : Area → List ℕ → Areas → Areas
 with_part Select bytes d = record { select = bytes; a = d.a; b = d.b }
 with_part A bytes d = record { select = d.select; a = bytes; b = d.b }
 with_part B bytes d = record { select = d.select; a = d.a; b = bytes }
 
--- one area takes a step, and the others stay
+-- one area takes a step, and the others stay the same
 abbrev pub Changes : Area → (List ℕ → List ℕ → Type 0) → Areas → Areas → Type 0
 Changes Select step old new =
     step old.select new.select × (new.a ≡ old.a) × (new.b ≡ old.b)
@@ -39,8 +39,8 @@ pasted at bytes old = take at old ++ bytes ++ drop (at + length bytes) old
 abbrev pub Holds : ℕ → List ℕ → List ℕ → List ℕ → Type 0
 Holds at bytes old new = new ≡ pasted at bytes old
 
--- Any bytes may stand in the range of n bytes from this offset on, and what of it lies past the old
--- end may be missing from some byte on. Elsewhere the bytes stay.
+-- A torn write. Any bytes may be in the range of n bytes from this offset on, and the part of it
+-- past the old end may be missing from some byte on. Elsewhere the bytes stay the same.
 pub record Torn (at n : ℕ) (old new : List ℕ) : Type 0 where
   pub before : take at new ≡ take at old
   pub after : drop (at + n) new ≡ drop (at + n) old
@@ -53,12 +53,12 @@ pub record NoLonger (held c : Areas) : Type 0 where
   pub a : length c.a ≤ length held.a
   pub b : length c.b ≤ length held.b
 
--- n bytes are read into the front of a buffer: all that fit, or that there are from this offset on
+-- n bytes are read into the front of a buffer: as many as fit, or as there are from this offset on
 pub record Reads (held : List ℕ) (at n : ℕ) (old new : List ℕ) : Type 0 where
   pub count : n ≡ min (length old) (length held - at)
   pub bytes : new ≡ take n (drop at held) ++ drop n old
 
--- a buffer is filled from this offset on, if there are so many bytes
+-- a buffer is filled from this offset on, if there are enough bytes
 pub record IsWhole (held : List ℕ) (at : ℕ) (all : Bool) (old new : List ℕ) : Type 0 where
   pub enough : IsTrue all → length old ≤ length held - at
   pub bytes : IsTrue all → new ≡ take (length old) (drop at held)

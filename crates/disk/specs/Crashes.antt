@@ -1,12 +1,12 @@
--- What a crash may leave, as time goes on.
+-- What a crash may leave, as time passes.
 use Rattle.std.specs.Prelude.{◌≡◌, ◌⊎◌, ℕ, ◌+◌, ◌^◌, ◌<◌, ◌≤◌}
 use Rattle.disk.specs.Areas.{Areas}
 
--- each thing that a crash may leave now comes by a step from one that it could leave before
+-- each outcome of a crash that is possible now is one step from one that was possible before
 abbrev pub Follows : (Areas → Areas → Type 0) → (Areas → Type 0) → (Areas → Type 0) → Type 0
 Follows step old new = (c : Areas) → new c → (d : Areas) × old d × step d c
 
--- each thing that comes by a step from one that a crash could leave before, it may leave now
+-- each outcome of a crash that is one step from one that was possible before is possible now
 abbrev pub Reaches : (Areas → Areas → Type 0) → (Areas → Type 0) → (Areas → Type 0) → Type 0
 Reaches step old new = (d c : Areas) → old d → step d c → new c
 
@@ -14,7 +14,7 @@ Reaches step old new = (d c : Areas) → old d → step d c → new c
 abbrev pub Only : Areas → (Areas → Type 0) → Type 0
 Only here outcomes = (c : Areas) → outcomes c → c ≡ here
 
--- Time goes on: a crash since t may have left what it may have left before, or what it may leave
+-- Time passes: a crash since t may have left what it may have left before, or what it may leave
 -- now.
 pub record Elapses (before now : ℕ) (past since : ℕ → Areas → Type 0)
     (may_leave : Areas → Type 0) : Type 0 where
@@ -22,7 +22,7 @@ pub record Elapses (before now : ℕ) (past since : ℕ → Areas → Type 0)
   pub nothing_else : (t : ℕ) (c : Areas) → t ≤ before → since t c → past t c ⊎ may_leave c
   pub keeps : (t : ℕ) (c : Areas) → t ≤ before → past t c → since t c
 
--- A crash at any moment since old leaves what has P.
+-- A crash at any moment since `old` leaves only areas that satisfy P.
 pub record LeavesOnly {D : Type 0} (moment : D → ℕ) (left_since : D → ℕ → Areas → Type 0)
     (old new : D) (P : Areas → Type 0) : Type 0 where
   pub later : moment old ≤ moment new
@@ -31,24 +31,24 @@ pub record LeavesOnly {D : Type 0} (moment : D → ℕ) (left_since : D → ℕ 
   pub before : (t : ℕ) (c : Areas) →
       t ≤ moment old → left_since new t c → left_since old t c ⊎ P c
 
--- calls that change nothing of what a disk holds, and nothing of what a crash may leave
+-- calls that change neither what a disk holds nor what a crash may leave
 pub record Unmoved {D : Type 0} (seen : D → Areas) (may_leave : D → Areas → Type 0)
     (moment : D → ℕ) (left_since : D → ℕ → Areas → Type 0) (old new : D) : Type 0 where
   pub same : seen new ≡ seen old
   pub crash : (c : Areas) → may_leave new c → may_leave old c
   pub any_moment : LeavesOnly moment left_since old new (may_leave old)
 
--- a count that has grown, or stands at the greatest number that it can tell
+-- a count that has grown, or is already the greatest number of 64 bits
 abbrev pub Grew : ℕ → ℕ → Type 0
 Grew before now = (before < now) ⊎ (2 ^ 64 ≤ now + 1)
 
--- a call that failed has counted it, and one that didn't has not
+-- a call that failed has increased the count, and one that succeeded has not
 pub record HasCause (before now : ℕ) (fault : Type 0) : Type 0 where
   pub later : before ≤ now
   pub failed : fault → Grew before now
   pub fine : (fault → ⊥) → now ≡ before
 
--- a call of this disk has failed since, as it counts at a later moment
+-- a call of this disk has failed since, as its count at a later moment shows
 pub record HasFailed {D : Type 0} (moment faults : D → ℕ) (disk : D) : Type 0 where
   pub after : D
   pub later : moment disk ≤ moment after

@@ -17,10 +17,10 @@ held_by d = areas_of d.state.held
 abbrev pub left_by : MemoryDisk → Areas → Type 0
 left_by d = leaves d.state
 
--- what a crash now leaves where each byte that was written since the last sync became this one
+-- what a crash now leaves if each byte that was written since the last sync became this one
 abbrev pub filled_by_crash : ℕ → MemoryDisk → Areas
 filled_by_crash fill d = filled fill d.state
 
--- no call of it has failed, and none is to
+-- no call of it has failed, and none will
 abbrev pub IsFaultless : MemoryDisk → Type 0
 IsFaultless d = (d.plan ≡ Never) × (d.failures ≡ 0)

@@ -1,5 +1,4 @@
--- What a disk in memory tells by its record of itself: its state now, and those of the moments that
--- are over.
+-- What the record of a disk in memory says: its current state, and the states of the past moments.
 use Rattle.std.specs.Prelude.{◌≡◌, ◌⊎◌, ℕ, ◌+◌, ◌≤◌, List, [], ◌∷◌, length, replicate, Vec, Option}
 use Rattle.std.specs.Prelude.{Some, None, if◌then◌else◌, refl, ⊤}
 use Rattle.std.proofs.Common.{inl, inr, arith}
@@ -17,7 +16,7 @@ use Rattle.disk.specs.declared.state.Past.{Past, Start, Then'}
 abbrev pub areas_of : Contents → Areas
 areas_of c = record { select = c.select.items; a = c.a.items; b = c.b.items }
 
--- what an area held at the last sync: it is kept where the area was written since
+-- what an area held at the last sync: it is kept if the area was written since
 abbrev pub kept_or : Option (Vec ℕ Global) → Vec ℕ Global → List ℕ
 kept_or None held = held.items
 kept_or (Some kept) held = kept.items
@@ -30,8 +29,8 @@ synced s = record {
   b = kept_or s.kept_b s.held.b;
 }
 
--- what may come of the outcomes that have P, and of what was held before a range was written, where
--- the range may hold any bytes
+-- what may result when a range is written over an outcome that satisfies P, or over what was held
+-- before: the range may hold any bytes
 abbrev pub torn_in : Range → (Areas → Type 0) → Areas → Type 0
 torn_in r P c =
     (m : Areas) × ((m ≡ areas_of r.before.value) ⊎ P m) × Changes r.area (Torn r.at r.len) m c
@@ -53,33 +52,33 @@ leaves s c = (c ≡ areas_of s.held) ⊎ at_risk s c
 abbrev pub IsUnsynced : State → Type 0
 IsUnsynced s = (c : Areas) → NoLonger (areas_of s.held) c → leaves s c
 
--- an area was found, which holds any bytes after a crash
+-- an area was found, which may hold any bytes after a crash
 pub record Loaded (area : Area) (s s' : State) : Type 0 where
   pub others : Changes area (λ _ _. ⊤) (areas_of s.held) (areas_of s'.held)
   pub torn : Reaches (Changes area (Torn 0 (length (part area (areas_of s'.held)))))
       (leaves s) (leaves s')
 
--- how many moments are over
+-- how many moments have passed
 abbrev pub moments : Past → ℕ
 moments Start = 0
 moments (Then' m before state) = moments before + 1
 
--- what a crash may have left at a moment that is over, from the t-th one on
+-- what a crash may have left at a past moment, from the t-th one on
 abbrev pub left_before : Past → ℕ → Areas → Type 0
 left_before Start t c = ⊥
 left_before (Then' m before state) t c =
     left_before before t c ⊎ ((t ≤ moments before) × leaves state.value c)
 
--- what a crash from the t-th moment on may have left: at one that is over, or now
+-- what a crash from the t-th moment on may have left, at a past moment or now
 abbrev pub left_since : Past → State → ℕ → Areas → Type 0
 left_since past s t c = left_before past t c ⊎ leaves s c
 
--- one moment more is over, in which the disk had this state
+-- one more moment has passed, in which the disk had this state
 abbrev pub IsThen : Past → State → Past → Type 0
 IsThen past s Start = ⊥
 IsThen past s (Then' m before state) = (before ≡ past) × (state.value ≡ s)
 
--- what a crash leaves where each byte of a range became this one
+-- what a crash leaves if each byte of a range became this one
 abbrev pub filled_in : ℕ → Range → Areas → Areas
 filled_in fill r m =
     if leb r.at (length (part r.area m))
@@ -90,7 +89,7 @@ abbrev pub filled_by : ℕ → List Range → Areas → Areas
 filled_by fill [] m = m
 filled_by fill (r ∷ ranges) m = filled_by fill ranges (filled_in fill r m)
 
--- what a crash leaves where each byte that was written since the last sync became this one
+-- what a crash leaves if each byte that was written since the last sync became this one
 unfoldable pub filled : ℕ → State → Areas
 filled fill s = filled_by fill s.ranges.items (synced s)
 

@@ -1,4 +1,4 @@
--- How values lie on a disk: what an area holds, and which of the two areas counts.
+-- How a disk holds values: what an area holds, and which of the two areas counts.
 use Rattle.std.specs.Prelude.{◌≡◌, ◌⊎◌, ℕ, ◌≤◌, ◌+◌, ◌%◌, ◌==◌, leb, Bool, true, false, ◌&&◌}
 use Rattle.std.specs.Prelude.{List, [], ◌∷◌, ◌++◌, length, take, drop}
 use Rattle.std.specs.Prelude.{Option, Some, None, is_some, if◌then◌else◌}
@@ -9,19 +9,20 @@ use Rattle.disk.specs.Crashes.{Only}
 use Rattle.disk.specs.declared.device.Area.{Area}
 use Rattle.disk.specs.declared.device.Area.TheVariants.{A, B}
 
--- the length that an area tells in its first eight bytes, the highest first
+-- the length that the first eight bytes of an area say, big-endian
 unfoldable pub told : List ℕ → ℕ
 told held = from_be_bytes w64 (take 8 held)
 
--- The image that an area holds: as many bytes as it tells, behind that length. What follows is
--- ignored. There is none where the area is too short, or tells more than an image may have.
+-- The image that an area holds: as many bytes as the length says, right after that length. What
+-- follows is ignored. An area that is too short, or says a length greater than an image may have,
+-- holds no image.
 unfoldable pub recorded : List ℕ → Option (List ℕ)
 recorded held =
     if leb 8 (length held) && leb (told held) GREATEST_IMAGE && leb (told held + 8) (length held)
     then Some (take (told held) (drop 8 held))
     else None
 
--- an area tells how long its image is, and an image may be so long
+-- an area says how long its image is, and an image may have that length
 abbrev pub TellsLength : List ℕ → Type 0
 TellsLength held = (8 ≤ length held) × (told held ≤ GREATEST_IMAGE)
 
@@ -29,7 +30,7 @@ TellsLength held = (8 ≤ length held) × (told held ≤ GREATEST_IMAGE)
 unfoldable pub record_of : List ℕ → List ℕ
 record_of image = to_be_bytes w64 (length image) ++ image
 
--- which area the selector selects: B, where this is true, for an odd byte; none, where it is empty
+-- which area the selector selects: an odd byte selects B (true), an even one A; none if it is empty
 abbrev pub side : List ℕ → Option Bool
 side [] = None
 side (s ∷ rest) = Some (s % 2 == 1)
@@ -44,11 +45,11 @@ image_at None d = None
 image_at (Some true) d = recorded d.b
 image_at (Some false) d = recorded d.a
 
--- the image that a disk opens to: that of the area that is selected
+-- the image that a disk opens to: that of the selected area
 abbrev pub opened : Areas → Option (List ℕ)
 opened d = image_at (side d.select) d
 
--- an area is selected, and it tells how long its image is
+-- an area is selected, and it says how long its image is
 abbrev pub SelectsLength : Areas → Type 0
 SelectsLength d =
     (in_b : Bool) × (side d.select ≡ Some in_b) × TellsLength (part (half in_b) d)
@@ -65,7 +66,7 @@ OldOrNew old new c = (opened c ≡ old) ⊎ (opened c ≡ Some new)
 abbrev pub NoneOrNew : List ℕ → Areas → Type 0
 NoneOrNew new c = (c.select ≡ []) ⊎ (opened c ≡ Some new)
 
--- a crash leaves what a read gives, this side is selected, and there is an image on it
+-- a crash leaves what a read gives, this side is selected, and it holds an image
 abbrev pub IsSettled : {D : Type 0} (seen : D → Areas) (may_leave : D → Areas → Type 0) →
     D → Bool → Type 0
 IsSettled seen may_leave disk in_b =

@@ -1,5 +1,5 @@
-//! A disk as those who save on it see it: what a read gives, and what a crash may leave. Only a
-//! sync that is Ok makes the two one.
+//! A disk as its users see it: what a read gives, and what a crash may leave. Only a successful
+//! sync makes the two the same.
 ghost use Rattle.std.specs.Prelude.{◌≡◌, ◌≤◌, ◌↔◌, ℕ, length, IfOk, IsErr, IsErrOf, OnOk, OnErr};
 ghost use Rattle.disk.specs.Areas.{Areas, part, Changes, Holds, Torn, Reads};
 ghost use Rattle.disk.specs.Crashes.{Follows, Reaches, Only, Elapses, HasCause};
@@ -7,7 +7,7 @@ ghost use Rattle.disk.specs.Crashes.{Follows, Reaches, Only, Elapses, HasCause};
 /// One of the three areas of a disk. Each holds bytes, at first none.
 #[derive(Clone, Copy, Debug, PartialEq, Eq)]
 pub enum Area {
-    /// Tells by its first byte which of the other two counts.
+    /// The selector: its first byte says which of the other two areas counts.
     Select,
     A,
     B,
@@ -22,12 +22,13 @@ pub enum DiskFault {
     Memory,
 }
 
-/// Three areas of bytes that can be read, written and synced, and what a crash may make of them.
+/// Three areas of bytes that can be read, written and synced, and what a crash may leave of them.
 ///
-/// Until a sync is Ok, a crash may leave any bytes in each range that was written, also where the
-/// device failed in the write, and what of the range lies past the area's old end may be missing
-/// from some byte on: each of these outcomes may come, and no other. Bytes outside those ranges
-/// stay. After a sync that is Ok a crash leaves what a read gives.
+/// Until a sync succeeds, a crash may leave any bytes in each range that was written (a torn
+/// write), even if the device failed during the write. The part of the range past the area's old
+/// end may be missing from some byte on. Each of these outcomes is possible, and no other. Bytes
+/// outside those ranges stay as they were. After a successful sync, a crash leaves what a read
+/// gives.
 pub trait Disk {
     /// What a read gives.
     ghost seen: { Self → Areas };
@@ -35,17 +36,18 @@ pub trait Disk {
     /// What a crash at this moment may leave.
     ghost may_leave: { Self → Areas → Type 0 };
 
-    /// This moment, as a number that doesn't fall.
+    /// This moment, as a number that never decreases.
     ghost moment: { Self → ℕ };
 
-    /// What a crash at some moment from that one on may have left, within a call or between two.
+    /// What a crash at any moment since the given one may have left, within a call or between two
+    /// calls.
     ghost left_since: { Self → ℕ → Areas → Type 0 };
 
     /// How many calls have failed.
     ghost faults: { Self → ℕ };
 
-    /// Reads the bytes of an area from the offset `at` on, and answers how many: fewer than asked
-    /// for only where the area ends. After a failure `into` may hold anything.
+    /// Reads the bytes of an area from the offset `at` on, and returns how many were read: fewer
+    /// than asked for only if the area ends. After a failure, `into` may hold anything.
     fn read(&mut self, area: Area, at: usize, into: &mut [u8]) -> Result<usize, DiskFault>
         ensures bytes { IfOk result (λ n.
             Reads (part area (seen self.old)) at n into.old into.new) }
@@ -56,10 +58,10 @@ pub trait Disk {
             (left_since self.old) (left_since self.new) (may_leave self.new) }
         ensures cause { HasCause (faults self.old) (faults self.new) (IsErr result) };
 
-    /// Writes over what is there, and past the end. Where the device fails, a read gives some bytes
-    /// in the range, past the old end perhaps from some byte on none, and the same ones each time;
-    /// a crash may leave the same as after a write that is Ok. Where memory is refused, nothing has
-    /// changed.
+    /// Overwrites bytes from the offset `at` on, and extends the area if they go past its end. If
+    /// the device fails, a read gives some bytes in the range, the same ones each time; past the
+    /// old end they may be missing from some byte on. A crash may then leave the same as after a
+    /// successful write. If memory runs out, nothing has changed.
     fn write_at(&mut self, area: Area, at: usize, bytes: &[u8]) -> Result<(), DiskFault>
         requires { at ≤ length (part area (seen self.old)) }
 
@@ -80,8 +82,8 @@ pub trait Disk {
             (left_since self.old) (left_since self.new) (may_leave self.new) }
         ensures cause { HasCause (faults self.old) (faults self.new) (IsErr result) };
 
-    /// After it, a crash leaves what a read gives. A failure leaves what a crash may leave as it
-    /// was.
+    /// After success, a crash leaves what a read gives. A failure doesn't change what a crash may
+    /// leave.
     fn sync(&mut self) -> Result<(), DiskFault>
         ensures durable { OnOk result (Only (seen self.old) (may_leave self.new)) }
         ensures seen { seen self.new ≡ seen self.old }
@@ -91,7 +93,7 @@ pub trait Disk {
             (left_since self.old) (left_since self.new) (may_leave self.new) }
         ensures cause { HasCause (faults self.old) (faults self.new) (IsErr result) };
 
-    /// How many calls have failed. It grows with each, up to the greatest number that it can tell.
+    /// How many calls have failed. Each failure increases it, up to the greatest number of 64 bits.
     fn failures(&self) -> u64
         ensures { result ≡ faults self.now };
 
@@ -102,7 +104,7 @@ pub trait Disk {
     ghost counts_now: { (disk : Self) (t : ℕ) (c : Areas) →
         t ≤ moment disk → may_leave disk c → left_since disk t c };
 
-    /// Since this moment there is no other.
+    /// Since this moment there is no other one.
     ghost only_now: { (disk : Self) (c : Areas) →
         left_since disk (moment disk) c → may_leave disk c };
 }

@@ -1,13 +1,13 @@
-//! A disk in three files of a folder. It keeps what they hold and says only that; where something
-//! failed, it compares or writes again before a sync is Ok.
+//! A disk in three files of a folder. It keeps a copy of what the files hold, and answers only from
+//! that copy. After a failure it compares the files or writes them again before a sync succeeds.
 //!
-//! A read compares the file with what is kept, also where the file ends; other bytes are a failure.
-//! A write is noted before the file is touched; short writes are gone on with, interrupted calls
-//! made again. Where the write fails, its range is read anew and taken as it is found, and the next
-//! sync first compares all files, and fails while they differ. After a sync that failed, the next
-//! one first writes each range again that was written since the last good one: the system may have
-//! dropped what it couldn't write, and would answer Ok. The file `select` is locked as long as the
-//! disk is there.
+//! A read compares the file with the copy, including its end; a difference is a failure. A write is
+//! recorded before the file is touched. Short writes are continued, and interrupted calls repeated.
+//! If a write fails, its range is read back and accepted as it is found; the next sync first
+//! compares all files, and fails while they differ. After a failed sync, the next one first
+//! rewrites each range that was written since the last successful one, because the system may have
+//! dropped what it couldn't write and would then report success. The file `select` is locked while
+//! the disk exists.
 ghost use Rattle.std.specs.Prelude.{◌≡◌, ◌⊎◌, ◌≤◌, length, IfErr, IfOk, OnOk};
 ghost use Rattle.disk.specs.Areas.{Areas, Changes, Torn, part};
 ghost use Rattle.disk.specs.Memory.{blank, held_by};
@@ -28,30 +28,30 @@ const PIECE: usize = 4096;
 
 /// A disk in the files `select`, `a` and `b` of a folder, one for each area.
 ///
-/// It keeps what the files hold, and what it says of itself is said by that. So a read that finds
-/// other bytes in a file is a failure. After a write that failed, a sync fails while a file holds
-/// other bytes; after a sync that failed, the next one writes again what it has to vouch for.
+/// It keeps a copy of what the files hold, and answers from that copy. So a read that finds other
+/// bytes in a file is a failure. After a failed write, a sync fails while a file differs from the
+/// copy. After a failed sync, the next one rewrites what it has to vouch for.
 ///
-/// `F` is the type of the files: those of the system, or in tests others.
+/// `F` is the type of the files: the system's own, or others in tests.
 #[derive(Drop)]
 pub struct FileDisk<F = File> {
     select: F,
     a: F,
     b: F,
     memory: MemoryDisk,
-    // A write failed, so a file may hold other bytes than `memory` says.
+    // A write failed, so a file may hold other bytes than `memory` does.
     doubted: bool,
-    // A sync failed, so the system may have given up what it hadn't written.
+    // A sync failed, so the system may have dropped what it hadn't written.
     stale: bool,
 }
 
 impl FileDisk {
-    /// The disk in this folder. Folder and files are made where they are absent, and what is found
-    /// counts as unsynced. While the disk is there, the folder is refused to others.
+    /// Opens the disk in this folder. A missing folder or file is created, and what is found counts
+    /// as unsynced. While this disk exists, no other one can be opened in the folder.
     ///
-    /// Refused Disk where the system refuses something, where one of the files isn't a regular
-    /// file, or where another `FileDisk` is in the folder; refused Memory where what the files hold
-    /// is more than there is memory for.
+    /// Fails with `Disk` if the system refuses something, if one of the files isn't a regular file,
+    /// or if another `FileDisk` has the folder open. Fails with `Memory` if there isn't enough
+    /// memory for what the files hold.
     pub fn at<R: Files<File = File>>(rt: &R, alloc: Global, folder: &str) -> Result<Self, Refusal>
         ensures unsynced { IfOk result (λ d. IsUnsynced d.memory.state) }
         ensures refused { IfErr result (λ e. (e ≡ Refusal.Disk) ⊎ (e ≡ Refusal.Memory)) }
@@ -64,7 +64,7 @@ impl FileDisk {
     }
 }
 
-/// The disk in this folder, or why the system or the allocator refused.
+/// The disk in this folder, or the error of the system or the allocator.
 fn open_folder<R: Files<File = File>>(
     rt: &R,
     alloc: Global,
@@ -77,7 +77,7 @@ fn open_folder<R: Files<File = File>>(
     sync_folder(rt, folder)?;
     let mut memory = MemoryDisk::new(alloc);
     load_all(alloc, &mut memory, &mut select, &mut a, &mut b)?;
-    // The files were just read.
+    // The files have just been read, so nothing needs a comparison or a second write.
     Ok(FileDisk {
         select,
         a,
@@ -88,8 +88,8 @@ fn open_folder<R: Files<File = File>>(
     })
 }
 
-/// Opens the three files of a folder, or makes them. The file `select` is locked before the others
-/// are touched.
+/// Opens the three files of a folder, or creates them. The file `select` is locked before the
+/// others are touched.
 fn open_files<R: Files<File = File>>(
     rt: &R,
     alloc: Global,
@@ -102,7 +102,7 @@ fn open_files<R: Files<File = File>>(
     Ok((select, a, b))
 }
 
-/// Makes a folder, and those above it, where they are absent. Each is synced into the one above it.
+/// Creates a folder, and those above it, if they are missing. Each is synced into the one above it.
 fn make_folder<R: Files<File = File>>(rt: &R, alloc: Global, folder: Path<'_>) -> io::Result<()> {
     let mut absent = absent_folders(rt, alloc, folder)?;
     while let Some(path) = absent.pop() {
@@ -111,7 +111,7 @@ fn make_folder<R: Files<File = File>>(rt: &R, alloc: Global, folder: Path<'_>) -
     Ok(())
 }
 
-/// Those of a folder and the ones above it that are absent, the lowest first.
+/// The folder and those above it that are missing, the lowest first.
 fn absent_folders<'a, R: Files<File = File>>(
     rt: &R,
     alloc: Global,
@@ -132,12 +132,12 @@ fn absent_folders<'a, R: Files<File = File>>(
     Ok(absent)
 }
 
-/// Whether a folder with a name isn't there.
+/// Whether a folder with a name is missing.
 fn is_absent<R: Files<File = File>>(rt: &R, folder: Path<'_>) -> io::Result<bool> {
     Ok(!folder.as_str().is_empty() && !folder.try_exists(rt)?)
 }
 
-/// Makes a folder where it is absent, and syncs it into the one above it.
+/// Creates a folder if it is missing, and syncs it into the one above it.
 fn make_below<R: Files<File = File>>(rt: &R, folder: Path<'_>) -> io::Result<()> {
     create(rt, folder)?;
     match folder.parent() {
@@ -146,7 +146,7 @@ fn make_below<R: Files<File = File>>(rt: &R, folder: Path<'_>) -> io::Result<()>
     }
 }
 
-/// Makes a folder where it is absent.
+/// Creates a folder if it is missing.
 fn create<R: Files<File = File>>(rt: &R, folder: Path<'_>) -> io::Result<()> {
     match fs::create_dir(rt, folder) {
         Err(error) if error.kind() == ErrorKind::AlreadyExists => Ok(()),
@@ -154,7 +154,7 @@ fn create<R: Files<File = File>>(rt: &R, folder: Path<'_>) -> io::Result<()> {
     }
 }
 
-/// Opens a file of a folder, or makes it.
+/// Opens a file of a folder, or creates it.
 fn open_file<R: Files<File = File>>(
     rt: &R,
     alloc: Global,
@@ -165,7 +165,7 @@ fn open_file<R: Files<File = File>>(
     open_regular(rt, path.as_path())
 }
 
-/// Opens a file, or makes it. It is refused where it isn't a regular one.
+/// Opens a file, or creates it. Fails if it isn't a regular file.
 fn open_regular<R: Files<File = File>>(rt: &R, path: Path<'_>) -> io::Result<File> {
     let file = open_or_make(rt, path)?;
     if !file.metadata()?.is_file() {
@@ -174,14 +174,14 @@ fn open_regular<R: Files<File = File>>(rt: &R, path: Path<'_>) -> io::Result<Fil
     Ok(file)
 }
 
-/// Opens a file to read and write it, or makes it.
+/// Opens a file to read and write it, or creates it.
 fn open_or_make<R: Files<File = File>>(rt: &R, path: Path<'_>) -> io::Result<File> {
     let mut options = OpenOptions::new();
     options.read(true).write(true).create(true);
     options.open(rt, path)
 }
 
-/// Locks a file, which is refused while another has it locked.
+/// Locks a file; fails if somebody else has locked it.
 fn lock(file: &File) -> io::Result<()> {
     if file.try_lock().is_err() {
         return Err(ErrorKind::ResourceBusy.into());
@@ -189,7 +189,7 @@ fn lock(file: &File) -> io::Result<()> {
     Ok(())
 }
 
-/// After it, the names in a folder stay over a crash.
+/// Makes the names in a folder survive a crash.
 fn sync_folder<R: Files<File = File>>(rt: &R, folder: Path<'_>) -> io::Result<()> {
     let path = if folder.as_str().is_empty() {
         Path::new(".")
@@ -199,7 +199,7 @@ fn sync_folder<R: Files<File = File>>(rt: &R, folder: Path<'_>) -> io::Result<()
     File::open(rt, path)?.sync_all()
 }
 
-/// Reads the three files whole into a disk that holds nothing. What they hold counts as unsynced.
+/// Reads the three files whole into an empty disk. Their content counts as unsynced.
 fn load_all(
     alloc: Global,
     memory: &mut MemoryDisk,
@@ -216,7 +216,7 @@ fn load_all(
     load(alloc, memory, Area::B, b)
 }
 
-/// Reads a file whole. What it holds counts as unsynced.
+/// Reads a file whole. Its content counts as unsynced.
 fn load(alloc: Global, memory: &mut MemoryDisk, area: Area, file: &mut File) -> io::Result<()>
     ensures { OnOk result (Loaded area memory.old.state memory.new.state) }
 {
@@ -231,7 +231,7 @@ fn load(alloc: Global, memory: &mut MemoryDisk, area: Area, file: &mut File) -> 
 }
 
 impl<F: FileExt + OpenFile> FileDisk<F> {
-    /// The disk in these files, which are to hold what `memory` says. That isn't taken on trust:
+    /// The disk in these files, which should hold what `memory` holds. That isn't taken on trust:
     /// the first sync compares them, and fails while they differ.
     pub fn over(select: F, a: F, b: F, memory: MemoryDisk) -> Self
         ensures { result.memory ≡ memory }
@@ -254,7 +254,7 @@ impl<F: FileExt + OpenFile> FileDisk<F> {
         }
     }
 
-    /// Whether each file holds what `memory` says.
+    /// Whether each file holds what `memory` holds.
     fn agrees(&self) -> bool {
         [Area::Select, Area::A, Area::B].iter().all(|area| holds(
             self.file(*area),
@@ -264,7 +264,7 @@ impl<F: FileExt + OpenFile> FileDisk<F> {
         ))
     }
 
-    /// Writes each range again that was written since the last sync.
+    /// Rewrites each range that was written since the last sync.
     fn write_again(&self) -> io::Result<()> {
         for range in &self.memory.state.ranges {
             self.write_range(range)?;
@@ -283,8 +283,8 @@ impl<F: FileExt + OpenFile> FileDisk<F> {
         self.file(range.area).write_all_at(bytes, range.at as u64)
     }
 
-    /// Takes what stands in a range of a file after a write there has failed. Where that can't be
-    /// read, or the file lost bytes, the disk holds what it held.
+    /// Accepts what is in a range of a file after a write there has failed. If the file can't be
+    /// read, or lost bytes, the disk keeps what it held.
     fn look_again(&mut self, area: Area, at: usize, len: usize)
         requires { at ≤ length (part area (areas_of self.old.memory.state.held)) }
 
@@ -306,8 +306,8 @@ impl<F: FileExt + OpenFile> FileDisk<F> {
         }
     }
 
-    /// Writes the files through to the device, once they are known to hold what `memory` says.
-    /// Whether they do, and all went well.
+    /// Writes the files through to the device, once they are known to hold what `memory` holds.
+    /// Returns whether they do and everything succeeded.
     fn write_through(&mut self) -> bool
         ensures { self.new.memory ≡ self.old.memory }
     {
@@ -331,7 +331,7 @@ impl<F: FileExt + OpenFile> FileDisk<F> {
     }
 }
 
-/// What a file holds in a range, as far as it goes.
+/// What a file holds in a range, up to the end of the file.
 fn read_range<F: FileExt>(alloc: Global, file: &F, at: usize, len: usize) -> io::Result<Vec<u8>>
     ensures { IfOk result (λ v. length v.items ≤ len) }
 {
@@ -352,7 +352,7 @@ fn read_range<F: FileExt>(alloc: Global, file: &F, at: usize, len: usize) -> io:
     Ok(found)
 }
 
-/// Whether a file ends where this offset is, or before.
+/// Whether a file ends at this offset or before it.
 fn ends_at<F: FileExt>(file: &F, offset: u64) -> bool {
     match file.read_exact_at(&mut [0; 1], offset) {
         Ok(()) => false,
@@ -360,13 +360,13 @@ fn ends_at<F: FileExt>(file: &F, offset: u64) -> bool {
     }
 }
 
-/// Whether a file holds these bytes at this offset, of which at most `PIECE` are compared.
+/// Whether a file holds these bytes at this offset; at most `PIECE` bytes are compared.
 fn holds_piece<F: FileExt>(file: &F, offset: u64, bytes: &[u8], piece: &mut [u8; PIECE]) -> bool {
     let found = &mut piece[..bytes.len().min(PIECE)];
     file.read_exact_at(found, offset).is_ok() && &*found == bytes
 }
 
-/// Whether a file holds these bytes at this offset, and, where `ends` is true, nothing behind them.
+/// Whether a file holds these bytes at this offset and, if `ends` is true, nothing after them.
 fn holds<F: FileExt>(file: &F, at: usize, bytes: &[u8], ends: bool) -> bool {
     let mut piece = [0; PIECE];
     let mut offset = at as u64;
@@ -400,7 +400,7 @@ impl<F: FileExt + OpenFile> Disk for FileDisk<F> {
     }
 
     fn write_at(&mut self, area: Area, at: usize, bytes: &[u8]) -> Result<(), DiskFault> {
-        // The range is noted before the file is touched.
+        // The range is recorded before the file is touched.
         let next = self.memory.begin(area, at, bytes)?;
         if self.file(area).write_all_at(bytes, at as u64).is_err() {
             self.doubted = true;

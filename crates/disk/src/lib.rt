@@ -1,8 +1,8 @@
-//! Disks of three areas that a crash may tear, and the saving of values on them so that a crash at
-//! any moment leaves the old value or the new one.
+//! Disks of three areas in which a crash may tear writes, and crash-consistent saving on them: a
+//! crash at any moment leaves the old value or the new one.
 //!
-//! What a disk does is said by ghost members of [`Disk`]: what a read gives, what a crash now may
-//! leave, and what a crash at any moment since an earlier one may have left.
+//! Ghost members of [`Disk`] say what a disk does: what a read gives, what a crash now may leave,
+//! and what a crash at any moment since an earlier one may have left.
 #![tactic(auto)]
 
 mod device;

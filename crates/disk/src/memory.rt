@@ -1,5 +1,5 @@
-//! A disk in memory, which can be told to fail and to crash. It keeps what areas held at the last
-//! sync only as long as a crash may bring that back.
+//! A disk in memory, which can be made to fail and to crash. It keeps what an area held at the last
+//! sync only while a crash may bring that back.
 ghost use Rattle.std.specs.Prelude.{◌≡◌, ◌≤◌, ◌↔◌, length, IfOk, IfErr, IsErr, IsErrOf, OnOk};
 ghost use Rattle.std.specs.Prelude.{IsTrue, OnErr, ⊤};
 ghost use Rattle.disk.specs.Areas.{Areas, Changes, Holds, Reads, Torn, part, pasted};
@@ -15,11 +15,11 @@ use ids::Refusal;
 use std::alloc::Global;
 use std::snapshot::Snapshot;
 
-/// A disk in memory. It fails where [`fail_from`](MemoryDisk::fail_from) or
-/// [`fail_once`](MemoryDisk::fail_once) said so last, and where it is refused memory for its record.
+/// A disk in memory. It fails as the last call of [`fail_from`](MemoryDisk::fail_from) or
+/// [`fail_once`](MemoryDisk::fail_once) said, and when there is no memory for its record.
 ///
-/// It keeps what it holds and, until the next sync that is Ok, what an area held at the last one
-/// and a few words for each write.
+/// It keeps its current content and, until the next successful sync, what each written area held at
+/// the last one, and a few words for each write.
 #[derive(Drop)]
 pub struct MemoryDisk {
     pub(crate) alloc: Global,
@@ -29,8 +29,8 @@ pub struct MemoryDisk {
     pub(crate) failures: u64,
 }
 
-/// Copies what `held` has from the offset `at` on to the front of `into`, as far as both go, and
-/// answers how much.
+/// Copies the bytes of `held` from the offset `at` on to the front of `into`, as many as both
+/// allow, and returns how many.
 fn copy_out(held: &[u8], at: usize, into: &mut [u8]) -> usize
     ensures { Reads held.now at result into.old into.new }
 {
@@ -67,7 +67,8 @@ impl MemoryDisk {
         }
     }
 
-    /// From now on the `k`-th read, write or sync and all later ones fail; for 0, as for 1, all do.
+    /// From now on, the `k`-th read, write or sync and all later ones fail; 0 means the same as 1:
+    /// all fail.
     pub fn fail_from(&mut self, k: u64)
         ensures plan { self.new.plan ≡ fails_from k }
         ensures state { self.new.state ≡ self.old.state }
@@ -79,7 +80,8 @@ impl MemoryDisk {
         };
     }
 
-    /// The `k`-th read, write or sync from now fails, for 0 as for 1 the next, and no later one.
+    /// The `k`-th read, write or sync from now on fails, and no later one; 0 means the same as 1:
+    /// the next one.
     pub fn fail_once(&mut self, k: u64)
         ensures plan { self.new.plan ≡ fails_once k }
         ensures state { self.new.state ≡ self.old.state }
@@ -116,8 +118,8 @@ impl MemoryDisk {
         self.state.settle(self.alloc);
     }
 
-    // One moment more is over, and a crash may leave any bytes in this range. Where memory for the
-    // record is refused, all is as it was.
+    // One more moment has passed, and a crash may leave any bytes in this range. If there is no
+    // memory for the record, nothing changes.
     pub(crate) fn risk(&mut self, area: Area, at: usize, len: usize) -> Result<(), DiskFault>
         ensures held { self.new.state.held ≡ self.old.state.held }
         ensures crash { Follows (Changes area (Torn at len))
@@ -138,8 +140,8 @@ impl MemoryDisk {
         }
     }
 
-    // An area as it is to be once these bytes are written at this offset. From now on a crash may
-    // leave any bytes in their range. Where memory is refused, all is as it was.
+    // The content that an area will have once these bytes are written at this offset. A crash now
+    // may leave any bytes in their range. If memory runs out, nothing changes.
     pub(crate) fn begin(
         &mut self,
         area: Area,
@@ -175,8 +177,9 @@ impl MemoryDisk {
         Ok(next)
     }
 
-    /// The disk that a crash now leaves where each byte that was written since the last sync became
-    /// `fill`. Nothing of it fails, and a crash leaves it so.
+    /// The disk that a crash now leaves if each byte that was written since the last sync became
+    /// `fill`. None of its calls fail, and a crash leaves it as it is. Fails with `Memory` if an
+    /// allocation fails.
     pub fn after_crash(&self, fill: u8) -> Result<MemoryDisk, Refusal>
         ensures filled { IfOk result (λ d. held_by d ≡ filled_by_crash fill self.now) }
         ensures left { IfOk result (λ d. left_by self.now (held_by d)) }
@@ -200,7 +203,7 @@ impl Disk for MemoryDisk {
 
     ghost faults = { λ d. d.failures };
 
-    /// It fails only where it was told so.
+    /// Fails only as planned.
     fn read(&mut self, area: Area, at: usize, into: &mut [u8]) -> Result<usize, DiskFault>
         ensures bytes { IfOk result (λ n.
             Reads (part area (areas_of self.old.state.held)) at n into.old into.new) }
@@ -216,7 +219,7 @@ impl Disk for MemoryDisk {
         Ok(copy_out(self.state.held.part(area), at, into))
     }
 
-    /// Where it fails, a read gives what it gave before.
+    /// If it fails, a read gives what it gave before.
     fn write_at(&mut self, area: Area, at: usize, bytes: &[u8]) -> Result<(), DiskFault>
         requires { at ≤ length (part area (areas_of self.old.state.held)) }
 
@@ -250,7 +253,7 @@ impl Disk for MemoryDisk {
         Ok(())
     }
 
-    /// It fails only where it was told so.
+    /// Fails only as planned.
     fn sync(&mut self) -> Result<(), DiskFault>
         ensures durable { OnOk result
             (Only (areas_of self.old.state.held) (leaves self.new.state)) }

@@ -1,29 +1,28 @@
-//! How a shelf keeps values: each as bytes, its image. A value that is read again may differ from
-//! the one that was saved in what its image doesn't say.
+//! How a shelf keeps values: each as bytes, its image. A value that is read back may differ from
+//! the saved one in what its image doesn't hold.
 ghost use Rattle.std.specs.Prelude.{◌≡◌, ◌≢◌, ◌<◌, ◌≤◌, List, ℕ, length, IfErr, IfOk, OnOk};
 ghost use Rattle.ids.specs.declared.limits.TheConstants.{GREATEST_IMAGE};
 
 use ids::Refusal;
 use std::alloc::Global;
 
-/// A way to save values as bytes, their images. It is a type beside that of the values, so that
-/// their crate and this one need nothing of each other.
+/// A way to save values as bytes, their images. It is a separate type from the values' own, so that
+/// their crate and this one don't depend on each other.
 pub trait Persist {
-    /// What is saved.
+    /// The type of what is saved.
     type Value;
 
-    /// The bytes that stand for a value.
+    /// The bytes that represent a value.
     ghost image: { Self.Value → List ℕ };
 
     /// These bytes are read as this value.
     ghost reads: { List ℕ → Self.Value → Type 0 };
 
-    /// A value as it is read again once it was saved.
+    /// The value that is read back after this one was saved.
     ghost saved: { Self.Value → Self.Value };
 
-    /// The value's image, which [`from_bytes`](Persist::from_bytes) reads as the value as it is
-    /// once it was saved. Refused ImageTooLarge where it is longer than an image may be, else
-    /// Memory.
+    /// The value's image. [`from_bytes`](Persist::from_bytes) reads it as the value once saved.
+    /// Fails with `ImageTooLarge` if the image is longer than an image may be, else with `Memory`.
     fn to_bytes(alloc: Global, value: &Self::Value) -> Result<Vec<u8>, Refusal>
         ensures bytes { IfOk result (λ v. v.items ≡ image value.now) }
         ensures within { OnOk result (length (image value.now) ≤ GREATEST_IMAGE) }
@@ -33,7 +32,8 @@ pub trait Persist {
         ensures last { IfErr result (λ e. e ≡ Refusal.Memory
             → length (image value.now) ≤ GREATEST_IMAGE) };
 
-    /// The value as which these bytes are read. Refused BadImage where there is none, and Memory.
+    /// The value that these bytes are read as. Fails with `BadImage` if there is no such value, and
+    /// with `Memory`.
     fn from_bytes(alloc: Global, bytes: &[u8]) -> Result<Self::Value, Refusal>
         ensures value { IfOk result (λ v. reads bytes.now v) }
         ensures refused { IfErr result (λ e. e ≢ Refusal.Memory

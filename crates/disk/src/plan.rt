@@ -1,5 +1,5 @@
-//! Which calls of a disk in memory fail: all from one on, or one alone. So a case can make a device
-//! fail at each of its calls.
+//! Which calls of a disk in memory fail: all from one on, or a single one. So a test can make a
+//! device fail at each of its calls.
 ghost use Rattle.std.specs.Prelude.{◌≡◌};
 ghost use Rattle.disk.specs.Plan.{is_due, one_less};
 
@@ -7,9 +7,9 @@ ghost use Rattle.disk.specs.Plan.{is_due, one_less};
 #[derive(Clone, Copy)]
 pub enum Plan {
     Never,
-    /// All but so many that go well first.
+    /// All except the first `good` ones, which succeed.
     From { good: u64 },
-    /// One, after so many that go well.
+    /// One, after `good` ones that succeed.
     Once { good: u64 },
 }
 

@@ -1,5 +1,5 @@
-//! The calls of a disk by which an image is saved and found again, without the value that it stands
-//! for. Each function makes few of them, so that its contract tells what a crash leaves after each.
+//! The disk calls that save an image and find it again, without the value that it represents. Each
+//! function makes only a few calls, so that its contract says what a crash leaves after each.
 ghost use Rattle.std.specs.Prelude.{◌≡◌, ◌≢◌, ◌⊎◌, ◌%◌, ◌==◌, ◌≤◌, [], length, IfErr, IfOk, IsErr};
 ghost use Rattle.std.specs.Prelude.{IsErrOf, OnOk, Some, None, false, not};
 ghost use Rattle.ids.specs.declared.refusal.Refusal.TheVariants.{Disk as DiskRefused};
@@ -21,7 +21,7 @@ impl From<DiskFault> for Refusal {
     }
 }
 
-/// How many bytes tell the length of an image.
+/// How many bytes hold the length of an image.
 const HEAD: usize = 8;
 
 /// The area on a side.
@@ -49,7 +49,7 @@ pub(crate) fn record(alloc: Global, image: &[u8]) -> Result<Vec<u8>, AllocError>
     Ok(bytes)
 }
 
-/// Writes an area from its start on, and syncs.
+/// Writes an area from its start, and syncs.
 fn put<D: Disk>(disk: &mut D, area: Area, bytes: &[u8]) -> Result<(), DiskFault>
     requires { Only (D.seen disk.old) (D.may_leave disk.old) }
 
@@ -64,7 +64,7 @@ fn put<D: Disk>(disk: &mut D, area: Area, bytes: &[u8]) -> Result<(), DiskFault>
     disk.sync()
 }
 
-/// Writes A and B from their starts on.
+/// Writes A and B from their starts.
 fn write_both<D: Disk>(disk: &mut D, bytes: &[u8]) -> Result<(), DiskFault>
     requires { (c : Areas) → D.may_leave disk.old c → c.select ≡ [] }
 
@@ -78,7 +78,7 @@ fn write_both<D: Disk>(disk: &mut D, bytes: &[u8]) -> Result<(), DiskFault>
     disk.write_at(Area::B, 0, bytes)
 }
 
-/// Writes A and B from their starts on, and syncs.
+/// Writes A and B from their starts, and syncs.
 fn put_both<D: Disk>(disk: &mut D, bytes: &[u8]) -> Result<(), DiskFault>
     requires { (c : Areas) → D.may_leave disk.old c → c.select ≡ [] }
 
@@ -92,7 +92,7 @@ fn put_both<D: Disk>(disk: &mut D, bytes: &[u8]) -> Result<(), DiskFault>
     disk.sync()
 }
 
-/// Lays the first image of a disk, by these bytes: into both areas, so that a torn selector opens
+/// Saves the first image of a disk, as these bytes: into both areas, so that a torn selector opens
 /// to it too.
 pub(crate) fn lay<D: Disk>(disk: &mut D, image: &[u8], bytes: &[u8]) -> Result<(), DiskFault>
     requires blank { (c : Areas) → D.may_leave disk.old c → c.select ≡ [] }
@@ -109,7 +109,7 @@ pub(crate) fn lay<D: Disk>(disk: &mut D, image: &[u8], bytes: &[u8]) -> Result<(
     put(disk, Area::Select, &[choice])
 }
 
-/// Writes an image, by these bytes, into the area that isn't selected, and then selects it.
+/// Writes an image, as these bytes, into the area that isn't selected, and then selects that area.
 pub(crate) fn swap<D: Disk>(
     disk: &mut D,
     in_b: bool,
@@ -131,8 +131,7 @@ pub(crate) fn swap<D: Disk>(
     put(disk, Area::Select, &[choice])
 }
 
-/// Reads as many bytes as `into` has, from the offset `at` of an area on. Whether there are so
-/// many.
+/// Fills `into` from the offset `at` of an area on. Returns whether there are enough bytes.
 fn read_whole<D: Disk>(
     disk: &mut D,
     area: Area,
@@ -148,8 +147,8 @@ fn read_whole<D: Disk>(
     Ok(found >= into.len())
 }
 
-/// How long the image of an area is, as its first bytes tell. Refused BadImage where there are too
-/// few, or they tell more than an image may have.
+/// The length of the image in an area, as its first bytes say. Fails with `BadImage` if there are
+/// too few bytes, or if the length is greater than an image may have.
 fn told_length<D: Disk>(disk: &mut D, area: Area) -> Result<usize, Refusal>
     ensures told { IfOk result (λ n. told (part area (D.seen disk.old)) ≡ n) }
     ensures tells { OnOk result (TellsLength (part area (D.seen disk.old))) }
@@ -169,8 +168,8 @@ fn told_length<D: Disk>(disk: &mut D, area: Area) -> Result<usize, Refusal>
     Ok(len as usize)
 }
 
-/// Reads the image that an area holds. Refused BadImage where there is none, and Memory where the
-/// area tells more than there is memory for.
+/// Reads the image that an area holds. Fails with `BadImage` if it holds none, and with `Memory` if
+/// there isn't enough memory for the length that the area says.
 pub(crate) fn load<D: Disk>(alloc: Global, disk: &mut D, area: Area) -> Result<Vec<u8>, Refusal>
     ensures image { IfOk result (λ v. recorded (part area (D.seen disk.old)) ≡ Some v.items) }
     ensures none { IsErrOf result Refusal.BadImage → recorded (part area (D.seen disk.old)) ≡ None }

@@ -1,6 +1,6 @@
-//! A place where one value is saved over and over, so that a crash leaves the old one or the new
-//! one. The image goes into the area that isn't selected; one byte of the selector then makes it
-//! the one that counts.
+//! A crash-consistent store of one value, which is saved over and over: a crash leaves the old
+//! value or the new one. The image is written into the area that isn't selected; one byte of the
+//! selector then makes it the one that counts.
 ghost use Rattle.std.specs.Prelude.{◌≡◌, ◌≢◌, ◌⊎◌, ◌↔◌, ◌<◌, ◌≤◌, List, ℕ, [], length};
 ghost use Rattle.std.specs.Prelude.{IfErr, IfOk, IsErr, IsErrOf, IsTrue, MatchResult, OnErr, OnOk};
 ghost use Rattle.std.specs.Prelude.{Some, true, false};
@@ -17,9 +17,9 @@ use std::alloc::Global;
 
 /// A disk that holds the image of a value, in the area that its selector selects.
 ///
-/// A save writes the other area, syncs, writes the selector, and syncs. A failure of the disk, and
-/// a refused [`reopen`](Shelf::reopen), close the shelf: saves are then refused Closed until a
-/// `reopen` is Ok, which tells whether the old value is there or the new one.
+/// A save writes the other area, syncs, writes the selector, and syncs. A failure of the disk
+/// closes the shelf, and so does a failed [`reopen`](Shelf::reopen). Saves then fail with `Closed`
+/// until a `reopen` succeeds, which shows whether the disk has the old value or the new one.
 pub struct Shelf<D: Disk> {
     alloc: Global,
     disk: D,
@@ -29,7 +29,7 @@ pub struct Shelf<D: Disk> {
     ghost settled: { IsTrue ready → IsSettled D.seen D.may_leave disk in_b },
 }
 
-// Written out, so that the crates above need not prove anew how each field is dropped.
+// Written out, so that the crates above need not prove again how each field is dropped.
 impl<D: Disk + Drop> Drop for Shelf<D> {
     fn drop(self) {
         let Shelf {
@@ -41,7 +41,7 @@ impl<D: Disk + Drop> Drop for Shelf<D> {
     }
 }
 
-/// Syncs a disk, and tells which side is selected.
+/// Syncs a disk, and returns which side is selected.
 fn synced_side<D: Disk>(disk: &mut D) -> Result<Option<bool>, DiskFault>
     ensures side { IfOk result (λ o. side (D.seen disk.old).select ≡ o) }
     ensures durable { OnOk result (Only (D.seen disk.new) (D.may_leave disk.new)) }
@@ -52,7 +52,7 @@ fn synced_side<D: Disk>(disk: &mut D) -> Result<Option<bool>, DiskFault>
     chosen(disk)
 }
 
-/// Whether nothing was ever created on a disk, once it is synced.
+/// Syncs a disk, and returns whether nothing was ever created on it.
 pub fn is_blank<D: Disk>(disk: &mut D) -> Result<bool, DiskFault>
     ensures exact { IfOk result (λ b. IsTrue b ↔ ((D.seen disk.old).select ≡ [])) }
     ensures blank { IfOk result (λ b.
@@ -64,8 +64,8 @@ pub fn is_blank<D: Disk>(disk: &mut D) -> Result<bool, DiskFault>
     Ok(side.is_none())
 }
 
-/// Syncs a disk, so that no crash takes back what is read, and then gives the image that it opens
-/// to and the side where that is.
+/// Syncs a disk, so that no crash takes back what is read, and then returns the image that it opens
+/// to and the side that holds it.
 fn recall_image<D: Disk>(alloc: Global, disk: &mut D) -> Result<(bool, Vec<u8>), Refusal>
     ensures side { IfOk result (λ r. side (D.seen disk.old).select ≡ Some r.0) }
     ensures image { IfOk result (λ r. opened (D.seen disk.old) ≡ Some r.1.items) }
@@ -86,8 +86,8 @@ fn recall_image<D: Disk>(alloc: Global, disk: &mut D) -> Result<(bool, Vec<u8>),
     Ok((in_b, image))
 }
 
-/// Gives the value that a disk holds, as [`recall_image`] gives its image, and the side where that
-/// is.
+/// Returns the value that a disk holds and the side that holds it; reads the image as
+/// [`recall_image`] does.
 fn recall<D: Disk, P: Persist>(alloc: Global, disk: &mut D) -> Result<(bool, P::Value), Refusal>
 where
     P::Value: Drop,
@@ -107,7 +107,8 @@ where
     Ok((in_b, value))
 }
 
-/// The image of a value, and what is written for it. Refused as [`Persist::to_bytes`], and Memory.
+/// The image of a value, and what is written for it. Fails as [`Persist::to_bytes`] does, and with
+/// `Memory`.
 fn spelled<P: Persist>(alloc: Global, value: &P::Value) -> Result<(Vec<u8>, Vec<u8>), Refusal>
     ensures image { IfOk result (λ r. r.0.items ≡ P.image value.now) }
     ensures bytes { IfOk result (λ r. r.1.items ≡ record_of (P.image value.now)) }
@@ -130,11 +131,11 @@ impl<D: Disk> Shelf<D> {
         self.ready
     }
 
-    /// Lays the first value on a disk on which nothing was created, as [`is_blank`] tells.
+    /// Saves the first value on a disk on which nothing was ever created; see [`is_blank`].
     ///
-    /// A crash within leaves an empty selector or the value; after Ok it leaves the value. Refused
-    /// as [`Persist::to_bytes`], Memory or Disk, and the disk comes back; it is as it was but
-    /// after Disk.
+    /// A crash during the call leaves an empty selector or the value; after `Ok` it leaves the
+    /// value. Fails as [`Persist::to_bytes`] does, with `Memory` or with `Disk`, and returns the
+    /// disk. The disk is unchanged except after `Disk`.
     pub fn create<P: Persist>(
         alloc: Global,
         mut disk: D,
@@ -173,12 +174,12 @@ impl<D: Disk> Shelf<D> {
         })
     }
 
-    /// Syncs a disk and gives the value that it holds, with a shelf that is open. After Ok a crash
+    /// Syncs a disk, and returns the value that it holds with an open shelf. After `Ok` a crash
     /// leaves that value.
     ///
-    /// Refused Disk where the device failed, BadImage where the disk holds no value, Memory where
-    /// it tells the length of an image and there is no memory for that or for the value; the disk
-    /// is then given up.
+    /// Fails with `Disk` if the device failed, and with `BadImage` if the disk holds no value.
+    /// Fails with `Memory` if the disk records a plausible length but there is no memory for the
+    /// image or the value. The disk is then dropped.
     pub fn open<P: Persist>(alloc: Global, mut disk: D) -> Result<(Shelf<D>, P::Value), Refusal>
     where
         D: Drop,
@@ -193,7 +194,7 @@ impl<D: Disk> Shelf<D> {
             Unmoved D.seen D.may_leave D.moment D.left_since disk r.0.disk) }
         ensures fine { IfOk result (λ r. D.faults r.0.disk ≡ D.faults disk) }
 
-        // The disk as it was when it was given up.
+        // The disk at the time when it was dropped.
         ensures given_up { IfErr result (λ e. (d : D)
             × Unmoved D.seen D.may_leave D.moment D.left_since disk d
             × HasCause (D.faults disk) (D.faults d) (e ≡ Refusal.Disk)) }
@@ -210,11 +211,11 @@ impl<D: Disk> Shelf<D> {
         Ok((shelf, value))
     }
 
-    /// Opens the shelf again by its own disk: syncs it and gives the value that it holds. After Ok
-    /// the shelf is open, and a crash leaves that value.
+    /// Opens the shelf again from its own disk: syncs it and returns the value that it holds. After
+    /// `Ok` the shelf is open, and a crash leaves that value.
     ///
-    /// Refused as [`open`](Shelf::open); the shelf is then closed, and its disk holds what it held,
-    /// also after a crash.
+    /// Fails as [`open`](Shelf::open) does; the shelf is then closed. Its disk holds what it held,
+    /// even after a crash.
     pub fn reopen<P: Persist>(&mut self) -> Result<P::Value, Refusal>
     where
         P::Value: Drop,
@@ -239,11 +240,12 @@ impl<D: Disk> Shelf<D> {
         Ok(value)
     }
 
-    /// Saves a value. A crash at any moment since leaves the old value or the new one; after Ok it
-    /// leaves the new one.
+    /// Saves a value. A crash at any moment since the call began leaves the old value or the new
+    /// one; after `Ok` it leaves the new one.
     ///
-    /// Refused Closed exactly while the shelf is closed, ImageTooLarge as `to_bytes`, Memory, and
-    /// Disk where the device failed. Disk closes the shelf; the others change nothing.
+    /// Fails with `Closed` exactly if the shelf is closed, with `ImageTooLarge` as `to_bytes` does,
+    /// with `Memory`, and with `Disk` if the device failed. `Disk` closes the shelf; the others
+    /// change nothing.
     pub fn save<P: Persist>(&mut self, value: &P::Value) -> Result<(), Refusal>
         ensures saved { OnOk result (opened (D.seen self.new.disk) ≡ Some (P.image value.now)) }
         ensures ready { OnOk result (self.new.ready ≡ true) }
@@ -279,8 +281,8 @@ impl Shelf<MemoryDisk> {
     ghost use Rattle.disk.specs.Memory.{held_by, left_by, filled_by_crash, IsFaultless};
     ghost use Rattle.disk.specs.Plan.{fails_from, fails_once};
 
-    /// From now on the `k`-th call of the disk and all later ones fail, as
-    /// [`MemoryDisk::fail_from`] says.
+    /// From now on, the `k`-th call of the disk and all later ones fail; see
+    /// [`MemoryDisk::fail_from`].
     pub fn fail_from(&mut self, k: u64)
         ensures plan { self.new.disk.plan ≡ fails_from k }
         ensures state { self.new.disk.state ≡ self.old.disk.state }
@@ -291,7 +293,8 @@ impl Shelf<MemoryDisk> {
         self.disk.fail_from(k);
     }
 
-    /// The `k`-th call of the disk from now fails, as [`MemoryDisk::fail_once`] says.
+    /// The `k`-th call of the disk from now on fails, and no later one; see
+    /// [`MemoryDisk::fail_once`].
     pub fn fail_once(&mut self, k: u64)
         ensures plan { self.new.disk.plan ≡ fails_once k }
         ensures state { self.new.disk.state ≡ self.old.disk.state }
@@ -302,7 +305,7 @@ impl Shelf<MemoryDisk> {
         self.disk.fail_once(k);
     }
 
-    /// The disk that a crash now leaves, as [`MemoryDisk::after_crash`] says.
+    /// The disk that a crash now leaves; see [`MemoryDisk::after_crash`].
     pub fn after_crash(&self, fill: u8) -> Result<MemoryDisk, Refusal>
         ensures filled { IfOk result (λ d. held_by d ≡ filled_by_crash fill self.now.disk) }
         ensures left { IfOk result (λ d. left_by self.now.disk (held_by d)) }

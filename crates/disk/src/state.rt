@@ -1,5 +1,5 @@
-//! What a disk in memory keeps of itself, and for proofs the states that it had. Of each write
-//! since the last sync it knows the range, which is where a crash may leave any bytes.
+//! What a disk in memory records of itself and, for proofs, the states that it had. It knows the
+//! range of each write since the last sync, which is what a crash may fill with any bytes.
 ghost use Rattle.std.specs.Prelude.{◌≡◌, ◌≤◌, ◌↔◌, [], length, IfOk, OnOk, OnErr};
 ghost use Rattle.disk.specs.Areas.{Areas, Changes, Torn, part, with_part, pasted};
 ghost use Rattle.disk.specs.Crashes.{Follows, Reaches};
@@ -24,23 +24,23 @@ pub struct Range {
     pub(crate) area: Area,
     pub(crate) at: usize,
     pub(crate) len: usize,
-    // What the disk held before they were written. Proofs alone read it: it has no bytes.
+    // What the disk held before they were written. Only proofs read it: it takes no bytes.
     pub(crate) before: Snapshot<Contents>,
 }
 
 /// What a disk holds now, what each area held at the last sync, and the ranges that were written
-/// since. A sync forgets all but what the disk holds.
+/// since. A sync discards everything except the current content.
 #[derive(Drop)]
 pub struct State {
     pub(crate) held: Contents,
-    // What the area held at the last sync, where it was written since.
+    // What the area held at the last sync, if it was written since.
     pub(crate) kept_select: Option<Vec<u8>>,
     pub(crate) kept_a: Option<Vec<u8>>,
     pub(crate) kept_b: Option<Vec<u8>>,
     pub(crate) ranges: Vec<Range>,
 }
 
-/// The states of the moments that are over. Proofs alone read it: a snapshot of it has no bytes.
+/// The states of the past moments. Only proofs read it: a snapshot of it takes no bytes.
 #[derive(Drop)]
 pub enum Past {
     Start,
@@ -75,7 +75,7 @@ impl Contents {
         }
     }
 
-    /// Makes each byte of a range this one.
+    /// Sets each byte of a range to this one.
     pub(crate) fn fill(&mut self, alloc: Global, range: &Range, fill: u8) -> Result<(), AllocError>
         ensures { OnOk result (areas_of self.new ≡ filled_in fill range.now (areas_of self.old)) }
     {
@@ -123,7 +123,7 @@ impl State {
         })
     }
 
-    /// What a crash leaves where each byte that was written since the last sync became `fill`.
+    /// What a crash leaves if each byte that was written since the last sync became `fill`.
     pub(crate) fn filled(&self, alloc: Global, fill: u8) -> Result<Contents, AllocError>
         ensures { IfOk result (λ c. areas_of c ≡ filled fill self.now) }
     {
@@ -134,7 +134,7 @@ impl State {
         Ok(left)
     }
 
-    /// An area as it is to be once these bytes are written at this offset.
+    /// The content that an area will have once these bytes are written at this offset.
     pub(crate) fn prepared(
         &self,
         alloc: Global,
@@ -150,7 +150,7 @@ impl State {
         pasted_copy(alloc, self.held.part(area), at, bytes)
     }
 
-    /// From now on a crash may leave any bytes in this range. A refusal leaves all as it was.
+    /// From now on a crash may leave any bytes in this range. A failure changes nothing.
     pub(crate) fn note(&mut self, area: Area, at: usize, len: usize) -> Result<(), AllocError>
         ensures held { self.new.held ≡ self.old.held }
         ensures crash { Follows (Changes area (Torn at len)) (leaves self.old) (leaves self.new) }
@@ -168,7 +168,7 @@ impl State {
         Ok(())
     }
 
-    /// Puts other bytes into an area. Its bytes of the last sync stay known.
+    /// Replaces the bytes of an area. Its bytes at the last sync stay known.
     pub(crate) fn set(&mut self, area: Area, next: Vec<u8>)
         ensures held { areas_of self.new.held ≡ with_part area next.items (areas_of self.old.held) }
         ensures synced { synced self.new ≡ synced self.old }
@@ -181,7 +181,7 @@ impl State {
         }
     }
 
-    /// All that the disk holds is synced.
+    /// Everything that the disk holds is synced.
     pub(crate) fn settle(&mut self, alloc: Global)
         ensures held { self.new.held ≡ self.old.held }
         ensures synced { synced self.new ≡ areas_of self.old.held }
@@ -194,7 +194,7 @@ impl State {
     }
 }
 
-// These bytes over the old ones, at this offset.
+// A copy of the old bytes with these written over them, at this offset.
 fn pasted_copy(alloc: Global, old: &[u8], at: usize, bytes: &[u8]) -> Result<Vec<u8>, AllocError>
     requires { at ≤ length old.now }
 
@@ -208,7 +208,7 @@ fn pasted_copy(alloc: Global, old: &[u8], at: usize, bytes: &[u8]) -> Result<Vec
     Ok(next)
 }
 
-// The bytes that are kept, or those that are held where none are.
+// The kept bytes, or if none are kept, the current ones.
 fn copied(alloc: Global, kept: &Option<Vec<u8>>, held: &Vec<u8>) -> Result<Vec<u8>, AllocError>
     ensures { IfOk result (λ v. v.items ≡ kept_or kept.now held.now) }
 {
@@ -218,7 +218,7 @@ fn copied(alloc: Global, kept: &Option<Vec<u8>>, held: &Vec<u8>) -> Result<Vec<u
     }
 }
 
-// Puts other bytes in the place of those that are held. These are kept where none are yet.
+// Replaces the current bytes. The old ones are kept if none are kept yet.
 fn replace(held: &mut Vec<u8>, kept: &mut Option<Vec<u8>>, next: Vec<u8>)
     ensures held { held.new.items ≡ next.items }
     ensures kept { kept_or kept.new held.new ≡ kept_or kept.old held.old }
@@ -235,7 +235,7 @@ pub(crate) fn start() -> Snapshot<Past>
     Snapshot::of(&Past::Start)
 }
 
-/// One moment more is over.
+/// One more moment has passed.
 pub(crate) fn tick(past: &mut Snapshot<Past>, state: &State)
     ensures { IsThen past.old.value state.now past.new.value }
 {

@@ -1,4 +1,4 @@
--- A node that is spelled stands exactly where all is true of it that is true of a saved node.
+-- A node that has a spelling is well-formed exactly if it meets all conditions of a saved node.
 use Rattle.std.proofs.Common.{◌≡◌, ℕ, ◌-◌, ◌<◌, ◌≤◌, ◌==◌, Bool, true, false, cond, List, ◌∷◌, length}
 use Rattle.std.proofs.Common.{get_or, map, replicate, refl, sym, ◌∙◌, subst, le_refl, arith}
 use Rattle.std.specs.Prelude.{IsTrue, ◌↔◌}
@@ -47,9 +47,9 @@ standing_saved n stands =
       balance = is.balance;
     }
 
--- ---- what a spelling says
+-- ---- what a spelling implies
 
--- the reports of a node, of which node 0 alone is told some
+-- the reports of a node; only the image of node 0 has some
 reports_are : (own nodes : ℕ) (told : List ℕ) (b : Bool) → (own == 0) ≡ b → own < nodes
     → length told ≡ cond b (nodes - 1) 0
     → (length (cond b (0 ∷ told) (replicate nodes 0)) ≡ nodes)
@@ -91,7 +91,7 @@ each_link v s fits =
     (all_insert IsOne no_link none (map link_of s.links) s.head.own
     (All-map IsOne link_of s.links all))
 
--- ---- the node that is said
+-- ---- the node that the image says
 
 module _ (v : Version) (s : Stored) (fits : Fits v s) (saved : IsSaved (node_of s)) where
   abbrev n : NodeView

@@ -1,4 +1,4 @@
--- What is true of each element of a list, and a list with an element more or less.
+-- What holds of each element of a list, and a list with one element more or less.
 use Rattle.std.proofs.Common.{◌≡◌, ℕ, zero, suc, ◌<◌, List, [], ◌∷◌, length, map}
 use Rattle.std.proofs.Common.{get_or, refl, sym, ap, inl, inr, arith}
 use Rattle.std.specs.List.{All, AllByRecursion, insert, remove}
@@ -7,7 +7,7 @@ use Rattle.std.proofs.lemmas.List.{map-append, take-map, drop-map, get_or_past}
 use Rattle.std.proofs.lemmas.List.Elements.{All-append, All-cons, All-take, All-drop, All-get_or}
 use Rattle.std.proofs.lemmas.List.Elements.{All-from_get_or, recursion_from_All}
 
--- what is true of all that a list may have
+-- what holds of every possible element
 pub every : {A : Type 0} (P : A → Type 0) → ((a : A) → P a) → (xs : List A) → AllByRecursion P xs
 every P is [] = tt
 every P is (x ∷ xs) = (is x, every P is xs)
@@ -39,7 +39,7 @@ module _ {A B : Type 0} (f : A → B) where
   pub map-insert : (xs : List A) (k : ℕ) (x : A) → map f (insert xs k x) ≡ insert (map f xs) k (f x)
   map-insert xs k x = rw (map-append, take-map, drop-map) refl
 
-  -- an element taken out, and put in as what is made of it
+  -- an element is taken out, and what `f` makes of it is put in its place
   pub put_back : (k : ℕ) (xs : List A) (d : A) (b : B) → k < length xs → f (get_or xs k d) ≡ b
       → insert (map f (remove xs k)) k b ≡ map f xs
   put_back k [] d b lt is = absurd (omega (arith, lt))

@@ -1,5 +1,5 @@
 -- The formats of the parts of an image are sound. What the first version spells of a part, the
--- second spells too.
+-- second one spells too.
 use Rattle.std.proofs.Common.{zero-le, suc-le-suc}
 use Rattle.std.proofs.Common.{◌≡◌, ℕ, List, ◌++◌, Some, true, refl, sym, ap, ◌∙◌, lit<, arith}
 use Rattle.std.proofs.lemmas.Bool.{and_parts, and_from, eqb-true, le-leb, leb-true}
@@ -65,7 +65,7 @@ start_sound =
     mapped_sound _ _ _ (kept_sound _ is_start (byte_sound ⊗ byte_sound ⊗ version_sound))
     (λ a fits. sym (is_start_is a fits.within.1)) (λ v. refl)
 
--- ---- each value of a list has a byte at least
+-- ---- each value of a list has at least one byte
 
 pub slot_long : (v : Version) → IsLong (slot_format v)
 unfolding slot_format
@@ -85,7 +85,7 @@ pub link_long : (v : Version) → IsLong (link_format v)
 unfolding link_format number8
 link_long v l = suc-le-suc zero-le
 
--- ---- what stands in the lists
+-- ---- what the lists contain
 
 near_grows : Grows (near First) (near Second)
 near_grows = kept_grows _ _ reference_grows (λ _ is. is)
@@ -154,7 +154,7 @@ message_grows : Grows (message_format First) (message_format Second)
 unfolding message_format
 message_grows = mapped_grows _ _ (same number8_sound ⊛ near_body_grows) (λ _. refl) (λ _. refl)
 
--- how many, and each
+-- how many there are, and each of them
 all : {A : Type 0} (F : Version → Format A) → Grows (F First) (F Second)
     → ((v : Version) → IsLong (F v)) → Grows (counted number4 (F First)) (counted number4 (F Second))
 all F g long = counted_grows g (long First) (long Second) number4 number4_sound
@@ -211,7 +211,7 @@ unfolding stored_format
 stored_grows =
     mapped_grows stored _ (joined_grows front_grows lists_grows) (λ _. refl) (λ _. refl)
 
--- any version may stand at the start
+-- the start may have any version
 pub any_start : (v : Version) → Fits start_format v
 unfolding start_format version_format
 any_start First = record {

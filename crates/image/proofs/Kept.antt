@@ -1,4 +1,4 @@
--- What a node's readers give of its slots, of its messages and of its links is what its image says.
+-- What a node's readers return of its slots, its messages and its links is what its image says.
 use Rattle.std.proofs.Common.{◌≡◌, ◌≢◌, ℕ, zero, suc, ◌+◌, ◌-◌, ◌<◌, ◌≤◌, ◌==◌, false}
 use Rattle.std.proofs.Common.{cond, List, [], ◌∷◌, ◌++◌, length, map, take, get_or, Option}
 use Rattle.std.proofs.Common.{Some, refl, sym, ap, ◌∙◌, arith}
@@ -33,7 +33,7 @@ slot_there slots k x lt e =
 
 -- ---- messages
 
--- the message after so many that are kept
+-- the kept message in this place
 pub message_kept : (l : Link) (base place : ℕ) (o : Option Message) → base ≡ l.base
     → place < length l.unacknowledged → o ≡ message_of l (base + 1 + place)
     → o ≡ Some (get_or l.unacknowledged place no_message)

@@ -17,12 +17,12 @@ use Rattle.image.specs.Nodes.{node_of, IsStanding, IsImageOf}
 use Rattle.image.proofs.Conditions.{standing_saved, saved_standing}
 use Rattle.image.proofs.Spelled.{read, again}
 
--- one more in each of two lists that say the same
+-- one more element in each of two lists that say the same
 pub same_more : {A B C : Type 0} (f : A → C) (g : B → C) (xs : List A) (ys : List B) (x : A) (y : B)
     → map f xs ≡ map g ys → f x ≡ g y → map f (xs ++ x ∷ []) ≡ map g (ys ++ y ∷ [])
 same_more f g xs ys x y same one = rw (map_push f xs x, map_push g ys y, same, one) refl
 
--- what the call of the node gave, said of the node that it stands for
+-- the refusal of the node's call, stated for the node that the parts say
 pub said_refused : {given : NodeView} (said : NodeView) (r : Result NodeView Refusal)
     → IfErr r (λ e. e ≢ Memory → (e ≡ BadImage) × (IsRestorable given → ⊥)) → given ≡ said
     → IfErr r (λ e. e ≢ Memory → (e ≡ BadImage) × (IsStanding said → ⊥))
@@ -48,7 +48,7 @@ module _ (bytes : List ℕ) where
   abbrev IsOfNone : Refusal → Type 0
   IsOfNone e = e ≢ Memory → (e ≡ BadImage) × ((n : NodeView) → IsImageOf bytes n → ⊥)
 
-  -- nothing that the node might be is said
+  -- bytes that are too long are the image of no node
   pub too_long : GREATEST_IMAGE < length bytes → IsOfNone BadImage
   too_long long = λ _. (refl, λ n is. omega (arith, long, is.spelled.image.within))
 

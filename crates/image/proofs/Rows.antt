@@ -1,4 +1,4 @@
--- A new node: how its image is spelled, and that this says it.
+-- A new node: how its image is spelled, and that the spelling says this node.
 use Rattle.std.proofs.Common.{◌≡◌, [], ◌∷◌, ◌++◌, replicate, refl}
 use Rattle.model.specs.View.{NodeView, new_view}
 use Rattle.codec.specs.Formats.{number2, number4, number8, signed8}

@@ -1,5 +1,5 @@
--- A node that stands, all of whose numbers are no wider than their fields, and whose image isn't
--- too long, has an image: that of the node as it is after a save.
+-- A well-formed node has an image if all of its numbers fit into their fields and the image isn't
+-- too long: that of the node as it is after a save.
 use Rattle.std.proofs.Common.{◌≡◌, ℕ, ◌-◌, ◌<◌, ◌≤◌, ◌==◌, Bool, true, false, cond, List, [], ◌∷◌, length}
 use Rattle.std.proofs.Common.{map, drop, replicate, get_or, Option, Some, None, refl, sym, ap, ◌∙◌}
 use Rattle.std.proofs.Common.{arith}
@@ -135,7 +135,7 @@ told_count : (b : Bool) (nodes : ℕ) (rs : List ℕ) → length rs ≡ nodes
 told_count true nodes rs len = omega (arith, len, length-drop 1 rs)
 told_count false nodes rs len = refl
 
--- ---- the node that is said
+-- ---- the node that the image says
 
 slots_again : (ss : List Slot) → map slot_of (map stored_slot ss) ≡ ss
 slots_again [] = refl

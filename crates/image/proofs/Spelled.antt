@@ -1,5 +1,6 @@
--- What is read is spelled so, and what is spelled so is read. No spelling begins another: bytes spell
--- one node, and a node has one spelling, which says the node as it is after a save.
+-- What is read has that spelling, and what has a spelling is read. No spelling is a prefix of
+-- another: bytes spell one node, and a node has one spelling, which says the node as it is after a
+-- save.
 use Rattle.std.proofs.Common.{◌≡◌, ◌≤◌, ◌<◌, ◌++◌, ℕ, List, [], length, Option, Some, ap, ◌∙◌, zero}
 use Rattle.std.proofs.Common.{suc, ◌-◌, ◌==◌, Bool, true, false, replicate, cond, ◌∷◌, map, drop}
 use Rattle.std.proofs.Common.{refl, sym, subst, arith}
@@ -26,7 +27,7 @@ use Rattle.image.proofs.Kept.{stored_back}
 use Rattle.image.proofs.Elements.{map-insert}
 use Rattle.codec.specs.Formats as codec
 
--- ---- what a spelling says of the sizes
+-- ---- what a spelling implies about the sizes
 
 pub own_below : (v : Version) (s : Stored) → Fits v s → s.head.own < s.head.nodes
 unfolding stored_format front_format head_format nodes_format
@@ -104,7 +105,7 @@ reports_back : (b : Bool) (nodes : ℕ) (rs : List ℕ) → length rs ≡ cond b
 reports_back true nodes rs len = refl
 reports_back false nodes rs len = sym (nil_from_length rs len)
 
--- the image of the node that is said says the same
+-- the node that `s` says has an image that says `s`
 pub says_back : (v : Version) (s : Stored) → Fits v s → stored_by (node_of s) ≡ s
 says_back v s fits =
     let reports = reports_back (s.head.own == 0) s.head.nodes s.reports (reports_count v s fits) in
@@ -124,7 +125,7 @@ one_node v w bytes m n p q =
     (no_spelling_begins_another v w p.says q.says [] p.image.fits q.image.fits same).2 in
     sym p.node ∙ ap node_of e ∙ q.node
 
--- what is said of a node that is spelled
+-- what the spelling of a node says
 pub said_by : (v : Version) (bytes : List ℕ) (n : NodeView) (p : Spells v bytes n)
     → p.says ≡ stored_by n
 said_by v bytes n p = sym (says_back v p.says p.image.fits) ∙ ap stored_by p.node
@@ -166,7 +167,7 @@ spelled_later v bytes n p short = record {
   node = p.node;
 }
 
--- nodes that were read from images, and would be written alike, are one
+-- nodes that were read from images and have equal images are the same
 pub image_of_same : (m n : NodeView) → HasImage m → HasImage n → image_of m ≡ image_of n → m ≡ n
 image_of_same m n first second same =
     let a = first.1 in
@@ -183,11 +184,11 @@ image_of_same m n first second same =
 
 -- ---- one image, one node
 
--- bytes are the image of one node at most
+-- bytes are the image of at most one node
 pub image_of_one : (bytes : List ℕ) (m n : NodeView) → IsImageOf bytes m → IsImageOf bytes n
     → m ≡ n
 image_of_one bytes m n p q = one_node p.version q.version bytes m n p.spelled q.spelled
 
--- a node that has an image is one all of which counts as saved
+-- everything of a node that has an image counts as saved
 pub kept_is : (bytes : List ℕ) (n : NodeView) → IsImageOf bytes n → kept_view n ≡ n
 kept_is bytes n is = all_saved is.version bytes n is.spelled

@@ -1,5 +1,5 @@
--- What is true of a saved node, beyond that it has a spelling: bytes that spell a node of which
--- this isn't true are no image of a node.
+-- The conditions that a saved node meets, in addition to having a spelling. Bytes that spell a node
+-- which doesn't meet them are not an image.
 use Rattle.std.specs.Prelude.{ℕ, ◌<◌, ◌≤◌, length, slice_index_or}
 use Rattle.std.specs.List.{AllByRecursion}
 use Rattle.ids.specs.Limits.{Shaped, IsShape}
@@ -14,7 +14,7 @@ use Rattle.model.specs.View.{NodeView, link_to, used}
 use Rattle.model.specs.WellFormed.{IsStocked, AreAsked, IsHeld}
 use Rattle.node.specs.Invariant.{IsBalanced}
 
--- a message that isn't of a later cycle, and whose references the shape has room for
+-- a message that isn't of a later cycle, and whose references fit into the shape
 pub record IsTimely (shape : Shaped) (cycle : ℕ) (x : Message) : Type 0 where
   pub stamp : x.stamp ≤ cycle
   pub references : AllByRecursion (IsWithin shape) (mentioned x.body)
@@ -23,11 +23,11 @@ pub record IsSaved (n : NodeView) : Type 0 where
   pub shape : IsShape n.local.shape
   pub own : n.local.own < n.local.shape.nodes
   pub phases : IsPhases n.local.phases
-  -- sweeping is at a slot that was used, or behind the last one
+  -- the next slot to sweep is one that was used, or the one after the last
   pub cursor : n.local.phases.cursor ≤ length n.local.heap.slots
-  -- the token is held only while marking goes on: when it has come home for good, it is gone
+  -- the token is held only while marking continues; once it has come home for good, it is gone
   pub token : IsHeld n.local.phases.cycle n.local.phases.ended n.local.ring.token
-  -- no slot is given out twice, and none is lost
+  -- no slot is assigned twice, and none is lost
   pub slots : IsSlotted n.local.heap n.local.shape.slots
   pub stocked : IsStocked n.local.shape n.local.own n.local.phases.cycle n.local.phases.ended
       n.local.heap
@@ -39,5 +39,5 @@ pub record IsSaved (n : NodeView) : Type 0 where
   -- the numbers of messages are within the limit
   pub sent : (i : ℕ) → used (link_to n i) ≤ GREATEST_NUMBER
   pub received : (i : ℕ) → got_from n.local i ≤ GREATEST_NUMBER
-  -- each message changed a balance by one at most
+  -- each message changed a balance by at most one
   pub balance : IsBalanced n.local.ring n.links n.local.got

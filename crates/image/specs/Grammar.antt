@@ -23,18 +23,18 @@ use Rattle.image.specs.declared.parts.PhasesParts.{PhasesParts}
 use Rattle.arena.specs.declared.Slot.TheVariants as slot
 use Rattle.image.specs.Links.{StoredLink, StoredSlot}
 
--- what an image says of a node
+-- what an image says about a node
 pub record Stored : Type 0 where
   pub head : Head
   pub phases : PhasesParts
   pub ring : Ring
-  -- at node 0 those of the other nodes in ascending order, elsewhere none
+  -- at node 0 those of the other nodes, in ascending order; at other nodes empty
   pub reports : List ℕ
   pub registers : List (Option Ref)
   pub slots : List StoredSlot
   -- the free slots, the next to be used first
   pub free : List ℕ
-  -- the grey slots, the last is scanned first
+  -- the grey slots; the last one is scanned first
   pub grey : List ℕ
   pub asked : List Ref
   -- oldest first
@@ -42,7 +42,7 @@ pub record Stored : Type 0 where
   -- to the other nodes, in ascending order
   pub links : List StoredLink
 
--- ---- what stands before the lists
+-- ---- what comes before the lists
 
 abbrev pub version_tag : Version → Behind
 version_tag First = tag 1 nothing tt
@@ -72,7 +72,7 @@ most_nodes Second = GREATEST_NODES
 abbrev pub nodes_fit : Version → ℕ × ℕ → Bool
 nodes_fit v p = nat_lt p.1 p.0 && nat_le p.0 (most_nodes v)
 
--- the number of nodes, and the own number below it
+-- the number of nodes, and the own number, which is smaller
 unfoldable pub nodes_format : Version → Format (ℕ × ℕ)
 nodes_format v = kept (byte & byte) (nodes_fit v)
 
@@ -99,7 +99,7 @@ ring_format =
     (λ x. record { colour = x.0; earlier = x.1.0; recent = x.1.1.0; token = x.1.1.1 })
     (λ r. (r.colour, (r.earlier, (r.recent, r.token))))
 
--- ---- what stands in the lists, all within the limits
+-- ---- what the lists contain, all within the limits
 
 abbrev pub near : Version → Format Ref
 near v = kept (reference v) reference_fits
@@ -241,7 +241,7 @@ stored_format v =
     mapped (joined (front_format v) (lists_format v)) stored
     (λ s. (front_of s, (told_of s, (slots_of s, others_of s))))
 
--- what stands behind the version is of it
+-- the version, and after it what belongs to that version
 unfoldable pub image_format : Format (Version × Stored)
 image_format = joined start_format stored_format
 

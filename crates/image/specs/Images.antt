@@ -1,4 +1,4 @@
--- The bytes of a node's image, as it stands.
+-- The bytes of a node's image.
 use Rattle.std.specs.Prelude.{ℕ, ◌==◌, if◌then◌else◌, List, [], map, drop}
 use Rattle.std.specs.List.{zip, remove}
 use Rattle.arena.specs.declared.Slot.TheVariants as slot
@@ -15,7 +15,7 @@ stored_slot (Free generation) = slot.Free generation
 stored_slot (Occupied generation object) = slot.Occupied generation object
 stored_slot Retired = slot.Retired
 
--- the links to other nodes: each with the number of the other's message that was taken in last
+-- the links to other nodes, each with the number of the last message received from there
 abbrev pub stored_link : Link × ℕ → StoredLink
 stored_link x = record {
   base = x.0.base;
@@ -51,6 +51,6 @@ stored_by n = record {
   links = remove (stored_links n.links n.local.got) n.local.own;
 }
 
--- the bytes of the node's image: those of the second version
+-- the bytes of the node's image, in the second version
 abbrev pub image_of : NodeView → List ℕ
 image_of n = spelling Second (stored_by n)

@@ -1,4 +1,4 @@
--- What an image says of a slot, and of the links between its node and another one.
+-- What an image says about a slot, and about the links between its node and another one.
 use Rattle.std.specs.Prelude.{ℕ, List}
 use Rattle.arena.specs.declared.Slot as stored
 use Rattle.msg.specs.declared.body.Message.{Message}
@@ -8,8 +8,8 @@ use Rattle.model.specs.State.{Object}
 abbrev pub StoredSlot : Type 0
 StoredSlot = stored.Slot Object
 
--- The highest number of the node's messages that was acknowledged, the messages after it, and the
--- number of the other node's message that was taken in last.
+-- The highest acknowledged number of the node's messages, the messages after that one, and the
+-- number of the last message received from the other node.
 pub record StoredLink : Type 0 where
   pub base : ℕ
   pub unacknowledged : List Message

@@ -21,15 +21,16 @@ link_of l = record {
 abbrev pub received_of : StoredLink → ℕ
 received_of l = l.received
 
--- for each node a report: node 0 has none of itself, and the other nodes have none
+-- a report for each node: 0 for node 0 itself, and at other nodes 0 for all
 abbrev pub reports_of : Head → List ℕ → List ℕ
 reports_of h told = if h.own == 0 then 0 ∷ told else replicate h.nodes 0
 
--- for each node how many of its messages were taken in: none of its own
+-- for each node how many of its messages were received: 0 for the node itself
 abbrev pub got_of : Stored → List ℕ
 got_of s = insert (map received_of s.links) s.head.own 0
 
--- The node that is said, all of whose messages and numbers count as saved. It sends itself nothing.
+-- The node that the image says. All of its messages and numbers count as saved; it sends itself
+-- nothing.
 abbrev pub node_of : Stored → NodeView
 node_of s = record {
   local = record {
@@ -67,12 +68,12 @@ pub record Spells (v : Version) (bytes : List ℕ) (n : NodeView) : Type 0 where
   pub image : IsImage bytes v says
   pub node : node_of says ≡ n
 
--- a node that the code may have: it stands, and its heap is one of its shape
+-- a node that the code may have: it is well-formed, and its heap is one of its shape
 pub record IsStanding (n : NodeView) : Type 0 where
   pub node : IsNode n
   pub slots : IsSlotted n.local.heap n.local.shape.slots
 
--- the bytes are an image of the node: they spell it, and it is as a saved node is to be
+-- the bytes are an image of the node: they spell it, and it meets the conditions of a saved node
 pub record IsImageOf (bytes : List ℕ) (n : NodeView) : Type 0 where
   pub version : Version
   pub spelled : Spells version bytes n

@@ -1,8 +1,8 @@
--- The parts of the code as plain data.
+-- The parts that the code reads, as plain data.
 use Rattle.image.specs.declared.parts.NodeParts.{NodeParts}
 use Rattle.image.specs.Grammar.{Stored}
 
--- what is said, without where it lies in memory
+-- what the parts say, without how they are laid out in memory
 abbrev pub stored_of : NodeParts → Stored
 stored_of n = record {
   head = n.head;

@@ -1,4 +1,4 @@
--- The image of a node with all that it keeps: that of its core. What it keeps is lost.
+-- The image of a node with its early messages is that of its core. The early messages are lost.
 use Rattle.std.specs.Prelude.{◌≡◌, ℕ, List}
 use Rattle.model.specs.View.{kept_view}
 use Rattle.node.specs.Keeping.{WholeNode, alone}
@@ -12,6 +12,6 @@ whole_image n = image_of n.core
 abbrev pub IsWholeOf : List ℕ → WholeNode → Type 0
 IsWholeOf bytes n = IsImageOf bytes n.core × (n ≡ alone n.core)
 
--- the node as it is read once it was saved
+-- the node that is read back after this one was saved
 abbrev pub saved_whole : WholeNode → WholeNode
 saved_whole n = alone (kept_view n.core)

@@ -5,8 +5,8 @@ use ids::Refusal;
 use node::Node;
 use std::alloc::Global;
 
-/// Nodes as their images. In a node's image all that it sent and took in counts as saved, and what
-/// it keeps until its turn isn't in it.
+/// [`Persist`] for nodes: a node is stored as its image. In a node's image everything that it sent
+/// and received counts as saved; early messages aren't in it.
 pub struct Images;
 
 impl Persist for Images {

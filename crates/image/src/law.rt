@@ -1,5 +1,5 @@
-//! What is true of all images: none begins another, and bytes are the image of one node at most.
-//! Each law is the contract of a function that does nothing.
+//! What holds of all images: no image is a prefix of another, and bytes are the image of at most
+//! one node. Each law is the contract of a function that does nothing.
 ghost use Rattle.std.specs.Prelude.{◌≡◌, ◌≤◌, ◌++◌, ◌↔◌, [], ℕ, List, length};
 ghost use Rattle.ids.specs.declared.limits.TheConstants.{GREATEST_IMAGE};
 ghost use Rattle.msg.specs.declared.version.Version.{Version};
@@ -10,17 +10,18 @@ ghost use Rattle.image.specs.Images.{image_of};
 ghost use Rattle.image.specs.Conditions.{IsSaved};
 ghost use Rattle.image.specs.Nodes.{IsStanding, Spells};
 
-/// No spelling of an image, of whichever version, begins another, so bytes are one image at most.
-/// This does nothing: its contract is the law.
+/// No spelling of an image, of either version, is a prefix of another. So bytes are at most one
+/// image. The function does nothing; its contract states the law.
 #[tactic(auto, using(crate::proofs::Spelled::no_spelling_begins_another))]
 pub fn grammar()
     ensures { (v w : Version) (s t : Stored) (rest : List ℕ) → Fits v s → Fits w t
         → spelling v s ++ rest ≡ spelling w t → (rest ≡ []) × (v ≡ w) × (s ≡ t) }
 {}
 
-/// Bytes spell one node at most, and a node has one spelling at most in each version; and all
-/// messages and numbers of a node that is spelled count as saved. What the first version spells,
-/// the second does too, but for its length. This does nothing: its contract is the law.
+/// Bytes spell at most one node, and a node has at most one spelling in each version. All messages
+/// and numbers of a node that has a spelling count as saved. What the first version spells, the
+/// second one spells too, unless that is too long for an image. The function does nothing; its
+/// contract states the law.
 pub fn nodes_spelled()
     ensures one_node { (v w : Version) (bytes : List ℕ) (m n : NodeView) → Spells v bytes m
         → Spells w bytes n → m ≡ n }
@@ -32,8 +33,9 @@ pub fn nodes_spelled()
         → length (image_of n) ≤ GREATEST_IMAGE → Spells Second (image_of n) n }
 {}
 
-/// A node that is spelled stands exactly where it is as a saved node is to be. So each node that is
-/// saved is so, and each that is so is read. This does nothing: its contract is the law.
+/// A node that has a spelling is well-formed exactly if it meets the conditions of a saved node. So
+/// each node that is saved meets them, and each node that meets them is read. The function does
+/// nothing; its contract states the law.
 pub fn nodes_saved()
     ensures { (v : Version) (bytes : List ℕ) (n : NodeView) → Spells v bytes n
         → (IsSaved n ↔ IsStanding n) }

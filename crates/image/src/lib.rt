@@ -1,7 +1,7 @@
 //! A saved node as bytes, its image.
 //!
-//! [`to_bytes`] writes it, [`from_bytes`] makes a node of it. docs/FORMATS.md has the table of its
-//! parts ("Images"), `specs/Grammar.antt` their spelling.
+//! [`to_bytes`] writes an image, and [`from_bytes`] makes a node of it. docs/FORMATS.md has the
+//! table of its parts ("Images"), `specs/Grammar.antt` their spelling.
 #![tactic(auto)]
 
 mod images;

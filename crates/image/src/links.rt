@@ -1,5 +1,5 @@
-//! The links between a node and the others as bytes. Of each link it is the messages that aren't
-//! acknowledged, and how much was taken in; never what the node keeps before its turn.
+//! The links between a node and the others as bytes. An image has, for each link, the messages that
+//! aren't acknowledged and the number that was received last, but never early messages.
 ghost use Rattle.std.specs.Prelude.{◌≡◌, ◌<◌, ◌≤◌, ◌+◌, ◌==◌, cond, [], ◌∷◌, ◌++◌, length, slice_index_or};
 ghost use Rattle.std.specs.List.{remove};
 ghost use Rattle.codec.specs.Formats.{number4, number8, counted};
@@ -26,7 +26,7 @@ fn message_count(links: &Links, to: u8) -> u64
     links.used(to) - links.base(to)
 }
 
-// The kept message to the node in this place, the oldest being in place 0.
+// The kept message to the node in this place; the oldest is in place 0.
 fn message_at(links: &Links, to: u8, place: u64) -> Message
     requires there { to < length links.now.links }
     requires sound { IsLinks links.now }
@@ -49,7 +49,7 @@ fn put_message(out: &mut Writer, message: Message)
     out.append(piece.as_slice());
 }
 
-// Appends how many messages to the node are kept in four bytes, and the messages.
+// Appends how many messages to the node are kept, in four bytes, and the messages.
 #[tactic(auto, using(crate::proofs::Joins::both, crate::proofs::Joins::unwritten, crate::proofs::Joins::written_more))]
 fn put_messages(out: &mut Writer, links: &Links, to: u8)
     requires { to < length links.now.links }
@@ -123,7 +123,7 @@ fn put_other(out: &mut Writer, own: u8, links: &Links, to: u8)
     put_link(out, links, to);
 }
 
-/// Appends the links to all nodes but `own`.
+/// Appends the links to all nodes except `own`.
 #[tactic(auto, using(crate::proofs::Joins::unwritten))]
 pub(crate) fn put_links(out: &mut Writer, own: u8, links: &Links)
     ensures { PutsAll (link_format Second) out.old out.new

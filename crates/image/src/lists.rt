@@ -1,5 +1,5 @@
-//! Lists of values of one format. A list that tells more values than there are bytes is refused
-//! before memory is taken for it.
+//! Lists of values of one format. A list whose count exceeds the number of bytes left is rejected
+//! before anything is allocated.
 ghost use Rattle.std.specs.Prelude.{◌≡◌, ◌≤◌, ◌+◌, length, is_none, IfOk, IfErr};
 ghost use Rattle.std.specs.List.{list_all};
 ghost use Rattle.ids.specs.declared.refusal.Refusal.TheVariants.{Memory};
@@ -22,7 +22,7 @@ use msg::Version;
 use msg::writing::{add_optional, put_optional, put_reference};
 use std::alloc::Global;
 
-/// A value that stands in lists, and is written.
+/// An element of a list that is written.
 pub(crate) trait Writable {
     /// How it is spelled.
     ghost written: { Format Self };
@@ -34,13 +34,13 @@ pub(crate) trait Writable {
     ghost long: { IsLong written };
 }
 
-/// A value that stands in lists, and is read.
+/// An element of a list that is read.
 pub(crate) trait Readable: Sized + Drop {
     /// How it is spelled in each version.
     ghost format: { Version → Format Self };
 
-    /// The value at the front of what is left. `Memory` where a growth was refused, and no other
-    /// refusal: where there is no such value, the reader has failed.
+    /// The value at the front of what is left. Fails only with `Memory`, if an allocation fails. If
+    /// there is no such value, the reader has failed.
     fn read(alloc: Global, version: Version, reader: &mut Reader) -> Result<Self, Refusal>
         ensures value { IfOk result (Reads (format version) reader.old reader.new) }
         ensures refused { IfErr result (λ e. e ≡ Memory) };
@@ -56,7 +56,7 @@ pub(crate) fn put_all<T: Writable>(out: &mut Writer, parts: &[T])
     }
 }
 
-/// Appends how many values there are in four bytes, and the values.
+/// Appends how many values there are, in four bytes, and the values.
 #[tactic(auto, using(crate::proofs::Joins::both))]
 pub(crate) fn put_counted<T: Writable>(out: &mut Writer, parts: &[T])
     ensures { Puts (counted number4 T.written) out.old out.new parts.now }
@@ -66,7 +66,7 @@ pub(crate) fn put_counted<T: Writable>(out: &mut Writer, parts: &[T])
     }
 }
 
-// So many registers are put together at once.
+// How many registers are put together in one piece.
 const AT_ONCE: usize = 8;
 
 #[inline(always)]
@@ -100,7 +100,7 @@ fn put_few(out: &mut Writer, registers: &[Option<Ref>])
     out.append(piece.as_slice());
 }
 
-/// Appends registers one after another. Most are empty, so a few are put together at once.
+/// Appends registers one after another. Most are empty, so a few are put together in one piece.
 pub(crate) fn put_registers(out: &mut Writer, registers: &[Option<Ref>])
     ensures { PutsAll (optional Second) out.old out.new registers.now }
 {
@@ -168,9 +168,9 @@ impl Readable for u64 {
     }
 }
 
-/// So many values from the front of what is left, up to the first one that isn't there. Where the
-/// bytes are fewer than the values, the reader fails without taking memory; `Memory` where a growth
-/// was refused.
+/// This many values from the front of what is left, up to the first one that isn't there. If there
+/// are fewer bytes than values, the reader fails and nothing is allocated. Fails with `Memory` if
+/// an allocation fails.
 #[tactic(auto, using(crate::proofs::Joins::lists))]
 #[inline(always)]
 pub(crate) fn many<T: Readable>(
@@ -198,7 +198,7 @@ pub(crate) fn many<T: Readable>(
     Ok(parts)
 }
 
-/// A number in four bytes, and so many values. It fails, or is refused, as [`many`].
+/// A number in four bytes, and that many values. It fails as [`many`] does.
 #[tactic(auto, using(crate::proofs::Joins::counted_read))]
 pub(crate) fn counted<T: Readable>(
     alloc: Global,

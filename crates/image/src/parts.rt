@@ -1,5 +1,5 @@
-//! A node as the parts that its image says. It may be no node's: which parts are one, the node
-//! itself says when it is made of them.
+//! A node as the parts that its image says. The parts may contradict each other; whether they form
+//! a node is checked when the node is made of them.
 use heap::{Object, Slots};
 use ids::Ref;
 use model::Letter;
@@ -26,9 +26,9 @@ pub(crate) struct PhasesParts {
     pub cursor: u32,
 }
 
-/// What the node holds of the links between it and another one: the highest number of its own
-/// messages that was acknowledged, the messages after it, and the number of the other's message
-/// that was taken in last.
+/// What the node holds of the links between it and another one: the highest acknowledged number of
+/// its own messages, the messages after that one, and the number of the last message received from
+/// the other node.
 #[derive(Debug, Drop)]
 pub(crate) struct StoredLink {
     pub base: u64,
@@ -48,19 +48,20 @@ impl Model for StoredLink {
     } };
 }
 
-/// All that an image says of a node.
+/// All that an image says about a node.
 #[derive(Drop)]
 pub(crate) struct NodeParts {
     pub head: Head,
     pub phases: PhasesParts,
     pub ring: Ring,
-    /// At node 0 what each other node reported to have swept, in ascending order; elsewhere none.
+    /// At node 0 the cycle that each other node reported as swept, in ascending order; at other
+    /// nodes empty.
     pub reports: Vec<u64>,
     pub registers: Vec<Option<Ref>>,
     pub slots: Slots<Object>,
     /// The free slots, the next to be used first.
     pub free: Vec<u32>,
-    /// The slots of the marked objects that are still to be scanned; the last is scanned first.
+    /// The slots of the marked objects that are still to be scanned; the last one is scanned first.
     pub grey: Vec<u32>,
     /// The references of other nodes that were asked for in this cycle, in order.
     pub asked: Vec<Ref>,

@@ -1,5 +1,5 @@
-//! Bytes as the parts of a node. What is read is within the limits of its kind; whether the parts
-//! fit each other is seen later.
+//! Parses bytes into the parts of a node. Each value is checked against the limits of its kind;
+//! whether the parts fit together is checked later.
 ghost use Rattle.std.specs.Prelude.{◌≡◌, ◌≤◌, ◌==◌, ◌&&◌, length, Some, IfOk, IfErr};
 ghost use Rattle.ids.specs.declared.refusal.Refusal.TheVariants.{BadImage, Memory};
 ghost use Rattle.ids.specs.declared.limits.TheConstants.{GREATEST_PLACES};
@@ -29,7 +29,7 @@ use msg::{Message, Token, Version, body_fits, optional_fits};
 use safra::Ring;
 use std::alloc::Global;
 
-// ---- what stands before the lists
+// ---- what comes before the lists
 
 #[tactic(auto, unfolding(crate::specs::Grammar::version_format), using(crate::proofs::Joins::tags))]
 fn read_version(reader: &mut Reader) -> Version
@@ -144,7 +144,7 @@ fn read_ring(reader: &mut Reader) -> Ring
     Ring::from_parts(colour, earlier, recent, token)
 }
 
-// ---- what stands in the lists
+// ---- what the lists contain
 
 #[tactic(auto, using(crate::proofs::Joins::passed))]
 #[inline(always)]
@@ -336,8 +336,8 @@ fn read_told(
     Ok((reports, registers))
 }
 
-// So many slots, up to the first one that isn't there. Where the bytes are fewer than the slots, the
-// reader fails without taking memory.
+// This many slots, up to the first one that isn't there. If there are fewer bytes than slots, the
+// reader fails and nothing is allocated.
 #[tactic(auto, using(crate::proofs::Joins::lists))]
 fn read_each_slot(
     alloc: Global,
@@ -351,7 +351,7 @@ fn read_each_slot(
 {
     let mut slots = Slots::new(alloc, count);
     reader.require(count as usize);
-    // (what nothing else holds stays in registers)
+    // (a local copy, which nothing else refers to, stays in machine registers)
     let mut ahead = *reader;
     for _slot in 0..count {
         if !ahead.is_open() {
@@ -436,10 +436,10 @@ fn read_image(alloc: Global, reader: &mut Reader) -> Result<(Version, NodeParts)
     Ok((version, parts))
 }
 
-/// The version of the bytes, and the parts that they say, all of the bytes. What they say may still
-/// be no node's, since its parts may contradict each other. `BadImage` where the bytes spell none,
-/// `Memory` where a growth was refused. It takes memory in proportion to the bytes, and time
-/// likewise.
+/// The version of the bytes, and the parts that all of the bytes together say. The parts may
+/// contradict each other, and then no node has them. Fails with `BadImage` if the bytes spell no
+/// parts, and with `Memory` if an allocation fails. Memory and time are proportional to the number
+/// of bytes.
 #[tactic(auto, using(crate::proofs::Joins::whole_read))]
 pub(crate) fn whole(alloc: Global, bytes: &[u8]) -> Result<(Version, NodeParts), Refusal>
     ensures { Gives (λ x. (x.0, stored_of x.1)) result (whole_at image_format.read bytes.now) }

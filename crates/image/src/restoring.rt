@@ -1,5 +1,5 @@
-//! A node from what its image says. All that it sent and took in counts as saved, since an image is
-//! written of nodes that are being saved.
+//! Makes a node of what its image says. Everything that it sent and received counts as saved, since
+//! images are written only of nodes that are being saved.
 ghost use Rattle.std.specs.Prelude.{◌≡◌, ◌≢◌, ◌≤◌, length, map, IfOk, IfErr, OnOk};
 ghost use Rattle.std.specs.List.{insert};
 ghost use Rattle.ids.specs.declared.refusal.Refusal.TheVariants.{BadImage, Memory};
@@ -22,15 +22,15 @@ use node::{Core, Node};
 use std::alloc::Global;
 use std::collections::VecDeque;
 
-/// The node whose image the bytes are, all of the bytes, in either version. All of its messages
-/// count as held by a saved node, and so does all that it took in; it keeps no message before its
-/// turn. It takes memory in proportion to the bytes, and time likewise.
+/// The node whose image the bytes are, all of them, in either version. All that it sent and
+/// received counts as held by a saved state, and it keeps no early messages. Memory and time are
+/// proportional to the number of bytes.
 ///
 /// # Errors
 ///
-/// [`Refusal::BadImage`] where the bytes are no image: they spell no node, or one that contradicts
-/// itself, or are more than [`GREATEST_IMAGE`](ids::GREATEST_IMAGE). [`Refusal::Memory`] where a
-/// growth was refused.
+/// [`Refusal::BadImage`] if the bytes are no image: they spell no node, or one that contradicts
+/// itself, or there are more than [`GREATEST_IMAGE`](ids::GREATEST_IMAGE) of them.
+/// [`Refusal::Memory`] if an allocation fails.
 pub fn from_bytes(alloc: Global, bytes: &[u8]) -> Result<Node, Refusal>
     ensures read { IfOk result (λ n. IsImageOf bytes.now n.core) }
     ensures alone { IfOk result (λ n. n ≡ alone n.core) }
@@ -41,8 +41,8 @@ pub fn from_bytes(alloc: Global, bytes: &[u8]) -> Result<Node, Refusal>
     Node::of(alloc, core)
 }
 
-/// The core of the node whose image the bytes are, for who only reads what was saved. It is refused
-/// as [`from_bytes`] is.
+/// The core of the node whose image the bytes are, for callers that only read what was saved. It
+/// fails as [`from_bytes`] does.
 pub fn core_from_bytes(alloc: Global, bytes: &[u8]) -> Result<Core, Refusal>
     ensures read { IfOk result (λ n. IsImageOf bytes.now n) }
     ensures refused { IfErr result (λ e. e ≢ Memory
@@ -55,7 +55,7 @@ pub fn core_from_bytes(alloc: Global, bytes: &[u8]) -> Result<Core, Refusal>
     restored(alloc, image)
 }
 
-// The node that is said.
+// The node that the image says.
 fn restored(alloc: Global, image: NodeParts) -> Result<Core, Refusal>
     requires { (v : Version) × Fits v (stored_of image) }
     ensures made { IfOk result (λ n. n ≡ node_of (stored_of image)) }
@@ -103,7 +103,7 @@ fn restored(alloc: Global, image: NodeParts) -> Result<Core, Refusal>
     Core::from_parts(alloc, parts)
 }
 
-// For each node of the space the report that is told of it, or 0.
+// For each node of the space its report, or 0 if the image has none.
 fn every_report(alloc: Global, head: Head, told: Vec<u64>) -> Result<Vec<u64>, Refusal>
     ensures made { IfOk result (λ v. v.items ≡ reports_of head told.items) }
     ensures refused { IfErr result (λ e. e ≡ Memory) }
@@ -116,7 +116,7 @@ fn every_report(alloc: Global, head: Head, told: Vec<u64>) -> Result<Vec<u64>, R
     Ok(reports)
 }
 
-// The links to all nodes of the space, the node itself among them.
+// The links to all nodes of the space, including the node itself.
 fn every_link(alloc: Global, own: u8, stored: Vec<StoredLink>) -> Result<Vec<LinkParts>, Refusal>
     requires { own ≤ length stored.items }
     ensures sent { IfOk result

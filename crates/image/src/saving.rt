@@ -1,5 +1,5 @@
-//! The bytes of a node's image. They go into one writer, whose limit is that of an image; a node
-//! that needs more is refused, and nothing of it is kept.
+//! Writes the bytes of a node's image. They go into one writer, whose limit is that of an image. A
+//! node that needs more is refused, and nothing of it is kept.
 ghost use Rattle.std.specs.Prelude.{◌≡◌, ◌≢◌, ◌<◌, ◌≤◌, length, IfOk, IfErr, OnOk};
 ghost use Rattle.ids.specs.declared.limits.TheConstants.{GREATEST_IMAGE};
 ghost use Rattle.ids.specs.declared.refusal.Refusal.TheVariants.{ImageTooLarge, Memory};
@@ -13,17 +13,17 @@ use ids::{GREATEST_IMAGE, Refusal};
 use node::Node;
 use std::alloc::Global;
 
-// Room that is taken at once: small images need no more.
+// How many bytes are allocated at first; small images need no more.
 const FIRST_BYTES: usize = 512;
 
-/// The bytes of the node's image: that of the node as it is after a save, all of whose messages
-/// count as held by a saved node. What the node keeps besides its core isn't in it. It takes memory
-/// and time in proportion to the bytes.
+/// The bytes of the node's image: that of the node as it is after a save, when all of its messages
+/// count as held by a saved state. Early messages aren't in it. Memory and time are proportional to
+/// the number of bytes.
 ///
 /// # Errors
 ///
-/// [`Refusal::ImageTooLarge`] where there are more than [`GREATEST_IMAGE`](ids::GREATEST_IMAGE).
-/// Where there are not, [`Refusal::Memory`] where memory is refused.
+/// [`Refusal::ImageTooLarge`] if there are more than [`GREATEST_IMAGE`](ids::GREATEST_IMAGE) bytes.
+/// Otherwise [`Refusal::Memory`] if an allocation fails.
 pub fn to_bytes(alloc: Global, node: &Node) -> Result<Vec<u8>, Refusal>
     ensures written { IfOk result (λ v. v.items ≡ image_of node.now.core) }
     ensures image { OnOk result (IsImageOf (image_of node.now.core) (kept_view node.now.core)) }
@@ -35,8 +35,9 @@ pub fn to_bytes(alloc: Global, node: &Node) -> Result<Vec<u8>, Refusal>
     to_bytes_over(Vec::new(alloc), node)
 }
 
-/// The bytes of the node's image, as [`to_bytes`], in the memory of these, which are let go of. It
-/// takes more only where that is too little, and is refused as [`to_bytes`] is.
+/// The bytes of the node's image, as [`to_bytes`] returns them, in the memory of `bytes`, whose
+/// content is dropped. More is allocated only if that memory is too small. It fails as [`to_bytes`]
+/// does.
 pub fn to_bytes_over(bytes: Vec<u8>, node: &Node) -> Result<Vec<u8>, Refusal>
     ensures written { IfOk result (λ v. v.items ≡ image_of node.now.core) }
     ensures image { OnOk result (IsImageOf (image_of node.now.core) (kept_view node.now.core)) }
@@ -46,7 +47,7 @@ pub fn to_bytes_over(bytes: Vec<u8>, node: &Node) -> Result<Vec<u8>, Refusal>
         → length (image_of node.now.core) ≤ GREATEST_IMAGE) }
 {
     let core = node.core();
-    // (this call says of the core what its type holds)
+    // (called for its contract: brings the core's invariant into scope)
     let _summary = core.state();
     let mut out = Writer::new(bytes, GREATEST_IMAGE as u32, FIRST_BYTES);
     put_node(&mut out, core);

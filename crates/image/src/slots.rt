@@ -1,5 +1,5 @@
 //! The slots and the letters of a heap as bytes. They are written in the order of their numbers, so
-//! that the same heap has one spelling.
+//! a heap has one spelling.
 ghost use Rattle.std.specs.Prelude.{◌≡◌, ◌<◌, ◌≤◌, ◌+◌, [], ◌∷◌, ◌++◌, length, map, slice_index_or};
 ghost use Rattle.arena.specs.Arena.{slot_read};
 ghost use Rattle.arena.specs.declared.Slot.TheVariants.{Free, Occupied};
@@ -20,7 +20,7 @@ use msg::writing::add_optional;
 
 // ---- slots
 
-// What stands before an object's places.
+// What comes before an object's places.
 #[tactic(auto, unfolding(crate::specs::Numbers::number8))]
 fn occupied_head(generation: Generation, mark: u64, word: u64, places: u8) -> [u8; 26]
     ensures { result ≡ 1 ∷ (number8.spell generation
@@ -65,7 +65,7 @@ fn put_slot(out: &mut Writer, slot: Slot<&Object>)
     }
 }
 
-/// Appends how many slots there are in four bytes, and the slots.
+/// Appends how many slots there are, in four bytes, and the slots.
 #[tactic(auto, using(crate::proofs::Joins::unwritten))]
 pub(crate) fn put_slot_list(out: &mut Writer, heap: &Heap)
     ensures { Puts (counted number4 (slot_format Second)) out.old out.new
@@ -79,7 +79,7 @@ pub(crate) fn put_slot_list(out: &mut Writer, heap: &Heap)
 
 // ---- free slots
 
-/// Appends how many slots are free in four bytes, and each of them in four.
+/// Appends how many slots are free, in four bytes, and the number of each in four bytes.
 #[tactic(auto, using(crate::proofs::Joins::both, crate::proofs::Joins::unwritten))]
 pub(crate) fn put_free_list(out: &mut Writer, heap: &Heap)
     ensures { Puts (counted number4 number4) out.old out.new heap.now.heap.free }
@@ -113,7 +113,7 @@ fn put_letter(out: &mut Writer, letter: Letter)
     out.append(piece.as_slice());
 }
 
-/// Appends how many letters wait in four bytes, and the letters.
+/// Appends how many letters wait, in four bytes, and the letters.
 #[tactic(auto, using(crate::proofs::Joins::both, crate::proofs::Joins::unwritten, crate::proofs::Joins::written_more))]
 pub(crate) fn put_letters(out: &mut Writer, heap: &Heap)
     ensures { Puts (counted number4 (letter_format Second)) out.old out.new heap.now.heap.letters }

@@ -1,4 +1,4 @@
-//! A node as bytes. Its parts follow one another without gaps, each by its own format.
+//! Writes a node as bytes. Its parts follow one another without gaps, each in its own format.
 ghost use Rattle.std.specs.Prelude.{◌≡◌, ◌≤◌, ◌+◌, length};
 ghost use Rattle.codec.specs.Pieces.{Adds};
 ghost use Rattle.codec.specs.declared.piece.TheConstants.{GREATEST_PIECE};
@@ -35,7 +35,7 @@ fn add_head(piece: &mut Piece, head: Head)
     piece.u32(head.slots);
 }
 
-// A node's cycles and how far it has swept.
+// A node's cycles, and how far it has swept.
 #[tactic(auto, unfolding(crate::specs::Grammar::phases_format), using(crate::proofs::Joins::gained))]
 #[inline(always)]
 fn add_phases(piece: &mut Piece, p: &Phases)
@@ -76,7 +76,7 @@ fn add_ring(piece: &mut Piece, ring: Ring)
     add_held(piece, ring.token());
 }
 
-// What stands before the lists, in one piece.
+// What comes before the lists, in one piece.
 #[tactic(auto, unfolding(crate::specs::Grammar::front_format), using(crate::proofs::Joins::gained, crate::proofs::Joins::piece_written))]
 fn put_front(out: &mut Writer, node: &Core)
     ensures { Puts (front_format Second) out.old out.new (front_of (stored_by node.now)) }
@@ -95,7 +95,7 @@ fn put_front(out: &mut Writer, node: &Core)
     out.append(piece.as_slice());
 }
 
-// The reports of the other nodes in ascending order, at node 0; at another node none.
+// At node 0 the reports of the other nodes, in ascending order; at other nodes empty.
 fn reports_of(node: &Core) -> &[u64]
     ensures { result.now ≡ (stored_by node.now).reports }
 {

@@ -16,7 +16,7 @@ use Rattle.msg.specs.Formats.{generation, reference, optional, colour, token, gi
 use Rattle.msg.specs.Formats.{give_at, put_at, get_at, bodies, body_format, head, sent, sent_fits}
 use Rattle.msg.specs.Formats.{known, head_fits}
 
--- what grows from the first version to the second is sound in each
+-- a format that grows from the first version to the second is sound in both
 pub any : {A : Type 0} (F : Version → Format A) → Grows (F First) (F Second) → (v : Version)
     → IsSound (F v)
 any F g First = g.first
@@ -130,7 +130,7 @@ body_grows = record {
   later = body_later;
 }
 
--- ---- what stands behind a frame's first byte
+-- ---- what follows a frame's first byte
 
 head_sound : IsSound head
 unfolding head

@@ -1,4 +1,5 @@
--- What is read is spelled so, what is spelled so is read, and no spelling begins another.
+-- What is read has that spelling, what has a spelling is read, and no spelling is a prefix of
+-- another.
 use Rattle.std.proofs.Common.{◌≡◌, ℕ, List, [], ◌∷◌, ◌++◌, Option, Some, None, refl, sym, ap, ◌∙◌}
 use Rattle.std.specs.Prelude.{IfOk}
 use Rattle.std.specs.Option.{option_map, ok_or}

@@ -12,7 +12,7 @@ use Rattle.msg.specs.declared.version.Version.{Version}
 use Rattle.msg.specs.declared.version.Version.TheVariants.{First, Second}
 use Rattle.msg.specs.Limits.{data_fits, ack_fits}
 
--- a generation, in four bytes in the first version
+-- a generation, which has four bytes in the first version
 abbrev pub generation : Version → Format ℕ
 generation First = number4
 generation Second = number8
@@ -87,7 +87,7 @@ bodies v =
 unfoldable pub body_format : Version → Format Body
 body_format v = tagged (body_tag v) (bodies v)
 
--- ---- what stands behind a frame's first byte, in the second version
+-- ---- what follows a frame's first byte, in the second version
 
 -- from, to and number
 abbrev pub Head : Type 0

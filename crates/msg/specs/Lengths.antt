@@ -1,4 +1,4 @@
--- Parts that stand in lists have a byte at least.
+-- Elements of lists have at least one byte.
 use Rattle.std.proofs.Common.{zero-le, suc-le-suc, Some, None}
 use Rattle.codec.specs.Reading.{IsLong}
 use Rattle.msg.specs.declared.version.Version.{Version}

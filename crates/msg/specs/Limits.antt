@@ -1,4 +1,4 @@
--- What a frame may hold, as tests.
+-- The limits of what a frame holds, as tests.
 use Rattle.std.specs.Prelude.{ℕ, ◌==◌, ◌&&◌, nat_lt, nat_le, Bool, true, not, Option, Some, None}
 use Rattle.ids.specs.Limits.{reference_fits}
 use Rattle.ids.specs.declared.names.Ref.{Ref}

@@ -1,5 +1,5 @@
-//! What goes from one node to another at once: a message with its addresses and number, or an
-//! acknowledgement. A frame that exists is within the limits, so it has a spelling.
+//! Frames, the units that links carry: a message with its addresses and number, or an
+//! acknowledgement. Every frame is within the limits by construction, so it has a spelling.
 ghost use Rattle.std.specs.Prelude.{◌≡◌, ◌++◌, [], ℕ, List, IsTrue, IsSome, IfSome, ◌↔◌};
 ghost use Rattle.msg.specs.Limits.{nodes_fit, optional_fits, place_fits, body_fits};
 ghost use Rattle.msg.specs.Limits.{data_fits, ack_fits};
@@ -8,8 +8,8 @@ ghost use Rattle.msg.specs.Grammar.{Plain, Fits, spelling, data_frame, ack_frame
 use crate::body::Body;
 use ids::{GREATEST_CYCLE, GREATEST_NODES, GREATEST_NUMBER, GREATEST_PLACES, Ref};
 
-/// A message on its way from one node to another: its number on their link, the sender's cycle when
-/// it was appended, and what it says. The two nodes differ, the number is 1 to
+/// A message with its addresses, as a link carries it: its number on the link, the sender's cycle
+/// when it was appended, and what it says. The two nodes differ, the number is 1 to
 /// [`GREATEST_NUMBER`], the stamp is at most [`GREATEST_CYCLE`], and every part is within the
 /// limits.
 #[derive(Clone, Copy, Debug, PartialEq, Eq)]
@@ -22,8 +22,9 @@ pub struct Data {
     pub ghost fits: { IsTrue (data_fits from to number stamp body) },
 }
 
-/// Word from one node to another that the first has taken in and saved all messages of the second
-/// up to this number. The two nodes differ, and the number is at most [`GREATEST_NUMBER`].
+/// An acknowledgement from one node to another: the first has received and saved all messages of
+/// the second up to this number. The two nodes differ, and the number is at most
+/// [`GREATEST_NUMBER`].
 #[derive(Clone, Copy, Debug, PartialEq, Eq)]
 pub struct Ack {
     pub from: u8,
@@ -32,7 +33,7 @@ pub struct Ack {
     pub ghost fits: { IsTrue (ack_fits from to number) },
 }
 
-/// What goes from one node to another at once.
+/// What a link carries: a message or an acknowledgement.
 #[derive(Clone, Copy, Debug, PartialEq, Eq)]
 pub enum Frame {
     /// A message.
@@ -47,7 +48,7 @@ fn nodes_fit(from: u8, to: u8) -> bool
     from < GREATEST_NODES && to < GREATEST_NODES && from != to
 }
 
-/// Whether the reference, where there is one, is within the limits, as [`Ref::fits`] says.
+/// Whether the reference, if there is one, is within the limits; see [`Ref::fits`].
 pub fn optional_fits(reference: Option<Ref>) -> bool
     ensures { result ≡ optional_fits reference }
 {
@@ -60,8 +61,8 @@ fn place_fits(target: Ref, place: u8) -> bool
     target.fits() && place < GREATEST_PLACES
 }
 
-/// Whether all that the body says is within the limits: its references, as [`Ref::fits`] says, and
-/// its place, which is below [`GREATEST_PLACES`].
+/// Whether everything that the body says is within the limits: its references (see [`Ref::fits`]),
+/// and its place, which must be below [`GREATEST_PLACES`].
 pub fn body_fits(body: Body) -> bool
     ensures { result ≡ body_fits body }
 {
@@ -90,7 +91,7 @@ pub(crate) fn data_fits(from: u8, to: u8, number: u64, stamp: u64, body: &Body) 
 impl Data {
     ghost use Rattle.msg.specs.Frames.{plain_data};
 
-    /// The message of these parts, where they are within the limits.
+    /// The message of these parts, or `None` if they aren't within the limits.
     pub fn new(from: u8, to: u8, number: u64, stamp: u64, body: Body) -> Option<Data>
         ensures within { IsSome result ↔ IsTrue (data_fits from to number stamp body) }
         ensures value { IfSome result (λ d. plain_data d ≡ data_frame from to number stamp body) }
@@ -112,7 +113,7 @@ impl Data {
 impl Ack {
     ghost use Rattle.msg.specs.Frames.{plain_ack};
 
-    /// The acknowledgement of these parts, where they are within the limits.
+    /// The acknowledgement of these parts, or `None` if they aren't within the limits.
     pub fn new(from: u8, to: u8, number: u64) -> Option<Ack>
         ensures within { IsSome result ↔ IsTrue (ack_fits from to number) }
         ensures value { IfSome result (λ a. plain_ack a ≡ ack_frame from to number) }
@@ -125,8 +126,8 @@ impl Ack {
     }
 }
 
-/// No spelling of a frame begins another, so bytes spell one frame at most. This does nothing: its
-/// contract is the law.
+/// No spelling of a frame is a prefix of another one, so bytes spell at most one frame. The
+/// function does nothing; its contract states the law.
 pub fn grammar()
     ensures { (f g : Plain) (rest : List ℕ) → Fits f → Fits g
         → spelling f ++ rest ≡ spelling g → (rest ≡ []) × (f ≡ g) }

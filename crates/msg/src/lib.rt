@@ -1,9 +1,9 @@
 //! What nodes say to each other, and how it is spelled as bytes.
 //!
-//! A frame is the whole of its bytes, and its numbers are big-endian. An acknowledgement is the
-//! byte 42 hex, the node that acknowledges and the other node in a byte each, and a number in eight
-//! bytes. A message is the byte 45 hex, the sender, the receiver and the message's number likewise,
-//! its stamp in eight bytes, and a body: a tag, and what the body says.
+//! A frame is all of its bytes, and its numbers are big-endian. An acknowledgement is the byte 42
+//! hex, the node that acknowledges and the other node in a byte each, and a number in eight bytes.
+//! A message is the byte 45 hex, the sender and the receiver in a byte each, the message's number
+//! in eight bytes, its stamp in eight bytes, and a body: a tag, and what the body says.
 //!
 //! | Tag | Body | What it says |
 //! |---|---|---|
@@ -17,8 +17,8 @@
 //! | 8 | Swept | |
 //!
 //! A reference is its node in one byte, its slot in four and its generation in eight. An optional
-//! one is the byte 0, or the byte 1 and a reference. In the first [`Version`], which images alone
-//! may still have, a generation had four bytes.
+//! reference is the byte 0, or the byte 1 and a reference. In the first [`Version`], which only
+//! images may still have, a generation had four bytes.
 #![tactic(auto)]
 
 mod body;

@@ -1,5 +1,5 @@
-//! Frames from bytes. Each call reads something at the front of what is left; where it isn't
-//! spelled exactly so, the reader has failed, or the call gives none.
+//! Parses frames from bytes. Each call reads a value from the front of what is left. If the bytes
+//! there don't spell one, the reader fails, or the call returns no value.
 ghost use Rattle.std.specs.Prelude.{◌≡◌, Some, IfOk, IfErr};
 ghost use Rattle.std.specs.Option.{option_map};
 ghost use Rattle.std.specs.Result.{IsOkAnd};
@@ -20,7 +20,7 @@ use crate::version::Version;
 use codec::Reader;
 use ids::{Generation, Ref, Refusal};
 
-/// A generation.
+/// Reads a generation.
 pub fn read_generation(reader: &mut Reader, version: Version) -> Generation
     ensures { Reads (generation version) reader.old reader.new result }
 {
@@ -30,7 +30,7 @@ pub fn read_generation(reader: &mut Reader, version: Version) -> Generation
     }
 }
 
-/// A reference, whose numbers may be any.
+/// Reads a reference; its numbers are not limited.
 #[tactic(auto, unfolding(crate::specs::Formats::reference), using(crate::proofs::Joins::both_read, crate::proofs::Joins::made))]
 pub fn read_reference(reader: &mut Reader, version: Version) -> Ref
     ensures { Reads (reference version) reader.old reader.new result }
@@ -45,7 +45,7 @@ pub fn read_reference(reader: &mut Reader, version: Version) -> Ref
     }
 }
 
-/// A reference whose numbers may be any, or that there is none.
+/// Reads an optional reference; its numbers are not limited.
 #[tactic(auto, unfolding(crate::specs::Formats::optional), using(crate::proofs::Joins::tags))]
 pub fn read_optional(reader: &mut Reader, version: Version) -> Option<Ref>
     ensures { Reads (optional version) reader.old reader.new result }
@@ -60,7 +60,7 @@ pub fn read_optional(reader: &mut Reader, version: Version) -> Option<Ref>
     }
 }
 
-/// A colour.
+/// Reads a colour.
 #[tactic(auto, unfolding(crate::specs::Formats::colour), using(crate::proofs::Joins::tags))]
 pub fn read_colour(reader: &mut Reader) -> Colour
     ensures { Reads colour reader.old reader.new result }
@@ -75,7 +75,7 @@ pub fn read_colour(reader: &mut Reader) -> Colour
     }
 }
 
-/// A token.
+/// Reads a token.
 #[tactic(auto, unfolding(crate::specs::Formats::token), using(crate::proofs::Joins::both_read, crate::proofs::Joins::made))]
 pub fn read_token(reader: &mut Reader) -> Token
     ensures { Reads token reader.old reader.new result }
@@ -122,7 +122,7 @@ fn read_get(reader: &mut Reader, version: Version) -> Body
     }
 }
 
-/// What a message says, behind its tag; its references and places may be any.
+/// Reads a tag and what the message says; its references and places are not limited.
 #[tactic(auto, unfolding(crate::specs::Formats::body_format), using(crate::proofs::Joins::tags))]
 pub fn read_body(reader: &mut Reader, version: Version) -> Body
     ensures { Reads (body_format version) reader.old reader.new result }
@@ -202,16 +202,16 @@ fn whole(bytes: &[u8]) -> Option<Frame>
     if reader.finish() { frame } else { None }
 }
 
-/// The frame that the bytes spell, all of the bytes. It takes no memory.
+/// The frame that the bytes spell, all of them. Allocates nothing.
 ///
 /// # Errors
 ///
-/// [`Refusal::BadFrame`] where the bytes spell no frame: something is missing or left over, or a
-/// byte or a number is not one that may stand there.
+/// [`Refusal::BadFrame`] if the bytes spell no frame: something is missing or left over, or a byte
+/// or a number isn't allowed there.
 pub fn decode(bytes: &[u8]) -> Result<Frame, Refusal>
-    // What is read is spelled so.
+    // What is read has that spelling.
     ensures found { IfOk result (λ f. Fits (plain f) × (bytes.now ≡ spelling (plain f))) }
-    // What is spelled so is read.
+    // What has a spelling is read.
     ensures only { (f : Plain) → Fits f → bytes.now ≡ spelling f
         → IsOkAnd result (λ x. plain x ≡ f) }
     ensures refused { IfErr result (λ e. e ≡ BadFrame) }

@@ -1,4 +1,4 @@
-//! The bytes that say what follows them. What may be one of several things begins with such a byte.
+//! Tag bytes. A value that may be one of several kinds begins with a byte that says which.
 
 /// Before a message.
 pub const DATA: u8 = 0x45;
@@ -6,7 +6,7 @@ pub const DATA: u8 = 0x45;
 /// Before an acknowledgement.
 pub const ACK: u8 = 0x42;
 
-/// Before the news that a collection cycle begins.
+/// Says that a collection cycle begins.
 pub const BEGIN: u8 = 1;
 
 /// Before the token.
@@ -24,16 +24,16 @@ pub const PUT: u8 = 5;
 /// Before a place to be read.
 pub const GET: u8 = 6;
 
-/// Before the news that marking has ended.
+/// Says that marking has ended.
 pub const ENDED: u8 = 7;
 
-/// Before the news that the sender has swept.
+/// Says that the sender has swept.
 pub const SWEPT: u8 = 8;
 
-/// In the place of a reference that is not there.
+/// In place of a reference that is absent.
 pub const ABSENT: u8 = 0;
 
-/// Before a reference that may be left out.
+/// Before a reference that may be absent.
 pub const PRESENT: u8 = 1;
 
 /// White, of a node or the token.

@@ -1,5 +1,5 @@
-//! Frames as bytes. Each frame has one spelling. It is put together in a piece, which takes no
-//! memory.
+//! Writes frames as bytes. Each frame has one spelling. It is put together in a piece, which
+//! allocates nothing.
 ghost use Rattle.std.specs.Prelude.{◌≡◌, ◌≤◌, ◌+◌, ◌∷◌, ◌++◌, length, IfOk, IfErr};
 ghost use Rattle.ids.specs.declared.refusal.Refusal.TheVariants.{Memory};
 ghost use Rattle.codec.specs.Formats.{number4, number8};
@@ -21,7 +21,7 @@ use codec::{Piece, Writer};
 use ids::{Ref, Refusal};
 use std::alloc::Global;
 
-// A reference behind a tag.
+// A reference after a tag.
 #[tactic(auto, unfolding(crate::specs::Numbers::number4, crate::specs::Numbers::number8))]
 #[inline(always)]
 fn tagged_bytes(tag: u8, r: Ref) -> [u8; 14]
@@ -51,7 +51,7 @@ fn put_tagged(out: &mut Writer, tag: u8, r: Ref)
     out.append(&tagged_bytes(tag, r));
 }
 
-/// Appends a reference, or that there is none.
+/// Appends an optional reference.
 #[tactic(auto, unfolding(crate::specs::Formats::optional))]
 #[inline(always)]
 pub fn put_optional(out: &mut Writer, o: Option<Ref>)
@@ -63,7 +63,7 @@ pub fn put_optional(out: &mut Writer, o: Option<Ref>)
     }
 }
 
-/// Puts a reference behind what the piece has. There is room for it.
+/// Appends a reference to the piece, which must have room for it.
 #[tactic(auto, unfolding(crate::specs::Formats::reference), using(crate::proofs::Joins::gained))]
 #[inline(always)]
 pub fn add_reference(piece: &mut Piece, r: Ref)
@@ -75,7 +75,7 @@ pub fn add_reference(piece: &mut Piece, r: Ref)
     piece.u64(r.generation);
 }
 
-/// Puts a reference behind what the piece has, or that there is none. There is room for it.
+/// Appends an optional reference to the piece, which must have room for it.
 #[tactic(auto, unfolding(crate::specs::Formats::optional), using(crate::proofs::Joins::gained))]
 #[inline(always)]
 pub fn add_optional(piece: &mut Piece, o: Option<Ref>)
@@ -91,7 +91,7 @@ pub fn add_optional(piece: &mut Piece, o: Option<Ref>)
     }
 }
 
-/// Puts a colour behind what the piece has. There is room for it.
+/// Appends a colour to the piece, which must have room for it.
 #[tactic(auto, unfolding(crate::specs::Formats::colour), using(crate::proofs::Joins::gained))]
 #[inline(always)]
 pub fn add_colour(piece: &mut Piece, c: Colour)
@@ -104,7 +104,7 @@ pub fn add_colour(piece: &mut Piece, c: Colour)
     });
 }
 
-/// Puts a token behind what the piece has. There is room for it.
+/// Appends a token to the piece, which must have room for it.
 #[tactic(auto, unfolding(crate::specs::Formats::token), using(crate::proofs::Joins::gained))]
 #[inline(always)]
 pub fn add_token(piece: &mut Piece, t: Token)
@@ -115,7 +115,7 @@ pub fn add_token(piece: &mut Piece, t: Token)
     piece.i64(t.q);
 }
 
-/// Puts what a message says behind what the piece has, with its tag. There is room for it.
+/// Appends a tag and what the message says to the piece, which must have room for them.
 #[tactic(auto, unfolding(crate::specs::Formats::body_format), using(crate::proofs::Joins::gained))]
 #[inline(always)]
 pub fn add_body(piece: &mut Piece, body: Body)
@@ -193,7 +193,7 @@ fn add_ack(piece: &mut Piece, ack: &Ack)
     add_head(piece, ack.from, ack.to, ack.number);
 }
 
-/// Puts the bytes that spell the frame behind what the piece has. There is room for them.
+/// Appends the bytes that spell the frame to the piece, which must have room for them.
 #[tactic(auto, unfolding(crate::specs::Grammar::spelling), using(crate::proofs::Written::frame_fits))]
 pub fn add_frame(piece: &mut Piece, f: &Frame)
     requires { length piece.old + 48 ≤ GREATEST_PIECE }
@@ -210,7 +210,7 @@ pub fn add_frame(piece: &mut Piece, f: &Frame)
 ///
 /// # Errors
 ///
-/// [`Refusal::Memory`] where memory is refused, and no other.
+/// [`Refusal::Memory`] if an allocation fails; there are no other errors.
 pub fn encode(alloc: Global, f: &Frame) -> Result<Vec<u8>, Refusal>
     ensures spelled { IfOk result
         (λ v. Fits (plain f.now) × (v.items ≡ spelling (plain f.now))) }

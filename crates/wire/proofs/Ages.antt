@@ -1,4 +1,4 @@
--- The cycle that a node knows to have ended is never an earlier one than before.
+-- The cycle that a node knows to have ended never becomes an earlier one.
 use Rattle.std.proofs.Common.{◌≡◌, ℕ, ◌+◌, ◌<◌, ◌≤◌, ◌==◌, ltb, ltb-true, List, [], ◌∷◌, length, map, true, Ok, sym, subst, ⊎_elim, option_to_list, le_refl, le_trans, arith}
 use Rattle.std.proofs.lemmas.Bool.{cases_Bool, cond_both}
 use Rattle.ids.specs.declared.names.Ref.{Ref}
@@ -19,7 +19,7 @@ use Rattle.model.proofs.ShadingParts.{shade_all-closed, shade_all-open, vouch_al
 use Rattle.laws.proofs.StepFacts.{Delivery, act-ok, Receipt, repeated, next, receipt-cases}
 use Rattle.laws.proofs.Onward.{Onward}
 
--- a later state of a node that knows no end of a cycle after its own
+-- a later state of a node that knows of no end of a cycle after its own
 abbrev pub Older : LocalState → LocalState → Type 0
 Older p q =
     p.phases.ended ≤ p.phases.cycle

@@ -1,4 +1,4 @@
--- Raising a number on the board, and looking at it, keep the rule.
+-- Raising a number on the board, and looking at the board, keep the rule.
 use Rattle.std.proofs.Common.{◌≡◌, ℕ, ◌+◌, ◌*◌, ◌≤◌, max, List, length, set, refl, sym, ap, ◌∙◌, subst, arith, le_refl, length-set, get_or-set_other, get_or-set_same}
 use Rattle.std.proofs.Math.Nat.{max-le, le-max_left}
 use Rattle.std.specs.Prelude.{slice_index}

@@ -1,4 +1,4 @@
--- A mailbox is set, and what a seat knows of it.
+-- Setting a mailbox, and what a seat then knows of it.
 use Rattle.std.proofs.Common.{◌≡◌, ◌≢◌, ℕ, zero, suc, List, [], ◌∷◌, set, Option, Some, None, refl, sym, subst, arith}
 use mathlib.Core.Option.{some, some-ne-none}
 use native.Mathlib.Decide.{ℕ_discrete}
@@ -13,7 +13,7 @@ pick (no _) a b = b
 pub put : {A : Type 0} → (ℕ → A) → ℕ → A → ℕ → A
 put boxes m b k = pick (ℕ_discrete k m) b (boxes k)
 
--- what holds of the new one, and of each other, holds after
+-- what holds of the new mailbox, and of each other one, holds of all afterwards
 pub at_put : {A : Type 0} (boxes : ℕ → A) (m : ℕ) (b : A) (F : ℕ → A → Type 0) (k : ℕ) → F m b
     → (k ≢ m → F k (boxes k)) → F k (put boxes m b k)
 unfolding put
@@ -32,7 +32,7 @@ pub put-here : {A : Type 0} (boxes : ℕ → A) (m : ℕ) (b : A) (k : ℕ) → 
 put-here boxes m b k is =
     at_put boxes m b (λ j x. j ≡ m → x ≡ b) k (λ _. refl) (λ ne e. absurd (ne e)) is
 
--- who holds it, if anyone: 0, or 1 more than the seat's index
+-- who holds it: 0 for nobody, else 1 more than the seat's index
 abbrev pub holder : Box → ℕ
 holder empty = 0
 holder (full f) = 0

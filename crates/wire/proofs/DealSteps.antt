@@ -1,4 +1,4 @@
--- A new wire meets the rule, and goes on to while its seats are made.
+-- A new wire satisfies the rule, and still does while its seats are made.
 use Rattle.std.proofs.Common.{◌≡◌, ◌≢◌, ◌⊎◌, ℕ, zero, suc, ◌+◌, ◌*◌, ◌<◌, ◌≤◌, ◌==◌, ne_eqb, true, false, List, [], ◌∷◌, ◌++◌, length, set, get_or, Option, Some, None, refl, sym, ap, ◌∙◌, subst, inl, inr, ⊎_elim, arith, zero-le, le_refl, le_trans}
 use Rattle.std.specs.Prelude.{slice_index}
 use mathlib.Core.Option.{some, some-injective, some-ne-none}
@@ -28,7 +28,7 @@ module _ {S : Type 0} (bytes : S → List ℕ) (opening : World) where
   abbrev Seats : List Known → Known → Known → ℕ → List Known
   Seats views left right id = set views id left ++ right ∷ []
 
-  -- the dealer goes on as `left`, and the new seat is `right`
+  -- the dealer becomes `left`, and the new seat is `right`
   record Deal (s : State S Known) (h : Holds bytes opening s) (id : ℕ)
       (v left right : Known) : Type 0
     where
@@ -169,7 +169,7 @@ module _ {S : Type 0} (bytes : S → List ℕ) (opening : World) where
       one = λ j k x u. one-kept j k;
     }
 
-  -- who is among the seats after a deal
+  -- which seats there are after a deal
   among : (s : State S Known) (id : ℕ) (left right : Known) (k : ℕ) (u : Known)
       → get_elem? (Seats s.views left right id) k ≡ some u
       → ((k ≡ id) × (left ≡ u)) ⊎ ((get_elem? s.views k ≡ some u) ⊎ (right ≡ u))

@@ -1,5 +1,5 @@
--- Events of a space, one after another: what a list of them and one more is, and what an event of
--- one node leaves of the others.
+-- Events of a space, one after another: what a list of events and one more leads to, and what an
+-- event of one node leaves unchanged at the others.
 use Rattle.std.proofs.Common.{◌≡◌, ◌≢◌, ℕ, ◌<◌, ◌≤◌, ◌==◌, cond, eq-eqb, ne_eqb, lt-ltb, Bool, true, false, List, [], ◌∷◌, ◌++◌, length, set, Some, Result, Ok, refl, sym, ap, ◌∙◌, subst, get_or-set_same, get_or-set_other, slice_get}
 use Rattle.std.proofs.Math.Logic.{∥∥₁_elim}
 use Rattle.std.proofs.Props.{props}
@@ -68,7 +68,7 @@ module _ (w : World) (log : List Step) (opens : IsOpening w) where
   pub count : length (run w log).current ≡ nodes_of w
   count = run-count w log
 
-  -- a frame in the net is there after one more step too
+  -- a frame in the net is still there after one more step
   pub net-push : (s : Step) (f : Plain) → IsInNet (run w log) f → IsInNet (run w (log ++ s ∷ [])) f
   net-push s f there =
       subst (λ (v : World). IsInNet v f) (sym (run-push w log s))
@@ -85,7 +85,7 @@ module _ (w : World) (log : List Step) (opens : IsOpening w) where
 
 -- ---- What an event of one node does
 
--- the step is an event, after which the node i has the pair q, and the others the same as before
+-- the step is an event, after which node i has the pair q, and the others are unchanged
 pub record IsLocal (w : World) (s : Step) (i : ℕ) (q : Pair) : Type 0 where
   pub node : node_of s ≡ i
   pub event : is_event w s ≡ true

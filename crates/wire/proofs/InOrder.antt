@@ -11,7 +11,7 @@ pub box-number : (n m : ℕ) (f : Plain) → sender f ≡ m / n → receiver f �
 box-number n m f from to =
     (λ i. from i * n + to i) ∙ div-add-mod' m n
 
--- one of this mailbox comes last
+-- the last frame belongs to this mailbox
 pub box-here : (n m : ℕ) (f : Plain) (fs : List Plain) → box_of n f ≡ m
     → in_box n m (fs ++ f ∷ []) ≡ in_box n m fs ++ f ∷ []
 box-here n m f [] is = cond-true _ _ _ (eq-eqb (box_of n f) m is)
@@ -23,7 +23,7 @@ box-here n m f (g ∷ gs) is =
     (λ a. cond-false _ _ _ (ne_eqb (box_of n g) m a) ∙ box-here n m f gs is
     ∙ ap (λ (x : List Plain). x ++ f ∷ []) (sym (cond-false _ _ _ (ne_eqb (box_of n g) m a))))
 
--- one of another mailbox does
+-- the last frame belongs to another mailbox
 pub box-else : (n m k : ℕ) (f : Plain) (fs : List Plain) → box_of n f ≡ m → k ≢ m
     → in_box n k (fs ++ f ∷ []) ≡ in_box n k fs
 box-else n m k f [] is apart =

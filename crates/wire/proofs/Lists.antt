@@ -1,4 +1,4 @@
--- Look-ups in the sets of mailboxes, after one came or went.
+-- Look-ups in the sets of mailboxes, after one was added or removed.
 use Rattle.std.proofs.Common.{◌≡◌, ◌≢◌, ℕ, ◌==◌, cond, eq-eqb, ne_eqb, true, false, List, [], ◌∷◌, Some, None, refl, sym, ap, ◌∙◌}
 use Rattle.std.proofs.lemmas.Bool.{cond-true, cond-false}
 use native.Mathlib.Decide.{ℕ_discrete}

@@ -1,4 +1,4 @@
--- The four plays on a mailbox are allowed.
+-- The four kinds of steps on a mailbox are allowed.
 use Rattle.std.proofs.Common.{◌≡◌, ℕ, ◌*◌, ◌/◌, ◌%◌, ◌<◌, true, List, ◌∷◌, length, get_or, Some, refl, sym, ap, ◌∙◌, subst, eqb}
 use mathlib.Core.Option.{none}
 use prog.Atomic.{either}
@@ -104,7 +104,7 @@ module _ {S : Type 0} (bytes : S → List ℕ) (opening : World) where
         ((λ hit. absurd (miss hit)), (λ _. (place, refl, refl))),
       ))
 
-  -- the bytes lie in the slot that comes first
+  -- the bytes are in the first slot
   pub posts_allowed : {slots m : ℕ} (id : ℕ) (me : Sat) (x : S) → me.0.role ≡ node
       → has m me.0.filling ≡ true → me.1 ≡ (m, x) ∷ rest me.1 → Owns m me.0 (bytes x)
       → Allows (Holds bytes opening) slots id me m (λ _. 1)

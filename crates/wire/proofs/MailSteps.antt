@@ -70,7 +70,7 @@ module _ {S : Type 0} (bytes : S → List ℕ) (opening : World) where
     ok : NodeOk opening h.log (slice_index s.words (n * n + 1)) h.mail id v
     ok = node-of bytes opening p role
 
-    -- a mailbox that the seat neither fills nor empties
+    -- a mailbox that the seat is neither filling nor emptying
     fresh : (m : ℕ) → holder (h.mail.boxes m) ≢ suc id → IsFresh m v
     fresh m none_holds = (
       false_from_ne_true (has m v.filling) (λ e. none_holds (ap holder (ok.fills m e).1)),
@@ -81,7 +81,7 @@ module _ {S : Type 0} (bytes : S → List ℕ) (opening : World) where
     abbrev place : ℕ → ℕ
     place m = length (h.mail.visits m)
 
-    -- a claim or a take that goes no further
+    -- a claim or a take that found another word
     pub missed : (m r : ℕ) → m < n * n → r ≡ get_or s.words m 0
         → Holds bytes opening (stepped s m r id [] (notes m (place m) r v) keeps)
     missed m r below is =

@@ -1,4 +1,4 @@
--- What stays of the rule when one seat moves a mailbox.
+-- What remains of the rule when one seat changes a mailbox.
 use Rattle.std.proofs.Common.{◌≡◌, ◌≢◌, ℕ, suc, ◌+◌, ◌*◌, ◌/◌, ◌%◌, ◌<◌, ◌≤◌, true, List, ◌++◌, length, set, get_or, Some, refl, sym, ap, ◌∙◌, subst, arith, le_refl, length-set, get_or-set_other, get_or-set_same, slice_get}
 use Rattle.std.specs.Prelude.{slice_index}
 use mathlib.Core.Option as maybe
@@ -19,14 +19,14 @@ module _ {S : Type 0} (bytes : S → List ℕ) (opening : World) where
   abbrev n : ℕ
   n = nodes_of opening
 
-  -- the views when the seat's is w
+  -- the views when the seat's view is w
   abbrev after : Standing bytes opening → Known → List Known
   after p w = set p.state.views p.id w
 
-  -- ---- A step that moves a mailbox
+  -- ---- A step that changes a mailbox
 
   pub record Move (p : Standing bytes opening) (w : Known) (m x : ℕ) (b : Box) : Type 0 where
-    -- what stands in the mailbox's slot
+    -- the content of the mailbox's slot
     pub home : maybe.Option S
     pub below : m < n * n
     pub role : p.view.role ≡ node
@@ -40,7 +40,7 @@ module _ {S : Type 0} (bytes : S → List ℕ) (opening : World) where
         → IsInNet (run opening p.holds.log) f
     pub fills : has m w.filling ≡ true → b ≡ filling_by p.id
     pub empties : (f : Plain) → found m w.emptying ≡ Some f → b ≡ emptying_by p.id f
-    -- what was posted to the mailbox by now, and what was taken from it
+    -- what has been posted to the mailbox by now, and what has been taken from it
     pub posted : List Plain
     pub got : List Plain
     pub in_order : posted ≡ got ++ lying b
@@ -48,7 +48,7 @@ module _ {S : Type 0} (bytes : S → List ℕ) (opening : World) where
     pub gets : p.view.me ≡ m % n → got ≡ in_box n m w.taken
     pub sends_none : p.view.me ≢ m / n → posted ≡ p.holds.mail.posted m
     pub gets_none : p.view.me ≢ m % n → got ≡ p.holds.mail.got m
-    -- the word that stood there
+    -- the word that was there
     pub found : ℕ
     pub was : found ≡ face (p.holds.mail.boxes m)
     pub visits : w.visits ≡ visits_with m (length (p.holds.mail.visits m)) found x p.view
@@ -76,7 +76,7 @@ module _ {S : Type 0} (bytes : S → List ℕ) (opening : World) where
           visits = t.visits;
         })
 
-    -- the mailboxes, with this one moved
+    -- the mailboxes after this one has changed
     abbrev then : Mail
     then = record {
       boxes = put p.holds.mail.boxes m b;

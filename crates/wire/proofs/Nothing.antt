@@ -6,7 +6,7 @@ use Rattle.wire.specs.Readers.{known}
 use Rattle.wire.specs.Rule.{Spells}
 use Rattle.wire.specs.declared.seats.NodeSeat.{NodeSeat}
 
--- of two nodes, node 0 to node 1
+-- with two nodes, from node 0 to node 1
 pub owns-nothing : (s : NodeSeat) (to : ℕ) {bytes : List ℕ} → s.node ≡ 0 → s.nodes ≡ 2 → to ≡ 1
     → Spells (ack_frame 0 1 0) bytes → Owns (s.node * s.nodes + to) (known s) bytes
 owns-nothing s to node nodes is spells =

@@ -1,4 +1,4 @@
--- The number of a mailbox, among those between so many nodes.
+-- The number of a mailbox, among those between this many nodes.
 use Rattle.std.proofs.Common.{◌≡◌, ℕ, ◌+◌, ◌*◌, ◌/◌, ◌%◌, ◌<◌, ◌≤◌, ◌==◌, ◌||◌, eq-eqb, Bool, true, true≢false, refl, sym, ap, ◌∙◌, subst, arith, suc, suc-mul, mul-le-mul_right}
 use Rattle.std.proofs.lemmas.Nat.{div-mul-add, mod-mul-add}
 use Rattle.std.proofs.Math.Bool.{or-true}
@@ -30,7 +30,7 @@ box-of {k} i j n first second same is =
     subst (λ (z : ℕ). IsBox i j k z) (sym is)
     (subst (λ (z : ℕ). IsBox i j z (i * n + j)) same (is-box i j n first second))
 
--- one from the node, and one to it, is its own
+-- a mailbox from the node, and one to it, is its own
 pub own-from : (i j n m : ℕ) → IsBox i j n m → IsOwnBox i n m
 own-from i j n m box =
     (box.below, ap (λ (b : Bool). b || m % n == i) (eq-eqb (m / n) i (sym box.sender)))

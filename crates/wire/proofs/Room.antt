@@ -63,7 +63,7 @@ lane-one me n k j pos first second same =
     (cases_Bool (j / n == me)))
     (cases_Bool (k / n == me))
 
--- ---- Numbers that stand once, by what each is given
+-- ---- Numbers that occur once, by what each is mapped to
 
 has-later : (k x : ℕ) (xs : List ℕ) → has k xs ≡ true → has k (x ∷ xs) ≡ true
 has-later k x xs there =
@@ -107,7 +107,7 @@ module _ (f : ℕ → ℕ) where
       (λ later. let k = given-by q xs later in (k.0, has-later k.0 x xs k.1, k.2))
       (or_cases (eqb q (f x)) (list_any (eqb q) (map f xs)) e)
 
--- so few that there is room for one more
+-- there are few enough that there is room for one more
 pub room-for : (me n at : ℕ) (xs : List ℕ) → once xs ≡ true → has at xs ≡ false → me < n
     → IsOwnBox me n at → ((k : ℕ) → has k xs ≡ true → IsOwnBox me n k) → length xs < 2 * n
 room-for me n at xs single gone inside its own =

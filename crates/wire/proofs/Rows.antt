@@ -10,7 +10,7 @@ module _ {A : Type 0} where
   at-end (z ∷ zs) y x (suc k) e =
       ⊎_elim (λ t. inl t) (λ t. inr (ap suc t.0, t.1)) (at-end zs y x k e)
 
-  -- so of each element, with its number
+  -- this holds of each element, with its number
   abbrev pub Each : (ℕ → A → Type 0) → List A → Type 0
   Each P xs = (k : ℕ) (x : A) → slice_get xs k ≡ Some x → P k x
 

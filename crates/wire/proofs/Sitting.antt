@@ -1,4 +1,4 @@
--- What a seat keeps of the slots that are out with it, as slots come and go.
+-- What a seat records of the slots that it holds, as slots come and go.
 use Rattle.std.proofs.Common.{◌≡◌, ◌≢◌, ℕ, zero, suc, ◌<◌, ◌==◌, cond, eq-eqb, ne_eqb, Bool, true, false, true≢false, List, [], ◌∷◌, ◌++◌, drop, take, get_or, Option, Some, None, refl, sym, ap, ◌∙◌, subst, ⊎_elim, arith}
 use Rattle.std.specs.Prelude.{is_some}
 use Rattle.std.proofs.lemmas.Bool.{cond-true, cond-false, cases_Bool}
@@ -15,7 +15,7 @@ use Rattle.wire.specs.Plays.{IsFresh}
 use Rattle.wire.specs.Seated.{minds, boxes_of, IsOwnBox, Sits}
 use Rattle.wire.proofs.Lists.{has-here, has-more, has-gone, has-stays, found-here, found-more, found-gone, found-stays}
 
--- ---- Numbers that stand once
+-- ---- Numbers that occur once
 
 pub once-parts : (x : ℕ) (xs : List ℕ) → once (x ∷ xs) ≡ true → (has x xs ≡ false) × (once xs ≡ true)
 once-parts x xs e =
@@ -27,7 +27,7 @@ once-parts x xs e =
 pub once-more : (x : ℕ) (xs : List ℕ) → has x xs ≡ false → once xs ≡ true → once (x ∷ xs) ≡ true
 once-more x xs gone e = cond-false _ _ _ gone ∙ e
 
--- the first one goes last
+-- the first one moves to the end
 has-last : (k x : ℕ) (xs : List ℕ) → has k (xs ++ x ∷ []) ≡ has k (x ∷ xs)
 has-last k x [] = refl
 has-last k x (y ∷ ys) =
@@ -49,7 +49,7 @@ once-last x (y ∷ ys) e =
     (has-last y x ys ∙ has-more x y ys apart ∙ b.0)
     (once-last x ys (once-more x ys (sym (cond-false _ _ _ (ne_eqb y x apart)) ∙ a.0) b.1))
 
--- how many stand before a number
+-- how many come before a number
 abbrev pub before : ℕ → List ℕ → ℕ
 before k [] = 0
 before k (x ∷ xs) = cond (x == k) 0 (suc (before k xs))
@@ -62,7 +62,7 @@ before-last k x (y ∷ ys) e =
     (λ n. ap (λ (z : ℕ). cond (y == k) 0 (suc z))
     (before-last k x ys (sym (cond-false _ _ _ (ne_eqb y k n)) ∙ e)))
 
--- a turn brings a number nearer that does not stand first
+-- a turn brings a number nearer to the front, unless it is first
 pub nearer : (k x : ℕ) (xs : List ℕ) → has k (x ∷ xs) ≡ true → x ≢ k
     → (has k (xs ++ x ∷ []) ≡ true) × (before k (xs ++ x ∷ []) < before k (x ∷ xs))
 nearer k x xs e apart =
@@ -182,7 +182,7 @@ module _ {S : Type 0} {bytes : S → List ℕ} {me nodes : ℕ} where
           ∙ s.minded at ∙ fresh-minds at v fresh)))
           (λ apart. s.spells i b y g e (sym (found-more at b f v.emptying apart) ∙ there))
 
-  -- the first slot has gone home
+  -- the first slot has gone back to the table
   sits-given : {held : List ℕ} {v : Known} {out : List (ℕ × S)} (w : Known) (at : ℕ) (x : S)
       → Seated bytes me nodes held v ((at, x) ∷ out)
       → (w.role ≡ v.role) × (w.me ≡ v.me) × (w.nodes ≡ v.nodes) → minds at w ≡ false
@@ -238,7 +238,7 @@ module _ {S : Type 0} {bytes : S → List ℕ} {me nodes : ℕ} where
       ∙ ap (λ (j : ℕ). found j (cleared at v.emptying)) (sym is) ∙ e in cc))
       (λ apart. sym (found-stays at b v.emptying apart) ∙ e))
 
-  -- the first slot goes last
+  -- the first slot moves to the end
   pub sits-turned : {held : List ℕ} {v : Known} {out : List (ℕ × S)}
       → Seated bytes me nodes held v out
       → Seated bytes me nodes (drop 1 held ++ take 1 held) v (turned out)
@@ -277,7 +277,7 @@ module _ {S : Type 0} {bytes : S → List ℕ} {me nodes : ℕ} where
             (at_snoc out (at, x) (b, y) i e);
       })
 
-  -- its number stands first where the slot does
+  -- its number comes first if the slot does
   pub in-front : {held : List ℕ} {v : Known} {out : List (ℕ × S)} (at : ℕ) (tail : List ℕ)
       → Seated bytes me nodes held v out → held ≡ at ∷ tail → (x : S) × (out ≡ (at, x) ∷ rest out)
   in-front {out = []} at tail s is =

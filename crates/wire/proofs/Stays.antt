@@ -1,4 +1,4 @@
--- What stays of the rule when one seat takes a step.
+-- What remains of the rule when one seat takes a step.
 use Rattle.std.proofs.Common.{◌≡◌, ◌≢◌, ℕ, suc, ◌+◌, ◌*◌, ◌/◌, ◌%◌, ◌^◌, ◌<◌, ◌≤◌, ◌==◌, eq-eqb, ne_eqb, List, [], ◌∷◌, ◌++◌, length, set, refl, sym, ap, ◌∙◌, subst, ⊎_elim, arith, le_trans}
 use Rattle.std.specs.Prelude.{slice_index}
 use mathlib.Core.Option as maybe
@@ -19,12 +19,12 @@ use Rattle.laws.proofs.Lookups.{slice_get-push}
 use Rattle.wire.proofs.Boxes.{put, at_put, holder, set-at}
 use Rattle.wire.proofs.Visits.{filter-here, filter-else, visits-push}
 
--- what the others read of a seat
+-- both views are equal in what the other seats read of a seat
 pub record IsAlike (v w : Known) : Type 0 where
   pub role : w.role ≡ v.role
   pub me : w.me ≡ v.me
 
--- what a step on a mailbox leaves of its seat
+-- what a step on a mailbox leaves unchanged in its seat
 pub record IsSeat (v w : Known) : Type 0 where
   pub alike : IsAlike v w
   pub nodes : w.nodes ≡ v.nodes
@@ -51,7 +51,7 @@ still-seat = record {
   shown = refl;
 }
 
--- what a mailbox reads of one
+-- both views are equal in what a mailbox reads of a seat
 pub record IsLike (m : ℕ) (v w : Known) : Type 0 where
   pub fills : has m w.filling ≡ has m v.filling
   pub empties : found m w.emptying ≡ found m v.emptying
@@ -61,7 +61,7 @@ Homes S = List (maybe.Option S)
 
 -- ---- A seat, and its step
 
--- What a list of events and a longer one have alike: all that is released, and the other nodes.
+-- What a list of events and a longer one have in common: everything released, and the other nodes.
 pub record Extends (opening : World) (log log' : List Step) (v : Known) : Type 0 where
   pub net : (f : Plain) → IsInNet (run opening log) f → IsInNet (run opening log') f
   pub others : (i : ℕ) → (v.role ≡ node → i ≢ v.me)
@@ -71,8 +71,8 @@ pub record Extends (opening : World) (log log' : List Step) (v : Known) : Type 0
 pub same-log : (opening : World) (log : List Step) (v : Known) → Extends opening log log v
 same-log opening log v = record { net = λ f h. h; others = λ i apart. (refl, refl) }
 
--- What the mailboxes of other nodes than the seat's have alike after its step, and the board unless
--- the seat is node 0's.
+-- What the step of a seat leaves unchanged: the mailboxes of other nodes, and the board unless the
+-- seat is node 0's.
 pub record Apart (n : ℕ) (old new : ℕ) (mail mail' : Mail) (v : Known) : Type 0 where
   pub posted : (m : ℕ) → (v.role ≡ node → v.me ≢ m / n) → mail'.posted m ≡ mail.posted m
   pub got : (m : ℕ) → (v.role ≡ node → v.me ≢ m % n) → mail'.got m ≡ mail.got m
@@ -101,7 +101,7 @@ module _ {S : Type 0} (bytes : S → List ℕ) (opening : World) where
   abbrev n : ℕ
   n = nodes_of opening
 
-  -- the views when the seat's is w
+  -- the views when the seat's view is w
   abbrev after : Standing bytes opening → Known → List Known
   after p w = set p.state.views p.id w
 
@@ -268,7 +268,7 @@ module _ {S : Type 0} (bytes : S → List ℕ) (opening : World) where
       one = one-stays p w t.alike p.holds.one;
     }
 
-  -- ---- A mailbox that the step leaves
+  -- ---- A mailbox that the step leaves unchanged
 
   pub record Leaves (p : Standing bytes opening) (w : Known) (log : List Step) (words : List ℕ)
       (homes : Homes S) (m : ℕ) : Type 0 where
@@ -344,7 +344,7 @@ module _ {S : Type 0} (bytes : S → List ℕ) (opening : World) where
     pub mine : p.view.role ≡ node → (m : ℕ) → m < n * n
         → by_node w.me (all m) ≡ on_box m w.visits
 
-  -- it is on none
+  -- the step is on no mailbox
   abbrev pub none-more : (p : Standing bytes opening) (w : Known) → IsAlike p.view w
       → w.visits ≡ p.view.visits → Visits p w p.holds.mail.boxes
   none-more p w alike same = record {
@@ -357,7 +357,7 @@ module _ {S : Type 0} (bytes : S → List ℕ) (opening : World) where
         ∙ (node-of p role).visited m below ∙ ap (on_box m) (sym same);
   }
 
-  -- it is on the mailbox m
+  -- the step is on the mailbox m
   pub record Visiting (p : Standing bytes opening) (w : Known) (boxes : ℕ → Box)
       (m : ℕ) : Type 0 where
     pub found : ℕ
@@ -445,7 +445,7 @@ module _ {S : Type 0} (bytes : S → List ℕ) (opening : World) where
           ap (λ (i : ℕ). by_node i (all k)) t.alike.me ∙ mine-too k below;
     }
 
-  -- ---- A step that moves none
+  -- ---- A step that changes no mailbox
 
   pub record Note (p : Standing bytes opening) (w : Known) (log : List Step)
       (words : List ℕ) : Type 0 where

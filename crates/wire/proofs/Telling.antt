@@ -1,4 +1,4 @@
--- One more step on a mailbox, that a seat tells of, is the last one on it.
+-- If a seat says that it took one more step on a mailbox, that step is the last one on the mailbox.
 use Rattle.std.proofs.Common.{◌≡◌, ◌≢◌, ℕ, zero, suc, ◌+◌, ◌==◌, eq-eqb, Bool, true, List, [], ◌∷◌, ◌++◌, append-nil, length, Option, Some, None, slice_get, refl, sym, ap, ◌∙◌, subst, ⊎_elim, arith}
 use Rattle.std.specs.Prelude.{slice_index}
 use Rattle.std.specs.List.{filter}
@@ -72,7 +72,7 @@ module _ {X : Type 0} (p : X → Bool) where
       ∙ ap (λ (l : List X). x ∷ l) (all-kept xs (λ k y e. all (suc k) y e))
 
 module _ {X : Type 0} where
-  -- a list that begins as another one
+  -- a list that begins with another one
   goes-on : (xs ys : List X)
       → ((k : ℕ) (x : X) → slice_get xs k ≡ Some x → slice_get ys k ≡ Some x)
       → (rest : List X) × (ys ≡ xs ++ rest)
@@ -124,7 +124,7 @@ module _ {S : Type 0} (bytes : S → List ℕ) (opening : World) (s t : State S 
       subst (λ (vs : List Known). get_elem? vs h.seat ≡ some h.new) (sym h.stepped)
       (set-at s.views h.seat h.new h.old h.at)
 
-  -- the seat's own, and those of another seat
+  -- the seat's own steps, and those of another seat
   mine : by_node h.old.me news ≡ by_node h.old.me olds ++ last ∷ []
   mine =
       let old = node-of bytes opening
@@ -148,7 +148,7 @@ module _ {S : Type 0} (bytes : S → List ℕ) (opening : World) (s t : State S 
       (record { state = t; holds = h.after; id = j; view = u; at = now }) role in
       new.visited box h.inside ∙ sym (old.visited box h.inside)
 
-  -- each step of before is one of after, at the same place
+  -- each earlier step is still there afterwards, at the same place
   alike : (k : ℕ) (x : Visit) → slice_get olds k ≡ Some x → slice_get news k ≡ Some x
   alike k x e =
       let seat = h.before.visitors box h.inside k x e in

@@ -1,4 +1,4 @@
--- What a seat says of its steps on mailboxes is so, whoever wrote the code that took them.
+-- A seat's record of its steps on mailboxes is true, whoever wrote the code that took them.
 use Rattle.std.specs.Prelude.{◌≡◌, ℕ, ◌*◌, ◌<◌, List, set, slice_index}
 use mathlib.Core.Option.{some}
 use lib.ListN.{get_elem?}
@@ -24,8 +24,8 @@ pub record Tells {S : Type 0} (bytes : S → List ℕ) (opening : World) (s t : 
   pub inside : box < nodes_of opening * nodes_of opening
   pub visits : new.visits ≡ visits_with box place found left old
 
--- The word that it found is the one that stood there right before the step, and the one that it left
--- stands there right after it.
+-- The word that the seat says it found was there right before the step, and the one that it says it
+-- left is there right after the step.
 abbrev pub VisitsAreTrue : {S : Type 0} → (S → List ℕ) → Type 0
 VisitsAreTrue {S} bytes =
     (opening : World) (s t : State S Known) (box place found left : ℕ)

@@ -1,4 +1,4 @@
--- Small sets of mailboxes, by number: of those that a seat fills, and of those that it empties.
+-- Small sets of mailboxes, by number: those that a seat is filling, and those that it is emptying.
 use Rattle.std.specs.Prelude.{ℕ, Bool, true, false, cond, ◌==◌, List, [], ◌∷◌, Option, Some, None}
 use Rattle.msg.specs.Grammar.{Plain}
 
@@ -10,7 +10,7 @@ abbrev pub without : ℕ → List ℕ → List ℕ
 without m [] = []
 without m (x ∷ xs) = cond (x == m) (without m xs) (x ∷ without m xs)
 
--- the frame that stands at a number
+-- the frame listed under this mailbox number
 abbrev pub found : ℕ → List (ℕ × Plain) → Option Plain
 found m [] = None
 found m (x ∷ xs) = cond (x.0 == m) (Some x.1) (found m xs)
@@ -19,7 +19,7 @@ abbrev pub cleared : ℕ → List (ℕ × Plain) → List (ℕ × Plain)
 cleared m [] = []
 cleared m (x ∷ xs) = cond (x.0 == m) (cleared m xs) (x ∷ cleared m xs)
 
--- no number stands there twice
+-- no number occurs twice
 abbrev pub once : List ℕ → Bool
 once [] = true
 once (x ∷ xs) = cond (has x xs) false (once xs)

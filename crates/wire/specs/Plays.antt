@@ -1,4 +1,4 @@
--- What each kind of atomic step tells, and what it asks of its caller.
+-- What each kind of atomic step guarantees, and what it requires of its caller.
 use Rattle.std.specs.Prelude.{◌≡◌, ◌≢◌, ℕ, ◌/◌, ◌%◌, ◌^◌, ◌<◌, ◌≤◌, true, false, List, [], ◌∷◌, ◌++◌, length, slice_get, Some, None, Ok}
 use Rattle.atomic_table.specs.Table.{Me, Step, rest}
 use Rattle.ids.specs.declared.limits.TheConstants.{GREATEST_CYCLE}
@@ -17,7 +17,7 @@ use Rattle.wire.specs.Rule.{AreEvents, events_of, ended_of, sender, receiver, Sp
 
 -- ---- What a caller owes
 
--- a frame that the node i, saved so, releases
+-- a frame that node i releases when this is its saved state
 abbrev pub Releases : ℕ → NodeState → Plain → Type 0
 Releases i saved (data_frame from to number stamp body) =
     (from ≡ i) × (to ≢ i)
@@ -25,12 +25,12 @@ Releases i saved (data_frame from to number stamp body) =
 Releases i saved (ack_frame from to number) =
     (from ≡ i) × (to ≢ i) × (number ≤ got_from saved.local to)
 
--- the bytes spell a frame that the seat's node releases, to the mailbox's receiver
+-- the bytes spell a frame that the seat's node releases, for the mailbox's receiver
 abbrev pub Owns : ℕ → Known → List ℕ → Type 0
 Owns m v bytes =
     (f : Plain) × Spells f bytes × (receiver f ≡ m % v.nodes) × Releases v.me v.pair.saved f
 
--- the answer is one of an event
+-- the answer is that of an event
 abbrev pub IsEventful : Answer → Type 0
 IsEventful a = is_eventful (Ok (outcome.Answer a)) ≡ true
 
@@ -39,7 +39,8 @@ abbrev pub HasTaken : Known → ℕ → ℕ → Message → Type 0
 HasTaken v from number x =
     ∥ ((k : ℕ) × (slice_get v.taken k ≡ Some (data_frame from v.me number x.stamp x.body))) ∥₁
 
--- The step is an event of the seat's node, which makes its pair q. What is delivered was taken.
+-- The step is an event of the seat's node, after which its pair is q. A delivered message was taken
+-- from the wire.
 abbrev pub Happens : Known → model.Step → Pair → Type 0
 Happens v (step.Act i e) q =
     (i ≡ v.me) × (is_own e ≡ true) × (q.saved ≡ v.pair.saved)
@@ -72,8 +73,8 @@ abbrev pub IsReleased : World → Plain → Type 0
 IsReleased opening f =
     (log : List model.Step) × AreEvents opening log × IsInNet (run opening log) f
 
--- Some list of events has the frame in its net, and leads to the seat's pair: the frame may be
--- delivered where the seat's node stands now.
+-- Some list of events has the frame in its net, and leads to the seat's pair. So the frame may be
+-- delivered in the current state of the seat's node.
 pub record Arrives (v : Known) (f : Plain) : Type 0 where
   pub log : List model.Step
   pub events : AreEvents v.opening log
@@ -81,7 +82,7 @@ pub record Arrives (v : Known) (f : Plain) : Type 0 where
   pub pair : pair_at (run v.opening log) v.me ≡ v.pair
   pub own : v.events ≡ events_of v.me log
 
--- node 0 had ended this cycle, and was saved so
+-- node 0's saved state had counted this cycle as ended
 abbrev pub HasEnded : World → ℕ → Type 0
 HasEnded opening number =
     (log : List model.Step) × AreEvents opening log × (number ≤ ended_of (run opening log))
@@ -89,14 +90,14 @@ HasEnded opening number =
 abbrev pub WasEnded : World → ℕ → Type 0
 WasEnded opening number = ∥ HasEnded opening number ∥₁
 
--- ---- What a step tells
+-- ---- What a step guarantees
 
--- the seat neither fills nor empties the mailbox
+-- the seat is neither filling nor emptying the mailbox
 abbrev pub IsFresh : ℕ → Known → Type 0
 IsFresh box v = (has box v.filling ≡ false) × (found box v.emptying ≡ None)
 
 module _ {S : Type 0} where
-  -- the seat looked at the mailbox, and went no further
+  -- the seat looked at the mailbox, and did nothing else
   abbrev pub Noted : Step S → Me S Known → ℕ → Me S Known → Type 0
   Noted st m r m' = (place : ℕ) × (m'.0 ≡ notes st.word place r m.0) × (m'.1 ≡ m.1)
 
@@ -118,7 +119,7 @@ module _ {S : Type 0} where
   abbrev pub took : (S → List ℕ) → Step S → Me S Known → ℕ → Me S Known → Type 0
   took bytes st m r m' = (r ≡ 1 → (f : Plain) × Took bytes st m m' f) × (r ≢ 1 → Noted st m r m')
 
-  -- what was posted: the frame that the slot in front has
+  -- what was posted: the frame in the first slot
   abbrev pub Posted : (S → List ℕ) → Step S → Me S Known → Me S Known → Plain → Type 0
   Posted bytes st m m' f =
       ((place : ℕ) × (m'.0 ≡ posts st.word place f m.0)) × (m'.1 ≡ rest m.1)

@@ -1,4 +1,4 @@
--- What a clause says of a wire, its seats and its watches.
+-- What clauses say about a wire, its seats and its watches.
 use Rattle.std.specs.Prelude.{◌≡◌, ℕ, ◌+◌, ◌*◌, List, length, Some, slice_get, Vec}
 use Rattle.std.specs.Global.{Global}
 use Rattle.atomic_table.specs.declared.shared.Seat.{Seat}
@@ -21,7 +21,7 @@ use Rattle.wire.specs.declared.seats.Raised.{Raised}
 abbrev pub width : Wire → ℕ
 width w = w.nodes
 
--- the world as it was made
+-- the world in which it was made
 abbrev pub opened_with : Wire → World
 opened_with w = w.table.shared.key.world
 
@@ -34,26 +34,26 @@ known s = s.seat.me.0
 abbrev pub seat_node : NodeSeat → ℕ
 seat_node s = s.node
 
--- it is one of this wire, and of the world with which that was made
+-- it belongs to this wire, and to the world with which the wire was made
 abbrev pub IsSeatOf : Wire → NodeSeat → Type 0
 IsSeatOf w s =
     (s.seat.table_id ≡ w.table.shared.table_id) × (s.nodes ≡ w.nodes)
     × ((known s).opening ≡ opened_with w)
 
--- the same seat, whatever else it knows
+-- the same seat, although it may know different things
 abbrev pub IsSame : NodeSeat → NodeSeat → Type 0
 IsSame old new =
     (new.seat.table_id ≡ old.seat.table_id) × (new.seat.id ≡ old.seat.id) × (new.node ≡ old.node)
     × (new.nodes ≡ old.nodes) × ((known new).opening ≡ (known old).opening)
 
--- its mailbox to a node, and from one
+-- its mailbox to a node, and its mailbox from a node
 abbrev pub outbox : NodeSeat → ℕ → ℕ
 outbox s to = s.node * s.nodes + to
 
 abbrev pub inbox : NodeSeat → ℕ → ℕ
 inbox s from = from * s.nodes + s.node
 
--- ---- What a seat got of a call
+-- ---- What a call gives a seat
 
 abbrev pub claim_to : Claim → ℕ
 claim_to c = c.to
@@ -70,7 +70,7 @@ IsTakenOf s t = (t.of.value.table_id ≡ s.seat.table_id) × (t.of.value.id ≡ 
 abbrev pub raised_cycle : Raised → ℕ
 raised_cycle r = r.cycle.number
 
--- the world with which the wire was made on whose board it was raised
+-- the world with which the wire was made on whose board the cycle was raised
 abbrev pub raised_opening : Raised → World
 raised_opening r = r.of.value.me.0.opening
 
@@ -99,21 +99,21 @@ loaded x = x.seat.me.0.number
 abbrev pub heard : Watch → ℕ
 heard x = x.heard.number
 
--- they are of one wire
+-- they belong to the same wire
 abbrev pub IsHeardOf : Watch → Raised → Type 0
 IsHeardOf x r =
     (r.of.value.table_id ≡ x.seat.table_id) × (raised_opening r ≡ watch_opening x)
 
 -- ---- Making a wire
 
--- The node is one that stands where the state does, and all that it holds is saved: no message
--- waits to be released, and it acknowledges all that it took in.
+-- The node shows the state, and everything that it holds is saved: no message waits to be released,
+-- and it acknowledges all that it received.
 pub record IsSavedAs (n : NodeView) (s : NodeState) : Type 0 where
   pub shows : Shows n s
   pub counted : (j : ℕ) → (link_to n j).kept ≡ length (sent_to s j)
   pub acks : n.acks ≡ s.local.got
 
--- the nodes of a shape, in order, as they stand in a world in which all is saved
+-- the nodes of a shape, in order, in the states of a world in which everything is saved
 pub record AreOpened (shape : Shaped) (nodes : List NodeView) (w : World) : Type 0 where
   pub saved : w.saved ≡ w.current
   pub width : length w.current ≡ shape.nodes
@@ -121,7 +121,7 @@ pub record AreOpened (shape : Shaped) (nodes : List NodeView) (w : World) : Type
   pub each : (k : ℕ) (n : NodeView) → slice_get nodes k ≡ Some n
       → IsSavedAs n (node_at w.current k)
 
--- a seat of the node k, which has done nothing yet
+-- a seat of node k, which has done nothing yet
 pub record IsSeated (wire : Wire) (k : ℕ) (s : NodeSeat) : Type 0 where
   pub of : IsSeatOf wire s
   pub node : s.node ≡ k
@@ -133,7 +133,7 @@ pub record IsFreshWatch (wire : Wire) (x : Watch) : Type 0 where
   pub known : x.seat.me.0 ≡ watch_of (opened_with wire)
   pub heard : x.heard.number ≡ 0
 
--- a wire of that world, with a seat for each node and so many watches
+-- a wire of that world, with a seat for each node and this many watches
 pub record IsMade (w : World) (watches : ℕ) (wire : Wire) (seats : List NodeSeat)
     (watching : List Watch) : Type 0 where
   pub opening : opened_with wire ≡ w

@@ -1,6 +1,6 @@
--- What holds of a wire between any two atomic steps ("The rule" in docs/WIRE.md).
--- The word m, for m below n * n, is that of the mailbox from node m / n to node m % n, and the slot
--- m holds its bytes. Then come the count word and the board.
+-- What holds of a wire between any two atomic steps ("The rule" in docs/WIRE.md). The word m, for m
+-- below n * n, is that of the mailbox from node m / n to node m % n, and the slot m holds its
+-- bytes. Then come the count word and the board.
 use Rattle.std.specs.Prelude.{◌≡◌, ℕ, suc, ◌+◌, ◌*◌, ◌/◌, ◌%◌, ◌^◌, ◌<◌, ◌≤◌, true, cond, ◌==◌, List, [], ◌∷◌, ◌++◌, length, slice_index, slice_get, Some}
 use Rattle.std.specs.List.{filter}
 use mathlib.Core.Option as maybe
@@ -19,11 +19,12 @@ use Rattle.wire.specs.Lists.{has, found}
 abbrev pub nodes_of : World → ℕ
 nodes_of w = length w.current
 
--- the cycle whose marking node 0, as it was saved, knows to have ended
+-- the cycle whose marking node 0's saved state knows to have ended
 abbrev pub ended_of : World → ℕ
 ended_of w = (node_at w.saved 0).local.phases.ended
 
--- a world in which all is saved; as in every world, node 0 knows no end of a cycle after its own
+-- a world in which everything is saved; as in every world, node 0 knows of no end of a cycle after
+-- its own
 pub record IsOpening (w : World) : Type 0 where
   pub same : w.saved ≡ w.current
   pub ended : ended_of w ≤ (node_at w.saved 0).local.phases.cycle
@@ -36,12 +37,12 @@ node_of (step.Restart i) = i
 node_of (step.Deliver from to number) = to
 node_of (step.Hand from to) = from
 
--- those of one node, in order
+-- the steps of one node, in order
 abbrev pub events_of : ℕ → List Step → List Step
 events_of i [] = []
 events_of i (s ∷ ss) = cond (node_of s == i) (s ∷ events_of i ss) (events_of i ss)
 
--- each step of the list is an event of the space as the steps before it leave it
+-- each step of the list is an event of the space after the steps before it
 abbrev pub AreEvents : World → List Step → Type 0
 AreEvents w [] = Unit {0}
 AreEvents w (s ∷ ss) = (is_event w s ≡ true) × AreEvents (happens w s) ss
@@ -58,7 +59,7 @@ receiver (ack_frame from to number) = to
 abbrev pub Spells : Plain → List ℕ → Type 0
 Spells f bytes = Fits f × (bytes ≡ spelling f)
 
--- a mailbox; a seat that fills or empties it is named by its index
+-- a mailbox; a seat that is filling or emptying it is named by its index
 pub data Box : Type 0 where
   empty : Box
   full : Plain → Box
@@ -71,14 +72,14 @@ face (full f) = 1
 face (emptying_by j f) = 2
 face (filling_by j) = 3
 
--- the frame that lies in it, if there is one
+-- the frame that is in it, if there is one
 abbrev pub lying : Box → List Plain
 lying empty = []
 lying (full f) = f ∷ []
 lying (filling_by j) = []
 lying (emptying_by j f) = []
 
--- the mailbox between the frame's nodes, and those frames of a list that are of one mailbox
+-- the mailbox between the frame's nodes, and those frames of a list that belong to one mailbox
 abbrev pub box_of : ℕ → Plain → ℕ
 box_of n f = sender f * n + receiver f
 
@@ -86,22 +87,22 @@ abbrev pub in_box : ℕ → ℕ → List Plain → List Plain
 in_box n m [] = []
 in_box n m (f ∷ fs) = cond (box_of n f == m) (f ∷ in_box n m fs) (in_box n m fs)
 
--- Of steps on mailboxes, those that a node's seat took, and those on one mailbox.
+-- Of a list of steps on mailboxes: those that a node's seat took, and those on one mailbox.
 abbrev pub by_node : ℕ → List Visit → List Visit
 by_node i xs = filter (λ x. x.node == i) xs
 
 abbrev pub on_box : ℕ → List Visit → List Visit
 on_box m xs = filter (λ x. x.box == m) xs
 
--- Steps on the mailbox m, one after another from this place and word on: each finds the word that
--- the one before left, and so the last one leaves this word.
+-- Steps on the mailbox m, one after another from this place and word on. Each finds the word that
+-- the one before left, so the last one leaves this word.
 abbrev pub AreVisits : ℕ → ℕ → ℕ → ℕ → List Visit → Type 0
 AreVisits m word place first [] = first ≡ word
 AreVisits m word place first (x ∷ xs) =
     (x.box ≡ m) × (x.place ≡ place) × (x.found ≡ first) × AreVisits m word (suc place) x.left xs
 
--- The mailboxes, and for each of them the frames that were ever posted to it and those that were
--- ever taken from it, and the steps that were ever taken on it, in order.
+-- The mailboxes, and for each of them, in order: the frames that were ever posted to it, the frames
+-- that were ever taken from it, and the steps that were ever taken on it.
 pub record Mail : Type 0 where
   pub boxes : ℕ → Box
   pub posted : ℕ → List Plain
@@ -110,12 +111,12 @@ pub record Mail : Type 0 where
 
 module _ {S : Type 0} (bytes : S → List ℕ) (n : ℕ) (w : World)
     (homes : List (maybe.Option S)) (views : List Known) (m : ℕ) where
-  -- the frame's bytes lie in the slot
+  -- the frame's bytes are in the slot
   abbrev pub Holding : Plain → Type 0
   Holding f = (x : S) × (get_elem? homes m ≡ some (some x)) × Spells f (bytes x)
 
-  -- The slot is at home while the mailbox is empty or full; otherwise the seat that fills or
-  -- empties it has it, and says so.
+  -- The slot is in the table while the mailbox is empty or full. Otherwise the seat that is filling
+  -- or emptying the mailbox has it, and its view says so.
   abbrev pub Content : Box → Type 0
   Content empty = (x : S) × (get_elem? homes m ≡ some (some x))
   Content (full f) = Holding f × IsInNet w f × (sender f ≡ m / n) × (receiver f ≡ m % n)
@@ -150,14 +151,14 @@ pub record NodeOk (opening : World) (log : List Step) (board : ℕ) (mail : Mail
       → mail.posted m ≡ in_box (nodes_of opening) m v.sent
   pub gets : (m : ℕ) → m < nodes_of opening * nodes_of opening → v.me ≡ m % nodes_of opening
       → mail.got m ≡ in_box (nodes_of opening) m v.taken
-  -- and of the steps on a mailbox those that it took are the ones that it knows of
+  -- and the steps that it took on a mailbox are the ones that its view records
   pub visited : (m : ℕ) → m < nodes_of opening * nodes_of opening
       → by_node v.me (mail.visits m) ≡ on_box m v.visits
   -- the board shows the greatest number that node 0's seat raised
   pub shows : v.me ≡ 0 → board ≡ v.shown
 
 -- There is one dealer. The nodes that have no seat yet are as they were, and so are their mailboxes
--- and, before node 0 has one, the board.
+-- and, before node 0 has a seat, the board.
 pub record DealerOk (opening : World) (log : List Step) (board : ℕ) (mail : Mail)
     (views : List Known) (j : ℕ) (v : Known) : Type 0 where
   pub nodes_is : v.nodes ≡ nodes_of opening
@@ -190,8 +191,8 @@ SeatOk opening log board views mail j v dealer = DealerOk opening log board mail
 SeatOk opening log board views mail j v node = NodeOk opening log board mail j v
 SeatOk opening log board views mail j v watch = WatchOk opening board v
 
--- Some list of events leads from the opening world to the pairs in the seats' views, each of which
--- has its node's events of the list, in order; the count word is its length.
+-- Some list of events leads from the opening world to the pairs in the seats' views. Each view has
+-- its node's events of the list, in order; the count word is the list's length, modulo 2^64.
 pub record Holds {S : Type 0} (bytes : S → List ℕ) (opening : World)
     (s : State S Known) : Type 0 where
   pub log : List Step
@@ -206,10 +207,10 @@ pub record Holds {S : Type 0} (bytes : S → List ℕ) (opening : World)
   pub fits : slice_index s.words (nodes_of opening * nodes_of opening + 1) ≤ GREATEST_CYCLE
   pub each_box : (m : ℕ) → m < nodes_of opening * nodes_of opening
       → BoxOk bytes (nodes_of opening) (run opening log) s.words s.homes s.views m (mail.boxes m)
-  -- no frame is lost on the way, nor comes twice, nor before an earlier one
+  -- no frame is lost, duplicated or reordered on the way
   pub in_order : (m : ℕ) → m < nodes_of opening * nodes_of opening
       → mail.posted m ≡ mail.got m ++ lying (mail.boxes m)
-  -- What stands in a mailbox is what the steps on it came to, and there was none but the seats'.
+  -- The word of a mailbox is what the steps on it led to, and only seats took such steps.
   pub visits : (m : ℕ) → m < nodes_of opening * nodes_of opening
       → AreVisits m (face (mail.boxes m)) 0 0 (mail.visits m)
   pub visitors : (m : ℕ) → m < nodes_of opening * nodes_of opening

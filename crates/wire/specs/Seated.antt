@@ -1,4 +1,4 @@
--- What a node's seat keeps of the slots that are out with it.
+-- What a node's seat records of the slots that it holds.
 use Rattle.std.specs.Prelude.{◌≡◌, ℕ, ◌*◌, ◌/◌, ◌%◌, ◌==◌, ◌<◌, ◌≤◌, ◌||◌, Bool, true, cond, is_some, List, [], ◌∷◌, Some}
 use mathlib.Core.Option.{some}
 use lib.ListN.{get_elem?}
@@ -8,7 +8,7 @@ use Rattle.msg.specs.Grammar.{Plain, spelling}
 use Rattle.wire.specs.Lists.{has, found, once}
 use Rattle.wire.specs.Views.{Role, Known, is_node, is_watch}
 
--- the seat fills or empties this mailbox
+-- the seat is filling or emptying this mailbox
 abbrev pub minds : ℕ → Known → Bool
 minds k v = cond (has k v.filling) true (is_some (found k v.emptying))
 
@@ -28,12 +28,13 @@ pub record Sits {S : Type 0} (bytes : S → List ℕ) (me nodes : ℕ) (held : L
   pub nodes_is : nodes ≡ m.0.nodes
   pub within : me < nodes
   pub few : nodes ≤ GREATEST_NODES
-  -- the slots that are out with it, in their order, are those of the mailboxes that it minds
+  -- the slots that the seat holds, in their order, are those of the mailboxes that it is filling or
+  -- emptying
   pub order : boxes_of m.1 ≡ held
   pub minded : (k : ℕ) → has k held ≡ minds k m.0
   pub single : once held ≡ true
   pub own : (k : ℕ) → has k held ≡ true → IsOwnBox me nodes k
-  -- and those that it empties have the frame's bytes
+  -- and those that it is emptying have the frame's bytes
   pub spells : (i b : ℕ) (x : S) (f : Plain) → get_elem? m.1 i ≡ some (b, x)
       → found b m.0.emptying ≡ Some f → bytes x ≡ spelling f
 

@@ -1,4 +1,4 @@
--- What each seat of a wire knows, in proofs alone.
+-- What each seat of a wire knows, for proofs only.
 use Rattle.std.specs.Prelude.{◌≡◌, ◌≢◌, ℕ, ◌+◌, max, Bool, true, false, List, [], ◌∷◌, ◌++◌, length}
 use Rattle.msg.specs.Grammar.{Plain}
 use Rattle.model.specs.declared.step.Step.{Step}
@@ -6,19 +6,20 @@ use Rattle.model.specs.State.{NodeState, no_node, node_at}
 use Rattle.model.specs.World.{World}
 use Rattle.wire.specs.Lists.{without, cleared}
 
--- The dealer makes the seats as the wire is made. A seat is then a node's, or a watch's.
+-- The dealer makes the seats while the wire is made. After that, each seat is a node's or a
+-- watch's.
 pub data Role : Type 0 where
   dealer : Role
   node : Role
   watch : Role
 
--- a node's current state, and the one last saved
+-- a node's current state, and its last saved one
 pub record Pair : Type 0 where
   pub current : NodeState
   pub saved : NodeState
 
--- One step on a mailbox: how many steps on it had come before, by whatever seat; the node whose seat
--- took it; the word that stood there, and the one that it left.
+-- One step on a mailbox: how many steps any seats had taken on it before; the node whose seat took
+-- the step; the word that it found, and the one that it left.
 pub record Visit : Type 0 where
   pub box : ℕ
   pub place : ℕ
@@ -28,7 +29,7 @@ pub record Visit : Type 0 where
 
 pub record Known : Type 0 where
   pub role : Role
-  -- the node; of the dealer, the first one that has no seat yet
+  -- the node; for the dealer, the first one that has no seat yet
   pub me : ℕ
   pub nodes : ℕ
   -- the world as the wire was made
@@ -44,10 +45,10 @@ pub record Known : Type 0 where
   pub taken : List Plain
   -- the frames that it ever posted, in order
   pub sent : List Plain
-  -- the steps that it ever took on mailboxes, in order: claims and takes, also those that came to
-  -- nothing, posts and clears
+  -- the steps that it ever took on mailboxes, in order: claims and takes, including those that
+  -- found another word, posts and clears
   pub visits : List Visit
-  -- the number that it raised last; of a watch, the one that it loaded last
+  -- the number that it raised last; for a watch, the one that it loaded last
   pub number : ℕ
   -- the greatest number that it raised
   pub shown : ℕ
@@ -98,9 +99,9 @@ node_of_opening opening me =
 abbrev pub watch_of : World → Known
 watch_of opening = fresh watch 0 (length opening.current) opening no_pair
 
--- ---- What a call leaves of what a seat knew
+-- ---- How a call changes what a seat knows
 
--- the seat's next step on a mailbox, and all of them with it
+-- the seat's next step on a mailbox, and all of its steps with that one added
 abbrev pub visit : ℕ → ℕ → ℕ → ℕ → Known → Visit
 visit box place found left v =
     record { box = box; place = place; node = v.me; found = found; left = left }
@@ -108,11 +109,11 @@ visit box place found left v =
 abbrev pub visits_with : ℕ → ℕ → ℕ → ℕ → Known → List Visit
 visits_with box place found left v = v.visits ++ visit box place found left v ∷ []
 
--- a claim or a take that found this word in the mailbox, and went no further
+-- a claim or a take that found this word in the mailbox, and did nothing else
 abbrev pub notes : ℕ → ℕ → ℕ → Known → Known
 notes box place word v = record v { visits = visits_with box place word word v }
 
--- the seat took one step on the mailbox, which found another word there than this
+-- the seat took one step on the mailbox, which found a word other than this one
 abbrev pub FindsOther : ℕ → ℕ → Known → Known → Type 0
 FindsOther box word v w =
     (place : ℕ) × (found : ℕ) × (found ≢ word) × (w ≡ notes box place found v)

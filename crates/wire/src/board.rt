@@ -1,5 +1,5 @@
-//! The board, on which node 0 shows the last cycle that ended. It shows what node 0 counts as ended
-//! in its saved state, so no restart takes back what a watch saw.
+//! The board, on which node 0 shows the last ended cycle. It shows only what node 0's saved state
+//! counts as ended, so no restart takes back what a watch saw.
 ghost use Rattle.std.specs.Prelude.{◌≡◌, ◌≤◌, max};
 ghost use Rattle.wire.specs.Views.{raises};
 ghost use Rattle.wire.specs.Plays.{HasEnded, WasEnded};
@@ -25,8 +25,8 @@ use ids::Cycle;
 use std::snapshot::Snapshot;
 
 impl Wire {
-    /// Raises the board to a cycle, where it shows an earlier one; one exchange for the greater.
-    /// The seat is node 0's, whose saved state counts the cycle as ended.
+    /// Raises the board to a cycle, unless it already shows the same or a later one; one atomic
+    /// maximum. The seat is node 0's, and its saved state counts the cycle as ended.
     pub fn raise(&self, seat: &mut NodeSeat, cycle: Cycle) -> Raised
         requires wire { IsSeatOf self.now seat.old }
         requires first { seat_node seat.old ≡ 0 }
@@ -48,8 +48,8 @@ impl Wire {
     }
 
     /// The last cycle that the watch knows node 0 to have ended: the one on the board, or a later
-    /// one that the watch was told; one load. It is never earlier than what the watch saw before.
-    /// Node 0 had ended it, and was saved so.
+    /// one that the watch has heard of; one load. It is never earlier than what the watch saw
+    /// before. Node 0's saved state had counted it as ended.
     pub fn look(&self, watch: &mut Watch) -> Cycle
         requires wire { IsWatchOf self.now watch.old }
         ensures same { IsSameWatch watch.old watch.new }
@@ -70,8 +70,8 @@ impl Wire {
 }
 
 impl Watch {
-    /// Tells the watch of a cycle that was raised on its wire. The watch keeps the last one of those
-    /// that it was told.
+    /// Informs the watch of a cycle that was raised on its wire. The watch keeps the latest cycle
+    /// that it has heard of.
     pub fn hear(&mut self, raised: &Raised)
         requires wire { IsHeardOf self.old raised.now }
         ensures same { IsSameWatch self.old self.new }

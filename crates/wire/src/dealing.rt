@@ -1,5 +1,5 @@
-//! A wire is made, and its seats and watches are dealt. Each node has one seat, the only right to
-//! act for it.
+//! Makes a wire and deals its seats and watches. Each node has one seat, the exclusive right to act
+//! for it.
 ghost use Rattle.std.specs.Prelude.{
   ◌≡◌,
   ℕ,
@@ -40,11 +40,13 @@ use node::Node;
 use std::alloc::{AllocError, Global};
 
 impl Wire {
-    /// A wire between the nodes of a shape, the seat of each, in order, and this many watches: all
-    /// mailboxes are empty, no event has come, and the board shows no cycle. All that the nodes
-    /// hold is saved. Between n nodes it takes n * n mailboxes, each a word and an empty vector, and
-    /// for each seat room for the numbers of 2 * n of them; no other call grows any of that.
-    /// `Memory` where a growth was refused; nothing is left then.
+    /// Makes a wire between the nodes of a shape, a seat for each node, in order, and this many
+    /// watches. All mailboxes are empty, no event has happened, and the board shows no cycle.
+    /// Everything that the nodes hold is saved.
+    ///
+    /// For n nodes it allocates n * n mailboxes, each a word and an empty vector, and in each seat
+    /// room for 2 * n mailbox numbers. No other call makes any of these larger. Fails with `Memory`
+    /// if an allocation fails; then nothing stays allocated.
     pub fn new(
         alloc: Global,
         shape: Shape,
@@ -57,7 +59,7 @@ impl Wire {
         ensures refused { IfErr result (λ e. e ≡ Memory) }
     {
         let count = usize::from(shape.nodes());
-        // What it says of every node is said here of node 0.
+        // Called for its contract, which holds of every node and is needed of node 0.
         let _sound = nodes[0].state();
         let opening = Opening::named();
         let (wire, mut dealer) = start(alloc, count, &opening)?;
@@ -125,7 +127,7 @@ impl Wire {
     }
 }
 
-// A wire between so many nodes, and its dealer.
+// A wire between this many nodes, and its dealer.
 fn start(
     alloc: Global,
     nodes: usize,

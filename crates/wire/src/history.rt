@@ -1,5 +1,5 @@
-//! The history of a space: one word, which each event of any node counts up. The order of these
-//! steps is the order in which the events of all threads are a run.
+//! The history of a space: one word that counts the events of all nodes. The order of these steps
+//! is the order in which the events of all threads form a run.
 ghost use Rattle.std.specs.Prelude.{◌≡◌, ℕ};
 ghost use Rattle.model.specs.declared.step.Step.{Step};
 ghost use Rattle.wire.specs.Views.{Pair, ticks};
@@ -12,8 +12,8 @@ use std::marker::Brand;
 
 impl Wire {
     /// Enters one event of the seat's node into the history of the space; one addition to the
-    /// count, modulo 2^64. Which event it is, and the node's states after it, is known to proofs
-    /// alone. A delivery is of a message that the seat took from the wire.
+    /// count, modulo 2^64. Only proofs know which event it is and which states the node has after
+    /// it. A delivery is of a message that the seat took from the wire.
     pub fn tick(&self, seat: &mut NodeSeat)
         ghost happened: { Step × Pair }
         requires wire { IsSeatOf self.now seat.old }

@@ -1,10 +1,11 @@
-//! Mailboxes between the threads of a space's nodes, the count of its events, and a board on which
-//! node 0 shows how far it is. One rule over all of it holds between any two atomic steps of any
-//! threads, and says that what they do is one list of events of the space (docs/WIRE.md).
+//! The wire: mailboxes between the threads of a space's nodes, the count of its events, and a board
+//! on which node 0 shows the last ended cycle. One rule over all of it holds between any two atomic
+//! steps of any threads. It implies that what the threads do is one list of events of the space
+//! (docs/WIRE.md).
 //!
-//! A wire is a table of words, each of which changes in single atomic steps, and of slots. Between
-//! `n` nodes it has `n * n` mailboxes, each a word and a slot; that from node `i` to node `j` has
-//! the number `i * n + j`. After them come the count and the board.
+//! A wire is a table of slots and of words, each of which changes only in single atomic steps.
+//! Between `n` nodes it has `n * n` mailboxes, each a word and a slot. The mailbox from node `i` to
+//! node `j` has the number `i * n + j`. The count and the board follow the mailboxes.
 //!
 //! ```text
 //! word   the mailbox        its slot is with     call    step
@@ -13,14 +14,14 @@
 //! 1      is full            the table            take    1 to 2, by the receiver
 //! 2      is being emptied   the receiver's seat  clear   2 to 0
 //!
-//! tick   count and 1          one event of the seat's node
-//! raise  board, the greater   a cycle that node 0's saved state counts as ended
-//! look   board, read          the greater of what is read and what the watch was told
+//! tick   adds 1 to the count        one event of the seat's node
+//! raise  sets board to the greater  a cycle that node 0's saved state counts as ended
+//! look   reads the board            the greater of what is read and what the watch heard
 //! ```
 //!
-//! The slots that are out with a seat stand in an order, and only the first can be written or given
-//! back. So a seat keeps their numbers in the same order, and `post` and `clear` first bring their
-//! own to the front, which is no step on a word.
+//! The slots that a seat holds have an order, and only the first one can be written or returned.
+//! The seat keeps their numbers in the same order. `post` and `clear` first bring their slot to the
+//! front, which is not a step on a word.
 #![tactic(auto)]
 
 mod board;

@@ -1,5 +1,6 @@
-//! A mailbox from each node to each other one: a word, and a slot for a frame. The word says with
-//! whom the slot is, and changes in one atomic step, so no two threads touch a slot.
+//! A mailbox from each node to each other one: a word, and a slot for a frame. The word says who
+//! holds the slot, and changes in one atomic step, so no two threads ever access a slot at the same
+//! time.
 ghost use Rattle.std.specs.Prelude.{
   ◌≡◌,
   ◌≢◌,
@@ -42,7 +43,7 @@ use crate::plays::{Claims, Clears, Posts, Takes};
 use crate::seats::{Claim, NodeSeat, Taken, Wire};
 use std::snapshot::Snapshot;
 
-// The word of a mailbox. Only one that is empty is claimed, and only a full one is taken.
+// The word of a mailbox. Only an empty mailbox is claimed, and only a full one is taken.
 const EMPTY: u64 = 0;
 
 const FULL: u64 = 1;
@@ -53,8 +54,8 @@ const FILLING: u64 = 3;
 
 impl Wire {
     /// Claims the seat's mailbox to another node, so that [`post`](Wire::post) can fill it; one
-    /// exchange of a word. `None` where the mailbox wasn't empty at that moment: the word that this
-    /// call found there is kept in the seat's view.
+    /// compare-and-exchange of a word. `None` if the mailbox wasn't empty at that moment; the
+    /// seat's view then records the word that this call found.
     pub fn claim(&self, seat: &mut NodeSeat, to: u8) -> Option<Claim>
         requires wire { IsSeatOf self.now seat.old }
         requires to { (to < width self.now) × (to ≢ seat_node seat.old) }
@@ -78,8 +79,8 @@ impl Wire {
         })
     }
 
-    /// Fills the mailbox that was claimed with the bytes of a frame, and spends the claim; one
-    /// store. The frame is one to the mailbox's receiver that the node's saved state releases.
+    /// Fills the claimed mailbox with the bytes of a frame, and uses up the claim; one store. The
+    /// frame is for the mailbox's receiver, and the node's saved state releases it.
     pub fn post(&self, seat: &mut NodeSeat, claim: Claim, bytes: Vec<u8>)
         requires wire { IsSeatOf self.now seat.old }
         requires claim { IsClaimOf seat.old claim × (claim_to claim < width self.now)
@@ -99,9 +100,10 @@ impl Wire {
         seat.held.remove(0);
     }
 
-    /// Takes the frame in the seat's mailbox from another node, which [`clear`](Wire::clear) then
-    /// gives; one exchange of a word. The frame counts as taken for good. `None` where the mailbox
-    /// wasn't full at that moment: the word that this call found there is kept in the seat's view.
+    /// Takes the frame in the seat's mailbox from another node; [`clear`](Wire::clear) then returns
+    /// its bytes. One compare-and-exchange of a word. The frame counts as taken for good. `None` if
+    /// the mailbox wasn't full at that moment; the seat's view then records the word that this call
+    /// found.
     pub fn take(&self, seat: &mut NodeSeat, from: u8) -> Option<Taken>
         requires wire { IsSeatOf self.now seat.old }
         requires from { (from < width self.now) × (from ≢ seat_node seat.old) }
@@ -126,7 +128,7 @@ impl Wire {
         })
     }
 
-    /// Gives the bytes of the frame that was taken, and empties its mailbox; one store.
+    /// Returns the bytes of the frame that was taken, and empties its mailbox; one store.
     pub fn clear(&self, seat: &mut NodeSeat, taken: Taken) -> Vec<u8>
         requires wire { IsSeatOf self.now seat.old }
         requires taken { IsTakenOf seat.old taken × (taken_from taken < width self.now)
@@ -150,7 +152,7 @@ impl Wire {
     }
 }
 
-// The mailbox's slot has come out, before those that were out.
+// Notes that the seat now also holds this mailbox's slot, in front of those that it held before.
 fn hold(held: &mut Vec<usize>, at: usize)
     requires { vec_len held.old < vec_capacity held.old }
     ensures items { held.new.items ≡ at ∷ held.old.items }
@@ -161,7 +163,7 @@ fn hold(held: &mut Vec<usize>, at: usize)
 }
 
 impl NodeSeat {
-    // Brings a slot that is out to the front.
+    // Brings a slot that the seat holds to the front.
     fn bring(&mut self, at: usize)
         requires { has at self.old.held.items ≡ true }
         ensures same { IsSame self.old self.new }

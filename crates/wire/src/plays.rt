@@ -1,5 +1,5 @@
-//! The rule of the table that a wire is, and the kinds of steps that may be taken on it. Of each
-//! kind it is proved that it keeps the rule, so no code can break it.
+//! The rule of the table that a wire is, and the kinds of steps on it. Each kind is proved to keep
+//! the rule, so no code can break it.
 use crate::views::{Opening, View};
 use atomic_table::{Play, Split, TableRule};
 use std::marker::Brand;
@@ -48,7 +48,7 @@ impl Play<Vec<u8>, View> for Clears {
     ghost then = { emptied };
 }
 
-// An event of a node, and the node's pair after it.
+// An event of a node, and the node's pair of states after it.
 pub trait Happening {
     ghost use Rattle.model.specs.declared.step.Step.{Step};
     ghost use Rattle.wire.specs.Views.{Pair};

@@ -1,18 +1,18 @@
-//! What came in from another node, and what went out to one. That a mailbox was empty, or full, is
-//! an answer and no refusal: nobody waits.
+//! What was received from another node, and what was sent to one. An empty or a full mailbox is an
+//! answer and not a refusal: nobody waits.
 use model::Answer;
 
-/// What came in from another node.
+/// What was received from another node.
 #[derive(Clone, Copy, Debug, PartialEq, Eq)]
 pub enum Inbound {
     /// No message waited for its turn, and the mailbox wasn't full.
     Empty,
-    /// The node was given the message that waited, or else the frame that was there, and answered
-    /// this.
+    /// The node was given the waiting message, or else the frame in the mailbox, and this is its
+    /// answer.
     Event(Answer),
 }
 
-/// What went out to another node.
+/// What was sent to another node.
 #[derive(Clone, Copy, Debug, PartialEq, Eq)]
 pub enum Outbound {
     /// A frame was put into the mailbox.

@@ -1,5 +1,5 @@
-//! What threads hold of a wire: seats, watches, and mailboxes that they fill or empty. Such a
-//! mailbox can't be dropped, so none stays locked by a mistake.
+//! What threads hold of a wire: seats, watches, and mailboxes that they are filling or emptying.
+//! Such a mailbox can't be dropped, so none stays locked by mistake.
 ghost use Rattle.std.specs.Prelude.{◌≡◌, ◌+◌, ◌*◌, ◌≤◌, length, vec_capacity};
 ghost use Rattle.ids.specs.declared.limits.TheConstants.{GREATEST_NODES};
 ghost use Rattle.wire.specs.Plays.{WasEnded};
@@ -15,7 +15,7 @@ use std::snapshot::Snapshot;
 
 /// What the threads of a space's nodes share: a mailbox from each node to each other one, the count
 /// of the events of all nodes, and a board with the last cycle that node 0 showed as ended. Every
-/// call is on `&self`, and takes no memory and never waits.
+/// call except [`new`](Wire::new) is on `&self` and allocates nothing, and no call waits.
 pub struct Wire {
     // The mailboxes, then the count, then the board.
     pub(crate) table: Table<Vec<u8>, View, Opening, WireRule, Global>,
@@ -27,7 +27,7 @@ pub struct Wire {
     ghost few: { nodes ≤ GREATEST_NODES },
 }
 
-// Written out, so that the crates above need not prove anew how each field is dropped.
+// Written out, so that the crates above need not prove again how each field is dropped.
 impl Drop for Wire {
     fn drop(self) {
         let Wire {
@@ -39,19 +39,19 @@ impl Drop for Wire {
 }
 
 /// The right of one node to act on a wire: to send and receive its frames, and to enter its events.
-/// A node has one.
+/// A node has exactly one.
 pub struct NodeSeat {
     pub(crate) seat: Seat<Vec<u8>, View>,
     pub(crate) node: usize,
     pub(crate) nodes: usize,
-    // The mailboxes that it fills or empties, in the order of the slots that are out with the seat.
-    // It has room for all: one to each node, and one from each.
+    // The mailboxes that it is filling or emptying, in the order of the slots that the seat holds.
+    // It has room for all of them: one to each node, and one from each.
     pub(crate) held: Vec<usize>,
     ghost sits: { Sits (λ v. v.items) node nodes held.items seat.me },
     ghost room: { 2 * nodes ≤ vec_capacity held },
 }
 
-// Written out, so that the crates above need not prove anew how each field is dropped.
+// Written out, so that the crates above need not prove again how each field is dropped.
 impl Drop for NodeSeat {
     fn drop(self) {
         let NodeSeat {
@@ -63,8 +63,8 @@ impl Drop for NodeSeat {
     }
 }
 
-/// A right to look at a wire's board, and what was seen there and heard of it. Node 0 had ended all
-/// of that, and was saved so.
+/// A read-only view of a wire's board, with the cycles that were seen there and heard of. Node 0's
+/// saved state had counted all of them as ended.
 pub struct Watch {
     pub(crate) seat: Seat<Vec<u8>, View>,
     pub(crate) heard: Cycle,
@@ -73,29 +73,29 @@ pub struct Watch {
     ghost told: { WasEnded seat.me.0.opening heard.number },
 }
 
-// Written out, so that the crates above need not prove anew how each field is dropped.
+// Written out, so that the crates above need not prove again how each field is dropped.
 impl Drop for Watch {
     fn drop(self) {
         let Watch { seat: _, heard: _ } = self;
     }
 }
 
-/// A mailbox that its holder's seat has claimed, to be filled by [`Wire::post`]. It can't be
+/// A mailbox that the holder's seat has claimed, to be filled by [`Wire::post`]. It can't be
 /// dropped.
 pub struct Claim {
     pub(crate) to: u8,
     pub(crate) of: Snapshot<Seat<Vec<u8>, View>>,
 }
 
-/// A mailbox whose frame its holder's seat has taken, to be emptied by [`Wire::clear`]. It can't be
+/// A mailbox whose frame the holder's seat has taken, to be emptied by [`Wire::clear`]. It can't be
 /// dropped.
 pub struct Taken {
     pub(crate) from: u8,
     pub(crate) of: Snapshot<Seat<Vec<u8>, View>>,
 }
 
-/// A cycle that was raised on a wire's board, which a [`Watch`] may hear of. Node 0 had ended it, and
-/// was saved so.
+/// A cycle that was raised on a wire's board, for a [`Watch`] to hear of. Node 0's saved state had
+/// counted it as ended.
 #[derive(Drop)]
 pub struct Raised {
     pub(crate) cycle: Cycle,

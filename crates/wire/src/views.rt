@@ -1,4 +1,4 @@
-//! What a seat knows of what was done with it, for proofs alone. No value of it is made, so the
+//! What a seat knows of what was done with it, for proofs only. No value of it is ever made, so the
 //! history takes no bytes.
 ghost use Rattle.std.specs.Prelude.{◌≡◌};
 ghost use Rattle.wire.specs.Views.{Known};
@@ -6,7 +6,7 @@ ghost use Rattle.model.specs.World.{World};
 
 use std::marker::Model;
 
-// What a seat knows. No value of it is made.
+// What a seat knows. No value of it is ever made.
 pub struct View {
     ghost knows: { Known },
 }
@@ -22,7 +22,7 @@ impl Model for View {
     ghost also_owns = { λ s. ftrue };
 }
 
-// Names the world that a wire opens with, in proofs alone.
+// Names the world that a wire begins in, for proofs only.
 #[derive(Drop)]
 pub struct Opening {
     pub ghost world: { World },

@@ -1,5 +1,5 @@
-//! Making a cell, and events of its node. While the cell is closed nothing is done, since its disk
-//! may hold another node than it has.
+//! Makes a cell, and gives its node events. A closed cell does nothing, because its disk may hold a
+//! different node.
 ghost use Rattle.std.specs.Prelude.{
   ◌≡◌,
   ◌≢◌,
@@ -50,9 +50,9 @@ use trace::{Call, Outcome, Trace};
 use wire::{NodeSeat, Raised, Wire};
 
 impl<D: Disk> Cell<D> {
-    /// A cell of a node that was created on the shelf, or opened from it, with the node's own seat,
-    /// which saw no event since. `Memory` where a growth was refused; what was handed in is then
-    /// given up.
+    /// Makes a cell of a node that was created on the shelf or opened from it, and of the node's
+    /// own seat, which has seen no event since. Fails with `Memory` if an allocation fails; node,
+    /// shelf and seat are then dropped.
     pub fn new(
         alloc: Global,
         node: Node,
@@ -76,11 +76,13 @@ impl<D: Disk> Cell<D> {
         })
     }
 
-    /// Gives the node an event of its own. It answers what the node answers, and the event enters
-    /// the history; `Word` enters nothing, and `Next` of a message that waits enters as its
-    /// delivery. Refused as by the node, whose state then stays, and Closed exactly while the cell
-    /// is closed. An event that takes no memory is never refused Memory. A line is added to the
-    /// trace either way.
+    /// Gives the node an event of its own and returns the node's answer. An answered event enters
+    /// the history, except that `Word` enters nothing, and `Next` of a waiting message enters as
+    /// its delivery.
+    ///
+    /// Fails as the node does, whose state then stays the same; with `Closed` exactly if the cell
+    /// is closed. An event that takes no memory never fails with `Memory`. Either way a line is
+    /// added to the trace.
     pub fn act(&mut self, wire: &Wire, event: Event) -> Result<Answer, Refusal>
         requires wire { IsSeatOf wire.now self.old.seat }
         requires own { is_own event ≡ true }
@@ -108,9 +110,9 @@ impl<D: Disk> Cell<D> {
         answered
     }
 
-    /// Shows on the wire's board the last cycle that the saved node counts as ended. Refused Closed
-    /// exactly while the cell is closed, and NotDirector exactly where it is open and the node is
-    /// another one than node 0.
+    /// Shows on the wire's board the last cycle that the saved node counts as ended. Fails with
+    /// `Closed` exactly if the cell is closed, and with `NotDirector` exactly if the cell is open
+    /// and its node isn't node 0.
     pub fn raise(&mut self, wire: &Wire) -> Result<Raised, Refusal>
         requires wire { IsSeatOf wire.now self.old.seat }
         ensures raised { IfOk result (λ r. (raised_cycle r
@@ -136,8 +138,8 @@ impl<D: Disk> Cell<D> {
         Ok(self.desk.raise(wire))
     }
 
-    /// Whether an event came since the last save or reopening. Where it says none did, the node's
-    /// current state is the saved one.
+    /// Whether an event happened since the last save or reopening. If false, the node's current
+    /// state is the saved one.
     pub fn unsaved(&self) -> bool
         ensures value { result ≡ self.now.unsaved }
         ensures saved { IsUnsaved result (known self.now.seat).pair }
@@ -145,8 +147,8 @@ impl<D: Disk> Cell<D> {
         self.desk.is_unsaved
     }
 
-    /// The node as it stands: it shows the state in which the seat's events leave it, and each
-    /// message that it keeps is one that the seat took. Its contract says all that a cell keeps
+    /// The current node. It shows the state that the seat's events lead to, and each message that
+    /// it keeps is one that the seat took. The contract states everything that a cell guarantees
     /// between two calls.
     pub fn node(&self) -> &Node
         ensures value { result.now ≡ self.now.node }
@@ -155,7 +157,7 @@ impl<D: Disk> Cell<D> {
         &self.desk.node
     }
 
-    /// The texts of the cell's last calls, the oldest first. `Memory` where a growth was refused.
+    /// The cell's last calls as text, oldest first. Fails with `Memory` if an allocation fails.
     pub fn trace_lines(&self) -> Result<Vec<String>, Refusal>
         ensures texts { IfOk result (λ v. map string_bytes v.items ≡ map line_text self.now.trace) }
         ensures refused { IfErr result (λ e. e ≡ Memory) }

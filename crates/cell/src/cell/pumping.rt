@@ -1,5 +1,5 @@
-//! Frames between a cell and others. A message that waits for its turn comes before the mailbox,
-//! and what is sent goes round the window until it is acknowledged.
+//! Moves frames between a cell and other nodes. A waiting message comes before the mailbox. Each
+//! message in the window is sent again until it is acknowledged.
 ghost use Rattle.std.specs.Prelude.{
   ◌≡◌,
   ◌↔◌,
@@ -43,15 +43,17 @@ fn event_of(frame: Frame) -> Event
 }
 
 impl<D: Disk> Cell<D> {
-    /// Takes in the message from another node that waits for its turn, where one does. Else it
-    /// takes the frame that is there from that node, empties its mailbox, and gives it to the node;
-    /// `Empty` where the mailbox wasn't full. A message that is taken in enters the history; one
-    /// that comes before its turn is kept where its place is empty. A frame that is refused is
-    /// lost, but a message that waited for want of memory, and comes again when it is sent again.
+    /// Receives the waiting message from another node, if there is one. Otherwise takes the frame
+    /// in the mailbox from that node, empties the mailbox, and gives the frame to the node; `Empty`
+    /// if the mailbox wasn't full.
     ///
-    /// Refused Closed exactly while the cell is closed; then NoNode where `from` is no other node
-    /// of the space; else as the node refuses the message or frame. A line is added to the trace
-    /// where there was one.
+    /// A message that is received enters the history. An early message is kept if its place is
+    /// empty. A refused frame is lost, and arrives again only if it is sent again; but a waiting
+    /// message that is refused with `Memory` stays.
+    ///
+    /// Fails with `Closed` exactly if the cell is closed; then with `NoNode` if `from` isn't
+    /// another node of the space; else as the node refuses the message or frame. A line is added to
+    /// the trace if there was a message or frame.
     pub fn pump_in(&mut self, wire: &Wire, from: u8) -> Result<Inbound, Refusal>
         requires wire { IsSeatOf wire.now self.old.seat }
         ensures pumped { IsTrue self.old.is_open
@@ -76,7 +78,7 @@ impl<D: Disk> Cell<D> {
         self.receive(wire, from)
     }
 
-    // Takes in the message that waits.
+    // Receives the waiting message.
     fn next(&mut self, wire: &Wire, from: u8) -> Result<Inbound, Refusal>
         requires wire { IsSeatOf wire.now self.old.seat }
         requires ready { IsTrue self.old.is_open }
@@ -88,7 +90,7 @@ impl<D: Disk> Cell<D> {
         Ok(Inbound::Event(answer))
     }
 
-    // Takes in the frame that is there, where none waits.
+    // Receives the frame in the mailbox; no message waits.
     fn receive(&mut self, wire: &Wire, from: u8) -> Result<Inbound, Refusal>
         requires wire { IsSeatOf wire.now self.old.seat }
         requires ready { IsTrue self.old.is_open }
@@ -104,7 +106,7 @@ impl<D: Disk> Cell<D> {
         Ok(Inbound::Event(answer))
     }
 
-    // Takes the frame that is there, and gives it to the node. None where the mailbox wasn't full.
+    // Takes the frame in the mailbox, and gives it to the node. None if the mailbox wasn't full.
     fn take_in(&mut self, wire: &Wire, from: u8) -> Option<Result<Answer, Refusal>>
         requires wire { IsSeatOf wire.now self.old.seat }
         requires ready { IsTrue self.old.is_open }
@@ -120,12 +122,13 @@ impl<D: Disk> Cell<D> {
         Some(answered)
     }
 
-    /// Sends a frame to another node: the message in the next place of the window that a saved node
-    /// holds, and where there is none the acknowledgement of what a saved node has taken in; after
-    /// that the window is sent from its start again. `Full` where the mailbox wasn't empty.
+    /// Sends a frame to another node: the released message in the next place of the window, if
+    /// there is one, else the acknowledgement of what a saved state has received. After an
+    /// acknowledgement, the window is sent from its start again. `Full` if the mailbox wasn't
+    /// empty.
     ///
-    /// Refused Closed exactly while the cell is closed; then NoNode where `to` is no other node of
-    /// the space; Memory where a growth was refused. A refusal changes nothing.
+    /// Fails with `Closed` exactly if the cell is closed; then with `NoNode` if `to` isn't another
+    /// node of the space; with `Memory` if an allocation fails. A failed call changes nothing.
     pub fn pump_out(&mut self, wire: &Wire, to: u8) -> Result<Outbound, Refusal>
         requires wire { IsSeatOf wire.now self.old.seat }
         ensures sent { IfOk result (λ o. IsSent (outbox self.old.seat to)

@@ -1,5 +1,5 @@
-//! What a cell does with its disk. A save releases what the node sent and took in; one in which the
-//! disk failed closes the cell until its disk is opened again.
+//! What a cell does with its disk. A save releases what the node sent and received. A save in which
+//! the disk fails closes the cell until its disk is opened again.
 ghost use Rattle.std.specs.Prelude.{
   ◌≡◌,
   ◌≢◌,
@@ -51,11 +51,13 @@ use trace::{Call, Outcome};
 use wire::Wire;
 
 impl<D: Disk> Cell<D> {
-    /// Saves the node, which releases all that it sent and took in, and enters the save.
+    /// Saves the node, which releases all that it sent and received, and enters the save in the
+    /// history.
     ///
-    /// Refused Closed exactly while the cell is closed; ImageTooLarge where the node's image is
-    /// longer than an image may be, and Memory: these change nothing. Disk where the device failed:
-    /// it closes the cell, and no event enters. A line is added to the trace either way.
+    /// Fails with `Closed` exactly if the cell is closed, with `ImageTooLarge` if the node's image
+    /// is longer than an image may be, and with `Memory`; these change nothing. Fails with `Disk`
+    /// if the device failed: this closes the cell, and no event enters. Either way a line is added
+    /// to the trace.
     pub fn save(&mut self, wire: &Wire) -> Result<(), Refusal>
         requires wire { IsSeatOf wire.now self.old.seat }
         ensures done { OnOk result (self.new ≡ record self.old {
@@ -103,14 +105,14 @@ impl<D: Disk> Cell<D> {
         }
     }
 
-    /// Syncs the disk, and takes up the node that it holds; the cell is then open. Where the cell
-    /// was open this is a restart, and so it is after reopenings of an open cell that were refused;
-    /// after a save that was refused Disk it is a restart or that save, by what the disk opens to.
-    /// The windows to other nodes are sent from their start, and the messages that were kept until
-    /// their turn are lost, also where it is that save.
+    /// Syncs the disk and loads the node that it holds; the cell is then open. If the cell was
+    /// open, this is a restart, also after failed reopenings of an open cell. After a save that
+    /// failed with `Disk`, it is a restart or that save, depending on what the disk opens to. The
+    /// windows to other nodes are sent from their start again. Messages that were kept until their
+    /// turn are lost, even if it is that save.
     ///
-    /// Refused Disk where the device failed, and Memory: the cell is then closed, and no event
-    /// enters. A line is added to the trace either way.
+    /// Fails with `Disk` if the device failed, and with `Memory`: the cell is then closed, and no
+    /// event enters. Either way a line is added to the trace.
     pub fn reopen(&mut self, wire: &Wire) -> Result<(), Refusal>
         requires wire { IsSeatOf wire.now self.old.seat }
         ensures opened { OnOk result (OpensToNode self.new.node (D.seen self.old.disk)) }
@@ -163,8 +165,8 @@ impl<D: Disk> Cell<D> {
 }
 
 impl Cell<MemoryDisk> {
-    /// From now on the `k`-th call of the disk and all later ones fail, as
-    /// [`MemoryDisk::fail_from`] says.
+    /// From now on, the `k`-th call of the disk and all later ones fail; see
+    /// [`MemoryDisk::fail_from`].
     pub fn fail_from(&mut self, k: u64)
         ensures plan { self.new.disk.plan ≡ fails_from k }
         ensures state { self.new.disk.state ≡ self.old.disk.state }
@@ -175,7 +177,8 @@ impl Cell<MemoryDisk> {
         self.shelf.fail_from(k);
     }
 
-    /// The `k`-th call of the disk from now fails, as [`MemoryDisk::fail_once`] says.
+    /// The `k`-th call of the disk from now on fails, and no later one; see
+    /// [`MemoryDisk::fail_once`].
     pub fn fail_once(&mut self, k: u64)
         ensures plan { self.new.disk.plan ≡ fails_once k }
         ensures state { self.new.disk.state ≡ self.old.disk.state }
@@ -186,7 +189,7 @@ impl Cell<MemoryDisk> {
         self.shelf.fail_once(k);
     }
 
-    /// The disk that a crash now leaves, as [`MemoryDisk::after_crash`] says.
+    /// The disk that a crash now leaves; see [`MemoryDisk::after_crash`].
     pub fn after_crash(&self, fill: u8) -> Result<MemoryDisk, Refusal>
         ensures filled { IfOk result (λ d. held_by d ≡ filled_by_crash fill self.now.disk) }
         ensures left { IfOk result (λ d. left_by self.now.disk (held_by d)) }

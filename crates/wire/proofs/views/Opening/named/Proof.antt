@@ -1,4 +1,4 @@
--- The token has no bytes, so the world that the caller names is in no code.
+-- The token has no bytes, so the world that the caller names does not occur in any code.
 use mathlib.Core.Path.{refl}
 use mathlib.Core.List.{[], ◌∷◌}
 use seplogic.Ra.Ura.{Ura}
