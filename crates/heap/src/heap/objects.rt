@@ -224,7 +224,7 @@ impl Heap {
         }
     }
 
-    // Reads a place, which has to be there.
+    // Reads a place, or fails with `NoField` if it isn't there.
     fn read_place(&self, object: Ref, place: u8) -> Result<Option<Ref>, Refusal>
         ensures { let o = object_at self.now.heap object in
             result ≡ guarded (place_tests self.now.heap object place) (place_of o place) }
@@ -235,7 +235,7 @@ impl Heap {
         }
     }
 
-    // Writes a place, which has to be there.
+    // Writes a place, or fails with `NoField` if it isn't there.
     fn write_place(&mut self, object: Ref, place: u8, value: Option<Ref>) -> Result<(), Refusal>
         ensures done { self.new
             ≡ record self.old { heap = with_place self.old.heap object place value } }
@@ -248,7 +248,7 @@ impl Heap {
         }
     }
 
-    // Writes the word of an object, which has to be there.
+    // Writes the word of an object, or fails with `NoField` if it isn't there.
     fn write_word(&mut self, object: Ref, word: u64) -> Result<(), Refusal>
         ensures done { self.new ≡ record self.old { heap = with_word self.old.heap object word } }
         ensures answer { result ≡ guarded (object_tests self.old.heap object) tt }

@@ -76,7 +76,7 @@ impl Heap {
         self.registers[register as usize] = value;
     }
 
-    // What the register names, which has to be an object of the node with this number.
+    // What the register names, if that is an object of the node with this number.
     #[tactic(auto, unfolding(model::specs::Heaps::heap_register))]
     pub(super) fn local(&self, own: u8, register: u16) -> Result<Ref, Refusal>
         ensures { result
