@@ -138,7 +138,7 @@ module _ {T : Type 0} where
         below = lit< tt;
       }
 
-  -- an entry that isn't linked is free, and there
+  -- an unlinked entry is free, and within the list
   unlinked_is_free : (e : Entry T) → is_unlinked e ≡ true → IsFree (slot_of e)
   unlinked_is_free (Free g next) is = tt
   unlinked_is_free (Occupied g x) is = absurd (true≢false (sym is))

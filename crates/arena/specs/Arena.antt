@@ -37,7 +37,7 @@ module _ {T : Type 0} where
   abbrev pub plain : List (Slot T) → List ℕ → ℕ → Arena T
   plain slots free limit = record { slots = slots; free = free; limit = limit }
 
-  -- the slot with a number; past the last one it counts as retired
+  -- the slot with this number; past the last one it counts as retired
   abbrev pub slot_at : Arena T → ℕ → Slot T
   slot_at a i = slice_index_or a.slots i Retired
 

@@ -61,7 +61,7 @@ impl<T> Chunk<T> {
         self.len >= self.capacity
     }
 
-    /// The item with a number.
+    /// The item with this number.
     pub(crate) fn get(&self, index: usize) -> &T
         requires { index < length self.now.items }
         ensures { result.now ≡ slice_index_or self.now.items index result.now }
@@ -69,7 +69,7 @@ impl<T> Chunk<T> {
         self.block.get(index)
     }
 
-    /// The item with a number, for writing.
+    /// The item with this number, for writing.
     pub(crate) fn get_mut(&mut self, index: usize) -> &mut T
         requires { index < length self.old.items }
         ensures* writes_back { sem 𝓛 (lends_chunk_item T.row self.entry index result) }

@@ -17,8 +17,8 @@ use crate::{FIRST_GENERATION, Fault, Slot};
 use std::alloc::{AllocError, Global};
 use std::marker::Model;
 
-/// The slots that an arena is made from, in order of their numbers, at most as many as `new` was
-/// told. They are already in the places that they will have in the arena.
+/// The slots that an arena is made from, in order of their numbers, at most as many as
+/// [`Slots::new`] was given. They are already in the places that they will have in the arena.
 pub struct Slots<T> {
     // None of them is linked yet.
     entries: Store<Entry<T>>,

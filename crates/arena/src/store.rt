@@ -73,7 +73,7 @@ impl<E> Store<E> {
         self.len
     }
 
-    /// The item with a number.
+    /// The item with this number.
     pub(crate) fn get(&self, index: usize) -> &E
         requires { index < length self.now.items }
         ensures { result.now ≡ slice_index_or self.now.items index result.now }
@@ -83,7 +83,7 @@ impl<E> Store<E> {
         chunk.get(index % CHUNK)
     }
 
-    /// The item with a number, for writing.
+    /// The item with this number, for writing.
     pub(crate) fn get_mut(&mut self, index: usize) -> &mut E
         requires { index < length self.old.items }
         ensures* writes_back { sem 𝓛 (lends_item E.row self.entry index result) }

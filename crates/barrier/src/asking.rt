@@ -56,7 +56,8 @@ pub fn ask(
 /// Undoes what [`ask`] did, or several calls of it in a row: the references after the first
 /// `before` are no longer asked for, and the Mark of each, which was appended last for its node, is
 /// retracted. All of them must have Marks: what was vouched for after them must be undone first, by
-/// [`unvouch`]. It needs no memory, and takes time linear in the number of references removed.
+/// [`unvouch`]. It needs no memory, and its running time grows with the number of references
+/// removed.
 pub fn unask(asked: &mut RefSet, links: &mut Links, before: usize)
     ensures back { (keys new : List Reference) (cycle : ℕ) (was : LinksView) →
         before ≡ length keys → IsLinks was →
@@ -109,8 +110,8 @@ pub fn include(asked: &mut RefSet, own: u8, reference: Option<Ref>) -> Result<()
 }
 
 /// Undoes what [`vouch`] did, or several calls of it in a row: the references after the first
-/// `before` no longer count as asked for. It needs no memory, and takes time linear in the number
-/// removed.
+/// `before` no longer count as asked for. It needs no memory, and its running time grows with the
+/// number of references removed.
 pub fn unvouch(asked: &mut RefSet, before: usize)
     ensures rest { asked.new.keys ≡ take before asked.old.keys }
     ensures back { (keys new : List Reference) → before ≡ length keys →

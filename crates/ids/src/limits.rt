@@ -18,7 +18,7 @@ pub const GREATEST_SLOTS: u32 = 1_048_576;
 /// The greatest number of places of an object; they are numbered from 0.
 pub const GREATEST_PLACES: u8 = 8;
 
-/// How many objects a slot has had, with the present one: 1 for its first object.
+/// Counts the objects of a slot: 1 for its first object.
 pub type Generation = u64;
 
 /// The greatest generation. Once its object of this generation is freed, a slot is never used

@@ -48,7 +48,7 @@ pub enum Refusal {
     AckBeyond,
     /// The bytes don't encode a frame.
     BadFrame,
-    /// The frame is not for this node, or not now, or says what this node does not follow.
+    /// The frame is not for this node, not for this space, or not for this moment.
     WrongNode,
     /// The bytes don't encode a saved node.
     BadImage,

@@ -59,7 +59,7 @@ met_references m = m.target ∷ m.brought ∷ []
 abbrev pub sought : ℕ → List Ref → Met → List Ref
 sought own asked m = unasked own asked (filled (m.brought ∷ []))
 
--- the Marks of it, and their number
+-- the Marks for that part, and their number
 abbrev pub marks_due : ℕ → Met → List Ref → List (ℕ × Message)
 marks_due cycle m us = cond m.asks (marks_for cycle us) []
 

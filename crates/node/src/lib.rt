@@ -75,23 +75,23 @@
 //! Each counts in the same balance at both ends, whichever end joins first. No sum wraps (`Tally`).
 //!
 //! 5. The token knows enough (`Tokens`, `laws/proofs/Safra.antt`); the head of crate `safra` says
-//! what. A calm node, one without grey objects, starts to work again only on a counted message,
-//! which makes it black and lowers its balance. A reference that is vouched for can wake it too.
-//! But then its object was covered and not marked, so a Mark is in flight.
+//! what. A calm node, which has joined and has no grey object, starts to work again only on a
+//! counted message, which makes it black and lowers its balance. A reference that is vouched for
+//! can wake it too. But then its object was covered and not marked, so a Mark is in flight.
 //!
 //! 6. When node 0 finds that marking has ended, it has. Node 0 is white, the token is white, the
-//! sum is 0, and node 0 has no grey object. One case is left: all nodes have joined, none has a
-//! grey object, and neither a Mark nor a reference from before the cycle is in flight. Then what is
-//! covered is marked (3), and what the nodes hold is marked (2). The other nodes only repeat what
-//! node 0 says, so none says it too early.
+//! sum is 0, and node 0 has no grey object. Of the cases in (5) one is left: all nodes have joined,
+//! none has a grey object, and neither a Mark nor a reference from before the cycle is in flight.
+//! Then what is covered is marked (3), and what the nodes hold is marked (2). The other nodes only
+//! repeat what node 0 says, so none says it too early.
 //!
 //! 7. It stays so (`Closed`, `Rested`). Roots and messages in flight refer only to marked objects,
 //! marked objects refer only to marked objects, and new objects are marked. Nothing can reach an
 //! unmarked object again, so a node may sweep in steps while programs run between them.
 //!
-//! 8. Restarts change nothing. What isn't in a saved state was never given to another node, since a
-//! save releases messages and acknowledgements. Choose for each node its current or its saved
-//! state: this is a cut. Any cut is a space that could have come about without restarts
+//! 8. Restarts change nothing. What isn't in a saved state was never given to another node, since
+//! only a save releases messages and acknowledgements. Choose for each node its current or its
+//! saved state: this is a cut. Any cut is a space that could have come about without restarts
 //! (`cuts_extend`), and each fact above holds of every cut of every run.
 //!
 //! That garbage is freed is another theorem (`old_garbage`). Take any time before the cycle.

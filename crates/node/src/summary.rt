@@ -2,8 +2,8 @@
 use ids::Shape;
 use msg::Colour;
 
-/// A node in numbers: its phases, its part of the ring, and the sizes of its grey list, its slots
-/// and its letters.
+/// A node in numbers: its phases, its part of the ring, and how many grey objects, live objects and
+/// letters it has.
 #[derive(Clone, Copy, Debug, PartialEq, Eq)]
 pub struct Summary {
     pub shape: Shape,

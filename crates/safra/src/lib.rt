@@ -15,7 +15,8 @@
 //!           '-- the token went by ---'    it is here
 //! ```
 //!
-//! - the nodes above `t` are calm, and their balances sum to the token's sum;
+//! - the nodes above `t` are calm, which means that they have joined the cycle and have no grey
+//! objects, and their balances sum to the token's sum;
 //!
 //! - or the balances of the nodes up to `t` and the token's sum add up to more than 0: a message is
 //! in flight, or reached a node above `t` after the token had left it;

@@ -59,7 +59,7 @@ fn tested(alloc: Global, parts: &NodeParts) -> Result<RefSet, Refusal>
 
 impl Core {
     /// Makes the node of these parts. All its messages count as held by a saved state, and so does
-    /// all that it has received. It takes time linear in the size of the parts.
+    /// all that it has received. Its running time grows with the size of the parts.
     ///
     /// It fails with [`Refusal::BadImage`] if no saved node has these parts ("Saved nodes" in
     /// docs/RULES.md), and with [`Refusal::Memory`] if an allocation fails, whatever the parts are.
