@@ -32,7 +32,7 @@ unsafe impl<T: Send> Send for Block<T> {}
 
 unsafe impl<T: Sync> Sync for Block<T> {}
 
-/// The right to give a block back. It has no bytes, and can't be dropped either.
+/// The right to deallocate a block. It has no bytes, and can't be dropped either.
 pub(crate) struct Title<T, A: Allocator> {
     mark: PhantomData<*const (T, A)>,
     ghost start: { Ptr },
@@ -51,7 +51,7 @@ unsafe impl<T, A: Allocator + Send> Send for Title<T, A> {}
 // Nothing can be done with a `&` to it.
 unsafe impl<T, A: Allocator> Sync for Title<T, A> {}
 
-/// Allocates a new block, and the right to give it back.
+/// Allocates a new block, and returns it with the right to deallocate it.
 pub(crate) fn reserve<T, A: Allocator>(
     alloc: &A,
     places: usize,
@@ -71,7 +71,7 @@ pub(crate) fn reserve<T, A: Allocator>(
     }
 }
 
-/// Gives back a block that holds no value.
+/// Deallocates a block that holds no value.
 pub(crate) fn release<T, A: Allocator>(
     alloc: &A,
     places: usize,

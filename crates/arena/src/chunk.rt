@@ -12,7 +12,7 @@ use std::mem;
 use std_alloc::room::may_hold;
 
 /// A row with at most `capacity` items, numbered from 0 in the order in which they were added. When
-/// it is dropped, the items that it still has are dropped and its block is given back.
+/// it is dropped, the items that it still has are dropped and its block is deallocated.
 pub(crate) struct Chunk<T> {
     block: Block<T>,
     title: Title<T, Global>,
@@ -99,7 +99,7 @@ impl<T> Chunk<T> {
         Ok(())
     }
 
-    // Moves all items behind those of another chunk, and gives the block back.
+    // Moves all items behind those of another chunk, and deallocates the block.
     fn move_into(self, other: &mut Chunk<T>)
         requires { length other.old.items + length self.items ≤ other.old.capacity }
         ensures { other.new ≡ row (other.old.items ++ self.items) other.old.capacity }

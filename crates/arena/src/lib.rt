@@ -19,16 +19,16 @@
 //! push allocates another one. The block with the pointers to the chunks doubles when it is full,
 //! and only these pointers are moved. So an arena with one value takes one chunk and room for four
 //! pointers, whatever its limit. A free slot keeps its next generation and the next free slot in
-//! the memory that a value would take. A slot that was never used is raw memory. No chunk is given
-//! back before the arena is dropped.
+//! the memory that a value would take. A slot that was never used is raw memory. No chunk is
+//! deallocated before the arena is dropped.
 //!
 //! `block` is the only file with pointers, and its functions are proved by hand. The owner of a
 //! block knows three things that have no bytes: how many places at its beginning were emptied,
 //! which values come after those, and how many places behind the values were never filled
 //! (`arena/specs/Block.antt`). Filling uses a place that was never filled, and taking a value out
-//! leaves an emptied one. Giving the block back requires that there are no values, and that the
-//! places of both kinds together are the whole block. Neither the block nor the right to give it
-//! back can be dropped, so code that forgets one on some path is rejected. No code above `block`
+//! leaves an emptied one. Deallocating the block requires that there are no values, and that the
+//! places of both kinds together are the whole block. Neither the block nor the right to deallocate
+//! it can be dropped, so code that forgets one on some path is rejected. No code above `block`
 //! deals with memory.
 #![tactic(auto)]
 

@@ -19,8 +19,8 @@ pub record IsReceived (r : Received) : Type 0 where
 abbrev pub new_received : Received
 new_received = record { taken = 0; saved = 0 }
 
--- By its number, a message is first a repeat, up to the last one received; then it is the next one;
--- then early, up to the last number of the window; and then out of order.
+-- A message is a repeat up to the last number received, then the next one, then early up to the
+-- last number of the window, and out of order after that.
 abbrev pub offered : ℕ → ℕ → Result Offer Refusal
 offered taken number =
     cond (nat_le number taken)

@@ -74,8 +74,9 @@ emptied_at es from = slice_set es from (emptied (ring_of es from))
 abbrev pub placed_at : Rings → ℕ → ℕ → Data → Rings
 placed_at es from place d = slice_set es from (placed (ring_of es from) place d)
 
--- After a message, `taken` messages of its sender having been received before: if it was received,
--- each frame moves to the place before; if it was early, it is put into its place.
+-- The early messages after a message, when `taken` messages of its sender were received before it.
+-- If it was received, each frame moves to the place before. If it was early, it is put into its
+-- place.
 abbrev pub after_data : ℕ → Rings → Data → Result Answer Refusal → Rings
 after_data taken es d (Ok answer.Received) = shifted_at es d.from
 after_data taken es d (Ok answer.Early) = placed_at es d.from (d.number - taken - 1) d

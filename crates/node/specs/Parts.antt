@@ -172,7 +172,7 @@ pub record AreParts (p : NodeParts) : Type 0 where
   pub asked : AreAsked p.shape p.own p.asked.items
   pub ends : AreAtEnds p.shape p.own p.phases.cycle (links_given p.links.items)
 
--- parts to make a node of: they were tested, and the heap may use the slots of the shape
+-- parts that a node can be made of: they were tested, and the heap may use the slots of the shape
 pub record IsTested (n : Inside) : Type 0 where
   pub shape : IsShape n.shape
   pub phases : IsPhases n.phases

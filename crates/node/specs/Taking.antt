@@ -41,12 +41,12 @@ brought_by h (body.Get target place label) = place_of (object_at h target) place
 brought_by h b = None
 
 -- At a node in this cycle, whether a Mark is sent for that reference. The sender of a message of
--- the same cycle has seen to it; what the node itself reads it shades.
+-- the same cycle has seen to it; the node shades what it reads itself.
 abbrev pub asks_for : ℕ → ℕ → Body → Bool
 asks_for cycle stamp (body.Get target place label) = true
 asks_for cycle stamp b = nat_lt stamp cycle
 
--- to a node that isn't marking a message brings nothing
+-- a message brings nothing to a node that isn't marking
 abbrev pub met_by : Bool → ℕ → ℕ → Option Ref → Body → Met
 met_by false cycle stamp v b = record { target = None; brought = None; asks = true }
 met_by true cycle stamp v b =

@@ -98,11 +98,11 @@
 //! Whatever a node still has after its sweep was reachable in some cut of that time, or was made
 //! since, or wasn't saved by its owner then.
 //!
-//! Programs see nothing of all this (`transparent`). Put beside each cut a space in which no object
-//! is ever freed, and let its programs do the same. The two stay alike: the registers, the letters
-//! and the messages of programs are the same, and every object that a node still has holds the same
-//! word and places. A program that asks about an object has a reference to it, so the object is
-//! reachable and hence live: both spaces make the same tests and give the same answer.
+//! Programs see nothing of all this (`transparent`). Compare each cut with a space in which no
+//! object is ever freed, and whose programs do the same. The two stay alike: the registers, the
+//! letters and the messages of programs are the same, and every object that a node still has holds
+//! the same word and places. A program that asks about an object has a reference to it, so the
+//! object is reachable and hence live: both spaces make the same tests and give the same answer.
 
 mod keeping;
 mod node;

@@ -1,4 +1,4 @@
-//! The lists of a saved node that name each thing once. Each entry is looked at once; entries
+//! The lists of a saved node that name each thing once. Each entry is read once; entries
 //! aren't compared with all the others.
 ghost use Rattle.std.specs.Prelude.{◌≡◌, ◌≢◌, ◌↔◌, ℕ, ◌<◌, length, map, true, IsTrue, IfOk, IfErr, OnOk};
 ghost use Rattle.ids.specs.declared.refusal.Refusal.TheVariants.{BadImage, Memory};
