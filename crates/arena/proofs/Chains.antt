@@ -33,13 +33,13 @@ Has-from_any (x ∷ xs) q found =
       | inr later ↦ inr (Has-from_any xs q later)
     ]
 
--- a number that is not in a list differs from each of it
+-- a number that isn't in a list differs from each number of it
 all_apart : (x : ℕ) (ys : List ℕ) → (Has ys x → ⊥) → AllByRecursion (λ y. eqb x y ≡ false) ys
 all_apart x [] off = tt
 all_apart x (y ∷ ys) off =
     (ne_eqb x y (λ same. off (inl same)), all_apart x ys (λ has. off (inr has)))
 
--- std's word for a list with no number twice
+-- the definition of `std` for a list with no number twice
 IsDistinct-from_once : (xs : List ℕ) → Once xs → IsDistinct eqb xs
 unfolding IsDistinct
 IsDistinct-from_once [] once = tt
@@ -54,7 +54,7 @@ module _ {T : Type 0} where
       length-le_from_distinct_below a.free (length a.slots) distinct (λ q found.
       free_within a.slots q (sound.named q (Has-from_any a.free q found)))
 
-  -- so many slots are linked
+  -- this many slots are linked
   pub length-chain : (es : List (Entry T)) (n from : ℕ) → length (chain es n from) ≡ n
   length-chain es zero from = refl
   length-chain es (suc n) from = ap suc (length-chain es n _)
@@ -74,7 +74,7 @@ module _ {T : Type 0} where
       let counted = length-chain es vacant first in
       omega (arith, linked.sound.small, linked.sound.within)
 
-  -- a write that is off the chain keeps it
+  -- a write outside the chain doesn't change it
   pub chain-set : (es : List (Entry T)) (k : ℕ) (e : Entry T) (n from : ℕ)
       → (Has (chain es n from) k → ⊥) → chain (set es k e) n from ≡ chain es n from
   chain-set es k e zero from off = refl
@@ -83,7 +83,7 @@ module _ {T : Type 0} where
       let rest = chain-set es k e n _ (λ has. off (inr has)) in
       rw (get_or-set_other es k from e Retired other) (ap (λ ks. from ∷ ks) rest)
 
-  -- the slot that an entry is seen as
+  -- how an entry is seen as a slot
   slot_read : (es : List (Entry T)) (k : ℕ) (e : Entry T) → get_or es k Retired ≡ e
       → get_or (map slot_of es) k slot.Retired ≡ slot_of e
   slot_read es k e read = get_or-map slot_of es k Retired ∙ ap slot_of read
@@ -159,7 +159,7 @@ module _ {T : Type 0} where
   free_entry (Occupied g x) free = absurd free
   free_entry Retired free = absurd free
 
-  -- where a slot is free, the list begins with a free one
+  -- if a slot is free, the list begins with a free one
   first_is_free : (es : List (Entry T)) (first vacant limit : ℕ)
       → IsSound (arena_of es first (suc vacant) limit) → IsFirst es first
   first_is_free es first vacant limit sound =
@@ -171,7 +171,7 @@ module _ {T : Type 0} where
       let f = free_entry (get_or es first Retired) (rw at at free) in
       record { generation = f.0; next = f.1; within = within; read = f.2 }
 
-  -- and that slot has been used
+  -- and that slot was used
   pub first_within : {es : List (Entry T)} {first vacant len limit : ℕ}
       → IsLinked es first vacant len limit → 0 < length (chain es vacant first) → first < length es
   first_within {vacant = zero} linked some = absurd (omega arith)
@@ -225,7 +225,7 @@ module _ {T : Type 0} where
         done = rw (less, kept, map-set, at, after);
       }
 
-  -- the entry that is read there is the free one
+  -- the entry that was read there is the free one
   pub fills : {es : List (Entry T)} {first vacant len limit : ℕ}
       → IsLinked es first vacant len limit → (e : Entry T) (x : T)
       → 0 < length (chain es vacant first) → e ≡ get_or es first e
@@ -237,13 +237,13 @@ module _ {T : Type 0} where
       get_or_read es first e f.within read Retired ∙ f.read in
       rw is (fills_from linked f x)
 
-  -- the value of the greatest generation goes
+  -- the value of the greatest generation is removed
   pub record Retires (es : List (Entry T)) (first vacant len limit : ℕ) (key : Key) : Type 0 where
     pub linked : IsLinked (set es key.slot Retired) first vacant (len - 1) limit
     pub done : arena_of (set es key.slot Retired) first vacant limit
         ≡ vacated (arena_of es first vacant limit) key
 
-  -- the value of another generation goes
+  -- the value of another generation is removed
   pub record Frees (es : List (Entry T)) (first vacant len limit : ℕ) (key : Key) : Type 0 where
     pub linked :
         let emptied = set es key.slot (Free (key.generation + 1) first) in
@@ -261,10 +261,10 @@ module _ {T : Type 0} where
         ≡ with_value (arena_of es first vacant limit) key w
     pub value : (v : T) → e ≡ occupied_by e v → get (arena_of es first vacant limit) key ≡ Some v
 
--- a change under a key, where the free slots are linked and the values counted
+-- a change under a key, when the free slots are linked and the values counted
 module _ {T : Type 0} {es : List (Entry T)} {first vacant len limit : ℕ}
     (linked : IsLinked es first vacant len limit) (key : Key) where
-  -- a write of that entry is off the chain
+  -- a write of that entry is outside the chain
   chain_kept : (f : IsFound es key) (e : Entry T)
       → chain (set es key.slot e) vacant first ≡ chain es vacant first
   chain_kept f e =
@@ -335,7 +335,7 @@ module _ {T : Type 0} {es : List (Entry T)} {first vacant len limit : ℕ}
         value = λ v same. rw (at, test) (cc);
       }
 
-  -- the entry that is read there is the one under the key
+  -- the entry that was read there is the one under the key
   pub lends : (e : Entry T) (w : T) → IsSome (get (arena_of es first vacant limit) key)
       → e ≡ get_or es key.slot e → LendsOut es first vacant len limit key e w
   lends e w some read =

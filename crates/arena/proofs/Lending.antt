@@ -41,7 +41,7 @@ module _ {M : Type 1} {𝓤 : Ura M} (𝓛 : Logic 𝓤) (l : Lft) (R : RattleTy
       (values_lent R b next xs) l
       (λ κ ts. Shares-less 𝓛 R R.lives l inc (L.shares 𝓛) x κ ts b o) (Lends-values b next xs)
 
-  -- the room on both sides is lent to nobody
+  -- the room on both sides isn't lent
   pub Lends-block : (p : Ptr) (k : ℕ) (xs : List R.Denot) (n : ℕ)
       → Lends 𝓛 (block_owns R p k xs n) (block_lent R p k xs n) l
   Lends-block (block_ptr b o) k xs n =

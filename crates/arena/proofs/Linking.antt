@@ -1,4 +1,4 @@
--- What the steps by which an arena is made keep and find.
+-- The steps of making an arena: what they preserve, and what they detect.
 use Rattle.std.proofs.Common.{◌≡◌, ◌≢◌, ℕ, zero, suc, ◌-◌, ◌^◌, ◌<◌, ◌≤◌, List, [], ◌∷◌, ◌++◌, map}
 use Rattle.std.proofs.Common.{length, get_or, set, drop, count_by, cond, Bool, ◌+◌, true, false, lit<}
 use Rattle.std.specs.Prelude.{IsTrue, ◌↔◌, ◌&&◌}
@@ -20,19 +20,19 @@ use Rattle.arena.specs.declared.entry.TheConstants.{UNLINKED}
 use Rattle.arena.proofs.Sound.{at_set}
 use Rattle.arena.proofs.Chains.{chain-set, length-free}
 
--- what is in the end of a list is in the list
+-- what is in a tail of a list is in the list
 Has-drop : (xs : List ℕ) (k i : ℕ) → Has (drop k xs) i → Has xs i
 Has-drop [] k i has = absurd (subst (λ ys. Has ys i) (drop-nil k) has)
 Has-drop (x ∷ xs) zero i has = has
 Has-drop (x ∷ xs) (suc k) i has = inr (Has-drop xs k i has)
 
--- the end of a list with no number twice is such a list
+-- a tail of a list with no number twice has no number twice
 Once-drop : (xs : List ℕ) (k : ℕ) → Once xs → Once (drop k xs)
 Once-drop [] k once = subst Once (sym (drop-nil k)) tt
 Once-drop (x ∷ xs) zero once = once
 Once-drop (x ∷ xs) (suc k) once = Once-drop xs k once.1
 
--- the end of a list that begins one number earlier
+-- the tail that begins one number earlier
 pub drop-back : (xs : List ℕ) (n : ℕ) → 0 < n → n ≤ length xs
     → drop (n - 1) xs ≡ get_or xs (n - 1) 0 ∷ drop n xs
 drop-back xs n some within =
@@ -52,7 +52,7 @@ module _ {T : Type 0} where
   free_unlinked (slot.Occupied g x) free = absurd free
   free_unlinked slot.Retired free = absurd free
 
-  -- a slot more, and whether each generation is at least the first
+  -- another slot, and whether each generation is at least the first
   born_push : (ss : List (Slot T)) (s : Slot T)
       → ((i : ℕ) → IsBorn (get_or ss i slot.Retired)) → IsBorn s → (i : ℕ)
       → IsBorn (get_or (ss ++ s ∷ []) i slot.Retired)
@@ -77,7 +77,7 @@ module _ {T : Type 0} where
       → map slot_of (es ++ unlinked_of s ∷ []) ≡ map slot_of es ++ s ∷ []
   slots_more es s = rw (map_push slot_of es (unlinked_of s), slot-unlinked s) refl
 
-  -- one more of the entries of slots
+  -- the entry of another slot
   pub counted_more : {es : Row (Entry T)} {occupied vacant : ℕ} {born : Bool}
       → AreCounted es occupied vacant born → (s : Slot T) (b : Bool) → IsTrue b ↔ IsBorn s
       → length (map slot_of es.items) < es.capacity
@@ -108,7 +108,7 @@ module _ {T : Type 0} where
         short = before.short;
       }
 
-  -- the count of those that aren't linked is below the limit
+  -- the counts are at most the number of entries
   pub counts_fit : {es : Row (Entry T)} {occupied vacant : ℕ} {born : Bool}
       → AreCounted es occupied vacant born → (occupied ≤ length es.items) × (vacant ≤ length es.items)
   counts_fit {es} is = (
@@ -138,7 +138,7 @@ module _ {T : Type 0} where
         below = lit< tt;
       }
 
-  -- an entry that isn't linked is free, and there
+  -- an unlinked entry is free, and within the list
   unlinked_is_free : (e : Entry T) → is_unlinked e ≡ true → IsFree (slot_of e)
   unlinked_is_free (Free g next) is = tt
   unlinked_is_free (Occupied g x) is = absurd (true≢false (sym is))
@@ -153,7 +153,7 @@ module _ {T : Type 0} where
             absurd (true≢false (sym is ∙ ap is_unlinked (get_or_past es k Retired past)))
       ]
 
-  -- a free slot that names another one isn't unlinked
+  -- a free slot that names another one is linked
   linked_apart : (e : Entry T) (next : ℕ) → next < UNLINKED
       → is_unlinked (linked_to e next) ≡ false
   linked_apart (Free g old) next below = ne_eqb next UNLINKED (λ same. omega arith)
@@ -170,7 +170,7 @@ module _ {T : Type 0} where
   next-linked (Occupied g x) next free = absurd free
   next-linked Retired next free = absurd free
 
-  -- one slot more is linked before the others
+  -- another slot is linked, before the others
   pub record LinksOne (es : List (Entry T)) (rest : List ℕ) (first k : ℕ) : Type 0 where
     pub linking : IsLinking (set es k (linked_to (entry_at es k) first)) (k ∷ rest) k
     pub slots : map slot_of (set es k (linked_to (entry_at es k) first)) ≡ map slot_of es
@@ -228,7 +228,7 @@ module _ {T : Type 0} where
       → get_or (map slot_of es) i slot.Retired ≡ slot_of (entry_at es i)
   slot_seen es i = get_or-map slot_of es i Retired
 
-  -- a number of the list that can't be linked before those after it: the list is a wrong one
+  -- if a number of the list can't be linked before those after it, the list is wrong
   pub refuses : {es : List (Entry T)} {rest : List ℕ} {first : ℕ} → IsLinking es rest first
       → (ks : List ℕ) (n k : ℕ) → drop n ks ≡ k ∷ rest → is_unlinked (entry_at es k) ≡ false
       → (limit : ℕ) → IsSound (plain (map slot_of es) ks limit) → ⊥
@@ -238,7 +238,7 @@ module _ {T : Type 0} where
       let once : Once (k ∷ rest) = rw ends at (Once-drop ks n sound.once) in
       once.0 (linking.unmarked k free linked)
 
-  -- where some aren't linked, there is one
+  -- if the count of slots that aren't linked isn't 0, there is one
   pub some_unlinked : (es : List (Entry T)) → 0 < count_by is_unlinked es
       → (i : ℕ) × (is_unlinked (entry_at es i) ≡ true)
   some_unlinked [] some = absurd (omega (arith, some))
@@ -268,7 +268,7 @@ module _ {T : Type 0} where
         | inr not ↦ linked_behind e es not (none_unlinked es (rw not at none)) i
       ]
 
-  -- a free slot that the list doesn't name: the list is a wrong one
+  -- if there is a free slot that the list doesn't name, the list is wrong
   pub misses : {es : List (Entry T)} {ks : List ℕ} {first : ℕ} → IsLinking es ks first → (i : ℕ)
       → is_unlinked (entry_at es i) ≡ true → (limit : ℕ)
       → IsSound (plain (map slot_of es) ks limit) → ⊥
@@ -326,7 +326,7 @@ module _ {T : Type 0} where
       let rest = free_within_entries es k free in
       omega arith
 
-  -- what stands first on a list of free slots, of which some are left
+  -- the first slot of a list of free slots that isn't empty
   pub record Next (es : List (Entry T)) (left first : ℕ) (e : Entry T) : Type 0 where
     pub free : IsFree (slot_of e)
     pub chained : chain es left first ≡ first ∷ chain es (left - 1) (next_of e)

@@ -33,7 +33,7 @@ module _ (E : El) where
   abbrev pub B : RattleType
   B = block.the_row (R E)
 
-  -- the pointer, which is all that lies in a block's owner
+  -- the pointer, which is all that a block's owner has in memory
   abbrev pub Fields : RattleType
   Fields = Struct (shape (block.the_type (R E)))
 

@@ -1,4 +1,4 @@
--- Where an item lies among chunks of which all but the last are full.
+-- The position of an item among chunks of which all except the last are full.
 use Rattle.std.proofs.Common.{◌≡◌, ℕ, zero, suc, ◌+◌, ◌-◌, ◌*◌, ◌<◌, ◌≤◌, List, [], ◌∷◌, ◌++◌}
 use Rattle.std.proofs.Common.{length, get_or, set, refl, sym, ap, ◌∙◌, subst, arith}
 use Rattle.std.proofs.Math.ListN.{get_or-append, length-append}
@@ -8,7 +8,7 @@ use Rattle.arena.specs.Row.{Row, row}
 use Rattle.arena.specs.Chunked.{flat, IsPacked}
 use Rattle.arena.specs.declared.root.TheConstants.{CHUNK}
 
--- a chunk that isn't the last is full
+-- a chunk that isn't the last one is full
 within_first : (n len r : ℕ) → (0 < n → len ≡ CHUNK) → r < CHUNK → r < len + n → r < len
 within_first zero len r full few below = omega arith
 within_first (suc n) len r full few below =
@@ -102,7 +102,7 @@ module _ {E : Type 0} where
         (p.0, p.1, p.2, (λ _. full), rest.1),
       )
 
-  -- one item more in the last chunk, which isn't full
+  -- another item in the last chunk, which isn't full
   pub record Extends (cs : List (Row E)) (q : ℕ) (c : Row E) (x : E) : Type 0 where
     pub room : length c.items < c.capacity
     pub items : flat (set cs q (row (c.items ++ x ∷ []) c.capacity)) ≡ flat cs ++ x ∷ []

@@ -41,7 +41,7 @@ module _ (E : El) {M : Type 1} {𝓤 : Ura M} (𝓛 : Logic 𝓤) (b : ℕ) wher
   abbrev Row : List (el_x E) → ℕ → Fml
   Row xs o = row (R E) full_share xs b o
 
-  -- the first of so many places of room
+  -- the first of these places of room
   pub room-first : (n o at next-at : ℕ) → at ≡ o → next-at ≡ o + s
       → ent 𝓤 (sem 𝓛 (Room (suc n) o)) (sep 𝓤 (sem 𝓛 (froom τ b at)) (sem 𝓛 (Room n next-at)))
   room-first n o at next-at e f =
@@ -52,7 +52,7 @@ module _ (E : El) {M : Type 1} {𝓤 : Ura M} (𝓛 : Logic 𝓤) (b : ℕ) wher
       rewrite ! 1 (λ (k : ℕ). ‵ (froom (ty_array τ n) b k)) (sym f) refl $
       move ! (1 ∷ []) $ as_raw ! (ty_array τ n) b next-at $ move ! (1 ∷ 0 ∷ []) $ done !
 
-  -- one place more
+  -- another place of room
   pub room-last : (k o : ℕ)
       → ent 𝓤 (sep 𝓤 (sem 𝓛 (Room k o)) (sem 𝓛 (froom τ b (k * s + o)))) (sem 𝓛 (Room (k + 1) o))
   room-last k o =
@@ -61,7 +61,7 @@ module _ (E : El) {M : Type 1} {𝓤 : Ura M} (𝓛 : Logic 𝓤) (b : ℕ) wher
       as_raw ! (ty_array τ (suc k)) b o $
       rewrite ! 0 (λ (n : ℕ). ‵ (Room n o)) (sym (one_more k)) refl $ done !
 
-  -- all places, where none holds a value
+  -- all places, when none holds a value
   pub room-whole : (k n o : ℕ)
       → ent 𝓤 (sep 𝓤 (sem 𝓛 (Room k o)) (sem 𝓛 (Room n (k * s + o)))) (sem 𝓛 (Room (k + n) o))
   room-whole k n o =
@@ -100,7 +100,7 @@ pub not-empty : {X : Type 0} (xs : List X) → 0 < length xs
 not-empty [] more = absurd (omega arith)
 not-empty (x ∷ xs) more = (x, (xs, refl))
 
--- which value stands for one that isn't there makes no difference to one that is
+-- a read within the list is the same whatever value is read past its end
 pub same-read : {X : Type 0} (xs : List X) (i : ℕ) (d e : X) → i < length xs
     → get_or xs i d ≡ get_or xs i e
 same-read [] i d e lt = absurd (omega arith)

@@ -25,7 +25,7 @@ module _ {E : Type 0} where
     same : flat chunks.items ≡ Items
     same = ap (λ (r : Root E). flat (chunks_of r)) (sym there)
 
-    -- the item of the number i stands in the chunk c
+    -- the item with the number i is in the chunk c
     pub record Reached (i : ℕ) (c : Row E) : Type 0 where
       pub within : i % CHUNK < length c.items
       pub read : (x : E) → x ≡ get_or c.items (i % CHUNK) x → x ≡ get_or Items i x

@@ -1,4 +1,4 @@
--- What each change of an arena's slots keeps.
+-- What each change of an arena's slots preserves.
 use Rattle.std.proofs.Common.{◌≡◌, ◌≢◌, ◌⊎◌, ℕ, zero, suc, ◌<◌, ◌≤◌, List, [], ◌∷◌, length}
 use Rattle.std.proofs.Common.{get_or, set, refl, subst, inl, inr, arith}
 use Rattle.std.proofs.lemmas.Bool.{cases_eq}
@@ -19,7 +19,7 @@ at_set xs k i x d within =
     ]
 
 module _ {T : Type 0} where
-  -- a slot that is no retired one is within the list
+  -- a free slot is within the list
   pub free_within : (slots : List (Slot T)) (k : ℕ) → IsFree (get_or slots k Retired)
       → k < length slots
   free_within [] k free = absurd free

@@ -41,7 +41,7 @@ module _ {T : Type 0} where
   pub goes : (a : Arena T) (key : Key) → IsSome (get a key) → vacated a key ≡ removed a key
   goes a key some = sym (without-some (get a key) a key some)
 
-  -- there is a value, where one is found
+  -- if a value is found, the count of values is at least 1
   pub counted : {es : List (Entry T)} {first vacant len limit : ℕ} (key : Key)
       → IsLinked es first vacant len limit
       → IsSome (get (arena_of es first vacant limit) key) → 1 ≤ len

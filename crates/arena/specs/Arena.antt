@@ -1,4 +1,4 @@
--- What a contract sees of an `Arena`.
+-- The view of an `Arena` that contracts use.
 use Rattle.std.specs.Prelude.{◌≡◌, ◌⊎◌, ℕ, ◌+◌, ◌^◌, ◌<◌, ◌≤◌, List, [], ◌∷◌, ◌++◌, length}
 use Rattle.std.specs.Prelude.{Bool, true, false, ◌==◌, ◌&&◌, nat_le, if◌then◌else◌, ⊤}
 use Rattle.std.specs.Prelude.{Option, Some, None, count_by, slice_index_or, slice_set}
@@ -37,7 +37,7 @@ module _ {T : Type 0} where
   abbrev pub plain : List (Slot T) → List ℕ → ℕ → Arena T
   plain slots free limit = record { slots = slots; free = free; limit = limit }
 
-  -- the slot of a number; past the last it counts as retired
+  -- the slot with this number; past the last one it counts as retired
   abbrev pub slot_at : Arena T → ℕ → Slot T
   slot_at a i = slice_index_or a.slots i Retired
 
@@ -57,7 +57,7 @@ module _ {T : Type 0} where
     pub small : a.limit < 2 ^ 32
     pub within : length a.slots ≤ a.limit
     pub born : (i : ℕ) → IsBorn (slot_at a i)
-    -- the list names the free slots and no others, each once
+    -- the list names exactly the free slots, each once
     pub named : (i : ℕ) → Has a.free i → IsFree (slot_at a i)
     pub listed : (i : ℕ) → IsFree (slot_at a i) → Has a.free i
     pub once : Once a.free
@@ -67,7 +67,7 @@ module _ {T : Type 0} where
   is_occupied (Occupied g x) = true
   is_occupied Retired = false
 
-  -- how many values there are
+  -- the number of values
   abbrev pub occupied_count : Arena T → ℕ
   occupied_count a = count_by is_occupied a.slots
 
@@ -91,7 +91,7 @@ module _ {T : Type 0} where
   abbrev pub key_at : Arena T → ℕ → Option Key
   key_at a slot = key_of slot (generation_in (slot_at a slot))
 
-  -- the generation of the value in a slot, or of the next one where it is free
+  -- the generation of the value in a slot, or of the next one if the slot is free
   abbrev pub slot_generation : Slot T → Option ℕ
   slot_generation (Free g) = Some g
   slot_generation (Occupied g x) = Some g
@@ -108,19 +108,19 @@ module _ {T : Type 0} where
   abbrev pub is_full : Arena T → Bool
   is_full a = (length a.free == 0) && nat_le a.limit (length a.slots)
 
-  -- what a value is refused for; memory is wanted for a fresh slot alone
+  -- why inserting a value failed; only a fresh slot needs memory
   abbrev pub IsFaultOf : Arena T → Fault → Type 0
   IsFaultOf a Full = is_full a ≡ true
   IsFaultOf a Memory = (is_full a ≡ false) × (a.free ≡ [])
   IsFaultOf a Shape = ⊥
 
-  -- the slot with the value that is borrowed
+  -- the slot with its borrowed value
   abbrev pub slot_read : Slot (Bor T) → Slot T
   slot_read (Free g) = Free g
   slot_read (Occupied g x) = Occupied g x.now
   slot_read Retired = Retired
 
-  -- the generation that the next value of a free slot has
+  -- the generation of the next value of a free slot
   abbrev pub generation_of : Slot T → ℕ
   generation_of (Free g) = g
   generation_of (Occupied g x) = g
@@ -130,7 +130,8 @@ module _ {T : Type 0} where
   first_key [] a = record { slot = length a.slots; generation = FIRST_GENERATION }
   first_key (k ∷ ks) a = record { slot = k; generation = generation_of (slot_at a k) }
 
-  -- a key that the arena may give out: its slot is within the limit, its generation one of a value
+  -- a key that the arena may use: its slot is within the limit, and its generation is at least the
+  -- first
   pub record IsKey (a : Arena T) (key : Key) : Type 0 where
     pub slot : key.slot < a.limit
     pub generation : FIRST_GENERATION ≤ key.generation
@@ -148,7 +149,7 @@ module _ {T : Type 0} where
         limit = a.limit;
       }
 
-  -- the arena with one value more, under the next key
+  -- the arena with another value, under the next key
   abbrev pub inserted : Arena T → T → Arena T
   inserted a x = filled a.free a x
 

@@ -20,7 +20,7 @@ module _ (R : RattleType) where
   abbrev pub is_small : ℕ → Fml
   is_small n = flt (n * type_size R) (2 ^ 63)
 
-  -- k places of room, behind them the values, and behind those n places of room
+  -- k places of room, then the values, and then n places of room
   abbrev pub block_owns : Ptr → ℕ → List R.Denot → ℕ → Fml
   block_owns (block_ptr b o) k xs n =
       fsep (is_small (k + length xs + n))
@@ -38,6 +38,6 @@ module _ (R : RattleType) where
       beside (said (is_small (k + length xs + n))) (values_lent b (k * type_size R + o) xs)
   block_lent null_ptr k xs n = said ffalse
 
-  -- what the allocator asks for to take back a block of n places
+  -- what the allocator requires in order to take back a block of n places
   abbrev pub title_owns : (Ty → Ptr → Fml) → Ptr → ℕ → Fml
   title_owns token p n = token (raw (ty_array (lone R.mir) n)) p

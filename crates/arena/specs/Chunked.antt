@@ -1,4 +1,4 @@
--- How the items of a `Store` lie in chunks. No public clause cites this module.
+-- How the items of a `Store` are laid out in chunks. No public clause cites this module.
 use Rattle.std.specs.Prelude.{◌≡◌, ◌<◌, ◌≤◌, List, [], ◌∷◌, ◌++◌, length, ⊤}
 use Rattle.arena.specs.Row.{Row}
 use Rattle.arena.specs.declared.root.Root.{Root}
@@ -24,7 +24,7 @@ module _ {E : Type 0} where
   flat [] = []
   flat (c ∷ cs) = c.items ++ flat cs
 
-  -- every chunk has the same capacity, none is empty, and all but the last are full
+  -- every chunk has the same capacity, none is empty, and all except the last are full
   abbrev pub IsPacked : List (Row E) → Type 0
   IsPacked [] = ⊤
   IsPacked (c ∷ cs) =

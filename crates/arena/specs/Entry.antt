@@ -1,4 +1,4 @@
--- How an `Arena` lies in memory. No public clause cites this module.
+-- How an `Arena` is laid out in memory. No public clause cites this module.
 use Rattle.std.specs.Prelude.{◌≡◌, ℕ, zero, suc, List, [], ◌∷◌, map, slice_index_or}
 use Rattle.std.specs.Prelude.{Option, Some, None}
 use Rattle.arena.specs.Arena.{Arena, IsSound, occupied_count, plain}
@@ -31,7 +31,7 @@ module _ {T : Type 0} where
   occupied_by (Occupied g y) x = Occupied g x
   occupied_by Retired x = Retired
 
-  -- so many slots, from this one on, each the one that the one before names
+  -- this many slots, beginning with slot k, each followed by the one that it names
   abbrev pub chain : List (Entry T) → ℕ → ℕ → List ℕ
   chain es zero k = []
   chain es (suc n) k = k ∷ chain es n (next_of (slice_index_or es k Retired))

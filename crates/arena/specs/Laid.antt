@@ -1,4 +1,4 @@
--- How a `Chunk` lies in its block.
+-- How a `Chunk` is laid out in its block.
 use Rattle.std.specs.Prelude.{◌≡◌, ℕ, ◌+◌, ◌<◌, ◌^◌, length}
 use Rattle.arena.specs.declared.block.Block.{Block}
 use Rattle.arena.specs.declared.block.Title.{Title}

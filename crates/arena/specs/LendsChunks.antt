@@ -1,4 +1,4 @@
--- What a `Root` ends as, where a `&mut` to its chunks is returned.
+-- A `Root` after a `&mut` to its chunks was returned and has ended.
 use Rattle.std.specs.Borrow.{Lends, Fml, RattleType, MutBor}
 use Rattle.arena.specs.Row.{Row}
 use Rattle.arena.specs.declared.root.Root.{Root}

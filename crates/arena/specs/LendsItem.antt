@@ -1,4 +1,4 @@
--- What a `Store` or a `Chunk` ends as, where a `&mut` to one of its items is returned.
+-- A `Store` or a `Chunk` after a `&mut` to one of its items was returned and has ended.
 use Rattle.std.specs.Prelude.{ℕ, slice_set}
 use Rattle.std.specs.Borrow.{Lends, Fml, RattleType, MutBor}
 use Rattle.arena.specs.Row.{Row, row}

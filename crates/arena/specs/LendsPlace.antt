@@ -1,4 +1,4 @@
--- What a `Block` ends as, where a `&mut` to one of its values is returned.
+-- A `Block` after a `&mut` to one of its values was returned and has ended.
 use Rattle.std.specs.Prelude.{ℕ, slice_set, List}
 use Rattle.std.specs.Borrow.{Fml, RattleType, MutBor, Lends}
 use Rattle.arena.specs.declared.block.Block.{Block}

@@ -1,4 +1,4 @@
--- What an `Arena` ends as, where a `&mut` to one of its values is returned.
+-- An `Arena` after a `&mut` to one of its values was returned and has ended.
 use Rattle.std.specs.Prelude.{Option}
 use Rattle.std.specs.Borrow.{Lends, LendsIf, Fml, RattleType, MutBor}
 use Rattle.arena.specs.Arena.{Arena, with_value}
@@ -10,6 +10,6 @@ module _ (T : RattleType) (s : MutBor (Arena T.Denot)) (key : Key) where
   abbrev pub lends_occupied : MutBor T.Denot → Fml
   lends_occupied r = Lends (the_row T) T s r (with_value s.now key)
 
-  -- the same where there is a value, and else the arena stays as it is
+  -- the same if there is a value; otherwise the arena stays as it is
   abbrev pub lends_value : Option (MutBor T.Denot) → Fml
   lends_value r = LendsIf (the_row T) T s r (with_value s.now key) s.now

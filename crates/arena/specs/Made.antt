@@ -1,4 +1,4 @@
--- How an `Arena` is made of its slots and its free list. No public clause cites this module.
+-- How an `Arena` is made from its slots and its free list. No public clause cites this module.
 use Rattle.std.specs.Prelude.{◌≡◌, ℕ, ◌^◌, ◌<◌, ◌≤◌, Bool, false, ◌==◌, List, length, map, count_by}
 use Rattle.std.specs.Prelude.{slice_index_or, IsTrue, ◌↔◌}
 use Rattle.arena.specs.Arena.{Has, Once, IsFree, IsBorn, is_occupied}
@@ -22,13 +22,13 @@ module _ {T : Type 0} where
   is_unlinked (Occupied g x) = false
   is_unlinked Retired = false
 
-  -- the entry, which names this slot as the next one if it is free
+  -- the entry, naming this slot as the next one if it is free
   abbrev pub linked_to : Entry T → ℕ → Entry T
   linked_to (Free g old) next = Free g next
   linked_to (Occupied g x) next = Occupied g x
   linked_to Retired next = Retired
 
-  -- the entries of slots, of which none is linked, and what is told of them
+  -- the entries of slots, none of which is linked, with their counts and whether all are born
   pub record AreCounted (es : Row (Entry T)) (occupied vacant : ℕ) (born : Bool) : Type 0 where
     pub unlinked : es.items ≡ map unlinked_of (map slot_of es.items)
     pub occupied_ones : occupied ≡ count_by is_occupied (map slot_of es.items)
@@ -41,7 +41,7 @@ module _ {T : Type 0} where
   abbrev pub entry_at : List (Entry T) → ℕ → Entry T
   entry_at es i = slice_index_or es i Retired
 
-  -- the slots of this list are linked in its order, and no others
+  -- exactly the slots of this list are linked, in its order
   pub record IsLinking (es : List (Entry T)) (rest : List ℕ) (first : ℕ) : Type 0 where
     pub chained : chain es (length rest) first ≡ rest
     pub named : (i : ℕ) → Has rest i → IsFree (slot_of (entry_at es i))

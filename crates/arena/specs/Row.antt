@@ -1,4 +1,4 @@
--- What a contract sees of a `Store`.
+-- The view of a `Store` that contracts use.
 use Rattle.std.specs.Prelude.{ℕ, List}
 
 -- the items, and how many there may be

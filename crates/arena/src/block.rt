@@ -1,5 +1,5 @@
-//! Raw memory: a block of places for values of one type, which are filled from the first on and
-//! emptied from the first on. Nothing else of the crate follows a pointer.
+//! Raw memory: a block of places for values of one type, filled from the first place on and emptied
+//! from the first place on. No other file of the crate follows a pointer.
 ghost use Rattle.std.specs.Prelude.{◌≡◌, ℕ, ◌+◌, ◌<◌, ◌++◌, ◌∷◌, [], List, length};
 ghost use Rattle.std.specs.Prelude.{slice_index_or, IfOk};
 ghost use Rattle.std.specs.Borrow.{sem};
@@ -12,11 +12,11 @@ use std::alloc::{AllocError, Allocator};
 use std::marker::{Model, PhantomData, Send, Sync};
 use std::mem::{align_of, size_of};
 
-/// A block, with the values in it. It can't be let go: only [`release`] takes it.
+/// A block, with the values in it. It can't be dropped: only [`release`] consumes it.
 pub(crate) struct Block<T> {
     start: *mut T,
-    // How many places were emptied, the values in the places after them, and how many places
-    // behind those were never filled.
+    // The number of emptied places, the values in the places after them, and the number of places
+    // behind those that were never filled.
     ghost emptied: { ℕ },
     ghost values: { List T },
     ghost unused: { ℕ },
@@ -32,7 +32,7 @@ unsafe impl<T: Send> Send for Block<T> {}
 
 unsafe impl<T: Sync> Sync for Block<T> {}
 
-/// The right to give a block back. It has no bytes, and can't be let go either.
+/// The right to deallocate a block. It has no bytes, and can't be dropped either.
 pub(crate) struct Title<T, A: Allocator> {
     mark: PhantomData<*const (T, A)>,
     ghost start: { Ptr },
@@ -51,7 +51,7 @@ unsafe impl<T, A: Allocator + Send> Send for Title<T, A> {}
 // Nothing can be done with a `&` to it.
 unsafe impl<T, A: Allocator> Sync for Title<T, A> {}
 
-/// A new block, and the right to give it back.
+/// Allocates a new block, and returns it with the right to deallocate it.
 pub(crate) fn reserve<T, A: Allocator>(
     alloc: &A,
     places: usize,
@@ -71,7 +71,7 @@ pub(crate) fn reserve<T, A: Allocator>(
     }
 }
 
-/// Gives a block back that holds no value.
+/// Deallocates a block that holds no value.
 pub(crate) fn release<T, A: Allocator>(
     alloc: &A,
     places: usize,
@@ -112,7 +112,7 @@ impl<T> Block<T> {
         unsafe { self.start.add(index).read() }
     }
 
-    /// The value in a place, while none was emptied.
+    /// The value in a place, while no place was emptied.
     pub(crate) fn get(&self, index: usize) -> &T
         requires { (self.now.emptied ≡ 0) × (index < length self.now.values) }
         ensures { result.now ≡ slice_index_or self.now.values index result.now }
@@ -120,7 +120,7 @@ impl<T> Block<T> {
         unsafe { &*self.start.add(index) }
     }
 
-    /// The value in a place for writing, while none was emptied.
+    /// The value in a place for writing, while no place was emptied.
     pub(crate) fn get_mut(&mut self, index: usize) -> &mut T
         requires { (self.old.emptied ≡ 0) × (index < length self.old.values) }
         ensures* writes_back { sem 𝓛 (lends_place T.row self.entry index result) }

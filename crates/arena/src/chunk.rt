@@ -1,5 +1,5 @@
-//! A row of items of fixed capacity, in one block, which never moves. It is filled at its end and
-//! emptied only when it ends or moves its items into a larger one.
+//! A row of items of fixed capacity, in one block, which never moves. It is filled at its end. It
+//! is emptied only when it is dropped or moves its items into a larger block.
 ghost use Rattle.std.specs.Prelude.{◌≡◌, ◌+◌, ◌<◌, ◌≤◌, ◌++◌, ◌∷◌, [], length};
 ghost use Rattle.std.specs.Prelude.{slice_index_or, nat_le, IfOk, OnOk, OnErr};
 ghost use Rattle.std.specs.Borrow.{sem};
@@ -11,8 +11,8 @@ use std::marker::Model;
 use std::mem;
 use std_alloc::room::may_hold;
 
-/// At most as many items as its capacity says, numbered from 0 in the order in which they came.
-/// Items that it still has when it ends are dropped, and its block is given back.
+/// A row with at most `capacity` items, numbered from 0 in the order in which they were added. When
+/// it is dropped, the items that it still has are dropped and its block is deallocated.
 pub(crate) struct Chunk<T> {
     block: Block<T>,
     title: Title<T, Global>,
@@ -36,7 +36,7 @@ impl<T> Model for Chunk<T> {
 impl<T> Chunk<T> {
     ghost use Rattle.arena.specs.LendsItem.{lends_chunk_item};
 
-    /// A chunk with no item.
+    /// Makes a chunk without items.
     pub(crate) fn with_capacity(alloc: Global, capacity: usize) -> Result<Self, AllocError>
         ensures { IfOk result (λ c. c ≡ row [] capacity) }
     {
@@ -53,7 +53,7 @@ impl<T> Chunk<T> {
         })
     }
 
-    /// Whether there is no room for one item more.
+    /// Whether there is no room for another item.
     pub(crate) fn is_full(&self) -> bool
         ensures value { result ≡ nat_le self.now.capacity (length self.now.items) }
         ensures sound { length self.now.items ≤ self.now.capacity }
@@ -61,7 +61,7 @@ impl<T> Chunk<T> {
         self.len >= self.capacity
     }
 
-    /// The item of a number.
+    /// The item with this number.
     pub(crate) fn get(&self, index: usize) -> &T
         requires { index < length self.now.items }
         ensures { result.now ≡ slice_index_or self.now.items index result.now }
@@ -69,7 +69,7 @@ impl<T> Chunk<T> {
         self.block.get(index)
     }
 
-    /// The item of a number, for writing.
+    /// The item with this number, for writing.
     pub(crate) fn get_mut(&mut self, index: usize) -> &mut T
         requires { index < length self.old.items }
         ensures* writes_back { sem 𝓛 (lends_chunk_item T.row self.entry index result) }
@@ -78,7 +78,7 @@ impl<T> Chunk<T> {
         self.block.get_mut(index)
     }
 
-    /// Puts an item at the end.
+    /// Adds an item at the end.
     pub(crate) fn push(&mut self, item: T)
         requires { length self.old.items < self.old.capacity }
         ensures { self.new ≡ row (self.old.items ++ item ∷ []) self.old.capacity }
@@ -87,7 +87,7 @@ impl<T> Chunk<T> {
         self.len += 1;
     }
 
-    /// Moves all items into a larger block. Where there is no memory for it, nothing happens.
+    /// Moves all items into a larger block. If there is no memory for it, nothing happens.
     pub(crate) fn grow(&mut self) -> Result<(), AllocError>
         ensures items { self.new.items ≡ self.old.items }
         ensures larger { OnOk result (self.old.capacity < self.new.capacity) }
@@ -99,7 +99,7 @@ impl<T> Chunk<T> {
         Ok(())
     }
 
-    // Moves all items behind those of another chunk, and gives the block back.
+    // Moves all items behind those of another chunk, and deallocates the block.
     fn move_into(self, other: &mut Chunk<T>)
         requires { length other.old.items + length self.items ≤ other.old.capacity }
         ensures { other.new ≡ row (other.old.items ++ self.items) other.old.capacity }

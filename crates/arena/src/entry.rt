@@ -1,5 +1,5 @@
-//! What a slot of an arena is in memory. A free slot names the one that is used after it, in the
-//! place where a value would stand; so the free list takes no memory of its own.
+//! A slot of an arena in memory. A free slot names the free slot to be used after it, in the place
+//! that a value would take. So the free list needs no memory of its own.
 ghost use Rattle.std.specs.Prelude.{◌≡◌, IsSome, Some, option_copied};
 ghost use Rattle.std.specs.Borrow.{Lends, sem};
 ghost use Rattle.arena.specs.Arena.{IsFree, value_of, generation_of, generation_in, slot_generation};
@@ -11,7 +11,7 @@ use crate::Slot;
 use ids::Generation;
 use std::mem;
 
-/// A slot: as [`crate::Slot`], but a free one also names the free slot that is used after it.
+/// A slot: like [`crate::Slot`], but a free one also names the free slot that is used after it.
 #[derive(Drop)]
 pub(crate) enum Entry<T> {
     Free(Generation, u32),
@@ -19,7 +19,7 @@ pub(crate) enum Entry<T> {
     Retired,
 }
 
-/// What stands in a free slot until it is linked; no slot has this number.
+/// What a free slot names until it is linked; no slot has this number.
 pub(crate) const UNLINKED: u32 = 4_294_967_295;
 
 impl<T> Entry<T> {
@@ -51,7 +51,7 @@ impl<T> Entry<T> {
         }
     }
 
-    /// The generation of the value, or of the next one where the slot is free.
+    /// The generation of the value, or of the next one if the slot is free.
     pub(crate) fn slot_generation(&self) -> Option<Generation>
         ensures { result ≡ slot_generation (slot_of self.now) }
     {
@@ -62,7 +62,7 @@ impl<T> Entry<T> {
         }
     }
 
-    /// The slot, with the value where it stands.
+    /// The slot, with its value borrowed.
     pub(crate) fn slot(&self) -> Slot<&T>
         ensures { slot_read result ≡ slot_of self.now }
     {
@@ -105,7 +105,7 @@ impl<T> Entry<T> {
         }
     }
 
-    /// Names the free slot that is used after this one, if this one is free.
+    /// Makes this slot name the free slot that is used after it, if this one is free.
     pub(crate) fn link(&mut self, slot: u32)
         ensures { self.new ≡ linked_to self.old slot }
     {
@@ -138,8 +138,8 @@ impl<T> Entry<T> {
         }
     }
 
-    /// Takes the value out of a slot that is then free, with the generation of its next value, and
-    /// the free slot that is used after it.
+    /// Takes the value out of a slot. The slot is then free, with the generation of its next value,
+    /// and names the free slot that is used after it.
     pub(crate) fn free(&mut self, generation: Generation, next: u32) -> T
         requires { IsSome (held_by self.old) }
         ensures value { held_by self.old ≡ Some result }
@@ -157,8 +157,8 @@ impl<T> Entry<T> {
         mem::replace(self, Entry::Retired).into_value()
     }
 
-    /// Puts a value into a free slot, under the generation that the slot has for it. It gives that
-    /// generation, and the free slot that was named.
+    /// Puts a value into a free slot, under the generation that the slot has for it. It returns
+    /// that generation and the free slot that was named.
     pub(crate) fn occupy(&mut self, value: T) -> (Generation, u32)
         requires { IsFree (slot_of self.old) }
         ensures generation { result.0 ≡ generation_of (slot_of self.old) }

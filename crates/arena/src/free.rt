@@ -1,5 +1,5 @@
-//! The list of the free slots, read in its order. It is threaded through the slots, so it is
-//! followed and not searched.
+//! The list of the free slots, read in order. It is threaded through the slots, so it is followed
+//! rather than searched.
 ghost use Rattle.std.specs.Prelude.{◌≡◌, ℕ};
 ghost use Rattle.arena.specs.Arena.{Has, IsFree};
 ghost use Rattle.arena.specs.Entry.{slot_of, chain};
@@ -9,7 +9,7 @@ use crate::entry::Entry;
 use crate::store::Store;
 use std::marker::Model;
 
-/// The free slots of an [`Arena`](crate::Arena) that are still to come, in order of next use.
+/// An iterator over the free slots of an [`Arena`](crate::Arena), in order of next use.
 #[derive(Drop)]
 pub struct FreeSlots<'a, T> {
     entries: &'a Store<Entry<T>>,
@@ -32,7 +32,7 @@ impl<'a, T> Model for FreeSlots<'a, T> {
 }
 
 impl<'a, T> FreeSlots<'a, T> {
-    /// The free slots that are linked, so many from this one on.
+    /// The linked free slots, `left` of them, from this one on.
     pub(crate) fn new(entries: &'a Store<Entry<T>>, next: u32, left: u32) -> Self
         requires { (i : ℕ) → Has (chain entries.now.items left next) i
             → IsFree (slot_of (entry_at entries.now.items i)) }

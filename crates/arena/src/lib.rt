@@ -1,7 +1,7 @@
-//! Values under keys that are never given out twice.
+//! Values under keys that are never reused.
 //!
-//! An [`Arena`] keeps values of one type in numbered slots. A slot whose value was removed is used
-//! again, under the next generation, so a key that names an older generation finds nothing.
+//! An [`Arena`] keeps values of one type in numbered slots. A slot whose value was removed is
+//! reused under the next generation, so a key that names an older generation finds nothing.
 //!
 //! ```text
 //! lib, free, made   Arena: keys, generations, the list of free slots
@@ -15,19 +15,21 @@
 //! block             Block, Title: raw memory, the six functions that follow a pointer
 //! ```
 //!
-//! Items lie in chunks of 1,024, each in a block that never moves. Where all chunks are full, a
-//! push takes one more; the block with the chunks' own pointers doubles when it is full, and only
-//! they are moved. So an arena with one value takes one chunk and room for four, whatever its
-//! limit. A free slot keeps its next generation and the next free slot where a value would stand; a
-//! slot that was never used is raw memory. No chunk is given back before the arena ends.
+//! Items are stored in chunks of 1,024, each in a block that never moves. If all chunks are full, a
+//! push allocates another one. The block with the pointers to the chunks doubles when it is full,
+//! and only these pointers are moved. So an arena with one value takes one chunk and room for four
+//! pointers, whatever its limit. A free slot keeps its next generation and the next free slot in
+//! the memory that a value would take. A slot that was never used is raw memory. No chunk is
+//! deallocated before the arena is dropped.
 //!
 //! `block` is the only file with pointers, and its functions are proved by hand. The owner of a
 //! block knows three things that have no bytes: how many places at its beginning were emptied,
-//! which values stand behind those, and how many places behind the values were never filled
-//! (`arena/specs/Block.antt`). To fill takes a place of the last room, to take out gives one to the
-//! first, and to give the block back asks that there are no values and that both rooms together are
-//! the whole block. Neither the block nor the right to give it back can be let go, so a path that
-//! forgets one isn't accepted. Above `block` nothing knows of memory.
+//! which values come after those, and how many places behind the values were never filled
+//! (`arena/specs/Block.antt`). Filling uses a place that was never filled, and taking a value out
+//! leaves an emptied one. Deallocating the block requires that there are no values, and that the
+//! places of both kinds together are the whole block. Neither the block nor the right to deallocate
+//! it can be dropped, so code that forgets one on some path is rejected. No code above `block`
+//! deals with memory.
 #![tactic(auto)]
 
 ghost use Rattle.std.specs.Prelude.{◌≡◌, ◌<◌, ◌==◌, [], length, option_copied};
@@ -76,12 +78,12 @@ pub enum Slot<T> {
     Retired,
 }
 
-/// Why an arena took no value, or why none was made.
+/// Why an arena took no value, or why no arena was made.
 #[derive(Clone, Copy, Debug, PartialEq, Eq)]
 pub enum Fault {
-    /// As many slots as the limit allows were used, and none of them is free.
+    /// As many slots as the limit allows have been used, and none of them is free.
     Full,
-    /// There was no memory for one slot more.
+    /// There was no memory for another slot.
     Memory,
     /// No arena has these slots and this list of the free ones.
     Shape,
@@ -90,20 +92,20 @@ pub enum Fault {
 /// Values of one type, each under a [`Key`] that the arena picks, in at most as many slots as its
 /// limit says.
 ///
-/// A slot is fresh until its first value comes, and free once its value was removed. The free slots
-/// are linked through themselves, so to remove a value takes no memory.
+/// A slot is fresh until it gets its first value, and free once its value was removed. The free
+/// slots are linked through themselves, so removing a value needs no memory.
 pub struct Arena<T> {
     entries: Store<Entry<T>>,
-    // How many slots are free.
+    // The number of free slots.
     vacant: u32,
-    // The slot that is used next, where `vacant` is not 0. It stands between the two counts, which
-    // are written one by one and would else be read as one.
+    // The slot that is used next, if `vacant` isn't 0. It is between the two counts because these
+    // are written one by one, and would otherwise be read as one.
     first: u32,
-    // How many slots are occupied.
+    // The number of occupied slots.
     len: u32,
 }
 
-// Written out, so that the crates above need not prove anew how each field is dropped.
+// Written out, so that the crates above don't have to prove again how each field is dropped.
 impl<T: Drop> Drop for Arena<T> {
     fn drop(self) {
         let Arena {
@@ -130,7 +132,7 @@ impl<T> Model for Arena<T> {
 impl<T> Arena<T> {
     ghost use Rattle.arena.specs.LendsValue.{lends_value, lends_occupied};
 
-    /// An arena with no value that will use at most `limit` slots. It takes no memory yet.
+    /// Makes an arena without values that will use at most `limit` slots. It allocates nothing yet.
     pub fn with_limit(alloc: Global, limit: u32) -> Self
         ensures { result ≡ record { slots = []; free = []; limit = limit } }
     {
@@ -142,12 +144,13 @@ impl<T> Arena<T> {
         }
     }
 
-    /// The arena with these slots, of which `free` names the free ones in order of next use. It
-    /// will use at most `limit` slots.
+    /// Makes the arena with these slots, of which `free` names the free ones in order of next use.
+    /// It will use at most `limit` slots. It allocates nothing, and takes time linear in the length
+    /// of `free`.
     ///
-    /// It answers [`Fault::Shape`] where there are more slots than the limit, a generation is below
-    /// [`FIRST_GENERATION`], or the list isn't exactly the free slots, each once; and no other
-    /// fault. What it refuses is dropped. It takes no memory, and time for each number of the list.
+    /// It fails only with [`Fault::Shape`]: if there are more slots than the limit, or a generation
+    /// is below [`FIRST_GENERATION`], or `free` doesn't list exactly the free slots, each once.
+    /// What it refuses is dropped.
     pub fn from_slots(limit: u32, slots: Slots<T>, free: &[u32]) -> Result<Self, Fault>
     where
         T: Drop,
@@ -173,21 +176,21 @@ impl<T> Arena<T> {
         })
     }
 
-    /// How many slots have ever been used: the number of the next fresh slot.
+    /// The number of slots that have ever been used, which is the number of the next fresh slot.
     pub fn high(&self) -> u32
         ensures { result ≡ length self.now.slots }
     {
         self.entries.len() as u32
     }
 
-    /// How many slots are free.
+    /// The number of free slots.
     pub fn vacant(&self) -> u32
         ensures { result ≡ length self.now.free }
     {
         self.vacant
     }
 
-    /// How many values the arena holds.
+    /// The number of values that the arena holds.
     pub fn len(&self) -> u32
         ensures value { result ≡ occupied_count self.now }
         ensures sound { IsSound self.now }
@@ -202,7 +205,7 @@ impl<T> Arena<T> {
         self.len == 0
     }
 
-    /// Whether no slot is free and none is fresh, so that there is no room for one value more.
+    /// Whether no slot is free and none is fresh, so that there is no room for another value.
     pub fn is_full(&self) -> bool
         ensures { result ≡ is_full self.now }
     {
@@ -232,7 +235,7 @@ impl<T> Arena<T> {
         }
     }
 
-    /// The key of the value that now stands in `slot`, if one does.
+    /// The key of the value that is now in `slot`, if there is one.
     pub fn key_at(&self, slot: u32) -> Option<Key>
         ensures { result ≡ key_at self.now slot }
     {
@@ -245,8 +248,8 @@ impl<T> Arena<T> {
         }
     }
 
-    /// The generation that `slot` has: that of its value, or of its next one where it is free. None
-    /// where it is retired, or was never used.
+    /// The generation that `slot` has: that of its value, or of its next one if it is free. `None`
+    /// if it is retired or was never used.
     pub fn generation_at(&self, slot: u32) -> Option<Generation>
         ensures { result ≡ generation_at self.now slot }
     {
@@ -256,7 +259,7 @@ impl<T> Arena<T> {
         self.entries.get(slot as usize).slot_generation()
     }
 
-    /// What `slot` holds. One that was never used counts as retired.
+    /// What `slot` holds. A slot that was never used counts as retired.
     pub fn slot(&self, slot: u32) -> Slot<&T>
         ensures { slot_read result ≡ slot_at self.now slot }
     {
@@ -273,12 +276,12 @@ impl<T> Arena<T> {
         FreeSlots::new(&self.entries, self.first, self.vacant)
     }
 
-    /// Stores `value`, and gives its key: the slot that was freed last, under its next generation,
-    /// or else the next fresh slot, under [`FIRST_GENERATION`].
+    /// Stores `value`, and returns its key. The value goes into the slot that was freed last, under
+    /// its next generation, or else into the next fresh slot, under [`FIRST_GENERATION`].
     ///
-    /// It answers [`Fault::Full`] where the arena [is full](Arena::is_full), and [`Fault::Memory`]
-    /// where a fresh slot needs memory and there is none. `value` then comes back, and the arena is
-    /// as it was. While a slot is free it takes no memory and never fails.
+    /// It fails with [`Fault::Full`] if the arena [is full](Arena::is_full), and with
+    /// [`Fault::Memory`] if a fresh slot needs memory and gets none. It then returns `value`,
+    /// and the arena is as it was. While a slot is free it allocates nothing and never fails.
     pub fn insert(&mut self, value: T) -> Result<Key, (T, Fault)>
         ensures key { IfOk result (λ key. key ≡ next_key self.old) }
         ensures within { IfOk result (IsKey self.old) }
@@ -308,9 +311,9 @@ impl<T> Arena<T> {
         }
     }
 
-    /// Takes the value under `key` out, if it is still there, and takes no memory to do so.
+    /// Removes and returns the value under `key`, if it is still there. It allocates nothing.
     ///
-    /// Its slot is then the next to be used, under the next generation. A slot of
+    /// The slot is then the next to be used, under the next generation. A slot of
     /// [`GREATEST_GENERATION`] is retired.
     pub fn remove(&mut self, key: Key) -> Option<T>
         ensures value { result ≡ get self.old key }
@@ -357,7 +360,7 @@ impl<T> Arena<T> {
         Some(value)
     }
 
-    // A value that is there, for writing.
+    // The value under a key, which has to be there, for writing.
     fn value_mut(&mut self, key: Key) -> &mut T
         requires { IsSome (get self.old key) }
         ensures* writes_back { sem 𝓛 (lends_occupied T.row self.entry key result) }

@@ -1,5 +1,5 @@
-//! The slots of which an arena is made, and the steps by which it is. Each free slot is to be named
-//! once: a slot that is linked already, or isn't free, is refused, and at the end none is left.
+//! The slots that an arena is made from, and the steps of making it. Each free slot has to be named
+//! once: a slot that is linked already or isn't free is refused, and at the end none may be left.
 ghost use Rattle.std.specs.Prelude.{◌≡◌, ℕ, ◌+◌, ◌^◌, ◌<◌, ◌++◌, ◌∷◌, [], length, map, count_by};
 ghost use Rattle.std.specs.Prelude.{slice_set, slice_index_or, true, IsTrue, ◌↔◌};
 ghost use Rattle.std.specs.Prelude.{IfOk, IfErr, OnOk, OnErr};
@@ -17,8 +17,8 @@ use crate::{FIRST_GENERATION, Fault, Slot};
 use std::alloc::{AllocError, Global};
 use std::marker::Model;
 
-/// The slots of which an arena is to be made, in order of their numbers, at most as many as are
-/// said when it is made. They stand where they will stand in the arena.
+/// The slots that an arena is made from, in order of their numbers, at most as many as
+/// [`Slots::new`] was given. They are already in the places that they will have in the arena.
 pub struct Slots<T> {
     // None of them is linked yet.
     entries: Store<Entry<T>>,
@@ -28,7 +28,7 @@ pub struct Slots<T> {
     born: bool,
 }
 
-// Written out, so that the crates above need not prove anew how each field is dropped.
+// Written out, so that the crates above don't have to prove again how each field is dropped.
 impl<T: Drop> Drop for Slots<T> {
     fn drop(self) {
         let Slots {
@@ -56,7 +56,7 @@ impl<T> Model for Slots<T> {
 }
 
 impl<T> Slots<T> {
-    /// No slot yet, of at most `most`. It takes no memory yet.
+    /// Makes an empty list of at most `most` slots. It allocates nothing yet.
     pub fn new(alloc: Global, most: u32) -> Self
         ensures { result ≡ row [] most }
     {
@@ -68,7 +68,7 @@ impl<T> Slots<T> {
         }
     }
 
-    /// The entries of the slots, how many are occupied and how many free, and whether each
+    /// The entries of the slots, the number of occupied and of free ones, and whether each
     /// generation is at least the first.
     pub(crate) fn parts(self) -> (Store<Entry<T>>, u32, u32, bool)
         ensures seen { row (map slot_of result.0.items) result.0.capacity ≡ self }
@@ -83,14 +83,14 @@ impl<T> Slots<T> {
         (entries, occupied, vacant, born)
     }
 
-    /// How many slots there are.
+    /// The number of slots.
     pub fn len(&self) -> usize
         ensures { result ≡ length self.now.items }
     {
         self.entries.len()
     }
 
-    /// What the slot of this number holds.
+    /// What the slot with this number holds.
     pub fn slot(&self, number: usize) -> Slot<&T>
         requires { number < length self.now.items }
         ensures { slot_read result ≡ slice_index_or self.now.items number slot.Retired }
@@ -98,9 +98,9 @@ impl<T> Slots<T> {
         self.entries.get(number).slot()
     }
 
-    /// Adds a slot behind the others. There is room for it: they are fewer than they may be.
+    /// Adds a slot behind the others, which have to be fewer than allowed.
     ///
-    /// It answers [`AllocError`] where there is no memory for it. The slots are then as they were,
+    /// It fails with [`AllocError`] if there is no memory for it. The slots are then as they were,
     /// and this one is dropped.
     pub fn push(&mut self, slot: Slot<T>) -> Result<(), AllocError>
     where
@@ -146,10 +146,10 @@ impl<T> Slot<T> {
     }
 }
 
-/// Links the slots that the list names, in its order, and gives the first one. There is none where
-/// the list is empty.
+/// Links the slots that `free` names, in its order, and returns the first one. If `free` is empty,
+/// there is no first one.
 ///
-/// It answers [`Fault::Shape`] where one of them isn't free, was never used, or is named twice.
+/// It fails with [`Fault::Shape`] if one of them isn't free, was never used, or is named twice.
 pub(crate) fn link<T>(entries: &mut Store<Entry<T>>, free: &[u32]) -> Result<u32, Fault>
     requires unlinked { IsLinking entries.old.items [] 0 }
     requires short { length entries.old.items < 2 ^ 32 }
@@ -174,7 +174,8 @@ pub(crate) fn link<T>(entries: &mut Store<Entry<T>>, free: &[u32]) -> Result<u32
     Ok(first)
 }
 
-// Links a slot before the first one, if it is free and isn't linked yet. It says whether it was so.
+// Links a slot before the first one, if it is free and isn't linked yet, and returns whether it
+// was.
 fn link_one<T>(entries: &mut Store<Entry<T>>, slot: u32, first: u32) -> bool
     ensures answer { result ≡ is_unlinked (entry_at entries.old.items slot) }
     ensures done { result ≡ true

@@ -1,5 +1,5 @@
-//! Where the chunks of a row stand: in a block of their own, which grows with them. Only the
-//! chunks' own pointers move then, never a value.
+//! The chunks of a row, in a block of their own, which grows with them. Then only the pointers to
+//! the chunks move, never a value.
 ghost use Rattle.std.specs.Prelude.{◌≡◌, ◌<◌, ◌++◌, ◌∷◌, [], length};
 ghost use Rattle.std.specs.Prelude.{OnOk, OnErr, IfErr};
 ghost use Rattle.std.specs.Borrow.{sem};
@@ -50,7 +50,7 @@ impl<E> Root<E> {
         }
     }
 
-    /// Sees to it that there is room for one chunk more.
+    /// Makes room for another chunk.
     pub(crate) fn make_room(&mut self, alloc: Global) -> Result<(), AllocError>
         ensures done { OnOk result (HasRoom self.new (chunks_of self.old)) }
         ensures unchanged { OnErr result (self.new ≡ self.old) }
@@ -69,8 +69,8 @@ impl<E> Root<E> {
     }
 }
 
-/// Adds a chunk with this item. Where there is no memory for it, the item comes back, and the
-/// chunks are as they were.
+/// Adds a chunk with this item. If there is no memory for it, the item is returned, and the chunks
+/// are as they were.
 pub(crate) fn add_chunk<E>(chunks: &mut Chunk<Chunk<E>>, alloc: Global, item: E) -> Result<(), E>
     requires { length chunks.old.items < chunks.old.capacity }
     ensures done { OnOk result (chunks.new

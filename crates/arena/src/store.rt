@@ -1,5 +1,5 @@
-//! A row of items that grows at its end, in chunks that never move. Nothing else of the crate knows
-//! how the items lie in memory.
+//! A row of items that grows at its end, in chunks that never move. No other file of the crate
+//! knows how the items are laid out in memory.
 ghost use Rattle.std.specs.Prelude.{◌≡◌, ◌<◌, ◌%◌, ◌++◌, ◌∷◌, [], length, slice_index_or};
 ghost use Rattle.std.specs.Prelude.{OnOk, OnErr, IfErr};
 ghost use Rattle.std.specs.Borrow.{sem};
@@ -10,9 +10,9 @@ use crate::root::{CHUNK, Root, add_chunk};
 use std::alloc::Global;
 use std::marker::Model;
 
-/// At most as many items as its capacity says, numbered from 0 in the order in which they came.
-/// Every chunk but the last is full, and none is empty. To grow takes one chunk, and now and then
-/// a root of twice the size, into which the chunks' own pointers are moved and no item.
+/// A row with at most `capacity` items, numbered from 0 in the order in which they were added.
+/// Every chunk except the last is full, and none is empty. Growing allocates one chunk, and now and
+/// then a root of twice the size, into which the pointers to the chunks are moved, but no item.
 #[derive(Drop)]
 pub(crate) struct Store<E> {
     root: Root<E>,
@@ -38,7 +38,7 @@ impl<E> Model for Store<E> {
 impl<E> Store<E> {
     ghost use Rattle.arena.specs.LendsItem.{lends_item};
 
-    /// A store with no item, which takes no memory yet.
+    /// Makes a store without items, which allocates nothing yet.
     pub(crate) fn new(alloc: Global, capacity: usize) -> Self
         ensures { result ≡ row [] capacity }
     {
@@ -50,7 +50,7 @@ impl<E> Store<E> {
         }
     }
 
-    /// The store with room for so many items.
+    /// The store with room for `capacity` items.
     pub(crate) fn limited(self, capacity: usize) -> Self
         ensures { result ≡ row self.items capacity }
     {
@@ -66,14 +66,14 @@ impl<E> Store<E> {
         self.capacity
     }
 
-    /// How many items there are.
+    /// The number of items.
     pub(crate) fn len(&self) -> usize
         ensures { result ≡ length self.now.items }
     {
         self.len
     }
 
-    /// The item of a number.
+    /// The item with this number.
     pub(crate) fn get(&self, index: usize) -> &E
         requires { index < length self.now.items }
         ensures { result.now ≡ slice_index_or self.now.items index result.now }
@@ -83,7 +83,7 @@ impl<E> Store<E> {
         chunk.get(index % CHUNK)
     }
 
-    /// The item of a number, for writing.
+    /// The item with this number, for writing.
     pub(crate) fn get_mut(&mut self, index: usize) -> &mut E
         requires { index < length self.old.items }
         ensures* writes_back { sem 𝓛 (lends_item E.row self.entry index result) }
@@ -94,7 +94,7 @@ impl<E> Store<E> {
         chunk.get_mut(index % CHUNK)
     }
 
-    /// Puts an item at the end. Where there is no memory for it, it comes back, and the store is as
+    /// Adds an item at the end. If there is no memory for it, it is returned, and the store is as
     /// it was.
     pub(crate) fn push(&mut self, item: E) -> Result<(), E>
         requires { length self.old.items < self.old.capacity }
@@ -113,7 +113,7 @@ impl<E> Store<E> {
         Ok(())
     }
 
-    // Puts an item at the end where all chunks are full, so into a chunk of its own.
+    // Adds an item at the end when all chunks are full, so into a new chunk.
     #[cold]
     fn push_chunk(&mut self, item: E) -> Result<(), E>
         requires { length self.old.items % CHUNK ≡ 0 }

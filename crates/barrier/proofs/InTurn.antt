@@ -1,4 +1,4 @@
--- What was asked for at once, and in turn.
+-- Asking for references all together equals asking for them one after another.
 use Rattle.std.proofs.Common.{◌≡◌, ℕ, suc, ◌+◌, ◌<◌, ◌≤◌, List, [], ◌∷◌, ◌++◌, length, take, get_or, Option, None, ap, sym, ◌∙◌, append_assoc, append-nil, add-one, subst, arith, length-append}
 use Rattle.std.specs.List.{AllByRecursion}
 use Rattle.std.specs.Option.{option_to_list}
@@ -14,7 +14,7 @@ use Rattle.model.proofs.ShadingParts.{filled-append, unasked-all, unasked-append
 use Rattle.link.specs.Links.{LinksView, IsLinks, link_at}
 use Rattle.barrier.specs.Asked.{AreSent, IsAsked}
 
--- one more of a list of references
+-- one reference more of a list
 pub filled-more : (os : List (Option Ref)) (i : ℕ) → i < length os
     → filled (take (i + 1) os) ≡ filled (take i os) ++ option_to_list (get_or os i None)
 filled-more os i inside =
@@ -25,7 +25,7 @@ filled-more os i inside =
     ∙ filled-append (take i os) (get_or os i None ∷ [])
     ∙ ap (λ (z : List Ref). rs ++ z) (append-nil (option_to_list (get_or os i None)))
 
--- it is asked for
+-- the next reference is asked for
 pub included : (own : ℕ) (before now : List Ref) (os : List (Option Ref)) (i : ℕ) → i < length os
     → now ≡ before ++ unasked own before (filled (take i os))
     → now ++ unasked own now (option_to_list (get_or os i None))
@@ -39,7 +39,7 @@ included own before now os i inside all =
     ∙ ap (λ (z : List Ref). before ++ z) (sym (unasked-append own before rs us))
     ∙ ap (λ (z : List Ref). before ++ unasked own before z) (sym (filled-more os i inside))
 
--- the Marks of all that was added are sent
+-- the Marks of everything that was added are sent
 pub all-asked : {asked targets : List Ref} {was links : LinksView} (before new : List Ref)
     (cycle : ℕ) → asked ≡ before ++ new → targets ≡ new
     → AreSent (marks_for cycle targets) was links → IsAsked before new cycle was asked links
@@ -48,7 +48,7 @@ all-asked {was = was} {links = links} before new cycle keys same a =
     subst (λ (ts : List Ref). AreSent (marks_for cycle ts) was links) same a in
     record { keys = keys; fits = b.fits; sent = b.sent }
 
--- each has a number of its own on a link
+-- each new reference has its own number on a link, so there are few
 pub few-asked : {asked : List Ref} {cycle : ℕ} {was links : LinksView} (own : ℕ)
     (before rs : List Ref) → AllByRecursion (λ (r : Ref). r.node < length was.links) rs
     → IsLinks links → IsAsked before (unasked own before rs) cycle was asked links

@@ -1,4 +1,4 @@
--- A list of references and the index beside it.
+-- A list of references and its index.
 use Rattle.std.proofs.Common.{◌≡◌, ℕ, Bool, true, false, cond, ◌==◌, ◌&&◌, ◌||◌, List, [], ◌∷◌, ◌++◌, refl, sym, ap, ◌∙◌, arith}
 use Rattle.std.specs.List.{list_any, AllByRecursion, IsDistinct}
 use Rattle.std.specs.Cmp.{IsEquivalence}
@@ -23,7 +23,7 @@ same-laws =
     (and_equiv (on_equiv (λ (r : Ref). r.slot) nat_eq_equiv)
     (on_equiv (λ (r : Ref). r.generation) nat_eq_equiv))
 
--- what has one of them has the other
+-- a list that has one of them has the other
 in-same : (q r : Ref) (rs : List Ref) → is_same r q ≡ true → is_in q rs ≡ is_in r rs
 in-same q r rs same =
     ap (λ (test : Ref → Bool). list_any test rs) (λ i x. sym (same-laws.congr r q x same) i)
@@ -48,7 +48,7 @@ at-same a b =
     (equal-then a.slot b.slot _
     ∙ ap (λ (t : Bool). (a.slot == b.slot) && t) (equal-last a.generation b.generation))
 
--- what the index is asked for
+-- what a look-up in the index returns
 contains-in : (s : BTreeSet Ref) (q : Ref) → contains by_parts s q ≡ is_in q s.keys
 contains-in s q = ap (λ (test : Ref → Bool). list_any test s.keys) (λ i x. at-same q x i)
 
@@ -72,7 +72,7 @@ distinct-front (x ∷ xs) y once =
     let rest = distinct-front xs y once.1 in
     ((here.0, rest.0), rw (same-laws.symm y x ∙ here.1) rest.1)
 
--- ---- what changes
+-- ---- changes
 
 cond-or : (a b : Bool) → cond a true b ≡ (b || (a || false))
 cond-or true true = refl
@@ -87,7 +87,7 @@ in-push q r rs =
     ∙ ap (λ (t : Bool). is_in q rs || (t || false)) (same-laws.symm q r)
     ∙ sym (cond-or (is_same r q) (is_in q rs))
 
--- whether the index has a reference once another one's part in it has changed
+-- whether the index has a reference after another one was added or removed
 in-updated : (was now : BTreeSet Ref) (r : Ref) (b : Bool) → Updates by_parts was now r b
     → (q : Ref) → is_in q now.keys ≡ cond (is_same r q) b (is_in q was.keys)
 in-updated was now r b updates q =
@@ -99,7 +99,7 @@ in-updated was now r b updates q =
 pub indexed-none : {index order : List Ref} → index ≡ [] → order ≡ [] → IsIndexed index order
 indexed-none none empty = rw (none, empty) (record { same = λ r. refl; once = distinct-none })
 
--- what is found in the index is in the list, and what isn't isn't
+-- the index finds exactly the references of the list
 pub found : {was : BTreeSet Ref} {order : List Ref} (r : Ref) → IsIndexed was.keys order
     → contains by_parts was r ≡ is_in r order
 found {was = was} r indexed = contains-in was r ∙ indexed.same r
@@ -119,7 +119,7 @@ inserted {was = was} {now = now} {order = order} r indexed fresh updates = recor
   once = IsDistinct-push same-laws order r indexed.once fresh;
 }
 
--- of a list in which a reference isn't, or one in which it stands last
+-- a list without a reference, or with that reference only at the end
 without : (q r : Ref) (rest : List Ref) → is_in r rest ≡ false → (t : Bool) → t ≡ is_same r q
     → cond t false (is_in q (rest ++ r ∷ [])) ≡ is_in q rest
 without q r rest fresh true same = sym (in-same q r rest (sym same) ∙ fresh)

@@ -1,4 +1,4 @@
--- Marks that are appended one after another, and taken back from the last one on.
+-- Marks that are appended one after another, and retracted beginning with the last.
 use Rattle.std.proofs.Common.{◌≡◌, ℕ, zero, suc, ◌+◌, ◌-◌, ◌<◌, ◌≤◌, Bool, false, ◌&&◌, List, [], ◌∷◌, ◌++◌, length, map, take, drop, get_or, set, refl, ap, sym, ◌∙◌, add-one, arith, length-append, length-drop}
 use Rattle.std.proofs.lemmas.List.{map-append, take-append-drop, take_all}
 use Rattle.std.proofs.Math.Seq.{take-suc, drop-append_seam}
@@ -20,7 +20,7 @@ all_appended-append : (v : LinksView) (xs ys : List (ℕ × Message))
 all_appended-append v xs ys =
     ap (λ (ls : List Link). record v { links = ls }) (append_to-append v.links xs ys)
 
--- what was appended first leaves the rest to be judged by
+-- after the first messages are appended, whether all fit depends on the rest
 pub fits-then : (was now : LinksView) (xs ys : List (ℕ × Message)) → AreSent xs was now
     → fits (map used was.links) (xs ++ ys) ≡ fits (map used now.links) ys
 fits-then was now xs ys a =
@@ -48,7 +48,7 @@ sent-width {ms = ms} {was = was} a =
 
 -- ---- the Marks of references
 
--- one more of them
+-- one Mark more
 marks-more : (cycle : ℕ) (rs : List Ref) (i : ℕ) (d : Ref) → i < length rs
     → marks_for cycle (take (i + 1) rs)
     ≡ marks_for cycle (take i rs) ++ mark_for cycle (get_or rs i d) ∷ []
@@ -65,7 +65,7 @@ pub sent-more : {was now new : LinksView} (cycle : ℕ) (rs : List Ref) (i : ℕ
 sent-more cycle rs i d inside front one =
     rw (marks-more cycle rs i d inside) (sent-then front one)
 
--- one that gets no number after those before it, so that not all get numbers
+-- if one gets no number after those before it, not all get numbers
 pub unsent : {was now : LinksView} (cycle : ℕ) (rs : List Ref) (i : ℕ) (d : Ref) → i < length rs
     → AreSent (marks_for cycle (take i rs)) was now
     → fits (map used now.links) (mark_for cycle (get_or rs i d) ∷ []) ≡ false
@@ -85,9 +85,9 @@ unsent {was = was} {now = now} cycle rs i d inside front none =
     ∙ fits-append was.links fore rest
     ∙ ap (λ (b : Bool). b && fits (map used (append_to was.links fore)) rest) first
 
--- ---- taking back
+-- ---- retracting
 
--- no link counts more as saved than were appended, whatever is appended
+-- whatever is appended, no link counts more messages as saved than were appended
 kept_below : (links : List Link) (ms : List (ℕ × Message))
     → ((i : ℕ) → (get_or links i no_link).kept ≤ used (get_or links i no_link)) → (i : ℕ)
     → (get_or (append_to links ms) i no_link).kept ≤ used (get_or (append_to links ms) i no_link)

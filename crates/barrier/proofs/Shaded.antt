@@ -1,5 +1,5 @@
--- What is shaded at once, from what becomes of the heap, of what was asked for, of the ring and of
--- the links.
+-- Shading several references together, from its effects on the heap, the list of references asked
+-- for, the ring and the links.
 use Rattle.std.proofs.Common.{◌≡◌, ℕ, ◌-◌, ℤ, Bool, true, cond, not, ◌==◌, List, [], ◌++◌, length, map, Option, refl, ap, sym, ◌∙◌, subst, ⊎_elim, arith, append-nil, length-append}
 use Rattle.std.proofs.lemmas.Bool.{cases_Bool, cond-true, cond-false}
 use Rattle.std.proofs.Math.IntN.{+ℤ_idr}
@@ -22,7 +22,7 @@ use Rattle.barrier.specs.Parts.{part_of, work_of, IsAt, IsDone}
 abbrev pub shaded : ℕ → ℕ → List (Option Ref) → List Ref
 shaded cycle ended os = filled (cond (ended == cycle) [] os)
 
--- what shading these leaves of a node with this heap, these references asked for and this ring
+-- the outcome of shading these at a node with this heap, these references asked for and this ring
 abbrev pub done_work : LocalState → Heap → List Ref → Ring → List Ref → Work
 done_work p h asked ring rs =
     let new : List Ref = unasked p.own asked rs in
@@ -57,8 +57,8 @@ shade_all-work p h asked ring os =
     ∙ ap to_do (sym (cond-false ended [] os opened)))
     (cases_Bool ended)
 
--- The same where the parts of the node that tell what is shaded have names of their own, and so
--- has what is shaded.
+-- The same with separate names for the parts of the node that decide what is shaded, and for what
+-- is shaded.
 module _ (own cycle ended : ℕ) (p : LocalState) (at : IsAt own cycle ended p) (h : Heap)
     (asked : List Ref) (ring : Ring) (os us : List (Option Ref))
     (now : us ≡ cond (ended == cycle) [] os) where
@@ -76,7 +76,7 @@ module _ (own cycle ended : ℕ) (p : LocalState) (at : IsAt own cycle ended p) 
   shaded-at =
       rw (now, sym at.own, sym at.cycle, sym at.ended) (shade_all-work p h asked ring os)
 
-  -- what was refused to the Marks is refused to the shading
+  -- if appending the Marks is refused, so is the shading, with the same refusal
   pub shaded-refused : (rs : List Ref) (v : LinksView) (e : Refusal) → filled os ≡ rs
       → IsRefused v (marks_for cycle new) e → IsRefused v (whole rs).sends e
   shaded-refused rs v e same refused =
@@ -84,7 +84,7 @@ module _ (own cycle ended : ℕ) (p : LocalState) (at : IsAt own cycle ended p) 
       (ap (λ (w : Work). w.sends) (sym shaded-at ∙ ap whole same))
       refused
 
-  -- each of the parts is as shading leaves it, and so are all together
+  -- if each of the parts is as shading leaves it, so is the whole
   pub shaded-done : {rs : List Ref} {g : Heap} {known : List Ref} {counted : Ring}
       {was links : LinksView} → filled os ≡ rs → g ≡ make_all_grey own cycle h (filled us)
       → IsAsked asked new cycle was known links

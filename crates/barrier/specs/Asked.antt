@@ -1,4 +1,4 @@
--- What is left where the owners of references were asked to mark them.
+-- The outcome of asking the owners of references to mark them.
 use Rattle.std.specs.Prelude.{◌≡◌, ◌≢◌, ℕ, true, false, List, ◌++◌, map}
 use Rattle.ids.specs.declared.names.Ref.{Ref}
 use Rattle.ids.specs.declared.refusal.Refusal.{Refusal}
@@ -18,15 +18,15 @@ pub record AreSent (ms : List (ℕ × Message)) (was links : LinksView) : Type 0
   pub fits : fits (map used was.links) ms ≡ true
   pub sent : links ≡ all_appended was ms
 
--- The new references come after those that were asked for before, and each has a Mark of this
--- cycle, last on the link to its owner, in the same order.
+-- The new references come after those that were asked for before. Each has a Mark of this cycle,
+-- last on the link to its owner, in the same order.
 pub record IsAsked (before new : List Ref) (cycle : ℕ) (was : LinksView) (asked : List Ref)
     (links : LinksView) : Type 0 where
   pub keys : asked ≡ before ++ new
   pub fits : fits (map used was.links) (marks_for cycle new) ≡ true
   pub sent : links ≡ all_appended was (marks_for cycle new)
 
--- What a call answers whose messages were refused: memory, which may be wanted before a link shows
--- to have no number left; or LinkSpent, which comes only where not every message gets a number.
+-- The refusal of a call whose messages weren't appended. It is Memory, which may come before a link
+-- turns out to have no number left, or LinkSpent, which comes only if some message gets no number.
 abbrev pub IsRefused : LinksView → List (ℕ × Message) → Refusal → Type 0
 IsRefused v ms e = e ≢ Memory → (e ≡ LinkSpent) × (fits (map used v.links) ms ≡ false)

@@ -1,4 +1,4 @@
--- What a set of references in order shows, and what ties its index to it.
+-- The view of an ordered set of references, and how it is tied to its index.
 use Rattle.std.specs.Prelude.{◌≡◌, List}
 use Rattle.std.specs.List.{IsDistinct}
 use Rattle.ids.specs.declared.names.Ref.{Ref}
@@ -8,7 +8,7 @@ use Rattle.model.specs.Shading.{is_in, is_same}
 pub record RefSetView : Type 0 where
   pub keys : List Ref
 
--- the index has the references of the list and no others, and the list has each of them once
+-- the index has exactly the references of the list, and the list has each of them once
 pub record IsIndexed (index order : List Ref) : Type 0 where
   pub same : (r : Ref) → is_in r index ≡ is_in r order
   pub once : IsDistinct is_same order

@@ -1,6 +1,6 @@
-//! References that their owners are asked to mark. What was asked for stands in one ordered set, so
-//! a node sends one Mark of an object in a cycle; and the end of the set is the record by which all
-//! of it is taken back.
+//! References that their owners are asked to mark. What was asked for is in one ordered set, so a
+//! node sends one Mark of an object in a cycle. The end of the set records what to undo after a
+//! failure.
 ghost use Rattle.std.specs.Prelude.{◌≡◌, ℕ, List, ◌++◌, ◌+◌, ◌<◌, ◌≤◌, ◌^◌, length, take, option_to_list, IfOk, IfErr, OnOk, OnErr};
 ghost use Rattle.std.specs.List.{AllByRecursion};
 ghost use Rattle.ids.specs.declared.limits.TheConstants.{GREATEST_NODES, GREATEST_SENT};
@@ -15,13 +15,14 @@ use crate::ref_set::RefSet;
 use ids::{Ref, Refusal};
 use link::Links;
 
-/// Asks the owners of these references to mark them: each that is another node's and isn't among
-/// those asked for comes last among them, once, and a Mark of this cycle comes last on the link to
-/// its node, in the same order. The node's own are passed over. It gives how many were asked for
-/// before: those after them have the new Marks.
+/// Asks the owners of these references to mark them. Each that is another node's and wasn't asked
+/// for before comes last in `asked`, once, and a Mark of this cycle comes last on the link to its
+/// node, in the same order. The node's own are skipped. It returns how many were in `asked` before:
+/// those after them have the new Marks.
 ///
-/// [`Refusal::Memory`] where a growth was refused; [`Refusal::LinkSpent`] where a Mark gets no
-/// number, which may show only after memory was wanted for others. All is then as it was.
+/// It fails with [`Refusal::Memory`] if an allocation fails, and with [`Refusal::LinkSpent`] if a
+/// Mark gets no number, which may show only after memory was needed for others. Everything is then
+/// as it was.
 #[inline(always)]
 pub fn ask(
     asked: &mut RefSet,
@@ -52,10 +53,11 @@ pub fn ask(
     Ok(before)
 }
 
-/// Takes back what [`ask`] did, or more than one call of it in turn: the references after the
-/// first so many are no longer asked for, and the Mark of each, which was appended last for its
-/// node, is retracted. All of them are to have Marks: what was vouched for after them is to be
-/// taken back first, by [`unvouch`]. It takes no memory, and time for each reference that goes.
+/// Undoes what [`ask`] did, or several calls of it in a row: the references after the first
+/// `before` are no longer asked for, and the Mark of each, which was appended last for its node, is
+/// retracted. All of them must have Marks: what was vouched for after them must be undone first, by
+/// [`unvouch`]. It needs no memory, and its running time grows with the number of references
+/// removed.
 pub fn unask(asked: &mut RefSet, links: &mut Links, before: usize)
     ensures back { (keys new : List Reference) (cycle : ℕ) (was : LinksView) →
         before ≡ length keys → IsLinks was →
@@ -70,10 +72,10 @@ pub fn unask(asked: &mut RefSet, links: &mut Links, before: usize)
 }
 
 /// Counts these references as asked for without asking, since the node that they came from has seen
-/// to their Marks: each that is another node's and isn't among those asked for comes last among
-/// them, once. The node's own are passed over. It gives how many were asked for before.
+/// to their Marks. Each that is another node's and wasn't asked for before comes last in `asked`,
+/// once. The node's own are skipped. It returns how many were in `asked` before.
 ///
-/// [`Refusal::Memory`] where a growth was refused; what was asked for is then as it was.
+/// It fails with [`Refusal::Memory`] if an allocation fails; `asked` is then as it was.
 #[inline(always)]
 pub fn vouch(asked: &mut RefSet, own: u8, references: &[Option<Ref>]) -> Result<usize, Refusal>
     ensures before { IfOk result (λ before. before ≡ length asked.old.keys) }
@@ -92,7 +94,7 @@ pub fn vouch(asked: &mut RefSet, own: u8, references: &[Option<Ref>]) -> Result<
     Ok(known)
 }
 
-/// Counts a reference as asked for, as [`vouch`] does; where there is none, nothing changes.
+/// Counts a reference as asked for, as [`vouch`] does; without a reference nothing changes.
 pub fn include(asked: &mut RefSet, own: u8, reference: Option<Ref>) -> Result<(), Refusal>
     ensures done { let new = unasked own asked.old.keys (option_to_list reference) in
         OnOk result (asked.new.keys ≡ asked.old.keys ++ new) }
@@ -107,8 +109,9 @@ pub fn include(asked: &mut RefSet, own: u8, reference: Option<Ref>) -> Result<()
     Ok(())
 }
 
-/// Takes back what [`vouch`] did, or more than one call of it in turn: the references after the
-/// first so many no longer count as asked for. It takes no memory, and time for each that goes.
+/// Undoes what [`vouch`] did, or several calls of it in a row: the references after the first
+/// `before` no longer count as asked for. It needs no memory, and its running time grows with the
+/// number of references removed.
 pub fn unvouch(asked: &mut RefSet, before: usize)
     ensures rest { asked.new.keys ≡ take before asked.old.keys }
     ensures back { (keys new : List Reference) → before ≡ length keys →

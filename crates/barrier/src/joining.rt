@@ -1,5 +1,5 @@
-//! What a node's program holds is asked for when the node joins a cycle: its roots make a new set.
-//! The heap isn't touched here, so all that may be refused comes before anything is marked.
+//! Asks for what a node's program holds when the node joins a cycle: its roots make a new set. The
+//! heap isn't touched here, so whatever can fail comes before anything is marked.
 ghost use Rattle.std.specs.Prelude.{◌≡◌, [], ◌<◌, ◌≤◌, ◌^◌, length, IfOk, IfErr, OnOk, OnErr};
 ghost use Rattle.std.specs.List.{AllByRecursion};
 ghost use Rattle.ids.specs.declared.limits.TheConstants.{GREATEST_NODES, GREATEST_SENT};
@@ -15,13 +15,14 @@ use ids::{Ref, Refusal};
 use link::Links;
 use std::alloc::Global;
 
-/// Asks for what the node's program holds, as a node does that joins this cycle: the references of
-/// registers and letters that are other nodes' make a new set, each once, and a Mark of each comes
-/// last on the link to its node, in the same order. The heap stays as it is. Where something after
-/// it is refused, [`unask`](crate::unask) on the new set takes the Marks back, all from 0 on.
+/// Asks for what the node's program holds, as a node does when it joins this cycle. The references
+/// in registers and letters that are other nodes' make a new set, each once, and a Mark of each
+/// comes last on the link to its node, in the same order. The heap stays as it is. If a later step
+/// fails, [`unask`](crate::unask) of the new set with `before` 0 retracts all the Marks.
 ///
-/// [`Refusal::Memory`] where a growth was refused; [`Refusal::LinkSpent`] where a Mark gets no
-/// number, which may show only after memory was wanted for others. The links are then as they were.
+/// It fails with [`Refusal::Memory`] if an allocation fails, and with [`Refusal::LinkSpent`] if a
+/// Mark gets no number, which may show only after memory was needed for others. The links are then
+/// as they were.
 pub fn ask_for_roots(
     alloc: Global,
     heap: &Heap,

@@ -1,5 +1,5 @@
 //! Marks on links, appended for all of some references or for none. Those that were appended last
-//! can be retracted, which is how an event that is refused leaves the links as they were.
+//! can be retracted; this is how a refused event leaves the links as they were.
 ghost use Rattle.std.specs.Prelude.{◌≡◌, ℕ, true, [], ◌∷◌, ◌<◌, length, map, IfErr, OnOk, OnErr};
 ghost use Rattle.std.specs.List.{AllByRecursion};
 ghost use Rattle.model.specs.Shading.{mark_for, marks_for};
@@ -12,8 +12,8 @@ use ids::{Ref, Refusal};
 use link::Links;
 use msg::{Body, Message};
 
-/// Appends a Mark of this cycle for the node of each of these references, in order, or for none.
-/// Refusals are those of [`ask`](crate::ask); the links are then as they were.
+/// Appends a Mark of this cycle for the node of each of these references, in order, or for none. It
+/// fails like [`ask`](crate::ask); the links are then as they were.
 pub fn append_marks(links: &mut Links, cycle: u64, targets: &[Ref]) -> Result<(), Refusal>
     requires nodes { AllByRecursion (λ r. r.node < length links.old.links) targets.now }
     ensures done { OnOk result (AreSent (marks_for cycle targets.now) links.old links.new) }
@@ -49,8 +49,8 @@ fn append_mark(links: &mut Links, cycle: u64, target: Ref) -> Result<(), Refusal
     Ok(())
 }
 
-/// Takes back the Marks of these references, where they were appended last, in this order. It takes
-/// no memory.
+/// Retracts the Marks of these references, provided that they were appended last, in this order. It
+/// needs no memory.
 pub fn retract_marks(links: &mut Links, targets: &[Ref])
     ensures back { (cycle : ℕ) (was : LinksView) → IsLinks was →
         links.old ≡ all_appended was (marks_for cycle targets.now) → links.new ≡ was }
@@ -65,7 +65,7 @@ pub fn retract_marks(links: &mut Links, targets: &[Ref])
     }
 }
 
-// A node that has no link is passed over.
+// A node that has no link is skipped.
 #[tactic(auto, using(crate::proofs::Sent::retracted_past))]
 fn retract_mark(links: &mut Links, width: u8, node: u8)
     requires width { width ≡ length links.old.links }

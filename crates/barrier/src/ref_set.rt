@@ -1,4 +1,4 @@
-//! References in the order in which they came, each once.
+//! References in the order in which they were added, each once.
 ghost use Rattle.std.specs.Prelude.{◌≡◌, ◌-◌, false, [], ◌∷◌, ◌++◌, cond, not, length, take, IfOk, OnErr};
 ghost use Rattle.model.specs.Shading.{is_in};
 
@@ -7,9 +7,9 @@ use std::alloc::{AllocError, Global};
 use std::collections::BTreeSet;
 use std::marker::Model;
 
-/// A set of references that keeps the order in which they came. Whether one is there is looked up
-/// in a B-tree beside the list, so whatever references come, a look-up costs time in proportion to
-/// the logarithm of their number.
+/// A set of references that keeps the order in which they were added. A B-tree beside the list
+/// answers whether a reference is in the set. So a look-up takes time logarithmic in their number,
+/// whatever the references are.
 #[derive(Drop)]
 pub struct RefSet {
     order: Vec<Ref>,
@@ -27,7 +27,7 @@ impl Model for RefSet {
 }
 
 impl RefSet {
-    /// The empty set.
+    /// Makes the empty set.
     pub fn new(alloc: Global) -> RefSet
         ensures empty { result.keys ≡ [] }
     {
@@ -42,7 +42,7 @@ impl RefSet {
         *self.order.allocator()
     }
 
-    /// How many references there are.
+    /// The number of references.
     pub fn len(&self) -> usize
         ensures len { result ≡ length self.now.keys }
     {
@@ -56,8 +56,8 @@ impl RefSet {
         self.order.as_slice()
     }
 
-    /// Puts the reference last, unless it is there: whether it wasn't. Only one that wasn't there
-    /// may be refused memory, and then all is as it was.
+    /// Adds the reference as the last one unless it is there, and returns whether it was added. The
+    /// allocation can fail only if the reference wasn't there, and then everything is as it was.
     pub fn insert(&mut self, reference: Ref) -> Result<bool, AllocError>
         ensures added { IfOk result (λ added. added ≡ not (is_in reference self.old.keys)) }
         ensures keys { IfOk result (λ added. self.new.keys
@@ -75,7 +75,7 @@ impl RefSet {
         Ok(true)
     }
 
-    // Takes the newest reference out, if there is one. It takes no memory.
+    // Removes the newest reference, if there is one. It needs no memory.
     fn pop(&mut self)
         ensures { self.new.keys ≡ take (length self.old.keys - 1) self.old.keys }
     {
@@ -84,7 +84,7 @@ impl RefSet {
         }
     }
 
-    /// Takes out the newest references until there are no more than so many. It takes no memory.
+    /// Removes the newest references until at most `len` are left. It needs no memory.
     pub fn truncate(&mut self, len: usize)
         ensures { self.new.keys ≡ take len self.old.keys }
     {

@@ -1,5 +1,5 @@
-//! A grey object is scanned: it leaves the list, and what its places hold is shaded, so it is
-//! black. If anything is refused, it stays grey.
+//! Scans a grey object: it leaves the list, and what its places hold is shaded, so it becomes
+//! black. If anything fails, it stays grey.
 ghost use Rattle.std.specs.Prelude.{◌≡◌, false, ◌+◌, ◌<◌, ◌≤◌, ◌^◌, length, take};
 ghost use Rattle.std.specs.Prelude.{IfOk, IfErr, OnOk, OnErr};
 ghost use Rattle.std.specs.List.{AllByRecursion};
@@ -23,13 +23,13 @@ use safra::Ring;
 const PLACES: usize = GREATEST_PLACES as usize;
 
 /// Scans the grey object that comes last, at the node `own`, which joined `cycle` last and knows
-/// marking to have ended up to the cycle `ended`: the object leaves the list, and what its places
-/// hold is shaded in order, as [`shade_all`](crate::shade_all) does. There must be a grey object.
-/// It gives the object that was scanned.
+/// marking to have ended up to the cycle `ended`. The object leaves the list, and what its places
+/// hold is shaded in order, as by [`shade_all`](crate::shade_all). There must be a grey object. It
+/// returns the object that was scanned.
 ///
-/// [`Refusal::Memory`] where a growth was refused; [`Refusal::LinkSpent`] where a Mark gets no
-/// number, which may show only after memory was wanted for others. All is then as it was, but for
-/// room on the heap.
+/// It fails with [`Refusal::Memory`] if an allocation fails, and with [`Refusal::LinkSpent`] if a
+/// Mark gets no number, which may show only after memory was needed for others. Everything is then
+/// as it was, except for room on the heap.
 pub fn scan(
     heap: &mut Heap,
     asked: &mut RefSet,
@@ -76,7 +76,7 @@ pub fn scan(
 }
 
 /// Copies what the places of the object in a slot hold, since the heap changes while they are
-/// shaded, and gives how many there are.
+/// shaded, and returns how many there are.
 fn copy_places(heap: &Heap, slot: u32, into: &mut [Option<Ref>; PLACES]) -> usize
     ensures value { take result into.new ≡ places_in (slot_at heap.now.heap slot) }
     ensures few { result ≤ 8 }

@@ -1,6 +1,5 @@
-//! Some references are shaded at once, each by marking the object here or by asking its owner. The
-//! owners are asked first, since that may be refused and can be taken back; to mark can't be
-//! refused.
+//! Shades several references, each by marking the object here or by asking its owner. The owners
+//! are asked first, since that can fail and can be undone; marking can't fail.
 ghost use Rattle.std.specs.Prelude.{◌≡◌, [], cond, ◌==◌, ◌+◌, ◌<◌, ◌≤◌, ◌^◌, length, IfErr, OnOk, OnErr};
 ghost use Rattle.std.specs.List.{AllByRecursion};
 ghost use Rattle.ids.specs.declared.limits.TheConstants.{GREATEST_COUNTED, GREATEST_NODES};
@@ -19,12 +18,13 @@ use link::Links;
 use safra::Ring;
 
 /// Shades these references, in order, at the node `own`, which joined `cycle` last and knows
-/// marking to have ended up to the cycle `ended`: where both are one, nothing is shaded. Its own
-/// objects are marked and turn grey; other nodes are asked to mark theirs, and the Marks counted.
+/// marking to have ended up to the cycle `ended`. If `ended` is `cycle`, nothing is shaded. The
+/// node's own objects are marked and turn grey. Other nodes are asked to mark theirs, and the Marks
+/// are counted.
 ///
-/// [`Refusal::Memory`] where a growth was refused; [`Refusal::LinkSpent`] where a Mark gets no
-/// number, which may show only after memory was wanted for others. All is then as it was, but for
-/// room on the heap.
+/// It fails with [`Refusal::Memory`] if an allocation fails, and with [`Refusal::LinkSpent`] if a
+/// Mark gets no number, which may show only after memory was needed for others. Everything is then
+/// as it was, except for room on the heap.
 pub fn shade_all(
     heap: &mut Heap,
     asked: &mut RefSet,
@@ -64,7 +64,7 @@ pub fn shade_all(
     Ok(())
 }
 
-/// The references of these that are to be shaded: all, or none once marking has ended.
+/// The references that are to be shaded: all of these, or none once marking has ended.
 pub fn while_marking(cycle: u64, ended: u64, references: &[Option<Ref>]) -> &[Option<Ref>]
     ensures { result.now ≡ cond (ended == cycle) [] references.now }
 {

@@ -1,4 +1,4 @@
--- What is true of the phases of every node, and what becomes of them.
+-- What holds of the phases of every node, and how they change.
 use Rattle.std.specs.Prelude.{◌≡◌, ℕ, ◌+◌, ◌<◌, ◌≤◌, Bool, nat_lt, List, [], ◌∷◌, slice_set}
 use Rattle.std.specs.List.{All}
 use Rattle.ids.specs.declared.limits.TheConstants.{GREATEST_CYCLE}
@@ -17,24 +17,24 @@ pub record IsPhases (p : Phases) : Type 0 where
   pub ended : p.ended ≤ p.cycle
   pub cycle : p.cycle ≤ p.swept + 1
   pub within : p.cycle ≤ GREATEST_CYCLE
-  -- the cursor stands at the first slot while there is nothing to be swept
+  -- the cursor is 0 while there is nothing to be swept
   pub cursor : p.ended ≤ p.swept → p.cursor ≡ 0
-  -- nobody has swept a cycle that the node doesn't know
+  -- no node has reported a sweep of a cycle that this node doesn't know
   pub reports : All (λ report. report ≤ p.cycle) p.reports
 
 -- ---- Begin
 
--- of its tests those that the phases decide, in their order
+-- the tests of Begin that the phases decide, in their order
 abbrev pub cycle_tests : Phases → List (Bool × Refusal)
 cycle_tests p =
     (is_swept_everywhere p, CycleRunning) ∷ (nat_lt p.cycle GREATEST_CYCLE, CyclesSpent) ∷ []
 
--- the node has swept its cycle, and a number is left for the next
+-- the node has swept its cycle, and a number is left for the next one
 pub record MayBegin (p : Phases) : Type 0 where
   pub swept : p.swept ≡ p.cycle
   pub left : p.cycle < GREATEST_CYCLE
 
--- ---- what becomes of them
+-- ---- how they change
 
 -- a cycle was joined
 abbrev pub in_cycle : ℕ → Phases → Phases
@@ -48,7 +48,7 @@ with_ended p = record p { ended = p.cycle }
 abbrev pub with_report : ℕ → ℕ → Phases → Phases
 with_report from cycle p = record p { reports = slice_set p.reports from cycle }
 
--- so many more slots are swept
+-- this many more slots are swept
 abbrev pub advanced : ℕ → Phases → Phases
 advanced count p = record p { cursor = p.cursor + count }
 

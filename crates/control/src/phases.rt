@@ -1,6 +1,6 @@
-//! Where a node stands in the collection cycles: it joins one, hears that marking has ended,
-//! sweeps, and then may join the next. At node 0 there are the reports too, by which it knows that
-//! a cycle is swept everywhere.
+//! How far a node is in the collection cycles: it joins one, learns that marking has ended, sweeps,
+//! and then may join the next. Node 0 also has the reports, which show that a cycle is swept
+//! everywhere.
 ghost use Rattle.std.specs.Prelude.{
   ◌≡◌,
   ◌==◌,
@@ -40,14 +40,14 @@ use ids::{GREATEST_CYCLE, Refusal};
 use std::alloc::Global;
 use std::marker::Model;
 
-/// Where a node is in the collection cycles, which are numbered from 1. It joins a cycle, hears
+/// How far a node is in the collection cycles, which are numbered from 1. It joins a cycle, learns
 /// that marking has ended, sweeps its slots up to a cursor, and has then swept the cycle. At all
 /// times `swept <= ended <= cycle <= swept + 1`, and the cursor is 0 unless `swept < ended`.
 ///
-/// Node 0 also keeps a report of each node: the last cycle that the node said it has swept. At
+/// Node 0 also keeps a report for each node: the last cycle that the node reported as swept. At
 /// other nodes these stay 0.
 ///
-/// No call but [`Phases::new`] takes memory.
+/// No call except [`Phases::new`] allocates memory.
 #[derive(Drop)]
 pub struct Phases {
     cycle: u64,
@@ -71,8 +71,8 @@ impl Model for Phases {
 }
 
 impl Phases {
-    /// The phases of a new node in a space of so many nodes: no cycle has begun. `Memory` where a
-    /// growth was refused.
+    /// Makes the phases of a new node in a space of `nodes` nodes: no cycle has begun. It fails
+    /// with `Memory` if an allocation fails.
     pub fn new(alloc: Global, nodes: u8) -> Result<Phases, Refusal>
         ensures made { IfOk result (λ p. p ≡ new_phases nodes) }
         ensures refused { IfErr result (λ e. e ≡ Memory) }
@@ -86,9 +86,10 @@ impl Phases {
         })
     }
 
-    /// The phases of these parts; None where they are no node's: `swept <= ended <= cycle <=
-    /// swept + 1` doesn't hold, the cycle is above [`GREATEST_CYCLE`], the cursor isn't 0 though
-    /// `swept = ended`, or a report is above the cycle. It takes time for each report.
+    /// Makes phases of these parts. It returns `None` if no node can have them: `swept <= ended <=
+    /// cycle <= swept + 1` doesn't hold, the cycle is above [`GREATEST_CYCLE`], the cursor isn't 0
+    /// although `swept = ended`, or a report is above the cycle. It takes time linear in the number
+    /// of reports.
     pub fn from_parts(
         cycle: u64,
         ended: u64,
@@ -117,8 +118,8 @@ impl Phases {
         }
     }
 
-    /// The cycle that the node joined last; 0 where it joined none. The contract says besides what
-    /// is true of all phases.
+    /// The cycle that the node joined last; 0 if it has joined none. The contract also states what
+    /// holds of all phases.
     pub fn cycle(&self) -> u64
         ensures value { result ≡ self.now.cycle }
         ensures sound { IsPhases self.now }
@@ -126,14 +127,14 @@ impl Phases {
         self.cycle
     }
 
-    /// The last cycle of which the node knows that marking has ended; 0 where it knows of none.
+    /// The last cycle whose marking the node knows to have ended; 0 if it knows of no such cycle.
     pub fn ended(&self) -> u64
         ensures { result ≡ self.now.ended }
     {
         self.ended
     }
 
-    /// The last cycle that the node has swept; 0 where it has swept none.
+    /// The last cycle that the node has swept; 0 if it has swept none.
     pub fn swept(&self) -> u64
         ensures { result ≡ self.now.swept }
     {
@@ -147,15 +148,15 @@ impl Phases {
         self.cursor
     }
 
-    /// The last cycle that each node reported as swept, in order of their numbers; 0 where one
-    /// reported none.
+    /// The last cycle that each node reported as swept, in order of the nodes' numbers; 0 if a node
+    /// has reported none.
     pub fn reports(&self) -> &[u64]
         ensures { result.now ≡ self.now.reports }
     {
         &self.reports
     }
 
-    /// The last cycle that this node reported as swept; 0 where it reported none.
+    /// The last cycle that this node reported as swept; 0 if it has reported none.
     pub fn report(&self, node: u8) -> u64
         requires { node < length self.now.reports }
         ensures { result ≡ slice_index_or self.now.reports node 0 }
@@ -163,9 +164,10 @@ impl Phases {
         self.reports[usize::from(node)]
     }
 
-    /// Whether node 0 may begin the next cycle. [`Refusal::CycleRunning`] while it hasn't swept the
-    /// last one itself, or lacks another node's report of it; then [`Refusal::CyclesSpent`] where
-    /// the last one has the number [`GREATEST_CYCLE`]. It takes time for each node.
+    /// Whether node 0 may begin the next cycle. It fails with [`Refusal::CycleRunning`] while node
+    /// 0 hasn't swept the last one itself, or lacks another node's report of it. After that it
+    /// fails with [`Refusal::CyclesSpent`] if the last one has the number [`GREATEST_CYCLE`]. It
+    /// takes time linear in the number of nodes.
     pub fn may_begin(&self) -> Result<(), Refusal>
         ensures tests { result ≡ guarded (cycle_tests self.now) tt }
         ensures ready { OnOk result (MayBegin self.now) }
@@ -185,7 +187,7 @@ impl Phases {
         self.swept == self.cycle && others_reported(&self.reports, self.cycle)
     }
 
-    /// Node 0 joins the next cycle, as [`Phases::may_begin`] lets it.
+    /// Node 0 joins the next cycle, after [`Phases::may_begin`] has allowed it.
     pub fn begin(&mut self)
         requires { MayBegin self.old }
         ensures done { self.new ≡ in_cycle (self.old.cycle + 1) self.old }
@@ -194,7 +196,7 @@ impl Phases {
         self.join(self.cycle + 1);
     }
 
-    /// The node joins a cycle. It is the one after its present cycle, which it has swept.
+    /// Joins a cycle. It is the one after the present cycle, which the node has swept.
     pub fn join(&mut self, cycle: u64)
         requires next { cycle ≡ self.old.cycle + 1 }
         requires within { cycle ≤ GREATEST_CYCLE }
@@ -206,7 +208,8 @@ impl Phases {
         self.cursor = 0;
     }
 
-    /// The node learns that marking has ended in its cycle, or at node 0 finds it.
+    /// Notes that marking has ended in the node's cycle: the node was told so, or is node 0 and
+    /// found it.
     pub fn on_ended(&mut self)
         ensures done { self.new ≡ with_ended self.old }
         ensures sound { IsPhases self.new }
@@ -214,7 +217,7 @@ impl Phases {
         self.ended = self.cycle;
     }
 
-    /// Node 0 takes down that a node has swept this cycle, which is no later than its own.
+    /// Notes at node 0 that a node has swept this cycle, which is no later than node 0's own.
     pub fn on_swept(&mut self, from: u8, stamp: u64)
         requires there { from < length self.old.reports }
         requires within { stamp ≤ self.old.cycle }
@@ -224,8 +227,8 @@ impl Phases {
         self.reports[usize::from(from)] = stamp;
     }
 
-    /// So many more slots are swept, and some are left. It is called while marking has ended in the
-    /// cycle and the node hasn't swept it.
+    /// Notes that this many more slots are swept, and some are left. To be called while marking has
+    /// ended in the cycle and the node hasn't swept it.
     pub fn advance(&mut self, count: u32)
         requires open { self.old.swept < self.old.ended }
         requires room { self.old.cursor + count < 2 ^ 32 }
@@ -235,8 +238,8 @@ impl Phases {
         self.cursor += count;
     }
 
-    /// All slots are swept, and so the cycle is. It is called while marking has ended in the cycle
-    /// and the node hasn't swept it.
+    /// Notes that all slots are swept, and so the cycle is. To be called while marking has ended in
+    /// the cycle and the node hasn't swept it.
     pub fn end_sweep(&mut self)
         requires { self.old.swept < self.old.ended }
         ensures done { self.new ≡ all_swept self.old }
@@ -247,7 +250,7 @@ impl Phases {
     }
 }
 
-// Whether each node but node 0 has reported the cycle.
+// Whether each node except node 0 has reported the cycle.
 fn others_reported(reports: &[u64], cycle: u64) -> bool
     ensures { result ≡ list_all (λ report. report == cycle) (drop 1 reports.now) }
 {

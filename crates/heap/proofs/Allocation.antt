@@ -1,4 +1,4 @@
--- What an insertion into the arena of objects makes of the heap that shows it.
+-- The heap after an insertion into the arena of its objects.
 use Rattle.std.proofs.Common.{◌≡◌, ◌==◌, ℕ, ◌<◌, ◌≤◌, true, false, ◌&&◌, ◌||◌, nat_lt, nat_le}
 use Rattle.std.proofs.Common.{List, [], ◌∷◌, length, map, drop, Some, Ok, set, get_or}
 use Rattle.std.proofs.Common.{refl, sym, ap, ◌∙◌, arith}
@@ -21,7 +21,7 @@ use Rattle.heap.specs.Heap.{slot_of}
 use Rattle.heap.specs.Stored.{heap_of, view_of}
 use Rattle.heap.specs.declared.heap.Heap.TheInside.{Inside}
 
--- the reference of the next object, at the node of this number
+-- the reference of the next object, at the node with this number
 abbrev next_reference : ℕ → Inside → Ref
 next_reference own h =
     record {
@@ -30,7 +30,7 @@ next_reference own h =
       generation = (next_key h.objects).generation;
     }
 
--- the heap after the insertion of an object whose reference the register gets
+-- the heap after the insertion of an object whose reference goes into the register
 abbrev heap_with : Inside → Object → ℕ → Ref → Heap
 heap_with h o register r =
     let registers = set h.registers.items register (Some r) in
@@ -82,7 +82,7 @@ inserts slots (k ∷ ks) limit o =
       generation = same;
     }
 
--- the insertion where there is room is what the rules say of Alloc
+-- the insertion, if there is room, has the effect of Alloc
 pub heap_alloc-stored : (h : Inside) (own cycle register places : ℕ)
     → register < length h.registers.items → places ≤ GREATEST_PLACES → is_full h.objects ≡ false
     → heap_alloc h.objects.limit own cycle (view_of h).heap register places

@@ -1,4 +1,4 @@
--- What freeing an object in the arena makes of the heap that shows it, and sweeping slot by slot.
+-- The heap after an object in the arena is freed, and sweeping slot by slot.
 use Rattle.std.proofs.Common.{◌≡◌, ℕ, zero, suc, ◌+◌, ◌-◌, ◌<◌, ◌≤◌, ◌==◌, if◌then◌else◌, Bool, true, false, cond, List, ◌∷◌, length, set, get_or, Option, Some, None, min, inl, inr, refl, sym, ap, ◌∙◌, arith}
 use Rattle.std.proofs.lemmas.Bool.{eq-eqb, cases_lt, cond-true, cond-false}
 use Rattle.std.proofs.lemmas.List.{map-set, length-set, length-map, get_or_past}
@@ -18,7 +18,7 @@ use Rattle.heap.specs.Heap.{slot_of}
 use Rattle.heap.specs.Stored.{view_of}
 use Rattle.heap.specs.declared.heap.Heap.TheInside.{Inside}
 
--- the heap that shows these objects in place of its own
+-- the heap with these objects in place of its own
 abbrev heap_with : Inside → Arena Object → Heap
 heap_with h a = (view_of (record h { objects = a })).heap
 
@@ -39,7 +39,7 @@ vacated_by false h key =
     })
     (map-set slot_of h.objects.slots key.slot (Free (key.generation + 1)))
 
--- the arena and the definitions make the same of a slot whose object goes
+-- the arena and the definitions agree about a slot whose object is removed
 pub vacated-stored : (h : Inside) (key : Key)
     → heap_with h (arena.vacated h.objects key)
     ≡ collecting.vacated (view_of h).heap key.slot key.generation
@@ -126,7 +126,7 @@ pub swept-none : (h : Heap) (slot cycle n : ℕ) → is_garbage cycle (slot_at h
 unfolding sweep_one
 swept-none h slot cycle n kept = cond-false (is_garbage cycle (slot_at h slot)) _ _ kept
 
--- sweeping stops where all that was asked for is swept, or every slot that was used
+-- sweeping stops once everything that was requested is swept, or every slot that was used
 pub stops-after : (last most used slot : ℕ) → used ≤ most → min (min last most) used ≤ slot
     → slot < last → used ≤ slot
 stops-after last most used slot within past left =
@@ -152,7 +152,7 @@ swept-past cycle k (suc n) s past =
     ap (sweep_some cycle (k + 1) n) (swept-none s.heap k cycle s.freed none)
     ∙ swept-past cycle (k + 1) n s (λ _. omega (arith, here))
 
--- what is left of so many slots is the next one, and then the others
+-- sweeping the rest is sweeping the next slot and then the others
 pub swept-next : (cycle slot last : ℕ) (s : Sweeping) → slot < last
     → sweep_some cycle slot (last - slot) s
     ≡ sweep_some cycle (slot + 1) (last - (slot + 1)) (sweep_one cycle slot s)

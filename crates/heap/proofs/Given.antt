@@ -45,7 +45,7 @@ slot_shown : {h : Heap} {ss : List (stored.Slot Object)} {ks : List ℕ} → Sho
     → slot_at h i ≡ slot_of (get_or ss i Retired)
 slot_shown {h} {ss} shows i = rw (shows.slots) (slot_seen ss i)
 
--- what is true of an arena is true of the heap that shows it
+-- what holds of an arena holds of the heap whose objects it has
 pub slotted : {h : Heap} {ss : List (stored.Slot Object)} {ks : List ℕ} {limit : ℕ}
     → Shows h ss ks → IsSound (plain ss ks limit) → IsSlotted h limit
 slotted {h} {ss} {ks} {limit} shows sound =
@@ -65,7 +65,7 @@ pub born : {h : Heap} {ss : List (stored.Slot Object)} {ks : List ℕ} {limit : 
 born {ss = ss} shows sound i =
     rw (slot_shown shows i) (born_seen (get_or ss i Retired) (sound.born i))
 
--- and the other way round
+-- and conversely
 pub sound_from : {h : Heap} {ss : List (stored.Slot Object)} {ks : List ℕ} {shape : Shaped}
     → Shows h ss ks → shape.slots ≤ GREATEST_SLOTS → IsHeapFor shape h
     → IsSound (plain ss ks shape.slots)

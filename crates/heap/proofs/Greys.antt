@@ -1,4 +1,4 @@
--- What marking an object in the arena makes of the heap that shows it.
+-- The heap after an object in the arena is marked.
 use Rattle.std.proofs.Common.{◌≡◌, ℕ, ◌+◌, ◌==◌, not, true, false, List, [], ◌∷◌, ◌++◌, Vec, Global, Some, None, refl, sym, ap, ◌∙◌, inl, inr, arith}
 use Rattle.std.proofs.lemmas.Bool.{cond-true, cond-false}
 use Rattle.std.proofs.lemmas.Bool.Decides.{eqb_tells}
@@ -14,7 +14,7 @@ use Rattle.heap.specs.Stored.{view_of}
 use Rattle.heap.specs.declared.heap.Heap.TheInside.{Inside}
 use Rattle.heap.proofs.Writes.{key_of, IsStored, rewritten-stored, object_at-stored}
 
--- a slot comes last on the list of grey ones, within its room
+-- a slot is added at the end of the list of grey ones, within its room
 pub record IsPushed (before after : Vec ℕ Global) (slot : ℕ) : Type 0 where
   pub items : after.items ≡ before.items ++ slot ∷ []
   pub len : after.len ≡ before.len + 1
@@ -54,7 +54,7 @@ turns-grey {h = h} {r = r} {key = key} {o = o} {x = x} cycle grey stored made wh
       letter_room = refl;
     }
 
--- one that is marked already, or isn't there, stays as it is
+-- an object that is marked already, or isn't there, stays as it is
 pub stays-marked : {h : Inside} {r : Ref} {key : Key} {o x : Object} (cycle : ℕ)
     → IsStored h r key o → x ≡ with_mark cycle o → not (o.mark == cycle) ≡ false
     → Became (view_of h) (view_of (written h key x)) (make_grey cycle (view_of h).heap r) 1

@@ -9,12 +9,12 @@ use Rattle.model.specs.Heaps.{object_at}
 use Rattle.model.specs.Shading.{is_unmarked, wakes, make_grey, make_all_grey, filled, roots}
 use Rattle.model.proofs.ShadingParts.{make_all_grey-append}
 
--- the next one, and those after it
+-- the next reference, and those after it
 next_one : (os : List (Option Ref)) (i : ℕ) → i < length os
     → filled (drop i os) ≡ option_to_list (get_or os i None) ++ filled (drop (i + 1) os)
 next_one os i there = ap filled (drop-cons os i None there) ∙ rw add-one refl
 
--- one is shaded, and what is left to shade gives what it gave with it
+-- after one is shaded, shading the rest gives the same as shading all did before
 pub shaded-next : (own cycle : ℕ) (h : Heap) (os : List (Option Ref)) (i : ℕ) (o : Option Ref)
     → i < length os → o ≡ get_or os i None
     → make_all_grey own cycle (make_all_grey own cycle h (option_to_list o))
@@ -26,7 +26,7 @@ shaded-next own cycle h os i o there is =
     ∙ ap (λ (x : Option Ref). make_all_grey own cycle h (option_to_list x ++ rest)) is
     ∙ sym (ap (make_all_grey own cycle h) (next_one os i there))
 
--- one wakes nothing, so those after it tell
+-- if one wakes nothing, those after it decide
 pub wakes-next : (f : Ref → Bool) (os : List (Option Ref)) (i : ℕ) → i < length os
     → list_any f (option_to_list (get_or os i None)) ≡ false
     → list_any f (filled (drop i os)) ≡ list_any f (filled (drop (i + 1) os))
@@ -47,7 +47,7 @@ wakes-here f os i there wakes =
     ∙ list_any-append f o rest
     ∙ ap (λ (b : Bool). b || list_any f rest) wakes
 
--- shading leaves the roots
+-- shading doesn't change the roots
 roots-grey : (cycle : ℕ) (h : Heap) (r : Ref) → roots (make_grey cycle h r) ≡ roots h
 unfolding make_grey
 roots-grey cycle h r =

@@ -1,4 +1,4 @@
--- What a write to an object through the arena makes of the heap that shows it.
+-- The heap after a write to an object through the arena.
 use Rattle.std.proofs.Common.{◌≡◌, ℕ, List, [], ◌∷◌, length, map, set, get_or, Option, Some, None}
 use Rattle.std.proofs.Common.{OnErr, Bool, true, false, nat_lt, refl, sym, ap, ◌∙◌, inl, inr}
 use Rattle.std.proofs.lemmas.Bool.{eq-eqb}
@@ -22,7 +22,7 @@ use Rattle.heap.specs.Heap.{slot_of}
 use Rattle.heap.specs.Stored.{view_of}
 use Rattle.heap.specs.declared.heap.Heap.TheInside.{Inside}
 
--- where the arena keeps the object of this reference
+-- the key under which the arena keeps the object of this reference
 abbrev pub key_of : Ref → Key
 key_of r = record { slot = r.slot; generation = r.generation }
 
@@ -53,7 +53,7 @@ pub record IsStored (h : Inside) (r : Ref) (key : Key) (o : Object) : Type 0 whe
   pub name : key ≡ key_of r
   pub there : Some o ≡ get h.objects key
 
--- the object under a key becomes another one
+-- the object under a key is replaced
 pub rewritten-stored : (h : Inside) (r : Ref) (key : Key) (f : Object → Object) (o x : Object)
     → IsStored h r key o → x ≡ f o
     → view_of (record h { objects = with_value h.objects key x })
@@ -64,7 +64,7 @@ rewritten-stored h r key f o x stored made =
     let slots = rewritten-slots h.objects.slots r.slot r.generation f o found in
     rw (name, made) (ap (with_slots (view_of h)) slots)
 
--- the object of a reference, where it is stored
+-- the object of a reference, if it is stored
 object_of-stored : (s : Slot Object) (g : ℕ) → object_of (slot_of s) g ≡ value_of s g
 object_of-stored (Free own) g = refl
 object_of-stored (Occupied own x) g = refl
@@ -85,13 +85,13 @@ absent-stored h r key f name absent =
     let kept = with_rewritten-kept (view_of h).heap r f (λ o there. absurd cc) in
     ap (λ heap. record (view_of h) { heap = heap }) (sym kept)
 
--- what is shown where a test fails
+-- a claim for the case that a test fails
 on_refused : (b : Bool) (e : Refusal) (P : Type 0) → (b ≡ false → P)
     → OnErr (guarded {A = Unit {0}} ((b, e) ∷ []) tt) P
 on_refused true e P p = tt
 on_refused false e P p = p refl
 
--- where the object has no such place, a write to it changes nothing
+-- if the object has no such place, a write to it changes nothing
 pub placeless-stored : (h : Inside) (r : Ref) (key : Key) (o : Object) (place : ℕ) (v : Option Ref)
     → IsStored h r key o
     → OnErr (guarded {A = Unit {0}} ((nat_lt place (length o.places), NoField) ∷ []) tt)

@@ -1,4 +1,4 @@
--- What a contract sees of a `Heap`.
+-- The view of a `Heap` that contracts use.
 use Rattle.std.specs.Prelude.{◌≡◌, ℕ, ◌+◌, ◌≤◌, Bool, true, false, length, ⊤}
 pub use Rattle.arena.specs.Arena.{Has, Once}
 use Rattle.ids.specs.declared.names.Ref.{Ref}
@@ -8,13 +8,13 @@ use Rattle.ids.specs.Limits.{Shaped}
 use Rattle.model.specs.State.{Object, Slot, Free, Occupied, Retired, Heap, slot_at}
 use Rattle.model.specs.Collecting.{Sweeping, generation_in, sweep_some}
 
--- the heap as plain data, how many slots there may be, and what is added before memory is wanted
+-- the heap as plain data, how many slots there may be, and how much can be added without allocating
 pub record HeapView : Type 0 where
   pub heap : Heap
   pub limit : ℕ
-  -- how many objects may turn grey
+  -- this many objects may turn grey
   pub room : ℕ
-  -- how many letters may come
+  -- this many letters may arrive
   pub letter_room : ℕ
 
 -- this heap and this limit, whatever room there is
@@ -22,7 +22,7 @@ pub record Holds (v : HeapView) (h : Heap) (slots : ℕ) : Type 0 where
   pub heap : v.heap ≡ h
   pub limit : v.limit ≡ slots
 
--- there is room for so many grey objects and so many letters more
+-- there is room for this many more grey objects and letters
 pub record HasRoom (v : HeapView) (greys letters : ℕ) : Type 0 where
   pub room : greys ≤ v.room
   pub letter_room : letters ≤ v.letter_room
@@ -32,7 +32,7 @@ pub record KeepsRoom (before after : HeapView) : Type 0 where
   pub room : before.room ≤ after.room
   pub letter_room : before.letter_room ≤ after.letter_room
 
--- the heap is this one now, for which at most so many objects turned grey
+-- the heap is now `h`, and at most `most` objects turned grey for it
 pub record Became (before after : HeapView) (h : Heap) (most : ℕ) : Type 0 where
   pub heap : after.heap ≡ h
   pub limit : after.limit ≡ before.limit
@@ -49,10 +49,10 @@ IsFree (Free g) = ⊤
 IsFree (Occupied g o) = ⊥
 IsFree Retired = ⊥
 
--- what holds of every heap of this limit
+-- what holds of every heap with this limit
 pub record IsSlotted (h : Heap) (limit : ℕ) : Type 0 where
   pub within : length h.slots ≤ limit
-  -- the list names the free slots and no others, each once
+  -- the list names exactly the free slots, each once
   pub named : (i : ℕ) → Has h.free i → IsFree (slot_at h i)
   pub listed : (i : ℕ) → IsFree (slot_at h i) → Has h.free i
   pub once : Once h.free
@@ -80,6 +80,6 @@ abbrev pub reference_in : ℕ → Heap → ℕ → Ref
 reference_in own h slot =
     record { node = own; slot = slot; generation = generation_in (slot_at h slot) }
 
--- what sweeping so many slots, from this one on, makes of a heap, and how many objects it frees
+-- a heap after `count` slots are swept, from slot `cursor` on, and how many objects that frees
 abbrev pub swept : ℕ → ℕ → ℕ → Heap → Sweeping
 swept cycle cursor count h = sweep_some cycle cursor count (record { heap = h; freed = 0 })

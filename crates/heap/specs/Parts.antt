@@ -1,4 +1,4 @@
--- The heap that its parts say.
+-- The heap with these parts.
 use Rattle.std.specs.Prelude.{map}
 use Rattle.model.specs.State.{Heap}
 use Rattle.heap.specs.Heap.{slot_of}

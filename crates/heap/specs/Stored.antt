@@ -36,8 +36,8 @@ object_in (Free g) = None
 object_in (Occupied g o) = Some o
 object_in Retired = None
 
--- how many slots there may be, and how many registers there are, is within the limits
+-- the limit of the slots and the number of registers are within the limits
 pub record IsHeap (h : Inside) : Type 0 where
   pub limit : h.objects.limit ≤ GREATEST_SLOTS
-  -- a register's number is of two bytes
+  -- a register's number has two bytes
   pub registers : length h.registers.items < 2 ^ 16

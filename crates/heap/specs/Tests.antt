@@ -1,5 +1,5 @@
--- The tests that several calls of a `Heap` share, each list a part of theirs. No public clause
--- cites this module.
+-- The tests that several calls of a `Heap` share, each list being part of the calls' lists. No
+-- public clause cites this module.
 use Rattle.std.specs.Prelude.{ℕ, Bool, List, [], ◌∷◌, is_some}
 use Rattle.ids.specs.declared.names.Ref.{Ref}
 use Rattle.ids.specs.declared.refusal.Refusal.{Refusal}

@@ -1,6 +1,6 @@
 //! What a node holds: objects in slots, registers, letters, and the marked objects that are still
-//! to be scanned. Each call is a definition on such a heap; they stand by subject in files of their
-//! own.
+//! to be scanned. Each call is defined in `model` on such a heap. The methods are in separate
+//! files, grouped by subject.
 ghost use Rattle.std.specs.Prelude.{◌≡◌, IfOk, IfErr};
 ghost use Rattle.ids.specs.declared.refusal.Refusal.TheVariants.{Memory};
 ghost use Rattle.model.specs.State.{new_heap};
@@ -28,11 +28,11 @@ pub struct Heap {
     registers: Vec<Option<Ref>>,
     // Oldest first.
     letters: VecDeque<Letter>,
-    // By slot; the last is scanned first.
+    // Slots of grey objects; the last is scanned first.
     grey: Vec<u32>,
 }
 
-// Written out, so that the crates above need not prove anew how each field is dropped.
+// Written out, so that the crates above don't have to prove again how each field is dropped.
 impl Drop for Heap {
     fn drop(self) {
         let Heap {
@@ -59,9 +59,10 @@ impl Model for Heap {
 impl Heap {
     ghost use Rattle.heap.specs.Heap.{Holds};
 
-    /// The heap of a new node: no object, no letter, and as many empty registers as the shape says.
+    /// Makes the heap of a new node: no object, no letter, and as many empty registers as the shape
+    /// has.
     ///
-    /// It answers [`Refusal::Memory`] where there is no memory for the registers.
+    /// It fails with [`Refusal::Memory`] if there is no memory for the registers.
     pub fn new(alloc: Global, shape: Shape) -> Result<Heap, Refusal>
         ensures made { IfOk result (λ h. Holds h (new_heap shape) shape.slots) }
         ensures refused { IfErr result (λ e. e ≡ Memory) }

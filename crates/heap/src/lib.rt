@@ -1,5 +1,6 @@
 //! A node's heap: its objects in numbered slots, its registers, its letters, and its grey objects.
-//! Each call is its definition in `model`, and one that is refused leaves all as it was.
+//! Each call does what its definition in `model` says, and one that is refused leaves everything as
+//! it was.
 #![tactic(auto)]
 
 mod heap;

@@ -1,5 +1,5 @@
 //! An object: the program's word, its places, and the cycle that marked it. The mark is a cycle's
-//! number, so a new cycle makes all objects white and touches none.
+//! number, so a new cycle makes all objects white without touching any.
 ghost use Rattle.std.specs.Prelude.{◌≡◌, ℕ, ◌≤◌, ◌==◌, not, [], ◌∷◌, nat_lt, length};
 ghost use Rattle.std.specs.Prelude.{slice_index_or, slice_set};
 ghost use Rattle.std.specs.Prelude.{IfOk, IfErr, None, IsSome, IfSome, ◌↔◌};
@@ -35,8 +35,8 @@ impl Model for Object {
 }
 
 impl Object {
-    /// The object of these parts: its word, the cycle that marked it, and what its places hold.
-    /// None where there are more than [`GREATEST_PLACES`]; they are then dropped.
+    /// Makes the object of these parts: its word, the cycle that marked it, and what its places
+    /// hold. `None` if there are more than [`GREATEST_PLACES`]; they are then dropped.
     pub fn from_parts(word: u64, mark: u64, places: Vec<Option<Ref>>) -> Option<Object>
         ensures few { IsSome result ↔ (length places.items ≤ GREATEST_PLACES) }
         ensures made { IfSome result
@@ -48,7 +48,7 @@ impl Object {
         Some(Object { word, places, mark })
     }
 
-    /// A new object with this many empty places, which this cycle marked.
+    /// Makes a new object with this many empty places, marked by this cycle.
     pub(crate) fn new(alloc: Global, cycle: u64, places: u8) -> Result<Object, Refusal>
         requires { places ≤ 8 }
         ensures made { IfOk result (λ o. o ≡ new_object cycle places) }
@@ -61,7 +61,7 @@ impl Object {
         })
     }
 
-    /// What the places hold, in order: as many as the object has.
+    /// What the places hold, in order, one entry for each place.
     pub fn contents(&self) -> &[Option<Ref>]
         ensures value { result.now ≡ self.now.places }
         ensures few { length self.now.places ≤ GREATEST_PLACES }
@@ -83,7 +83,7 @@ impl Object {
         self.word
     }
 
-    /// The program's word becomes this one.
+    /// Sets the program's word.
     pub(crate) fn set_word(&mut self, word: u64)
         ensures { self.new ≡ record self.old { word = word } }
     {
@@ -97,7 +97,7 @@ impl Object {
         self.mark == cycle
     }
 
-    /// This cycle marks it. It says whether that is new.
+    /// Marks it by this cycle, and returns whether that is new.
     pub(crate) fn mark(&mut self, cycle: u64) -> bool
         ensures done { self.new ≡ with_mark cycle self.old }
         ensures new { result ≡ not (self.old.mark == cycle) }
@@ -107,9 +107,9 @@ impl Object {
         !marked
     }
 
-    /// What stands in the place.
+    /// What is in the place.
     ///
-    /// It answers [`Refusal::NoField`] where there is no such place.
+    /// It fails with [`Refusal::NoField`] if there is no such place.
     pub(crate) fn place(&self, place: u8) -> Result<Option<Ref>, Refusal>
         ensures { result ≡ guarded ((nat_lt place (length self.now.places), NoField) ∷ [])
             (slice_index_or self.now.places place None) }
@@ -120,9 +120,9 @@ impl Object {
         }
     }
 
-    /// The place becomes this.
+    /// Sets the place.
     ///
-    /// It answers [`Refusal::NoField`] where there is no such place. The object is then as it was.
+    /// It fails with [`Refusal::NoField`] if there is no such place. The object is then as it was.
     pub(crate) fn set_place(&mut self, place: u8, value: Option<Ref>) -> Result<(), Refusal>
         ensures done { self.new
             ≡ record self.old { places = slice_set self.old.places place value } }

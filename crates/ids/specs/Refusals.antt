@@ -3,7 +3,7 @@ use Rattle.std.specs.Prelude.{ℕ, List, ◌++◌, codes, decimal}
 use Rattle.ids.specs.declared.refusal.Refusal.{Refusal}
 use Rattle.ids.specs.declared.refusal.Refusal.TheVariants.{Memory, ArenaFull, NoRegister, EmptyRegister, Remote, Local, NoNode, NoLetter, NoField, TooManyFields, SelfSend, LinkSpent, CyclesSpent, NotDirector, CycleRunning, NothingToDo, OutOfOrder, AckBeyond, BadFrame, WrongNode, BadImage, ImageTooLarge, Disk, Closed}
 
--- the number that stands for a refusal in texts
+-- the number of a refusal in texts
 abbrev pub number_of : Refusal → ℕ
 number_of Memory = 1
 number_of ArenaFull = 2
@@ -30,7 +30,7 @@ number_of ImageTooLarge = 22
 number_of Disk = 23
 number_of Closed = 24
 
--- the name that stands for a refusal in texts
+-- the name of a refusal in texts
 abbrev pub name_of : Refusal → List ℕ
 name_of Memory = codes "Memory"
 name_of ArenaFull = codes "ArenaFull"

@@ -1,6 +1,6 @@
 //! The names and limits that every crate of the object space shares: node numbers, references,
-//! cycle numbers, the shape of a space, the limits, and the reasons for which a call may refuse. A
-//! value of them that exists is within the limits, but for a reference.
+//! cycle numbers, the shape of a space, the limits, and the reasons for a refusal. A value of one
+//! of these types is within the limits by construction, except a reference.
 #![tactic(auto)]
 
 mod limits;

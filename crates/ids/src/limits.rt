@@ -1,5 +1,5 @@
-//! The limits of a space, a constant each. How many messages are sent and counted at most follows
-//! from the others, so no count of them wraps.
+//! The limits of a space, one constant each. The greatest numbers of messages sent and counted
+//! follow from the others, so no count of messages wraps.
 /// The least number of nodes in a space.
 pub const LEAST_NODES: u8 = 2;
 
@@ -18,29 +18,30 @@ pub const GREATEST_SLOTS: u32 = 1_048_576;
 /// The greatest number of places of an object; they are numbered from 0.
 pub const GREATEST_PLACES: u8 = 8;
 
-/// Counts how often a slot was given out: 1 for its first object.
+/// Counts the objects of a slot: 1 for its first object.
 pub type Generation = u64;
 
-/// The greatest generation. A slot whose object of this generation is freed is never used again.
+/// The greatest generation. Once its object of this generation is freed, a slot is never used
+/// again.
 pub const GREATEST_GENERATION: Generation = 18_446_744_073_709_551_615;
 
 /// The greatest number of a message on a link, 2^48; the first is 1.
 pub const GREATEST_NUMBER: u64 = 281_474_976_710_656;
 
-/// How many messages a node sends at most, 2^54: on each of its links one of each number.
+/// How many messages a node sends at most, 2^54: one of each number on each of its links.
 pub const GREATEST_SENT: u64 = 18_014_398_509_481_984;
 
-/// How many messages a node counts at most, 2^55: those that it sends, and those that it takes in.
+/// How many messages a node counts at most, 2^55: those that it sends and those that it receives.
 pub const GREATEST_COUNTED: u64 = 36_028_797_018_963_968;
 
 /// How many messages all nodes count at most, 2^61: the sum that the token carries stays within it.
 pub const GREATEST_SUM: u64 = 2_305_843_009_213_693_952;
 
-/// The greatest number of a collection cycle, 2^48; 0 stands for "none yet".
+/// The greatest number of a collection cycle, 2^48; 0 means "none yet".
 pub const GREATEST_CYCLE: u64 = 281_474_976_710_656;
 
 /// How many messages of a link its window shows: the first released ones after the last
-/// acknowledged.
+/// acknowledged one.
 pub const WINDOW: u8 = 32;
 
 /// The greatest size of a saved node, in bytes.

@@ -1,5 +1,5 @@
-//! Names of nodes, objects and cycles. A reference has a generation, so it never comes to mean
-//! another object when its slot is used again.
+//! Names of nodes, objects and cycles. A reference includes a generation, so it never names another
+//! object when its slot is reused.
 ghost use Rattle.std.specs.Prelude.{◌≡◌, ◌≤◌, ◌<◌, nat_lt, nat_le, Some, IsTrue, IsSome, IfSome, ◌↔◌};
 ghost use Rattle.ids.specs.Texts.{optional_text, reference_text};
 ghost use Rattle.ids.specs.declared.limits.TheConstants.{GREATEST_CYCLE, GREATEST_NODES};
@@ -15,7 +15,7 @@ pub struct NodeId {
 }
 
 impl NodeId {
-    /// The node of this number, where the number is below [`GREATEST_NODES`].
+    /// The node with this number, if the number is below [`GREATEST_NODES`].
     pub fn new(number: u8) -> Option<NodeId>
         ensures within { IsSome result ↔ (number < GREATEST_NODES) }
         ensures value { IfSome result (λ n. n.number ≡ number) }
@@ -29,8 +29,8 @@ impl NodeId {
 }
 
 /// A reference to an object: the node that owns it, its slot there, and which of the slot's objects
-/// it is. A freed slot is given out again under the next generation, so that a reference never
-/// comes to mean another object.
+/// it is. A freed slot is reused under the next generation, so a reference never names another
+/// object later.
 ///
 /// The numbers may be any: [`Ref::fits`] says whether they are within the limits.
 #[derive(Clone, Copy, Debug, PartialEq, Eq, Hash, PartialOrd, Ord)]
@@ -43,7 +43,7 @@ pub struct Ref {
 impl Ref {
     ghost use Rattle.ids.specs.Limits.{reference_fits};
 
-    /// The reference of these parts, where they are within the limits, as [`Ref::fits`] says.
+    /// The reference with these parts, if they are within the limits, as [`Ref::fits`] says.
     pub fn new(node: u8, slot: u32, generation: Generation) -> Option<Ref>
         ensures within { IsSome result ↔ IsTrue (reference_fits
             (record { node = node; slot = slot; generation = generation })) }
@@ -67,7 +67,7 @@ impl Ref {
     }
 }
 
-/// Writes its node, slot and generation, with points between them.
+/// Writes its node, slot and generation, separated by dots.
 impl fmt::Display for Ref {
     ghost output = { λ r. Some (reference_text r) };
 
@@ -81,7 +81,7 @@ impl fmt::Display for Ref {
     }
 }
 
-/// Writes a reference, or a dash where there is none.
+/// Writes a reference, or a dash if there is no reference.
 #[derive(Clone, Copy, Debug, PartialEq, Eq)]
 pub struct RefOrDash(pub Option<Ref>);
 
@@ -104,7 +104,7 @@ pub struct Cycle {
 }
 
 impl Cycle {
-    /// The cycle of this number, where the number is at most [`GREATEST_CYCLE`].
+    /// The cycle with this number, if the number is at most [`GREATEST_CYCLE`].
     pub fn new(number: u64) -> Option<Cycle>
         ensures within { IsSome result ↔ (number ≤ GREATEST_CYCLE) }
         ensures value { IfSome result (λ c. c.number ≡ number) }

@@ -1,5 +1,5 @@
-//! Why a call was refused: one list for all crates, with the numbers and names that texts print. So
-//! a refusal goes up through them as it is.
+//! The reasons for a refusal: one list for all crates, with the numbers and names that texts print.
+//! So the crates pass a refusal up unchanged.
 ghost use Rattle.std.specs.Prelude.{◌≡◌, Some};
 ghost use Rattle.ids.specs.Refusals.{name_of, number_of, refusal_text};
 ghost use Rattle.ids.specs.declared.refusal.Refusal.TheVariants.{Memory};
@@ -7,30 +7,30 @@ ghost use Rattle.ids.specs.declared.refusal.Refusal.TheVariants.{Memory};
 use std::alloc::{AllocError, AllocFailed};
 use std::fmt;
 
-/// Why a call was refused. A refused call leaves what it was called on as it was.
+/// Why a call was refused. A refused call leaves the value that it was called on as it was.
 #[derive(Clone, Copy, Debug, PartialEq, Eq)]
 pub enum Refusal {
-    /// Memory was wanted and refused.
+    /// An allocation failed.
     Memory,
     /// The node has no free slot and no fresh one.
     ArenaFull,
-    /// There is no register of that number.
+    /// There is no register with that number.
     NoRegister,
-    /// The register is empty, where a reference is wanted.
+    /// The register is empty, but a reference is needed.
     EmptyRegister,
     /// The object is on another node.
     Remote,
     /// The object is on this node.
     Local,
-    /// There is no node of that number.
+    /// There is no node with that number.
     NoNode,
-    /// No letter is there.
+    /// No letter waits.
     NoLetter,
-    /// The object has no such place, or no object may have it, or it is not live.
+    /// The object has no such place, or no object can have it, or the object isn't live.
     NoField,
-    /// More places than an object may have.
+    /// The object would have more places than allowed.
     TooManyFields,
-    /// A message to the node itself.
+    /// The message is for the node itself.
     SelfSend,
     /// The link has no number left for the message.
     LinkSpent,
@@ -42,26 +42,26 @@ pub enum Refusal {
     CycleRunning,
     /// There is nothing for this step to do.
     NothingToDo,
-    /// The message is more than a window past the last one that was taken in.
+    /// The message is more than a window past the last one received.
     OutOfOrder,
-    /// What is acknowledged was never released.
+    /// The acknowledged message was never released.
     AckBeyond,
-    /// The bytes are no frame.
+    /// The bytes don't encode a frame.
     BadFrame,
-    /// The frame is not for this node, or not now, or says what this node does not follow.
+    /// The frame is not for this node, not for this space, or not for this moment.
     WrongNode,
-    /// The bytes are no saved node.
+    /// The bytes don't encode a saved node.
     BadImage,
     /// The saved node would be too large.
     ImageTooLarge,
     /// The device failed.
     Disk,
-    /// The device failed, or a reopening was refused, and none has been Ok since.
+    /// The device failed, or a reopening was refused, and no reopening has succeeded since.
     Closed,
 }
 
 impl Refusal {
-    /// The number that stands for the refusal in printed texts, 1 to 24.
+    /// The number of the refusal in printed texts, 1 to 24.
     pub fn number(self) -> u8
         ensures { result ≡ number_of self }
     {
@@ -93,7 +93,7 @@ impl Refusal {
         }
     }
 
-    /// The name that stands for the refusal in printed texts.
+    /// The name of the refusal in printed texts.
     pub fn name(self) -> &'static str
         ensures { result.now ≡ name_of self }
     {

@@ -1,4 +1,5 @@
-//! How large a space is. A shape that exists is within the limits, so nobody tests it again.
+//! How large a space is. Every [`Shape`] is within the limits by construction, so nothing tests it
+//! again.
 ghost use Rattle.std.specs.Prelude.{◌≡◌, IsSome, IfSome, ◌↔◌};
 ghost use Rattle.ids.specs.Limits.{Shaped, IsShape};
 
@@ -26,7 +27,7 @@ impl Model for Shape {
 }
 
 impl Shape {
-    /// The shape of these sizes, where there are [`LEAST_NODES`] to [`GREATEST_NODES`] nodes, 1 to
+    /// The shape with these sizes, if there are [`LEAST_NODES`] to [`GREATEST_NODES`] nodes, 1 to
     /// [`GREATEST_REGISTERS`] registers and 1 to [`GREATEST_SLOTS`] slots.
     pub fn new(nodes: u8, registers: u16, slots: u32) -> Option<Shape>
         ensures within { IsSome result
@@ -48,7 +49,7 @@ impl Shape {
         }
     }
 
-    /// How many nodes the space has.
+    /// The number of nodes of the space.
     pub fn nodes(&self) -> u8
         ensures value { result ≡ self.now.nodes }
         ensures within { IsShape self.now }
@@ -56,7 +57,7 @@ impl Shape {
         self.nodes
     }
 
-    /// How many registers each node has.
+    /// The number of registers of each node.
     pub fn registers(&self) -> u16
         ensures value { result ≡ self.now.registers }
         ensures within { IsShape self.now }
@@ -64,7 +65,7 @@ impl Shape {
         self.registers
     }
 
-    /// How many slots each node has.
+    /// The number of slots of each node.
     pub fn slots(&self) -> u32
         ensures value { result ≡ self.now.slots }
         ensures within { IsShape self.now }

@@ -15,14 +15,14 @@ use Rattle.link.specs.Links.{LinksView, IsLinks, for_other, for_others, announce
 use Rattle.model.proofs.Appending.{append_to-append, fits-append}
 use Rattle.link.proofs.EveryLink.{retracted-append_to}
 
--- as the definitions of a node have it
+-- in the form of the definitions of a node
 pub to_others-is : (p : LocalState) (b : Body) (n : ℕ) →
     to_others p b n ≡ for_others p.own (stamped p b) n
 to_others-is p b zero = refl
 to_others-is p b (suc n) =
     ap (λ (ms : List (ℕ × Message)). ms ++ for_other p.own (stamped p b) n) (to_others-is p b n)
 
--- a node's own link is left alone
+-- a node's own link doesn't change
 pub for-own : (own to : ℕ) (x : Message) → (to == own) ≡ true → for_other own x to ≡ []
 for-own own to x same = cond-true (to == own) [] ((to, x) ∷ []) same
 
@@ -30,7 +30,7 @@ pub for-another : (own to : ℕ) (x : Message) → (to == own) ≡ false →
     for_other own x to ≡ (to, x) ∷ []
 for-another own to x differs = cond-false (to == own) [] ((to, x) ∷ []) differs
 
--- a message for one node leaves the links to the others
+-- a message for one node doesn't change the links to the others
 untouched_by : (links : List Link) (own to k : ℕ) (x : Message) → k ≢ to →
     get_or (append_to links (for_other own x to)) k no_link ≡ get_or links k no_link
 untouched_by links own to k x other =
@@ -42,7 +42,7 @@ untouched_by links own to k x other =
     ∙ get_or-set_other links to k next no_link other)
     (cases_Bool (to == own))
 
--- so do messages for the nodes below it
+-- nor do messages for the nodes below it
 untouched : (links : List Link) (own n k : ℕ) (x : Message) → n ≤ k →
     get_or (append_to links (for_others own x n)) k no_link ≡ get_or links k no_link
 untouched links own zero k x below = refl
@@ -55,7 +55,7 @@ untouched links own (suc n) k x below =
     ∙ untouched_by front own n k x other
     ∙ untouched links own n k x less
 
--- one more
+-- one node more
 pub announced-next : (v : LinksView) (own n : ℕ) (x : Message) →
     announced_below v own x (n + 1)
     ≡ record v { links = append_to (announced_below v own x n).links (for_other own x n) }
@@ -64,7 +64,7 @@ announced-next v own n x =
     ∙ ap (λ (ls : List Link). record v { links = ls })
     (append_to-append v.links (for_others own x n) (for_other own x n))
 
--- a message fits where the node has a number left, or is the one that sends it
+-- a message fits if the link to the node has a number left, or the node is the sender
 pub fits-other : (links : List Link) (own to : ℕ) (x : Message) →
     fits (map used links) (for_other own x to)
     ≡ ((to == own) || nat_lt (used (get_or links to no_link)) GREATEST_NUMBER)
@@ -92,7 +92,7 @@ fits-next links own n x =
     ∙ fits-append links (for_others own x n) (for_other own x n)
     ∙ ap (λ (b : Bool). fits (map used links) (for_others own x n) && b) same
 
--- the last one is taken back
+-- the last one is retracted
 pub retracted-announced : (v : LinksView) (own n : ℕ) (x : Message) → IsLinks v →
     (n == own) ≡ false →
     retracted_to (announced_below v own x (n + 1)) n ≡ announced_below v own x n

@@ -1,4 +1,4 @@
--- What `Links` shows after its ends were changed.
+-- The view of `Links` after its ends were changed.
 use Rattle.std.proofs.Common.{◌≡◌, ℕ, zero, suc, ◌+◌, ◌<◌, ◌≤◌, Vec, Global, List, [], ◌∷◌, ◌++◌, length, map, take, drop, replicate, get_or, set, refl, sym, ap, ◌∙◌, subst, arith}
 use Rattle.std.specs.Vec.{with_items}
 use Rattle.std.proofs.lemmas.List.{append-nil, length-map, map-set, get_or_read, take_all, drop_all, with_items_is}
@@ -13,7 +13,7 @@ use Rattle.link.specs.Links.{LinksView, IsLinks, new_links, link_at, got_at, tak
 use Rattle.link.specs.Ends.{sender_of, taken_of, saved_of, view_of, new_ends, kept_ends}
 use Rattle.link.proofs.EveryLink.{links-set, links-taken}
 
--- `e` was read at the place `i` of the ends of links that show `v`, and this is the node's
+-- `e` was read at the place `i` of the ends of links with the view `v`, and belongs to this node
 pub record IsRead (es : List Ends) (v : LinksView) (i node : ℕ) (e : Ends) : Type 0 where
   pub view : view_of es ≡ v
   pub read : e ≡ get_or es i e
@@ -79,7 +79,7 @@ pub sound_written : {es : List Ends} {v : LinksView} {i node : ℕ} {e : Ends} �
 sound_written {v = v} {node = node} r l old here =
     subst IsLinks (sym (sender_written r l)) (links-set v node l (subst IsLinks r.view old) here)
 
--- a message was taken in
+-- a message was received
 pub receiver_taken : {es : List Ends} {v : LinksView} {i node : ℕ} {e : Ends} →
     IsRead es v i node e →
     view_of (set es i (record { sender = e.sender; receiver = taken_next e.receiver }))
@@ -107,7 +107,7 @@ ends_kept (e ∷ es) =
     ap (λ (v : LinksView). record { links = l ∷ v.links; got = n ∷ v.got; acks = n ∷ v.acks })
     (ends_kept es)
 
--- what a loop over all ends wrote, once it is through
+-- what a loop over all ends has written when it ends
 pub all_written : (es : Vec Ends Global) (first now : List Ends) (n : ℕ) → first ≡ es.items →
     now ≡ map kept_ends (take n first) ++ drop n first → length first ≤ n →
     view_of (with_items es now).items ≡ kept_links (view_of es.items)

@@ -1,4 +1,4 @@
--- Each change of the links of a node keeps what is true of all of them.
+-- Each change of the links of a node preserves what holds of all of them.
 use Rattle.std.proofs.Common.{◌≡◌, ℕ, zero, suc, List, [], ◌∷◌, refl, ap, ◌+◌, ◌<◌, ◌≤◌, ◌^◌, get_or, set, sym, ◌∙◌, subst, le_refl, arith}
 use Rattle.std.proofs.lemmas.List.{length-set, length-map, length-replicate}
 use Rattle.std.proofs.Math.ListN.{get_or-map}
@@ -69,7 +69,7 @@ links-kept v old =
       acks = λ i. le_refl _;
     }
 
--- the message that was appended last is taken back
+-- the message that was appended last is retracted
 pub retracted-append_to : (links : List Link) (to : ℕ) (x : Message) →
     (get_or links to no_link).kept ≤ used (get_or links to no_link) →
     let sent = append_to links ((to, x) ∷ []) in

@@ -12,7 +12,7 @@ use Rattle.link.specs.Parts.{link_given, taken_given, links_given, ends_given, I
 use Rattle.link.specs.declared.parts.LinkParts.{LinkParts}
 use Rattle.link.proofs.OneLink.{link-none}
 
--- a look-up in the image of a list, of each of which the fact holds
+-- a look-up in the image of a list, if the fact holds of each element's image
 at_map : {A B : Type 0} (P : B → Type 0) (f : A → B) (xs : List A) (k : ℕ) (d : B) → P d
     → ((i : ℕ) (x : A) → i < length xs → P (f (get_or xs i x))) → P (get_or (map f xs) k d)
 at_map P f [] k d none each = none
@@ -20,7 +20,7 @@ at_map P f (x ∷ xs) zero d none each = each 0 x (omega arith)
 at_map P f (x ∷ xs) (suc k) d none each =
     at_map P f xs k d none (λ i y within. each (suc i) y (omega arith))
 
--- the image of what stands after the first ones
+-- the image of the element after the first ones
 image_after : {A B : Type 0} (f : A → B) (came : List A) (x : A) (others : List A) (d : B)
     → get_or (map f (came ++ x ∷ others)) (length came) d ≡ f x
 image_after f [] x others d = refl
@@ -38,7 +38,7 @@ saved-given : (ps : List LinkParts) → map saved_of (map ends_given ps) ≡ map
 saved-given [] = refl
 saved-given (p ∷ ps) = ap (λ (ks : List ℕ). taken_given p ∷ ks) (saved-given ps)
 
--- the ends show the links
+-- the view of these ends is the links
 pub shown-given : (ps : List LinkParts) → view_of (map ends_given ps) ≡ links_given ps
 shown-given ps = rw (sent-given ps, taken-given ps, saved-given ps)
 
@@ -62,7 +62,7 @@ links-given ps few numbered =
       acks = λ i. le_refl _;
     }
 
--- Parts of which one has too great a number make no links.
+-- If one of the parts has too large a number, they make no links.
 pub numbered_in : (came : List LinkParts) (p : LinkParts) (others ps : List LinkParts)
     → came ++ p ∷ others ≡ ps → IsLinks (links_given ps) → IsNumbered p
 numbered_in came p others ps is links =

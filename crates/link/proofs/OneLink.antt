@@ -1,4 +1,4 @@
--- What becomes of one link.
+-- Changes of one link.
 use Rattle.std.proofs.Common.{◌≡◌, ℕ, ◌+◌, ◌-◌, ◌<◌, ◌≤◌, List, [], ◌∷◌, ◌++◌, length, Ok, ap, ◌∙◌, arith, length-append, length-drop}
 use Rattle.std.proofs.lemmas.Bool.{lt-ltb, cond-true}
 use Rattle.std.proofs.lemmas.Bool.Decides.{nat_tests}
@@ -13,14 +13,14 @@ use Rattle.link.specs.Senders.{IsLink}
 pub used-appended : (l : Link) (x : Message) → used (appended l x) ≡ used l + 1
 used-appended l x = omega (arith, length-append l.unacknowledged (x ∷ []))
 
--- what is let go of still counts as appended
+-- messages that were dropped still count as appended
 pub used-trimmed : (l : Link) (number : ℕ) → used (trimmed l number) ≡ used l
 used-trimmed l number =
     let k = number - l.base in
     let n = length l.unacknowledged in
     omega (arith, length-drop k l.unacknowledged, min-le_left k n, min-le_right k n)
 
--- the message that was appended last is taken back
+-- the message that was appended last is retracted
 pub retracted-appended : (l : Link) (x : Message) → l.kept ≤ used l → retracted (appended l x) ≡ l
 retracted-appended l x h =
     let xs = l.unacknowledged in

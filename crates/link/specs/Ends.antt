@@ -1,4 +1,4 @@
--- How `Links` shows what it is.
+-- How the ends in `Links` are seen as its view.
 use Rattle.std.specs.Prelude.{ℕ, List, map}
 use Rattle.link.specs.declared.links.Ends.{Ends}
 use Rattle.model.specs.View.{Link, no_link, all_kept}

@@ -1,4 +1,4 @@
--- The links that their parts say, all of which count as held by a saved node.
+-- The links with these parts, in which everything counts as held by a saved state.
 use Rattle.std.specs.Prelude.{ℕ, ◌+◌, ◌≤◌, List, length, map}
 use Rattle.ids.specs.declared.limits.TheConstants.{GREATEST_NUMBER}
 use Rattle.msg.specs.declared.body.Message.{Message}
@@ -13,7 +13,7 @@ abbrev pub sent : ℕ → List Message → Link
 sent base messages =
     record { base = base; unacknowledged = messages; kept = base + length messages }
 
--- what was taken in
+-- what was received
 abbrev pub received : ℕ → Received
 received taken = record { taken = taken; saved = taken }
 

@@ -1,4 +1,4 @@
--- What a contract sees of a `Receiver`.
+-- The view of a `Receiver` that contracts use.
 use Rattle.std.specs.Prelude.{ℕ, ◌+◌, ◌≤◌, nat_le, cond, Result, Ok, Err}
 use Rattle.ids.specs.declared.limits.TheConstants.{GREATEST_NUMBER, WINDOW}
 use Rattle.ids.specs.declared.refusal.Refusal.{Refusal}
@@ -6,8 +6,8 @@ use Rattle.ids.specs.declared.refusal.Refusal.TheVariants.{OutOfOrder}
 use Rattle.link.specs.declared.receiver.Offer.{Offer}
 use Rattle.link.specs.declared.receiver.Offer.TheVariants.{Next, Repeat, Early}
 
--- the number of the last message that was taken in, and of the last one that a saved node has taken
--- in
+-- the number of the last message that was received, and of the last one that a saved state has
+-- received
 pub record Received : Type 0 where
   pub taken : ℕ
   pub saved : ℕ
@@ -19,8 +19,8 @@ pub record IsReceived (r : Received) : Type 0 where
 abbrev pub new_received : Received
 new_received = record { taken = 0; saved = 0 }
 
--- A message is a repeat up to the last number that was taken in, then the next one, then early up
--- to the last number of the window, then out of order.
+-- A message is a repeat up to the last number received, then the next one, then early up to the
+-- last number of the window, and out of order after that.
 abbrev pub offered : ℕ → ℕ → Result Offer Refusal
 offered taken number =
     cond (nat_le number taken)

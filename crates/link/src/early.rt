@@ -1,5 +1,5 @@
-//! Messages that came before their turn, in places by their numbers. All room for them is made at
-//! the beginning, so none is refused for want of memory.
+//! Early messages, in places by their numbers. All room for them is allocated at the beginning, so
+//! keeping one never fails.
 ghost use Rattle.std.specs.Prelude.{◌≡◌, ◌<◌, replicate, IfOk, IfErr};
 ghost use Rattle.ids.specs.declared.limits.TheConstants.{WINDOW};
 ghost use Rattle.ids.specs.declared.refusal.Refusal.TheVariants.{Memory};
@@ -11,9 +11,9 @@ use msg::Data;
 use std::alloc::Global;
 use std::marker::Model;
 
-/// The frames of one node's messages that came before their turn: [`WINDOW`] places, each with a
-/// frame or none. The first place is that of the message that is to be taken in next, and the others
-/// are those of the messages after it. Only to make it takes memory.
+/// The frames of one node's early messages: [`WINDOW`] places, each with a frame or empty. The
+/// first place is that of the message to be received next, and the others are those of the messages
+/// after it. Only making it allocates memory.
 #[derive(Drop)]
 pub struct EarlyFrames {
     places: HeapCircularBuffer<Option<Data>, Global>,
@@ -32,7 +32,8 @@ impl Model for EarlyFrames {
 }
 
 impl EarlyFrames {
-    /// No frame in any place. [`Refusal::Memory`] where the room for them was refused.
+    /// Makes empty places. It fails with [`Refusal::Memory`] if the room for them can't be
+    /// allocated.
     pub fn new(alloc: Global) -> Result<EarlyFrames, Refusal>
         ensures made { IfOk result (λ e. e ≡ no_early) }
         ensures refused { IfErr result (λ e. e ≡ Memory) }
@@ -42,7 +43,7 @@ impl EarlyFrames {
         Ok(EarlyFrames { places })
     }
 
-    /// The same for each node of a space of so many nodes.
+    /// The same for each node of a space of `width` nodes.
     pub fn for_nodes(alloc: Global, width: u8) -> Result<Vec<EarlyFrames>, Refusal>
         ensures made { IfOk result (λ v. v.items ≡ replicate width no_early) }
         ensures refused { IfErr result (λ e. e ≡ Memory) }
@@ -54,7 +55,7 @@ impl EarlyFrames {
         Ok(by_node)
     }
 
-    /// The frame in this place; none past the last one.
+    /// The frame in this place; `None` past the last place.
     #[tactic(auto, using(crate::proofs::Places::flat_read))]
     pub fn at(&self, place: usize) -> Option<Data>
         ensures { result ≡ place_at self.now place }
@@ -62,7 +63,7 @@ impl EarlyFrames {
         self.places.get(place).copied().flatten()
     }
 
-    /// Puts a frame into its place. One that stands there already stays.
+    /// Puts a frame into its place. If a frame is there already, that one stays.
     #[tactic(auto, using(crate::proofs::Places::set_none))]
     pub fn put(&mut self, place: usize, frame: Data)
         ensures { self.new ≡ placed self.old place frame }
@@ -75,7 +76,8 @@ impl EarlyFrames {
         }
     }
 
-    /// Drops the first place, and adds an empty one at the end: the next message was taken in.
+    /// Removes the first place and adds an empty one at the end, after the next message was
+    /// received.
     pub fn shift(&mut self)
         ensures { self.new ≡ shifted self.old }
     {

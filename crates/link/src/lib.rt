@@ -1,7 +1,7 @@
-//! The two ends of a link, the messages from one node to another: its [`Sender`] numbers messages
-//! from 1 and keeps those that aren't acknowledged, its [`Receiver`] takes them in strictly in
-//! order and each once. [`Links`] has the ends that one node holds. [`EarlyFrames`] keeps what came
-//! before its turn.
+//! The two ends of a link, which carries the messages from one node to another. Its [`Sender`]
+//! numbers messages from 1 and keeps those that aren't acknowledged. Its [`Receiver`] receives them
+//! strictly in order and each once. [`Links`] has the ends that one node holds. [`EarlyFrames`]
+//! keeps early messages.
 #![tactic(auto)]
 
 mod early;

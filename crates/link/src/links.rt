@@ -1,5 +1,5 @@
 //! Both ends of the links between a node and each node, found by number. A message for all others
-//! is appended for each of them or for none.
+//! is appended for all of them or for none.
 ghost use Rattle.std.specs.Prelude.{◌≡◌, ◌≢◌, ◌+◌, ◌<◌, ◌≤◌, true, false, length, map, slice_index_or, ◌↔◌, IsSome, IfSome, IfOk, IfErr, OnOk, OnErr};
 ghost use Rattle.ids.specs.declared.limits.TheConstants.{GREATEST_NUMBER};
 ghost use Rattle.ids.specs.declared.refusal.Refusal.TheVariants.{AckBeyond, LinkSpent, Memory};
@@ -19,8 +19,8 @@ use msg::Message;
 use std::alloc::Global;
 use std::marker::Model;
 
-/// The ends that a node holds of the two links between it and one node: that of its messages to
-/// there, and that of the messages from there.
+/// The ends that a node holds of the two links between it and another node: the sending end and the
+/// receiving end.
 #[derive(Drop)]
 pub(crate) struct Ends {
     sender: Sender,
@@ -28,7 +28,7 @@ pub(crate) struct Ends {
 }
 
 impl Ends {
-    /// The ends of these parts. None where one of the numbers is too great.
+    /// Makes the ends of these parts. `None` if one of the numbers is too large.
     pub(crate) fn from_parts(parts: LinkParts) -> Option<Ends>
         ensures numbered { IsSome result ↔ IsNumbered parts }
         ensures made { IfSome result (λ e. e ≡ ends_given parts) }
@@ -61,15 +61,15 @@ impl Ends {
     }
 }
 
-/// What a node holds of the links between it and each node of its space, itself among them: for
-/// each a [`Sender`] and a [`Receiver`]. A call names a node by its number, which is to be below
-/// the width, and finds its ends by that number alone. Room that was made for messages is kept for
-/// later ones.
+/// What a node holds of the links between it and each node of its space, including itself: a
+/// [`Sender`] and a [`Receiver`] for each. A call names a node by its number, which has to be below
+/// the width, and uses that node's ends only. Room once allocated for messages is kept for later
+/// ones.
 pub struct Links {
     pub(crate) by_node: Vec<Ends>,
 }
 
-// Written out, so that the crates above need not prove anew how each field is dropped.
+// Written out, so that the crates above don't have to prove again how each field is dropped.
 impl Drop for Links {
     fn drop(self) {
         let Links { by_node: _ } = self;
@@ -89,8 +89,8 @@ impl Model for Links {
 }
 
 impl Links {
-    /// The links of a node that has sent nothing and taken in nothing, in a space of so many nodes.
-    /// [`Refusal::Memory`] where a growth was refused.
+    /// Makes the links of a node that has sent and received nothing, in a space of `width` nodes.
+    /// It fails with [`Refusal::Memory`] if an allocation fails.
     pub fn new(alloc: Global, width: u8) -> Result<Links, Refusal>
         ensures made { IfOk result (λ l. l ≡ new_links width) }
         ensures refused { IfErr result (λ e. e ≡ Memory) }
@@ -102,7 +102,7 @@ impl Links {
         Ok(Links { by_node })
     }
 
-    /// How many nodes the space has.
+    /// The number of nodes of the space.
     pub fn width(&self) -> u8
         ensures value { result ≡ length self.now.links }
         ensures sound { IsLinks self.now }
@@ -110,10 +110,10 @@ impl Links {
         self.by_node.len() as u8
     }
 
-    /// Appends a message for the node `to`, and gives its number. [`Refusal::LinkSpent`] where that
-    /// link has no number left; where it has one, [`Refusal::Memory`] where a growth was refused.
-    /// The links are then as they were. A growth moves all messages that are kept for that node,
-    /// and doubles the room for them.
+    /// Appends a message for the node `to`, and returns its number. It fails with
+    /// [`Refusal::LinkSpent`] if that link has no number left, and otherwise with
+    /// [`Refusal::Memory`] if an allocation fails. The links are then as they were. An allocation
+    /// moves all messages that are kept for that node, and doubles the room for them.
     pub fn append(&mut self, to: u8, message: Message) -> Result<u64, Refusal>
         requires { to < length self.old.links }
         ensures fits { OnOk result (fits_to self.old to message ≡ true) }
@@ -128,9 +128,9 @@ impl Links {
         self.by_node[usize::from(to)].sender.append(message)
     }
 
-    /// Appends the same message for every node but `own`, in ascending order: for all of them or
-    /// for none. [`Refusal::LinkSpent`] where one of their links has no number left; where all have
-    /// one, [`Refusal::Memory`] where a growth was refused. The links are then as they were.
+    /// Appends the same message for every node except `own`, in ascending order: for all of them or
+    /// for none. It fails with [`Refusal::LinkSpent`] if one of their links has no number left, and
+    /// otherwise with [`Refusal::Memory`] if an allocation fails. The links are then as they were.
     pub fn announce(&mut self, own: u8, message: Message) -> Result<(), Refusal>
         ensures fits { OnOk result (fits_others self.old own message ≡ true) }
         ensures done { OnOk result (self.new ≡ announced self.old own message) }
@@ -153,7 +153,7 @@ impl Links {
         Ok(())
     }
 
-    // Whether every node but `own` has a number left.
+    // Whether the link to every node except `own` has a number left.
     fn fits_others(&self, own: u8) -> bool
         ensures value { (x : Message) → result ≡ fits_others self.now own x }
         ensures sound { IsLinks self.now }
@@ -165,7 +165,7 @@ impl Links {
         fits
     }
 
-    // Whether a node has a number left, or is `own`.
+    // Whether the link to a node has a number left, or the node is `own`.
     fn fits_other(&self, own: u8, to: u8) -> bool
         requires { to < length self.now.links }
         ensures { (x : Message) → result ≡ fits (map used self.now.links) (for_other own x to) }
@@ -188,7 +188,7 @@ impl Links {
         Ok(())
     }
 
-    // Takes back what was announced last to the nodes below a number.
+    // Retracts what was announced last to the nodes below a number.
     fn retract_others(&mut self, own: u8, below: u8)
         requires { below ≤ length self.old.links }
         ensures { (v : LinksView) (x : Message) → IsLinks v
@@ -203,9 +203,9 @@ impl Links {
         }
     }
 
-    /// Takes back the message that was appended last for the node `to`, if no saved node holds it;
-    /// else it changes nothing. After [`Links::append`] it leaves the links as they were before. It
-    /// takes no memory.
+    /// Retracts the message that was appended last for the node `to`, if no saved state holds it;
+    /// otherwise nothing changes. After [`Links::append`] it restores the links as they were
+    /// before. It allocates nothing.
     pub fn retract(&mut self, to: u8)
         requires { to < length self.old.links }
         ensures done { self.new ≡ retracted_to self.old to }
@@ -214,10 +214,10 @@ impl Links {
         self.by_node[usize::from(to)].sender.retract();
     }
 
-    /// Lets go of the messages to the node `from` up to this number, which that node acknowledged.
-    /// A smaller number than before changes nothing. [`Refusal::AckBeyond`] where it is above what
-    /// was released; the links are then as they were. It takes no memory, and time for each message
-    /// that is let go of.
+    /// Drops the messages to the node `from` up to this number, which that node acknowledged. A
+    /// smaller number than before changes nothing. It fails with [`Refusal::AckBeyond`] if the
+    /// number is above the last one released; the links are then as they were. It allocates
+    /// nothing, and takes time linear in the number of messages dropped.
     pub fn trim(&mut self, from: u8, number: u64) -> Result<(), Refusal>
         requires { from < length self.old.links }
         ensures released { OnOk result (number ≤ (link_at self.old from).kept) }
@@ -230,9 +230,9 @@ impl Links {
         self.by_node[usize::from(from)].sender.trim(number)
     }
 
-    /// What the message of this number from the node `from` is: the next one, a repeat, which is
-    /// one that was taken in before, or an early one. [`Refusal::OutOfOrder`] where it is ahead of
-    /// the next one by the window or more.
+    /// Classifies the message with this number from the node `from`. It is the next one, a repeat,
+    /// which was received before, or an early one. It fails with [`Refusal::OutOfOrder`] if the
+    /// message is ahead of the next one by the window or more.
     pub fn offer(&self, from: u8, number: u64) -> Result<Offer, Refusal>
         requires { from < length self.now.links }
         ensures { result ≡ offered (got_at self.now from) number }
@@ -240,8 +240,8 @@ impl Links {
         self.by_node[usize::from(from)].receiver.offer(number)
     }
 
-    /// Counts the next message from the node `from` as taken in. It is called where
-    /// [`Links::offer`] has answered [`Offer::Next`] for a number that a frame can have, which is
+    /// Counts the next message from the node `from` as received. To be called after
+    /// [`Links::offer`] has returned [`Offer::Next`] for a number that a frame can have, which is
     /// at most [`GREATEST_NUMBER`](ids::GREATEST_NUMBER).
     pub fn take_next(&mut self, from: u8)
         requires there { from < length self.old.links }
@@ -252,7 +252,7 @@ impl Links {
         self.by_node[usize::from(from)].receiver.take_next();
     }
 
-    /// The number of the message from the node `from` that was taken in last; 0 where none was.
+    /// The number of the last message received from the node `from`; 0 if there was none.
     pub fn taken(&self, from: u8) -> u64
         requires { from < length self.now.links }
         ensures { result ≡ got_at self.now from }
@@ -260,7 +260,7 @@ impl Links {
         self.by_node[usize::from(from)].receiver.taken()
     }
 
-    /// How many messages were ever appended for the node `to`: the number of the last one.
+    /// The number of messages ever appended for the node `to`, which is the number of the last one.
     pub fn used(&self, to: u8) -> u64
         requires { to < length self.now.links }
         ensures value { result ≡ used (link_at self.now to) }
@@ -270,7 +270,7 @@ impl Links {
         self.by_node[usize::from(to)].sender.used()
     }
 
-    /// The highest number that the node `to` acknowledged; 0 where it acknowledged none.
+    /// The highest number that the node `to` has acknowledged; 0 if it has acknowledged none.
     pub fn base(&self, to: u8) -> u64
         requires { to < length self.now.links }
         ensures { result ≡ (link_at self.now to).base }
@@ -278,7 +278,8 @@ impl Links {
         self.by_node[usize::from(to)].sender.base()
     }
 
-    /// How many messages for the node `to` were released: the number of the last one.
+    /// The number of messages for the node `to` that were released, which is the number of the last
+    /// one.
     pub fn released(&self, to: u8) -> u64
         requires { to < length self.now.links }
         ensures { result ≡ (link_at self.now to).kept }
@@ -286,8 +287,8 @@ impl Links {
         self.by_node[usize::from(to)].sender.released()
     }
 
-    /// The message of this number for the node `to`, released or not; None where none was appended
-    /// under it, or it was let go of.
+    /// The message with this number for the node `to`, released or not. `None` if none was appended
+    /// under that number, or if it was dropped.
     pub fn message(&self, to: u8, number: u64) -> Option<Message>
         requires { to < length self.now.links }
         ensures value { result ≡ message_of (link_at self.now to) number }
@@ -296,9 +297,9 @@ impl Links {
         self.by_node[usize::from(to)].sender.message(number)
     }
 
-    /// The message for the node `to` in this place of its window, which has [`WINDOW`](ids::WINDOW)
-    /// places and shows released messages alone: in the first place is the one after the last
-    /// acknowledged.
+    /// The message in this place of the window to the node `to`. The window has
+    /// [`WINDOW`](ids::WINDOW) places and shows only released messages: in the first place is the
+    /// one after the last acknowledged one.
     pub fn window(&self, to: u8, place: u8) -> Option<Message>
         requires { to < length self.now.links }
         ensures value { result ≡ released_at (link_at self.now to) place }
@@ -308,8 +309,8 @@ impl Links {
         self.by_node[usize::from(to)].sender.window(place)
     }
 
-    /// The number up to which a saved node has taken in the messages from the node `from`: so many
-    /// may be acknowledged.
+    /// The number up to which a saved state has received the messages from the node `from`; they
+    /// may be acknowledged up to it.
     pub fn ack_number(&self, from: u8) -> u64
         requires { from < length self.now.links }
         ensures value { result ≡ ack_at self.now from }
@@ -318,9 +319,9 @@ impl Links {
         self.by_node[usize::from(from)].receiver.ack_number()
     }
 
-    /// Counts every message, and all that was taken in, as held by a saved node. It is called after
-    /// a save: it releases the messages, and what was taken in may be acknowledged. It takes time
-    /// for each node, and none for their messages.
+    /// Marks every message, and everything received, as held by a saved state. To be called after a
+    /// save: it releases the messages, and what was received may be acknowledged. It takes time
+    /// linear in the number of nodes, whatever the number of messages.
     pub fn kept(&mut self)
         ensures done { self.new ≡ kept_links self.old }
         ensures sound { IsLinks self.new }

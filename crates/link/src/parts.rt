@@ -1,5 +1,5 @@
-//! The ends of links made from their parts. All messages of such ends count as released, and all
-//! that was taken in may be acknowledged, as after a save.
+//! Makes the ends of links from their parts. As after a save, all messages of such ends count as
+//! released, and everything received may be acknowledged.
 ghost use Rattle.std.specs.Prelude.{◌≡◌, ◌≢◌, ◌+◌, ◌≤◌, ◌↔◌, length, IsSome, IfSome, IfOk, IfErr, OnOk};
 ghost use Rattle.ids.specs.declared.limits.TheConstants.{GREATEST_NUMBER};
 ghost use Rattle.ids.specs.declared.refusal.Refusal.TheVariants.{BadImage, Memory};
@@ -19,20 +19,20 @@ pub struct LinkParts {
     pub base: u64,
     /// The messages to the node after that one, the first one first.
     pub messages: VecDeque<Message>,
-    /// The number of the last message from the node that was taken in.
+    /// The number of the last message received from the node.
     pub taken: u64,
 }
 
 impl Links {
-    /// The links of a saved node: for each node of its space, itself among them, what it holds of
-    /// those between it and that node, in order of the nodes' numbers. All of it counts as held by
-    /// a saved node: the messages as released, and what was taken in as acknowledged. It takes time
-    /// for each node, and none for the messages.
+    /// Makes the links of a saved node. For each node of its space, including itself, `parts` has
+    /// what it holds of the links to and from that node, in order of the nodes' numbers. All of it
+    /// counts as held by a saved state: the messages as released, and what was received as
+    /// acknowledged. It takes time linear in the number of nodes, whatever the number of messages.
     ///
-    /// It answers [`Refusal::BadImage`] where there are more nodes than their numbers allow, or a
-    /// message or what was taken in has a number above
-    /// [`GREATEST_NUMBER`](ids::GREATEST_NUMBER); and [`Refusal::Memory`] where there was no memory
-    /// for the links, whatever they are. Parts that are refused are dropped.
+    /// It fails with [`Refusal::BadImage`] if there are more nodes than their numbers allow, or if
+    /// a message or what was received has a number above [`GREATEST_NUMBER`](ids::GREATEST_NUMBER).
+    /// It fails with [`Refusal::Memory`] if there is no memory for the links, whatever the parts
+    /// are. Parts that are refused are dropped.
     pub fn from_parts(alloc: Global, parts: Vec<LinkParts>) -> Result<Links, Refusal>
         ensures made { IfOk result (λ l. l ≡ links_given parts.items) }
         ensures sound { OnOk result (IsLinks (links_given parts.items)) }

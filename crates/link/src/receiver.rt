@@ -1,5 +1,5 @@
-//! The receiving end of a link: how much was taken in, and how much of that is saved. Two numbers
-//! tell it, since messages are taken in strictly in order.
+//! The receiving end of a link: how much was received, and how much of that is saved. Two numbers
+//! suffice, since messages are received strictly in order.
 ghost use Rattle.std.specs.Prelude.{◌≡◌, ◌+◌, ◌<◌, ◌≤◌, ◌↔◌, IsSome, IfSome};
 ghost use Rattle.ids.specs.declared.limits.TheConstants.{GREATEST_NUMBER};
 ghost use Rattle.link.specs.Receivers.{IsReceived, new_received, offered, taken_next, all_saved};
@@ -8,19 +8,18 @@ ghost use Rattle.link.specs.Parts.{received};
 use ids::{GREATEST_NUMBER, Refusal, WINDOW};
 use std::marker::Model;
 
-/// What a message that is offered is to its receiver.
+/// What an offered message is to its receiver.
 #[derive(Clone, Copy, Debug, PartialEq, Eq)]
 pub enum Offer {
     /// The next one of the link.
     Next,
-    /// One that was taken in before.
+    /// A message that was received before.
     Repeat,
-    /// One that comes before its turn, by less than the window.
+    /// A message ahead of the next one, by less than the window.
     Early,
 }
 
-/// How much a node has taken in of the messages of another one, and how much of that a saved node
-/// holds.
+/// How many messages of another node a node has received, and how many of them a saved state holds.
 #[derive(Clone, Copy)]
 pub struct Receiver {
     taken: u64,
@@ -40,15 +39,15 @@ impl Model for Receiver {
 }
 
 impl Receiver {
-    /// A receiver that has taken in nothing.
+    /// Makes a receiver that has received nothing.
     pub fn new() -> Receiver
         ensures { result ≡ new_received }
     {
         Receiver { taken: 0, saved: 0 }
     }
 
-    /// A receiver that has taken in the messages up to this number, all of which may be
-    /// acknowledged. None where the number is above [`GREATEST_NUMBER`].
+    /// Makes a receiver that has received the messages up to this number, all of which may be
+    /// acknowledged. `None` if the number is above [`GREATEST_NUMBER`].
     pub fn from_parts(taken: u64) -> Option<Receiver>
         ensures numbered { IsSome result ↔ (taken ≤ GREATEST_NUMBER) }
         ensures made { IfSome result (λ r. r ≡ received taken) }
@@ -62,9 +61,10 @@ impl Receiver {
         })
     }
 
-    /// What the message of this number is: the next one; a repeat, which is one that was taken in
-    /// before; or an early one, which is one of the [`WINDOW`] next, but not the first of them.
-    /// [`Refusal::OutOfOrder`] where it is a later one. It takes no memory, and changes nothing.
+    /// Classifies the message with this number. It is the next one, a repeat, which was received
+    /// before, or an early one, which is one of the next [`WINDOW`] other than the first. It fails
+    /// with [`Refusal::OutOfOrder`] if the message is a later one. It allocates nothing and changes
+    /// nothing.
     pub fn offer(&self, number: u64) -> Result<Offer, Refusal>
         ensures { result ≡ offered self.now.taken number }
     {
@@ -79,7 +79,7 @@ impl Receiver {
         }
     }
 
-    /// Counts the next message as taken in. It is called where [`Receiver::offer`] has answered
+    /// Counts the next message as received. To be called after [`Receiver::offer`] has returned
     /// [`Offer::Next`] for a number that a frame can have, which is at most
     /// [`GREATEST_NUMBER`](ids::GREATEST_NUMBER).
     pub fn take_next(&mut self)
@@ -89,14 +89,15 @@ impl Receiver {
         self.taken += 1;
     }
 
-    /// The number of the message that was taken in last; 0 where none was.
+    /// The number of the last message received; 0 if there was none.
     pub fn taken(&self) -> u64
         ensures { result ≡ self.now.taken }
     {
         self.taken
     }
 
-    /// The number up to which a saved node has taken in the messages: so many may be acknowledged.
+    /// The number up to which a saved state has received the messages; they may be acknowledged up
+    /// to it.
     pub fn ack_number(&self) -> u64
         ensures value { result ≡ self.now.saved }
         ensures within { result ≤ GREATEST_NUMBER }
@@ -104,7 +105,7 @@ impl Receiver {
         self.saved
     }
 
-    /// Counts all that was taken in as held by a saved node. It is called after a save.
+    /// Marks everything received as held by a saved state. To be called after a save.
     pub fn kept(&mut self)
         ensures { self.new ≡ all_saved self.old }
     {

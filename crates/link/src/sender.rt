@@ -1,4 +1,4 @@
-//! The sending end of a link: the messages that aren't acknowledged yet. Those that a saved node
+//! The sending end of a link: the messages that aren't acknowledged yet. Those that a saved state
 //! holds are released, and no restart takes them back.
 ghost use Rattle.std.specs.Prelude.{◌≡◌, ◌≢◌, ◌<◌, ◌≤◌, ◌+◌, ◌↔◌, length, IsSome, IfSome, IfOk, IfErr, OnOk, OnErr};
 ghost use Rattle.ids.specs.declared.limits.TheConstants.{GREATEST_NUMBER};
@@ -13,8 +13,8 @@ use std::alloc::Global;
 use std::collections::VecDeque;
 use std::marker::Model;
 
-/// What a node keeps of its messages to another one: how many were acknowledged, the messages after
-/// those, first one first, and how many of all messages a saved node holds.
+/// A node's end for its messages to another one: how many were acknowledged, the messages after
+/// those, first one first, and how many of all messages a saved state holds.
 #[derive(Drop)]
 pub struct Sender {
     base: u64,
@@ -37,7 +37,7 @@ impl Model for Sender {
 }
 
 impl Sender {
-    /// A sender that has sent nothing.
+    /// Makes a sender that has sent nothing.
     pub fn new(alloc: Global) -> Sender
         ensures { result ≡ no_link }
     {
@@ -48,9 +48,9 @@ impl Sender {
         }
     }
 
-    /// A sender whose messages up to the number `base` were acknowledged, with the messages after
-    /// it, the first one first. All of them count as released. None where the number of the last
-    /// one is above [`GREATEST_NUMBER`]; the messages are then dropped.
+    /// Makes a sender whose messages up to the number `base` were acknowledged, with the messages
+    /// after it, the first one first. All of them count as released. `None` if the number of the
+    /// last one is above [`GREATEST_NUMBER`]; the messages are then dropped.
     pub fn from_parts(base: u64, messages: VecDeque<Message>) -> Option<Sender>
         ensures numbered { IsSome result ↔ (base + length messages.items ≤ GREATEST_NUMBER) }
         ensures made { IfSome result (λ s. s ≡ sent base messages.items) }
@@ -66,7 +66,7 @@ impl Sender {
         })
     }
 
-    /// How many messages were ever appended: the number of the last one.
+    /// The number of messages ever appended, which is the number of the last one.
     pub fn used(&self) -> u64
         ensures value { result ≡ used self.now }
         ensures within { result ≤ GREATEST_NUMBER }
@@ -74,23 +74,24 @@ impl Sender {
         self.base + self.unacknowledged.len() as u64
     }
 
-    /// The highest number that was acknowledged; 0 where none was.
+    /// The highest number that was acknowledged; 0 if none was.
     pub fn base(&self) -> u64
         ensures { result ≡ self.now.base }
     {
         self.base
     }
 
-    /// How many messages were released, which are those that a saved node holds: the number of the
-    /// last one.
+    /// The number of messages that were released, which are those that a saved state holds. It is
+    /// the number of the last one.
     pub fn released(&self) -> u64
         ensures { result ≡ self.now.kept }
     {
         self.kept
     }
 
-    /// Appends a message, and gives its number. [`Refusal::LinkSpent`] where no number is left;
-    /// where one is, [`Refusal::Memory`] where a growth was refused. The sender is then as it was.
+    /// Appends a message, and returns its number. It fails with [`Refusal::LinkSpent`] if no number
+    /// is left, and otherwise with [`Refusal::Memory`] if an allocation fails. The sender is then
+    /// as it was.
     pub fn append(&mut self, message: Message) -> Result<u64, Refusal>
         ensures room { OnOk result (used self.old < GREATEST_NUMBER) }
         ensures done { OnOk result (self.new ≡ appended self.old message) }
@@ -109,8 +110,8 @@ impl Sender {
         Ok(number + 1)
     }
 
-    /// Takes back the message that was appended last, if no saved node holds it. It takes no
-    /// memory.
+    /// Retracts the message that was appended last, if no saved state holds it. It allocates
+    /// nothing.
     pub fn retract(&mut self)
         ensures done { self.new ≡ retracted self.old }
         ensures sound { IsLink self.new }
@@ -120,9 +121,10 @@ impl Sender {
         }
     }
 
-    /// Lets go of the messages up to this number, which was acknowledged. A smaller number than
-    /// before changes nothing. [`Refusal::AckBeyond`] where it is above what was released; the
-    /// sender is then as it was. It takes no memory, and time for each message that is let go of.
+    /// Drops the messages up to this number, which was acknowledged. A smaller number than before
+    /// changes nothing. It fails with [`Refusal::AckBeyond`] if the number is above the last one
+    /// released; the sender is then as it was. It allocates nothing, and takes time linear in the
+    /// number of messages dropped.
     pub fn trim(&mut self, number: u64) -> Result<(), Refusal>
         ensures released { OnOk result (number ≤ self.old.kept) }
         ensures done { OnOk result (self.new ≡ trimmed self.old number) }
@@ -140,15 +142,16 @@ impl Sender {
         Ok(())
     }
 
-    /// Counts every message as held by a saved node. It is called after a save, and releases them.
+    /// Marks every message as held by a saved state, which releases them. To be called after a
+    /// save.
     pub fn kept(&mut self)
         ensures { self.new ≡ all_kept self.old }
     {
         self.kept = self.used();
     }
 
-    /// The message of this number, released or not; None where none was appended under it, or it
-    /// was let go of.
+    /// The message with this number, released or not. `None` if none was appended under that
+    /// number, or if it was dropped.
     pub fn message(&self, number: u64) -> Option<Message>
         ensures value { result ≡ message_of self.now number }
         ensures within { IfSome result (λ _. number ≤ GREATEST_NUMBER) }
@@ -160,8 +163,8 @@ impl Sender {
         self.unacknowledged.get(place as usize).copied()
     }
 
-    /// The message in this place of the window, which has [`WINDOW`] places and shows released
-    /// messages alone: in the first place is the one after the last acknowledged.
+    /// The message in this place of the window. The window has [`WINDOW`] places and shows only
+    /// released messages: in the first place is the one after the last acknowledged one.
     pub fn window(&self, place: u8) -> Option<Message>
         ensures value { result ≡ released_at self.now place }
         ensures within { IfSome result (λ _. self.now.base + 1 + place ≤ GREATEST_NUMBER) }

@@ -13,13 +13,13 @@ use Rattle.safra.specs.Balances.{IsBounded}
 use Rattle.safra.proofs.Bounds.{bounded_more}
 use Rattle.node.specs.Invariant.{IsBalanced, IsNode, links_of, number_sum}
 
--- a sum of terms that have a bound has one
+-- the bound of a sum from the bound of its terms
 sum_by-bound : {X : Type 0} (f : X → ℕ) (most : ℕ) (xs : List X) (d : X) →
     ((i : ℕ) → f (get_or xs i d) ≤ most) → sum_by f xs ≤ length xs * most
 sum_by-bound f most xs d h =
     sum_by-le f most xs (All-from_get_or (λ x. f x ≤ most) xs d (λ i _. h i))
 
--- a change that a function doesn't see leaves its sum
+-- a sum is unchanged if no term changes
 sum_by-same : {X : Type 0} (f : X → ℕ) (g : X → X) (xs : List X) →
     ((x : X) → f (g x) ≡ f x) → sum_by f (map g xs) ≡ sum_by f xs
 sum_by-same f g xs h = sym (sum-map f (map g xs)) ∙ ap sum (seen f g xs h) ∙ sum-map f xs where
@@ -54,7 +54,7 @@ balance-trimmed r links got from number h inside =
     omega (arith, same, used-trimmed l number) in
     e) h
 
--- a ring of other colour and token
+-- a ring with another colour and token
 pub bounded-same : (most : ℕ) (q r : Ring) → q.earlier ≡ r.earlier → q.recent ≡ r.recent
     → IsBounded most r → IsBounded most q
 bounded-same most q r a b h = record {
@@ -64,7 +64,7 @@ bounded-same most q r a b h = record {
   negated = rw (a, b) h.negated;
 }
 
--- ---- as the code has it: the balances are far from the ends of their type
+-- ---- in the form of the code: the balances are far from the ends of their type
 
 -- all messages of a node together
 pub number-few : (l : LinksView) → IsLinks l → length l.links ≤ GREATEST_NODES

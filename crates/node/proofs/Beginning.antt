@@ -41,7 +41,7 @@ use Rattle.node.proofs.Appended.{MaySend, both-may, linked-appended, linked-late
 use Rattle.node.proofs.Balances.{bounded-same}
 use Rattle.node.proofs.Events.{after_step, answered, guarded-never, okay, shading_refused, test_refused, with_parts}
 
--- ---- what the event does
+-- ---- the effect of the event
 
 -- what programs hold is shaded in the new cycle
 abbrev root_list : LocalState → List Ref
@@ -144,7 +144,7 @@ module _ (n : NodeView) where
 
 -- ---- its messages
 
--- what the code leaves of each part
+-- each part after the code has run
 pub record Begun (n : NodeView) (cycle : ℕ) (h : Heap) (asked : List Ref) (p : Phases) (r : Ring)
     (l : LinksView) : Type 0 where
   pub heap : h ≡ make_all_grey n.local.own cycle n.local.heap (root_list n.local)
@@ -241,7 +241,7 @@ module _ (n : NodeView) (cycle : ℕ) (next : cycle ≡ n.local.phases.cycle + 1
         (others-may s own cycle begin
         (record { stamp = within; references = tt; place = tt }) (le_refl cycle)))
 
-    -- the cycle before has ended here
+    -- marking of the cycle before has ended here
     done-before : IsNode n → n.local.phases.ended ≡ n.local.phases.cycle
     done-before old =
         let p : Phases = n.local.phases in
@@ -311,7 +311,7 @@ module _ (n : NodeView) (cycle : ℕ) (next : cycle ≡ n.local.phases.cycle + 1
               marked);
         })))))
 
--- ---- as the code has it
+-- ---- in the form of the code
 
 -- what programs hold are references to nodes of the space
 pub root-nodes : (n : NodeView) → IsNode n
@@ -323,7 +323,7 @@ root-nodes n old =
     (nodes-within n.local.shape (root_list n.local)
     (holds-roots (IsWithin n.local.shape) n.local.heap old.references))
 
--- the token got a number, and then whether the others do
+-- the token got a number; what is left is whether the others get one
 module _ (v l : LinksView) (own cycle last : ℕ) (token : Token)
     (last-is : last ≡ length v.links - 1) where
   abbrev told : Message

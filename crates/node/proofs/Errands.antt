@@ -1,4 +1,4 @@
--- What is sent for a message: Marks first, and then what it is answered.
+-- What is sent for a message: Marks first, and then the answer.
 use Rattle.std.proofs.Common.{◌≡◌, ℕ, Bool, true, false, not, List, [], ◌∷◌, ◌++◌, map, Option, Some, None, refl, ap, sym, ◌∙◌, subst, append-nil}
 use Rattle.std.proofs.lemmas.Bool.{cond-true}
 use Rattle.ids.specs.declared.names.Ref.{Ref}
@@ -47,7 +47,7 @@ module _ (before new : List Ref) (cycle to : ℕ) (m : Met) (was : LinksView) (a
     marks-are : marks_for cycle new ≡ marks_due cycle m new
     marks-are = sym (cond-true m.asks (marks_for cycle new) [] asks)
 
-    -- nothing was answered
+    -- without an answer
     pub asked-alone : (reply : Option Message) → reply ≡ None
         → AreSent before new was (due cycle m new to reply) asked links
     asked-alone reply none =
@@ -79,7 +79,7 @@ module _ (before new : List Ref) (cycle to : ℕ) (m : Met) (was : LinksView) (a
         ap (fits (map used was.links)) (sym (due-is reply x some))
         ∙ spent-after (marks_for cycle new) ((to, x) ∷ []) first full
 
--- ---- what a node sends that joins
+-- ---- what a node sends when it joins
 
 module _ (own cycle to : ℕ) (m : Met) (reply : Option Message) (was mid : LinksView)
     (first known : List Ref) (is : IsAsked [] first cycle was known mid)
@@ -111,7 +111,7 @@ module _ (own cycle to : ℕ) (m : Met) (reply : Option Message) (was mid : Link
         fits (map used mid.links) (due cycle m (sought own k m) to reply) ≡ false)
         is.keys full)
 
-    -- where nothing came of the rest
+    -- if the rest had no effect
     pub asked-kept : (asked : List Ref) (after : LinksView) → asked ≡ known → after ≡ mid
         → IsAsked [] first cycle was asked after
     asked-kept asked after keys same =

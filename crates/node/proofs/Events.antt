@@ -1,4 +1,4 @@
--- What the definitions make of an event at a node as it stands, by its tests and its messages.
+-- The effect of an event on a node by the definitions, from its tests and its messages.
 use Rattle.std.proofs.Common.{◌≡◌, ◌≢◌, ℕ, Bool, true, false, List, [], ◌∷◌, ◌++◌, map, Result, Ok, Err, ap, refl, sym, ◌∙◌, subst}
 use Rattle.std.specs.List.{AllByRecursion}
 use Rattle.ids.specs.declared.names.Ref.{Ref}
@@ -18,23 +18,23 @@ use Rattle.node.specs.Invariant.{links_of}
 
 -- ---- lists of tests
 
--- the first test that fails is the same where more tests follow
+-- more tests behind the first one that fails don't change the outcome
 guarded-err : {A B : Type 0} (cs ds : List (Bool × Refusal)) (x : A) (y : B) (e : Refusal)
     → guarded cs x ≡ Err e → guarded (cs ++ ds) y ≡ Err e
 guarded-err [] ds x y e h = absurd cc
 guarded-err ((true, r) ∷ cs) ds x y e h = guarded-err cs ds x y e h
 guarded-err ((false, r) ∷ cs) ds x y e h = cc
 
--- what no test refuses never is
+-- a refusal that no test gives never occurs
 pub guarded-never : {A : Type 0} (cs : List (Bool × Refusal)) (x : A) (k : Refusal)
     → AllByRecursion (λ c. c.1 ≢ k) cs → guarded cs x ≢ Err k
 guarded-never [] x k others h = absurd cc
 guarded-never ((true, r) ∷ cs) x k others h = guarded-never cs x k others.1 h
 guarded-never ((false, r) ∷ cs) x k others h = others.0 (let same : r ≡ k = cc in same)
 
--- ---- an event that brings no acknowledgement
+-- ---- an event other than an acknowledgement
 
--- the node with these parts, after it appended these messages
+-- the node with these parts, after it has appended these messages
 abbrev pub after_step : NodeView → LocalState → List (ℕ × Message) → NodeView
 after_step n p ms = record n { local = p; links = append_to n.links ms }
 
@@ -42,7 +42,7 @@ abbrev pub judged_view : NodeView → List (Bool × Refusal) → Effect
     → Result (NodeView × Answer) Refusal
 judged_view n ts x = view_after n n.links (checked ts (map used n.links) x)
 
--- the node with these parts, and what it has of its links
+-- the node with these parts and these links
 abbrev pub with_parts : NodeView → Heap → List Ref → Phases → Ring → LinksView → NodeView
 with_parts n h asked phases ring l =
     record n {
@@ -61,7 +61,7 @@ module _ (n : NodeView) (h : Heap) (asked : List Ref) (ring : Ring) (l : LinksVi
       ∙ ap (λ (z : Ring). with_parts n n.local.heap n.local.asked n.local.phases z l) c
       ∙ ap (with_parts n n.local.heap n.local.asked n.local.phases n.local.ring) d
 
-  -- what a call left is what the definitions leave
+  -- the outcome of a call is that of the definitions
   pub parts-done : (w : Work) → IsDone w (part_of n.local h asked ring) (links_of n) l
       → with_parts n h asked n.local.phases ring l ≡ after_step n w.local w.sends
   parts-done w done =
@@ -85,7 +85,7 @@ module _ (n : NodeView) (ts : List (Bool × Refusal)) (x : Effect) where
   spent : AllPass ts → fits (map used n.links) x.sends ≡ false → judged_view n ts x ≡ Err LinkSpent
   spent all none = past_tests all ∙ rw none refl
 
-  -- one of its own tests refuses it
+  -- one of the event's own tests fails
   pub test_refused : {A : Type 0} (shading : Bool) (y : A) (e : Refusal) → guarded ts y ≡ Err e
       → e ≢ Memory → IsFirstRefusal shading e (judged_view n ts x)
   test_refused shading y e h never = (
@@ -94,7 +94,7 @@ module _ (n : NodeView) (ts : List (Bool × Refusal)) (x : Effect) where
     λ memory. absurd (never memory),
   )
 
-  -- a message of it was refused, and the event shades
+  -- a message could not be appended, and the event shades
   pub shading_refused : (e : Refusal) → AllPass ts
       → (e ≢ Memory → (e ≡ LinkSpent) × (fits (map used n.links) x.sends ≡ false))
       → IsFirstRefusal true e (judged_view n ts x)
@@ -109,7 +109,7 @@ module _ (n : NodeView) (ts : List (Bool × Refusal)) (x : Effect) where
       either true = tt
       either false = refl
 
-  -- the same where it doesn't, and memory is wanted last
+  -- the same for an event that doesn't shade, which can run out of memory only after all tests
   pub sending_refused : (e : Refusal) → AllPass ts
       → (e ≢ Memory → (e ≡ LinkSpent) × (fits (map used n.links) x.sends ≡ false))
       → (e ≡ Memory → fits (map used n.links) x.sends ≡ true)

@@ -1,5 +1,5 @@
--- What a message's body does keeps what is true of the heap, of the token and of the reports of
--- every node, and so does what is sent for it.
+-- A message's body, and what is sent for it, preserve what holds of the heap, the token and the
+-- reports of every node.
 use Rattle.std.proofs.Common.{◌≡◌, ◌≢◌, ℕ, ◌<◌, ◌≤◌, ◌==◌, ◌&&◌, Bool, true, false, List, [], ◌∷◌, Option, Some, None, refl, sym, ap, ◌∙◌, subst, le_refl}
 use Rattle.std.specs.Prelude.{is_none}
 use Rattle.std.specs.List.{AllByRecursion}
@@ -25,14 +25,14 @@ use Rattle.node.specs.declared.node.settling.Met.{Met}
 use Rattle.node.specs.Taking.{brought_by, met_by, met_references, sought, marks_due, reply_of, replies, body_heap, body_phases, ring_after}
 use Rattle.node.proofs.Appended.{MaySend, marks-may, none-may, one-may}
 
--- what is known of a message, and of the node that it comes to
+-- what is known of a message, and of the node that receives it
 pub record Comes (n : NodeView) (from : ℕ) (b : Body) : Type 0 where
   pub there : IsOther n.local.shape n.local.own from
   pub within : AllByRecursion (IsWithin n.local.shape) (mentioned b)
   pub brought : IfAny (IsWithin n.local.shape) (brought_by n.local.heap b)
 
--- What the tests said of a message from there: of the node, once it is in the message's cycle. Only
--- a node that marks meets something.
+-- What the tests established about a message from that node, and about the receiver once it is in
+-- the message's cycle. A message brings something only to a marking node.
 pub record Suits (q : LocalState) (from stamp : ℕ) (marking : Bool) (b : Body) : Type 0 where
   pub follows : may_follow q from b ≡ true
   pub settles : may_settle q stamp b ≡ true
@@ -62,7 +62,7 @@ reply-may n from cycle (body.Get target place label) within c =
     (record { stamp = within; references = any; place = tt }) (le_refl cycle)
 reply-may n from cycle b within c = none-may n.local.shape n.local.own cycle
 
--- ---- what is met
+-- ---- what a message brings
 
 module _ (shape : Shaped) (q : LocalState) (from stamp : ℕ) (marking : Bool) (g : Heap) (b : Body)
     (suits : Suits q from stamp marking b)
@@ -86,7 +86,7 @@ module _ (shape : Shaped) (q : LocalState) (from stamp : ℕ) (marking : Bool) (
             (opened refl) old
         either false opened = old
 
--- where a message says that marking has ended, nothing is grey, and no token is held
+-- when a message says that marking has ended, nothing is grey and no token is held
 ended-heap : (own cycle stamp : ℕ) (marking : Bool) (g h : Heap)
     → make_all_grey own cycle h
     (filled (met_references (met_by marking cycle stamp (brought_by g body.Ended) body.Ended)))
@@ -112,7 +112,7 @@ ended-free q from stamp marking body.Ended suits e =
     nothing-there q.ring.token (and_parts (is_calm q.heap) (is_none q.ring.token) parts.1).1
 ended-free q from stamp marking b suits e = absurd cc
 
--- a token comes while the node marks
+-- a token arrives while the node is marking
 pub token-open : (q : LocalState) (from stamp : ℕ) (marking : Bool) (b : Body)
     → Suits q from stamp marking b → (t : Token) → b ≡ body.Token t
     → q.phases.ended ≢ q.phases.cycle
@@ -121,13 +121,13 @@ token-open q from stamp marking (body.Token token) suits t e =
     open-apart q (and_parts (stamp == q.phases.cycle) (is_open q) parts.0).1
 token-open q from stamp marking b suits t e = absurd cc
 
--- node 0 alone hears who has swept
+-- only node 0 receives a Swept
 pub swept-first : (q : LocalState) (from stamp : ℕ) (marking : Bool) (b : Body)
     → Suits q from stamp marking b → b ≡ body.Swept → q.own ≡ 0
 swept-first q from stamp marking body.Swept suits e = eqb-true q.own 0 suits.follows
 swept-first q from stamp marking b suits e = absurd cc
 
--- ---- what the body does besides
+-- ---- what else the body does
 
 module _ (shape : Shaped) (own from stamp : ℕ) (p : Phases) where
   pub body-cycle : (b : Body) → (body_phases from stamp b p).cycle ≡ p.cycle

@@ -1,4 +1,4 @@
--- What is kept stands in its places: no event changes that.
+-- The early messages that a node keeps are in their places, and no event changes that.
 use Rattle.std.proofs.Common.{◌≡◌, ◌≢◌, ℕ, suc, ◌+◌, ◌-◌, ◌==◌, Bool, true, not, eq-eqb, List, [], ◌∷◌, length, drop, get_or, set, Option, Some, None, is_some, Result, Ok, Err, refl, ap, sym, ◌∙◌, subst, arith, eqb-true}
 use Rattle.std.specs.Prelude.{IfOk, IfErr, IsTrue}
 use Rattle.std.proofs.lemmas.Bool.{and_parts, cond_both}
@@ -28,7 +28,7 @@ empty-stands own got from place d there =
     sym (get_or-replicate_any {A = Option Data} WINDOW place None) ∙ there in
     absurd cc
 
--- the place after it holds it before
+-- a frame moves to the place before
 one-behind : (own got from : ℕ) (ring : List (Option Data)) → RingStands own got from ring
     → (place : ℕ) (d : Data) → get_or (drop 1 ring) place None ≡ Some d
     → IsInPlace own (got + 1) from place d
@@ -85,7 +85,7 @@ kept-set nodes own got es from ring h stands = record {
       (h.named k);
 }
 
--- the next message is taken in
+-- the next message is received
 kept-due : (nodes own : ℕ) (got : List ℕ) (es : Rings) (from number : ℕ)
     → AreKept nodes own got es → number ≡ get_or got from 0 + 1
     → AreKept nodes own (set got from number) (shifted_at es from)
@@ -156,7 +156,7 @@ data-kept n new es d (Ok a) h p =
     by addressed (due turn says) =
         subst Goal (sym says) (kept-due _ _ n.local.got es d.from d.number h turn)
 
--- the frame that waits is the next one of its node, so it is taken in where it isn't refused
+-- the frame that waits is the next one of its node, so it is received unless it is refused
 module _ (n new : NodeView) (es : Rings) (from : ℕ) (d : Data)
     (h : AreKept n.local.shape.nodes n.local.own n.local.got es) (waits : waiting es from ≡ Some d)
   where
@@ -242,7 +242,7 @@ handled-kept old new e r x =
           (sym leaves.own) kept.named));
     }
 
--- what Next takes in is answered so
+-- the answer to Next, when a frame waits
 next-turn : (n new : NodeView) (es : Rings) (from : ℕ) (o : Option Data) (r : Result Answer Refusal)
     → AreKept n.local.shape.nodes n.local.own n.local.got es → waiting es from ≡ o
     → Performed (is_shading (next_event from o)) r n new (view_act n (next_event from o))
@@ -280,7 +280,7 @@ next-handled n m es fs from o r h waits p free kept =
     waits
     (λ q g k. record { before = h; performed = q; memory_free = g; early = k }) p free kept
 
--- a refused frame leaves its place, where the core is as it was
+-- a refused frame leaves its place, if the core is as it was
 pub emptied-kept : (n m : NodeView) (es fs : Rings) (from : ℕ)
     → AreKeptIn (record { core = n; early = es }) → m ≡ n
     → fs ≡ set es from (emptied (ring_of es from))

@@ -1,4 +1,4 @@
--- What a node keeps after an event it kept before, but for a message that comes with the event.
+-- What a node keeps after an event it kept before, except a message that arrives with the event.
 use Rattle.std.proofs.Common.{◌≡◌, ℕ, suc, ◌-◌, List, [], ◌∷◌, drop, set, Option, Some, None, is_some, Result, Ok, Err, refl, sym, ◌∙◌, subst}
 use Rattle.std.proofs.lemmas.Bool.{cond_both}
 use Rattle.ids.specs.declared.limits.TheConstants.{WINDOW}

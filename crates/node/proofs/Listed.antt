@@ -1,4 +1,4 @@
--- Tests of all elements of a list, and of elements that are there once, in other words.
+-- Tests of all elements of a list, and of elements that occur once, in other words.
 use Rattle.std.proofs.Common.{◌≡◌, ◌≢◌, ℕ, zero, suc, ◌<◌, Bool, true, false, eqb, List, [], ◌∷◌}
 use Rattle.std.proofs.Common.{length, take, get_or, refl, ◌∙◌, arith}
 use Rattle.std.specs.List.{AllByRecursion, IsDistinct, list_all, list_any}
@@ -13,7 +13,7 @@ module _ {A : Type 0} where
       and_from (p x) (list_all p xs) (each 0 (omega arith))
       (listed p xs d (λ k inside. each (suc k) (omega (arith, inside))))
 
-  -- what passing says of each element, also past the end
+  -- what a passed test says of each element, also past the end
   pub listed-each : (P : A → Type 0) (p : A → Bool) (xs : List A) (d : A)
       → ((x : A) → p x ≡ true → P x) → P d → list_all p xs ≡ true → (k : ℕ) → P (get_or xs k d)
   listed-each P p [] d says none all k = none
@@ -81,7 +81,7 @@ apart-distinct (x ∷ xs) apart = (
       apart (suc j) (omega (arith, inside)) (suc i) (omega (arith, below))),
 )
 
--- ---- elements that a test tells apart, none among those before it
+-- ---- elements that a test distinguishes, none equal to one before it
 
 module _ {A : Type 0} (same : A → A → Bool) (flip : (a b : A) → same a b ≡ same b a) where
   pub distinct-before : (xs : List A) → IsDistinct same xs → (j : ℕ) → j < length xs → (d : A)

@@ -1,4 +1,4 @@
--- The lists of a saved node that name each thing once, as their loops go over them.
+-- The lists of a saved node that name each thing once, as their loops traverse them.
 use Rattle.std.proofs.Common.{◌≡◌, ◌≢◌, ℕ, ◌+◌, ◌<◌, ◌≤◌, Bool, true, false, not, List}
 use Rattle.std.proofs.Common.{length, get_or, set, take, refl, sym, ap, ◌∙◌, inl, inr, arith}
 use Rattle.std.proofs.Common.{true≢false, below_more}
@@ -14,7 +14,8 @@ use Rattle.node.specs.Parts.{is_foreign, is_marked_in, AreAsked, AreGreyIn}
 
 -- ---- the grey list
 
--- of so many numbers each names a marked object, none is there twice, and the marks tell which came
+-- each of the first `n` numbers names a marked object, none occurs twice, and `marks` has those
+-- seen
 pub record Came (cycle : ℕ) (slots : List Slot) (grey : List ℕ) (marks : List Bool) (n : ℕ)
     : Type 0 where
   pub marked : (k : ℕ) → k < n → is_marked_in cycle slots (get_or grey k 0) ≡ true
@@ -72,7 +73,7 @@ pub unmarked-refused : {cycle : ℕ} {slots : List Slot} {grey : List ℕ} (n : 
     → is_marked_in cycle slots (get_or grey n 0) ≡ false → AreGreyIn cycle slots grey → ⊥
 unmarked-refused n within fails are = true≢false (sym (are.marked n within) ∙ fails)
 
--- a number that came before
+-- a number that occurred before
 pub repeated-refused : {cycle : ℕ} {slots : List Slot} {grey : List ℕ} {marks : List Bool} {n : ℕ}
     → Came cycle slots grey marks n → n < length grey
     → get_or marks (get_or grey n 0) false ≡ true → AreGreyIn cycle slots grey → ⊥
@@ -82,7 +83,7 @@ repeated-refused {grey = grey} {n = n} came within there are =
 
 -- ---- what was asked for
 
--- of so many references each is another node's, and none is there twice
+-- each of the first `n` references is another node's, and none occurs twice
 pub record Asked (shape : Shaped) (own : ℕ) (rs : List Ref) (n : ℕ) : Type 0 where
   pub foreign : list_all (is_foreign shape own) (take n rs) ≡ true
   pub once : (j : ℕ) → j < n → (d : Ref) → is_in (get_or rs j d) (take j rs) ≡ false

@@ -46,7 +46,7 @@ module _ (n : NodeView) (register object place : ℕ) (value : Option Ref)
   value-is : place_loaded n.local.heap object place ≡ value
   value-is = guarded-ok tests_of (place_loaded n.local.heap object place) value found
 
-  -- what the event does
+  -- the effect of the event
   abbrev effect_is : Work → Effect
   effect_is w =
       answers
@@ -69,7 +69,7 @@ module _ (n : NodeView) (register object place : ℕ) (value : Option Ref)
       ap (λ (x : Effect). fits (map used n.links) x.sends) effect-is
       ∙ ap (fits (map used n.links)) (append-nil shading.sends)
 
-  -- a Mark was refused
+  -- a Mark could not be appended
   pub load-spent : (e : Refusal) → IsRefused (links_of n) shading.sends e
       → IsFirstRefusal true e (view_act n (event.Load register object place))
   unfolding view_act

@@ -1,4 +1,4 @@
--- Each change of a node as it stands keeps what is true of every node.
+-- Each change of a node preserves what holds of every node.
 use Rattle.std.proofs.Common.{◌≡◌, ◌≢◌, ℕ, ◌+◌, ◌-◌, ◌<◌, ◌≤◌, ◌==◌, not, [], ◌∷◌, length, get_or, replicate, refl, sym, ap, ◌∙◌, subst, true, arith, le_refl}
 use Rattle.std.specs.Prelude.{nat_lt}
 use Rattle.std.proofs.lemmas.Bool.{and_parts, eqb-false, ltb-true, not-true}
@@ -27,7 +27,7 @@ use Rattle.node.specs.Invariant.{AreLinked, IsBalanced, IsNode, links_of, number
 use Rattle.node.proofs.Appended.{linked-appended, numbers-appended, one-may}
 use Rattle.node.proofs.Balances.{balance-kept, balance-trimmed}
 
--- the heap alone changed, and has no fewer slots
+-- only the heap changed, and it has no fewer slots
 pub node-heap : (n : NodeView) (h : Heap) → IsNode n → HoldsOnly (IsWithin n.local.shape) h
     → IsStocked n.local.shape n.local.own n.local.phases.cycle n.local.phases.ended h
     → length n.local.heap.slots ≤ length h.slots
@@ -63,7 +63,7 @@ rewired n l r =
       acks = l.acks;
     }
 
--- what a call left of them, where the definitions have this
+-- the links and the ring after a call, and the same by the definitions
 pub record Rewires (v : LinksView) (q : Ring) (l : LinksView) (r : Ring) : Type 0 where
   pub sound : IsLinks l
   pub links : l ≡ v
@@ -126,7 +126,7 @@ module _ (n : NodeView) (old : IsNode n) where
     timely = timely-kept n.local.own n.local.phases.cycle n.links n.local.got old.links.timely;
   }
 
--- ---- as the code has it: what a call of the links left, and the ring beside it
+-- ---- in the form of the code: the links after a call, and the ring
 
 pub node-sent : (n : NodeView) (to : ℕ) (b : Body) {l : LinksView} {r : Ring} → IsNode n
     → IsOther n.local.shape n.local.own to → IsSendable n.local.shape (stamped n.local b)

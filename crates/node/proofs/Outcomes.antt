@@ -1,4 +1,4 @@
--- What the code leaves of a node that takes a message in, and what that is by the definitions.
+-- The outcome of the code at a node that receives a message, and the same by the definitions.
 use Rattle.std.proofs.Common.{◌≡◌, ◌≢◌, ℕ, ◌+◌, ◌-◌, ◌<◌, ◌≤◌, Bool, true, false, ◌==◌, ◌&&◌, not, List, [], ◌++◌, length, map, ℤ, pos, ◌+ℤ◌, ◌||◌, Option, Ok, Err, refl, ap, sym, ◌∙◌, subst, arith}
 use Rattle.std.specs.Prelude.{nat_le, nat_lt}
 use Rattle.std.proofs.Common.{le-ltb, lt-ltb}
@@ -30,8 +30,8 @@ use Rattle.node.proofs.Taken.{join-is, taken-settled, taken-joined, performed-ta
 use Rattle.node.proofs.Follows.{Suits}
 use Rattle.node.proofs.Standing.{Reached, comes, reached-here, reached-joined, met-small, taken-stands, assembled-same}
 
--- What the code leaves: q is the node that is in the message's cycle or past it, and these messages
--- were sent on the way there.
+-- The outcome of the code. The node q is in the message's cycle or past it, and these messages were
+-- sent when it got there.
 pub record Left (q : LocalState) (was : LinksView) (ms : List (ℕ × Message)) (from stamp : ℕ)
     (b : Body) (cycle : ℕ) (m : Met) (reply : Option Message) (h : Heap) (asked : List Ref)
     (p : Phases) (r : Ring) (l : LinksView) : Type 0 where
@@ -78,7 +78,7 @@ may-settle q from stamp b t =
     (may_follow q from b && may_settle (joined q stamp).local stamp b) first.1 in
     (and_parts (may_follow q from b) (may_settle (joined q stamp).local stamp b) second.1).1
 
--- What was sent and counted before the message itself is.
+-- What was sent and counted before the message itself is counted.
 pub record Sends (n : NodeView) (from cycle : ℕ) (m : Met) (reply : Option Message)
     (asked : List Ref) (r : Ring) (marks : ℕ) (l t : LinksView) : Type 0 where
   pub sent : AreSent n.local.asked (sought n.local.own n.local.asked m) (links_of n)
@@ -87,7 +87,7 @@ pub record Sends (n : NodeView) (from cycle : ℕ) (m : Met) (reply : Option Mes
   pub counted : r ≡ counted_marks marks n.local.ring
   pub taken : t ≡ taken_next_from l from
 
--- What the calls of the code left, one after the other.
+-- The outcomes of the code's calls, one after the other.
 pub record Does (n : NodeView) (from stamp : ℕ) (b : Body) (cycle : ℕ) (m : Met)
     (reply : Option Message) (g k h : Heap) (asked : List Ref) (p : Phases) (r s : Ring)
     (marks : ℕ) (l t : LinksView) : Type 0 where
@@ -141,7 +141,7 @@ module _ (n : NodeView) (from stamp : ℕ) (b : Body) (cycle ended : ℕ) (v : O
         (sought n.local.own n.local.asked (settled_met n stamp b)) from z)
         reply-read
 
-    -- what the calls that can't be refused left
+    -- the outcome of the calls that can't fail
     pub left-read : {g k h : Heap} {asked : List Ref} {p : Phases} {r s : Ring} {marks : ℕ}
         {l t : LinksView} → Does n from stamp b cycle m reply g k h asked p r s marks l t
         → Left n.local (links_of n) [] from stamp b n.local.phases.cycle (settled_met n stamp b)
@@ -247,7 +247,7 @@ module _ (n : NodeView) (from stamp : ℕ) (b : Body) (old : IsNode n)
         settled-performed fit =
             performed-taken n from stamp b _ settled-is fit settled-now
 
-    -- the balances while what was met is counted, and the message not yet
+    -- the balances when what the message brings is counted, but the message isn't yet
     pub counted-small : {cycle ended : ℕ} {v : Option Ref} {m : Met} {reply : Option Message}
         {asked : List Ref} {r : Ring} {marks : ℕ} {l u : LinksView}
         → Read n stamp b cycle ended v m reply → Sends n from cycle m reply asked r marks l u
@@ -273,7 +273,7 @@ or-other : (a b : Bool) → a ≡ false → (a || b) ≡ true → b ≡ true
 or-other false b first either = either
 or-other true b first either = absurd cc
 
--- it is the next one, and the node has swept its own
+-- the message's cycle is the next one, and the node has swept its own
 pub joins-next : (q : LocalState) (from stamp : ℕ) (b : Body) → IsTakable q from stamp b
     → q.phases.cycle < stamp → (stamp ≡ q.phases.cycle + 1) × (q.phases.cycle ≤ q.phases.swept)
 joins-next q from stamp b t later =
@@ -319,7 +319,7 @@ pub record ReadJoining (n : NodeView) (stamp : ℕ) (b : Body) (v : Option Ref) 
   pub met_is : m ≡ met_by true stamp stamp v b
   pub reply_is : reply ≡ reply_of stamp v b
 
--- what was sent and counted before the message itself is
+-- what was sent and counted before the message itself is counted
 pub record SendsJoining (n : NodeView) (from stamp : ℕ) (m : Met) (reply : Option Message)
     (g : Heap) (asked : List Ref) (r s : Ring) (marks : ℕ) (l u : LinksView) : Type 0 where
   pub room : g ≡ n.local.heap
@@ -330,7 +330,7 @@ pub record SendsJoining (n : NodeView) (from stamp : ℕ) (m : Met) (reply : Opt
   pub counted : s ≡ counted_marks marks r
   pub taken : u ≡ taken_next_from l from
 
--- what the calls of the code left, one after the other
+-- the outcomes of the code's calls, one after the other
 pub record Joins (n : NodeView) (from stamp : ℕ) (b : Body) (m : Met) (reply : Option Message)
     (g j k h : Heap) (asked : List Ref) (p q : Phases) (r s t : Ring) (marks : ℕ)
     (l u : LinksView) : Type 0 where
@@ -466,7 +466,7 @@ module _ (n : NodeView) (from stamp : ℕ) (b : Body) (old : IsNode n)
         joined-is refused same
 
     module _ (phases : IsPhases (in_cycle stamp n.local.phases)) where
-      -- the balances while what was met is counted, and the message not yet
+      -- the balances when what the message brings is counted, but the message isn't yet
       pub joined-small : {v : Option Ref} {m : Met} {reply : Option Message} {g : Heap}
           {asked : List Ref} {r s : Ring} {marks : ℕ} {l u : LinksView}
           → ReadJoining n stamp b v m reply

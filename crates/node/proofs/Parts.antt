@@ -1,4 +1,4 @@
--- What a node makes of a message that it takes in, by parts.
+-- The effect of a message on the node that receives it, in parts.
 use Rattle.std.proofs.Common.{◌≡◌, ℕ, ℤ, pos, ◌+ℤ◌, ◌-ℤ◌, Bool, true, false, cond, ◌==◌, List, [], ◌∷◌, ◌++◌, Option, Some, None, option_to_list, refl, ap, sym, ◌∙◌, arith, append-nil}
 use Rattle.std.specs.Prelude.{nat_lt, slice_set}
 use Rattle.std.proofs.lemmas.Bool.{cond-true, cond_both}
@@ -39,7 +39,7 @@ down-marks (Some Earlier) n r =
 down-marks (Some Recent) n r = refl
 down-marks None n r = refl
 
--- ---- marking leaves what stands in places
+-- ---- marking doesn't change what places hold
 
 marked-object : (a b : Bool) (cycle place : ℕ) (o : Object)
     → place_of (cond b (Some (cond a (with_mark cycle o) o)) None) place
@@ -103,7 +103,7 @@ filled-one : (v : Option Ref) → option_to_list v ≡ filled (v ∷ [])
 filled-one None = refl
 filled-one (Some r) = refl
 
--- nothing was met
+-- nothing is brought
 abbrev nothing : Bool → Met
 nothing a = record { target = None; brought = None; asks = a }
 
@@ -121,7 +121,7 @@ due-none : (a : Bool) (cycle : ℕ) → marks_due cycle (nothing a) [] ≡ []
 due-none true cycle = refl
 due-none false cycle = refl
 
--- what a node makes of what it met
+-- the work of shading, or vouching for, what a message brings
 abbrev looked_work : LocalState → Met → Work
 looked_work p m =
     record {
@@ -141,7 +141,7 @@ looked-nothing a p =
 abbrev brings : Option Ref → Bool → Met
 brings v asks = record { target = None; brought = v; asks = asks }
 
--- one reference is shaded, or vouched for
+-- one reference is shaded or vouched for
 one-shaded : (p : LocalState) (v : Option Ref) → is_open p ≡ true
     → shade_all (at_rest p) (option_to_list v) ≡ looked_work p (brings v true)
 one-shaded p v opened =
@@ -171,7 +171,7 @@ one-met : (late : Bool) (p : LocalState) (v : Option Ref) → is_open p ≡ true
 one-met true p v opened = one-shaded p v opened
 one-met false p v opened = one-vouched p v opened
 
--- ---- the object that a message is about, before it
+-- ---- the object that a message is about comes first
 
 abbrev greyed : LocalState → Ref → LocalState
 greyed p r = record p { heap = make_grey p.phases.cycle p.heap r }
@@ -225,9 +225,9 @@ met-none : (late : Bool) (p : LocalState)
 met-none true p = refl
 met-none false p = refl
 
--- ---- a message is taken in
+-- ---- a message is received
 
--- what a body does to a node that has looked after what was met
+-- the effect of a body, once what the message brings is shaded or vouched for
 abbrev bodied : ℕ → ℕ → Body → LocalState → LocalState
 bodied from stamp b x =
     record x {
@@ -267,7 +267,7 @@ module _ (p : LocalState) (from number stamp : ℕ) where
       })
       (down-marks (balance_of p.phases.cycle stamp b) (count_due m us) p.ring)
 
-  -- a body that neither shades nor answers
+  -- a body that neither shades nor sends an answer
   settled-plain : (b : Body) (m : Met)
       → replies from (reply_of p.phases.cycle (brought_by p.heap b) b) ≡ []
       → ((x : LocalState) → take_body from stamp b x ≡ at_rest (bodied from stamp b x))
@@ -305,7 +305,7 @@ module _ (p : LocalState) (from number stamp : ℕ) where
       (sym (append-nil (marks_due p.phases.cycle m (sought p.own p.asked m))))
       ∙ landed b m
 
-  -- a Get, where what its target leaves is known
+  -- a Get, given the node after its target is shaded
   settled-get : (target : Ref) (place label : ℕ) (m : Met) (t : LocalState)
       → take_carried stamp (body.Get target place label)
       (count_in from number stamp (body.Get target place label) p) ≡ at_rest t

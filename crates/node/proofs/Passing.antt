@@ -1,4 +1,4 @@
--- The token is handed on, or judged by node 0.
+-- The token is passed on, or judged by node 0.
 use Rattle.std.proofs.Common.{◌≡◌, ◌≢◌, ℕ, ◌-◌, ◌≤◌, ◌==◌, Bool, true, false, cond, List, [], ◌∷◌, length, map, ap, sym, ◌∙◌, subst, refl, arith, le_refl}
 use Rattle.std.specs.Prelude.{is_some}
 use Rattle.std.proofs.lemmas.Bool.{cond-true, cond-false}
@@ -69,9 +69,9 @@ module _ (n : NodeView) where
       ∙ ap (judged_view n [])
       (cond-false (n.local.own == 0) (judged n.local) (handed_on n.local) other)
 
--- ---- a message is sent, and nothing else may be refused
+-- ---- a message is sent, and nothing else can fail
 
--- an effect that sends the token, answered or refused as its message is
+-- an effect that sends the token succeeds or fails as the message does
 module _ (n : NodeView) (x : Effect) (to : ℕ) (token : Token)
     (sends : x.sends ≡ (to, stamped n.local (body.Token token)) ∷ []) where
   pub token-answered : (ring : Ring)
@@ -95,7 +95,7 @@ module _ (n : NodeView) (x : Effect) (to : ℕ) (token : Token)
       (λ other. ((h other).0, ap (fits (map used n.links)) sends ∙ (h other).1))
       (λ memory. ap (fits (map used n.links)) sends ∙ last memory)
 
--- ---- another node hands it on
+-- ---- another node passes it on
 
 module _ (n : NodeView) (token : Token) (same : token ≡ forwarded n.local.ring) where
   pub handed-sends : (handed_on n.local).sends
@@ -172,7 +172,7 @@ module _ (n : NodeView) (to : ℕ) (token : Token) (to-is : to ≡ n.local.shape
       ∙ ap (λ (x : Effect). okay (with_token_sent n to token ring) x.answer) judged-again
       ∙ ap (λ (m : NodeView). okay m answer.ProbeAgain) (sym done)
 
--- what the end of marking leaves
+-- the effect when marking has ended
 abbrev ended : LocalState → Effect
 ended p = answers (conclude p) (answer.Ended p.phases.cycle)
 
@@ -243,9 +243,9 @@ module _ (n : NodeView) (cycle : ℕ) (now : cycle ≡ n.local.phases.cycle)
       (answer.Ended n.local.phases.cycle)) (sym d)
       ∙ ap (λ (k : ℕ). okay (ended_view phases ring l) (answer.Ended k)) (sym now)
 
--- ---- the node is as every node
+-- ---- what holds of every node holds afterwards
 
--- what the end of marking left, of which these messages tell all others
+-- the outcome when marking has ended, and these messages announce it to all others
 pub record Concluded (n : NodeView) (cycle : ℕ) (phases : Phases) (ring : Ring) (l : LinksView)
     : Type 0 where
   pub calm : n.local.heap.grey ≡ []

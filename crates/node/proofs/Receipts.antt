@@ -1,4 +1,4 @@
--- What the tests of a message say, and the limits of its frame.
+-- What the tests of a message and the limits of its frame imply.
 use Rattle.std.proofs.Common.{◌≡◌, ℕ, ◌+◌, ◌<◌, ◌≤◌, true, false, ◌==◌, ◌&&◌, not, Option, Some, None, option_to_list, ap, sym, ◌∙◌, arith}
 use Rattle.std.specs.Prelude.{nat_lt, nat_le}
 use Rattle.std.specs.List.{AllByRecursion}
@@ -39,7 +39,7 @@ any-within shape None within fit = tt
 any-within shape (Some r) within fit =
     (reference-within shape r (and_parts (is_within shape r) true within).0 fit, tt)
 
--- the shape has room for what a frame's body mentions
+-- everything that a frame's body mentions is within the shape
 within-mentioned : (shape : Shaped) (b : Body) → are_within shape (mentioned b) ≡ true
     → body_fits b ≡ true → AllByRecursion (IsWithin shape) (mentioned b)
 within-mentioned shape (body.Mark target) within fit =
@@ -60,7 +60,7 @@ within-mentioned shape (body.Token token) within fit = tt
 within-mentioned shape body.Ended within fit = tt
 within-mentioned shape body.Swept within fit = tt
 
--- what passed the tests of a message in its turn may be taken in
+-- a message that passed the tests in its turn may be received
 pub takable : (p : LocalState) (d : Data) → is_addressed p d.from d.to ≡ true
     → d.number ≡ got_from p d.from + 1 → may_take p d.from d.stamp d.body ≡ true
     → IsTakable p d.from d.stamp d.body
@@ -94,7 +94,7 @@ takable p d addressed turn may =
       may = may;
     }
 
--- what a body says of a node that has joined shows before it does
+-- whether a body fits the node after it joins can be seen before it joins
 pub settles-later : (p : LocalState) (stamp : ℕ) (b : Body) → IsPhases p.phases
     → p.phases.cycle < stamp
     → settles_joining p stamp b ≡ may_settle (joined p stamp).local stamp b

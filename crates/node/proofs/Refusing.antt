@@ -1,4 +1,4 @@
--- What a heap refuses its node refuses.
+-- If the heap refuses an event, so does its node.
 use Rattle.std.proofs.Common.{◌≡◌, ℕ, true, false, Err, subst}
 use Rattle.ids.specs.declared.refusal.Refusal.{Refusal}
 use Rattle.ids.specs.declared.refusal.Refusal.TheVariants.{Memory}

@@ -1,4 +1,5 @@
--- Every node that stands may be saved and made again, and what may be made stands.
+-- Every node may be saved and made again, and what holds of every node holds of one that may be
+-- made.
 use Rattle.std.proofs.Common.{◌≡◌, ◌≢◌, ℕ, zero, suc, ◌<◌, ◌≤◌, ◌==◌, ◌&&◌, Bool, true, false, not}
 use Rattle.std.proofs.Common.{List, [], ◌∷◌, length, get_or, Option, Some, None, refl, ap, ◌∙◌}
 use Rattle.std.proofs.Common.{subst, ◌⊎◌, inl, inr, ⊎_elim, arith}
@@ -444,7 +445,7 @@ module _ (n : NodeView) where
         balance = is.balance;
       }
 
--- what a save writes of a node that stands, all of whose links count as held
+-- a save writes a node that may be made again, in which everything on its links counts as held
 pub kept-restorable : (n : NodeView) → IsNode n → IsSlotted n.local.heap n.local.shape.slots
     → IsRestorable (kept_view n)
 kept-restorable n is slots =

@@ -55,7 +55,7 @@ pub grey-slots : (own cycle : ℕ) (h : Heap) (rs : List Ref)
     → length (make_all_grey own cycle h rs).slots ≡ length h.slots
 grey-slots own cycle h rs = (grey-all own cycle h rs).0
 
--- what is shaded of a node, by cases of whether it marks
+-- what a node shades, in the two cases that it is marking and that it isn't
 shaded-either : (P : Work → Type 0) (p : LocalState) (rs : List Ref)
     → (is_open p ≡ true → P (shaded_work p [] rs)) → P (at_rest p) → P (shade_all (at_rest p) rs)
 shaded-either P p rs opened closed =

@@ -1,4 +1,4 @@
--- Each event on the heap alone keeps what is true of every node.
+-- Each event on the heap alone preserves what holds of every node.
 use Rattle.std.proofs.Common.{◌≡◌, ℕ, ◌<◌, ◌≤◌, List, [], ◌∷◌, drop, length, get_or, Some, None, Ok, ap, sym, ◌∙◌, subst, arith, rules, length-append, le_refl}
 use Rattle.std.proofs.lemmas.Bool.{leb-true}
 use Rattle.std.proofs.lemmas.List.{length-set}
@@ -24,14 +24,14 @@ use Rattle.node.proofs.Nodes.{node-heap}
 abbrev pub with_heap : NodeView → Heap → NodeView
 with_heap n h = record n { local = record n.local { heap = h } }
 
--- an object may come to have a slot that is new, and no slot is taken away
+-- an allocation may add a slot, and removes none
 slots_with-more : (free : List ℕ) (slots : List Slot) (o : Object)
     → length slots ≤ length (slots_with free slots o)
 slots_with-more [] slots o = omega (arith, length-append slots (Occupied 1 o ∷ []))
 slots_with-more (k ∷ ks) slots o =
     omega (arith, length-set slots k (Occupied (next_generation (get_or slots k Retired)) o))
 
--- an object was allocated, with this name and in this heap
+-- an object was allocated, with this reference and in this heap
 pub record Allocates (n : NodeView) (limit cycle register places : ℕ) (g : Heap) (r : Ref) : Type 0
   where
     pub now : cycle ≡ n.local.phases.cycle
@@ -39,7 +39,7 @@ pub record Allocates (n : NodeView) (limit cycle register places : ℕ) (g : Hea
     pub slot : r.slot < n.local.shape.slots
     pub generation : 1 ≤ r.generation
 
--- and that is the answer
+-- and its reference is the answer
 pub alloc-answered : (n : NodeView) (register places : ℕ) {g : Heap} {r : Ref}
     → heap_alloc n.local.shape.slots n.local.own n.local.phases.cycle n.local.heap register places
     ≡ Ok (g, r)

@@ -1,4 +1,4 @@
--- A node that has taken a message in is as every node is.
+-- What holds of every node holds after it has received a message.
 use Rattle.std.proofs.Common.{◌≡◌, ℕ, ◌+◌, ◌-◌, ◌<◌, ◌≤◌, Bool, true, false, cond, ◌==◌, List, [], ◌∷◌, ◌++◌, length, get_or, set, Option, Some, None, refl, ap, sym, ◌∙◌, subst, arith, le_refl, length-append}
 use Rattle.std.specs.List.{AllByRecursion, sum_by}
 use Rattle.std.proofs.lemmas.Bool.{cond_both}
@@ -125,7 +125,7 @@ marks-count cycle m us =
     cond-length true = length-map us (mark_for cycle)
     cond-length false = refl
 
--- one message is taken in, and one may be sent for it
+-- one message is received, and one may be sent for it
 body-bounded : (most to cycle stamp : ℕ) (v : Option Ref) (b : Body) (r : Ring) → IsBounded most r
     → IsBounded (most + 1 + length (replies to (reply_of cycle v b))) (ring_after cycle stamp b r)
 body-bounded most to cycle stamp v (body.Get target place label) r h =
@@ -165,7 +165,7 @@ number-after links got from sends inside there =
     sum_by-set (λ (j : ℕ). j) got from (k + 1) 0 there in
     omega (arith, more, sum-appended links sends inside)
 
--- ---- a node that is in the message's cycle or past it, before it meets what the message brings
+-- ---- a node in the message's cycle or past it, before it looks at what the message brings
 
 pub record Reached (n : NodeView) (h : Heap) (known : List Ref) (p : Phases) (r : Ring)
     (ms : List (ℕ × Message)) : Type 0 where
@@ -246,7 +246,7 @@ reached-joined n cycle old within next over phases =
       may = marks-may q.shape q.own cycle [] rs within all;
     }
 
--- ---- the message is taken in
+-- ---- the message is received
 
 pub comes : (n : NodeView) (from stamp : ℕ) (b : Body) → IsNode n → IsTakable n.local from stamp b
     → Comes n from b
@@ -331,7 +331,7 @@ module _ (n : NodeView) (h : Heap) (asked : List Ref) (p : Phases) (r : Ring)
         omega (arith, from-there, old.links.links.received) in
         number-after n.links n.local.got from sends_here sends-inside there
 
-    -- the balances when what was met is counted, and the message not yet
+    -- the balances when what the message brings is counted, but the message isn't yet
     pub met-small : IsLinks (links_of taken_here)
         → IsBounded (GREATEST_COUNTED - 1) (looked_after reached_here met_here).ring
     met-small links =
@@ -344,7 +344,7 @@ module _ (n : NodeView) (h : Heap) (asked : List Ref) (p : Phases) (r : Ring)
         (omega (arith, few, number-here, sends-count))
         (bounded_marks (number_sum n.links n.local.got + length ms) k r reached.balance)
 
-    -- what was sent and taken in is of the node's cycle, or of one before
+    -- what was sent and received is of the node's cycle, or of an earlier one
     timely-here : AreTimely n.local.own taken_here.local.phases.cycle taken_here.links
         taken_here.local.got
     timely-here =
@@ -414,7 +414,7 @@ module _ (n : NodeView) (h : Heap) (asked : List Ref) (p : Phases) (r : Ring)
               bounded;
         }
 
--- ---- as the code has it
+-- ---- in the form of the code
 
 module _ (n : NodeView) (g h : Heap) (asked known : List Ref) (p q : Phases) (r s : Ring)
     (l k : LinksView)

@@ -48,9 +48,9 @@ some-slots cycle k zero s = refl
 some-slots cycle k (suc n) s =
     some-slots cycle (k + 1) n (sweep_one cycle k s) ∙ one-slots cycle k s
 
--- ---- what the event does
+-- ---- the effect of the event
 
--- so many slots were swept, and whether these were the last
+-- this many slots were swept, and whether these were the last
 abbrev sweep_effect : LocalState → ℕ → Bool → Effect
 sweep_effect p k last =
     let s : Sweeping = swept p.phases.cycle p.phases.cursor k p.heap in
@@ -183,7 +183,7 @@ module _ (n : NodeView) (count : ℕ) where
           ∙ ap (λ (z : Phases). okay (with_swept reported h z) (answer.Freed s.freed true)) (sym b)
           ∙ ap (λ (k : ℕ). okay (with_swept reported h phases) (answer.Freed k true)) (sym d)
 
--- ---- the node is as every node
+-- ---- what holds of every node holds afterwards
 
 -- a sweep moves the cursor, and may end
 abbrev pub moved : ℕ → ℕ → Phases → Phases
@@ -193,7 +193,7 @@ moved swept cursor p = record p { swept = swept; cursor = cursor }
 ended-here : (p : Phases) → IsPhases p → p.swept < p.ended → p.ended ≡ p.cycle
 ended-here p is unfinished = omega (arith, is.ended, is.cycle, unfinished)
 
--- so many slots of a node that sweeps were swept, from the first of these on
+-- this many slots of a node that sweeps were swept, from slot `first` on
 pub record Sweeps (n : NodeView) (cycle first count : ℕ) (h : Heap) : Type 0 where
   pub unfinished : n.local.phases.swept < n.local.phases.ended
   pub heap : h ≡ (swept cycle first count n.local.heap).heap

@@ -1,5 +1,5 @@
--- A message that is taken in, on the node as it stands: what its parts leave, and what a refusal
--- says.
+-- A message that is received, on the whole node: the outcome from the parts, and the meaning of a
+-- refusal.
 use Rattle.std.proofs.Common.{◌≡◌, ◌≢◌, Option, ℕ, ◌+◌, Bool, true, false, ◌==◌, [], ◌++◌, map, Result, Ok, Err, refl, ap, sym, ◌∙◌}
 use Rattle.std.specs.Prelude.{nat_lt}
 use Rattle.std.proofs.lemmas.Bool.{cond-true, cond-false, cond_both}
@@ -19,7 +19,7 @@ use Rattle.node.specs.Taking.{brought_by, met_by, reply_of, settled_parts, joine
 use Rattle.node.proofs.Parts.{settled-is, brought-marked}
 use Rattle.model.specs.Shading.{marks_for}
 
--- ---- on the node's part
+-- ---- on the node's local state
 
 module _ (p : LocalState) (from number stamp : ℕ) (b : Body) where
   -- at a node in its cycle or past it
@@ -81,7 +81,7 @@ module _ (p : LocalState) (from number stamp : ℕ) (b : Body) where
       settled_parts q from number stamp b (met_by true stamp stamp v b) (reply_of stamp v b))
       (brought-marked p.own stamp p.heap (filled (roots p.heap)) b))
 
--- ---- on the node as it stands
+-- ---- on the whole node
 
 pub view-either : (n : NodeView) (from stamp : ℕ) (b : Body)
     → IsOkOrSpent (view_taken n from stamp b)
@@ -113,7 +113,7 @@ module _ (n : NodeView) (from stamp : ℕ) (b : Body) (w : Work)
         (cond-false (fits (map used n.links) w.sends) (Ok (answers w answer.Received))
         (Err LinkSpent) full)
 
-    -- what a call made of the message, from what its parts left
+    -- the outcome of a call for the message, from the outcomes of its parts
     pub performed-taken : {new : NodeView} → fits (map used n.links) w.sends ≡ true
         → new ≡ record n { local = w.local; links = append_to n.links w.sends }
         → Performed true (Ok answer.Received) n new (view_taken n from stamp b)

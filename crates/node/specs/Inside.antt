@@ -1,4 +1,4 @@
--- How a node shows what it is.
+-- How a node's fields are seen as its view.
 use Rattle.std.specs.Prelude.{◌≡◌}
 use Rattle.node.specs.declared.node.Core.TheInside.{Inside}
 use Rattle.model.specs.View.{NodeView}

@@ -1,4 +1,4 @@
--- What is true of every node that stands ("Well-formed nodes" in docs/RULES.md), by what it reads.
+-- What holds of every node ("Well-formed nodes" in docs/RULES.md), by the parts that it reads.
 use Rattle.std.specs.Prelude.{◌≡◌, ℕ, ◌+◌, ◌<◌, ◌≤◌, List, length, slice_index_or}
 use Rattle.std.specs.List.{sum_by}
 use Rattle.ids.specs.Limits.{Shaped, IsShape}
@@ -10,11 +10,11 @@ use Rattle.model.specs.WellFormed.{IsStocked, AreAsked, IsHeld, AreReports, AreT
 use Rattle.control.specs.Phases.{IsPhases}
 use Rattle.safra.specs.Balances.{IsBounded}
 
--- how many messages were appended, and how many taken in
+-- the number of messages appended and of messages received, together
 abbrev pub number_sum : List Link → List ℕ → ℕ
 number_sum links got = sum_by used links + sum_by (λ (k : ℕ). k) got
 
--- The two balances together are no larger than the number of messages, whatever their signs: so
+-- The two balances together are no larger than the number of messages, whatever their signs. So
 -- they fit their type.
 abbrev pub IsBalanced : Ring → List Link → List ℕ → Type 0
 IsBalanced r links got = IsBounded (number_sum links got) r
@@ -35,7 +35,7 @@ pub record AreLinked (shape : Shaped) (own cycle : ℕ) (l : LinksView) : Type 0
 abbrev pub links_of : NodeView → LinksView
 links_of n = record { links = n.links; got = n.local.got; acks = n.acks }
 
--- the phases of a node with so many slots, in a space of so many nodes
+-- the phases of a node with these slots, in a space of `nodes` nodes
 pub record ArePhased (nodes own : ℕ) (slots : List Slot) (p : Phases) : Type 0 where
   pub phases : IsPhases p
   pub cursor : p.cursor ≤ length slots

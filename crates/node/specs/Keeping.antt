@@ -1,4 +1,4 @@
--- What a node keeps besides its core: the messages of other nodes that came before their turn.
+-- What a node keeps in addition to its core: early messages of other nodes.
 use Rattle.std.specs.Prelude.{◌≡◌, ℕ, ◌+◌, ◌-◌, List, length, replicate, Option, Some, None, Result, Ok, Err, IfErr, IsTrue, ◌≢◌, slice_index_or, slice_set}
 use Rattle.ids.specs.Limits.{Shaped}
 use Rattle.ids.specs.declared.refusal.Refusal.{Refusal}
@@ -15,11 +15,11 @@ use Rattle.model.specs.Steps.{is_memory_free, is_shading}
 use Rattle.model.specs.View.{NodeView, Performed, new_view, kept_view, view_act}
 use Rattle.link.specs.Early.{no_early, place_at, placed, shifted, emptied}
 
--- for each node of the space the places of its next messages, each with a frame or none
+-- for each node of the space the places of its next messages, each empty or with a frame
 abbrev pub Rings : Type 0
 Rings = List (List (Option Data))
 
--- a node: what is saved of it, and what it keeps until its turn
+-- a node: the part that is saved, and what it keeps until its turn
 pub record WholeNode : Type 0 where
   pub core : NodeView
   pub early : Rings
@@ -41,7 +41,7 @@ kept_whole n = record n { core = kept_view n.core }
 abbrev pub ring_of : Rings → ℕ → List (Option Data)
 ring_of es from = slice_index_or es from no_early
 
--- the frame of the message that is to be taken in next, where it is kept
+-- the frame of the message to be received next, if it is kept
 abbrev pub waiting : Rings → ℕ → Option Data
 waiting es from = place_at (ring_of es from) 0
 
@@ -49,12 +49,12 @@ abbrev pub next_event : ℕ → Option Data → Event
 next_event from None = event.Next from
 next_event from (Some d) = event.Data d
 
--- What an event is to the core: Next is the frame that waits, where one does.
+-- The event as it reaches the core: Next becomes the frame that waits, if there is one.
 abbrev pub met : Rings → Event → Event
 met es (event.Next from) = next_event from (waiting es from)
 met es e = e
 
--- the step of the space that an event of the node's own is: Next of a frame that waits delivers it
+-- The node's own event as a step of the space: Next of a frame that waits is its delivery.
 abbrev pub next_step : ℕ → ℕ → Option Data → Step
 next_step own from None = step.Act own (event.Next from)
 next_step own from (Some d) = step.Deliver from own d.number
@@ -74,15 +74,16 @@ emptied_at es from = slice_set es from (emptied (ring_of es from))
 abbrev pub placed_at : Rings → ℕ → ℕ → Data → Rings
 placed_at es from place d = slice_set es from (placed (ring_of es from) place d)
 
--- After a message, of whose sender so many were taken in: one that was taken in makes each place
--- that of the number before; an early one is put into its place.
+-- The early messages after a message, when `taken` messages of its sender were received before it.
+-- If it was received, each frame moves to the place before. If it was early, it is put into its
+-- place.
 abbrev pub after_data : ℕ → Rings → Data → Result Answer Refusal → Rings
 after_data taken es d (Ok answer.Received) = shifted_at es d.from
 after_data taken es d (Ok answer.Early) = placed_at es d.from (d.number - taken - 1) d
 after_data taken es d r = es
 
--- After Next: a frame that was refused leaves its place, but for want of memory. It comes again,
--- since its sender has it until it is acknowledged.
+-- After Next: a frame that was refused leaves its place, unless memory ran out. It comes again,
+-- since its sender keeps it until it is acknowledged.
 abbrev pub after_next : Rings → ℕ → Option Data → Result Answer Refusal → Rings
 after_next es from None r = es
 after_next es from (Some d) (Ok a) = shifted_at es from
@@ -94,17 +95,17 @@ early_after p es (event.Data d) r = after_data (got_from p d.from) es d r
 early_after p es (event.Next from) r = after_next es from (waiting es from) r
 early_after p es e r = es
 
--- ---- what is true of all that is kept
+-- ---- what holds of everything that is kept
 
 -- what holds of every frame of a ring
 abbrev pub OfRing : (Data → Type 0) → List (Option Data) → Type 0
 OfRing Q ring = (place : ℕ) (d : Data) → place_at ring place ≡ Some d → Q d
 
--- what holds of every frame that a node keeps, and of the node that sent it
+-- what holds of every frame that a node keeps, together with the node that sent it
 abbrev pub OfAll : (ℕ → Data → Type 0) → Rings → Type 0
 OfAll P es = (from : ℕ) → OfRing (P from) (ring_of es from)
 
--- the frame of the place of another node's ring, after so many of that node's messages
+-- a frame in this place of another node's ring, after `got` messages of that node
 pub record IsInPlace (own got from place : ℕ) (d : Data) : Type 0 where
   pub apart : from ≢ own
   pub sender : d.from ≡ from
@@ -115,7 +116,7 @@ abbrev pub RingStands : ℕ → ℕ → ℕ → List (Option Data) → Type 0
 RingStands own got from ring =
     (place : ℕ) (d : Data) → place_at ring place ≡ Some d → IsInPlace own got from place d
 
--- each node has its ring, and each frame stands in the place of its number
+-- each node has its ring, and each frame is in the place of its number
 pub record AreKept (nodes own : ℕ) (got : List ℕ) (es : Rings) : Type 0 where
   pub width : length es ≡ nodes
   pub counted : length got ≡ nodes
@@ -125,7 +126,7 @@ abbrev pub AreKeptIn : WholeNode → Type 0
 AreKeptIn n =
     AreKept n.core.local.shape.nodes n.core.local.own n.core.local.got n.early
 
--- What a call made of an event: what the definitions say of the core, and what is kept.
+-- The outcome of an event: the core as defined, and what is kept.
 pub record Handled (old new : WholeNode) (e : Event) (r : Result Answer Refusal) : Type 0 where
   pub before : AreKeptIn old
   pub performed : Performed (is_shading (met old.early e)) r old.core new.core

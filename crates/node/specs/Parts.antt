@@ -1,5 +1,5 @@
--- What the parts of a saved node say, and what they are to be, so that a node is made of them
--- ("Saved nodes" in docs/RULES.md).
+-- The parts of a saved node, and what must hold of them so that a node can be made of them ("Saved
+-- nodes" in docs/RULES.md).
 use Rattle.std.specs.Prelude.{◌≡◌, ◌≢◌, ℕ, ◌<◌, ◌≤◌, Bool, true, false, ◌&&◌, ◌||◌, ◌==◌, not}
 use Rattle.std.specs.Prelude.{nat_lt, nat_le, List, length, take, Option, Some, None, is_some}
 use Rattle.std.specs.Prelude.{slice_index_or}
@@ -25,7 +25,7 @@ use Rattle.node.specs.Invariant.{IsBalanced, links_of}
 use Rattle.node.specs.declared.node.Core.TheInside.{Inside}
 use Rattle.node.specs.declared.node.parts.NodeParts.{NodeParts}
 
--- all of the node but its links
+-- all of the node except its links
 abbrev pub local_given : NodeParts → LocalState
 local_given p =
     record {
@@ -38,7 +38,7 @@ local_given p =
       got = (links_given p.links.items).got;
     }
 
--- the node that its parts say, all of whose links count as held by a saved node
+-- the node with these parts, in which everything on its links counts as held by a saved state
 abbrev pub node_given : NodeParts → NodeView
 node_given p =
     record {
@@ -47,7 +47,7 @@ node_given p =
       acks = (links_given p.links.items).acks;
     }
 
--- a reference that the shape has room for
+-- a reference within the shape
 abbrev pub is_named : Shaped → Ref → Bool
 is_named shape r = is_within shape r && nat_le 1 r.generation
 
@@ -55,7 +55,7 @@ abbrev pub is_any_named : Shaped → Option Ref → Bool
 is_any_named shape None = true
 is_any_named shape (Some r) = is_named shape r
 
--- another node of the shape than this one
+-- a node of the shape other than this one
 abbrev pub is_neighbour : Shaped → ℕ → ℕ → Bool
 is_neighbour shape own i = nat_lt i shape.nodes && not (i == own)
 
@@ -73,13 +73,14 @@ is_object shape cycle o =
     nat_le o.mark cycle
     && (nat_le (length o.places) GREATEST_PLACES && list_all (is_any_named shape) o.places)
 
--- A slot of a node in this cycle. A free slot had a value, so its next generation is at least 2.
+-- A slot of a node in this cycle. A free slot has held an object, so its next generation is at
+-- least 2.
 abbrev pub is_slot : Shaped → ℕ → Slot → Bool
 is_slot shape cycle (Free g) = nat_le 2 g
 is_slot shape cycle (Occupied g o) = is_object shape cycle o
 is_slot shape cycle Retired = true
 
--- where a body names a place, an object may have it
+-- an object may have the place that the body names, if it names one
 abbrev pub is_placed : Body → Bool
 is_placed Begin = true
 is_placed (Token token) = true
@@ -110,14 +111,14 @@ pub record AreGreyIn (cycle : ℕ) (slots : List Slot) (grey : List ℕ) : Type 
   pub once : (j : ℕ) → j < length grey → (i : ℕ) → i < j
       → slice_index_or grey i 0 ≢ slice_index_or grey j 0
 
--- what was asked for is other nodes', each once
+-- the references asked for are other nodes', each once
 pub record AreAsked (shape : Shaped) (own : ℕ) (rs : List Ref) : Type 0 where
   pub foreign : list_all (is_foreign shape own) rs ≡ true
-  -- none stands among those before it
+  -- none is among those before it
   pub once : (j : ℕ) → j < length rs → (d : Ref)
       → is_in (slice_index_or rs j d) (take j rs) ≡ false
 
--- A report that may be there. Node 0 alone hears reports, and none of its own.
+-- A report that may be there. Only node 0 gets reports, and none of itself.
 abbrev pub is_report : ℕ → ℕ → ℕ → Bool
 is_report own i report = (report == 0) || ((own == 0) && nat_lt 0 i)
 
@@ -131,28 +132,28 @@ pub record HoldsNamed (p : LocalState) : Type 0 where
   pub registers : list_all (is_any_named p.shape) p.heap.registers ≡ true
   pub letters : list_all (is_letter p.shape p.own) p.heap.letters ≡ true
 
--- the part of a node that needs no memory to be looked at
+-- the part of a node that can be tested without memory
 pub record IsAtHome (p : LocalState) : Type 0 where
   pub own : p.own < p.shape.nodes
   pub holds : HoldsNamed p
   pub cursor : p.phases.cursor ≤ length p.heap.slots
   pub reports : AreHeard p.own p.shape.nodes p.phases.reports
-  -- where marking has ended, nothing is grey and no token is held
+  -- once marking has ended, nothing is grey and no token is held
   pub calm : p.phases.cycle ≤ p.phases.ended → is_calm p.heap ≡ true
   pub token : p.phases.cycle ≤ p.phases.ended → is_some p.ring.token ≡ false
 
--- the messages of a link may be a node's in this cycle
+-- a node in this cycle may have sent the messages of the link
 abbrev pub are_messages : Shaped → ℕ → Link → Bool
 are_messages shape cycle l = list_all (is_message shape cycle) l.unacknowledged
 
--- the links to all nodes of the shape; nothing is on that to the node itself
+-- the links to all nodes of the shape; the link to the node itself is empty
 pub record AreAtEnds (shape : Shaped) (own cycle : ℕ) (v : LinksView) : Type 0 where
   pub width : length v.links ≡ shape.nodes
   pub messages : list_all (are_messages shape cycle) v.links ≡ true
   pub unsent : used (link_at v own) ≡ 0
   pub untaken : got_at v own ≡ 0
 
--- a node that a saved one may be
+-- a node that may be a saved one
 pub record IsRestorable (n : NodeView) : Type 0 where
   pub home : IsAtHome n.local
   pub heap : IsHeapFor n.local.shape n.local.heap
@@ -171,7 +172,7 @@ pub record AreParts (p : NodeParts) : Type 0 where
   pub asked : AreAsked p.shape p.own p.asked.items
   pub ends : AreAtEnds p.shape p.own p.phases.cycle (links_given p.links.items)
 
--- parts of which a node is made: they were tested, and the heap may use the slots of the shape
+-- parts that a node can be made of: they were tested, and the heap may use the slots of the shape
 pub record IsTested (n : Inside) : Type 0 where
   pub shape : IsShape n.shape
   pub phases : IsPhases n.phases

@@ -1,4 +1,4 @@
--- A message appended by a node as it stands.
+-- A message appended by a node.
 use Rattle.std.specs.Prelude.{ℕ, [], ◌∷◌}
 use Rattle.msg.specs.declared.body.Body.{Body}
 use Rattle.model.specs.Counting.{balance_of, counted_up, stamped}

@@ -1,5 +1,5 @@
--- What a message does to a node that takes it in, by parts: what is looked after, what is sent, and
--- what its body does besides.
+-- What a message does to the node that receives it, in parts: what is shaded or vouched for, what
+-- is sent, and what else its body does.
 use Rattle.std.specs.Prelude.{◌≡◌, ◌≢◌, ℕ, ◌+◌, ◌<◌, ◌≤◌, Bool, true, false, cond, nat_lt, List, [], ◌∷◌, ◌++◌, length, Option, Some, None, map, slice_set}
 use Rattle.std.specs.List.{AllByRecursion}
 use Rattle.ids.specs.declared.limits.TheConstants.{GREATEST_CYCLE, GREATEST_NUMBER}
@@ -22,7 +22,7 @@ use Rattle.link.specs.Links.{LinksView}
 use Rattle.barrier.specs.Asked.{all_appended}
 use Rattle.node.specs.declared.node.settling.Met.{Met}
 
--- a message of the next number from there that the node may take in
+-- a message from that node, with the next number, that the node may receive
 pub record IsTakable (p : LocalState) (from stamp : ℕ) (b : Body) : Type 0 where
   pub there : from < p.shape.nodes
   pub other : from ≢ p.own
@@ -33,20 +33,20 @@ pub record IsTakable (p : LocalState) (from stamp : ℕ) (b : Body) : Type 0 whe
 
 -- ---- what a message brings
 
--- the reference that it carries beside its target, or that stands where it asks for
+-- the reference that it brings along with its target, or that is in the place that it asks for
 abbrev pub brought_by : Heap → Body → Option Ref
 brought_by h (body.Give label reference) = reference
 brought_by h (body.Put target place reference) = reference
 brought_by h (body.Get target place label) = place_of (object_at h target) place
 brought_by h b = None
 
--- At a node in this cycle, whether a Mark is sent for that one. The sender of a message of the same
--- cycle has seen to it; what the node itself reads it shades.
+-- At a node in this cycle, whether a Mark is sent for that reference. The sender of a message of
+-- the same cycle has seen to it; the node shades what it reads itself.
 abbrev pub asks_for : ℕ → ℕ → Body → Bool
 asks_for cycle stamp (body.Get target place label) = true
 asks_for cycle stamp b = nat_lt stamp cycle
 
--- a node that isn't marking meets nothing
+-- a message brings nothing to a node that isn't marking
 abbrev pub met_by : Bool → ℕ → ℕ → Option Ref → Body → Met
 met_by false cycle stamp v b = record { target = None; brought = None; asks = true }
 met_by true cycle stamp v b =
@@ -55,18 +55,18 @@ met_by true cycle stamp v b =
 abbrev pub met_references : Met → List (Option Ref)
 met_references m = m.target ∷ m.brought ∷ []
 
--- what wasn't asked for before
+-- the part of it that wasn't asked for before
 abbrev pub sought : ℕ → List Ref → Met → List Ref
 sought own asked m = unasked own asked (filled (m.brought ∷ []))
 
--- the Marks of it, and their number
+-- the Marks for that part, and their number
 abbrev pub marks_due : ℕ → Met → List Ref → List (ℕ × Message)
 marks_due cycle m us = cond m.asks (marks_for cycle us) []
 
 abbrev pub count_due : Met → List Ref → ℕ
 count_due m us = cond m.asks (length us) 0
 
--- what a Get is answered
+-- the answer to a Get
 abbrev pub reply_of : ℕ → Option Ref → Body → Option Message
 reply_of cycle v (body.Get target place label) =
     Some (record { stamp = cycle; body = body.Give label v })
@@ -76,11 +76,11 @@ abbrev pub replies : ℕ → Option Message → List (ℕ × Message)
 replies to None = []
 replies to (Some x) = (to, x) ∷ []
 
--- all that is sent
+-- all messages that are sent
 abbrev pub due : ℕ → Met → List Ref → ℕ → Option Message → List (ℕ × Message)
 due cycle m us to reply = marks_due cycle m us ++ replies to reply
 
--- These references come after those that were asked for before, and these messages last on their
+-- These references come after those that were asked for before. These messages come last on their
 -- links, each with a number.
 pub record AreSent (before new : List Ref) (was : LinksView) (ms : List (ℕ × Message))
     (asked : List Ref) (links : LinksView) : Type 0 where
@@ -88,9 +88,9 @@ pub record AreSent (before new : List Ref) (was : LinksView) (ms : List (ℕ × 
   pub fits : fits (map used was.links) ms ≡ true
   pub sent : links ≡ all_appended was ms
 
--- ---- what becomes of the node
+-- ---- the node afterwards
 
--- what was met is looked after
+-- what the message brings is shaded or vouched for
 abbrev pub looked_after : LocalState → Met → LocalState
 looked_after p m =
     record p {
@@ -99,7 +99,7 @@ looked_after p m =
       ring = counted_marks (count_due m (sought p.own p.asked m)) p.ring;
     }
 
--- what the body does besides
+-- what else the body does
 abbrev pub body_heap : ℕ → Body → Heap → Heap
 body_heap from (body.Give label reference) h =
     with_letter h (record { from = from; label = label; reference = reference })
@@ -129,7 +129,7 @@ followed p from number stamp b =
       got = slice_set p.got from number;
     }
 
--- what a node makes of a message that brings this, and is answered this
+-- the node after a message that brings `m` and is answered with `reply`, and what it sends
 abbrev pub settled_parts : LocalState → ℕ → ℕ → ℕ → Body → Met → Option Message → Work
 settled_parts p from number stamp b m reply =
     record {
@@ -143,8 +143,8 @@ settled_parts p from number stamp b m reply =
 abbrev pub sought_roots : ℕ → Heap → List Ref
 sought_roots own h = unasked own [] (filled (roots h))
 
--- what it has asked for when it has met what the message brings; how many Marks that makes; and
--- all that it sends
+-- the references asked for once those that the message brings are included; the number of Marks
+-- that this makes; and all messages sent
 abbrev pub joining_asked : ℕ → Heap → Met → List Ref
 joining_asked own h m = sought_roots own h ++ sought own (sought_roots own h) m
 
@@ -166,7 +166,7 @@ joined_parts p cycle =
       ring = counted_marks (length (sought_roots p.own p.heap)) (entered p.ring);
     }
 
--- ---- the node as it stands
+-- ---- the whole node
 
 -- the node with these parts
 abbrev pub assembled : NodeView → Heap → List Ref → Phases → Ring → LinksView → NodeView

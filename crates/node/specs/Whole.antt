@@ -1,4 +1,4 @@
--- How a node with what it keeps shows what it is.
+-- How a node's fields are seen as a node together with what it keeps.
 use Rattle.node.specs.declared.keeping.Node.TheInside.{Inside}
 use Rattle.node.specs.Keeping.{WholeNode, AreKeptIn}
 

@@ -1,5 +1,5 @@
-//! A node with the messages that it keeps until their turn. They stand beside what is saved and in
-//! no state: so each clause over the core speaks of the event that the node meets.
+//! A node together with its early messages. These are kept apart from what is saved, and are in no
+//! state. So each clause about the core is about the event that reaches the core.
 ghost use Rattle.std.specs.Prelude.{◌≡◌, ◌≢◌, ◌<◌, ◌≤◌, IsTrue, Ok, Some, IfOk, IfErr, OnErr};
 ghost use Rattle.std.specs.Option.{option_map};
 ghost use Rattle.ids.specs.declared.refusal.Refusal.TheVariants.{Memory, NoNode};
@@ -36,16 +36,16 @@ use msg::{Data, Frame};
 use std::alloc::Global;
 use std::marker::Model;
 
-/// One node: its core, which is what is saved of it, and for each other node a ring of
-/// [`WINDOW`](ids::WINDOW) places with the messages from there that came before their turn. What
-/// the rings hold is in no state and in no image, and a restart loses it.
+/// One node: its core, which is the part that is saved, and for each other node a ring buffer of
+/// [`WINDOW`](ids::WINDOW) places for early messages from there. What the ring buffers hold is in
+/// no state and in no image, and a restart loses it.
 pub struct Node {
     core: Core,
-    // For each node of the space, itself among them, in order of their numbers.
+    // For each node of the space, including itself, in order of their numbers.
     early: Vec<EarlyFrames>,
 }
 
-// Written out, so that the crates above need not prove anew how each field is dropped.
+// Written out, so that the crates above don't have to prove again how each field is dropped.
 impl Drop for Node {
     fn drop(self) {
         let Node { core: _, early: _ } = self;
@@ -65,8 +65,8 @@ impl Model for Node {
 }
 
 impl Node {
-    /// A new node of the shape: nothing allocated, nothing sent, nothing received. `NoNode` where
-    /// the shape has no such node, `Memory` where a growth was refused.
+    /// Makes a new node of the shape: nothing allocated, nothing sent, nothing received. It fails
+    /// with `NoNode` if the shape has no such node, and with `Memory` if an allocation fails.
     pub fn new(alloc: Global, shape: Shape, own: NodeId) -> Result<Node, Refusal>
         ensures made { IfOk result (λ n. n ≡ new_whole shape own.number) }
         ensures there { IfOk result (λ _. own.number < shape.nodes) }
@@ -78,7 +78,8 @@ impl Node {
         Node::of(alloc, core)
     }
 
-    /// The node of this core, which keeps no message. `Memory` where the rings were refused.
+    /// Makes the node of this core, which keeps no message. It fails with `Memory` if the ring
+    /// buffers can't be allocated.
     pub fn of(alloc: Global, core: Core) -> Result<Node, Refusal>
         ensures made { IfOk result (λ n. n ≡ alone core) }
         ensures refused { IfErr result (λ e. e ≡ Memory) }
@@ -88,17 +89,19 @@ impl Node {
         Ok(Node { core, early })
     }
 
-    /// Performs one event. The refusals come in the order in which docs/RULES.md lists them for
-    /// each event, and `Memory` after all of them, where a growth was refused; `Load`, `Begin`,
-    /// `Scan` and a message may be refused memory in place of `LinkSpent` too. A refused event
-    /// leaves the core as it was. `Copy`, `Drop`, `Store`, `Clear`, `Word`, `SetWord`, `Accept`, a
-    /// `Sweep` that leaves slots or is node 0's, `Ack`, `Next` for which no message waits, and a
-    /// message that isn't the next one are never refused memory. `Word`, and a message that was
-    /// taken in before or comes before its turn, leave the core as it was too.
+    /// Performs one event. Refusals come in the order in which docs/RULES.md lists them for each
+    /// event, and `Memory` comes after all of them, if an allocation fails. `Load`, `Begin`, `Scan`
+    /// and a message may also fail with `Memory` in place of `LinkSpent`. A refused event leaves
+    /// the core as it was.
     ///
-    /// A message that comes before its turn is kept, unless one stands in its place already. `Next`
-    /// takes in the message that waits, as if it came now, and is refused `NothingToDo` where none
-    /// does. One that is refused has left its place then, but for want of memory.
+    /// These never fail with `Memory`: `Copy`, `Drop`, `Store`, `Clear`, `Word`, `SetWord`,
+    /// `Accept`, `Ack`, a `Sweep` that leaves slots or is node 0's, a `Next` for which no message
+    /// waits, and a message that isn't the next one. `Word`, a repeated message and an early one
+    /// also leave the core as it was.
+    ///
+    /// An early message is kept, unless its place is taken already. `Next` receives the message
+    /// that waits, as if it arrived now, and fails with `NothingToDo` if none does. If that message
+    /// is refused, it has left its place, unless memory ran out.
     #[inline(always)]
     pub fn act(&mut self, event: Event) -> Result<Answer, Refusal>
         ensures performs { Performs (is_shading (met self.old.early event)) result self.new.core
@@ -119,8 +122,8 @@ impl Node {
         self.handle(event)
     }
 
-    // (What the two calls write stands in places of their own, so that the answers of all other
-    // events need not go through memory.)
+    // (Separate variables for what the two calls write, so that the answers of all other events
+    // need not go through memory.)
     #[inline(always)]
     fn handle(&mut self, event: Event) -> Result<Answer, Refusal>
         ensures { Handled self.old self.new event result }
@@ -168,7 +171,7 @@ impl Node {
         }
     }
 
-    /// The frame from this node that waits for [`Event::Next`], if one does.
+    /// The frame from that node that waits for [`Event::Next`], if there is one.
     pub fn waiting(&self, from: u8) -> Option<Data>
         ensures value { result ≡ waiting self.now.early from }
         ensures kept { AreKeptIn self.now }
@@ -176,14 +179,14 @@ impl Node {
         front(&self.early, from)
     }
 
-    /// Counts all messages as held by a saved node. It is called after a save, and releases them.
+    /// Marks all messages as held by a saved state, which releases them. Call it after a save.
     pub fn kept(&mut self)
         ensures { self.new ≡ kept_whole self.old }
     {
         self.core.kept();
     }
 
-    /// What is saved of the node.
+    /// The part of the node that is saved.
     pub fn core(&self) -> &Core
         ensures value { result.now ≡ self.now.core }
         ensures kept { AreKeptIn self.now }
@@ -199,14 +202,14 @@ impl Node {
         self.core.state()
     }
 
-    /// The frame in this place of the window to another node, as [`Core::frame_at`] says.
+    /// The frame in this place of the window to another node; see [`Core::frame_at`].
     pub fn frame_at(&self, to: u8, place: u8) -> Option<Frame>
         ensures { option_map plain result ≡ released_frame self.now.core to place }
     {
         self.core.frame_at(to, place)
     }
 
-    /// The acknowledgement to another node, as [`Core::ack_for`] says.
+    /// The acknowledgement to another node; see [`Core::ack_for`].
     pub fn ack_for(&self, from: u8) -> Option<Frame>
         ensures { option_map plain result ≡ acknowledgement self.now.core from }
     {
@@ -244,7 +247,8 @@ fn put(early: &mut Vec<EarlyFrames>, from: u8, place: usize, frame: Data)
     }
 }
 
-/// What becomes of what is kept when the message, after so many, was answered so.
+/// Updates the early messages after this message got this answer. Before it, `taken` messages of
+/// its sender had been received.
 fn keep(early: &mut Vec<EarlyFrames>, taken: u64, frame: Data, answer: Answer)
     ensures { early.new.items ≡ after_data taken early.old.items frame (Ok answer) }
 {

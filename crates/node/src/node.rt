@@ -1,5 +1,5 @@
-//! What is saved of a node, and what tells its events apart. Each event has a small function of its
-//! own, by subject in the files below, with the tests in the order of the rules.
+//! The saved part of a node, and the dispatch of its events. Each event has its own small function,
+//! grouped by subject in the files below, with the tests in the order of the rules.
 ghost use Rattle.std.specs.Prelude.{◌≡◌, ◌≢◌, ◌<◌, ◌≤◌, IsTrue, IfOk, IfErr};
 ghost use Rattle.ids.specs.declared.refusal.Refusal.TheVariants.{Memory, NoNode};
 ghost use Rattle.model.specs.Steps.{is_addressed, is_memory_free, is_shading};
@@ -27,21 +27,21 @@ use safra::Ring;
 use std::alloc::Global;
 use std::marker::Model;
 
-/// What is saved of a node: its heap, its part in the collection cycles and in the ring, and for
-/// each other node its messages to there that aren't acknowledged and how much it took in from
-/// there. It keeps no messages before their turn.
+/// The part of a node that is saved: its heap, and its part in the collection cycles and in the
+/// ring. For each other node it has the messages to there that aren't acknowledged, and how many it
+/// received from there. It keeps no early messages.
 pub struct Core {
     shape: Shape,
     own: u8,
     heap: Heap,
-    // References of other nodes that were asked for in this cycle, in order.
+    // References of other nodes that were asked or vouched for in this cycle, in order.
     asked: RefSet,
     phases: Phases,
     ring: Ring,
     links: Links,
 }
 
-// Written out, so that the crates above need not prove anew how each field is dropped.
+// Written out, so that the crates above don't have to prove again how each field is dropped.
 impl Drop for Core {
     fn drop(self) {
         let Core {
@@ -74,8 +74,8 @@ impl Core {
     ghost use Rattle.node.specs.Invariant.{IsNode};
     ghost use Rattle.node.specs.Parts.{IsRestorable};
 
-    /// A new node of the shape: nothing allocated, nothing sent, nothing received. `NoNode` where
-    /// the shape has no such node, `Memory` where a growth was refused.
+    /// Makes a new node of the shape: nothing allocated, nothing sent, nothing received. It fails
+    /// with `NoNode` if the shape has no such node, and with `Memory` if an allocation fails.
     pub fn new(alloc: Global, shape: Shape, own: NodeId) -> Result<Core, Refusal>
         ensures made { IfOk result (λ n. n ≡ new_view shape own.number) }
         ensures there { IfOk result (λ _. own.number < shape.nodes) }
@@ -97,7 +97,7 @@ impl Core {
         })
     }
 
-    /// Performs one event, which may shade (`is_shading`). A refused one changes nothing.
+    /// Performs one event, which may shade (`is_shading`). A refused event changes nothing.
     #[inline(always)]
     pub(crate) fn perform(&mut self, event: Event) -> Result<Answer, Refusal>
         ensures performed { Performed (is_shading event) result self.old self.new
@@ -148,15 +148,15 @@ impl Core {
         }
     }
 
-    /// Counts all messages as held by a saved node. It is called after a save, and releases them.
+    /// Marks all messages as held by a saved state, which releases them. Call it after a save.
     pub fn kept(&mut self)
         ensures { self.new ≡ kept_view self.old }
     {
         self.links.kept();
     }
 
-    /// The node in numbers. Its contract says besides what is true of every node, and of its slots,
-    /// and that a node can be made from the parts of this one ([`Core::from_parts`]).
+    /// The node in numbers. The contract also states what holds of every node and of its slots, and
+    /// that a node can be made from the parts of this one ([`Core::from_parts`]).
     pub fn state(&self) -> Summary
         ensures value { result ≡ summary_of self.now.local }
         ensures sound { IsNode self.now }

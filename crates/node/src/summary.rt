@@ -1,9 +1,9 @@
-//! A node in numbers, for who looks at it. They are those of the state that the node shows.
+//! A node in numbers, for observers. They are those of the state that the node shows.
 use ids::Shape;
 use msg::Colour;
 
-/// A node in numbers: what its phases, its part of the ring, its grey list, its slots and its
-/// letters come to.
+/// A node in numbers: its phases, its part of the ring, and how many grey objects, live objects and
+/// letters it has.
 #[derive(Clone, Copy, Debug, PartialEq, Eq)]
 pub struct Summary {
     pub shape: Shape,
@@ -12,11 +12,11 @@ pub struct Summary {
     pub ended: u64,
     pub swept: u64,
     pub colour: Colour,
-    /// Messages sent less those taken in, of those that count in the current
-    /// cycle. Printed as `old`.
+    /// Messages sent less those received, of those that count in the current cycle. Printed as
+    /// `old`.
     pub earlier: i64,
-    /// The same of those that the next cycle counts: the ones with references, from the current
-    /// cycle. Printed as `cur`.
+    /// The same for the messages that the next cycle counts: those with references, sent in the
+    /// current cycle. Printed as `cur`.
     pub recent: i64,
     pub grey: usize,
     pub live: u32,

@@ -1,4 +1,4 @@
--- The balances stay within the number of messages that a node has sent and taken in.
+-- The balances stay within the number of messages that a node has sent and received.
 use Rattle.std.proofs.Common.{ℕ, ◌+◌, ◌≤◌, Option, Some, None, arith}
 use Rattle.std.proofs.lemmas.Int.{ints}
 use Rattle.model.specs.declared.balance.Balance.{Balance}

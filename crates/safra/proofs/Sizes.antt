@@ -1,5 +1,4 @@
--- The bound of a node's balances, in other words: each without its sign, they are together no
--- larger.
+-- The bound on a node's balances in other words: the sum of their absolute values is no larger.
 use Rattle.std.proofs.Common.{ℕ, ℤ, pos, negsuc, ◌+◌, ◌+ℤ◌, ◌-ℤ◌, neg_ℤ, ◌≤◌, arith}
 use Rattle.std.specs.Prelude.{◌≤ℤ◌}
 use Rattle.std.specs.Int.RustNames.{unsigned_abs}

@@ -1,6 +1,6 @@
-//! A node's colour, its balances, and the token while it has it. The token is handed on with the
-//! sum and the colour that EWD998 says, and node 0 sees the end where all is white and the sum is
-//! 0.
+//! A node's colour, its balances, and the token while the node has it. The token is passed on with
+//! the sum and the colour that EWD998 prescribes. Node 0 finds the end of marking when everything
+//! is white and the sum is 0.
 ghost use Rattle.std.specs.Prelude.{◌≡◌, ◌≤◌, ◌^◌, IsSome};
 ghost use Rattle.ids.specs.declared.limits.TheConstants.{GREATEST_COUNTED};
 ghost use Rattle.model.specs.State.{new_ring};
@@ -30,16 +30,16 @@ const NEW_TOKEN: Token = Token {
     q: 0,
 };
 
-/// What a node keeps for the ring, in the terms of EWD998: its colour, its message count in two
-/// parts, and the token while the node has it.
+/// A node's state in the ring, in the terms of EWD998: its colour, its message count in two parts,
+/// and the token while the node has it.
 ///
-/// The count is what the node sent less what it took in. `earlier` is that of the messages that
-/// count in the node's present cycle, and the one that goes into the token. `recent` is that of the
-/// messages with references from the present cycle, which the next one counts. Black means: since
-/// the token left, the node took in a counted message, or joined a cycle.
+/// The count is messages sent less messages received. `earlier` is that of the messages that count
+/// in the node's present cycle, and is added to the token. `recent` is that of the messages with
+/// references from the present cycle, which the next cycle counts. Black means that, since the
+/// token left, the node has received a counted message or joined a cycle.
 ///
-/// No call takes memory. Calls that count ask that the two parts together are at most
-/// [`ids::GREATEST_COUNTED`], whatever their signs: no node sends and takes in more.
+/// No call allocates memory. Calls that count require that the two parts together are at most
+/// [`ids::GREATEST_COUNTED`], whatever their signs: no node sends and receives more.
 #[derive(Clone, Copy, Debug, PartialEq, Eq)]
 pub struct Ring {
     colour: Colour,
@@ -61,7 +61,7 @@ impl Model for Ring {
 }
 
 impl Ring {
-    /// The ring of a new node: white, with nothing counted and no token.
+    /// Makes the ring state of a new node: white, with nothing counted and no token.
     pub fn new() -> Ring
         ensures { result ≡ new_ring }
     {
@@ -73,7 +73,7 @@ impl Ring {
         }
     }
 
-    /// The ring of these parts, as the readers give them.
+    /// Makes the ring state of these parts, as the getters return them.
     pub fn from_parts(colour: Colour, earlier: i64, recent: i64, token: Option<Token>) -> Ring
         ensures { result ≡ ring_of colour earlier recent token }
     {
@@ -92,29 +92,29 @@ impl Ring {
         self.colour
     }
 
-    /// Messages sent less those taken in, of those that count in the node's present cycle.
+    /// Messages sent less those received, of those that count in the node's present cycle.
     pub fn earlier(&self) -> i64
         ensures { result ≡ self.now.earlier }
     {
         self.earlier
     }
 
-    /// Messages sent less those taken in, of those that the next cycle counts.
+    /// Messages sent less those received, of those that the next cycle counts.
     pub fn recent(&self) -> i64
         ensures { result ≡ self.now.recent }
     {
         self.recent
     }
 
-    /// The token, where the node has it.
+    /// The token, if the node has it.
     pub fn token(&self) -> Option<Token>
         ensures { result ≡ self.now.token }
     {
         self.token
     }
 
-    /// Counts a message that was sent, in the balance that [`balance_of`](crate::balance_of) gives;
-    /// None changes nothing.
+    /// Counts a message that was sent, in the balance that [`balance_of`](crate::balance_of)
+    /// returns; `None` changes nothing.
     pub fn sent(&mut self, balance: Option<Balance>)
         requires { IsBounded GREATEST_COUNTED self.old }
         ensures { self.new ≡ counted_up balance self.old }
@@ -126,7 +126,7 @@ impl Ring {
         }
     }
 
-    /// Counts so many Marks that were sent. A Mark counts in the present cycle.
+    /// Counts this many Marks as sent. A Mark counts in the present cycle.
     pub fn sent_marks(&mut self, count: u64)
         requires small { IsBounded GREATEST_COUNTED self.old }
         requires few { count ≤ GREATEST_COUNTED }
@@ -135,9 +135,9 @@ impl Ring {
         self.earlier += count as i64;
     }
 
-    /// Counts a message that was taken in, in the balance that [`balance_of`](crate::balance_of)
-    /// gives; None changes nothing. One that counts in the present cycle makes the node black,
-    /// since it may have made the node active after the token left.
+    /// Counts a message that was received, in the balance that [`balance_of`](crate::balance_of)
+    /// returns; `None` changes nothing. A message that counts in the present cycle makes the node
+    /// black, since it may have made the node active after the token left.
     pub fn received(&mut self, balance: Option<Balance>)
         requires { IsBounded GREATEST_COUNTED self.old }
         ensures { self.new ≡ counted_down balance self.old }
@@ -152,7 +152,7 @@ impl Ring {
         }
     }
 
-    /// The node joins the next cycle: what the next cycle was to count counts now, and the node is
+    /// Joins the next cycle: what the next cycle was to count counts now, and the node becomes
     /// black.
     pub fn join(&mut self)
         requires { IsBounded GREATEST_COUNTED self.old }
@@ -163,16 +163,17 @@ impl Ring {
         self.recent = 0;
     }
 
-    /// The token has come. One that the node had is lost.
+    /// Stores the token that has arrived. A token that the node already had is lost.
     pub fn hold(&mut self, token: Token)
         ensures { self.new ≡ with_token token self.old }
     {
         self.token = Some(token);
     }
 
-    /// Hands the token on, which must be there. Its sum grows by the balance of the present cycle,
-    /// modulo 2^64. It is black where it was, or where the node is; the node is white then. EWD998
-    /// lets only a passive node do so, which is one without grey objects: that its caller sees to.
+    /// Passes the token on; the node must have it. Its sum grows by the balance of the present
+    /// cycle, modulo 2^64. It is black if it was black or the node is black; then the node becomes
+    /// white. EWD998 allows only a passive node to do so, which is one without grey objects: the
+    /// caller ensures that.
     pub fn forward(&mut self) -> Token
         requires { IsSome self.old.token }
         ensures token { result ≡ forwarded self.old }
@@ -199,7 +200,7 @@ impl Ring {
         self.token.unwrap()
     }
 
-    // The token's sum with the node's balance.
+    // The token's sum plus the node's balance.
     #[tactic(auto, using(std::proofs::lemmas::Int::wraps))]
     fn sum(&self) -> i64
         requires { IsSome self.now.token }
@@ -208,8 +209,8 @@ impl Ring {
         self.held().q.wrapping_add(self.earlier)
     }
 
-    /// Node 0 starts a probe: the token is to go to the last node. It is white with the sum 0, and
-    /// the node is white then.
+    /// Starts a probe at node 0: returns the token for the last node, white with the sum 0, and
+    /// makes the node white.
     pub fn probe(&mut self) -> Token
         ensures token { result ≡ new_token }
         ensures done { self.new ≡ whitened self.old }
@@ -218,10 +219,10 @@ impl Ring {
         NEW_TOKEN
     }
 
-    /// Node 0 judges the token, which must be there, and leaves. Marking has ended exactly where
-    /// node and token are white and the sum with the node's own balance is 0, modulo 2^64; else a
-    /// probe starts. EWD998 lets only a passive node do so, which is one without grey objects: that
-    /// its caller sees to.
+    /// Judges the token at node 0, which must have it; the token then leaves. Marking has ended
+    /// exactly if node and token are white and the token's sum plus the node's own balance is 0,
+    /// modulo 2^64. Otherwise a probe starts. EWD998 allows only a passive node to do so, which is
+    /// one without grey objects: the caller ensures that.
     pub fn verdict(&mut self) -> Verdict
         requires { IsSome self.old.token }
         ensures verdict { result ≡ verdict_of self.old }

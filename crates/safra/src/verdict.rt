@@ -1,12 +1,12 @@
-//! What node 0 makes of the token that has come round. Where it can't tell that marking has ended,
-//! it asks again.
+//! What node 0 concludes from the token once it has gone round. If node 0 can't conclude that
+//! marking has ended, it starts another probe.
 use msg::Token;
 
-/// What node 0 makes of the token that has come round.
+/// What node 0 concludes from the token once it has gone round.
 #[derive(Clone, Copy, Debug, PartialEq, Eq)]
 pub enum Verdict {
     /// Marking has ended everywhere.
     Ended,
-    /// Marking may not have ended yet: this token goes round.
+    /// Marking may not have ended yet: this token goes round next.
     Probe(Token),
 }

@@ -1,5 +1,5 @@
-//! Letters that wait for the program, oldest first. Room for one is made before its message is
-//! taken in, so a letter that is added can't be refused.
+//! Letters that wait for the program, oldest first. Room for a letter is made before its message is
+//! received, so adding it can't fail.
 ghost use Rattle.std.specs.Prelude.{◌≡◌, ◌<◌, ◌-◌, length, Ok, Err, OnErr, IfOk, IfErr};
 ghost use Rattle.model.specs.Heaps.{with_letter, heap_accept};
 ghost use Rattle.heap.specs.Heap.{KeepsRoom};
@@ -9,11 +9,11 @@ use ids::Refusal;
 use model::Letter;
 
 impl Heap {
-    /// Takes the oldest letter out. The register then holds the letter's reference, or nothing
-    /// where the letter has none.
+    /// Removes the oldest letter. The register then holds the letter's reference, or nothing if the
+    /// letter has none.
     ///
-    /// It answers [`Refusal::NoRegister`] where there is no such register, and
-    /// [`Refusal::NoLetter`] where no letter waits. The heap is then as it was.
+    /// It fails with [`Refusal::NoRegister`] if there is no such register, and with
+    /// [`Refusal::NoLetter`] if no letter waits. The heap is then as it was.
     #[tactic(auto, unfolding(model::specs::Heaps::heap_accept))]
     pub fn take_letter(&mut self, register: u16) -> Result<Letter, Refusal>
         ensures done { IfOk result
@@ -34,7 +34,7 @@ impl Heap {
         Ok(letter)
     }
 
-    /// Puts a letter behind those that wait. It takes no memory: the room for it was made by
+    /// Adds a letter behind those that wait. It allocates nothing: the room was made by
     /// [`Heap::make_room`].
     pub fn add_letter(&mut self, letter: Letter)
         requires { 0 < self.old.letter_room }
@@ -46,7 +46,7 @@ impl Heap {
         self.letters.push_back_reserved(letter);
     }
 
-    /// How many letters wait.
+    /// The number of letters that wait.
     pub fn letters(&self) -> usize
         ensures { result ≡ length self.now.heap.letters }
     {

@@ -1,5 +1,5 @@
-//! Marking: the room that it wants, shading, the roots, and the grey objects. What may be refused,
-//! the room, comes first; then marking can't fail.
+//! Marking: the room that it needs, shading, the roots, and the grey objects. Making room can fail
+//! and comes first; after that, marking can't fail.
 ghost use Rattle.std.specs.Prelude.{◌≡◌, ℕ, ◌+◌, ◌^◌, ◌<◌, ◌≤◌, length, slice_index_or};
 ghost use Rattle.std.specs.Prelude.{None, is_none, option_to_list, IsOk, IfSome, IfErr, OnOk};
 ghost use Rattle.std.specs.List.{list_any};
@@ -18,11 +18,12 @@ use super::objects::key;
 use ids::{Ref, Refusal};
 
 impl Heap {
-    /// Makes room for so many grey objects and so many letters, so that they want no memory later.
-    /// Nothing else changes. Where there is room for them already it takes no memory and never
-    /// fails; a growth moves all grey objects or all letters, and doubles the room for them.
+    /// Makes room for this many grey objects and letters, so that they need no allocation later.
+    /// Nothing else changes. If there is room for them already, it allocates nothing and never
+    /// fails. Otherwise the list of grey objects or the queue of letters is moved and its room
+    /// doubled.
     ///
-    /// It answers [`Refusal::Memory`] where a growth was refused. There may be more room then than
+    /// It fails with [`Refusal::Memory`] if an allocation fails. There may then be more room than
     /// before, and never less.
     pub fn make_room(&mut self, greys: usize, letters: usize) -> Result<(), Refusal>
         ensures room { OnOk result (HasRoom self.new greys letters) }
@@ -36,10 +37,10 @@ impl Heap {
         Ok(())
     }
 
-    /// Shades what is this node's of the references: each object that is there and isn't marked by
-    /// `cycle` yet is marked, and its slot comes last among the grey ones. References of other
-    /// nodes, and to objects that aren't there any more, change nothing. `own` is the node's
-    /// number. It takes no memory: the room for all the references was made by
+    /// Shades those of the references that are this node's. Each object that is there and isn't
+    /// marked by `cycle` yet is marked, and its slot comes last among the grey ones. References to
+    /// other nodes' objects, and to objects that aren't there any more, change nothing. `own` is
+    /// the node's number. It allocates nothing: the room for all the references was made by
     /// [`Heap::make_room`].
     #[inline(always)]
     pub fn shade(&mut self, own: u8, cycle: u64, references: &[Option<Ref>])
@@ -54,8 +55,8 @@ impl Heap {
     }
 
     /// Shades what the program holds, as [`Heap::shade`] does: the registers in order, then the
-    /// letters, oldest first. It takes no memory: the room for all of them,
-    /// [`Heap::root_count`], was made by [`Heap::make_room`].
+    /// letters, oldest first. It allocates nothing: the room for all [`Heap::root_count`] of them
+    /// was made by [`Heap::make_room`].
     pub fn shade_roots(&mut self, own: u8, cycle: u64)
         requires { length (roots self.old.heap) ≤ self.old.room }
         ensures { Became self.old self.new
@@ -69,8 +70,8 @@ impl Heap {
         }
     }
 
-    /// How many roots there are: registers and letters, also those that hold no reference. There
-    /// are fewer than 2^16 registers, and fewer than 2^63 letters.
+    /// The number of roots: registers and letters, also those that hold no reference. There are
+    /// fewer than 2^16 registers and fewer than 2^63 letters.
     pub fn root_count(&self) -> usize
         ensures count { result ≡ length (roots self.now.heap) }
         ensures within { result < 2 ^ 63 + 2 ^ 16 }
@@ -78,8 +79,9 @@ impl Heap {
         self.registers.len() + self.letters.len()
     }
 
-    /// What the root of this number holds: the registers come first, in order, and then the
-    /// letters, oldest first. Nothing where there is no such root. It looks at this root alone.
+    /// What the root with this number holds. Registers come first, in order, and then letters,
+    /// oldest first. `None` if it holds no reference or there is no such root. Only this root is
+    /// read.
     pub fn root(&self, number: usize) -> Option<Ref>
         ensures { result ≡ slice_index_or (roots self.now.heap) number None }
     {
@@ -93,7 +95,7 @@ impl Heap {
     }
 
     /// Whether shading the roots in this cycle would turn an object grey. `own` is the node's
-    /// number. It looks at the roots up to the first such one.
+    /// number. The roots are read up to the first such one.
     pub fn wakes_root(&self, own: u8, cycle: u64) -> bool
         ensures { result
             ≡ list_any (wakes own cycle self.now.heap) (filled (roots self.now.heap)) }
@@ -106,7 +108,7 @@ impl Heap {
         false
     }
 
-    /// How many marked objects are still to be scanned.
+    /// The number of marked objects that are still to be scanned.
     pub fn grey(&self) -> usize
         ensures { result ≡ length self.now.heap.grey }
     {
@@ -114,7 +116,7 @@ impl Heap {
     }
 
     /// The slot of the grey object that is to be scanned next, which is the one that turned grey
-    /// last; None where no object is grey.
+    /// last. `None` if no object is grey.
     pub fn last_grey(&self) -> Option<u32>
         ensures none { is_none result ≡ is_calm self.now.heap }
         ensures value { IfSome result (λ slot. slot ≡ last_grey self.now.heap) }
@@ -122,17 +124,17 @@ impl Heap {
         self.grey.last().copied()
     }
 
-    /// Takes the object that is to be scanned next off the list of the grey ones. It stays marked.
-    /// Where no object is grey, nothing changes.
+    /// Removes the object that is to be scanned next from the list of the grey ones. It stays
+    /// marked. If no object is grey, nothing changes.
     pub fn pop_grey(&mut self)
         ensures { Became self.old self.new (without_last_grey self.old.heap) 0 }
     {
         self.grey.pop();
     }
 
-    /// The reference to what is in a slot, by the generation that the slot has: that of its object,
-    /// or of the next one where the slot is free, or 0 where it is retired or was never used. `own`
-    /// is the node's number.
+    /// The reference to what is in a slot, by the generation that the slot has. This is the
+    /// generation of its object, or of the next one if the slot is free, or 0 if it is retired or
+    /// was never used. `own` is the node's number.
     pub fn reference_at(&self, own: u8, slot: u32) -> Ref
         ensures { result ≡ reference_in own self.now.heap slot }
     {
@@ -143,8 +145,7 @@ impl Heap {
         }
     }
 
-    /// What the places of the object in a slot hold, in order; nothing where the slot has no
-    /// object.
+    /// What the places of the object in a slot hold, in order; empty if the slot has no object.
     pub fn places(&self, slot: u32) -> &[Option<Ref>]
         ensures value { result.now ≡ places_in (slot_at self.now.heap slot) }
         ensures few { length result.now ≤ GREATEST_PLACES }
@@ -155,7 +156,7 @@ impl Heap {
         }
     }
 
-    // Shades what is there, if it is this node's.
+    // Shades the object of this reference, if there is one and it is this node's.
     fn shade_one(&mut self, own: u8, cycle: u64, reference: Option<Ref>)
         requires { 0 < self.old.room }
         ensures { Became self.old self.new
@@ -182,7 +183,7 @@ impl Heap {
         }
     }
 
-    // Whether shading what is there would turn an object grey.
+    // Whether shading this reference would turn an object grey.
     fn wakes(&self, own: u8, cycle: u64, reference: Option<Ref>) -> bool
         ensures { result
             ≡ list_any (wakes own cycle self.now.heap) (option_to_list reference) }

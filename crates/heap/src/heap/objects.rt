@@ -1,5 +1,5 @@
-//! Objects, found by a register or a reference. Where the generation of a reference isn't that of
-//! its slot's object, nothing is found.
+//! Objects, found by a register or a reference. If the generation of a reference isn't that of the
+//! object in its slot, nothing is found.
 ghost use Rattle.std.specs.Prelude.{◌≡◌, ℕ, ◌<◌, ◌≤◌, length, count_by, is_some, IsTrue, option_copied};
 ghost use Rattle.std.specs.Prelude.{false, Ok, Err, OnOk, OnErr, IfOk, IfErr};
 ghost use Rattle.ids.specs.Limits.{reference_fits};
@@ -19,13 +19,13 @@ use arena::Key;
 use ids::{GREATEST_PLACES, Ref, Refusal};
 
 impl Heap {
-    /// Makes an object with this many empty places, marked by `cycle`, puts its reference into the
-    /// register, and gives that reference. `own` is the node's number.
+    /// Makes an object with this many empty places, marked by `cycle`. Its reference goes into the
+    /// register and is returned. `own` is the node's number.
     ///
-    /// It answers [`Refusal::NoRegister`] where there is no such register,
-    /// [`Refusal::TooManyFields`] where an object may not have so many places,
-    /// [`Refusal::ArenaFull`] where no slot is left, and, where none of these applies,
-    /// [`Refusal::Memory`] where there is no memory for the object. The heap is then as it was.
+    /// It fails with [`Refusal::NoRegister`] if there is no such register, with
+    /// [`Refusal::TooManyFields`] if an object may not have this many places, and with
+    /// [`Refusal::ArenaFull`] if no slot is left. If none of these applies, it fails with
+    /// [`Refusal::Memory`] if there is no memory for the object. The heap is then as it was.
     #[tactic(auto, unfolding(model::specs::Heaps::heap_alloc))]
     pub fn alloc(&mut self, own: u8, cycle: u64, register: u16, places: u8) -> Result<Ref, Refusal>
         ensures done { IfOk result (λ r.
@@ -50,7 +50,7 @@ impl Heap {
         if self.objects.is_full() {
             return Err(Refusal::ArenaFull);
         }
-        // From here on memory alone may be missing.
+        // From here on it can fail only for lack of memory.
         let object = Object::new(*self.registers.allocator(), cycle, places)?;
         let Ok(key) = self.objects.insert(object) else {
             return Err(Refusal::Memory);
@@ -64,14 +64,14 @@ impl Heap {
         Ok(reference)
     }
 
-    /// What a load gives: what stands in a place of the object that the register `object` names, or
-    /// nothing where the place is empty. It is to go into `register`, by [`Heap::set_register`].
-    /// `own` is the node's number.
+    /// The result of a load: what is in a place of the object that the register `object` names, or
+    /// nothing if the place is empty. The caller puts it into `register`, by
+    /// [`Heap::set_register`]. `own` is the node's number.
     ///
-    /// It answers [`Refusal::NoRegister`] where one of the two is no register,
-    /// [`Refusal::EmptyRegister`] where `object` is empty, [`Refusal::Remote`] where it names an
-    /// object of another node, and [`Refusal::NoField`] where the object isn't there or has no such
-    /// place.
+    /// It fails with [`Refusal::NoRegister`] if one of the two registers doesn't exist, and with
+    /// [`Refusal::EmptyRegister`] if `object` is empty. It fails with [`Refusal::Remote`] if
+    /// `object` names an object of another node, and with [`Refusal::NoField`] if the object isn't
+    /// there or has no such place.
     #[tactic(auto, unfolding(model::specs::Heaps::heap_register))]
     pub fn loaded(
         &self,
@@ -94,10 +94,10 @@ impl Heap {
     /// Writes what `register` holds into a place of the object that the register `object` names.
     /// `own` is the node's number.
     ///
-    /// It answers [`Refusal::NoRegister`] where one of the two is no register,
-    /// [`Refusal::EmptyRegister`] where one of them is empty, [`Refusal::Remote`] where `object`
-    /// names an object of another node, and [`Refusal::NoField`] where the object isn't there or
-    /// has no such place. The heap is then as it was.
+    /// It fails with [`Refusal::NoRegister`] if one of the two registers doesn't exist, and with
+    /// [`Refusal::EmptyRegister`] if one of them is empty. It fails with [`Refusal::Remote`] if
+    /// `object` names an object of another node, and with [`Refusal::NoField`] if the object isn't
+    /// there or has no such place. The heap is then as it was.
     #[tactic(auto, unfolding(model::specs::Heaps::heap_store, model::specs::Heaps::heap_register))]
     pub fn store(&mut self, own: u8, object: u16, place: u8, register: u16) -> Result<(), Refusal>
         ensures done { OnOk result
@@ -121,10 +121,10 @@ impl Heap {
 
     /// Empties a place of the object that the register `object` names. `own` is the node's number.
     ///
-    /// It answers [`Refusal::NoRegister`] where there is no such register,
-    /// [`Refusal::EmptyRegister`] where it is empty, [`Refusal::Remote`] where it names an object
-    /// of another node, and [`Refusal::NoField`] where the object isn't there or has no such place.
-    /// The heap is then as it was.
+    /// It fails with [`Refusal::NoRegister`] if there is no such register, and with
+    /// [`Refusal::EmptyRegister`] if it is empty. It fails with [`Refusal::Remote`] if it names an
+    /// object of another node, and with [`Refusal::NoField`] if the object isn't there or has no
+    /// such place. The heap is then as it was.
     #[tactic(auto, unfolding(model::specs::Heaps::heap_clear))]
     pub fn clear(&mut self, own: u8, object: u16, place: u8) -> Result<(), Refusal>
         ensures done { OnOk result (heap_clear own self.old.heap object place ≡ Ok self.new.heap) }
@@ -140,9 +140,9 @@ impl Heap {
 
     /// The word of the object that the register `object` names. `own` is the node's number.
     ///
-    /// It answers [`Refusal::NoRegister`] where there is no such register,
-    /// [`Refusal::EmptyRegister`] where it is empty, [`Refusal::Remote`] where it names an object
-    /// of another node, and [`Refusal::NoField`] where the object isn't there.
+    /// It fails with [`Refusal::NoRegister`] if there is no such register, and with
+    /// [`Refusal::EmptyRegister`] if it is empty. It fails with [`Refusal::Remote`] if it names an
+    /// object of another node, and with [`Refusal::NoField`] if the object isn't there.
     #[tactic(auto, unfolding(model::specs::Heaps::heap_word))]
     pub fn word(&self, own: u8, object: u16) -> Result<u64, Refusal>
         ensures { result ≡ heap_word own self.now.heap object }
@@ -154,13 +154,12 @@ impl Heap {
         }
     }
 
-    /// The word of the object that the register `object` names becomes this one. `own` is the
-    /// node's number.
+    /// Sets the word of the object that the register `object` names. `own` is the node's number.
     ///
-    /// It answers [`Refusal::NoRegister`] where there is no such register,
-    /// [`Refusal::EmptyRegister`] where it is empty, [`Refusal::Remote`] where it names an object
-    /// of another node, and [`Refusal::NoField`] where the object isn't there. The heap is then as
-    /// it was.
+    /// It fails with [`Refusal::NoRegister`] if there is no such register, and with
+    /// [`Refusal::EmptyRegister`] if it is empty. It fails with [`Refusal::Remote`] if it names an
+    /// object of another node, and with [`Refusal::NoField`] if the object isn't there. The heap is
+    /// then as it was.
     #[tactic(auto, unfolding(model::specs::Heaps::heap_set_word))]
     pub fn set_word(&mut self, own: u8, object: u16, word: u64) -> Result<(), Refusal>
         ensures done { OnOk result
@@ -175,7 +174,7 @@ impl Heap {
         self.write_word(named, word)
     }
 
-    /// How many objects there are.
+    /// The number of objects.
     pub fn live(&self) -> u32
         ensures value { result ≡ count_by is_occupied self.now.heap.slots }
         ensures slots { IsSlotted self.now.heap self.now.limit }
@@ -184,23 +183,23 @@ impl Heap {
         self.objects.len()
     }
 
-    /// Whether an object of this heap is still there. It doesn't look at the reference's node.
+    /// Whether an object of this heap is still there. The reference's node isn't checked.
     pub fn is_live(&self, object: Ref) -> bool
         ensures { result ≡ is_some (object_at self.now.heap object) }
     {
         self.object(object).is_some()
     }
 
-    /// What stands in a place of an object of this heap: nothing where the place is empty, or there
-    /// is no such place or object. It doesn't look at the reference's node.
+    /// What is in a place of an object of this heap. `None` if the place is empty, or there is no
+    /// such place or object. The reference's node isn't checked.
     pub fn place(&self, object: Ref, place: u8) -> Option<Ref>
         ensures { result ≡ place_of (object_at self.now.heap object) place }
     {
         self.read_place(object, place).unwrap_or(None)
     }
 
-    /// A place of an object of this heap becomes this. Where there is no such place or object, the
-    /// heap stays as it is. It doesn't look at the reference's node.
+    /// Sets a place of an object of this heap. If there is no such place or object, the heap stays
+    /// as it is. The reference's node isn't checked.
     pub fn set_place(&mut self, object: Ref, place: u8, value: Option<Ref>)
         ensures { self.new
             ≡ record self.old { heap = with_place self.old.heap object place value } }
@@ -225,7 +224,7 @@ impl Heap {
         }
     }
 
-    // What stands in a place that is there.
+    // Reads a place, or fails with `NoField` if it isn't there.
     fn read_place(&self, object: Ref, place: u8) -> Result<Option<Ref>, Refusal>
         ensures { let o = object_at self.now.heap object in
             result ≡ guarded (place_tests self.now.heap object place) (place_of o place) }
@@ -236,7 +235,7 @@ impl Heap {
         }
     }
 
-    // Writes a place, where it is there.
+    // Writes a place, or fails with `NoField` if it isn't there.
     fn write_place(&mut self, object: Ref, place: u8, value: Option<Ref>) -> Result<(), Refusal>
         ensures done { self.new
             ≡ record self.old { heap = with_place self.old.heap object place value } }
@@ -249,7 +248,7 @@ impl Heap {
         }
     }
 
-    // Writes the word of an object, where it is there.
+    // Writes the word of an object, or fails with `NoField` if it isn't there.
     fn write_word(&mut self, object: Ref, word: u64) -> Result<(), Refusal>
         ensures done { self.new ≡ record self.old { heap = with_word self.old.heap object word } }
         ensures answer { result ≡ guarded (object_tests self.old.heap object) tt }
@@ -265,7 +264,7 @@ impl Heap {
     }
 }
 
-// Where a node's heap keeps the object of this reference.
+// The key under which a node's heap keeps the object of this reference.
 pub(super) fn key(reference: Ref) -> Key
     ensures { result ≡ record { slot = reference.slot; generation = reference.generation } }
 {

@@ -1,5 +1,5 @@
-//! A heap made from its parts, and read part by part. Parts are refused only where no heap has
-//! them, so each saved heap is made again.
+//! Makes a heap from its parts, and reads it part by part. Parts are refused only if no heap has
+//! them, so each saved heap can be made again.
 ghost use Rattle.std.specs.Prelude.{◌≡◌, length, slice_get, OnOk, IfOk, IfErr};
 ghost use Rattle.ids.specs.declared.refusal.Refusal.TheVariants.{BadImage};
 ghost use Rattle.arena.specs.Arena.{slot_read};
@@ -14,12 +14,12 @@ use ids::{Ref, Refusal, Shape};
 use model::Letter;
 use std::collections::VecDeque;
 
-/// What a heap holds, part by part.
+/// The parts of a heap.
 #[derive(Drop)]
 pub struct HeapParts {
     /// The slots that were ever used, from slot 0 on.
     pub slots: Slots<Object>,
-    /// The free ones, the next to be used first.
+    /// The free ones; the first is used next.
     pub free: Vec<u32>,
     pub registers: Vec<Option<Ref>>,
     /// Oldest first.
@@ -29,12 +29,13 @@ pub struct HeapParts {
 }
 
 impl Heap {
-    /// The heap of these parts, for a node of this shape. It takes time for each part.
+    /// Makes the heap of these parts, for a node of this shape. It takes time linear in the size of
+    /// the parts, and allocates nothing.
     ///
-    /// It answers [`Refusal::BadImage`] where there aren't as many registers as the shape says, or
-    /// there are more slots, or a slot has the generation 0, or the list of the free slots isn't
-    /// exactly those, each once; and no other refusal, since it takes no memory. It doesn't look at
-    /// the references, the letters and the grey list. Parts that are refused are dropped.
+    /// It fails only with [`Refusal::BadImage`]: if there aren't as many registers as the shape
+    /// has, or there are more slots, or a slot has the generation 0, or `free` doesn't list exactly
+    /// the free slots, each once. The references, the letters and the grey list aren't checked.
+    /// Parts that are refused are dropped.
     pub fn from_parts(shape: Shape, parts: HeapParts) -> Result<Heap, Refusal>
         ensures made { IfOk result (λ h. Holds h (heap_given parts) shape.slots) }
         ensures sound { OnOk result (IsHeapFor shape (heap_given parts)) }
@@ -62,21 +63,21 @@ impl Heap {
         }
     }
 
-    /// What the slot holds. One that was never used counts as retired.
+    /// What the slot holds. A slot that was never used counts as retired.
     pub fn slot(&self, slot: u32) -> Slot<&Object>
         ensures { slot_of (slot_read result) ≡ slot_at self.now.heap slot }
     {
         self.objects.slot(slot)
     }
 
-    /// The free slots, the next to be used first.
+    /// The free slots; the first is used next.
     pub fn free_slots(&self) -> FreeSlots<'_, Object>
         ensures { result ≡ self.now.heap.free }
     {
         self.objects.free_slots()
     }
 
-    /// How many slots are free.
+    /// The number of free slots.
     pub fn vacant(&self) -> u32
         ensures { result ≡ length self.now.heap.free }
     {
@@ -90,14 +91,15 @@ impl Heap {
         &self.registers
     }
 
-    /// The letter of this number that waits, from 0 for the oldest; None where there is none.
+    /// The letter with this number among those that wait, 0 being the oldest. `None` if there is no
+    /// such letter.
     pub fn letter(&self, number: usize) -> Option<Letter>
         ensures { result ≡ slice_get self.now.heap.letters number }
     {
         self.letters.get(number).copied()
     }
 
-    /// The slots of the grey objects, in the order in which they turned grey: the last is scanned
+    /// The slots of the grey objects, in the order in which they turned grey; the last is scanned
     /// first.
     pub fn grey_slots(&self) -> &[u32]
         ensures { result.now ≡ self.now.heap.grey }

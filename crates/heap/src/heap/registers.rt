@@ -1,4 +1,4 @@
-//! Registers: all by which a program names objects. Together with the letters they are the roots,
+//! Registers: a program names objects only by them. Together with the letters they are the roots,
 //! from which marking starts.
 ghost use Rattle.std.specs.Prelude.{◌≡◌, ◌<◌, length, Ok, Err, OnOk, OnErr, IfErr};
 ghost use Rattle.model.specs.Checks.{guarded};
@@ -12,7 +12,7 @@ use ids::{Ref, Refusal};
 impl Heap {
     /// What the register holds.
     ///
-    /// It answers [`Refusal::NoRegister`] where there is no such register.
+    /// It fails with [`Refusal::NoRegister`] if there is no such register.
     #[tactic(auto, unfolding(model::specs::Heaps::heap_register))]
     pub fn register(&self, register: u16) -> Result<Option<Ref>, Refusal>
         ensures { result ≡ heap_register self.now.heap register }
@@ -23,10 +23,10 @@ impl Heap {
         }
     }
 
-    /// The register becomes what the register `source` holds.
+    /// Copies what the register `source` holds into the register.
     ///
-    /// It answers [`Refusal::NoRegister`] where one of the two is no register, and
-    /// [`Refusal::EmptyRegister`] where `source` is empty. The heap is then as it was.
+    /// It fails with [`Refusal::NoRegister`] if one of the two registers doesn't exist, and with
+    /// [`Refusal::EmptyRegister`] if `source` is empty. The heap is then as it was.
     #[tactic(auto, unfolding(model::specs::Heaps::heap_copy, model::specs::Heaps::heap_register))]
     pub fn copy_register(&mut self, register: u16, source: u16) -> Result<(), Refusal>
         ensures done { OnOk result (heap_copy self.old.heap register source ≡ Ok self.new.heap) }
@@ -49,8 +49,8 @@ impl Heap {
 
     /// Empties the register.
     ///
-    /// It answers [`Refusal::NoRegister`] where there is no such register, and
-    /// [`Refusal::EmptyRegister`] where it is empty. The heap is then as it was.
+    /// It fails with [`Refusal::NoRegister`] if there is no such register, and with
+    /// [`Refusal::EmptyRegister`] if it is empty. The heap is then as it was.
     #[tactic(auto, unfolding(model::specs::Heaps::heap_drop, model::specs::Heaps::heap_register))]
     pub fn drop_register(&mut self, register: u16) -> Result<(), Refusal>
         ensures done { OnOk result (heap_drop self.old.heap register ≡ Ok self.new.heap) }
@@ -67,7 +67,7 @@ impl Heap {
         Ok(())
     }
 
-    /// The register becomes this.
+    /// Sets the register.
     pub fn set_register(&mut self, register: u16, value: Option<Ref>)
         requires { register < length self.old.heap.registers }
         ensures { self.new
@@ -76,7 +76,7 @@ impl Heap {
         self.registers[register as usize] = value;
     }
 
-    // What the register names, where that is an object of the node with this number.
+    // What the register names, if that is an object of the node with this number.
     #[tactic(auto, unfolding(model::specs::Heaps::heap_register))]
     pub(super) fn local(&self, own: u8, register: u16) -> Result<Ref, Refusal>
         ensures { result

@@ -1,11 +1,11 @@
-//! Sweeping: what isn't marked is freed. Here is the one line that frees an object; `world::laws`
-//! (`frees_none_reachable`) says of it that nothing goes that anybody can reach.
+//! Sweeping: what isn't marked is freed. Here is the one line that frees an object. `world::laws`
+//! (`frees_none_reachable`) states that it frees nothing that is reachable.
 //!
-//! When marking has ended, what isn't marked can't be reached, and can't become so: no program
-//! holds a reference to it, no message carries one, and no marked object has one in a place. New
-//! objects are marked, so they stay, before the cursor and behind it; a sweep may therefore be
-//! taken in steps of any size. The generation keeps an old reference, which only unreachable
-//! objects can still have, from naming the slot's next object.
+//! When marking has ended, an unmarked object is unreachable and stays so: no program holds a
+//! reference to it, no message carries one, and no marked object has one in a place. New objects
+//! are marked, so they stay, before the cursor and behind it. A sweep may therefore be done in
+//! steps of any size. Only unreachable objects can still have an old reference, and the generation
+//! keeps it from naming the slot's next object.
 ghost use Rattle.std.specs.Prelude.{◌≡◌, ℕ, ◌+◌, ◌≤◌, cond, length};
 ghost use Rattle.model.specs.State.{slot_at};
 ghost use Rattle.model.specs.Collecting.{is_garbage, sweep_one};
@@ -14,18 +14,18 @@ ghost use Rattle.heap.specs.Heap.{swept};
 use super::Heap;
 
 impl Heap {
-    /// How many slots were ever used: sweeping goes over so many.
+    /// The number of slots that were ever used, which is how many a sweep visits.
     pub fn slots(&self) -> u32
         ensures { result ≡ length self.now.heap.slots }
     {
         self.objects.high()
     }
 
-    /// Frees the objects in so many slots, from slot `cursor` on, that `cycle` hasn't marked, and
-    /// says how many they were. Their slots are the next to be used, the one that was freed last
-    /// first, each with the next generation; a slot that had the last generation is retired. Slots
-    /// that were never used are passed over. It takes no memory, and time for those of these slots
-    /// that were used.
+    /// Frees the objects in the next `count` slots, from slot `cursor` on, that `cycle` hasn't
+    /// marked, and returns how many these were. Their slots are the next to be used, beginning with
+    /// the one freed last, each with the next generation. A slot that had the last generation is
+    /// retired. Slots that were never used are skipped. It allocates nothing, and takes time linear
+    /// in how many of these slots were used.
     pub fn sweep(&mut self, cycle: u64, cursor: u32, count: u32) -> u32
         ensures done { self.new
             ≡ record self.old { heap = (swept cycle cursor count self.old.heap).heap } }
@@ -41,8 +41,8 @@ impl Heap {
         freed
     }
 
-    // Frees the object in a slot, if there is one that the cycle hasn't marked. It says whether it
-    // was so.
+    // Frees the object in a slot, if there is one that the cycle hasn't marked, and returns whether
+    // there was.
     fn free_unmarked(&mut self, cycle: u64, slot: u32) -> bool
         ensures done { (freed : ℕ) → sweep_one cycle slot
             (record { heap = self.old.heap; freed = freed })

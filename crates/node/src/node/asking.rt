@@ -1,5 +1,5 @@
-//! The events that send a message to another node. Whether a number is left for the message is
-//! tested last, and the message is appended before anything else changes.
+//! The events that send a message to another node. The last test is whether a number is left for
+//! the message. The message is appended before anything else changes.
 ghost use Rattle.std.specs.Prelude.{◌≡◌, ◌≢◌, ◌+◌, ◌<◌, ◌≤◌, [], ◌∷◌, true, false, map, slice_index_or, IfOk, IfErr, OnErr};
 ghost use Rattle.ids.specs.declared.refusal.Refusal.TheVariants.{LinkSpent, Memory};
 ghost use Rattle.model.specs.References.{IsSendable};
@@ -80,9 +80,9 @@ impl Core {
         Ok(Answer::Sent(number))
     }
 
-    /// Appends a message for the node `to`, counts it, and gives its number. `LinkSpent` where no
-    /// number is left, and after it `Memory`, where a growth was refused. The node is then as it
-    /// was.
+    /// Appends a message for the node `to`, counts it, and returns its number. It fails with
+    /// `LinkSpent` if no number is left, and after that with `Memory` if an allocation fails. The
+    /// node is then as it was.
     #[inline(always)]
     pub(crate) fn send(&mut self, to: u8, body: Body) -> Result<u64, Refusal>
         requires there { to < self.old.local.shape.nodes }

@@ -1,5 +1,5 @@
-//! A node's own steps of a collection cycle. Each may be asked for at any time and in any order,
-//! and is refused where there is nothing to do.
+//! A node's own steps of a collection cycle. Each may be requested at any time and in any order,
+//! and is refused if there is nothing to do.
 ghost use Rattle.std.specs.Prelude.{◌≡◌, ◌≢◌, ◌<◌, ◌≤◌, [], ◌∷◌, true, false, not, length, map, None, IsTrue, IsSome, IfErr, OnOk, OnErr};
 ghost use Rattle.ids.specs.declared.limits.TheConstants.{GREATEST_CYCLE};
 ghost use Rattle.ids.specs.declared.refusal.Refusal.TheVariants.{LinkSpent, Memory};
@@ -22,10 +22,11 @@ use msg::{Body, Message, Token};
 use safra::{Ring, Verdict};
 
 impl Core {
-    /// Node 0 begins the next cycle: it joins it, sends the token to the last node, and tells all
-    /// others. `NotDirector` at another node; `CycleRunning` while the last cycle isn't swept
-    /// everywhere; `CyclesSpent` after the greatest one; then `LinkSpent` where a message gets no
-    /// number, and `Memory` where a growth was refused.
+    /// Node 0 begins the next cycle: it joins the cycle, sends the token to the last node, and
+    /// announces the cycle to all others. It fails with `NotDirector` at another node, with
+    /// `CycleRunning` while the last cycle isn't swept everywhere, and with `CyclesSpent` after the
+    /// greatest one. After that it fails with `LinkSpent` if a message gets no number, and with
+    /// `Memory` if an allocation fails.
     pub(crate) fn begin(&mut self) -> Result<Answer, Refusal>
         ensures { Performed true result self.old self.new (view_act self.old event.Begin) }
     {
@@ -47,7 +48,7 @@ impl Core {
             unask(&mut asked, &mut self.links, 0);
             return Err(refusal);
         }
-        // From here on nothing can be refused.
+        // From here on nothing can fail.
         self.heap.shade_roots(own, cycle);
         self.asked = asked;
         self.phases.begin();
@@ -55,9 +56,9 @@ impl Core {
         Ok(Answer::Begun(cycle))
     }
 
-    /// Shades what the places of the object hold that turned grey last. `NothingToDo` where no
-    /// object is grey; then `LinkSpent` where a Mark gets no number, and `Memory` where a growth
-    /// was refused.
+    /// Scans the object that turned grey last: shades what its places hold. It fails with
+    /// `NothingToDo` if no object is grey. After that it fails with `LinkSpent` if a Mark gets no
+    /// number, and with `Memory` if an allocation fails.
     pub(crate) fn scan(&mut self) -> Result<Answer, Refusal>
         ensures { Performed true result self.old self.new (view_act self.old event.Scan) }
     {
@@ -79,9 +80,9 @@ impl Core {
         Ok(Answer::Scanned(scanned))
     }
 
-    /// Hands the token on, or at node 0 judges it. `NothingToDo` where the node has no token, or
-    /// has grey objects; then `LinkSpent` where a message gets no number, and then `Memory` where a
-    /// growth was refused.
+    /// Passes the token on, or at node 0 judges it. It fails with `NothingToDo` if the node has no
+    /// token or has grey objects. After that it fails with `LinkSpent` if a message gets no number,
+    /// and then with `Memory` if an allocation fails.
     pub(crate) fn pass(&mut self) -> Result<Answer, Refusal>
         ensures { Performed false result self.old self.new (view_act self.old event.Pass) }
     {
@@ -98,7 +99,7 @@ impl Core {
         }
     }
 
-    /// Hands the token on to the node before this one.
+    /// Passes the token on to the node before this one.
     fn hand_on(&mut self) -> Result<Answer, Refusal>
         requires after_0 { 0 < self.old.local.own }
         requires token { IsSome self.old.local.ring.token }
@@ -112,7 +113,7 @@ impl Core {
         Ok(Answer::Passed(token))
     }
 
-    /// Tells all others that marking has ended, or sends the token round again.
+    /// Announces to all others that marking has ended, or starts another probe.
     fn judge(&mut self) -> Result<Answer, Refusal>
         requires first { self.old.local.own ≡ 0 }
         requires calm { self.old.local.heap.grey ≡ [] }
@@ -141,9 +142,10 @@ impl Core {
         }
     }
 
-    /// Sends the token to the node `to`; the node's part of the ring then is this, which has no
-    /// token left, and differs in colour alone besides. `LinkSpent` where no number is left, and
-    /// after it `Memory`, where a growth was refused. The node is then as it was.
+    /// Sends the token to the node `to`, and makes `ring` the node's part of the ring. That part
+    /// has no token any more, and may otherwise differ only in its colour. It fails with
+    /// `LinkSpent` if no number is left, and after that with `Memory` if an allocation fails. The
+    /// node is then as it was.
     fn send_token(&mut self, to: u8, token: Token, ring: Ring) -> Result<(), Refusal>
         requires there { to < self.old.local.shape.nodes }
         requires other { to ≢ self.old.local.own }
@@ -166,10 +168,10 @@ impl Core {
         Ok(())
     }
 
-    /// Frees what isn't marked of the next slots, at most this many, and where no slot is left
-    /// reports it to node 0. `NothingToDo` where the node knows of no cycle that is to be swept;
-    /// then `LinkSpent` where the report gets no number, and then `Memory` where a growth was
-    /// refused.
+    /// Frees the unmarked objects in the next `count` slots at most. If no slot is left, it reports
+    /// that to node 0. It fails with `NothingToDo` if the node knows of no cycle that is to be
+    /// swept. After that it fails with `LinkSpent` if the report gets no number, and then with
+    /// `Memory` if an allocation fails.
     pub(crate) fn sweep(&mut self, count: u32) -> Result<Answer, Refusal>
         ensures performed { Performed false result self.old self.new
             (view_act self.old (event.Sweep count)) }
@@ -190,7 +192,7 @@ impl Core {
                 done: false,
             });
         }
-        // A sweep can't be taken back, so what may be refused comes first.
+        // A sweep can't be undone, so whatever can fail comes first.
         self.report()?;
         let freed = self.heap.sweep(cycle, cursor, left);
         self.phases.end_sweep();
@@ -200,9 +202,9 @@ impl Core {
         })
     }
 
-    /// Tells node 0 that the node has swept its cycle, unless it is node 0. `LinkSpent` where the
-    /// message gets no number, and after it `Memory`, where a growth was refused. The node is then
-    /// as it was.
+    /// Reports to node 0 that this node has swept its cycle, unless it is node 0. It fails with
+    /// `LinkSpent` if the message gets no number, and after that with `Memory` if an allocation
+    /// fails. The node is then as it was.
     fn report(&mut self) -> Result<(), Refusal>
         ensures fits { OnOk result
             (fits (map used self.old.links) (reports self.old.local) ≡ true) }
@@ -222,9 +224,9 @@ impl Core {
     }
 }
 
-/// Sends the token of a new probe to the last node, and tells all nodes but `own` that a cycle
-/// begins: all of it or nothing. `LinkSpent` where a message gets no number, and `Memory` where a
-/// growth was refused.
+/// Sends the token of a new probe to the last node, and announces the cycle to all nodes except
+/// `own`: all of it or nothing. It fails with `LinkSpent` if a message gets no number, and with
+/// `Memory` if an allocation fails.
 fn send_begins(links: &mut Links, own: u8, cycle: u64, token: Token) -> Result<(), Refusal>
     requires { 0 < length links.old.links }
     ensures fits { OnOk result (fits (map used links.old.links)

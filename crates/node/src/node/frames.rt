@@ -1,6 +1,6 @@
-//! The frames that a node gives out. Only messages that a saved node holds are shown in a window,
-//! and only what a saved node took in is acknowledged; so no restart takes back what another node
-//! was told.
+//! The frames that a node sends. Only messages that a saved state holds are shown in a window, and
+//! only what a saved state has received is acknowledged. So no restart takes back what another node
+//! has been given.
 ghost use Rattle.std.specs.Prelude.{◌≡◌, ◌≤◌, IsTrue, Some};
 ghost use Rattle.std.specs.Option.{option_map};
 ghost use Rattle.ids.specs.declared.limits.TheConstants.{GREATEST_NUMBER};
@@ -13,9 +13,9 @@ use super::Core;
 use msg::{Ack, Data, Frame, Message};
 
 impl Core {
-    /// The frame in this place of the window to another node, if a saved node holds its message:
-    /// the first place has the message after the last acknowledged one. None where `to` is no other
-    /// node of the space, or the place, of [`WINDOW`](ids::WINDOW), holds no released message.
+    /// The frame in this place of the window to another node, if a saved state holds its message.
+    /// The first place has the message after the last acknowledged one. `None` if `to` is no other
+    /// node of the space, or if that place, of [`WINDOW`](ids::WINDOW), holds no released message.
     pub fn frame_at(&self, to: u8, place: u8) -> Option<Frame>
         ensures { option_map plain result ≡ released_frame self.now to place }
     {
@@ -26,8 +26,8 @@ impl Core {
         self.frame(to, self.links.base(to) + 1 + u64::from(place), message)
     }
 
-    /// The acknowledgement to another node of all its messages that a saved node has taken in. None
-    /// where `from` is no other node of the space.
+    /// The acknowledgement to another node of all its messages that a saved state has received.
+    /// `None` if `from` is no other node of the space.
     pub fn ack_for(&self, from: u8) -> Option<Frame>
         ensures { option_map plain result ≡ acknowledgement self.now from }
     {
@@ -38,8 +38,9 @@ impl Core {
         Some(Frame::Ack(ack))
     }
 
-    /// The frame of the message of this number to another node, released or not, while the node
-    /// keeps it. None where `to` is no other node of the space, or the node keeps no such message.
+    /// The frame of the message with this number to another node, released or not, while the node
+    /// keeps it. `None` if `to` is no other node of the space, or if the node keeps no such
+    /// message.
     pub fn numbered_frame(&self, to: u8, number: u64) -> Option<Frame>
         ensures { option_map plain result ≡ numbered_frame self.now to number }
     {
@@ -61,8 +62,8 @@ impl Core {
         Some(Frame::Data(data))
     }
 
-    /// How many messages were ever appended for the node `to`: the number of the last one; 0 where
-    /// there is no such node.
+    /// The number of messages ever appended for the node `to`, which is the number of the last one.
+    /// 0 if there is no such node.
     pub fn appended(&self, to: u8) -> u64
         ensures { result ≡ used (link_to self.now to) }
     {

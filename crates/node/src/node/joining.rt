@@ -1,12 +1,12 @@
-//! What a message of a later cycle does: the node joins that cycle, and takes the message in as one
-//! that has joined. Whoever gets anything from a node that has joined, joins; Begin only makes it
-//! sooner.
+//! What a message of a later cycle does: the node joins that cycle, and then receives the message
+//! as a node that has joined. Any message from a node that has joined makes its receiver join;
+//! Begin only makes it happen sooner.
 //!
-//! What was counted for the next cycle counts from here on, since it is now from before. The node
-//! becomes black: until it joins it counts as black and active, as it hasn't shaded a thing, and
-//! this tells the token so. What was asked for in another cycle counts no more. Registers and
-//! letters are all that a program holds, and are shaded; a letter that isn't accepted yet is as
-//! good as a register.
+//! What was counted for the next cycle now counts in this one, since it dates from before the
+//! cycle. The node becomes black: until it joins it counts as black and active, since it has shaded
+//! nothing yet, and this is how the token learns that. What was asked for in an earlier cycle no
+//! longer counts. Registers and letters are all that a program holds, and they are shaded; a letter
+//! that isn't accepted yet is as good as a register.
 ghost use Rattle.std.specs.Prelude.{◌≡◌, ◌<◌, ◌≤◌, ◌^◌, [], ◌∷◌, true, false, length, None, IfOk, IfErr, OnOk, OnErr};
 ghost use Rattle.std.specs.List.{AllByRecursion};
 ghost use Rattle.ids.specs.declared.limits.TheConstants.{GREATEST_COUNTED, GREATEST_NODES};
@@ -39,8 +39,8 @@ struct Sought {
     marks: usize,
 }
 
-/// Asks for what the node's program holds, into a new set, and then sends what is to be sent for a
-/// message that makes the node join this cycle: all or nothing.
+/// Asks for what the node's program holds, into a new set. Then it sends what a message that makes
+/// the node join this cycle requires. All of it or nothing is done.
 fn send_joining(
     alloc: Global,
     heap: &Heap,
@@ -83,7 +83,7 @@ fn send_joining(
 }
 
 impl Core {
-    /// Takes in a message of the next cycle, which the node joins.
+    /// Receives a message of the next cycle, which the node joins.
     pub(super) fn take_joining(
         &mut self,
         from: u8,

@@ -1,6 +1,7 @@
 //! The events on a node's own registers, objects and letters. A reference that a program reads from
-//! a place is shaded on the way: it could empty the place afterwards, and hold what no scan would
-//! find. What it stores came from a register, and was shaded or vouched for before.
+//! a place is shaded at the read. Otherwise the program could empty the place afterwards, and hold
+//! what no scan would find. What it stores came from a register, and was shaded or vouched for
+//! before.
 ghost use Rattle.std.specs.Prelude.{◌≡◌, ◌≢◌, true, false, IfErr, OnErr};
 ghost use Rattle.ids.specs.declared.refusal.Refusal.TheVariants.{Memory};
 ghost use Rattle.model.specs.View.{Performed, Performs, view_act};

@@ -1,5 +1,5 @@
-//! A node made from the parts of a saved one. They are refused only where no node that is saved has
-//! them; all of its messages then count as released.
+//! Makes a node from the parts of a saved one. The parts are refused only if no saved node has
+//! them. All messages of the new node count as released.
 ghost use Rattle.std.specs.Prelude.{◌≡◌, ◌≢◌, IfOk, IfErr, OnOk};
 ghost use Rattle.ids.specs.declared.refusal.Refusal.TheVariants.{BadImage, Memory};
 ghost use Rattle.node.specs.Inside.{view_of};
@@ -21,23 +21,23 @@ use lists::{are_grey, asked_once};
 use safra::Ring;
 use std::alloc::Global;
 
-/// What a saved node is, part by part.
+/// The parts of a saved node.
 #[derive(Drop)]
 pub struct NodeParts {
     pub shape: Shape,
-    /// Its number.
+    /// The node's number.
     pub own: u8,
     pub heap: HeapParts,
-    /// References of other nodes that were asked for in its cycle, in order.
+    /// References of other nodes that were asked or vouched for in its cycle, in order.
     pub asked: Vec<Ref>,
     pub phases: Phases,
     pub ring: Ring,
-    /// For each node of the space, itself among them, in order of their numbers.
+    /// For each node of the space, including itself, in order of their numbers.
     pub links: Vec<LinkParts>,
 }
 
-/// What was asked for, where all that can be tested of the parts by themselves may be a saved
-/// node's.
+/// Tests everything that can be tested of the parts on their own, and returns the set of references
+/// that were asked or vouched for.
 fn tested(alloc: Global, parts: &NodeParts) -> Result<RefSet, Refusal>
     ensures asked { IfOk result (λ s. s.keys ≡ parts.now.asked.items) }
     ensures right { OnOk result (AreParts parts.now) }
@@ -58,12 +58,12 @@ fn tested(alloc: Global, parts: &NodeParts) -> Result<RefSet, Refusal>
 }
 
 impl Core {
-    /// The node of these parts. All of its messages count as held by a saved node, and so does all
-    /// that it took in. It takes time for each part.
+    /// Makes the node of these parts. All its messages count as held by a saved state, and so does
+    /// all that it has received. Its running time grows with the size of the parts.
     ///
-    /// It answers [`Refusal::BadImage`] where no node that is saved has these parts, as
-    /// "Saved nodes" in docs/RULES.md says; and [`Refusal::Memory`] where a growth was refused,
-    /// whatever the parts are. Parts that are refused are dropped.
+    /// It fails with [`Refusal::BadImage`] if no saved node has these parts ("Saved nodes" in
+    /// docs/RULES.md), and with [`Refusal::Memory`] if an allocation fails, whatever the parts are.
+    /// Parts that are refused are dropped.
     pub fn from_parts(alloc: Global, parts: NodeParts) -> Result<Core, Refusal>
         ensures made { IfOk result (λ n. n ≡ node_given parts) }
         ensures right { OnOk result (IsRestorable (node_given parts)) }

@@ -1,5 +1,5 @@
-//! What a node holds, for who looks at it from outside: the roots of its program, its objects, and
-//! how much it took in. Nothing here takes memory or changes the node.
+//! Reads of a node from outside: the roots of its program, its objects, and how many messages it
+//! has received. Nothing here allocates memory or changes the node.
 ghost use Rattle.std.specs.Prelude.{◌≡◌, ℕ, ◌<◌, length, slice_index_or, is_some, None};
 ghost use Rattle.model.specs.State.{got_from, slot_at};
 ghost use Rattle.model.specs.Heaps.{object_at};
@@ -17,38 +17,37 @@ use msg::Message;
 use safra::Ring;
 
 impl Core {
-    /// How many roots there are, which are what the program holds: its registers, and the letters
-    /// that wait, also those that hold no reference.
+    /// The number of roots, which are what the program holds: its registers and the letters that
+    /// wait, also those that hold no reference.
     pub fn root_count(&self) -> usize
         ensures { result ≡ length (roots self.now.local.heap) }
     {
         self.heap.root_count()
     }
 
-    /// What the root of this number holds: the registers come first, in order, and then the
-    /// letters, oldest first. None where it holds no reference, or there is no such root.
+    /// What the root with this number holds. Registers come first, in order, and then letters,
+    /// oldest first. `None` if it holds no reference or there is no such root.
     pub fn root(&self, number: usize) -> Option<Ref>
         ensures { result ≡ slice_index_or (roots self.now.local.heap) number None }
     {
         self.heap.root(number)
     }
 
-    /// Whether an object of this node is still there. It doesn't look at the reference's node.
+    /// Whether an object of this node is still there. The reference's node isn't checked.
     pub fn is_live(&self, object: Ref) -> bool
         ensures { result ≡ is_some (object_at self.now.local.heap object) }
     {
         self.heap.is_live(object)
     }
 
-    /// What the places of the object in a slot hold, in order; nothing where the slot has no
-    /// object.
+    /// What the places of the object in a slot hold, in order; empty if the slot has no object.
     pub fn places(&self, slot: u32) -> &[Option<Ref>]
         ensures { result.now ≡ places_in (slot_at self.now.local.heap slot) }
     {
         self.heap.places(slot)
     }
 
-    /// How many messages of the node `from` were taken in; 0 where there is no such node.
+    /// The number of messages received from the node `from`; 0 if there is no such node.
     pub fn taken_from(&self, from: u8) -> u64
         ensures { result ≡ got_from self.now.local from }
     {
@@ -59,8 +58,8 @@ impl Core {
         }
     }
 
-    /// The message of this number for the node `to`, released or not, while the node keeps it; None
-    /// where there is no such node.
+    /// The message with this number for the node `to`, released or not, while the node keeps it.
+    /// `None` if the node keeps no such message, or if there is no such node.
     pub fn message(&self, to: u8, number: u64) -> Option<Message>
         ensures { result ≡ message_of (link_to self.now to) number }
     {
@@ -71,7 +70,7 @@ impl Core {
         }
     }
 
-    /// The node's heap, which may use as many slots as the shape says.
+    /// The node's heap, which may use as many slots as the shape has.
     pub fn heap(&self) -> &Heap
         ensures value { result.now.heap ≡ self.now.local.heap }
         ensures limit { result.now.limit ≡ self.now.local.shape.slots }
@@ -79,14 +78,14 @@ impl Core {
         &self.heap
     }
 
-    /// The references of other nodes that were asked for in the node's cycle, in order.
+    /// The references of other nodes that were asked or vouched for in the node's cycle, in order.
     pub fn asked(&self) -> &[Ref]
         ensures { result.now ≡ self.now.local.asked }
     {
         self.asked.as_slice()
     }
 
-    /// Where the node is in the collection cycles.
+    /// How far the node is in the collection cycles.
     pub fn phases(&self) -> &Phases
         ensures { result.now ≡ self.now.local.phases }
     {

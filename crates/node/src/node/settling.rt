@@ -1,6 +1,6 @@
-//! What a message does to a node that takes it in. What may be refused comes first: room on the
-//! heap, what is asked for, and the answer to a Get. All of it or nothing is done. Marking objects,
-//! counting and what the body does come after it and can't be refused.
+//! What a message does to the node that receives it. Whatever can fail comes first: room on the
+//! heap, what is asked for, and the answer to a Get. All of it or nothing is done. Then objects are
+//! marked, messages are counted and the body takes effect, and none of this can fail.
 ghost use Rattle.std.specs.Prelude.{◌≡◌, ◌≢◌, ◌-◌, ◌+◌, ◌<◌, ◌≤◌, ◌^◌, ℕ, [], ◌∷◌, true, false, length, None, IfOk, IfErr, OnOk, OnErr};
 ghost use Rattle.std.specs.List.{AllByRecursion};
 ghost use Rattle.ids.specs.declared.limits.TheConstants.{GREATEST_COUNTED, GREATEST_NODES};
@@ -37,24 +37,25 @@ use model::{Answer, Balance, Letter};
 use msg::{Body, Message};
 use safra::{Ring, balance_of};
 
-/// What a message brings that the node may have to see marked.
+/// The references in a message that the node may have to see marked.
 #[derive(Clone, Copy)]
 pub(super) struct Met {
     /// The node's own object that the message is about.
     pub(super) target: Option<Ref>,
-    /// The reference that it carries beside that one, or that stands where it asks for.
+    /// The reference that the message brings along with the target, or for a Get the one in the
+    /// place that it asks for.
     pub(super) brought: Option<Ref>,
-    /// Whether the owner of that one is asked to mark it; else the sender has seen to that.
+    /// Whether the owner of `brought` is asked to mark it; otherwise the sender has seen to that.
     pub(super) asks: bool,
 }
 
-/// What is to be sent for a message before it is taken in.
+/// What has to be sent for a message before it is received.
 #[derive(Clone, Copy)]
 pub(super) struct Errand {
     pub(super) met: Met,
     /// The node that the message is from.
     pub(super) to: u8,
-    /// What it is answered, if it asks for something.
+    /// The answer to a message that asks for something.
     pub(super) reply: Option<Message>,
 }
 
@@ -68,8 +69,8 @@ fn target_of(body: Body) -> Option<Ref>
     }
 }
 
-/// The reference that the body carries beside its target, or that stands in the place that it asks
-/// for.
+/// The reference that the body brings along with its target, or for a Get the one in the place that
+/// it asks for.
 pub(super) fn brought_by(heap: &Heap, body: Body) -> Option<Ref>
     ensures { result ≡ brought_by heap.now.heap body }
 {
@@ -80,16 +81,16 @@ pub(super) fn brought_by(heap: &Heap, body: Body) -> Option<Ref>
     }
 }
 
-/// Whether a node of this cycle asks the owner of what the message brings to mark it: the sender of
-/// a message of the same cycle has seen to it, but nobody to what the node itself reads.
+/// Whether a node of this cycle asks the owner of what the message brings to mark it. The sender of
+/// a message of the same cycle has seen to it, but nobody has for what the node itself reads.
 fn asks_for(cycle: u64, stamp: u64, body: Body) -> bool
     ensures { result ≡ asks_for cycle stamp body }
 {
     matches!(body, Body::Get { .. }) || stamp < cycle
 }
 
-/// What a message of this stamp and body brings to a node of this cycle; nothing where the node
-/// isn't marking.
+/// What a message of this stamp and body brings to a node of this cycle; nothing if the node isn't
+/// marking.
 pub(super) fn met_by(marking: bool, cycle: u64, stamp: u64, brought: Option<Ref>, body: Body) -> Met
     ensures { result ≡ met_by marking cycle stamp brought body }
 {
@@ -107,7 +108,7 @@ pub(super) fn met_by(marking: bool, cycle: u64, stamp: u64, brought: Option<Ref>
     }
 }
 
-/// What a Get is answered.
+/// The answer to a Get.
 pub(super) fn reply_of(cycle: u64, brought: Option<Ref>, body: Body) -> Option<Message>
     ensures { result ≡ reply_of cycle brought body }
 {
@@ -123,8 +124,8 @@ pub(super) fn reply_of(cycle: u64, brought: Option<Ref>, body: Body) -> Option<M
     })
 }
 
-/// Asks for what a message brings, or vouches for it, and appends the answer of a Get: all or
-/// nothing. It gives how many Marks were sent.
+/// Asks or vouches for what a message brings, and appends the answer to a Get: all or nothing. It
+/// returns the number of Marks sent.
 #[inline(always)]
 pub(super) fn send_for(
     asked: &mut RefSet,
@@ -165,7 +166,7 @@ pub(super) fn send_for(
     Ok(asked.len() - before)
 }
 
-/// What the body does to the heap, beside marking. There is room for a letter.
+/// Applies the body to the heap, apart from marking. There has to be room for a letter.
 #[inline(always)]
 pub(super) fn follow_on_heap(heap: &mut Heap, from: u8, body: Body)
     requires room { 0 < heap.old.letter_room }
@@ -195,8 +196,8 @@ pub(super) fn follow_on_heap(heap: &mut Heap, from: u8, body: Body)
     }
 }
 
-/// Counts the message as taken in, and does what the body says of the ring and of the phases. The
-/// answer of a Get is counted.
+/// Counts the message as received, and applies the body to the ring and the phases. The answer to a
+/// Get is counted as sent.
 pub(super) fn follow(phases: &mut Phases, ring: &mut Ring, from: u8, stamp: u64, body: Body)
     requires small { IsBounded (GREATEST_COUNTED - 1) ring.old }
     requires there { from < length phases.old.reports }
@@ -216,7 +217,7 @@ pub(super) fn follow(phases: &mut Phases, ring: &mut Ring, from: u8, stamp: u64,
 }
 
 impl Core {
-    /// Takes in a message of the node's own cycle, or of one before it.
+    /// Receives a message of the node's own cycle, or of an earlier one.
     pub(super) fn take_settled(
         &mut self,
         from: u8,

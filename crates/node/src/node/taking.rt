@@ -1,7 +1,7 @@
 //! The events that come from other nodes: messages and acknowledgements. Whether a node may join is
-//! tested of the node as it is; what the ring and the end of marking ask, of the node that has
-//! joined, since a token may be the very message by which it joins. No message that a node released
-//! is refused by these tests in its turn.
+//! tested on the node as it is. What the ring and the end of marking require is tested on the node
+//! after it has joined, since a token may be the very message by which it joins. In its turn, no
+//! message that a node has released fails these tests.
 ghost use Rattle.std.specs.Prelude.{◌≡◌, ◌≢◌, ◌<◌, true, false, option_to_list, IsTrue, IfErr, OnErr};
 ghost use Rattle.ids.specs.declared.refusal.Refusal.TheVariants.{Memory};
 ghost use Rattle.model.proofs.Joining.{settles_joining};
@@ -61,7 +61,7 @@ impl Core {
         Err(Refusal::NothingToDo)
     }
 
-    /// Takes in a message that the node may take in, in its turn.
+    /// Receives a message that the node may receive, in its turn.
     fn take(&mut self, from: u8, stamp: u64, body: Body) -> Result<Answer, Refusal>
         requires { IsTakable self.old.local from stamp body }
         ensures { Performed true result self.old self.new (view_taken self.old from stamp body) }
@@ -89,7 +89,7 @@ impl Core {
         stamp <= cycle || (self.own != 0 && (stamp <= cycle + 1 && cycle <= self.phases.swept()))
     }
 
-    /// Whether the shape has room for every reference in the body.
+    /// Whether every reference in the body is within the shape.
     fn has_room_for(&self, body: Body) -> bool
         ensures { result ≡ are_within self.now.local.shape (mentioned body) }
     {
@@ -120,7 +120,7 @@ impl Core {
         reference.node < self.shape.nodes() && reference.slot < self.shape.slots()
     }
 
-    /// Whether the node follows such a body that comes from there.
+    /// Whether the node may follow such a body from that node.
     fn may_follow(&self, from: u8, body: Body) -> bool
         ensures { result ≡ may_follow self.now.local from body }
     {
@@ -135,7 +135,7 @@ impl Core {
         }
     }
 
-    /// Whether the body is true of the node once it has joined the message's cycle.
+    /// Whether the body fits the node once it has joined the message's cycle.
     fn may_settle(&self, stamp: u64, body: Body) -> bool
         ensures { result ≡ may_settle (joined self.now.local stamp).local stamp body }
     {
@@ -146,7 +146,7 @@ impl Core {
         }
     }
 
-    /// The same of a node that joins that cycle, seen before it does.
+    /// The same of a node that is about to join that cycle, tested before it does.
     fn settles_joining(&self, stamp: u64, body: Body) -> bool
         ensures { result ≡ settles_joining self.now.local stamp body }
     {
@@ -191,7 +191,7 @@ impl Core {
         stamp == cycle && self.phases.ended() != cycle
     }
 
-    /// Lets go of the messages that were acknowledged.
+    /// Drops the messages that were acknowledged.
     #[tactic(auto, unfolding(model::specs::View::view_act))]
     pub(crate) fn acknowledge(&mut self, ack: Ack) -> Result<Answer, Refusal>
         ensures performed { Performed false result self.old self.new

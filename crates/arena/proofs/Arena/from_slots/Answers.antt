@@ -34,7 +34,7 @@ returns-then-free-vacant-clause-refused g c =
           (misses c.in_ok-first.ensures.linked one.0 one.1 c.args.limit),
     )
 
--- what is made, whose free slots the list counts
+-- the arena that is made; the list has as many numbers as there are free slots
 abbrev IsMade : (g : Over) (c : goal.Else-free-vacant g) → Type 0
 IsMade g c =
     (c.parts-entries.result.2 ≡ length c.args.free.now)

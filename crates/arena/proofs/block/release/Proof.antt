@@ -1,4 +1,4 @@
--- `release` makes one block of the places, and hands it back with the title. Assumes `Logic`.
+-- `release` makes one block of the places, and gives it back with the title. Assumes `Logic`.
 use Rattle.arena.proofs.Names.{◌≡◌, refl, sym, ap, subst, ◌∙◌, List, [], ◌∷◌, ◌++◌, ℕ, ◌+◌, ◌*◌}
 use Rattle.arena.proofs.Names.{◌<◌, ◌^◌, arith, length, Lft, Share, ftrue, flft}
 use Rattle.arena.proofs.Names.{ent, id⊢, never, SProp, Fn, w64, inst_fn, Val}

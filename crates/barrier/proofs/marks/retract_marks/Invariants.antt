@@ -5,7 +5,7 @@ use Rattle.link.specs.Links.{LinksView, IsLinks}
 use Rattle.barrier.specs.Asked.{all_appended}
 use Rattle.barrier.proofs.marks.retract_marks.Given as goal
 
--- so many Marks are left
+-- the first `left` Marks are left
 pub record Left (targets : List Ref) (left : ℕ) (first now : LinksView) : Type 0 where
   pub back : (cycle : ℕ) (was : LinksView) → IsLinks was →
       first ≡ all_appended was (marks_for cycle targets) →

@@ -1,5 +1,5 @@
-//! What of a saved node's parts stands on its links, and how many messages they count. A balance is
-//! no larger than that count, whatever its sign.
+//! Tests of the links of a saved node's parts, and the number of messages that the links count. A
+//! balance is no larger than that number, whatever its sign.
 ghost use Rattle.std.specs.Prelude.{◌≡◌, ◌↔◌, map, IsTrue};
 ghost use Rattle.std.specs.List.{list_all};
 ghost use Rattle.safra.specs.Balances.{IsBounded};
@@ -17,8 +17,8 @@ use msg::{Body, Message};
 use safra::Ring;
 use std::collections::VecDeque;
 
-/// Whether these are the ends of the links to the nodes of the shape, with messages that a node in
-/// this cycle may have sent, and with none on the link to the node itself.
+/// Whether these are the ends of the links to the nodes of the shape. Their messages have to be
+/// ones that a node in this cycle may have sent, and the link to the node itself has to be empty.
 pub(super) fn are_at_ends(shape: Shape, own: u8, cycle: u64, links: &[LinkParts]) -> bool
     ensures { IsTrue result ↔ AreAtEnds shape own cycle (links_given links.now) }
 {
@@ -31,7 +31,7 @@ pub(super) fn are_at_ends(shape: Shape, own: u8, cycle: u64, links: &[LinkParts]
     is_unused(own, links)
 }
 
-// Whether the messages on every link may be a node's in this cycle.
+// Whether a node in this cycle may have sent the messages on every link.
 fn are_sent(shape: Shape, cycle: u64, links: &[LinkParts]) -> bool
     ensures { result ≡ list_all (are_messages shape cycle) (map link_given links.now) }
 {
@@ -46,7 +46,7 @@ fn is_each_sent(shape: Shape, cycle: u64, links: &[LinkParts]) -> bool
         .all(|link| are_messages(shape, cycle, &link.messages))
 }
 
-// Whether nothing was sent or taken in on the link of this node.
+// Whether nothing was sent or received on the link of this node.
 fn is_unused(own: u8, links: &[LinkParts]) -> bool
     ensures unused { IsTrue result
         ↔ (used (link_at (links_given links.now) own) ≡ 0)
@@ -72,7 +72,7 @@ fn is_message(shape: Shape, cycle: u64, message: Message) -> bool
     message.stamp <= cycle && are_named(shape, message.body) && is_placed(message.body)
 }
 
-// Whether the shape has room for every reference in the body.
+// Whether every reference in the body is within the shape.
 fn are_named(shape: Shape, body: Body) -> bool
     ensures { result ≡ list_all (is_named shape) (mentioned body) }
 {
@@ -98,7 +98,7 @@ fn is_placed(body: Body) -> bool
     }
 }
 
-/// How many messages were appended and how many taken in, on all links together.
+/// The number of messages appended and of messages received, together, on all links.
 pub(super) fn number_sum(links: &Links) -> u64
     ensures { result ≡ number_sum links.now.links links.now.got }
 {

@@ -1,5 +1,5 @@
-//! What of a saved node's parts can be looked at without memory: all but the grey list, what was
-//! asked for, and the links. Each test is one part of what is true of every node.
+//! Tests of a saved node's parts that need no memory: all parts except the grey list, what was
+//! asked for, and the links. Each test is one part of what holds of every node.
 ghost use Rattle.std.specs.Prelude.{◌≡◌, ◌↔◌, map, is_some, true, false, IsTrue};
 ghost use Rattle.std.specs.List.{list_all};
 ghost use Rattle.ids.specs.Limits.{IsShape};
@@ -132,8 +132,8 @@ fn is_report(own: u8, node: usize, report: u64) -> bool
     report == 0 || (own == 0 && node > 0)
 }
 
-/// Whether these are the reports of the nodes of the space: none of the node itself, and at a node
-/// other than 0 none at all.
+/// Whether these are the reports of the nodes of the space. A node has no report of itself, and a
+/// node other than 0 has none at all.
 fn are_heard(own: u8, nodes: u8, reports: &[u64]) -> bool
     ensures { IsTrue result ↔ AreHeard own nodes reports.now }
 {

@@ -1,5 +1,5 @@
-//! The lists of a saved node that name each thing once. Each entry is looked at once, and none is
-//! compared with all others.
+//! The lists of a saved node that name each thing once. Each entry is read once; entries
+//! aren't compared with all the others.
 ghost use Rattle.std.specs.Prelude.{◌≡◌, ◌≢◌, ◌↔◌, ℕ, ◌<◌, length, map, true, IsTrue, IfOk, IfErr, OnOk};
 ghost use Rattle.ids.specs.declared.refusal.Refusal.TheVariants.{BadImage, Memory};
 ghost use Rattle.heap.specs.Heap.{slot_of};
@@ -17,8 +17,8 @@ fn is_foreign(shape: Shape, own: u8, reference: Ref) -> bool
     is_named(shape, reference) && reference.node != own
 }
 
-/// The set of these references, in their order. [`Refusal::BadImage`] where one of them isn't
-/// another node's, or stands there twice; [`Refusal::Memory`] where a growth was refused.
+/// Makes the set of these references, in their order. It fails with [`Refusal::BadImage`] if one of
+/// them isn't another node's or occurs twice, and with [`Refusal::Memory`] if an allocation fails.
 pub(super) fn asked_once(
     alloc: Global,
     shape: Shape,
@@ -42,8 +42,8 @@ pub(super) fn asked_once(
     Ok(asked)
 }
 
-/// Whether the list names objects in these slots that the cycle has marked, each once. It marks
-/// the slots that came, in memory of their number.
+/// Whether the list names objects in these slots that the cycle has marked, each once. It needs
+/// memory for one flag per slot, in which it notes the slots seen so far.
 pub(super) fn are_grey(
     alloc: Global,
     cycle: u64,

@@ -1,4 +1,4 @@
--- `get` reads the pointer through a `&`, and hands on what that has of one value. Assumes `Logic`.
+-- `get` reads the pointer through a `&`, and returns its share of one value. Assumes `Logic`.
 use Rattle.arena.proofs.Names.{◌≡◌, refl, sym, ap, subst, ◌∙◌, List, [], ◌∷◌, ◌++◌, ℕ, ◌+◌, ◌*◌}
 use Rattle.arena.proofs.Names.{◌<◌, ◌^◌, arith, length, get_or, Lft, Share, ftrue, flft}
 use Rattle.arena.proofs.Names.{ent, id⊢, never, SProp, Fn, a_type, w64, inst_fn, Val, vptr}

@@ -3,7 +3,7 @@ use Rattle.std.proofs.lemmas.Result.{err_from_is_err_and}
 use Rattle.heap.proofs.Allocation.{heap_alloc-stored}
 use Rattle.heap.proofs.heap.Heap.alloc.Goals as goal
 
--- there was room, so memory stands in place of an answer
+-- there was room, so only Memory is possible
 pub returns-in_err-object-clause-refused : goal.returns-in_err-object-clause-refused
 returns-in_err-object-clause-refused c =
     let a = c.args in

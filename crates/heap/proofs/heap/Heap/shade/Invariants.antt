@@ -2,7 +2,7 @@ use Rattle.std.proofs.Common.{◌≡◌, ◌+◌, ◌≤◌, drop}
 use Rattle.model.specs.Shading.{make_all_grey, filled}
 use Rattle.heap.proofs.heap.Heap.shade.Given as goal
 
--- what is left to shade gives what all would give
+-- shading what is left now gives the same as shading everything at the start
 abbrev pub invariant-loop-reference : goal.invariant-loop-reference
 invariant-loop-reference l =
     record {

@@ -2,7 +2,7 @@ use Rattle.std.proofs.Common.{◌≡◌, ◌+◌, ◌≤◌, length, drop}
 use Rattle.model.specs.Shading.{make_all_grey, filled, roots}
 use Rattle.heap.proofs.heap.Heap.shade_roots.Given as goal
 
--- what is left to shade gives what all would give
+-- shading what is left now gives the same as shading everything at the start
 abbrev pub invariant-loop-number : goal.invariant-loop-number
 invariant-loop-number l =
     let all = roots l.fn.self.heap in

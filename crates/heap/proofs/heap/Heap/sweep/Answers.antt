@@ -37,7 +37,7 @@ loop-slot-preserved c =
       rest = c.free_unmarked.ensures.rest ∙ ap (λ (v : HeapView). record v { heap = h }) old.rest;
     }
 
--- once the slots have come to the end, all that was to be swept is
+-- once the slots have reached the end, everything that was to be swept is
 is-swept : (c : goal.After-loop-slot) → c.min-end.result ≤ c.loop-slot.slot
     → record { heap = c.loop-slot.self.heap; freed = c.loop-slot.freed }
     ≡ swept c.args.cycle c.args.cursor c.args.count c.args.self.now.heap

@@ -3,7 +3,7 @@ use Rattle.model.specs.Collecting.{sweep_some}
 use Rattle.heap.specs.Heap.{swept}
 use Rattle.heap.proofs.heap.Heap.sweep.Given as goal
 
--- what is left to sweep gives what all would give
+-- sweeping what is left now gives the same as sweeping everything at the start
 abbrev pub invariant-loop-slot : goal.invariant-loop-slot
 invariant-loop-slot l =
     record {

@@ -3,7 +3,7 @@ use Rattle.std.specs.List.{list_any}
 use Rattle.model.specs.Shading.{wakes, filled, roots}
 use Rattle.heap.proofs.heap.Heap.wakes_root.Given as goal
 
--- what is left to look at tells what all would tell
+-- the roots that are left decide as all the roots do
 abbrev pub invariant-loop-number : goal.invariant-loop-number
 invariant-loop-number l =
     let all = roots l.self.heap in

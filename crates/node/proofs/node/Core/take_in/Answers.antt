@@ -17,7 +17,7 @@ addressed : (c : In-Next)
     → is_addressed c.args.self.now.local c.args.frame.from c.args.frame.to ≡ true
 addressed c = sym c.is_addressed.ensures ∙ c.if-not-is_addressed.false
 
--- it is the message that comes next, if the links were asked for its number
+-- the links answered Next for its number, so it is the message that comes next
 comes-next : (c : In-Next)
     → c.offer.result
     ≡ offered (got_from (view_of c.self.inside).local c.args.frame.from) c.args.frame.number

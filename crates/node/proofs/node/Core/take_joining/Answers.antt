@@ -63,8 +63,8 @@ phases : (c : After-follow)
     → IsPhases (in_cycle c.args.stamp (view_of c.self.inside).local.phases)
 phases c = subst IsPhases c.join.ensures.done c.join.ensures.sound
 
--- what is left once the message is taken in; that all Marks are counted, and that the program's
--- roots are marked by the new cycle, each goal says for itself
+-- the outcome once the message is received; each goal shows for itself that all Marks are counted,
+-- and that the new cycle has marked the program's roots
 left : (c : After-follow)
     → ReadJoining (view_of c.self.inside) c.args.stamp c.args.body c.brought_by-brought.result
     c.met_by-met.result c.reply_of-reply.result

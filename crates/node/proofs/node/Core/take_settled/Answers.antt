@@ -28,7 +28,7 @@ reached c =
     subst (λ (m : NodeView). c.args.stamp ≤ m.local.phases.cycle) (sym c.self.view_is)
     c.requires.reached
 
--- what the code has read; that it saw whether the node is marking, each goal says for itself
+-- what the code has read; each goal shows for itself that it saw whether the node is marking
 read : (c : After-make_room)
     → c.met_by-met.result
     ≡ met_by (not (c.ended.result == c.cycle-cycle.result)) c.cycle-cycle.result c.args.stamp
@@ -43,7 +43,7 @@ read c met = record {
   reply_is = c.reply_of-reply.ensures;
 }
 
--- what is left once the message is taken in
+-- the outcome once the message is received
 left : (c : After-follow)
     → Read (view_of c.self.inside) c.args.stamp c.args.body c.cycle-cycle.result c.ended.result
     c.brought_by-brought.result c.met_by-met.result c.reply_of-reply.result

@@ -8,7 +8,7 @@ use Rattle.node.specs.Taking.{asks_for}
 use Rattle.node.proofs.node.settling.asks_for.Goals.{in-Get, in_default}
 use Rattle.node.proofs.node.settling.asks_for.Goals as goal
 
--- what isn't a Get
+-- a body other than a Get
 other-asks : (cycle stamp : ℕ) (b : Body) → ((r : Ref) (p l : ℕ) → b ≡ body.Get r p l → ⊥)
     → nat_lt stamp cycle ≡ asks_for cycle stamp b
 other-asks cycle stamp (body.Get r p l) never = absurd (never r p l refl)

@@ -9,7 +9,7 @@ use Rattle.model.specs.State.{Object, Slot, Retired}
 use Rattle.node.specs.Parts.{is_slot}
 use Rattle.node.proofs.node.parts.home.are_slots.Goals as goal
 
--- what is answered of a slot
+-- the answer for one slot
 answered : (P : Slot → Bool) (ss : List (stored.Slot Object)) (s : stored.Slot Object)
     (n : ℕ) {b : Bool} → s ≡ get_or ss n slot.Retired → b ≡ P (slot_of s)
     → P (get_or (map slot_of ss) n Retired) ≡ b
