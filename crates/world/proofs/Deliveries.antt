@@ -96,7 +96,7 @@ act-receives : (s : NodeState) (d : Data) (from to number : ℕ) (x : Message)
 unfolding act receive
 act-receives s d from to number x h = cc
 
--- for a released message, only the reason that it isn't the next one avoids allocation
+-- if the delivery of a released message never fails for lack of memory, it isn't the next one
 next-free : (nodes free : Bool) (sent : Option Message) (x : Message) → nodes ≡ true → sent ≡ Some x
     → (not nodes || (not (is_some sent) || free)) ≡ true → free ≡ true
 next-free nodes free sent x are is h = rw (are, is) at h
