@@ -54,8 +54,8 @@ unfolding int_wrap take_step act receive append announce shade vouch make_grey e
     dropped begun probe conclude passed sweep_one swept_slots count_in take_body settled taken_in
 freed-last-first-prints = refl
 
--- A sweep looks at no more slots than the given number. It may look at none, which ends it if there
--- are none left.
+-- A sweep looks at no more slots than the given number. That number may be 0, which ends the sweep
+-- if no slot is left.
 abbrev swept_in_parts : List Row
 swept_in_parts =
     sweep_slots 0 1 gives refused NothingToDo

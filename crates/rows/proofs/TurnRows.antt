@@ -193,7 +193,7 @@ pub token-held : (numbers_of given_token ≡ state 1 0 0 White (pos 0) (pos 0) 0
 unfolding append shade vouch make_grey enter join count_in take_body settled taken_in
 token-held = (refl, refl)
 
--- Ended is counted in no balance either; the node notes that marking has ended.
+-- Ended is counted in no balance either. The node notes that marking has ended.
 abbrev told_ended : LocalState
 told_ended = left (standing 1 1 0 0) 1 body.Ended
 
@@ -201,7 +201,7 @@ pub ended-noted : numbers_of told_ended ≡ state 1 1 0 White (pos 0) (pos 0) 0 
 unfolding append shade vouch make_grey enter join count_in take_body settled taken_in
 ended-noted = refl
 
--- The same for Swept; node 0 notes it under the number of the node that has swept.
+-- Node 0 notes Swept under the number of the node that has swept.
 abbrev told_swept : LocalState
 told_swept = left_by (received (standing 0 1 1 1) (0 ∷ 0 ∷ 0 ∷ []) 2 0 1 1 body.Swept)
 

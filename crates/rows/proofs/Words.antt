@@ -160,7 +160,7 @@ comes_over from to register =
     ∷ accept to register gives letter from 1 (object from 0 1)
     ∷ []
 
--- the cycle that marked the object in a slot; 0 if there is none
+-- the cycle that marked the object in a slot; 0 if the slot has no object
 abbrev pub mark_of : Slot → ℕ
 mark_of (Free g) = 0
 mark_of (Occupied g o) = o.mark
