@@ -36,8 +36,8 @@ pub record Here (s : Space) (i : ℕ) (h : Heap) : Type 0 where
 abbrev pub IsMade : Space → Ref → Type 0
 IsMade s r = (o : Thing) × (s.objects r ≡ Some o)
 
--- In the new space, node i has changed like a node that has this heap afterwards and sends these
--- messages. Any object made is new to the node.
+-- Between the two spaces, node i changes like a node that then has this heap and sends these
+-- messages. Any object that is made is new to the node.
 pub record Effects (s t : Space) (i : ℕ) (h : Heap) (ms : List (ℕ × Message)) : Type 0 where
   pub here : Here t i h
   pub desks : (j : ℕ) → j ≢ i → t.desk j ≡ s.desk j

@@ -310,8 +310,8 @@ module _ {shape : Shaped} {c : Cut} {i : ℕ} {rs : List Ref} (m : Meeting shape
 
 -- ---- shading
 
--- Either the node holds the references if it has no grey object, or a message that the cycle counts
--- is in flight.
+-- Either the node holds the references if it has no grey object, or marking goes on and a message
+-- that the cycle counts is in flight.
 pub record Shading (shape : Shaped) (c : Cut) (i : ℕ) (rs : List Ref) : Type 0 where
   pub meeting : Meeting shape c i rs
   pub quiet : ((c i).local.heap.grey ≡ [] → (r : Ref) → Among r rs → Holds (c i).local r)

@@ -1,4 +1,4 @@
--- Frames in the net stay there, and their receivers accept them.
+-- Frames in the net stay there, and the acknowledgements among them are accepted.
 use Rattle.std.proofs.Common.{◌≡◌, ◌≢◌, ℕ, ◌-◌, ◌<◌, ◌≤◌, true, false, ltb, ◌==◌, le-leb, le_refl, le_trans, List, length, map, None, Some, Ok, refl, sym, ◌∙◌, subst, arith, slice_get}
 use Rattle.std.proofs.lemmas.Bool.{and_from, ne_eqb, lt-ltb, cond-true, cond-false, cond_both}
 use Rattle.std.proofs.lemmas.List.FromFn.{length-map-range_with_len}

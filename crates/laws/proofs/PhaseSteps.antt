@@ -282,7 +282,7 @@ module _ {shape : Shaped} {c d : Cut} {i : ℕ} {ms : List (ℕ × Message)}
       (h.fits to x new.1))
       (flew says-turn from to place x flight))
 
-  -- This still requires that what is said once in a cycle is said once.
+  -- The premise is that what may be said only once in a cycle is said only once.
   pub says-inv : ((from to k l : ℕ) (x y : Message) → IsInFlight d from to k x
       → IsInFlight d from to l y → x.body ≡ y.body → is_single x.body ≡ true → k ≡ l)
       → Inv shape d

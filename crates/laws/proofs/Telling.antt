@@ -47,7 +47,7 @@ alike-refuse : {A B : Type 0} (ts us : List (Bool × Refusal)) (x : A) (y : B) (
 alike-refuse ts us x y r same h =
     guarded-other us tt y r (sym same ∙ guarded-other ts x tt r h)
 
--- they do if the last tests are equal once all before them pass
+-- they are alike if their last tests agree whenever all tests before them pass
 alike-last : (ts : List (Bool × Refusal)) (b c : Bool) (r : Refusal) → (AllPass ts → b ≡ c)
     → Alike (ts ++ (b, r) ∷ []) (ts ++ (c, r) ∷ [])
 alike-last [] b c r h = ap (λ (z : Bool). guarded {A = Unit {0}} ((z, r) ∷ []) tt) (h tt)

@@ -25,7 +25,7 @@ number_of f (x ∷ xs) = cond (f x) 1 0 + number_of f xs
 abbrev pub in_flight : Cut → ℕ → ℕ → List Message
 in_flight c from to = drop (taken c from to) (sent_to (c from) to)
 
--- how many messages that pass a test are in flight between the first nodes, this many
+-- how many messages that pass a test are in flight between nodes below this number
 abbrev pub flow : ℕ → (Message → Bool) → Cut → ℤ
 flow nodes f c = total nodes (λ from. total nodes (λ to. pos (number_of f (in_flight c from to))))
 
@@ -37,8 +37,9 @@ counts cycle stamp b = cond (is_reference b) (nat_lt stamp cycle) false
 abbrev pub is_counted : ℕ → Message → Bool
 is_counted cycle x = counts cycle x.stamp x.body
 
--- The messages that the cycle counts: those that the node sent less those that it received. A node
--- that hasn't joined the cycle counts all its messages in it, in both balances.
+-- The node's balance in the cycle: of the messages that the cycle counts, those that it sent less
+-- those that it received. For a node that hasn't joined the cycle, that is the sum of both
+-- balances.
 abbrev pub balance : ℕ → LocalState → ℤ
 balance cycle p =
     cond (p.phases.cycle == cycle) p.ring.earlier (p.ring.earlier +ℤ p.ring.recent)

@@ -19,15 +19,16 @@ abbrev pub IsOkOrSpent : {Y : Type 0} → Result Y Refusal → Type 0
 IsOkOrSpent (Ok y) = Unit {0}
 IsOkOrSpent (Err e) = e ≡ LinkSpent
 
--- What `Memory` may replace when allocation fails: an answer. A call that shades finds its messages
--- only while it appends them. There it may also replace `LinkSpent` for a later message.
+-- The results that `Memory` may replace when allocation fails. An answer is one. A call that shades
+-- finds its messages only while it appends them, so it may also replace `LinkSpent` for a later
+-- one.
 abbrev pub IsReplaced : {Y : Type 0} → Bool → Result Y Refusal → Type 0
 IsReplaced false answer = IsOk answer
 IsReplaced true answer = IsOkOrSpent answer
 
 -- A refused call fails with the refusal of the first test that fails. `Memory` comes last: a call
--- fails with it only if every test passes, instead of an answer. A call that shades may then still
--- lack numbers for its messages.
+-- fails with it only instead of an answer, so if every test passes. If the call shades, the test
+-- that its messages get numbers needn't pass.
 abbrev pub IsFirstRefusal : {Y : Type 0} → Bool → Refusal → Result Y Refusal → Type 0
 IsFirstRefusal shading e answer =
     (e ≢ Memory → answer ≡ Err e) × (e ≡ Memory → IsReplaced shading answer)

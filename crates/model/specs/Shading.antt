@@ -54,7 +54,8 @@ abbrev pub with_asked : Work → Ref → Work
 with_asked w r = record w { local = record w.local { asked = w.local.asked ++ r ∷ [] } }
 
 -- The node meets a reference while it is marking. It marks an object of its own. For another node's
--- object that it hasn't asked for in this cycle, the result is the last argument.
+-- object that it hasn't asked for in this cycle, the result is the last argument. Otherwise nothing
+-- changes.
 abbrev pub met : Work → Ref → Work → Work
 met w r new =
     cond
@@ -91,8 +92,8 @@ reference_of l = l.reference
 abbrev pub roots : Heap → List (Option Ref)
 roots h = h.registers ++ map reference_of h.letters
 
--- From now on, the messages with references of the cycle that the node leaves count with all
--- earlier ones, and the node is black.
+-- The ring after joining a cycle. The messages with references of the cycle that was left now count
+-- with all earlier ones, and the node is black.
 abbrev pub entered : Ring → Ring
 entered r = record r { colour = Black; earlier = r.earlier +ℤ r.recent; recent = pos 0 }
 

@@ -1,4 +1,5 @@
--- How a node that keeps only windows of what it sent shows a node's state.
+-- A node as the code keeps it, and the state that it shows. Of the messages that it sent, it keeps
+-- only those that aren't acknowledged.
 use Rattle.std.specs.Prelude.{◌≡◌, ◌≢◌, ℕ, min, ◌+◌, ◌-◌, ◌≤◌, Bool, cond, nat_lt, nat_le, not, ◌==◌, ◌&&◌, List, [], ◌∷◌, ◌++◌, length, map, take, drop, replicate, Option, Some, None, Result, Ok, Err, OnErr, slice_index_or, slice_get, slice_set}
 use Rattle.ids.specs.Limits.{Shaped}
 use Rattle.ids.specs.declared.limits.TheConstants.{WINDOW}

@@ -1,6 +1,6 @@
 -- What is true of the parts of every node: of its heap, of what it asked for, of its token, of its
--- reports, and of its link to itself ("Well-formed nodes" in docs/RULES.md). `References` has what
--- is true of the references that it holds.
+-- reports, and of its link to itself ("Well-formed nodes" in docs/RULES.md). The references that it
+-- holds are treated in `References`.
 use Rattle.std.specs.Prelude.{◌≡◌, ◌≢◌, ℕ, eqb, ◌<◌, ◌≤◌, List, [], length, Option, Some, None, slice_index_or}
 use Rattle.std.specs.List.{AllByRecursion, IsDistinct}
 use Rattle.ids.specs.Limits.{Shaped}
@@ -45,7 +45,7 @@ pub record IsStocked (shape : Shaped) (own cycle ended : ℕ) (h : Heap) : Type 
   pub once : IsDistinct eqb h.grey
   pub calm : ended ≡ cycle → h.grey ≡ []
 
--- a node asks only for objects of other nodes, for each once
+-- a node asks only for other nodes' objects, with each reference once
 pub record AreAsked (shape : Shaped) (own : ℕ) (asked : List Ref) : Type 0 where
   pub within : AllByRecursion (IsWithin shape) asked
   pub others : AllByRecursion (λ (r : Ref). r.node ≢ own) asked

@@ -92,7 +92,7 @@ none-stands sites read owner r width past there =
 
 -- ---- how far the search has come
 
--- the references in the places of the first objects, this many, were found
+-- the references in the places of the first `next` objects were found
 pub record Following (v : ℕ → NodeView) (start ks : List Ref) (next : ℕ) : Type 0 where
   pub kept : (r : Ref) → Among r start → Among r ks
   pub closed : (k : ℕ) → k < next → (r : Ref)
