@@ -36,7 +36,7 @@ CutsExtend =
     (cut (run (new_world shape) earlier) earlier_choice)
     (cut (run (run (new_world shape) earlier) later) choice)
 
--- Every reachable reference is live, in every cut at every time. These are the references in
+-- Every reachable reference is live, in every cut at every time. Reachable are the references in
 -- registers, letters and messages in flight, and all that can be read from there on.
 abbrev pub ReachIsLive : Type 0
 ReachIsLive =
@@ -58,9 +58,9 @@ TargetsAreLive =
     ≡ Ok (outcome.Answer answer.Received)
     → (target.node ≡ to) × IsLive (cut (run (new_world shape) steps) (λ _. false)) target
 
--- The balances add up, in every cut at every time. Of the messages that node 0's cycle counts, take
--- those that the nodes have sent less those that they have received. That is the number of these
--- messages in flight.
+-- The balances add up, in every cut at every time. Take what each node has sent of the messages
+-- that node 0's cycle counts, less what it has received of them. The sum over all nodes is the
+-- number of these messages in flight.
 abbrev pub BalancesAddUp : Type 0
 BalancesAddUp =
     (shape : Shaped) → IsShape shape → (steps : List Step) (choice : ℕ → Bool)
@@ -113,8 +113,8 @@ OldGarbageGoes =
     → IsLive (cut (run (run (new_world shape) earlier) later) choice) r
     → ⊥
 
--- Whatever was released stays released, messages and acknowledgements alike, and whatever is saved
--- and restarted meanwhile. So a frame may be given to its receiver at any later time.
+-- Whatever was released stays released, messages and acknowledgements alike, whatever is saved and
+-- restarted meanwhile. So a frame may be given to its receiver at any later time.
 abbrev pub NetGrows : Type 0
 NetGrows =
     (shape : Shaped) → IsShape shape → (earlier later : List Step) (f : Plain)
