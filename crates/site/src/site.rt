@@ -92,8 +92,8 @@ impl Site {
         self.saved.read(alloc)
     }
 
-    /// Gives the current node an event, and fails with whatever the node refuses. Then the site is
-    /// as before, except that an early message may have left its place.
+    /// Gives the current node an event, and fails with whatever the node refuses. If it fails, the
+    /// site is as before, except that an early message may have left its place.
     #[tactic(auto, using(crate::proofs::SiteLemmas::site_acted, crate::proofs::SiteLemmas::acts))]
     #[inline(always)]
     pub fn act(&mut self, event: Event) -> Result<Answer, Refusal>

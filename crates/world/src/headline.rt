@@ -67,7 +67,8 @@ pub fn laws()
     // A Mark, Put or Get that is received finds the object that it is about: it is the receiver's,
     // and live.
     ensures targets { TargetsAreLive }
-    // A frame that was released, a message or an acknowledgement, may be delivered ever after.
+    // A frame that was released, a message or an acknowledgement, may be delivered at any later
+    // time.
     ensures net { NetGrows }
     // No released message is refused as one for another node or space. It is refused only before
     // its turn, or if a message that it makes the receiver send would need a number above the

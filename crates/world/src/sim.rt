@@ -155,7 +155,7 @@ impl Sim {
         }
     }
 
-    /// The current node of this number.
+    /// The current node of this number, if there is one.
     pub fn node(&self, number: u8) -> Option<&Node>
         ensures core { option_map (λ n. n.core) (option_copied result)
             ≡ option_map (λ q. q.current) (slice_get self.now.sites number) }
@@ -165,7 +165,7 @@ impl Sim {
         Some(self.sites.get(usize::from(number))?.node())
     }
 
-    /// The current node of this number, in numbers.
+    /// A summary, in numbers, of the current node of this number, if there is one.
     #[tactic(auto, using(crate::proofs::Steps::state_shown))]
     pub fn state(&self, number: u8) -> Option<Summary>
         ensures here { result
@@ -279,8 +279,8 @@ impl Sim {
         Ok(Outcome::Handed(ack.number))
     }
 
-    /// Gives the current node of this number an event, and fails with whatever the node refuses.
-    /// Then nothing changes, except that an early message may have left its place.
+    /// Gives the current node of this number an event, and fails with whatever the node refuses. If
+    /// it fails, nothing changes, except that an early message may have left its place.
     #[inline(always)]
     fn give(&mut self, node: u8, event: Event) -> Result<Answer, Refusal>
         requires { node < length self.old.sites }
