@@ -1,4 +1,4 @@
--- A node's step that takes nothing in, and one that changes its heap alone.
+-- A node's step that receives nothing, and one that changes only its heap.
 use Rattle.std.proofs.Common.{◌≡◌, ◌≢◌, ℕ, pos, ◌+◌, ◌+ℤ◌, ◌<◌, ◌≤◌, ◌⊎◌, eqb, cond, true, List, [], ◌∷◌, length, get_or, refl, sym, ap, ◌∙◌, subst, ⊎_elim, inl, inr, arith}
 use Rattle.std.specs.Prelude.{◌≤ℤ◌}
 use Rattle.std.specs.List.{AllByRecursion}
@@ -49,7 +49,8 @@ latest {c = c} inv i inside = ⊎_elim {C = cycle_of c i ≤ cycle_of c 0}
     (λ there. omega (arith, there)) (λ behind. omega (arith, behind.1))
     (inv.phased.apart i inside)
 
--- a mark that is set is that of node 0's cycle, where the object had that before
+-- A mark that changes becomes the node's cycle. If the old mark was node 0's cycle, so is the new
+-- one.
 pub still-marked : {shape : Shaped} {c : Cut} {g : ℕ} {x : Object} (i k : ℕ) (y : Object)
     → Inv shape c → slot_at (c i).local.heap k ≡ Occupied g x → x.mark ≡ cycle_of c 0
     → (y.mark ≡ x.mark) ⊎ (y.mark ≡ cycle_of c i) → y.mark ≡ cycle_of c 0
@@ -98,7 +99,7 @@ covered-kept {c = c} {d = d} {i = i} {q = q} h r (is_asked from place flight) =
     (λ covered. covered)
     later
 
--- ---- a step that takes nothing in
+-- ---- a step that receives nothing
 
 pub record Outer (shape : Shaped) (c d : Cut) (i : ℕ) (q : LocalState) (ms : List (ℕ × Message))
     : Type 0 where
@@ -227,7 +228,7 @@ outer-inner {shape = shape} {c = c} {d = d} {i = i} {q = q} {ms = ms} h =
       safra = λ t z b. safra-turn (ring t) z b;
     }
 
--- ---- the heap alone changes
+-- ---- only the heap changes
 
 abbrev pub with_heap : NodeState → Heap → NodeState
 with_heap s h = record s { local = record s.local { heap = h } }
@@ -274,7 +275,7 @@ heap-inner {c = c} {i = i} {h = heap} h = outer-inner (record {
 
 -- ---- two steps, one after the other
 
--- the node i in this state
+-- the cut with the node i in this state
 abbrev pub put : Cut → ℕ → NodeState → Cut
 put c i s j = cond (eqb j i) s (c j)
 
@@ -287,7 +288,7 @@ becomes-put c i s = record {
   others = λ j other. cond-false (eqb j i) s (c j) (ne_eqb j i other);
 }
 
--- from there on
+-- the second step, from that cut on
 pub onward : {c d : Cut} {i : ℕ} (s : NodeState) (f : NodeState → NodeState) → Becomes c d i (f s)
     → Becomes (put c i s) d i (f (put c i s i))
 onward {c = c} {i = i} s f b = record {

@@ -1,5 +1,5 @@
--- The clause of the invariant that every event keeps by itself: who the nodes are, and that nothing
--- is taken in that was not sent.
+-- The clause of the invariant that every event keeps by itself: which nodes there are, and that
+-- nothing is received that wasn't sent.
 use Rattle.std.proofs.Common.{◌≡◌, ◌≢◌, ℕ, ◌+◌, ◌<◌, ◌≤◌, Bool, true, List, [], length, length-set, map, get_or, Ok, refl, sym, ap, ◌∙◌, subst, ⊎_elim, arith}
 use Rattle.std.proofs.lemmas.Bool.{cases_lt, and_parts, and_from, eq-eqb, lt-ltb, ne_eqb, not_from_false, cond_both}
 use Rattle.std.proofs.lemmas.List.{get_or_past, length-replicate}
@@ -26,7 +26,7 @@ use Rattle.laws.proofs.Stands.{Stands, Takes, own-stands, taken-takes}
 use Rattle.laws.proofs.Lookups.{set-no_fewer, nothing-below-zero}
 use Rattle.laws.proofs.Invariant.{Base}
 
--- what the node past the end doesn't have, only nodes of the space have
+-- a node is one of the space if it has something that the default node lacks
 pub inside-where : {shape : Shaped} {c : Cut} (i : ℕ) (P : NodeState → Type 0) → Base shape c
     → P (c i) → (P no_node → ⊥) → i < shape.nodes
 inside-where {shape = shape} i P base has none = ⊎_elim {C = i < shape.nodes}
@@ -34,7 +34,7 @@ inside-where {shape = shape} i P base has none = ⊎_elim {C = i < shape.nodes}
     (λ past. absurd (none (subst P (base.none i past) has)))
     (cases_lt i shape.nodes)
 
--- the node that stands past the end of a list refuses every event, and takes nothing in
+-- the default node past the end of a list refuses every event, and receives nothing
 pub no-node-refuses : (e : Event) → is_own e ≡ true → AllPass (tests no_node.local e) → ⊥
 no-node-refuses event.Begin own passed = let never = passed.0 in absurd cc
 no-node-refuses event.Scan own passed = let never = passed.0 in absurd cc
@@ -60,7 +60,7 @@ no-node-refuses (event.Get object place label) own passed = nothing-below-zero o
 pub no-node-takes_nothing : (from to : ℕ) → is_addressed no_node.local from to ≡ true → ⊥
 no-node-takes_nothing from to h = nothing-below-zero from (and_parts _ _ (and_parts _ _ h).1).0
 
--- a node that changes as every event lets it
+-- a node that changes as every event may change it
 pub record BaseStep (shape : Shaped) (c d : Cut) (i : ℕ) (q : LocalState) (ms : List (ℕ × Message))
     : Type 0 where
   pub inside : i < shape.nodes
@@ -90,12 +90,12 @@ base-step {shape = shape} {c = c} {i = i} {ms = ms} h base = record {
       omega (arith, before, sent-grows h.turn from to);
 }
 
--- nothing is taken in
+-- nothing is received
 pub own-heard : {p q : LocalState} → Stands p q → (from : ℕ) → got_from p from ≤ got_from q from
 own-heard {p = p} h from =
     subst (λ (z : List ℕ). got_from p from ≤ get_or z from 0) (sym h.got) (omega arith)
 
--- one message is
+-- one message is received
 pub taken-heard : {p q : LocalState} {from number : ℕ} → Takes p q from number
     → got_from p from ≤ number → (j : ℕ) → got_from p j ≤ got_from q j
 taken-heard {p = p} {from = from} {number = number} h more j =
@@ -125,7 +125,7 @@ base-act {shape = shape} {c = c} {d = d} i e t a own answered becomes base =
     } in
     base-step step base
 
--- the message in flight whose turn it is
+-- the message in flight that is next in turn
 abbrev pub first_in_flight : Cut → ℕ → ℕ → Message → Delivery
 first_in_flight c from to x = record {
   from = from;
@@ -199,7 +199,7 @@ new-past shape choice i past =
     omega (arith, past, length-map-range_with_len (new_node shape) 0 shape.nodes) in
     new-at shape choice i ∙ get_or_past (new_nodes shape) i no_node all
 
--- each node of it is new
+-- each of its nodes is new
 pub at-new : (shape : Shaped) (choice : ℕ → Bool) (i : ℕ) (P : NodeState → Type 0)
     → ((z : Shaped) (own : ℕ) → P (new_node z own)) → P (cut (new_world shape) choice i)
 at-new shape choice i P holds = ⊎_elim {C = P (cut (new_world shape) choice i)}
@@ -236,7 +236,7 @@ all-base shape within steps choice =
     let before = cuts-extend shape within [] steps choice in
     base-run before.1 (new-base shape before.0)
 
--- what comes from another node to this one
+-- a message from another node of the space to this one
 pub addressed-between : (p : LocalState) (from to count : ℕ) → p.own ≡ to → p.shape.nodes ≡ count
     → from < count → from ≢ to → is_addressed p from to ≡ true
 addressed-between p from to count own nodes there apart =
@@ -244,7 +244,7 @@ addressed-between p from to count own nodes there apart =
     (and_from _ _ (lt-ltb from p.shape.nodes (omega (arith, there, nodes)))
     (not_from_false _ (ne_eqb from p.own (λ e. apart (e ∙ own)))))
 
--- what one node of a space gives another is for that one
+-- what one node of a space gives another is addressed to that one
 pub between-nodes : {shape : Shaped} {c : Cut} → Base shape c → (from to : ℕ)
     → from < shape.nodes → to < shape.nodes → from ≢ to → is_addressed (c to).local from to ≡ true
 between-nodes {shape = shape} {c = c} base from to f t apart =

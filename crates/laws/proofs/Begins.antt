@@ -31,7 +31,7 @@ use Rattle.laws.proofs.Starts.{Starting, start-inv}
 use Rattle.laws.proofs.Dressing.{bare, Dressing, dress-moves, roots-all}
 use Rattle.laws.proofs.Rounds.{last-next}
 
--- all others have reported, by what node 0 tests
+-- all others have reported, as node 0 tests
 reports-all : (cycle : ℕ) (rs : List ℕ) → list_all (λ r. r == cycle) rs ≡ true → (k : ℕ)
     → k < length rs → get_or rs k 0 ≡ cycle
 reports-all cycle [] h k inside = absurd (omega (arith, inside))
@@ -53,7 +53,7 @@ rest-length (r ∷ rs) = inl (omega arith)
 abbrev with_token : NodeState → Option Token → NodeState
 with_token s t = record s { local = record s.local { ring = record s.local.ring { token = t } } }
 
--- joining leaves the token, and hangs not on it
+-- joining doesn't change the token, and doesn't depend on it
 join-token-apart : (s : NodeState) (cycle : ℕ) (t : Option Token) → s.local.phases.ended ≢ cycle
     → worked (with_token s t) (join (with_token s t).local cycle)
     ≡ with_token (worked s (join s.local cycle)) t

@@ -1,5 +1,5 @@
--- The invariant after a node has sent a message with references, and after it has counted in one,
--- or a Mark, whose references and target it has seen to.
+-- The invariant after a node has sent a message with references. Also after it has counted a
+-- received one, or a received Mark, whose references and target it has already dealt with.
 use Rattle.std.proofs.Common.{◌≡◌, ◌≢◌, ℕ, ℤ, pos, ◌+◌, ◌+ℤ◌, ◌-ℤ◌, ◌<◌, ◌≤◌, ◌⊎◌, ◌==◌, ltb, cond, Bool, true, false, [], ◌∷◌, length, length-set, set, Option, Some, slice_get, refl, sym, ap, ◌∙◌, subst, ⊎_elim, inl, inr, arith, le_refl}
 use Rattle.std.specs.Prelude.{◌≤ℤ◌}
 use Rattle.std.specs.List.{AllByRecursion}
@@ -178,9 +178,9 @@ send-inner {shape = shape} {c = c} {i = i} {to = to} {b = b} s becomes =
           (cases_eq (cycle_of c i) cycle);
     })
 
--- ---- one is counted in
+-- ---- one is counted as received
 
--- the balance that it is counted in, and what the cycle makes of it
+-- the balance in which the node counts the message, and how the cycle counts it
 pub data Kind (c : Cut) (i : ℕ) (x : Message) : Type 0 where
   counts_earlier : balance_of (cycle_of c i) x.stamp x.body ≡ Some Earlier → Joined c i
       → is_counted (cycle_of c 0) x ≡ true → is_fresh (cycle_of c 0) x ≡ false → Kind c i x
@@ -233,8 +233,8 @@ reference-kind {c = c} {i = i} x inv inside is (inr before) reached = ⊎_elim {
         reference-fresh (cycle_of c 0) x is
         ∙ ne_eqb x.stamp (cycle_of c 0) (λ e. omega (arith, before.1, e))
 
--- The message x is the first in flight from node j. It is a Mark of an object that is marked, or
--- what it carries has been seen to.
+-- The message x is the first in flight from node j. If it is a Mark, its object is marked; what it
+-- carries has been shaded or vouched for.
 pub record Counting (shape : Shaped) (c : Cut) (i j : ℕ) (x : Message) : Type 0 where
   pub inv : Inv shape c
   pub inside : i < shape.nodes
@@ -260,7 +260,7 @@ module _ {shape : Shaped} {c d : Cut} {i j : ℕ} {x : Message} (s : Counting sh
   abbrev after_count : LocalState
   after_count = counted_local (c i).local j (taken c j i + 1) x.stamp x.body
 
-  -- the ring by cases
+  -- the ring, by cases
   ring-earlier : balance_of (cycle_of c i) x.stamp x.body ≡ Some Earlier
       → after_count.ring
       ≡ record (c i).local.ring { colour = Black; earlier = (c i).local.ring.earlier -ℤ pos 1 }
@@ -438,7 +438,7 @@ module _ {shape : Shaped} {c d : Cut} {i j : ℕ} {x : Message} (s : Counting sh
       } in
       let cycle : cycle_of d 0 ≡ cycle_of c 0 =
       at_turn (λ l z. z.local.phases.cycle ≡ cycle_of c l) turn refl (λ l _. refl) 0 in
-      -- what is still in flight from one place on, other than x
+      -- what is still in flight from its place on, apart from x
       let later : (from place : ℕ) (y : Message) → IsInFlight c from i place y
       → (got_from after_count from ≤ place) ⊎ (y ≡ x) =
       λ from place y flight.

@@ -28,12 +28,12 @@ run-run p (further q s) = further (run-run p q) s
 one-step : {c d : Cut} → PlainStep c d → PlainRun c d
 one-step {c = c} s = further (still (λ i. refl)) s
 
--- the current state, where that is chosen
+-- the cut has the current state if that is chosen
 pub current-chosen : (w : World) (choice : ℕ → Bool) (i : ℕ) → choice i ≡ false
     → cut w choice i ≡ node_at w.current i
 current-chosen w choice i chosen = cond-false (choice i) _ _ chosen
 
--- what a cut's node sent, its saved state sent first
+-- what a node's saved state sent is the first part of what the node in a cut sent
 cut-sent : (w : World) (choice : ℕ → Bool) (i j : ℕ) → KeepsSent w
     → Grows (sent_to (node_at w.saved i) j) (sent_to (cut w choice i) j)
 cut-sent w choice i j h =
@@ -49,8 +49,8 @@ numbered-at sent k x h =
     ∙ sym (cond-true (ltb 0 (k + 1)) (slice_get sent (k + 1 - 1)) None (lt-ltb 0 (k + 1) positive))
     ∙ h
 
--- what was released goes to another node, and stands at its place among what the sender sent, in
--- each cut
+-- in each cut, a released message goes to another node, and is at its number in what the sender
+-- sent
 pub released-numbered : (own : Bool) (found : Option Message) (x : Message)
     → cond own None found ≡ Some x → (own ≡ false) × (found ≡ Some x)
 released-numbered true found x h = absurd cc
@@ -65,8 +65,8 @@ cut-released w choice from to number x h there =
     (numbered-at sent number x
     (released-numbered (from == to) (numbered sent (number + 1)) x there).1)
 
--- a released message whose turn it is, is the first in flight where the current state of its
--- receiver is chosen
+-- a released message that is next in turn is the first in flight if the receiver's current state is
+-- chosen
 pub turn-number : (w : World) (choice : ℕ → Bool) (m : Delivery) → choice m.to ≡ false
     → IsTurnOf (node_at w.current m.to) m → m.number ≡ taken (cut w choice) m.from m.to + 1
 turn-number w choice m chosen turn =
@@ -93,7 +93,7 @@ module _ (w : World) (i : ℕ) (t : NodeState) (choice : ℕ → Bool) where
   abbrev pub after_change : Cut
   after_change = cut (record w { current = set w.current i t }) choice
 
-  -- this doesn't show where the saved state of the node is chosen
+  -- the change doesn't show if the node's saved state is chosen
   pub hidden : choice i ≡ true → (j : ℕ) → after_change j ≡ cut w choice j
   hidden chosen j =
       at_set_if (λ z. cond (choice j) (node_at w.saved j) z ≡ cut w choice j) w.current i j t
@@ -103,7 +103,7 @@ module _ (w : World) (i : ℕ) (t : NodeState) (choice : ℕ → Bool) where
       ∙ sym (cond-true (choice j) (node_at w.saved j) (node_at w.current j) there))
       refl
 
-  -- else it is what has changed
+  -- otherwise it shows
   pub shown : i < length w.current → choice i ≡ false → Becomes (cut w choice) after_change i t
   shown within chosen = record {
     changed = cond-false (choice i) _ _ chosen ∙ get_or-set_same w.current i t no_node within;
@@ -162,7 +162,7 @@ cut-delivered {m = m} {t = t} w choice h x (next turn may found) =
     changed-by w m.to t choice x.within
     (λ chosen becomes. cut-received w choice h x turn chosen becomes)
 
--- A node was saved or restarted: the state that it then has twice, it had once before.
+-- After a save or a restart a node's current and saved states are the same, one that it had before.
 either : (b : Bool) (x y : NodeState) → x ≡ y → cond b x y ≡ y
 either true x y h = h
 either false x y h = refl
@@ -181,7 +181,7 @@ cut-choosing w choice i b s j here others = ⊎_elim
     (cond-false (eqb j i) b (choice j) (ne_eqb j i other))))
     (cases_eq j i)
 
--- what stands at a place that was written
+-- the element at a place that was written
 set-here : (states : List NodeState) (i j : ℕ) (s : NodeState) → i < length states → j ≡ i
     → node_at (set states i s) j ≡ s
 set-here states i j s within e =

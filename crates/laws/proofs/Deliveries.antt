@@ -1,4 +1,5 @@
--- What is delivered in its turn is for its receiver, may be taken in, and finds its target live.
+-- A message that is delivered in its turn is addressed to its receiver, may be received, and finds
+-- its target live.
 use Rattle.std.proofs.Common.{◌≡◌, ◌≢◌, ◌⊎◌, Err, ℕ, ◌+◌, ◌%◌, ◌<◌, ◌≤◌, Bool, true, false, not, ◌==◌, ◌&&◌, ltb, ◌||◌, eq-eqb, ne_eqb, lt-ltb, le-leb, leb, leb-true, leb-false, List, [], ◌∷◌, length, Option, None, Some, refl, sym, ap, ◌∙◌, subst, inl, inr, ⊎_elim, arith}
 use Rattle.std.specs.Prelude.{is_none}
 use Rattle.std.specs.List.{AllByRecursion}
@@ -42,7 +43,7 @@ use Rattle.laws.proofs.Live.{all-inv}
 
 -- ---- targets
 
--- what a message is about is the receiver's own, and is one that it mentions
+-- the object that a message is about is the receiver's own, and the message mentions it
 pub target-own : (n : ℕ) (c : Cut) (from to s : ℕ) (b : Body) → BodyFits n (phases_of c) from to s b
     → IfAny (λ (r : Ref). r.node ≡ to) (target_of b)
 target-own n c from to s (body.Mark target) fits = fits.0
@@ -98,7 +99,7 @@ targets-are-live shape within steps from to number x target there about answered
 
 -- ---- who sends to whom
 
--- only nodes of the space sent anything, and only to others
+-- only nodes of the space have sent anything, and only to other nodes
 numbered-none : (sent : List Message) (number : ℕ) (x : Message) → sent ≡ []
     → numbered sent number ≡ Some x → ⊥
 numbered-none [] number x none there =
@@ -125,9 +126,9 @@ released-between {shape = shape} w m base there =
     in
     (from_inside, to_inside, eqb-false m.from m.to other.0)
 
--- ---- a message in flight may be taken in, in its turn
+-- ---- a message in flight may be received, in its turn
 
--- what is safe is within the shape
+-- a safe reference is within the shape
 safe-within : {shape : Shaped} {c : Cut} → Inv shape c → (r : Ref) → Safe c r
     → is_within shape r ≡ true
 safe-within {shape = shape} {c = c} inv r safe =
@@ -222,7 +223,7 @@ module _ {shape : Shaped} {c : Cut} {from to place : ℕ} {x : Message}
       by body.Ended f = eq-eqb from 0 f.0
       by body.Swept f = eq-eqb here.own 0 (own ∙ f.0)
 
-  -- the node as it is once it has joined the message's cycle
+  -- the node once it has joined the message's cycle
   abbrev settled_node : LocalState
   settled_node = (joined here x.stamp).local
 
@@ -282,7 +283,7 @@ module _ {shape : Shaped} {c : Cut} {from to place : ℕ} {x : Message}
       whole : x ≡ record { stamp = x.stamp; body = body.Token t }
       whole = ap (λ (b : Body). record { stamp = x.stamp; body = b }) is
 
-  -- when marking has ended every node has joined
+  -- when marking has ended, every node has joined
   rest-settled : Resting (phases_of c 0) → x.stamp ≡ cycle_of c 0
       → (joined here x.stamp ≡ at_rest here) × (x.stamp ≡ here.phases.cycle)
   rest-settled rest now =
@@ -368,7 +369,7 @@ turn-passes shape w m h inv between there turn =
       (le-leb m.number _ turn, (may, tt)),
     )
 
--- refused are those that a node has no place for, but where a number would be too great
+-- a message is refused only if it is beyond the window, or if a number would be too great
 pub refused-beyond : (shape : Shaped) → IsShape shape → (steps : List Step)
     (from to number stamp : ℕ) (b : Body) (e : Refusal)
     → IsInNet (run (new_world shape) steps) (data_frame from to number stamp b)

@@ -1,5 +1,5 @@
--- What a node does, and what the same event or message does in a space without a collector: each
--- event of a program, and the receipt of each message.
+-- What a node does, compared with a space without a collector, for each event of a program and the
+-- receipt of each message.
 use Rattle.std.proofs.Common.{◌≡◌, ◌≢◌, ℕ, Bool, true, cond, ◌==◌, ◌&&◌, List, [], ◌∷◌, ◌++◌, ◌⊎◌, set, Option, None, Some, option_to_list, refl, sym, ap, ◌∙◌, subst, ⊎_elim, inl, inr, append-nil}
 use Rattle.std.specs.Prelude.{is_some, option_map}
 use Rattle.std.proofs.lemmas.Bool.{cases_eq, cond_both, cond-true, cond-false, eq-eqb, ne_eqb, eqb-true, and_from, false_from_ne_true}
@@ -36,8 +36,8 @@ pub record Here (s : Space) (i : ℕ) (h : Heap) : Type 0 where
 abbrev pub IsMade : Space → Ref → Type 0
 IsMade s r = (o : Thing) × (s.objects r ≡ Some o)
 
--- From the one space to the other node i changes as a node does that has this heap afterwards, and
--- sends what it sends. What is made is new to the node.
+-- Between the two spaces, node i changes like a node that then has this heap and sends these
+-- messages. Any object that is made is new to the node.
 pub record Effects (s t : Space) (i : ℕ) (h : Heap) (ms : List (ℕ × Message)) : Type 0 where
   pub here : Here t i h
   pub desks : (j : ℕ) → j ≢ i → t.desk j ≡ s.desk j
@@ -74,7 +74,7 @@ effects-none {s = s} {i = i} {ms = ms} x quiet = record {
   others = λ from to other. refl;
 }
 
--- what is sent before isn't seen
+-- messages that were sent before aren't seen
 pub effects-behind : {s t : Space} {i : ℕ} {h : Heap} {ns : List (ℕ × Message)}
     (ms : List (ℕ × Message)) → IsQuiet ms → Effects s t i h ns → Effects s t i h (ms ++ ns)
 effects-behind {s = s} {i = i} {ns = ns} ms quiet x = record {
@@ -200,7 +200,7 @@ object-same {s = s} {i = i} {h = h} object x own there =
 
 -- ---- events of a program
 
--- A node may do an event, of which every test passed; under no reference was anything made that it
+-- A node may do an event: every test passed, and no object was made under a reference that the node
 -- hasn't given out.
 pub record Doing (s : Space) (p : LocalState) (e : Event) : Type 0 where
   pub here : Here s p.own p.heap
@@ -208,7 +208,7 @@ pub record Doing (s : Space) (p : LocalState) (e : Event) : Type 0 where
   pub free : FreeSlots p.heap.slots p.heap.free
   pub passed : AllPass (tests p e)
 
--- so nothing was made under the reference that its next object gets
+-- so no object was made under the reference that its next object gets
 pub new-unmade : {s : Space} {p : LocalState} {e : Event} → Doing s p e
     → s.objects (new_reference p.own p.heap) ≡ None
 new-unmade {s = s} {p = p} d = by (s.objects (new_reference p.own p.heap)) refl
@@ -314,8 +314,7 @@ own-loads {s = s} p register object place d =
     (here-kept d.here calm.still.kept).lives
     (quiet-append w.sends [] calm.quiet none-quiet)
 
--- the node's program does the same to its registers, letters and objects in both, and sends the
--- same
+-- the event does the same to registers, letters and objects in both, and sends the same
 pub own-does : {s : Space} (p : LocalState) (counts : List ℕ) (e : Event)
     → is_program e ≡ true → Doing s p e
     → Effects s (does s p.own e (made p counts e).answer) p.own (made p counts e).local.heap
@@ -373,7 +372,7 @@ own-does {s = s} p counts (event.Get object place label) is d =
     (body.Get (named p.heap object) place label) refl d.here)
 own-does p counts e never d = absurd cc
 
--- and is answered what may be answered there
+-- and its answer is one that it may get there
 pub own-answers : {s : Space} (p : LocalState) (counts : List ℕ) (e : Event)
     → is_program e ≡ true → Doing s p e → IsAnswer s p.own e (made p counts e).answer
 unfolding allocated copied dropped loaded stored cleared word_read word_set given accepted put_asked
@@ -403,7 +402,7 @@ own-answers p counts e is d = refl
 
 -- ---- messages of programs
 
--- what the body of a message asks of a node, whose object it is that it is about
+-- the node follows the body of a message, and owns the object that the message is about
 pub record Following (s : Space) (i : ℕ) (b : Body) (p : LocalState) : Type 0 where
   pub here : Here s i p.heap
   pub own : (r : Ref) → target_of b ≡ Some r → r.node ≡ i

@@ -1,5 +1,5 @@
--- A node that has joined a cycle with its registers and letters put aside shades what they hold,
--- and takes them up again.
+-- A node that has joined a cycle with its registers and letters set aside shades what they hold,
+-- and gets them back.
 use Rattle.std.proofs.Common.{◌≡◌, ◌≢◌, ℕ, zero, suc, ◌<◌, ◌⊎◌, true, List, [], ◌∷◌, ◌++◌, length, map, get_or, Option, None, Some, option_to_list, refl, sym, ap, ◌∙◌, subst, ⊎_elim, inl, inr, arith}
 use Rattle.std.proofs.lemmas.Bool.{ne_eqb, not_from_false}
 use Rattle.ids.specs.Limits.{Shaped}
@@ -27,7 +27,7 @@ use Rattle.laws.proofs.Moves.{worked, Moves, inner-moves, moves-through, Met, Sh
 abbrev pub bare : LocalState → LocalState
 bare p = record p { heap = record p.heap { registers = []; letters = [] } }
 
--- a register's or letter's reference is among the roots
+-- the reference of a register or letter is among the roots
 pub filled-among : (os : List (Option Ref)) (k : ℕ) (r : Ref) → get_or os k None ≡ Some r
     → Among r (filled os)
 filled-among [] k r h = absurd cc
@@ -55,7 +55,7 @@ pub option-holds : (P : Ref → Type 0) (o : Option Ref) → ((r : Ref) → o �
 option-holds P None all = tt
 option-holds P (Some r) all = all r refl
 
--- what holds of the roots, and what is among them
+-- what holds of each reference among the roots holds of all roots
 pub all-roots : (P : Ref → Type 0) (h : Heap) → ((r : Ref) → Among r (filled (roots h)) → P r)
     → RootsAll P h
 all-roots P h all = record {
@@ -87,7 +87,7 @@ roots-all P h all r a = ⊎_elim {C = P r}
     (among-append r (filled h.registers) (filled (map reference_of h.letters))
     (subst (Among r) (filled-append h.registers (map reference_of h.letters)) a))
 
--- The node p has entered the cycle, bare, and with an entry on its grey list that names no object.
+-- The node has entered the cycle, bare, with one entry on its grey list that names no object.
 pub record Dressing (shape : Shaped) (c d : Cut) (i cycle : ℕ) (s : NodeState) : Type 0 where
   pub inv : Inv shape c
   pub inside : i < shape.nodes
@@ -117,7 +117,7 @@ module _ {shape : Shaped} {c d : Cut} {i cycle : ℕ} {s : NodeState}
   abbrev apart : GreyApart s.local.own cycle s.local.heap own_roots
   apart = grey-apart s.local.own cycle s.local.heap own_roots
 
-  -- shaded, then with registers and letters again, then without the entry
+  -- shaded; then with registers and letters again; then without the entry
   abbrev shaded_state : NodeState
   shaded_state = worked bare_state bare_work
 

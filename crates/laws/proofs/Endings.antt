@@ -33,7 +33,7 @@ use Rattle.laws.proofs.Invariant.{phases_of, cycle_of, Marking, Joined, Safe, Ho
 use Rattle.laws.proofs.Light.{Speaks, speaks-flows}
 use Rattle.laws.proofs.RingSteps.{at-once, way-not-node}
 
--- Node 0 holds the token and sees that marking has ended.
+-- Node 0 holds the token and finds that marking has ended.
 pub record Ending (shape : Shaped) (c d : Cut) (t : Token) : Type 0 where
   pub inv : Inv shape c
   pub inside : 0 < shape.nodes
@@ -82,14 +82,14 @@ module _ {shape : Shaped} {c d : Cut} {t : Token} (h : Ending shape c d t) where
       h.none
       (subst (λ (z : Bool). Safra shape.nodes (ringed c) 0 t.q z) (ap is_black h.token_white) at)
 
-  -- all have joined, and none has a grey object
+  -- all nodes have joined, and none has a grey object
   pub end-passive : (i : ℕ) → i < shape.nodes → IsPassive (cycle_of c 0) (c i).local
   end-passive i inside = ⊎_elim {C = IsPassive (cycle_of c 0) (c i).local}
       (λ (e : i ≡ 0). (ap (cycle_of c) e, ap (λ (z : ℕ). (c z).local.heap.grey) e ∙ h.calm))
       (λ (other : i ≢ 0). end-verdict.0 i (omega (arith, other)) inside)
       (cases_eq i 0)
 
-  -- nothing that is counted is in flight
+  -- no counted message is in flight
   end-delivered : (from to place : ℕ) (x : Message) → IsInFlight c from to place x
       → is_counted (cycle_of c 0) x ≡ true → ⊥
   end-delivered from to place x flight counted =
@@ -208,7 +208,7 @@ module _ {shape : Shaped} {c d : Cut} {t : Token} (h : Ending shape c d t) where
       (reference-counts (cycle_of c 0) stamp b is
       ∙ lt-ltb stamp (cycle_of c 0) (let w = before.1 in omega (arith, w))))
 
-  -- what is in flight now
+  -- the messages in flight now
   end-fits : (from to place stamp : ℕ) (b : Body)
       → IsInFlight c from to place (record { stamp = stamp; body = b })
       → BodyFits shape.nodes (phases_of c) from to stamp b

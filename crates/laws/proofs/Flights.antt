@@ -1,5 +1,5 @@
 -- How many messages that pass a test are in flight, before and after one node sends messages or
--- takes one in; and that balances go with them.
+-- receives one. The balances change with that number.
 use Rattle.std.proofs.Common.{◌≡◌, ◌≢◌, ℕ, ℤ, pos, ◌+◌, ◌-◌, ◌+ℤ◌, ◌-ℤ◌, ◌<◌, ◌≤◌, Bool, true, cond, List, [], ◌∷◌, ◌++◌, length, drop, get_or, set, Some, slice_get, refl, sym, ap, ◌∙◌, subst, ⊎_elim, arith, length-set, length-append, get_or-set_same, get_or-set_other}
 use Rattle.std.specs.Prelude.{◌<ℤ◌, ◌≤ℤ◌}
 use Rattle.std.specs.List.{AllByRecursion}
@@ -18,12 +18,12 @@ use Rattle.laws.proofs.Turns.{Turn, at_turn}
 use Rattle.laws.proofs.Base.{inside-where}
 use Rattle.laws.proofs.Invariant.{cycle_of, Base, Flows, is_fresh, fresh_balance}
 
--- how many of the messages that are sent pass
+-- how many of the sent messages pass
 abbrev pub number_sent : (Message → Bool) → List (ℕ × Message) → ℕ
 number_sent f [] = 0
 number_sent f (m ∷ ms) = cond (f m.1) 1 0 + number_sent f ms
 
--- of one sender's messages those from the named places on
+-- of one sender's messages, those from the given places on that pass
 abbrev row : ℕ → (Message → Bool) → (ℕ → ℕ) → List (List Message) → ℤ
 row n f g sent = total n (λ to. pos (number_of f (drop (g to) (get_or sent to []))))
 
@@ -66,7 +66,7 @@ row-sends n f g sent ((to, x) ∷ ms) width within all =
     all.1 in
     omega (arith, ints, first, rest)
 
--- messages are sent, and none is taken in
+-- messages are sent, and none is received
 pub flow-sends : {shape : Shaped} {c d : Cut} {i : ℕ} {q : LocalState} {ms : List (ℕ × Message)}
     (f : Message → Bool) → Base shape c → i < shape.nodes → Turn c d i q ms
     → q.got ≡ (c i).local.got → AllByRecursion (λ m. m.0 < shape.nodes) ms
@@ -97,7 +97,7 @@ flow-sends {shape = shape} {c = c} {d = d} {i = i} {ms = ms} f base inside turn 
     ∙ ap (λ (z : NodeState). pos (number_of f (drop (taken c j to) (sent_to z to))))
     (turn.becomes.others j other)))
 
--- one is taken in, and none is sent
+-- one message is received, and none is sent
 pub flow-takes : {shape : Shaped} {c d : Cut} {i j : ℕ} {q : LocalState} {x : Message}
     (f : Message → Bool) → Base shape c → i < shape.nodes → j < shape.nodes
     → Turn c d i q [] → IsInFlight c j i (taken c j i) x
@@ -145,7 +145,7 @@ flow-takes {shape = shape} {c = c} {d = d} {i = i} {j = j} {q = q} {x = x} f bas
     (sym (elsewhere k to (λ (e : k ≡ j). absurd (other e))))
     ∙ ap (λ (z : List Message). pos (number_of f (drop (taken d k to) z))) (sym (sent k to))))
 
--- only between nodes of the space anything is in flight
+-- messages are in flight only between nodes of the space
 pub flight-inside : {shape : Shaped} {c : Cut} (from to place : ℕ) (x : Message) → Base shape c
     → IsInFlight c from to place x → (from < shape.nodes) × (to < shape.nodes)
 flight-inside {shape = shape} {c = c} from to place x base flight =
@@ -188,7 +188,7 @@ flow-positive {shape = shape} {c = c} f from to place x base flight passes =
     total-nonneg n (λ k. pos (number_of f (in_flight c j k))) (λ k _. omega (arith, ints))) in
     omega (arith, ints, some, in_row, rows)
 
--- ---- balances go with what is in flight
+-- ---- balances change with what is in flight
 
 total-turn : {c d : Cut} {i : ℕ} {q : LocalState} {ms : List (ℕ × Message)} (n : ℕ)
     (b : LocalState → ℤ) (z : ℤ) → Turn c d i q ms → i < n → b q ≡ b (c i).local +ℤ z

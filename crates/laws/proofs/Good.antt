@@ -26,7 +26,7 @@ pub record GoodPart (G : Ref → Type 0) (since : ℕ) (p : LocalState) : Type 0
   pub asked : since ≤ p.phases.cycle → (r : Ref) → is_in r p.asked ≡ true → G r
   pub phase : p.phases.swept ≤ p.phases.cycle
 
--- What a message carries is good. What it asks for is, where its cycle is `since` or a later one.
+-- What a message carries is good. What it asks for is good if its cycle is `since` or a later one.
 pub record GoodMessage (G : Ref → Type 0) (since : ℕ) (x : Message) : Type 0 where
   pub carries : (r : Ref) → Among r (carried x.body) → G r
   pub asks : (r : Ref) → x.body ≡ body.Mark r → since ≤ x.stamp → G r
@@ -50,7 +50,7 @@ done-through {G = G} {since = since} {ms = ms} {ns = ns} a b = record {
       (among-append (to, x) ms ns among);
 }
 
--- ---- parts that change by little
+-- ---- parts that change little
 
 pub part-with : {G : Ref → Type 0} {since : ℕ} {p : LocalState} (h : Heap) → GoodPart G since p
     → GoodHeap G since p.own p.phases.cycle p.phases.swept h
@@ -63,7 +63,7 @@ part-ringed r good = record { heap = good.heap; asked = good.asked; phase = good
 
 -- ---- messages
 
--- what neither carries nor asks
+-- messages that neither carry references nor ask for a mark
 pub idle-good : {G : Ref → Type 0} {since : ℕ} (x : Message) → is_idle x.body ≡ true
     → GoodMessage G since x
 idle-good x idle = record {
@@ -114,7 +114,7 @@ met-good {G = G} p rs ring good brought = record {
   phase = good.phase;
 }
 
--- references are shaded that are good in case the node has reached the cycle `since`
+-- shades references that are good if the node has reached the cycle `since`
 pub shade-good : {G : Ref → Type 0} {since : ℕ} (p : LocalState) (rs : List Ref)
     → GoodPart G since p → (since ≤ p.phases.cycle → (r : Ref) → Among r rs → G r)
     → GoodDone G since (shade_all (at_rest p) rs).local (shade_all (at_rest p) rs).sends
@@ -157,7 +157,7 @@ vouch-good {G = G} {since = since} p rs good brought =
     (sym (vouch_all-closed (at_rest p) rs shut)) (done-quiet good))
     (cases_Bool (is_open p))
 
--- the node goes on to a later cycle, with nothing grey
+-- the node moves to a later cycle while no object is grey
 pub join-good : {G : Ref → Type 0} {since : ℕ} (p : LocalState) (cycle : ℕ) → p.heap.grey ≡ []
     → p.phases.cycle ≤ cycle → GoodPart G since p
     → GoodDone G since (join p cycle).local (join p cycle).sends

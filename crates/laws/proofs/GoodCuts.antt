@@ -25,8 +25,8 @@ use Rattle.laws.proofs.Past.{PastAt, new-not_past, Ages, ages-own, ages-taken}
 use Rattle.laws.proofs.Good.{GoodPart, GoodMessage, GoodDone}
 use Rattle.laws.proofs.GoodEvents.{Ready, swept-calm, own-good, IsFor, Receiving, taken-good}
 
--- What each node and each message in flight has to do with is good where it has to be, and every
--- reference that wasn't given out yet is.
+-- Each node and each message in flight has good references as required, and every reference that
+-- wasn't given out yet is good.
 pub record GoodCut (G : Ref → Type 0) (since : ℕ) (c : Cut) : Type 0 where
   pub part : (i : ℕ) → GoodPart G since (c i).local
   pub messages : (from to place : ℕ) (x : Message) → IsInFlight c from to place x
@@ -52,7 +52,7 @@ turn-good {G = G} {since = since} {c = c} t done ages good = record {
       (ages.past r.slot r.generation) (λ j _ x. x) r.node past));
 }
 
--- ---- an event of a node's own
+-- ---- a node's own event
 
 ready : {shape : Shaped} {G : Ref → Type 0} {since : ℕ} {c : Cut} {i : ℕ} → Inv shape c
     → i < shape.nodes → GoodCut G since c → Ready G (c i).local
@@ -75,13 +75,13 @@ ready {c = c} {i = i} inv inside good =
           ∙ sym (resting-joined inv resting inside));
     }
 
--- ---- a message is taken in
+-- ---- a message is received
 
 module _ {shape : Shaped} {c : Cut} {from to : ℕ} {x : Message}
     (inv : Inv shape c) (inside : to < shape.nodes)
     (flight : IsInFlight c from to (taken c from to) x)
   where
-    -- a node joins when it has swept its cycle, and so has nothing grey
+    -- a node joins only when it has swept its cycle, and so has no grey object
     reached-calm : may_take (c to).local from x.stamp x.body ≡ true
         → (c to).local.phases.cycle < x.stamp → (c to).local.heap.grey ≡ []
     reached-calm may ahead =

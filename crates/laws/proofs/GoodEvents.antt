@@ -1,4 +1,4 @@
--- A node's own events keep what is good, and so does a message that it takes in.
+-- A node's own events keep what is good, and so does a message that it receives.
 use Rattle.std.proofs.Common.{◌≡◌, ℕ, suc, ◌+◌, ◌-◌, ◌<◌, ◌≤◌, ◌==◌, ltb, ltb-true, true, false, cond, List, [], ◌∷◌, length, take, Option, None, Some, option_to_list, refl, sym, ap, ◌∙◌, subst, ⊎_elim, inl, inr, arith, le_refl}
 use Rattle.std.proofs.lemmas.Bool.{cases_lt, cond_both, eqb-true, eq-eqb, not-true, not_from_true, and_parts}
 use Rattle.ids.specs.declared.names.Ref.{Ref}
@@ -31,18 +31,18 @@ use Rattle.laws.proofs.Begins.{join-has_cycle}
 use Rattle.laws.proofs.GoodHeaps.{read-good, last-among, fewer-among, grey-good, heap-rooted, heap-registered, heap-fewer_grey, heap-rewritten, place-good, word-good, heap-object, heap-swept}
 use Rattle.laws.proofs.Good.{GoodPart, GoodMessage, GoodDone, done-quiet, done-through, part-with, part-ringed, idle-good, append-good, announce-good, shade-good, vouch-good, join-good}
 
--- what an event of the node's own relies on besides
+-- what a node's own event also relies on
 pub record Ready (G : Ref → Type 0) (p : LocalState) : Type 0 where
   pub tidy : Tidy p
   pub swept : p.phases.swept ≤ p.phases.ended
   pub ended : p.phases.ended ≤ p.phases.cycle
   -- the next new object's reference is good
   pub new : G (new_reference p.own p.heap)
-  -- where the node sweeps, what it has swept so far is marked
+  -- while the node sweeps, everything behind its cursor is marked
   pub behind : p.phases.swept < p.phases.ended → (k g : ℕ) (o : Object)
       → slot_at p.heap k ≡ Occupied g o → k < p.phases.cursor → o.mark ≡ p.phases.cycle
 
--- a node that has swept its cycle has nothing grey
+-- a node that has swept its cycle has no grey object
 pub swept-calm : (p : LocalState) → Tidy p
     → p.phases.swept ≤ p.phases.ended → p.phases.ended ≤ p.phases.cycle
     → p.phases.cycle ≤ p.phases.swept → p.heap.grey ≡ []
@@ -176,7 +176,7 @@ swept-good {G = G} {since = since} p count ready r good = record {
         swept-some p.phases.cycle p.phases.cursor (looked_at p count)
         (record { heap = p.heap; freed = 0 })
 
-    -- after the last slot all that is left is marked
+    -- after the last slot, everything that is left is marked
     kept : (k e : ℕ) (y : Object) → slot_at (sweeping p count).heap k ≡ Occupied e y
         → now ≤ y.mark
     kept k e y there =
@@ -193,7 +193,7 @@ swept-good {G = G} {since = since} p count ready r good = record {
         omega (arith, mark))
         (λ _. good.heap.kept k e y was.0)
 
--- ---- events of a node's own
+-- ---- a node's own events
 
 pub own-good : {G : Ref → Type 0} {since : ℕ} (p : LocalState) (counts : List ℕ) (e : Event)
     → is_own e ≡ true → AllPass (tests p e) → Ready G p → GoodPart G since p
@@ -273,7 +273,7 @@ own-good p counts (event.Next from) own passes r good = done-quiet good
 own-good p counts (event.Data d) own passes r good = absurd cc
 own-good p counts (event.Ack a) own passes r good = absurd cc
 
--- ---- a message is taken in
+-- ---- a message is received
 
 -- a Mark is of the node's cycle or a later one; a Get is about an object of the node
 abbrev pub IsFor : LocalState → ℕ → Body → Type 0

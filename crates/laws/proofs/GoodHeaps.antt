@@ -1,5 +1,5 @@
--- Some references are fixed once for all as good, and a cycle from which on more is asked of them
--- (`since`). What is good in a node's heap, and that each change of a heap keeps it.
+-- Some references are fixed once and for all as good, and so is a cycle `since`, from which on more
+-- is required of them. What is good in a node's heap, and that each change of a heap keeps it.
 use Rattle.std.proofs.Common.{◌≡◌, ◌≢◌, ℕ, ◌-◌, ◌≤◌, ◌⊎◌, ◌==◌, cond, false, List, [], ◌∷◌, ◌++◌, length, take, get_or, set, Option, None, refl, sym, ap, ◌∙◌, subst, ⊎_elim, inl, inr, arith, get_or-set_same, get_or-set_other}
 use Rattle.std.proofs.lemmas.Bool.{cases_eq, cond_both, cond-true, eq-eqb}
 use Rattle.ids.specs.declared.names.Ref.{Ref}
@@ -24,8 +24,9 @@ use Rattle.laws.proofs.Cycles.{split-last}
 abbrev pub own_reference : ℕ → ℕ → ℕ → Ref
 own_reference own k g = record { node = own; slot = k; generation = g }
 
--- The heap of the node `own`, which is in the cycle `cycle` and has swept `done`: the roots are
--- good, what good objects hold is, and what was marked in the cycle `since` or a later one.
+-- The heap of the node `own`, which is in the cycle `cycle` and has swept `done`. The roots are
+-- good, good objects hold only good references, and what was marked in the cycle `since` or later
+-- is good.
 pub record GoodHeap (G : Ref → Type 0) (since own cycle done : ℕ) (h : Heap) : Type 0 where
   pub roots : RootsAll G h
   pub places : (k g : ℕ) (o : Object) → slot_at h k ≡ Occupied g o → G (own_reference own k g)
@@ -119,7 +120,7 @@ heap-fewer_grey less fewer good = record {
   kept = good.kept;
 }
 
--- the node goes on to another cycle, with nothing grey
+-- the node moves to another cycle while no object is grey
 pub heap-entered : {G : Ref → Type 0} {since own cycle done : ℕ} {h : Heap} (next : ℕ) → h.grey ≡ []
     → GoodHeap G since own cycle done h → GoodHeap G since own next done h
 heap-entered next calm good = record {
@@ -167,7 +168,7 @@ heap-rewritten {G = G} {since = since} {own = own} {cycle = cycle} {done = done}
     mark y x (inl same) = ap (λ (z : Object). z.mark) same
     mark y x (inr now) = ap (λ (z : Object). z.mark) now ∙ writes.mark x
 
--- a place gets what is good, or nothing
+-- a place gets a good reference, or nothing
 pub place-good : {G : Ref → Type 0} (place : ℕ) (v : Option Ref) → IfAny G v
     → GoodRewriting G (λ o. record o { places = set o.places place v })
 place-good {G = G} place v is = record {
@@ -269,7 +270,7 @@ grey-all own cycle h (r ∷ rs) all =
     (cond_both (r.node == own) (make_grey cycle h r) h (GreyMarked cycle)
     (λ _. grey-one cycle h r all) (λ _. all))
 
--- references turn grey that are good in case the node has reached the cycle `since`
+-- turns references grey that are good if the node has reached the cycle `since`
 pub heap-greyed : {G : Ref → Type 0} {since own cycle done : ℕ} {h : Heap} (rs : List Ref)
     → done ≤ cycle → (since ≤ cycle → (r : Ref) → Among r rs → G r)
     → GoodHeap G since own cycle done h

@@ -1,4 +1,4 @@
--- What becomes of slots as objects turn grey.
+-- How slots change as objects turn grey.
 use Rattle.std.proofs.Common.{◌≡◌, ◌≢◌, ℕ, ◌⊎◌, true, false, cond, ◌==◌, List, [], ◌∷◌, ◌++◌, Option, refl, sym, ap, ◌∙◌, subst, ⊎_elim, inl, inr, get_or-set_same, append-nil, append_assoc}
 use Rattle.model.specs.declared.event.Letter.{Letter}
 use Rattle.std.proofs.lemmas.Bool.{cases_Bool, cond_both, cond-true, cond-false, eqb-true, eq-eqb, not-false}
@@ -13,7 +13,7 @@ use Rattle.laws.proofs.Lookups.{among-append_left, among-append_right}
 use Rattle.laws.proofs.Inner.{StaysIn}
 use Rattle.laws.proofs.Slots.{Rewrites, rewritten-rewrites}
 
--- the object y was there, or was marked now and is grey
+-- the object y was there before, or has now been marked and is grey
 pub data Turned (P : Ref → Type 0) (own cycle : ℕ) (h g : Heap) (k e : ℕ) (y : Object) : Type 0
   where
     as_was : slot_at h k ≡ Occupied e y → Turned P own cycle h g k e y
@@ -145,7 +145,7 @@ greys-all P own cycle h (r ∷ rs) all =
     (λ _. greys-refl P own cycle h))
     (greys-all P own cycle (cond (r.node == own) (make_grey cycle h r) h) rs (λ s a. all s (inr a)))
 
--- an object in a slot that is marked
+-- a slot's object that is marked
 pub record IsMarked (h : Heap) (cycle : ℕ) (r : Ref) : Type 0 where
   pub object : Object
   pub there : slot_at h r.slot ≡ Occupied r.generation object
@@ -273,8 +273,8 @@ wakes-any own cycle h (r ∷ rs) = ⊎_elim
     }))
     (wakes-one own cycle h r)
 
--- What turns grey hangs on the slots alone: registers and letters stay, and the grey list gets it
--- at its end.
+-- What turns grey depends only on the slots. Registers and letters stay, and the new slots are
+-- appended to the grey list.
 pub record GreyApart (own cycle : ℕ) (h : Heap) (rs : List Ref) : Type 0 where
   pub new : List ℕ
   pub same : (a : List (Option Ref)) (b : List Letter) (g : List ℕ)

@@ -42,7 +42,7 @@ roots-inner {i = i} rs ls inside becomes known inv = heap-inner (record {
 
 -- ---- an object is rewritten
 
--- its mark stays, and its places hold what they held, or what is known
+-- its mark stays, and each place holds what it held, or a known reference
 pub record Rewriting (c : Cut) (i : ℕ) (f : Object → Object) : Type 0 where
   pub mark : (o : Object) → (f o).mark ≡ o.mark
   pub places : (o : Object) (j : ℕ) → (get_or (f o).places j None ≡ get_or o.places j None)

@@ -1,5 +1,5 @@
--- A step of one node that moves no phase and no token: objects are made, rewritten and shaded, and
--- messages with references and Marks are sent and taken in. It keeps the invariant.
+-- A step of one node that changes no phase and moves no token. Objects are made, rewritten and
+-- shaded; Marks and messages with references are sent and received. It keeps the invariant.
 use Rattle.std.proofs.Common.{◌≡◌, ℕ, ℤ, ◌+◌, ◌<◌, ◌≤◌, ◌⊎◌, ◌==◌, not, Bool, true, false, List, [], length, get_or, Option, None, Some, refl, sym, ap, ◌∙◌, subst, ⊎_elim, inl, inr, arith}
 use Rattle.std.specs.List.{AllByRecursion}
 use Rattle.std.proofs.lemmas.Bool.{eq-eqb, ne_eqb, not_from_false, both_ways}
@@ -26,7 +26,7 @@ use Rattle.laws.proofs.Invariant.{phases_of, cycle_of, Marking, Resting, Joined,
 
 -- ---- what the invariant says of one reference
 
--- safe, and held by the node where it marks
+-- safe, and held by the node if it is marking
 pub record Known (c : Cut) (i : ℕ) (r : Ref) : Type 0 where
   pub safe : Safe c r
   pub held : is_open (c i).local ≡ true → Holds (c i).local r
@@ -61,7 +61,7 @@ resting-joined {c = c} {i = i} inv rest inside = ⊎_elim {C = Joined c i}
     (λ behind. absurd (omega (arith, rest, behind.0)))
     (inv.phased.apart i inside)
 
--- a node sweeps when marking has ended
+-- a node sweeps only when marking has ended
 pub sweeping-resting : {shape : Shaped} {c : Cut} {i : ℕ} → Inv shape c → i < shape.nodes
     → (phases_of c i).swept < (phases_of c i).ended → Resting (phases_of c 0)
 sweeping-resting {c = c} {i = i} inv inside ready = ⊎_elim {C = Resting (phases_of c 0)}
@@ -117,9 +117,9 @@ pub record Same (p q : LocalState) : Type 0 where
   pub phases : q.phases ≡ p.phases
   pub token : q.ring.token ≡ p.ring.token
 
--- the object y, which the node has afterwards: it was there before, and its places hold what they
--- held or what is known; if it isn't grey any more, all that they hold is known; or it has just
--- turned grey; or it is new
+-- The origin of the object y, which the node has afterwards. It was there before, and its places
+-- hold what they held or known references; if it is no longer grey, it holds only known references.
+-- Or it has just turned grey. Or it is new.
 pub data Origin (c : Cut) (i : ℕ) (q : LocalState) (k g : ℕ) (y : Object) : Type 0 where
   kept : (x : Object) → slot_at (c i).local.heap k ≡ Occupied g x → y.mark ≡ x.mark
       → ((j : ℕ) → (get_or y.places j None ≡ get_or x.places j None)
@@ -131,7 +131,7 @@ pub data Origin (c : Cut) (i : ℕ) (q : LocalState) (k g : ℕ) (y : Object) : 
       → y.mark ≡ cycle_of c i → Among k q.heap.grey → Origin c i q k g y
   fresh : y.mark ≡ cycle_of c i → PlacesAll (Known c i) y → Origin c i q k g y
 
--- the object in a slot stays there, and its mark too, unless it is marked now
+-- the object in a slot stays there, and so does its mark, unless it is marked now
 pub record StaysIn (s : Slot) (cycle g : ℕ) (x : Object) : Type 0 where
   pub object : Object
   pub there : s ≡ Occupied g object
@@ -298,7 +298,7 @@ module _ {shape : Shaped} {c d : Cut} {i : ℕ} {q : LocalState} {ms : List (ℕ
       plain body.Swept is = absurd cc
       plain b is = refl
 
-  -- what stands single was in flight before
+  -- a single message was in flight before
   single-before : (from to place : ℕ) (x : Message) → IsInFlight d from to place x
       → is_single x.body ≡ true → IsInFlight c from to place x
   single-before from to place x flight single = ⊎_elim {C = IsInFlight c from to place x}
@@ -468,7 +468,7 @@ module _ {shape : Shaped} {c d : Cut} {i : ℕ} {q : LocalState} {ms : List (ℕ
         (λ l _. h.inv.held.blacks l k g o) j;
   }
 
-  -- ---- rest
+  -- ---- when marking has ended
 
   behind-marked : (k g : ℕ) (y : Object) → Resting (phases_of c 0) → Origin c i q k g y
       → (k < (c i).local.phases.cursor) ⊎ ((c i).local.phases.swept ≡ cycle_of c 0)

@@ -1,4 +1,4 @@
--- The invariant of plain runs, one record for each of its clauses: a new space has it, and each
+-- The invariant of plain runs, one record for each of its clauses. A new space has it, and each
 -- plain step keeps it.
 use Rattle.std.proofs.Common.{◌≡◌, ◌≢◌, ℕ, ℤ, pos, ◌+◌, ◌+ℤ◌, ◌-ℤ◌, ◌%◌, ltb, ◌<◌, ◌≤◌, ◌⊎◌, Bool, true, false, cond, ◌==◌, List, [], length, get_or, None, Some, eqb}
 use Rattle.std.specs.Prelude.{◌≤ℤ◌}
@@ -29,7 +29,7 @@ phases_of c i = (c i).local.phases
 abbrev pub cycle_of : Cut → ℕ → ℕ
 cycle_of c i = (c i).local.phases.cycle
 
--- the latest cycle is node 0's; either its marking goes on, or it has ended
+-- the latest cycle is node 0's; its marking either goes on or has ended
 abbrev pub Marking : Phases → Type 0
 Marking first = first.ended < first.cycle
 
@@ -39,20 +39,20 @@ Resting first = first.ended ≡ first.cycle
 abbrev pub Joined : Cut → ℕ → Type 0
 Joined c i = cycle_of c i ≡ cycle_of c 0
 
--- No sweep of this cycle may free it: while marking goes on whatever is live, and then what is
--- marked.
+-- No sweep of this cycle may free the object. While marking goes on, this is any live object; after
+-- that, any marked one.
 pub record Safe (c : Cut) (r : Ref) : Type 0 where
   pub object : Object
   pub there : slot_at (c r.node).local.heap r.slot ≡ Occupied r.generation object
   pub marked : Resting (phases_of c 0) → object.mark ≡ cycle_of c 0
 
--- an object of the node's own is marked; for another's the owner was asked
+-- an object of the node's own is marked; for another node's object, the owner was asked
 pub data Holds (p : LocalState) (r : Ref) : Type 0 where
   holds_marked : (o : Object) → r.node ≡ p.own → slot_at p.heap r.slot ≡ Occupied r.generation o
       → o.mark ≡ p.phases.cycle → Holds p r
   holds_asked : r.node ≢ p.own → is_in r p.asked ≡ true → Holds p r
 
--- the object is marked, or a Mark is on its way to it
+-- the object is marked, or a Mark for it is in flight
 pub data Covered (c : Cut) (r : Ref) : Type 0 where
   is_marked : (o : Object)
       → slot_at (c r.node).local.heap r.slot ≡ Occupied r.generation o
@@ -82,12 +82,12 @@ pub record FreeSlots (slots : List Slot) (named : List ℕ) : Type 0 where
 pub record Tidy (p : LocalState) : Type 0 where
   pub free : FreeSlots p.heap.slots p.heap.free
   pub room : length p.heap.slots ≤ p.shape.slots
-  -- no mark is of a later cycle, and only while the node marks has it grey objects
+  -- no mark is of a later cycle, and the node has grey objects only while it marks
   pub marks : (k g : ℕ) (o : Object) → slot_at p.heap k ≡ Occupied g o → o.mark ≤ p.phases.cycle
   pub calm : is_open p ≡ false → p.heap.grey ≡ []
 
 -- The nodes below the shape's number are those of the space, each with a list of messages to each
--- node; nothing is taken in that was not sent.
+-- node. No node has received anything that wasn't sent.
 pub record Base (shape : Shaped) (c : Cut) : Type 0 where
   pub own : (i : ℕ) → i < shape.nodes → (c i).local.own ≡ i
   pub shapes : (i : ℕ) → i < shape.nodes → (c i).local.shape ≡ shape
@@ -98,7 +98,8 @@ pub record Base (shape : Shaped) (c : Cut) : Type 0 where
 
 -- ---- phases and messages
 
--- Each node is in node 0's cycle, or, while that marks, in the one before, which it has swept.
+-- Each node is in node 0's cycle, or in the one before, which it has then swept; the latter only
+-- while node 0 marks.
 pub record Phased (n : ℕ) (ph : ℕ → Phases) : Type 0 where
   pub swept : (i : ℕ) → (ph i).swept ≤ (ph i).ended
   pub ended : (i : ℕ) → (ph i).ended ≤ (ph i).cycle
@@ -111,7 +112,8 @@ pub record Phased (n : ℕ) (ph : ℕ → Phases) : Type 0 where
   pub reports : (i : ℕ) → 0 < i → i < n → get_or (ph 0).reports i 0 ≤ (ph i).swept
   pub reporters : length (ph 0).reports ≡ n
 
--- a reference message is of node 0's cycle, or, while that marks, of the one before
+-- a message with references is of node 0's cycle, or of the one before; the latter only while node
+-- 0 marks
 abbrev pub StampFits : Phases → ℕ → Type 0
 StampFits first s = (s ≡ first.cycle) ⊎ (Marking first × (s + 1 ≡ first.cycle))
 
@@ -129,7 +131,8 @@ BodyFits n ph from to s body.Swept =
     (to ≡ 0) × (from ≢ 0) × (s ≡ (ph 0).cycle) × ((ph from).swept ≡ (ph 0).cycle)
     × (get_or (ph 0).reports from 0 < (ph 0).cycle)
 
--- Marking ends once in a cycle, and is swept once.
+-- In each cycle, a node hears only once that marking has ended, and reports only once that it
+-- swept.
 abbrev pub is_single : Body → Bool
 is_single body.Ended = true
 is_single body.Swept = true
@@ -166,7 +169,7 @@ pub record Held (c : Cut) : Type 0 where
       → slot_at (c i).local.heap k ≡ Occupied g o → o.mark ≡ cycle_of c i
       → (Among k (c i).local.heap.grey → ⊥) → PlacesAll (Holds (c i).local) o
 
--- When marking has ended nothing is grey, and nothing unmarked is left behind a sweep.
+-- When marking has ended no object is grey, and no unmarked object is left behind a sweep.
 pub record Rested (c : Cut) : Type 0 where
   pub grey : (i : ℕ) → Resting (phases_of c 0) → (c i).local.heap.grey ≡ []
   pub behind : (i k g : ℕ) (o : Object) → Resting (phases_of c 0)
@@ -179,7 +182,7 @@ pub record Rested (c : Cut) : Type 0 where
 abbrev pub is_fresh : ℕ → Message → Bool
 is_fresh cycle x = cond (is_reference x.body) (x.stamp == cycle) false
 
--- what a node that has joined the cycle has sent of references since, less what it has taken in
+-- messages with references that a node has sent since it joined the cycle, less those received
 abbrev pub fresh_balance : ℕ → LocalState → ℤ
 fresh_balance cycle p = cond (p.phases.cycle == cycle) p.ring.recent (pos 0)
 
@@ -206,11 +209,11 @@ abbrev pub is_black : Colour → Bool
 is_black White = false
 is_black Black = true
 
--- how many messages the node has ever sent and taken in
+-- how many messages the node has ever sent and received
 abbrev pub numbers : ℕ → NodeState → ℤ
 numbers n s = total n (λ j. pos (length (sent_to s j) + got_from s.local j))
 
--- Both balances together are at most that, whichever their signs.
+-- Both balances together are at most that number, whatever their signs.
 pub record Tally (n : ℕ) (s : NodeState) : Type 0 where
   pub plus_plus : (s.local.ring.earlier +ℤ s.local.ring.recent) ≤ℤ numbers n s
   pub plus_minus : (s.local.ring.earlier -ℤ s.local.ring.recent) ≤ℤ numbers n s
@@ -221,17 +224,17 @@ pub record Tally (n : ℕ) (s : NodeState) : Type 0 where
 abbrev pub above : ℕ → ℕ → (ℕ → ℤ) → ℤ
 above n t f = total n (λ i. cond (ltb t i) (f i) (pos 0))
 
--- the token's sum is at most what the nodes above its place have sent and taken in
+-- the token's sum is at most what the nodes above its place have sent and received
 pub record Bound (n : ℕ) (c : Cut) (t : ℕ) (q : ℤ) : Type 0 where
   pub most : q ≤ℤ above n t (λ i. numbers n (c i))
   pub least : (pos 0 -ℤ q) ≤ℤ above n t (λ i. numbers n (c i))
 
--- where a token is: at a node, or under way
+-- the spot of a token: at a node, or in flight
 pub data Spot : Type 0 where
   at_node : ℕ → Spot
   on_way : ℕ → ℕ → ℕ → Spot
 
--- where it is, or where it goes to
+-- the node at which the token is, or to which it goes
 abbrev pub place_of_spot : Spot → ℕ
 place_of_spot (at_node i) = i
 place_of_spot (on_way from to place) = to

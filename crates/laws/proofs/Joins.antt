@@ -1,5 +1,5 @@
--- The invariant after a node other than node 0 has joined a cycle, before it has shaded what its
--- program holds: its registers and letters are put aside meanwhile, and it counts as active.
+-- The invariant after a node other than node 0 has joined a cycle, before it has shaded its roots.
+-- Until then its registers and letters are set aside, and it counts as active.
 use Rattle.std.proofs.Common.{◌≡◌, ◌≢◌, ℕ, ◌+◌, ◌<◌, ◌≤◌, ◌⊎◌, true, List, [], length, get_or, Option, refl, sym, ap, ◌∙◌, subst, ⊎_elim, inl, inr, arith, le_refl}
 use Rattle.std.specs.List.{AllByRecursion}
 use Rattle.std.proofs.lemmas.Int.{ints}
@@ -150,7 +150,7 @@ enter-inv {shape = shape} {c = c} {d = d} {i = i} {cycle = cycle} {grey = grey} 
           (tally-enter turn refl refl (h.inv.tallies i h.inside)) h.inv.tallies;
     }
 
--- ---- another node than node 0 joins
+-- ---- a node other than node 0 joins
 
 pub record Joining (shape : Shaped) (c d : Cut) (i : ℕ) (grey : List ℕ) : Type 0 where
   pub inv : Inv shape c

@@ -8,7 +8,7 @@ use Rattle.laws.proofs.Lookups.{Grows, grows-refl, grows-trans}
 use Rattle.laws.proofs.StepFacts.{Happening, nothing, acted, delivered, saved, restarted, happening, act-grows, receive-grows}
 use Rattle.laws.proofs.Onward.{Onward, new-behind, step-behind}
 
--- to every node the same messages were sent, and perhaps more
+-- the second state has sent the same messages to every node, and perhaps more
 abbrev pub SentMore : NodeState → NodeState → Type 0
 SentMore s t = (j : ℕ) → Grows (sent_to s j) (sent_to t j)
 
@@ -34,7 +34,7 @@ pub run-count : (w : World) (steps : List Step) → length (run w steps).current
 run-count w [] = refl
 run-count w (s ∷ ss) = run-count (happens w s) ss ∙ count-stays w (happens w s) (happening w s)
 
--- as many saved states as current ones
+-- there are as many saved states as current ones
 width-stays : (w v : World) → Happening w v → length w.saved ≡ length w.current
     → length v.saved ≡ length v.current
 width-stays w v nothing h = h

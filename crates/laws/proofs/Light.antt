@@ -1,5 +1,5 @@
--- A step of one node that shades nothing and counts nothing: the ring, the phases, and the messages
--- that speak of these. It keeps what the invariant says of objects and references.
+-- A step of one node that shades nothing and counts nothing. It concerns only the ring, the phases,
+-- and the messages about these. It keeps what the invariant says of objects and references.
 use Rattle.std.proofs.Common.{◌≡◌, ◌≢◌, ℕ, ℤ, pos, ◌+◌, ◌+ℤ◌, ◌<◌, ◌≤◌, ◌⊎◌, ◌==◌, cond, Bool, true, false, List, [], ◌∷◌, length, length-set, get_or, set, Option, Some, slice_get, refl, sym, ap, ◌∙◌, subst, ⊎_elim, inl, inr, arith}
 use Rattle.std.specs.List.{AllByRecursion}
 use Rattle.std.proofs.lemmas.Int.{ints}
@@ -263,7 +263,7 @@ module _ {shape : Shaped} {c d : Cut} {i : ℕ} {q : LocalState} {ms : List (ℕ
         (tally-same h.turn h.owed.0 h.owed.1 (h.inv.tallies i h.inside)) h.inv.tallies;
   }
 
--- ---- what is in flight of what is counted
+-- ---- counted messages in flight
 
 pub idle-none : (cycle : ℕ) (ms : List (ℕ × Message))
     → ((to : ℕ) (x : Message) → Among (to, x) ms → is_idle x.body ≡ true)
@@ -278,7 +278,7 @@ idle-none cycle ((to, x) ∷ ms) all =
     ap (λ (z : Bool). cond {A = ℕ} z 1 0) none.1 in
     (omega (arith, rest.0, a), omega (arith, rest.1, b))
 
--- balances are the same where the cycle and both registers of the ring are
+-- balances are the same if the cycle and both balances of the ring are
 pub balance-same : (cycle : ℕ) (p q : LocalState) → q.phases.cycle ≡ p.phases.cycle
     → q.ring.earlier ≡ p.ring.earlier → q.ring.recent ≡ p.ring.recent
     → (balance cycle q ≡ balance cycle p) × (fresh_balance cycle q ≡ fresh_balance cycle p)
@@ -290,7 +290,7 @@ balance-same cycle p q at earlier recent = (
       ∙ ap (λ (z : ℤ). cond (p.phases.cycle == cycle) z (pos 0)) recent,
 )
 
--- idle messages are sent, and nothing is taken in
+-- idle messages are sent, and nothing is received
 pub record Speaks (shape : Shaped) (c d : Cut) (i : ℕ) (q : LocalState) (ms : List (ℕ × Message))
     : Type 0 where
   pub inv : Inv shape c
@@ -320,7 +320,7 @@ speaks-flows {shape = shape} {c = c} {d = d} {i = i} {q = q} {ms = ms} h =
     } in
     flows-sent sends h.inv.flows
 
--- an idle message is taken in, and nothing is sent
+-- an idle message is received, and nothing is sent
 pub record Hears (shape : Shaped) (c d : Cut) (i : ℕ) (q : LocalState) (j : ℕ) (x : Message)
     : Type 0 where
   pub inv : Inv shape c

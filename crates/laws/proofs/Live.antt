@@ -1,4 +1,4 @@
--- Every cut of a space has the invariant; so what is reachable is live and is never freed, the
+-- Every cut of a space has the invariant. So what is reachable is live and is never freed, the
 -- balances add up, and the nodes agree on the end of a cycle.
 use Rattle.std.proofs.Common.{◌≡◌, ℕ, ◌<◌, ◌≤◌, Bool, true, false, List, [], length, get_or, Ok, refl, sym, ap, ◌∙◌, subst, ⊎_elim, arith, ltb-true, inl, inr}
 use Rattle.std.specs.List.{AllByRecursion}
@@ -129,7 +129,7 @@ balances-add-up shape limits steps choice = (all-inv shape limits steps choice).
 
 -- ---- agreement
 
--- nothing that an ended cycle counts is in flight
+-- no message that an ended cycle counts is in flight
 ended-delivered : {shape : Shaped} {c : Cut} (cycle from to : ℕ) (s : ℕ) (b : Body) → Inv shape c
     → cycle ≤ (phases_of c 0).ended → BodyFits shape.nodes (phases_of c) from to s b
     → counts cycle s b ≡ false
@@ -198,7 +198,7 @@ nodes-agree shape limits steps choice i cycle inside ended =
 
 -- ---- sweeps
 
--- what is safe stays where it is when its node sweeps
+-- a safe object stays in its slot when its node sweeps
 swept-stays : {shape : Shaped} {c : Cut} {s : NodeState} {a : Answer} (i count : ℕ) (r : Ref)
     → Inv shape c → act (c i) (event.Sweep count) ≡ Ok (s, a) → Safe c r → r.node ≡ i
     → (o : Object) × (slot_at (c i).local.heap r.slot ≡ Occupied r.generation o)

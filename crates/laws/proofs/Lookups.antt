@@ -1,4 +1,4 @@
--- Look-ups in lists, stated as what holds at each place, with a default past the end and no bounds.
+-- Look-ups in lists, stated as what holds at each index, with a default past the end and no bounds.
 use Rattle.std.proofs.Common.{◌≡◌, ℕ, zero, suc, List, [], ◌∷◌, ◌++◌, ap, sym, ◌∙◌, append_assoc, append-nil, Some, slice_get, ltb, ltb-true, get_or, set, ◌<◌, ◌≤◌, le_refl, true, arith, subst, ◌⊎◌, inl, inr, ⊎_elim, ◌≢◌, refl, length, Option, None, option_to_list, unwrap_or}
 use Rattle.std.specs.Prelude.{is_some}
 use Rattle.std.proofs.lemmas.Bool.{cases_eq}
@@ -9,7 +9,7 @@ use Rattle.std.proofs.lemmas.Option.{slice_get_within}
 use Rattle.model.specs.Cuts.{Among}
 use Rattle.model.proofs.Lookups.{slice_get-left, at_set_if}
 
--- a list, and the same with more after it
+-- a list, and the same list with more after it
 abbrev pub Grows : {A : Type 0} → List A → List A → Type 0
 Grows {A = A} xs ys = (more : List A) × (ys ≡ xs ++ more)
 
@@ -20,7 +20,7 @@ pub grows-trans : {A : Type 0} (xs ys zs : List A) → Grows xs ys → Grows ys 
 grows-trans {A = A} xs ys zs g h =
     (g.0 ++ h.0, h.1 ∙ ap (λ (z : List A). z ++ h.0) g.1 ∙ append_assoc xs g.0 h.0)
 
--- what stands at a place stays there
+-- an element keeps its index
 pub slice_get-append : {A : Type 0} (xs ys : List A) (k : ℕ) (x : A) → slice_get xs k ≡ Some x
     → slice_get (xs ++ ys) k ≡ Some x
 slice_get-append xs ys k x h = slice_get-left xs ys k (slice_get_within xs k x h) ∙ h
@@ -30,7 +30,7 @@ pub slice_get-grows : {A : Type 0} (xs ys : List A) (k : ℕ) (x : A) → Grows 
 slice_get-grows {A = A} xs ys k x g h =
     subst (λ (z : List A). slice_get z k ≡ Some x) (sym g.1) (slice_get-append xs g.0 k x h)
 
--- what stands in a list that one more element came to
+-- an element of a list to which one more was appended
 pub slice_get-push : {A : Type 0} (xs : List A) (y : A) (k : ℕ) (x : A)
     → slice_get (xs ++ y ∷ []) k ≡ Some x → (slice_get xs k ≡ Some x) ⊎ (x ≡ y)
 slice_get-push [] y zero x h = inr cc
@@ -38,7 +38,7 @@ slice_get-push [] y (suc k) x h = absurd cc
 slice_get-push (a ∷ xs) y zero x h = inl h
 slice_get-push (a ∷ xs) y (suc k) x h = slice_get-push xs y k x h
 
--- after a write of no smaller number, no number is smaller than before
+-- after a write of a number that is no smaller, no number is smaller than before
 pub set-no_fewer : (xs : List ℕ) (i n : ℕ) → get_or xs i 0 ≤ n → (k : ℕ)
     → get_or xs k 0 ≤ get_or (set xs i n) k 0
 set-no_fewer xs i n more k =

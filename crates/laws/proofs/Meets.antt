@@ -74,7 +74,7 @@ in-last : (r : Ref) (rs : List Ref) → is_in r (rs ++ r ∷ []) ≡ true
 in-last r [] = or_left (is_same r r) _ (is-same r)
 in-last r (s ∷ rs) = or_right (is_same r s) _ (in-last r rs)
 
--- what is newly asked for is of another node, and among the references
+-- what is newly asked for is another node's, and among the references
 pub unasked-from : (own : ℕ) (asked rs : List Ref) (r : Ref) → Among r (unasked own asked rs)
     → Among r rs × (r.node ≢ own)
 unasked-from own asked [] r = λ never. absurd never
@@ -93,7 +93,7 @@ unasked-from own asked (s ∷ rs) r =
     (λ later. let found = unasked-from own (asked ++ s ∷ []) rs r later in (inr found.0, found.1))
     a)
 
--- afterwards each of another node was asked for
+-- afterwards each reference to another node's object was asked for
 all-asked : (own : ℕ) (asked rs : List Ref) (r : Ref) → Among r rs → r.node ≢ own
     → is_in r (asked ++ unasked own asked rs) ≡ true
 all-asked own asked [] r never far = absurd never
@@ -119,7 +119,7 @@ all-asked own asked (s ∷ rs) r among far =
     (λ later. all-asked own (asked ++ s ∷ []) rs r later far)
     among))
 
--- nothing is asked for that was asked for before
+-- if everything was asked for before, nothing is asked for now
 unasked-none : (own : ℕ) (asked rs : List Ref)
     → ((r : Ref) → Among r rs → r.node ≢ own → is_in r asked ≡ true) → unasked own asked rs ≡ []
 unasked-none own asked [] all = refl
@@ -264,7 +264,7 @@ module _ {shape : Shaped} {c : Cut} {i : ℕ} {rs : List Ref} (m : Meeting shape
       ∙ found.2 rest ∙ sym joined)))
       (wakes-any (c i).local.own (cycle_of c i) (c i).local.heap rs)
 
-  -- afterwards the node holds them
+  -- afterwards the node holds the references
   pub meet-holds : {q : LocalState} → q.heap ≡ grey_heap c i rs → Same (c i).local q
       → q.asked ≡ (c i).local.asked ++ unasked (c i).local.own (c i).local.asked rs
       → (r : Ref) → Among r rs → Holds q r
@@ -282,7 +282,7 @@ module _ {shape : Shaped} {c : Cut} {i : ℕ} {rs : List Ref} (m : Meeting shape
       (all-asked (c i).local.own (c i).local.asked rs r a far)))
       (cases_eq r.node (c i).local.own)
 
-  -- what is held already changes nothing
+  -- references that are already held change nothing
   pub held-calm : ((r : Ref) → Among r rs → Holds (c i).local r)
       → (grey_heap c i rs ≡ (c i).local.heap)
       × (unasked (c i).local.own (c i).local.asked rs ≡ [])
@@ -310,8 +310,8 @@ module _ {shape : Shaped} {c : Cut} {i : ℕ} {rs : List Ref} (m : Meeting shape
 
 -- ---- shading
 
--- At a node that has no grey object, a message that the cycle counts is in flight, or the
--- references are held.
+-- Either the node holds the references if it has no grey object, or marking goes on and a message
+-- that the cycle counts is in flight.
 pub record Shading (shape : Shaped) (c : Cut) (i : ℕ) (rs : List Ref) : Type 0 where
   pub meeting : Meeting shape c i rs
   pub quiet : ((c i).local.heap.grey ≡ [] → (r : Ref) → Among r rs → Holds (c i).local r)
@@ -331,7 +331,7 @@ module _ {shape : Shaped} {c d : Cut} {i : ℕ} {rs : List Ref} (s : Shading sha
   shaded-same : Same (c i).local shaded
   shaded-same = record { shape = refl; own = refl; phases = refl; token = refl }
 
-  -- when marking has ended nothing is asked for
+  -- when marking has ended, nothing is asked for
   rest-news : Resting (phases_of c 0) → news ≡ []
   rest-news rest = ⊎_elim {C = news ≡ []}
       (λ held. (held-calm s.meeting (held (s.meeting.inv.rested.grey i rest))).1)
@@ -435,7 +435,7 @@ module _ {shape : Shaped} {c d : Cut} {i : ℕ} {rs : List Ref} (s : Shading sha
 
 -- ---- vouching
 
--- In marking the references are covered.
+-- While marking goes on, the references are covered.
 pub record Vouching (shape : Shaped) (c : Cut) (i : ℕ) (rs : List Ref) : Type 0 where
   pub meeting : Meeting shape c i rs
   pub covered : Marking (phases_of c 0) → (r : Ref) → Among r rs → Covered c r
@@ -448,7 +448,7 @@ module _ {shape : Shaped} {c d : Cut} {i : ℕ} {rs : List Ref} (s : Vouching sh
   abbrev vouched : LocalState
   vouched = (vouched_work (c i).local [] rs).local
 
-  -- an object that turns grey has a Mark on its way
+  -- if an object turns grey, a Mark for it is in flight
   vouched-calm : (grey_heap c i rs ≡ (c i).local.heap) ⊎ Counted c
   vouched-calm = ⊎_elim {C = (grey_heap c i rs ≡ (c i).local.heap) ⊎ Counted c}
       (λ same. inl same)

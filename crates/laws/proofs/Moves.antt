@@ -1,4 +1,4 @@
--- Steps of one node, one after another: what each leaves to the next.
+-- Steps of one node, one after another: what each step ensures for the next.
 use Rattle.std.proofs.Common.{◌≡◌, ℕ, ◌<◌, ◌⊎◌, ◌==◌, not, true, false, List, [], ◌∷◌, ◌++◌, get_or, set, refl, sym, ap, ◌∙◌, subst, ⊎_elim, arith}
 use Rattle.std.proofs.lemmas.Bool.{cases_Bool, both_ways}
 use Rattle.std.proofs.Math.Path.{fun_ext}
@@ -27,7 +27,7 @@ append_all-append sent [] ys = refl
 append_all-append sent ((to, x) ∷ xs) ys =
     append_all-append (set sent to (get_or sent to [] ++ x ∷ [])) xs ys
 
--- a step that takes nothing in and moves no phase, and keeps the invariant
+-- a step that receives nothing, changes no phase, and keeps the invariant
 pub record Moves (shape : Shaped) (c d : Cut) (i : ℕ) : Type 0 where
   pub inv : Inv shape d
   pub known : (r : Ref) → Known c i r → Known d i r
@@ -116,7 +116,7 @@ met-open moves safe now holds = record {
   };
 }
 
--- one that doesn't is as before
+-- a node that doesn't mark is as before
 met-shut : {shape : Shaped} {c d : Cut} {i : ℕ} {rs : List Ref} → Inv shape c → Becomes c d i (c i)
     → ((r : Ref) → Among r rs → Safe c r) → is_open (c i).local ≡ false → Met shape c d i rs
 met-shut {shape = shape} {c = c} {d = d} {i = i} inv becomes safe shut =

@@ -1,4 +1,4 @@
--- What is in the net stays there, and goes through.
+-- Frames in the net stay there, and the acknowledgements among them are accepted.
 use Rattle.std.proofs.Common.{◌≡◌, ◌≢◌, ℕ, ◌-◌, ◌<◌, ◌≤◌, true, false, ltb, ◌==◌, le-leb, le_refl, le_trans, List, length, map, None, Some, Ok, refl, sym, ◌∙◌, subst, arith, slice_get}
 use Rattle.std.proofs.lemmas.Bool.{and_from, ne_eqb, lt-ltb, cond-true, cond-false, cond_both}
 use Rattle.std.proofs.lemmas.List.FromFn.{length-map-range_with_len}
@@ -40,7 +40,7 @@ released-grows w v from to number x more there =
     cond-false _ _ _ found.0
     ∙ numbered-grows sent (sent_to (node_at v.saved from) to) number x more found.1
 
--- of every node's messages as many were taken in, or more
+-- at least as many messages were received from every node
 abbrev pub HeardMore : NodeState → NodeState → Type 0
 HeardMore s t = (from : ℕ) → got_from s.local from ≤ got_from t.local from
 
@@ -72,7 +72,7 @@ pub run-heard : (shape : Shaped) (steps : List Step)
 run-heard shape steps =
     run-behind heard-onward (new_world shape) steps (new-behind heard-onward.order shape)
 
--- as many nodes as the shape has
+-- there are as many nodes as the shape has
 node-count : (shape : Shaped) (steps : List Step)
     → length (run (new_world shape) steps).current ≡ shape.nodes
 node-count shape steps =
@@ -100,7 +100,7 @@ net-grows shape within earlier later f there =
     (run-heard shape earlier)
     there
 
--- in the cut of all saved states, nothing was taken in that was not sent
+-- in the cut of all saved states, nothing was received that wasn't sent
 acknowledged-sent : (shape : Shaped) → IsShape shape → (steps : List Step) (from to : ℕ)
     → acknowledged (run (new_world shape) steps) from to
     ≤ release_count (run (new_world shape) steps) from to
@@ -130,7 +130,7 @@ unfolding act
 acknowledgements-go-through shape within steps a there =
     rw (ack-addressed shape within steps a.from a.to a.number there) refl
 
--- so the tests of what is handed over pass
+-- so the tests of a Hand pass
 hand-passes : (w : World) (from to : ℕ)
     → from < length w.current → to < length w.current → from ≢ to
     → is_addressed (node_at w.current from).local to from ≡ true

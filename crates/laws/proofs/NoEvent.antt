@@ -1,4 +1,4 @@
--- What is no event changes nothing.
+-- A step that isn't an event changes nothing.
 use Rattle.std.proofs.Common.{◌≡◌, ℕ, Bool, true, false, ◌==◌, ◌&&◌, List, [], ◌∷◌, length, map, set, Option, None, Some, Result, Ok, Err, refl, ap, ◌∙◌, subst, leb}
 use Rattle.std.proofs.lemmas.Bool.{cond_both}
 use Rattle.std.proofs.lemmas.List.{set-get_or}
@@ -25,7 +25,7 @@ use Rattle.laws.proofs.StepFacts.{Delivery, given_to, act-ok, Receipt, repeated,
 abbrev IsQuiet : Answer → Type 0
 IsQuiet a = is_eventful (Ok (outcome.Answer a)) ≡ false
 
--- nothing is changed and nothing sent
+-- nothing is changed and nothing is sent
 record IsNothing (p : LocalState) (x : Effect) : Type 0 where
   pub local : x.local ≡ p
   pub sends : x.sends ≡ []
@@ -69,7 +69,7 @@ quiet-receipt s m t a (repeated same says) quiet = same
 quiet-receipt s m t a (next turn may found) quiet =
     absurd (let received : IsQuiet answer.Received = subst IsQuiet found.answer quiet in cc)
 
--- the same of a space
+-- the same for a space
 abbrev Leaves : World → Result (World × Outcome) Refusal → Type 0
 Leaves w r = is_eventful (outcome_of r) ≡ false → world_after w r ≡ w
 
@@ -94,7 +94,7 @@ quiet-delivery w from to number (Some x) quiet =
     (receipt-cases (node_at w.current to) m t a answered))
     quiet
 
--- what is only tested
+-- a step that only tests
 quiet-test : (w : World) (cs : List (Bool × Refusal)) (o : Outcome) → Leaves w (guarded cs (w, o))
 quiet-test w [] o quiet = refl
 quiet-test w ((true, r) ∷ cs) o quiet = quiet-test w cs o quiet

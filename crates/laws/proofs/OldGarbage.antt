@@ -1,5 +1,5 @@
--- Old garbage goes. Let what could be reached in a cut be good, and what wasn't given out there
--- yet: then what a node has kept through the sweep of a cycle that began later is good.
+-- Old garbage goes. Let the good references be those that were reachable in a cut, or weren't given
+-- out there yet. Then what a node has kept through the sweep of a cycle that began later is good.
 use Rattle.std.proofs.Common.{◌≡◌, ℕ, ◌<◌, ◌≤◌, ◌⊎◌, false, Bool, List, [], ◌∷◌, length, get_or, Option, None, Some, slice_get, sym, ap, ◌∙◌, subst, ⊎_elim, inl, inr, arith, le_refl}
 use Rattle.std.proofs.lemmas.Bool.{cases_lt, cond_both}
 use Rattle.std.proofs.lemmas.List.{get_or_past}
@@ -81,7 +81,7 @@ all-older shape limits steps =
     (λ some. (all-inv shape limits some (λ _. false)).tidy)
     (new-behind older shape)
 
--- ---- every cut is good where everything is
+-- ---- every cut is good if every reference is
 
 abbrev Anything : Ref → Type 0
 Anything r = Unit {0}
@@ -116,7 +116,7 @@ all-good shape limits steps choice =
     let before = cuts-extend shape limits [] steps choice in
     run-good limits before.1 (new-whole shape limits before.0) (new-good shape before.0)
 
--- ---- what is good from some cut on: what could be reached there, or wasn't given out yet
+-- ---- what is good from some cut on: what was reachable there, or wasn't given out yet
 
 abbrev FromHere : Cut → Ref → Type 0
 FromHere c r = Reachable c r ⊎ (PastAt (c r.node).local.heap r.slot r.generation → ⊥)
@@ -145,7 +145,7 @@ module _ {shape : Shaped} {c : Cut} (cycle : ℕ) (inv : Inv shape c) (kept : Go
       sym (ap (λ (l : Letter). l.reference) (get_or_past ls k no_letter past)) ∙ e in cc))
       (cases_lt k (length ls))
 
-  -- an object that is there was given out, so it could be reached if it is good
+  -- an existing object was given out, so it was reachable if it is good
   places-reached : (i k g : ℕ) (o : Object) → slot_at (c i).local.heap k ≡ Occupied g o
       → FromHere c (own_reference (c i).local.own k g) → PlacesAll (FromHere c) o
   places-reached i k g o there is j =

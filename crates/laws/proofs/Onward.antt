@@ -1,5 +1,5 @@
--- What only grows in a node, as what it sent or took in: of that a saved state has no more than the
--- current one, and no more than a state that is saved later.
+-- What only grows in a node, such as what it sent and received. A saved state has no more of it
+-- than the current state, and no more than a state that is saved later.
 use Rattle.std.proofs.Common.{◌≡◌, ℕ, true, set, List, [], ◌∷◌, Ok, subst}
 use Rattle.ids.specs.Limits.{Shaped}
 use Rattle.model.specs.declared.event.Event.{Event}
@@ -16,7 +16,7 @@ pub record Compares (R : NodeState → NodeState → Type 0) : Type 0 where
   pub same : (s : NodeState) → R s s
   pub both : (s t u : NodeState) → R s t → R t u → R s u
 
--- in which no event and no receipt goes back
+-- a comparison in which no event and no receipt goes back
 pub record Onward (R : NodeState → NodeState → Type 0) : Type 0 where
   pub order : Compares R
   pub acts : (s : NodeState) (e : Event) (t : NodeState) (a : Answer) → is_own e ≡ true
@@ -32,7 +32,7 @@ pub new-behind : {R : NodeState → NodeState → Type 0} → Compares R → (sh
     → Behind R (new_world shape)
 new-behind f shape i = f.same _
 
--- a node changes to one that is further
+-- a node changes to a state that is further
 pub behind-changed : {R : NodeState → NodeState → Type 0} → Compares R
     → (w : World) (i : ℕ) (t : NodeState) → Behind R w → R (node_at w.current i) t
     → Behind R (record w { current = set w.current i t })
@@ -79,7 +79,7 @@ pub run-behind : {R : NodeState → NodeState → Type 0} → Onward R → (w : 
 run-behind f w [] h = h
 run-behind f w (s ∷ ss) h = run-behind f (happens w s) ss (step-behind f w s h)
 
--- each saved state is no further than the one saved after some step
+-- each saved state is no further than the one after some step
 saved-happening : {R : NodeState → NodeState → Type 0} → Onward R → (w v : World) → Happening w v
     → Behind R w → (k : ℕ) → R (node_at w.saved k) (node_at v.saved k)
 saved-happening f w v nothing h k = f.order.same _

@@ -29,7 +29,7 @@ use Rattle.laws.proofs.HeapSteps.{re_rooted, roots-inner, Rewriting, rewrite-inn
 use Rattle.laws.proofs.Counts.{append-reference, Sending, send-inner}
 use Rattle.laws.proofs.Moves.{worked, Moves, inner-moves, moves-through, moves-none, Met, Shadeable, shade-met}
 
--- ---- the steps of which events consist
+-- ---- the steps that make up events
 
 pub roots-moves : {shape : Shaped} {c d : Cut} {i : ℕ} (rs : List (Option Ref)) (ls : List Letter)
     → i < shape.nodes → Becomes c d i (re_rooted (c i) rs ls)
@@ -38,7 +38,7 @@ pub roots-moves : {shape : Shaped} {c d : Cut} {i : ℕ} (rs : List (Option Ref)
 roots-moves rs ls inside becomes known inv =
     inner-moves (roots-inner rs ls inside becomes known inv) refl
 
--- a register gets a reference that is known, or nothing
+-- a register gets a known reference, or nothing
 pub register-known : {shape : Shaped} {c : Cut} {i : ℕ} (k : ℕ) (v : Option Ref) → Inv shape c
     → IfAny (Known c i) v
     → RootsAll (Known c i)
@@ -56,7 +56,7 @@ pub letters-dropped : (ls : List Letter) (k : ℕ)
 letters-dropped [] k = refl
 letters-dropped (l ∷ ls) k = refl
 
--- a place of an object gets one
+-- a place of an object gets a known reference, or nothing
 pub place-rewriting : {c : Cut} {i : ℕ} (place : ℕ) (v : Option Ref) → IfAny (Known c i) v
     → Rewriting c i (λ o. record o { places = set o.places place v })
 place-rewriting {c = c} {i = i} place v known = record {
@@ -72,7 +72,7 @@ pub rewrite-moves : {shape : Shaped} {c d : Cut} {i : ℕ} (r : Ref) (place : �
 rewrite-moves r place v inside becomes known inv =
     inner-moves (rewrite-inner r _ inside becomes (place-rewriting place v known) inv) refl
 
--- a message with references that are known is sent
+-- a message with known references is sent
 pub send-moves : {shape : Shaped} {c d : Cut} {i to : ℕ} {b : Body} → Sending shape c i to b
     → Becomes c d i (worked (c i) (append to b (c i).local)) → Moves shape c d i
 send-moves {c = c} {d = d} {i = i} {to = to} {b = b} s becomes =
@@ -82,9 +82,9 @@ send-moves {c = c} {d = d} {i = i} {to = to} {b = b} s becomes =
     (append-reference to b (c i).local s.reference) becomes))
     refl
 
--- ---- the value that a place holds is known once it is shaded
+-- ---- the reference in a place is known once it is shaded
 
--- what stands in a place of an object of the node
+-- the reference in a place of an object of the node
 pub place-there : (h : Heap) (r : Ref) (place : ℕ) (v : Ref)
     → place_of (object_at h r) place ≡ Some v
     → (o : Object) × (slot_at h r.slot ≡ Occupied r.generation o)
@@ -97,8 +97,8 @@ place-there h r place v e = by (object_at h r) refl e
     by None is never = absurd cc
     by (Some o) is at = (o, found-object h r o is, at)
 
--- The object is known to the node, which owns it: so what it holds is safe, and held where the node
--- has no grey object.
+-- The object is known to the node, which owns it. So what it holds is safe, and the node holds it
+-- if it has no grey object.
 pub record Reading (shape : Shaped) (c : Cut) (i : ℕ) (r : Ref) : Type 0 where
   pub inv : Inv shape c
   pub inside : i < shape.nodes
@@ -173,7 +173,7 @@ is_cyclic e = false
 abbrev pub effect_work : Effect → Work
 effect_work x = record { local = x.local; sends = x.sends }
 
--- a node acts, on events of its own
+-- a node's own event
 pub record OwnStep (shape : Shaped) (c d : Cut) (i : ℕ) (counts : List ℕ) (e : Event) : Type 0 where
   pub inv : Inv shape c
   pub inside : i < shape.nodes

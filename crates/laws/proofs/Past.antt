@@ -1,5 +1,5 @@
--- What was given out once stays so: no event of a node, and no message, takes a generation back or
--- lets the node's cycle fall.
+-- A generation that was given out stays so. No event of a node and no message takes a generation
+-- back or lowers the node's cycle.
 use Rattle.std.proofs.Common.{◌≡◌, ℕ, zero, suc, ◌+◌, ◌<◌, ◌≤◌, ◌==◌, true, cond, List, [], ◌∷◌, ◌++◌, length, length-set, length-append, get_or, set, option_to_list, sym, subst, ⊎_elim, arith, le_refl, le_trans, ltb, ltb-true}
 use Rattle.std.proofs.lemmas.Bool.{cases_Bool, cond_both}
 use Rattle.std.proofs.lemmas.List.{get_or_append_left}
@@ -23,7 +23,7 @@ use Rattle.model.proofs.Slots.{occupied-within}
 use Rattle.laws.proofs.Invariant.{IsFree, FreeSlots}
 use Rattle.laws.proofs.Sweeps.{garbage-there}
 
--- the slot has given this generation out, and will not again
+-- the slot has given this generation out, and won't do so again
 abbrev pub PastSlot : Slot → ℕ → Type 0
 PastSlot (Free next) generation = generation < next
 PastSlot (Occupied g o) generation = generation ≤ g
@@ -33,14 +33,14 @@ pub record PastAt (h : Heap) (k generation : ℕ) : Type 0 where
   pub used : k < length h.slots
   pub past : PastSlot (slot_at h k) generation
 
--- what is there was given out
+-- an existing object was given out
 pub occupied-past : (h : Heap) (k g : ℕ) (o : Object) → slot_at h k ≡ Occupied g o → PastAt h k g
 occupied-past h k g o there = record {
   used = occupied-within h.slots k g o there;
   past = subst (λ (s : Slot). PastSlot s g) (sym there) (le_refl g);
 }
 
--- the next new object's generation is not
+-- the next new object's generation was not
 pub new-not_past : (named : List ℕ) (slots : List Slot) → FreeSlots slots named
     → next_slot named slots < length slots
     → PastSlot (get_or slots (next_slot named slots) Retired) (generation_for named slots) → ⊥
@@ -159,7 +159,7 @@ later-sweep cycle i (suc n) s k g x =
 
 -- ---- nodes
 
--- where slots stay, and the cycle
+-- slots and cycle stay
 pub ages-same : (p : LocalState) → Ages p p
 ages-same p = record { cycle = le_refl _; past = λ k g x. x }
 
@@ -240,7 +240,7 @@ ages-passed p =
     (λ _. record { cycle = le_refl _; past = λ k g x. x }))
     (λ _. record { cycle = le_refl _; past = λ k g x. x })
 
--- an event of the node's own, where the free list names free slots
+-- a node's own event, if the free list names free slots
 pub ages-own : (p : LocalState) (counts : List ℕ) (e : Event) → is_own e ≡ true
     → FreeSlots p.heap.slots p.heap.free → Ages p (made p counts e).local
 unfolding append announce allocated copied dropped loaded stored cleared word_read word_set given

@@ -1,5 +1,5 @@
--- The invariant after a step of the phases: a beginning or an end is told to all others, and what
--- is told is taken in.
+-- The invariant after a step of the phases: all others are told of a beginning or an end, and they
+-- receive these messages.
 use Rattle.std.proofs.Common.{◌≡◌, ◌≢◌, ℕ, zero, suc, ◌+◌, ◌<◌, ◌≤◌, ◌⊎◌, ◌==◌, cond, true, false, List, [], ◌∷◌, ◌++◌, length, get_or, set, Some, slice_get, refl, sym, ap, ◌∙◌, subst, ⊎_elim, inl, inr, arith, le_refl, length-append, get_or-set_other}
 use Rattle.std.proofs.lemmas.Int.{ints}
 use Rattle.std.proofs.lemmas.Bool.{cases_lt, cond_both, eqb-false}
@@ -28,7 +28,7 @@ use Rattle.laws.proofs.RingSteps.{NoToken, tokens-same, token-back, token-on}
 
 -- ---- what phases say of messages
 
--- they say the same where these parts of them are as before
+-- they say the same if these parts of them are as before
 pub record SaidAlike (ph qh : ℕ → Phases) (from to : ℕ) (b : Body) : Type 0 where
   pub first : ((qh 0).cycle ≡ (ph 0).cycle) × ((qh 0).ended ≡ (ph 0).ended)
   pub ended : b ≡ body.Ended → (qh to).ended ≡ (ph to).ended
@@ -119,7 +119,7 @@ quiet-tokens {n = n} {c = c} {d = d} {i = i} {q = q} {ms = ms} h =
     } in
     tokens-same same
 
--- ---- to all others
+-- ---- messages to all others
 
 pub others-are : (p : LocalState) (b : Body) (m to : ℕ) (x : Message)
     → Among (to, x) (to_others p b m) → (x ≡ stamped p b) × (to ≢ p.own) × (to < m)
@@ -193,7 +193,7 @@ others-once p b sent (suc m) k =
     × (length (get_or z k []) ≤ length (get_or sent k []) + 1)) (sym whole)
     (all (cond (m == p.own) [] ((m, stamped p b) ∷ [])) refl)
 
--- what is in flight of them stands last
+-- a new message in flight is the last on its link
 pub others-last : {c d : Cut} {i : ℕ} {q : LocalState} {x : Message} (p : LocalState) (b : Body)
     (m : ℕ) → Turn c d i q (to_others p b m) → (k place : ℕ) → IsInFlight d i k place x
     → (IsInFlight c i k place x → ⊥) → place ≡ length (sent_to (c i) k)
@@ -282,7 +282,7 @@ module _ {shape : Shaped} {c d : Cut} {i : ℕ} {ms : List (ℕ × Message)}
       (h.fits to x new.1))
       (flew says-turn from to place x flight))
 
-  -- It is still to be shown that it says once in a cycle what is said once.
+  -- The premise is that what may be said only once in a cycle is said only once.
   pub says-inv : ((from to k l : ℕ) (x y : Message) → IsInFlight d from to k x
       → IsInFlight d from to l y → x.body ≡ y.body → is_single x.body ≡ true → k ≡ l)
       → Inv shape d
@@ -310,8 +310,8 @@ module _ {shape : Shaped} {c d : Cut} {i : ℕ} {ms : List (ℕ × Message)}
     behind = λ k g o rest there past. h.inv.rested.behind i k g o rest there past;
   })
 
--- Node 0 tells all others. Where it tells them that marking has ended, none of them knows it, and
--- none is on its way to know it.
+-- Node 0 sends a message to all others. If the message says that marking has ended, none of them
+-- knows it, and no such message is in flight yet.
 pub record Telling (shape : Shaped) (c d : Cut) (b : Body) : Type 0 where
   pub inv : Inv shape c
   pub inside : 0 < shape.nodes
@@ -383,7 +383,7 @@ tell-inv {shape = shape} {c = c} {d = d} {b = b} h =
         (λ before.
         h.first to k x (ap is_single (sym (is-told to x a)) ∙ single) before (is-told to x a))
 
--- ---- an idle message that is no token is taken in
+-- ---- an idle message that is no token is received
 
 pub record Hearing (shape : Shaped) (c d : Cut) (i : ℕ) (q : LocalState) (j : ℕ) (x : Message)
     : Type 0 where

@@ -23,7 +23,7 @@ use Rattle.laws.proofs.Cycles.{scan-inv, sweep-event}
 use Rattle.laws.proofs.Rounds.{some-of, Passing, pass-inv}
 use Rattle.laws.proofs.Begins.{Beginning, begin-inv}
 
--- no sum that a node hands on wraps
+-- no sum that a node passes on wraps
 abbrev pub Unwrapped : Cut → Type 0
 Unwrapped c = (i : ℕ) (t : Token) → (c i).local.ring.token ≡ Some t
     → int_wrap w64 (t.q +ℤ (c i).local.ring.earlier) ≡ t.q +ℤ (c i).local.ring.earlier

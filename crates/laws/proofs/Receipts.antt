@@ -1,5 +1,5 @@
--- The invariant after a node has taken in a message: it joins the message's cycle where it isn't
--- there yet, sees to the references, does what the body asks for, and counts the message.
+-- The invariant after a node has received a message. It joins the message's cycle if it isn't there
+-- yet, shades or vouches for the references, does what the body asks for, and counts the message.
 use Rattle.std.proofs.Common.{◌≡◌, ◌≢◌, ℕ, ℤ, pos, ◌+◌, ◌+ℤ◌, ◌-ℤ◌, ◌<◌, ◌≤◌, ltb, ltb-true, true, List, [], ◌∷◌, ◌++◌, length, get_or, set, Option, None, Some, refl, sym, ap, ◌∙◌, subst, ⊎_elim, inl, inr, arith, append-nil}
 use Rattle.std.specs.List.{AllByRecursion}
 use Rattle.std.proofs.lemmas.Int.{ints}
@@ -38,7 +38,7 @@ use Rattle.laws.proofs.Dressing.{bare, Dressing, dress-moves, roots-all}
 
 -- ---- a node joins the cycle of a message
 
--- what joining leaves to the next step
+-- what joining ensures for the next step
 pub record HasJoined (shape : Shaped) (c d : Cut) (i : ℕ) : Type 0 where
   pub inv : Inv shape d
   pub first : phases_of d 0 ≡ phases_of c 0
@@ -165,7 +165,7 @@ ring-earlier_later (Some Earlier) r k =
 ring-earlier_later (Some Recent) r k = refl
 ring-earlier_later None r k = refl
 
--- one counted work
+-- some work, and one message counted
 abbrev pub counted_work : ℕ → ℕ → ℕ → Body → Work → Work
 counted_work from number stamp b w =
     record { local = count_in from number stamp b w.local; sends = w.sends }
@@ -227,7 +227,7 @@ count-carried from number stamp b p = ⊎_elim
 
 -- ---- a message with references, or a Mark
 
--- The node is in the cycle of the message x, which is the first in flight from node j, or past it.
+-- The node is in the cycle of the message x, or past it; x is the first in flight from node j.
 pub record Taking (shape : Shaped) (c : Cut) (i j : ℕ) (x : Message) : Type 0 where
   pub inv : Inv shape c
   pub inside : i < shape.nodes
@@ -248,7 +248,7 @@ later-taking {c = c} {d = d} {i = i} {j = j} {x = x} s m = record {
       (let w = s.reached in omega (arith, w, same)));
 }
 
--- the message is counted, and that is all that is left
+-- only counting the message is left to do
 pub count-last : {shape : Shaped} {c d e : Cut} {i j : ℕ} {x : Message} → Taking shape c i j x
     → Moves shape c d i → Kind d i x
     → ((t : Token) → x.body ≡ body.Token t → ⊥)
@@ -292,7 +292,7 @@ becomes-from a b = record {
   others = λ j other. b.others j other ∙ sym (a.others j other);
 }
 
--- what the message carries is seen to
+-- the references that the message carries are shaded or vouched for
 pub carried-met : {shape : Shaped} {c d : Cut} {i j : ℕ} {x : Message} → Taking shape c i j x
     → is_reference x.body ≡ true → StampFits (phases_of c 0) x.stamp
     → Becomes c d i (worked (c i) (take_carried x.stamp x.body (c i).local))
@@ -355,7 +355,7 @@ abbrev pub Settles : Cut → Cut → ℕ → ℕ → ℕ → Body → Type 0
 Settles c d i j stamp b =
     Becomes c d i (worked (c i) (settled j (taken c j i + 1) stamp b (c i).local))
 
--- it is no Mark
+-- it isn't a Mark
 pub no-mark : (d : Cut) (b : Body) → is_reference b ≡ true → (r : Ref) → b ≡ body.Mark r
     → (o : Object) × (slot_at (d r.node).local.heap r.slot ≡ Occupied r.generation o)
     × (o.mark ≡ cycle_of d 0)

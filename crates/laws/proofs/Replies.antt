@@ -1,4 +1,4 @@
--- The invariant after a node has taken in a Get, which it answers, or a message of the ring or of
+-- The invariant after a node has received a Get, which it answers, or a message of the ring or of
 -- the phases; and so after any receipt.
 use Rattle.std.proofs.Common.{◌≡◌, ◌≢◌, ℕ, ℤ, pos, ◌+◌, ◌+ℤ◌, ◌-ℤ◌, ◌<◌, ◌≤◌, ◌⊎◌, ltb, ltb-true, true, false, List, [], ◌∷◌, ◌++◌, length, get_or, set, Option, None, Some, option_to_list, refl, sym, ap, ◌∙◌, subst, ⊎_elim, inl, inr, arith, le_refl, length-set, get_or-set_same, get_or-set_other}
 use Rattle.std.proofs.lemmas.Int.{ints}
@@ -239,7 +239,7 @@ take-token {shape = shape} {c = c} {d = d} {i = i} {j = j} {stamp = stamp} t s b
       becomes = b;
     })
 
--- What was taken in was alone of its kind, so no other message of that kind comes later.
+-- The received message was the only one of its kind, so no other message of that kind comes later.
 taken-alone : {shape : Shaped} {c d : Cut} {i j from to place : ℕ} {q : LocalState} {x y : Message}
     → Hears shape c d i q j x → from ≡ j → to ≡ i → IsInFlight c from to place y → y.body ≡ x.body
     → is_single x.body ≡ true → taken d from to ≤ place → ⊥

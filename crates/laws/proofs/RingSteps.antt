@@ -1,5 +1,5 @@
--- Where the token is, and what the invariant says of the ring and of messages after a step that
--- leaves them as they were, or sends one message.
+-- The spot of the token, and what the invariant says of the ring and of messages. Both are shown
+-- after a step that doesn't change them, and after one that sends one message.
 use Rattle.std.proofs.Common.{◌≡◌, ℕ, ℤ, ◌+◌, ◌<◌, ◌≤◌, ◌⊎◌, Bool, List, [], ◌∷◌, ◌++◌, length, get_or, set, Option, Some, slice_get, refl, sym, ap, ◌∙◌, subst, ⊎_elim, inl, inr, arith, le_refl, length-append}
 use Rattle.std.proofs.lemmas.Int.{ints}
 use Rattle.std.proofs.lemmas.Bool.{cases_lt}
@@ -18,7 +18,7 @@ use Rattle.laws.proofs.Invariant.{phases_of, cycle_of, Marking, Resting, BodyFit
 
 -- ---- tokens
 
--- one token at one spot
+-- there is one token at one spot
 pub at-once : (c : Cut) (t u : Token) (s : Spot) → IsAt c t s → IsAt c u s → t ≡ u
 at-once c t u (at_node i) (is_held i0 a) (is_held i1 b) =
     let both : ◌≡◌ {A = Option Token} (Some t) (Some u) = sym a ∙ b in cc
@@ -38,7 +38,7 @@ way-not-node a b k i e = absurd cc
 
 -- ---- phases and ring as they were
 
--- phases and heap stay, and what else the ring says of a node but the token
+-- phases and heap stay, and so does what the ring says of a node, apart from the token
 pub record Ringless (p q : LocalState) : Type 0 where
   pub own : q.own ≡ p.own
   pub shape : q.shape ≡ p.shape
@@ -91,7 +91,7 @@ module _ {c d : Cut} {i : ℕ} {q : LocalState} {ms : List (ℕ × Message)} (tu
       } in
       safra-turn step
 
--- what tokens there are, where none moves
+-- which tokens there are if none moves
 pub record NoToken (n : ℕ) (c d : Cut) : Type 0 where
   pub back : (t : Token) (s : Spot) → IsAt d t s → IsAt c t s
   pub on : (t : Token) (s : Spot) → IsAt c t s → IsAt d t s
@@ -118,7 +118,7 @@ tokens-same {n = n} {c = c} {d = d} h tokens = record {
   rest = λ t s rest at. tokens.rest t s (h.resting rest) (h.back t s at);
 }
 
--- no token is among what is sent, and none is taken in
+-- no token is among the messages sent, and none is received
 pub token-back : {c d : Cut} {i : ℕ} {q : LocalState} {ms : List (ℕ × Message)} → Turn c d i q ms
     → q.ring.token ≡ (c i).local.ring.token
     → ((to : ℕ) (x : Message) (t : Token) → Among (to, x) ms → x.body ≡ body.Token t → ⊥)
@@ -150,7 +150,7 @@ token-on {c = c} turn same stays t (on_way from to place) (is_sent f0 t0 p0 stam
 
 -- ---- what one message adds
 
--- the message that is sent, and nothing else, is new in flight
+-- only the message that is sent is new in flight
 pub flew-one : {c d : Cut} {i : ℕ} {q : LocalState} {to : ℕ} {x : Message}
     → Turn c d i q ((to, x) ∷ []) → (from k place : ℕ) (y : Message) → IsInFlight d from k place y
     → IsInFlight c from k place y
@@ -204,7 +204,7 @@ flew-one {c = c} {d = d} {i = i} {to = to} {x = x} turn from k place y flight = 
     (λ never. absurd never) new.1)
     (flew turn from k place y flight)
 
--- where nothing is sent and no phase moves, messages fit as they did
+-- if nothing is sent and no phase changes, messages fit as they did
 pub quiet-messages : {n : ℕ} {c d : Cut} {i : ℕ} {q : LocalState} → Turn c d i q []
     → phases_of d ≡ phases_of c → Messages n c → Messages n d
 quiet-messages {n = n} {c = c} {d = d} turn phases messages =

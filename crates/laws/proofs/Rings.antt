@@ -1,5 +1,5 @@
--- Safra's invariant over a cut: what is counted in flight is owed by some node, and how
--- one node may change.
+-- Safra's invariant over a cut: some node owes each counted message in flight. Also how one node
+-- may change.
 use Rattle.std.proofs.Common.{◌≡◌, ◌≢◌, ℕ, zero, suc, ℤ, pos, ◌+ℤ◌, ◌<◌, ◌≤◌, ◌⊎◌, Bool, true, List, ◌==◌, sym, ap, ◌∙◌, subst, ⊎_elim, inl, inr, arith, eq-eqb}
 use Rattle.std.specs.Prelude.{◌<ℤ◌, ◌≤ℤ◌}
 use Rattle.std.proofs.lemmas.Int.{ints}

@@ -48,7 +48,7 @@ pub last-next : (n : ℕ) → 2 ≤ n → (n - 1 + 1) % n ≡ 0
 last-next n more =
     ap (λ (z : ℕ). z % n) (let e : n - 1 + 1 ≡ n = omega (arith, more) in e) ∙ mod_self n
 
--- The node holds the token, and no object of it is grey.
+-- The node holds the token, and has no grey object.
 pub record Passing (shape : Shaped) (c d : Cut) (i : ℕ) (t : Token) : Type 0 where
   pub inv : Inv shape c
   pub inside : i < shape.nodes
@@ -82,7 +82,7 @@ module _ {shape : Shaped} {c d : Cut} {i : ℕ} {t : Token} (h : Passing shape c
   pass-nodes : passer.shape.nodes ≡ shape.nodes
   pass-nodes = ap (λ (z : Shaped). z.nodes) (h.inv.base.shapes i h.inside)
 
-  -- node 0 sends the token round again
+  -- node 0 sends the token around again
   pass-again : (passer.own == 0) ≡ true → is_concluded passer.ring ≡ false → Inv shape d
   unfolding passed probe append
   pass-again first more =
@@ -118,7 +118,7 @@ module _ {shape : Shaped} {c d : Cut} {i : ℕ} {t : Token} (h : Passing shape c
       } in
       leave-inv leaving
 
-  -- the sum that is handed on
+  -- the sum that is passed on
   pass-bound : (u : Token) (to : ℕ) → i ≡ suc to → u.q ≡ t.q +ℤ passer.ring.earlier
       → {q : LocalState} {ms : List (ℕ × Message)} → Turn c d i q ms
       → Bound shape.nodes d i t.q → Bound shape.nodes d to u.q
@@ -140,7 +140,7 @@ module _ {shape : Shaped} {c d : Cut} {i : ℕ} {t : Token} (h : Passing shape c
       (subst (λ (z : ℤ). Bound shape.nodes c to z)
       (ap (λ (z : ℕ). t.q +ℤ (c z).local.ring.earlier) (sym e) ∙ sym sum) next_bound)
 
-  -- another node hands it on
+  -- another node passes the token on
   pass-on : (passer.own == 0) ≡ false → Inv shape d
   unfolding passed append
   pass-on other =
@@ -192,7 +192,7 @@ module _ {shape : Shaped} {c d : Cut} {i : ℕ} {t : Token} (h : Passing shape c
       } in
       leave-inv leaving
 
-  -- node 0 concludes, and tells the others
+  -- node 0 concludes, and informs the others
   pass-end : (passer.own == 0) ≡ true → is_concluded passer.ring ≡ true → Inv shape d
   unfolding passed conclude announce
   pass-end first concluded =

@@ -1,5 +1,6 @@
--- Safra's invariant, of a ring of which is known who is passive, who is black, and what each has
--- sent less what it has taken in. The token is at node t, with the sum q and a colour.
+-- Safra's invariant of a ring. For each node it is known whether it is passive, whether it is
+-- black, and what it owes: what it has sent less what it has received. The token is at node t, with
+-- the sum q and a colour.
 use Rattle.std.proofs.Common.{◌≡◌, ◌≢◌, ℕ, suc, ℤ, pos, ◌+ℤ◌, ◌-ℤ◌, ◌<◌, ◌≤◌, Bool, true, false, sym, subst, ⊎_elim, ◌⊎◌, arith}
 use Rattle.std.specs.Prelude.{◌<ℤ◌, ◌≤ℤ◌}
 use Rattle.std.proofs.lemmas.Int.{ints}
@@ -20,20 +21,20 @@ pub record BlackUpTo (r : Ringed) (t : ℕ) : Type 0 where
   pub below : node ≤ t
   pub black : r.black node
 
--- The nodes above t are passive and q is what they owe; or else the others owe more than q lacks,
--- or one of them is black, or the token is.
+-- The nodes above t are passive and q is what they owe. Or the other nodes owe more than q lacks.
+-- Or one of these is black, or the token is.
 pub data Safra (n : ℕ) (r : Ringed) (t : ℕ) (q : ℤ) (black : Bool) : Type 0 where
   exact : PassiveAbove n r t → total n r.owed ≡ total (suc t) r.owed +ℤ q → Safra n r t q black
   above_zero : pos 0 <ℤ (total (suc t) r.owed +ℤ q) → Safra n r t q black
   stained : BlackUpTo r t → Safra n r t q black
   dark : black ≡ true → Safra n r t q black
 
--- something is still in flight, where the nodes above t are passive and those below it white
+-- if the nodes above t are passive and all up to t are white, something is still in flight
 abbrev pub Loud : ℕ → Ringed → ℕ → Type 0
 Loud n r t = PassiveAbove n r t → (pos 0 <ℤ total n r.owed) ⊎ BlackUpTo r t
 
--- One node changes. Up to t it owes no less and stays black, or becomes black. Above t it stays
--- passive and owes the same, or something is still in flight.
+-- One node changes. Up to t, it owes no less and stays black, or it becomes black. Above t, it
+-- stays passive and owes the same, or something is still in flight.
 pub record NodeStep (n : ℕ) (r s : Ringed) (i t : ℕ) : Type 0 where
   pub inside : i < n
   pub passive : (j : ℕ) → j ≢ i → r.passive j → s.passive j
@@ -42,7 +43,7 @@ pub record NodeStep (n : ℕ) (r s : Ringed) (i t : ℕ) : Type 0 where
   pub near : i ≤ t → ((r.black i → s.black i) × (r.owed i ≤ℤ s.owed i)) ⊎ s.black i
   pub far : t < i → (r.passive i → s.passive i × (s.owed i ≡ r.owed i)) ⊎ Loud n r t
 
--- the sum of those up to t
+-- the sum of the nodes up to t
 module _ {n : ℕ} {r s : Ringed} {i t : ℕ} (h : NodeStep n r s i t) where
   front-far : t < i → total (suc t) s.owed ≡ total (suc t) r.owed
   front-far away =
@@ -103,7 +104,7 @@ module _ {n : ℕ} {r s : Ringed} {i t : ℕ} (h : NodeStep n r s i t) where
   safra-far q b away (stained black) = stained (black-far away black)
   safra-far q b away (dark is) = dark is
 
-  -- up to t, where it stays black and owes no less
+  -- up to t, if it stays black and owes no less
   near-kept : (q : ℤ) (b : Bool) → i ≤ t → (r.black i → s.black i) → r.owed i ≤ℤ s.owed i
       → Safra n r t q b → Safra n s t q b
   near-kept q b near black more (exact passive sum) =
@@ -131,13 +132,13 @@ module _ {n : ℕ} {r s : Ringed} {i t : ℕ} (h : NodeStep n r s i t) where
       (h.near near))
       (cases_lt t i)
 
--- a probe starts: nobody stands above the last node
+-- a probe starts: no node is above the last one
 pub safra-probe : (n : ℕ) (r : Ringed) (t : ℕ) (b : Bool) → suc t ≡ n → Safra n r t (pos 0) b
 safra-probe n r t b last =
     exact (λ i above below. absurd (omega (arith, above, below, last)))
     (subst (λ (z : ℕ). total z r.owed ≡ total (suc t) r.owed +ℤ pos 0) last (omega (arith, ints)))
 
--- node 0 sees that nobody is black, and that all that was owed has arrived
+-- node 0 finds that nobody is black, and that everything that was owed has arrived
 pub safra-verdict : (n : ℕ) (r : Ringed) (q : ℤ) → (r.black 0 → ⊥) → (q +ℤ r.owed 0) ≡ pos 0
     → Safra n r 0 q false → PassiveAbove n r 0 × (total n r.owed ≡ pos 0)
 safra-verdict n r q white none (exact passive sum) =
@@ -149,7 +150,7 @@ safra-verdict n r q white none (stained there) =
     (white (subst r.black (let e : there.node ≡ 0 = omega (arith, there.below) in e) there.black))
 safra-verdict n r q white none (dark is) = absurd cc
 
--- the node that has the token hands it to the one below, and becomes white
+-- the node with the token passes it to the node below, and becomes white
 pub record Handing (n : ℕ) (r s : Ringed) (t : ℕ) : Type 0 where
   pub inside : suc t < n
   pub passive : r.passive (suc t)

@@ -1,6 +1,6 @@
--- A space without a collector stays beside a cut as the cut takes a plain step: the same registers
--- and letters, the same messages of programs under way, and the same in every object that its node
--- still has.
+-- A space without a collector keeps matching a cut while the cut takes a plain step. It has the
+-- same registers and letters, the same messages of programs in flight, and the same in every object
+-- that its node still has.
 use Rattle.std.proofs.Common.{◌≡◌, ◌≢◌, ℕ, ◌+◌, ◌<◌, ◌≤◌, Bool, true, false, ◌==◌, ◌&&◌, eqb, List, [], ◌∷◌, ◌++◌, length, map, drop, get_or, set, Option, option_to_list, refl, sym, ap, ◌∙◌, subst, ⊎_elim, arith, append_assoc, get_or-set_same, get_or-set_other, ltb-true}
 use Rattle.std.specs.Prelude.{is_some}
 use Rattle.std.proofs.lemmas.Bool.{cases_eq, cond-true, cond-false, eq-eqb, ne_eqb, eqb-true, and_from}
@@ -42,8 +42,8 @@ use Rattle.laws.proofs.Unseen.{none-quiet, calm-shade, before_body, Calm, calm-b
 use Rattle.laws.proofs.Doings.{Here, IsMade, Effects, here-kept, effects-none, effects-behind, Doing, own-does, Following, body-does}
 use Rattle.laws.proofs.Telling.{Ready}
 
--- The space is the cut, of which so many messages of each link were taken in: every object that its
--- node still has is as it was made, and under nothing was anything made that wasn't given out.
+-- The space matches the cut if this many messages of each link count as received. Every object that
+-- its node still has is as it was made. No object was made under a reference that wasn't given out.
 pub record SameAt (heard : ℕ → ℕ → ℕ) (s : Space) (c : Cut) : Type 0 where
   pub here : (i : ℕ) → Here s i (c i).local.heap
   pub past : (i k g : ℕ) → IsMade s (own_reference i k g) → PastAt (c i).local.heap k g
@@ -58,8 +58,8 @@ same-becomes {s = s} same h = subst (λ (z : Cut). Same s z) (sym (fun_ext same)
 
 -- ---- one node changes
 
--- the node i becomes q and sends the messages; the space before has what the cut afterwards hasn't
--- taken in
+-- The node i becomes q and sends the messages. The space before has in flight what the cut
+-- afterwards hasn't received.
 pub record Stepping (s t : Space) (c d : Cut) (i : ℕ) (q : LocalState) (ms : List (ℕ × Message))
     : Type 0 where
   pub becomes : Becomes c d i (record { local = q; sent = append_all (c i).sent ms })
@@ -144,7 +144,7 @@ doing {s = s} {c = c} {i = i} x passed = record {
   passed = passed;
 }
 
--- ---- an event of the node's own
+-- ---- a node's own event
 
 one-inside : (j : ℕ) (y : Message) (n to : ℕ) → j < n → n ≤ to → posts to ((j, y) ∷ []) ≡ []
 one-inside j y n to inside past =
@@ -187,7 +187,7 @@ own-inside {shape = shape} {c = c} {i = i} counts (event.Get object place label)
     (named-inside i object x.inv passed.1.0) past
 own-inside counts e own x passed to past = refl
 
--- what it leaves, where the other space becomes t
+-- what the event leaves if the other space becomes t
 own-step : {shape : Shaped} {s t : Space} {c d : Cut} {i : ℕ} (counts : List ℕ) (e : Event)
     → is_own e ≡ true → At shape s c i → AllPass (tests (c i).local e)
     → Becomes c d i (worked (c i) (effect_work (made (c i).local counts e)))
@@ -233,7 +233,7 @@ program-same {s = s} {c = c} {d = d} {i = i} e t a is own x found becomes =
     (made p counts e).local.heap (made p counts e).sends) (x.inv.base.own i x.inside)
     (own-does p counts e is (doing x found.passed))))
 
--- one of the collector's
+-- an event of the collector
 pub cycle-same : {shape : Shaped} {s : Space} {c d : Cut} {i : ℕ} (e : Event) (t : NodeState)
     (a : Answer) → is_program e ≡ false → is_own e ≡ true → At shape s c i
     → Stepped (c i) (tests (c i).local e) (made (c i).local (map length (c i).sent) e) t a
@@ -246,9 +246,9 @@ cycle-same {s = s} {c = c} {d = d} {i = i} e t a none own x found becomes =
     (subst (λ (z : NodeState). Becomes c d i z) found.state becomes)
     (effects-none (here-kept (x.same.here i) unseen.kept) unseen.quiet)
 
--- ---- a message is taken in
+-- ---- a message is received
 
--- the first one in flight, which the node may take in
+-- the first message in flight, which the node may receive
 pub record Taking (shape : Shaped) (s : Space) (c d : Cut) (from to : ℕ) (x : Message) : Type 0
   where
     pub at : At shape s c to
@@ -277,7 +277,7 @@ body-inside from stamp (body.Mark target) p k n inside past =
     quiet-posts k _ (calm-body from stamp (body.Mark target) p refl).quiet
 body-inside from stamp b p k n inside past = refl
 
--- how many were taken in afterwards
+-- how many were received afterwards
 module _ {shape : Shaped} {s : Space} {c d : Cut} {from to : ℕ} {x : Message}
     (h : Taking shape s c d from to x) where
   takes-got : (d to).local.got ≡ set (c to).local.got from (taken c from to + 1)
@@ -303,7 +303,7 @@ module _ {shape : Shaped} {s : Space} {c d : Cut} {from to : ℕ} {x : Message}
       (λ (e : a ≡ from). o e refl))
       (λ j _ o. refl) b other
 
-  -- what is under way after it
+  -- what is in flight after it
   abbrev pub rest : List Body
   rest = programs (drop (taken d from to) (sent_to (c from) to))
 
@@ -331,7 +331,7 @@ module _ {shape : Shaped} {s : Space} {c d : Cut} {from to : ℕ} {x : Message}
       h.at.same.messages a b
       ∙ ap (λ (z : ℕ). programs (drop z (sent_to (c a) b))) (sym (taken-else a b other))
 
-  -- one of the collector's leaves what is under way
+  -- a message of the collector doesn't change what is in flight
   quiet-stage : is_reference x.body ≡ false → SameAt (taken d) s c
   quiet-stage none = record {
     here = h.at.same.here;
@@ -342,7 +342,7 @@ module _ {shape : Shaped} {s : Space} {c d : Cut} {from to : ℕ} {x : Message}
         else-same;
   }
 
-  -- one of a program leaves it
+  -- a message of a program leaves the link
   abbrev pub left : Space
   left = with_messages s from to rest
 
@@ -364,7 +364,7 @@ module _ {shape : Shaped} {s : Space} {c d : Cut} {from to : ℕ} {x : Message}
         ∙ else-same a b other);
   }
 
-  -- what comes before the body is followed isn't seen
+  -- what happens before the body is followed isn't seen
   abbrev first : Work
   first = before_body (c to).local from (taken c from to + 1) x.stamp x.body
 
@@ -391,7 +391,7 @@ module _ {shape : Shaped} {s : Space} {c d : Cut} {from to : ℕ} {x : Message}
         (object-there (slot_at first.local.heap target.slot) target.generation later.0 later.1));
   }
 
-  -- the step, where the other space becomes t
+  -- the step, if the other space becomes t
   taken-step : {r t : Space} → SameAt (taken d) r c
       → Effects r t to (take_body from x.stamp x.body first.local).local.heap
       (take_body from x.stamp x.body first.local).sends
@@ -428,7 +428,7 @@ module _ {shape : Shaped} {s : Space} {c d : Cut} {from to : ℕ} {x : Message}
             (omega (arith, past, w)));
       })
 
-  -- a message of a program comes
+  -- a message of a program arrives
   pub came-is : is_reference x.body ≡ true → s.under_way from to ≡ x.body ∷ rest
   came-is is = first-is ∙ cond-true (is_reference x.body) (x.body ∷ rest) rest is
 
@@ -437,7 +437,7 @@ module _ {shape : Shaped} {s : Space} {c d : Cut} {from to : ℕ} {x : Message}
       subst (λ (z : List Body). Same (arrives s from to z) d) (sym (came-is is))
       (taken-step left-stage (body-does from x.stamp x.body first.local is following))
 
-  -- one of the collector isn't seen
+  -- a message of the collector isn't seen
   pub quiet-same : is_reference x.body ≡ false → Same s d
   quiet-same none =
       let calm = calm-body from x.stamp x.body first.local none in

@@ -1,4 +1,4 @@
--- What becomes of slots as an object is made or rewritten.
+-- How slots change as an object is made or rewritten.
 use Rattle.std.proofs.Common.{◌≡◌, ◌≢◌, ℕ, zero, suc, ◌<◌, ◌≤◌, ◌⊎◌, ◌||◌, ◌&&◌, Bool, true, false, cond, ◌==◌, eqb, List, [], ◌∷◌, ◌++◌, length, length-set, length-append, get_or, set, drop, replicate, Option, None, refl, sym, ap, ◌∙◌, subst, ⊎_elim, inl, inr, arith, get_or-set_same, get_or-set_other, ltb, ltb-true}
 use Rattle.std.specs.List.{AllByRecursion}
 use Rattle.std.proofs.lemmas.Bool.{cases_lt, cases_eq, cond_both, eqb-false, eq-eqb, ne_eqb}
@@ -34,7 +34,7 @@ object-lasts (j ∷ js) slots o f k g x there =
     cc))
     there
 
--- what is there afterwards was there before, or is the new one
+-- an object afterwards was there before, or is the new one
 pub object-from : (named : List ℕ) (slots : List Slot) (o : Object) (k g : ℕ) (y : Object)
     → get_or (slots_with named slots o) k Retired ≡ Occupied g y
     → (get_or slots k Retired ≡ Occupied g y) ⊎ (y ≡ o)
@@ -99,7 +99,7 @@ object-elsewhere [] slots o k other =
 object-elsewhere (j ∷ js) slots o k other =
     get_or-set_other slots j k (Occupied (next_generation (get_or slots j Retired)) o) Retired other
 
--- what is there afterwards was there before, or is the new one in its slot
+-- an object afterwards was there before, or is the new one in its slot
 pub object-where : (named : List ℕ) (slots : List Slot) (o : Object) → FreeSlots slots named
     → (k g : ℕ) (y : Object) → get_or (slots_with named slots o) k Retired ≡ Occupied g y
     → (get_or slots k Retired ≡ Occupied g y)
@@ -139,7 +139,7 @@ rewritten-from f generation (Occupied n x) g y h =
     )
 rewritten-from f generation Retired g y h = absurd cc
 
--- the same of a heap: that of the reference is rewritten, and no other
+-- the same for a heap: only the object of the reference is rewritten
 pub rewritten-at : (h : Heap) (r : Ref) (f : Object → Object) (k g : ℕ) (y : Object)
     → slot_at (with_rewritten h r f) k ≡ Occupied g y
     → (x : Object) × (slot_at h k ≡ Occupied g x)
@@ -205,7 +205,7 @@ rewritten-idle f generation (Free n) free = refl
 rewritten-idle f generation (Occupied n x) free = absurd cc
 rewritten-idle f generation Retired free = free
 
--- what changes of the slots is that objects are rewritten, or marked
+-- the slots change only in that objects are rewritten or marked
 pub record Rewrites (cycle : ℕ) (h g : Heap) : Type 0 where
   pub free : g.free ≡ h.free
   pub width : length g.slots ≡ length h.slots

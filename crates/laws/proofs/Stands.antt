@@ -1,5 +1,5 @@
--- What no step of a node changes: where it stands, and in what space. What it has taken in changes
--- only as it takes a message in.
+-- What no step of a node changes: its number, and the shape of its space. The numbers that it has
+-- received change only when it receives a message.
 use Rattle.std.proofs.Common.{◌≡◌, ℕ, ◌+◌, ◌==◌, List, [], ◌∷◌, set, option_to_list, true, refl, ap, sym, ◌∙◌, subst, ⊎_elim, ltb}
 use Rattle.std.proofs.lemmas.Bool.{cases_Bool, cond_both}
 use Rattle.ids.specs.declared.names.Ref.{Ref}
@@ -79,7 +79,7 @@ body-stands from stamp (body.Get target place label) p =
     (record { shape = refl; own = refl; got = refl })
 body-stands from stamp b p = record { shape = refl; own = refl; got = refl }
 
--- one more message is taken in
+-- one more message is received
 pub record Takes (p q : LocalState) (from number : ℕ) : Type 0 where
   pub shape : q.shape ≡ p.shape
   pub own : q.own ≡ p.own

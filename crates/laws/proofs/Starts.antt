@@ -1,5 +1,4 @@
--- The invariant after node 0 has gone on to the next cycle, before it has shaded what its program
--- holds.
+-- The invariant after node 0 has moved to the next cycle, before it has shaded its roots.
 use Rattle.std.proofs.Common.{◌≡◌, ◌≢◌, ℕ, pos, ◌+◌, ◌+ℤ◌, ◌<◌, ◌≤◌, ◌⊎◌, Bool, true, false, List, [], ◌∷◌, length, drop, get_or, Some, refl, sym, ap, ◌∙◌, subst, ⊎_elim, inl, inr, arith, le_refl}
 use Rattle.std.specs.List.{AllByRecursion}
 use Rattle.std.proofs.lemmas.Int.{ints}
@@ -41,7 +40,7 @@ pub record Starting (shape : Shaped) (c d : Cut) (grey : List ℕ) : Type 0 wher
     sent = (c 0).sent;
   })
 
--- what is in flight of messages that two tests tell alike
+-- two tests that agree on all messages in flight count the same number of them
 flow-same : (n : ℕ) (c d : Cut) (f g : Message → Bool)
     → ((from to : ℕ) → in_flight d from to ≡ in_flight c from to)
     → ((from to place : ℕ) (x : Message) → IsInFlight c from to place x → f x ≡ g x)
@@ -116,12 +115,12 @@ module _ {shape : Shaped} {c d : Cut} {grey : List ℕ} (h : Starting shape c d 
       inr (start-marking, (let e : z + 1 ≡ cycle_of d 0 = omega (arith, now, start-cycle) in e))
   start-stamp z (inr before) = absurd (let w = before.0 in omega (arith, w, h.resting))
 
-  -- none is of the next
+  -- no stamp is of the next cycle
   start-stale : (z : ℕ) → StampFits (phases_of c 0) z → z ≡ next_cycle → ⊥
   start-stale z (inl now) e = omega (arith, now, e)
   start-stale z (inr before) e = (let w = before.0 in omega (arith, w, h.resting))
 
-  -- what is in flight is of the last cycle
+  -- the messages in flight are of the last cycle
   start-fits : (from to place s : ℕ) (b : Body)
       → IsInFlight c from to place (record { stamp = s; body = b })
       → BodyFits shape.nodes (phases_of c) from to s b

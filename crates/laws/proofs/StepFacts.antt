@@ -1,4 +1,4 @@
--- An answered event, and a step of a space, taken apart once for all.
+-- An answered event, and a step of a space, taken apart once for all proofs.
 use Rattle.std.proofs.Common.{◌≡◌, ℕ, ◌<◌, Bool, true, false, ◌==◌, ◌&&◌, ◌||◌, ltb-true, List, [], ◌∷◌, ◌++◌, length, map, get_or, set, Option, None, Some, Result, Ok, Err, refl, sym, ap, ◌∙◌, ◌+◌, subst, leb, leb-false, inl, inr, ◌⊎◌, ◌≤◌, length-set, arith}
 use Rattle.std.proofs.lemmas.Bool.{cond_both, and_parts, cases_Bool, cond-true, cond-false, ltb-false}
 use Rattle.ids.specs.declared.limits.TheConstants.{WINDOW}
@@ -21,8 +21,8 @@ use Rattle.model.proofs.Checks.{guarded-ok, guarded-passes, passed-parts}
 use Rattle.model.proofs.Lookups.{at_set_if}
 use Rattle.laws.proofs.Lookups.{Grows, grows-refl, grows-trans}
 
--- An answered event: the node afterwards and the answer, that all tests passed, and that its
--- messages got numbers.
+-- An answered event: the node afterwards and the answer; all tests passed, and all its messages got
+-- numbers.
 pub record Stepped (s : NodeState) (ts : List (Bool × Refusal)) (x : Effect) (t : NodeState)
     (a : Answer) : Type 0 where
   pub state : t ≡ record { local = x.local; sent = append_all s.sent x.sends }
@@ -30,7 +30,7 @@ pub record Stepped (s : NodeState) (ts : List (Bool × Refusal)) (x : Effect) (t
   pub passed : AllPass ts
   pub numbered : fits (map length s.sent) x.sends ≡ true
 
--- what an effect makes of a node, and the answer
+-- the node after an effect, and the answer
 abbrev effect_on : NodeState → Effect → NodeState × Answer
 effect_on s x = (record { local = x.local; sent = append_all s.sent x.sends }, x.answer)
 
@@ -56,13 +56,13 @@ stepped s ts x t a h =
       numbered = parts.1.0;
     }
 
--- an event of a node that was answered
+-- an answered event of a node
 pub act-ok : (s : NodeState) (e : Event) (t : NodeState) (a : Answer) → act s e ≡ Ok (t, a)
     → Stepped s (tests s.local e) (made s.local (map length s.sent) e) t a
 unfolding act
 act-ok s e t a h = stepped s (tests s.local e) (made s.local (map length s.sent) e) t a h
 
--- a message, and between which nodes and under which number it goes
+-- a message, with the nodes between which it goes, and its number
 pub record Delivery : Type 0 where
   pub from : ℕ
   pub to : ℕ
@@ -79,15 +79,15 @@ tests_of s m = receipt_tests s.local m.from m.to m.number m.message.stamp m.mess
 abbrev pub IsTurnOf : NodeState → Delivery → Type 0
 IsTurnOf s m = m.number ≡ got_from s.local m.from + 1
 
--- a message that was taken in, was a repeat, or came before its turn
+-- a message that was received, was a repeat, or came before its turn
 receive-ok : (s : NodeState) (m : Delivery) (t : NodeState) (a : Answer) → given_to s m ≡ Ok (t, a)
     → Stepped s (tests_of s m) (receipt s.local m.from m.number m.message.stamp m.message.body) t a
 unfolding receive
 receive-ok s m t a h =
     stepped s (tests_of s m) (receipt s.local m.from m.number m.message.stamp m.message.body) t a h
 
--- A message that was answered was taken in before or comes before its turn, and changes nothing; or
--- it is the next one, which the node may take in, and is taken in.
+-- A message that was answered is a repeat or early, and changes nothing. Or it is the next one,
+-- which the node may receive, and it is received.
 pub data Receipt (s : NodeState) (m : Delivery) (t : NodeState) (a : Answer) : Type 0 where
   repeated : t ≡ s → (a ≡ answer.Repeat) ⊎ (a ≡ answer.Early) → Receipt s m t a
   next : IsTurnOf s m → may_take s.local m.from m.message.stamp m.message.body ≡ true
@@ -95,7 +95,7 @@ pub data Receipt (s : NodeState) (m : Delivery) (t : NodeState) (a : Answer) : T
       a
       → Receipt s m t a
 
--- of three tests, of which one passed, the last one did where the others failed
+-- if one of three tests passed and the first two failed, the last one passed
 may-next : (again early may : Bool) → again ≡ false → early ≡ false
     → (again || (early || may)) ≡ true → may ≡ true
 may-next false false may first due h = h
@@ -132,7 +132,7 @@ receipt-cases s m t a h =
       ]
     ]
 
--- messages come last in what was sent
+-- new messages come last in what was sent
 pub append_all-grows : (sent : List (List Message)) (ms : List (ℕ × Message)) (j : ℕ)
     → Grows (get_or sent j []) (get_or (append_all sent ms) j [])
 append_all-grows sent [] j = grows-refl _
@@ -168,7 +168,7 @@ receive-grows s m t a j h = stepped-grows j (receive-ok s m t a h)
 abbrev pub IsReleased : World → Delivery → Type 0
 IsReleased w m = released w m.from m.to m.number ≡ Some m.message
 
--- an own event of a node of the space was answered
+-- a node of the space answered an event of its own
 pub record Acted (w : World) (i : ℕ) (e : Event) (t : NodeState) (a : Answer) : Type 0 where
   pub within : i < length w.current
   pub own : is_own e ≡ true
@@ -208,7 +208,7 @@ delivered-happening w from to number (Some x) within there =
     moved-happening w to (given_to (node_at w.current to) m)
     (λ t a h. delivered m t a (record { within = within; there = there; answered = h }))
 
--- what is only tested leaves the space as it was
+-- a step that only tests leaves the space as it was
 tested-happening : (w : World) (cs : List (Bool × Refusal)) (o : Outcome)
     → Happening w (world_after w (guarded cs (w, o)))
 tested-happening w [] o = nothing
@@ -271,7 +271,7 @@ deliver-answer w m a there h =
     moved-answer w m.to (given_to (node_at w.current m.to) m) a
     (subst (λ (z : Option Message). outcome_of (given z) ≡ Ok (outcome.Answer a)) there found)
 
--- a message of which every test passes is refused for its numbers alone
+-- a message that passes every test is refused only for its numbers
 pub after-err : (s : NodeState) (r : Result Effect Refusal) (e : Refusal) → after s r ≡ Err e
     → r ≡ Err e
 after-err s (Ok x) e h = absurd cc
@@ -293,7 +293,7 @@ receive-passed s m e passed h =
     sym (last-refusal (tests_of s m) (fits (map length s.sent) x.sends, LinkSpent) x e passed
     (after-err s (checked (tests_of s m) (map length s.sent) x) e h))
 
--- and one that comes too early, for that
+-- and one that comes too early is refused for that
 pub receive-early : (s : NodeState) (m : Delivery) (e : Refusal)
     → is_addressed s.local m.from m.to ≡ true
     → leb m.number (got_from s.local m.from + WINDOW) ≡ false

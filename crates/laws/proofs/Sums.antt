@@ -56,7 +56,7 @@ total-nonneg (suc n) f some =
     total-nonneg n f (λ j q. some j (let k : j < suc n = omega (arith, q) in k)) in
     omega (arith, ints, before, some n (let k : n < suc n = omega arith in k))
 
--- each summand is at most the sum, where none is negative
+-- each summand is at most the sum, if none is negative
 pub total-part : (n : ℕ) (f : ℕ → ℤ) (i : ℕ) → i < n → ((j : ℕ) → j < n → pos 0 ≤ℤ f j)
     → f i ≤ℤ total n f
 total-part zero f i inside some = absurd (omega (arith, inside))
@@ -125,7 +125,7 @@ number-same f g (x ∷ xs) same =
     let rest : number_of f xs ≡ number_of g xs = number-same f g xs (λ k y h. same (suc k) y h) in
     ap (λ (b : Bool). cond b 1 0 + number_of f xs) first ∙ ap (λ (m : ℕ). cond (g x) 1 0 + m) rest
 
--- one that passes makes it positive
+-- one message that passes makes the number positive
 pub number-at : (f : Message → Bool) (xs : List Message) (k : ℕ) (x : Message)
     → slice_get xs k ≡ Some x → f x ≡ true → 0 < number_of f xs
 number-at f [] k x h passes = absurd cc

@@ -1,5 +1,5 @@
--- The invariant after a node has swept some of its slots, and after it has
--- reported that it is done.
+-- The invariant after a node has swept some of its slots, and after it has reported that it is
+-- done.
 use Rattle.std.proofs.Common.{◌≡◌, ◌≢◌, ℕ, zero, suc, ◌+◌, ◌<◌, ◌≤◌, ◌⊎◌, ◌==◌, eqb, true, false, List, [], ◌∷◌, length, get_or, set, Option, None, refl, sym, ap, ◌∙◌, subst, ⊎_elim, inl, arith, le_refl, length-set, get_or-set_same, get_or-set_other}
 use Rattle.std.specs.List.{AllByRecursion, IsDistinct}
 use Rattle.std.proofs.lemmas.Bool.{cases_eq, cases_lt, cases_Bool, cond_both, cond-true, cond-false, eq-eqb, ne_eqb, eqb-true, both_ways, not_from_true, not-false}
@@ -30,7 +30,7 @@ use Rattle.laws.proofs.Light.{is_idle, Speaks, speaks-flows}
 use Rattle.laws.proofs.RingSteps.{token-back, flew-one}
 use Rattle.laws.proofs.PhaseSteps.{fits-moved, Says, says-turn, says-inv}
 
--- ---- a heap of which the slots from one number up to another were swept
+-- ---- a heap whose slots from one number up to another were swept
 
 pub record SweptHeap (cycle from to : ℕ) (h g : Heap) : Type 0 where
   pub registers : g.registers ≡ h.registers
@@ -54,7 +54,7 @@ swept-none cycle from h = record {
   free = λ f. f;
 }
 
--- a slot that garbage is in
+-- a slot with garbage in it
 pub garbage-there : (cycle : ℕ) (s : Slot) → is_garbage cycle s ≡ true
     → (o : Object) × (s ≡ Occupied (generation_in s) o) × (o.mark ≢ cycle)
 garbage-there cycle (Free g) h = absurd cc
@@ -225,7 +225,7 @@ module _ {shape : Shaped} {c d : Cut} {i : ℕ} {h : Heap} {to swept cursor : �
   pub sweep-turn : Turn c d i swept_now []
   sweep-turn = record { becomes = s.becomes; heard = λ from. le_refl _ }
 
-  -- marking has ended, as the node knows
+  -- marking has ended, and the node knows it
   pub sweep-resting : Resting (phases_of c 0)
   sweep-resting = sweeping-resting s.inv s.inside s.ready
 
@@ -270,7 +270,7 @@ module _ {shape : Shaped} {c d : Cut} {i : ℕ} {h : Heap} {to swept cursor : �
         marked = λ _. mark ∙ sym (sweep-cycle 0);
       }
 
-  -- what is there was there
+  -- an object afterwards was there before
   sweep-back : (j k g : ℕ) (o : Object) → slot_at (d j).local.heap k ≡ Occupied g o
       → slot_at (c j).local.heap k ≡ Occupied g o
   sweep-back j k g o =
@@ -466,7 +466,7 @@ module _ {shape : Shaped} {c d : Cut} {i : ℕ} {h : Heap} {to swept cursor : �
           not_from_true _ (eq-eqb (c i).local.phases.ended (c i).local.phases.cycle
           (sweep-ended ∙ sym sweep-joined))
 
--- ---- and reports it
+-- ---- the node reports it
 
 pub record Reporting (shape : Shaped) (c d : Cut) (i : ℕ) : Type 0 where
   pub inv : Inv shape c

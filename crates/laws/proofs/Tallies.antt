@@ -1,4 +1,4 @@
--- The balances and the token's sum are at most what was ever sent and taken in.
+-- The balances and the token's sum are at most what was ever sent and received.
 use Rattle.std.proofs.Common.{◌≡◌, ◌≢◌, ℕ, suc, ℤ, pos, ◌+◌, ◌+ℤ◌, ◌-ℤ◌, ◌<◌, ◌≤◌, cond, ltb, List, [], ◌∷◌, ◌++◌, length, get_or, set, sym, ap, ◌∙◌, subst, ⊎_elim, arith, length-set, length-append, get_or-set_same, get_or-set_other}
 use Rattle.std.specs.Prelude.{◌≤ℤ◌}
 use Rattle.std.specs.List.{AllByRecursion}
@@ -15,7 +15,7 @@ use Rattle.laws.proofs.Sums.{total-one, total-le, total-nonneg}
 use Rattle.laws.proofs.Turns.{Turn, at_turn}
 use Rattle.laws.proofs.Invariant.{Base, numbers, Tally, above, Bound}
 
--- what was sent and taken in only grows
+-- what was sent and received only grows
 pub numbers-turn : {c d : Cut} {i : ℕ} {q : LocalState} {ms : List (ℕ × Message)} (n : ℕ)
     → Turn c d i q ms → (j : ℕ) → numbers n (c j) ≤ℤ numbers n (d j)
 numbers-turn {c = c} {d = d} {i = i} {q = q} {ms = ms} n turn =
@@ -192,7 +192,7 @@ tally-sends {shape = shape} {c = c} {d = d} {i = i} {q = q} {ms = ms} h t =
       minus_minus = omega (arith, ints, more, e, r, h.together, t.minus_minus);
     }
 
--- one message is taken in, and counted at most once
+-- one message is received, and counted at most once
 pub record TakesOne (shape : Shaped) (c d : Cut) (i : ℕ) (q : LocalState) (j : ℕ) : Type 0 where
   pub base : Base shape c
   pub inside : i < shape.nodes

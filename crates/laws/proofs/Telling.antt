@@ -1,5 +1,5 @@
--- What a program is told of its events it may be told in a space without a collector: the tests are
--- the same, since what a register names is there.
+-- What a program is told about its events, it may also be told in a space without a collector: the
+-- tests are the same, since the objects that registers name exist.
 use Rattle.std.proofs.Common.{◌≡◌, ℕ, Bool, true, false, ◌==◌, ◌⊎◌, List, [], ◌∷◌, ◌++◌, length, map, Option, Ok, Err, refl, sym, ap, ◌∙◌, subst, ⊎_elim, inl, inr}
 use Rattle.std.specs.Prelude.{is_some, not, nat_lt, nat_le}
 use Rattle.ids.specs.declared.limits.TheConstants.{GREATEST_PLACES}
@@ -18,14 +18,14 @@ use Rattle.laws.proofs.Doings.{Here, thing-has, thing-there, object-same, Doing,
 
 -- ---- lists of tests
 
--- a refusal is one whatever the value would be
+-- a refusal doesn't depend on the value
 guarded-other : {A B : Type 0} (ts : List (Bool × Refusal)) (x : A) (y : B) (r : Refusal)
     → guarded ts x ≡ Err r → guarded ts y ≡ Err r
 guarded-other [] x y r h = absurd cc
 guarded-other ((true, e) ∷ ts) x y r h = guarded-other ts x y r h
 guarded-other ((false, e) ∷ ts) x y r h = let same : e ≡ r = cc in ap Err same
 
--- of two lists the first refuses, or it passes and the second refuses
+-- of two lists, the first refuses, or it passes and the second refuses
 refused-by : {A : Type 0} (ts us : List (Bool × Refusal)) (x : A) (r : Refusal)
     → guarded (ts ++ us) x ≡ Err r → (guarded ts x ≡ Err r) ⊎ (AllPass ts × (guarded us x ≡ Err r))
 refused-by [] us x r h = inr (tt, h)
@@ -47,7 +47,7 @@ alike-refuse : {A B : Type 0} (ts us : List (Bool × Refusal)) (x : A) (y : B) (
 alike-refuse ts us x y r same h =
     guarded-other us tt y r (sym same ∙ guarded-other ts x tt r h)
 
--- where the last tests are alike if all before them pass
+-- they are alike if their last tests agree whenever all tests before them pass
 alike-last : (ts : List (Bool × Refusal)) (b c : Bool) (r : Refusal) → (AllPass ts → b ≡ c)
     → Alike (ts ++ (b, r) ∷ []) (ts ++ (c, r) ∷ [])
 alike-last [] b c r h = ap (λ (z : Bool). guarded {A = Unit {0}} ((z, r) ∷ []) tt) (h tt)
@@ -56,7 +56,7 @@ alike-last ((false, e) ∷ ts) b c r h = refl
 
 -- ---- the tests of events
 
--- An object of the node's own that a register names is there.
+-- An object of the node's own that a register names exists.
 pub record Ready (s : Space) (p : LocalState) : Type 0 where
   pub here : Here s p.own p.heap
   pub there : (object : ℕ) → is_filled p.heap object ≡ true → is_local p.own p.heap object ≡ true
@@ -91,7 +91,7 @@ word-alike {s = s} p object x =
     ∙ ap (λ (z : Heap). guarded {A = Unit {0}}
     (own_tests p.own z object b) tt) (sym x.here.desk)
 
--- the tests but those of a limit: that a slot is to be had, and that messages get numbers
+-- all tests except those of a limit: that a slot is available, and that messages get numbers
 abbrev tested : LocalState → Event → List (Bool × Refusal)
 tested p (event.Alloc register places) =
     (is_register p.heap register, NoRegister)
@@ -177,7 +177,7 @@ told-ok {s = s} p counts e is x d = (
   own-answers p counts e is d,
 )
 
--- where no message is sent, each gets its number
+-- an event that sends no message never fails with `LinkSpent`
 never-refused : {A : Type 0} (x : A) (r : Refusal) → guarded ((true, LinkSpent) ∷ []) x ≡ Err r → ⊥
 never-refused x r h = absurd cc
 

@@ -29,7 +29,7 @@ use Rattle.laws.proofs.Meets.{same-is}
 abbrev pub desk_of : Heap → Heap
 desk_of h = record h { slots = []; free = []; grey = [] }
 
--- The heap g has the registers and letters of h, and no object that isn't in h with the same word
+-- The heap g has the registers and letters of h. Each of its objects is in h, with the same word
 -- and places.
 pub record Kept (h g : Heap) : Type 0 where
   pub registers : g.registers ≡ h.registers
@@ -37,7 +37,7 @@ pub record Kept (h g : Heap) : Type 0 where
   pub objects : (k e : ℕ) (y : Object) → slot_at g k ≡ Occupied e y
       → (x : Object) × (slot_at h k ≡ Occupied e x) × (thing_of y ≡ thing_of x)
 
--- and none is gone
+-- and no object is gone
 pub record Still (h g : Heap) : Type 0 where
   pub kept : Kept h g
   pub lasting : (k e : ℕ) (x : Object) → slot_at h k ≡ Occupied e x
@@ -83,7 +83,7 @@ kept-desk {h = h} {g = g} a =
     ap (λ (z : List (Option Ref)). record (desk_of g) { registers = z }) a.registers
     ∙ ap (λ z. record (desk_of h) { letters = z }) a.letters
 
--- objects that turn grey are marked, and else stay as they are
+-- objects that turn grey are marked, and otherwise stay as they are
 still-grey : (cycle : ℕ) (h : Heap) (r : Ref) → Still h (make_grey cycle h r)
 unfolding make_grey
 still-grey cycle h r =
@@ -119,7 +119,7 @@ still-greys own cycle h (r ∷ rs) =
 
 -- ---- an object is rewritten
 
--- a reference to an object of this node is the other one's
+-- an object of this node has the given reference if the slot and the generation are the same
 own-same : (i k g : ℕ) (r : Ref) → r.node ≡ i
     → is_same (own_reference i k g) r ≡ ((k == r.slot) && (g == r.generation))
 own-same i k g r own =
@@ -155,7 +155,7 @@ lives-rewritten s i h r f f' both lives k g y there =
     (sym (found.2 ∙ cond-false here (f x) x (sym test ∙ no))))
     (cases_Bool (is_same q r))
 
--- nothing was made by that
+-- rewriting made no object
 pub rewriting-back : (s : Space) (r : Ref) (f' : Thing → Thing) (q : Ref) (o : Thing)
     → (rewriting s r f').objects q ≡ Some o → (x : Thing) × (s.objects q ≡ Some x)
 rewriting-back s r f' q o =
@@ -172,7 +172,7 @@ rewriting-back s r f' q o =
 
 -- ---- messages
 
--- what is for one node among messages with their receivers
+-- the messages for one node, among messages with their receivers
 abbrev pub sent_for : ℕ → List (ℕ × Message) → List Message
 sent_for to [] = []
 sent_for to (m ∷ ms) = cond (eqb m.0 to) (m.1 ∷ sent_for to ms) (sent_for to ms)
@@ -218,7 +218,7 @@ quiet-append ms ns a b to x among =
     ⊎_elim {C = is_reference x.body ≡ false} (λ first. a to x first) (λ later. b to x later)
     (among-append (to, x) ms ns among)
 
--- what is sent comes last in what a node was sent
+-- new messages come last in what a node was sent
 appended-for : (sent : List (List Message)) (ms : List (ℕ × Message)) (to : ℕ) → to < length sent
     → get_or (append_all sent ms) to [] ≡ get_or sent to [] ++ sent_for to ms
 appended-for sent [] to inside = sym (append-nil (get_or sent to []))
@@ -242,7 +242,7 @@ appended-for sent ((j, x) ∷ ms) to inside =
     (sym (cond-false (eqb j to) (x ∷ sent_for to ms) (sent_for to ms) (ne_eqb j to other))))
     (cases_eq j to)
 
--- so it comes last in what is in flight
+-- so they come last in what is in flight
 pub sent-posts : (sent : List (List Message)) (ms : List (ℕ × Message)) (to g : ℕ)
     → g ≤ length (get_or sent to []) → (length sent ≤ to → posts to ms ≡ [])
     → programs (drop g (get_or (append_all sent ms) to []))

@@ -1,4 +1,4 @@
--- The invariant after the token has left a node, and after one has taken it in.
+-- The invariant after the token has left a node, and after a node has received it.
 use Rattle.std.proofs.Common.{◌≡◌, ◌≢◌, ℕ, suc, ℤ, ◌+◌, ◌+ℤ◌, ◌%◌, ◌<◌, ◌≤◌, true, false, [], ◌∷◌, length, set, Option, None, Some, refl, sym, ap, ◌∙◌, subst, ⊎_elim, inl, arith, le_refl, get_or-set_same}
 use Rattle.std.proofs.lemmas.Bool.{cases_eq}
 use Rattle.ids.specs.Limits.{Shaped}
@@ -20,7 +20,7 @@ use Rattle.laws.proofs.Invariant.{phases_of, cycle_of, Marking, Resting, Joined,
 use Rattle.laws.proofs.Light.{is_idle, light-inv, Speaks, speaks-flows, Hears, hears-turn, hears-flows, hears-width, hears-within, hears-marks}
 use Rattle.laws.proofs.RingSteps.{at-once, way-not-node, Ringless, ringless-phases, ringless-cycle, ringless-passive, ringless-owed, ringless-safra, flew-one, quiet-messages}
 
--- The node gives the token it has to another, and is white then.
+-- The node gives its token to another node, and is white then.
 pub record Leaving (shape : Shaped) (c d : Cut) (i to : ℕ) (t u : Token) : Type 0 where
   pub inv : Inv shape c
   pub inside : i < shape.nodes
@@ -104,7 +104,7 @@ module _ {shape : Shaped} {c d : Cut} {i to : ℕ} {t u : Token}
       (λ new. new.3)
       (flew-one leave-turn i to leave-new.place handed leave-new.flight)
 
-  -- in no other place a token is
+  -- no token is anywhere else
   leave-only : (k : Token) (s : Spot) → IsAt d k s → s ≡ on_way i to leave-new.place
   leave-only k (at_node j) (is_held j0 held) = ⊎_elim {C = at_node j0 ≡ on_way i to leave-new.place}
       (λ (e : j0 ≡ i).
@@ -214,7 +214,7 @@ pub probe-safra : (n : ℕ) (d : Cut) (to : ℕ) → suc to ≡ n
     → Safra n (ringed d) to new_token.q (is_black new_token.colour)
 probe-safra n d to last = safra-probe n (ringed d) to false last
 
--- another node hands it on, where it has no grey object
+-- another node passes it on if it has no grey object
 pub record Forwarding (shape : Shaped) (c d : Cut) (i to : ℕ) (t u : Token) : Type 0 where
   pub inside : i < shape.nodes
   pub before : i ≡ suc to

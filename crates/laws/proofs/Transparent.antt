@@ -1,5 +1,5 @@
--- The collector can't be seen: what programs are told and get in a run, as far as a cut keeps it,
--- is a run of a space without a collector.
+-- The collector can't be seen. What programs are told and receive in a run, as far as a cut keeps
+-- it, is a run of a space without a collector.
 use Rattle.std.proofs.Common.{◌≡◌, ℕ, ◌+◌, ◌≤◌, Bool, true, false, cond, ◌==◌, ◌&&◌, List, [], ◌∷◌, ◌++◌, length, map, drop, set, Option, None, Some, Result, Ok, Err, refl, sym, ap, ◌∙◌, subst, ⊎_elim, arith, ltb-true, leb}
 use Rattle.std.specs.Prelude.{not}
 use Rattle.std.proofs.lemmas.Bool.{cases_Bool, cond_both, cond-true, cond-false, and_parts, and_from, eqb-false, ltb-false, not_from_false, not-true}
@@ -74,7 +74,7 @@ after-append : (s : Space) (xs ys : List Sight) → after s (xs ++ ys) ≡ after
 after-append s [] ys = refl
 after-append s (x ∷ xs) ys = after-append (then s x) xs ys
 
--- what is seen may be seen, and the space then is the cut
+-- these sights are allowed, and the space afterwards matches the cut
 pub record Seen (nodes : ℕ) (s : Space) (xs : List Sight) (d : Cut) : Type 0 where
   pub runs : IsRun nodes s xs
   pub same : Same (after s xs) d
@@ -82,7 +82,7 @@ pub record Seen (nodes : ℕ) (s : Space) (xs : List Sight) (d : Cut) : Type 0 w
 seen-nothing : {nodes : ℕ} {s : Space} {d : Cut} → Same s d → Seen nodes s [] d
 seen-nothing same = record { runs = tt; same = same }
 
--- where a test says that it isn't seen
+-- a test says that it isn't seen
 seen-unless : {nodes : ℕ} {s : Space} {d : Cut} (b : Bool) (xs : List Sight) → b ≡ false
     → Same s d → Seen nodes s (cond b xs []) d
 seen-unless {nodes = nodes} {s = s} {d = d} b xs none same =
@@ -109,18 +109,18 @@ standing-next {w = w} s h = record {
   width = run-count w (s ∷ []) ∙ h.width;
 }
 
--- ---- an event of the node's own
+-- ---- a node's own event
 
 own-program : (e : Event) → is_own e ≡ false → is_program e ≡ false
 own-program (event.Data m) other = refl
 own-program (event.Ack m) other = refl
 own-program e other = absurd cc
 
--- only an event of a program is seen, and only where the current state of its node is chosen
+-- only an event of a program is seen, and only if its node's current state is chosen
 abbrev shows_act : World → (ℕ → Bool) → ℕ → Event → Bool
 shows_act w choice i e = is_node w i && (is_program e && not (choice i))
 
--- the node is one of the space, and the event its own
+-- the node is one of the space, and the event is its own
 record Acting (shape : Shaped) (s : Space) (w : World) (choice : ℕ → Bool) (i : ℕ) (e : Event)
     : Type 0 where
   standing : Standing shape w
@@ -264,7 +264,7 @@ act-seen {shape = shape} {s = s} w choice i e h same =
 
 -- ---- a delivery
 
--- a message that was taken in, where the current state of its receiver is chosen
+-- a message was received, and its receiver's current state is chosen
 record Coming (shape : Shaped) (s : Space) (w : World) (choice : ℕ → Bool) (m : Delivery)
     (t : NodeState) (a : Answer) : Type 0 where
   standing : Standing shape w
@@ -331,7 +331,7 @@ coming-seen {shape = shape} {s = s} {w = w} {choice = choice} {m = m} {t = t} ch
     (quiet-same taking none))
     (cases_Bool (is_reference m.message.body))
 
--- where the receiver's saved state is chosen, nothing is seen
+-- if the receiver's saved state is chosen, nothing is seen
 seen-shown : {nodes : ℕ} {s : Space} {d : Cut} (b : Bool) (xs : List Sight)
     → (b ≡ true → Same s d) → (b ≡ false → Seen nodes s xs d) → Seen nodes s (cond b [] xs) d
 seen-shown {nodes = nodes} {s = s} {d = d} b xs saved current =
@@ -410,9 +410,9 @@ deliver-seen {shape = shape} {s = s} w choice from to number h same =
     by both (Some x) there =
         answered both x there (receive (node_at w.current to) from to number x.stamp x.body) refl
 
--- ---- saves, restarts and what changes nothing
+-- ---- saves, restarts, and steps that change nothing
 
--- past the last node it is the same which state is chosen
+-- past the last node the choice makes no difference
 past-choice : (w : World) (choice : ℕ → Bool) (i : ℕ) (b : Bool) → KeepsSent w
     → is_node w i ≡ false → (j : ℕ) → cut w choice j ≡ cut w (choosing choice i b) j
 past-choice w choice i b h none j =
@@ -453,7 +453,7 @@ restart-seen {s = s} w choice i h same =
     same-becomes (cut-restarted w i choice (ltb-true i (length w.current) within)) same)
     (λ none. same-becomes (past-choice w choice i true h.keeps none) same)
 
--- handing an acknowledgement over is no event
+-- a Hand isn't an event
 hand-quiet : (w : World) (from to : ℕ) → is_event w (step.Hand from to) ≡ false
 unfolding take_step
 hand-quiet w from to =

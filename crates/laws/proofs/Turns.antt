@@ -1,5 +1,5 @@
--- One node of a cut changes, and sends messages: what holds of each node, and what is in flight,
--- afterwards.
+-- One node of a cut changes, and sends messages: what then holds of each node, and what is in
+-- flight.
 use Rattle.std.proofs.Common.{◌≡◌, ◌≢◌, ℕ, ◌+◌, ◌<◌, ◌≤◌, ◌∙◌, le_refl, length-set, get_or-set_same, List, [], ◌∷◌, ◌++◌, length, get_or, set, Some, slice_get, refl, sym, ap, subst, inl, inr, ⊎_elim, ◌⊎◌, length-append, arith}
 use Rattle.std.proofs.lemmas.Bool.{cases_eq}
 use Rattle.msg.specs.declared.body.Message.{Message}
@@ -10,7 +10,8 @@ use Rattle.model.proofs.Lookups.{at_set_if}
 use Rattle.laws.proofs.Lookups.{slice_get-push, slice_get-grows, slice_get-last}
 use Rattle.laws.proofs.StepFacts.{append_all-grows}
 
--- The node i has a new part and sent the messages; it forgot none that it had taken in.
+-- The node i has a new local state and has sent the messages. It hasn't forgotten any that it
+-- received.
 pub record Turn (c d : Cut) (i : ℕ) (p : LocalState) (ms : List (ℕ × Message)) : Type 0 where
   pub becomes : Becomes c d i (record { local = p; sent = append_all (c i).sent ms })
   pub heard : (from : ℕ) → taken c from i ≤ got_from p from
@@ -78,7 +79,7 @@ sent-grows {c = c} {i = i} {ms = ms} t from to =
     omega (arith, ap length more.1, length-append (sent_to (c i) to) more.0))
     (λ j _. omega arith) from
 
--- what was in flight still is, unless it was taken in
+-- what was in flight still is, unless it was received
 pub flies : {c d : Cut} {i : ℕ} {p : LocalState} {ms : List (ℕ × Message)} → Turn c d i p ms
     → (from to place : ℕ) (x : Message) → IsInFlight c from to place x → taken d from to ≤ place
     → IsInFlight d from to place x
@@ -91,7 +92,7 @@ flies {c = c} {i = i} {ms = ms} t from to place x flight later = record {
       (λ j _ there. there) from flight.there;
 }
 
--- where a message that is sent comes to stand
+-- the place at which a sent message is on its link
 pub record StandsAt (c : Cut) (from to : ℕ) (x : Message) : Type 0 where
   pub place : ℕ
   pub flight : IsInFlight c from to place x
@@ -137,7 +138,7 @@ appended-at sent ((other, y) ∷ ms) to x inside (inr rest) =
     omega (arith, grew, at)) (le_refl _) in
     record { place = found.place; later = omega (arith, more, found.later); there = found.there }
 
--- what is sent is in flight then
+-- what is sent is then in flight
 pub sent-flies : {c d : Cut} {i : ℕ} {p : LocalState} {ms : List (ℕ × Message)} → Turn c d i p ms
     → (to : ℕ) (x : Message) → to < length (c i).sent
     → taken d i to ≤ length (sent_to (c i) to) → Among (to, x) ms → StandsAt d i to x

@@ -1,6 +1,6 @@
 -- What no space without a collector sees: shading, vouching, joining, the collector's own steps and
--- its messages. They leave registers, letters and objects as they are, but that a sweep takes some
--- objects away; and they send no message of a program.
+-- its messages. They don't change registers, letters and objects, except that a sweep removes some
+-- objects. They send no message of a program.
 use Rattle.std.proofs.Common.{◌≡◌, ℕ, ◌+◌, ◌==◌, true, false, List, [], ◌∷◌, ◌++◌, refl, sym, ap, ◌∙◌, subst, ⊎_elim, inl, inr, ltb}
 use Rattle.std.proofs.lemmas.Bool.{cases_Bool, cond_both}
 use Rattle.ids.specs.declared.names.Ref.{Ref}
@@ -23,7 +23,7 @@ use Rattle.laws.proofs.PhaseSteps.{others-are}
 use Rattle.laws.proofs.Sweeps.{swept-some}
 use Rattle.laws.proofs.Things.{Kept, kept-same, Still, still-same, still-through, still-greys, IsQuiet, quiet-append}
 
--- what some work left: no object is gone, and no message of a program was sent
+-- some work after which no object is gone, and no message of a program was sent
 pub record Calm (h : Heap) (w : Work) : Type 0 where
   pub still : Still h w.local.heap
   pub quiet : IsQuiet w.sends
@@ -80,7 +80,7 @@ calm-join : (p : LocalState) (cycle : ℕ) → Calm p.heap (join p cycle)
 unfolding join enter
 calm-join p cycle = calm-shade (at_rest (enter p cycle)) (filled (roots p.heap)) none-quiet
 
--- ---- a message is taken in, but for what its body asks for
+-- ---- a message is received, up to what its body asks for
 
 abbrev pub before_body : LocalState → ℕ → ℕ → ℕ → Body → Work
 before_body p from number stamp b =
@@ -121,7 +121,7 @@ calm-body from stamp b p none =
 
 -- ---- the collector's own steps
 
--- what a step left that shows in no space without a collector
+-- the effect of a step that no space without a collector sees
 pub record Unseen (h : Heap) (x : Effect) : Type 0 where
   pub kept : Kept h x.local.heap
   pub quiet : IsQuiet x.sends

@@ -1,4 +1,4 @@
--- Within the limits of a space no sum that a token hands on wraps.
+-- Within the limits of a space, no sum that a token carries on wraps.
 use Rattle.std.proofs.Common.{◌≡◌, ℕ, zero, suc, ℤ, pos, negsuc, ◌+◌, ◌*◌, ◌+ℤ◌, ◌-ℤ◌, ◌<◌, ◌≤◌, true, cond, ltb, ltb-true, List, [], ◌∷◌, ◌++◌, length, length-append, map, get_or, set, refl, sym, ap, ◌∙◌, subst, ⊎_elim, arith, mul-le-mul_right, suc-mul}
 use Rattle.std.specs.Prelude.{◌≤ℤ◌}
 use Rattle.std.specs.Int.{w64, int_wrap}
@@ -130,7 +130,7 @@ above-most {shape = shape} {c = c} limits inv all t =
     mul-le-mul_right GREATEST_COUNTED limits.most_nodes in
     omega (arith, ints, each, few)
 
--- the sum that a token carries, and the balance of the node that holds it
+-- the sum that a token carries, plus the balance of the node that holds it
 abbrev held_most : ℕ
 held_most = GREATEST_SUM + GREATEST_COUNTED
 

@@ -1,6 +1,6 @@
 -- A space without a collector ("Without a collector" in docs/RULES.md): the objects that were made,
--- what each node's program holds, and the messages of programs that are under way. No object is
--- ever freed. There are no marks, cycles, tokens, slots, free lists or numbers of messages.
+-- what each node's program holds, and the messages of programs in flight. No object is ever freed.
+-- There are no marks, cycles, tokens, slots, free lists or numbers of messages.
 use Rattle.std.specs.Prelude.{◌≡◌, ◌≢◌, ℕ, ◌<◌, ◌⊎◌, Bool, true, false, cond, ◌==◌, ◌&&◌, not, is_some, nat_lt, nat_le, List, [], ◌∷◌, ◌++◌, length, replicate, slice_set, slice_index_or, Option, None, Some, option_map, Result, Ok, Err, IsTrue}
 use Rattle.ids.specs.Limits.{Shaped}
 use Rattle.ids.specs.declared.names.Ref.{Ref}
@@ -25,14 +25,14 @@ pub record Thing : Type 0 where
   pub places : List (Option Ref)
 
 pub record Space : Type 0 where
-  -- the object that was made under a reference, if one was
+  -- the object that was made under a reference, if any
   pub objects : Ref → Option Thing
-  -- each node's registers and letters, as a heap without slots, so that the tests of heaps serve
+  -- each node's registers and letters, as a heap without slots, so that the tests of heaps apply
   pub desk : ℕ → Heap
-  -- the Gives, Puts and Gets that one node sent another, and that haven't arrived, oldest first
+  -- the Gives, Puts and Gets that one node sent another and that haven't arrived, oldest first
   pub under_way : ℕ → ℕ → List Body
 
--- a new one
+-- a new space
 abbrev pub new_space : Shaped → Space
 new_space shape = record {
   objects = λ r. None;
@@ -46,7 +46,7 @@ abbrev pub has_that : Option Thing → ℕ → Bool
 has_that None place = false
 has_that (Some o) place = nat_lt place (length o.places)
 
--- what stands in a place; nothing where there is no such place, or no object
+-- the content of a place; nothing if there is no such place or no object
 abbrev pub stands_in : Option Thing → ℕ → Option Ref
 stands_in None place = None
 stands_in (Some o) place = slice_index_or o.places place None
@@ -63,7 +63,7 @@ with_desk s i h = record s { desk = λ k. cond (k == i) h (s.desk k) }
 abbrev pub with_thing : Space → Ref → Option Thing → Space
 with_thing s r o = record s { objects = λ q. cond (is_same q r) o (s.objects q) }
 
--- an object is rewritten, where one was made; a place of it becomes this, or its word
+-- rewrites an object, if one was made: one of its places, or its word
 abbrev pub rewriting : Space → Ref → (Thing → Thing) → Space
 rewriting s r f = with_thing s r (option_map f (s.objects r))
 
@@ -77,7 +77,7 @@ abbrev pub with_messages : Space → ℕ → ℕ → List Body → Space
 with_messages s from to bs =
     record s { under_way = λ i k. cond ((i == from) && (k == to)) bs (s.under_way i k) }
 
--- a message comes last
+-- the message is appended as the last one
 abbrev pub posted : Space → ℕ → ℕ → Body → Space
 posted s from to b = with_messages s from to (s.under_way from to ++ b ∷ [])
 
@@ -94,8 +94,8 @@ is_program (event.Data d) = false
 is_program (event.Ack a) = false
 is_program e = true
 
--- Limits of the nodes that this space lacks: an Alloc may find no slot, and a message that an event
--- sends, or that shading what a Load reads sends, no number.
+-- Limits of the nodes, which this space doesn't have. An Alloc may find no slot. There may be no
+-- number for a message that an event sends, or that is sent when a Load shades what it reads.
 abbrev pub IsLimit : Event → Refusal → Type 0
 IsLimit (event.Alloc register places) e = e ≡ ArenaFull
 IsLimit (event.Load register object place) e = e ≡ LinkSpent
@@ -114,7 +114,7 @@ new_thing places = record { word = 0; places = replicate places None }
 
 -- the program of node i
 module _ (s : Space) (i : ℕ) where
-  -- what a register holds; what it names; the object that was made under that, if one was
+  -- the content of a register; the reference that it names; the object made under that, if any
   abbrev pub held : ℕ → Option Ref
   held register = register_at (s.desk i) register
 
@@ -124,8 +124,8 @@ module _ (s : Space) (i : ℕ) where
   abbrev pub object_in : ℕ → Option Thing
   object_in register = s.objects (named_by register)
 
-  -- The tests of an event, each with its refusal, in order: those that a node makes, but that a
-  -- slot is to be had. That an object was freed is none of them.
+  -- The tests of an event, in order, each with its refusal. They are the tests of a node, except
+  -- that no slot has to be available. None of them asks whether an object was freed.
   abbrev pub checks : ℕ → Event → List (Bool × Refusal)
   checks nodes (event.Alloc register places) =
       (is_register (s.desk i) register, NoRegister)
@@ -154,8 +154,8 @@ module _ (s : Space) (i : ℕ) where
   checks nodes (event.Get object place label) = get_tests i (s.desk i) object place
   checks nodes e = []
 
-  -- What an event that passes them may be answered. A new object gets any reference of its node
-  -- under which none was made; of a message's number nothing is said.
+  -- The answers that an event may get if it passes these tests. A new object gets any reference of
+  -- its node under which no object was made. The number of a message may be any.
   abbrev pub IsAnswer : Event → Answer → Type 0
   IsAnswer (event.Alloc register places) a =
       (r : Ref) × (a ≡ answer.New r) × (r.node ≡ i) × (s.objects r ≡ None)
@@ -168,14 +168,14 @@ module _ (s : Space) (i : ℕ) where
   IsAnswer (event.Get object place label) a = (number : ℕ) × (a ≡ answer.Sent number)
   IsAnswer e a = a ≡ answer.Done
 
-  -- what the program may be told of an event: an answer, where every test passes; the refusal of
-  -- the first that fails; or, where none fails, that of a limit
+  -- what the program may be told about an event: an answer if every test passes, the refusal of the
+  -- first test that fails, or, if none fails, the refusal of a limit
   abbrev pub IsTold : ℕ → Event → Result Answer Refusal → Type 0
   IsTold nodes e (Ok a) = AllPass (checks nodes e) × IsAnswer e a
   IsTold nodes e (Err r) =
       (guarded (checks nodes e) s ≡ Err r) ⊎ (AllPass (checks nodes e) × IsLimit e r)
 
-  -- what an event that was answered does
+  -- what an answered event does
   abbrev pub does : Event → Answer → Space
   does (event.Alloc register places) a =
       with_desk (with_thing s (new_in a) (Some (new_thing places))) i
@@ -195,9 +195,9 @@ module _ (s : Space) (i : ℕ) where
       posted s i (named_by object).node (body.Get (named_by object) place label)
   does e a = s
 
--- ---- what comes in
+-- ---- what arrives
 
--- a letter is added; a place is written; what stands in a place is sent back
+-- a letter is added; a place is written; the content of a place is sent back
 abbrev pub follows : Space → ℕ → ℕ → Body → Space
 follows s from to (body.Give label reference) =
     with_desk s to
@@ -207,31 +207,31 @@ follows s from to (body.Get target place label) =
     posted s to from (body.Give label (stands_in (s.objects target) place))
 follows s from to b = s
 
--- the first message under way arrives
+-- the first message in flight arrives
 abbrev pub arrives : Space → ℕ → ℕ → List Body → Space
 arrives s from to [] = s
 arrives s from to (b ∷ bs) = follows (with_messages s from to bs) from to b
 
 -- ---- runs
 
--- What is seen of a space: its program was told this of an event of a node; a message of a program
--- came from one node to another.
+-- What is seen of a space: a program was told this about an event at its node, or a program's
+-- message arrived at one node from another.
 pub data Sight : Type 0 where
   told : ℕ → Event → Result Answer Refusal → Sight
   came : ℕ → ℕ → Sight
 
--- it may be seen of this space
+-- this space may show it
 abbrev pub IsSight : ℕ → Space → Sight → Type 0
 IsSight nodes s (told i e r) = (i < nodes) × IsTrue (is_program e) × IsTold s i nodes e r
 IsSight nodes s (came from to) = (from < nodes) × (to < nodes) × (s.under_way from to ≢ [])
 
--- the space then
+-- the space afterwards
 abbrev pub then : Space → Sight → Space
 then s (told i e (Ok a)) = does s i e a
 then s (told i e (Err r)) = s
 then s (came from to) = arrives s from to (s.under_way from to)
 
--- one after another
+-- one sight after another
 abbrev pub IsRun : ℕ → Space → List Sight → Type 0
 IsRun nodes s [] = Unit {0}
 IsRun nodes s (x ∷ xs) = IsSight nodes s x × IsRun nodes (then s x) xs

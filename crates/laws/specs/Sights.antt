@@ -21,20 +21,20 @@ use Rattle.laws.specs.Objects.{Thing, Space, new_space, is_program, Sight, told,
 
 -- ---- what is seen of a step
 
--- what a program was told of its event
+-- what a program was told about its event
 abbrev pub told_of : ℕ → Event → Result Outcome Refusal → List Sight
 told_of i e (Ok (outcome.Answer a)) = told i e (Ok a) ∷ []
 told_of i e (Ok o) = []
 told_of i e (Err r) = told i e (Err r) ∷ []
 
--- a message of a program that was taken in; one of the collector isn't seen
+-- a program's message that was received; the collector's messages aren't seen
 abbrev pub came_of : ℕ → ℕ → Result Outcome Refusal → Option Message → List Sight
 came_of from to (Ok (outcome.Answer answer.Received)) (Some x) =
     cond (is_reference x.body) (came from to ∷ []) []
 came_of from to r found = []
 
--- What is seen of a step, by what became of it. Where the choice takes a node's saved state, what
--- its program is told and what the node takes in isn't in the cut.
+-- What is seen of a step, by its outcome. If the choice takes a node's saved state, neither what
+-- its program is told nor what the node receives is in the cut.
 abbrev pub seen : World → (ℕ → Bool) → Step → Result Outcome Refusal → List Sight
 seen w choice (step.Act i e) r =
     cond (is_node w i && (is_program e && not (choice i))) (told_of i e r) []
@@ -44,8 +44,8 @@ seen w choice s r = []
 
 -- ---- what is seen of a run
 
--- Seen from before a step, the cut that a choice picks after it takes of a node that is saved the
--- current state, and of one that is restarted the saved one.
+-- The choice before a step that picks the same states as the choice after it. For a node that is
+-- saved, it is the current state; for a node that is restarted, the saved one.
 abbrev pub choosing : (ℕ → Bool) → ℕ → Bool → ℕ → Bool
 choosing choice i b k = cond (k == i) b (choice k)
 
@@ -54,14 +54,14 @@ before (step.Save i) choice = choosing choice i false
 before (step.Restart i) choice = choosing choice i true
 before s choice = choice
 
--- the same, seen from before a list of steps
+-- the same before a list of steps
 abbrev pub at_first : List Step → (ℕ → Bool) → ℕ → Bool
 at_first [] choice = choice
 at_first (s ∷ ss) choice = before s (at_first ss choice)
 
--- What was seen in a run, as far as the cut that the choice picks at its end has it: what a restart
--- has undone, or a saved state doesn't have, is left out. Where nothing was restarted, and all
--- states are current, that is all of it.
+-- What was seen in a run, as far as it belongs to the cut that the choice picks at its end. What a
+-- restart has undone, or what a saved state lacks, is left out. If nothing was restarted and all
+-- states are current, nothing is left out.
 abbrev pub kept : World → List Step → (ℕ → Bool) → List Sight
 kept w [] choice = []
 kept w (s ∷ ss) choice =
@@ -80,7 +80,7 @@ abbrev pub programs : List Message → List Body
 programs xs = filter is_reference (map body_of xs)
 
 -- The space without a collector has the cut's registers, letters and messages of programs, and the
--- same word and places in every object that can be reached in the cut.
+-- same word and places in every object that is reachable in the cut.
 pub record LooksLike (s : Space) (c : Cut) : Type 0 where
   pub registers : (i : ℕ) → (s.desk i).registers ≡ (c i).local.heap.registers
   pub letters : (i : ℕ) → (s.desk i).letters ≡ (c i).local.heap.letters
@@ -89,9 +89,9 @@ pub record LooksLike (s : Space) (c : Cut) : Type 0 where
       → (o : Object) × (slot_at (c r.node).local.heap r.slot ≡ Occupied r.generation o)
       × (s.objects r ≡ Some (thing_of o))
 
--- The collector can't be seen. In every cut of every run, all that programs were told and got, but
--- for what restarts have undone, is a run of a space in which no object is ever freed; and that run
--- ends as the cut is.
+-- The collector can't be seen, in any cut of any run. Take all that programs were told and
+-- received, except what restarts have undone. That is a run of a space in which no object is ever
+-- freed, and at its end that space looks like the cut.
 abbrev pub CollectorIsUnseen : Type 0
 CollectorIsUnseen =
     (shape : Shaped) → IsShape shape → (steps : List Step) (choice : ℕ → Bool)

@@ -22,12 +22,12 @@ use Rattle.model.specs.World.{World, new_world, run, happens, released, acknowle
 use Rattle.model.specs.Cuts.{cut, IsLive, Reachable, PlainRun}
 use Rattle.model.specs.Agreement.{total, flow, is_counted, balance, EndsAlike, OldGarbage}
 
--- A step that is no event leaves any space as it is.
+-- A step that isn't an event leaves every space as it is.
 abbrev pub OnlyEventsChange : Type 0
 OnlyEventsChange = (w : World) (s : Step) → is_event w s ≡ false → happens w s ≡ w
 
--- Saves and restarts show in no cut: what stands in a cut now, whether of current or of saved
--- states, came about by events and receipts alone, from a cut of each earlier time.
+-- Saves and restarts show in no cut. Every cut, of current or saved states, comes about by events
+-- and receipts alone, from some cut of each earlier time.
 abbrev pub CutsExtend : Type 0
 CutsExtend =
     (shape : Shaped) → IsShape shape → (earlier later : List Step) (choice : ℕ → Bool)
@@ -36,17 +36,18 @@ CutsExtend =
     (cut (run (new_world shape) earlier) earlier_choice)
     (cut (run (run (new_world shape) earlier) later) choice)
 
--- The owner of what is reachable has it: whatever a register, a letter or a message in flight
--- refers to, and all that can be read from there on, is live, in every cut at every time.
+-- Every reachable reference is live, in every cut at every time. Reachable are the references in
+-- registers, letters and messages in flight, and all that can be read from there on.
 abbrev pub ReachIsLive : Type 0
 ReachIsLive =
     (shape : Shaped) → IsShape shape → (steps : List Step) (choice : ℕ → Bool) (r : Ref)
     → Reachable (cut (run (new_world shape) steps) choice) r
     → IsLive (cut (run (new_world shape) steps) choice) r
 
--- A message about an object is taken in by the object's owner, who still has it: a Mark finds what
--- it is to mark, a Put what it is to write, and a Get what it is to read, however long they were on
--- their way, whatever was swept meanwhile, and whatever was saved and restarted.
+-- A message about an object is received by the object's owner, and the owner still has the object.
+-- So a Mark finds the object that it is to mark, a Put the one to write, and a Get the one to read.
+-- This holds however long they were in flight, whatever was swept meanwhile, and whatever was saved
+-- and restarted.
 abbrev pub TargetsAreLive : Type 0
 TargetsAreLive =
     (shape : Shaped) → IsShape shape
@@ -57,8 +58,9 @@ TargetsAreLive =
     ≡ Ok (outcome.Answer answer.Received)
     → (target.node ≡ to) × IsLive (cut (run (new_world shape) steps) (λ _. false)) target
 
--- The balances add up: in every cut at every time, what the nodes have sent of the messages that
--- node 0's cycle counts, less what they have taken in of them, is how many of them are in flight.
+-- The balances add up, in every cut at every time. Take what each node has sent of the messages
+-- that node 0's cycle counts, less what it has received of them. The sum over all nodes is the
+-- number of these messages in flight.
 abbrev pub BalancesAddUp : Type 0
 BalancesAddUp =
     (shape : Shaped) → IsShape shape → (steps : List Step) (choice : ℕ → Bool)
@@ -70,10 +72,10 @@ BalancesAddUp =
     (is_counted (cut (run (new_world shape) steps) choice 0).local.phases.cycle)
     (cut (run (new_world shape) steps) choice)
 
--- No two nodes disagree whether a cycle's marking has ended, in any cut at any time. Where one
--- counts it as ended it has terminated: every node has joined the cycle, none that is in it has a
--- grey object, and nothing that it counts is in flight; node 0 counts it as ended too, and so does
--- every node that has gone on to a later cycle.
+-- Whenever a node counts a cycle's marking as ended, it has ended, and node 0 counts it so too.
+-- This holds in every cut at every time. Marking has then terminated: every node has joined the
+-- cycle, no node that is in it has a grey object, and no message that it counts is in flight. Every
+-- node that is in a later cycle counts it as ended too.
 abbrev pub NodesAgree : Type 0
 NodesAgree =
     (shape : Shaped) → IsShape shape
@@ -81,9 +83,9 @@ NodesAgree =
     → cycle ≤ (cut (run (new_world shape) steps) choice i).local.phases.ended
     → EndsAlike shape.nodes cycle (cut (run (new_world shape) steps) choice)
 
--- A sweep frees nothing that is reachable: what can be reached in a cut that takes the node's
--- current state is in its slot before the sweep and after it, whatever the other nodes' states in
--- the cut, current or saved.
+-- A sweep frees nothing that is reachable. Take a cut with the sweeping node's current state, and
+-- with any states of the other nodes, current or saved. If an object of the sweeping node is
+-- reachable in this cut, it is in its slot before the sweep and after it.
 abbrev pub SweepsFreeNoneReachable : Type 0
 SweepsFreeNoneReachable =
     (shape : Shaped) → IsShape shape
@@ -97,8 +99,9 @@ SweepsFreeNoneReachable =
     × (slot_at s.local.heap r.slot ≡ Occupied r.generation o)
 
 -- Old garbage goes, rings of objects across nodes included. Take any time before node 0 begins a
--- cycle, and an object that its owner had saved then and that could be reached in no cut. In no cut
--- of a later time does its owner still have it, once it has swept that cycle or a later one.
+-- cycle. Take an object that its owner's saved state held then, and that was reachable in no cut.
+-- Once its owner has swept that cycle or a later one, it no longer has the object, in any cut of
+-- any later time.
 abbrev pub OldGarbageGoes : Type 0
 OldGarbageGoes =
     (shape : Shaped) → IsShape shape
@@ -110,17 +113,16 @@ OldGarbageGoes =
     → IsLive (cut (run (run (new_world shape) earlier) later) choice) r
     → ⊥
 
--- What was released once is released ever after: messages, and acknowledgements too, whatever was
--- saved and restarted meanwhile. So a frame may be given to its receiver at any later time.
+-- Whatever was released stays released, messages and acknowledgements alike, whatever is saved and
+-- restarted meanwhile. So a frame may be given to its receiver at any later time.
 abbrev pub NetGrows : Type 0
 NetGrows =
     (shape : Shaped) → IsShape shape → (earlier later : List Step) (f : Plain)
     → IsInNet (run (new_world shape) earlier) f
     → IsInNet (run (run (new_world shape) earlier) later) f
 
--- A released message is for its receiver. It is refused in two cases alone: where a message that it
--- makes the receiver send would need a number above the greatest, and where it comes before its
--- turn.
+-- A released message fits its receiver. It is refused in only two cases. Either a message that it
+-- makes the receiver send would need a number above the greatest, or it comes before its turn.
 abbrev pub NoneRefusedInTurn : Type 0
 NoneRefusedInTurn =
     (shape : Shaped) → IsShape shape
@@ -131,16 +133,17 @@ NoneRefusedInTurn =
     ⊎ ((e ≡ OutOfOrder)
     × (got_from (node_at (run (new_world shape) steps).current to).local from + 1 < number))
 
--- Nothing is acknowledged that wasn't released: an acknowledgement is of no more messages than a
--- saved state of their sender holds, whatever was saved and restarted meanwhile.
+-- Only released messages are acknowledged. An acknowledgement covers no more messages than a saved
+-- state of their sender holds, whatever was saved and restarted meanwhile.
 abbrev pub NoneBeyond : Type 0
 NoneBeyond =
     (shape : Shaped) → IsShape shape → (steps : List Step) (from to number : ℕ)
     → IsInNet (run (new_world shape) steps) (ack_frame from to number)
     → number ≤ release_count (run (new_world shape) steps) to from
 
--- An acknowledgement is for its receiver, which takes it at any time. So it is refused neither as
--- one for another node nor, since nothing is acknowledged that wasn't released, as one of too much.
+-- An acknowledgement fits its receiver, which accepts it at any time. So it is never refused as one
+-- for another node. Nor is it refused for going too far, since only released messages are
+-- acknowledged.
 abbrev pub AcknowledgementsGoThrough : Type 0
 AcknowledgementsGoThrough =
     (shape : Shaped) → IsShape shape → (steps : List Step) (a : Ack)
@@ -148,8 +151,7 @@ AcknowledgementsGoThrough =
     → act (node_at (run (new_world shape) steps).current a.to) (event.Ack a)
     ≡ Ok (node_at (run (new_world shape) steps).current a.to, answer.Done)
 
--- The greatest acknowledgement between two nodes is the one that is handed over, and that may be
--- done at any time.
+-- A Hand hands over the greatest acknowledgement between two nodes, and it succeeds at any time.
 abbrev pub HandsGoThrough : Type 0
 HandsGoThrough =
     (shape : Shaped) → IsShape shape
@@ -160,8 +162,8 @@ HandsGoThrough =
       outcome.Handed (acknowledged (run (new_world shape) steps) from to),
     )
 
--- What is acknowledged, the current state of the node that acknowledges has taken in too, also
--- after a restart. So no message that was acknowledged is ever wanted again.
+-- Whatever a node has acknowledged, its current state has received, also after a restart. So an
+-- acknowledged message is never needed again.
 abbrev pub AcknowledgedIsTakenIn : Type 0
 AcknowledgedIsTakenIn =
     (shape : Shaped) → IsShape shape → (steps : List Step) (from to number : ℕ)

@@ -1,5 +1,5 @@
--- Messages that are appended one after another: what becomes of the links, and whether each of the
--- messages gets a number.
+-- Messages that are appended one after another: what happens to the links, and whether each message
+-- gets a number.
 use Rattle.std.proofs.Common.{◌≡◌, ℕ, ◌+◌, ◌*◌, ◌<◌, ◌≤◌, Bool, ◌&&◌, nat_lt, List, [], ◌∷◌, ◌++◌, length, map, get_or, set, refl, ap, sym, ◌∙◌, subst, arith, length-append}
 use Rattle.std.specs.List.{AllByRecursion, sum_by}
 use Rattle.std.proofs.Math.Bool.{and_assoc}
@@ -34,7 +34,7 @@ length-append_to links (m ∷ ms) =
     length-append_to (with_one links m) ms
     ∙ length-set links m.0 (appended (get_or links m.0 no_link) m.1)
 
--- a message counts as one more that was appended
+-- one more appended message counts as one more
 used_more : (l : Link) (x : Message) → used l + 1 ≡ used (appended l x)
 used_more l x = omega (arith, length-append l.unacknowledged (x ∷ []))
 
@@ -46,7 +46,7 @@ counts_one links m =
     ∙ used_more (get_or links m.0 no_link) m.1)
     ∙ sym (map-set used links m.0 (appended (get_or links m.0 no_link) m.1))
 
--- whether each message gets a number, the first ones before the others
+-- whether each message gets a number, for two lists in a row
 pub fits-append : (links : List Link) (xs ys : List (ℕ × Message))
     → fits (map used links) (xs ++ ys)
     ≡ (fits (map used links) xs && fits (map used (append_to links xs)) ys)
@@ -66,7 +66,7 @@ fits-append links (x ∷ xs) ys =
 
 -- ---- what holds of all links
 
--- what a message doesn't take from a link holds of every link afterwards
+-- a property of every link that no appended message breaks still holds of every link afterwards
 pub links-appended : (P : Link → Type 0) (Q : ℕ × Message → Type 0) (links : List Link)
     (ms : List (ℕ × Message)) → ((l : Link) (m : ℕ × Message) → Q m → P l → P (appended l m.1))
     → AllByRecursion Q ms → ((i : ℕ) → P (get_or links i no_link)) → (i : ℕ)
@@ -78,11 +78,11 @@ links-appended P Q links (m ∷ ms) keeps all holds i =
     (λ j. at_set P links m.0 j (appended l m.1) no_link (keeps l m all.0 (holds m.0)) (holds j))
     i
 
--- a message that may be sent in a space of a shape, whatever its number
+-- a message that may be sent in a space of this shape, whatever its number
 abbrev Sendable : Shaped → ℕ × Message → Type 0
 Sendable shape m = IsSendable shape m.1
 
--- every message that is kept may be sent, where each of those that were appended may
+-- every kept message may be sent, if each appended one may
 pub sendable-appended : (shape : Shaped) (links : List Link) (ms : List (ℕ × Message))
     → AllByRecursion (λ (m : ℕ × Message). IsSendable shape m.1) ms
     → ((i k : ℕ) → IsSendable shape
@@ -126,7 +126,7 @@ sum-appended links (m ∷ ms) inside =
     let more = used_more l m.1 in
     omega (arith, others, one, more)
 
--- Marks go to the nodes of their objects, and there are as many
+-- Marks go to the nodes of their objects, one for each reference
 pub marks-inside : (width cycle : ℕ) (rs : List Ref)
     → AllByRecursion (λ (r : Ref). r.node < width) rs
     → AllByRecursion (λ (m : ℕ × Message). m.0 < width) (marks_for cycle rs)

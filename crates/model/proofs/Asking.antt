@@ -1,4 +1,4 @@
--- What a node asks for, what it sends and what it takes in keep what is true of every node.
+-- What a node asks for, sends and receives keeps what is true of every node.
 use Rattle.std.proofs.Common.{◌≡◌, ◌≢◌, ℕ, ◌+◌, ◌-◌, ◌≤◌, ◌==◌, ◌||◌, false, eqb, List, [], ◌∷◌, ◌++◌, map, get_or, set, replicate, refl, sym, ap, ◌∙◌, subst, ⊎_elim, arith, append-nil, append_assoc, get_or-set_other}
 use Rattle.std.specs.List.{AllByRecursion, IsDistinct}
 use Rattle.std.proofs.lemmas.Bool.{cases_Bool, cond_both, eq-eqb, eqb-true, eqb-false, ne_eqb, or_parts}
@@ -33,7 +33,7 @@ pub same-flip : (r s : Ref) → is_same r s ≡ is_same s r
 same-flip r s =
     rw (eqb-flip r.node s.node, eqb-flip r.slot s.slot, eqb-flip r.generation s.generation) refl
 
--- a reference that isn't there differs from all
+-- a reference that isn't in the list differs from each one in it
 not-there : (r : Ref) (rs : List Ref) → is_in r rs ≡ false
     → AllByRecursion (λ (s : Ref). is_same s r ≡ false) rs
 not-there r [] none = tt
@@ -67,7 +67,7 @@ module _ (shape : Shaped) (own : ℕ) where
       subst (AreAsked shape own) (append_assoc asked (r ∷ []) (unasked own (asked ++ r ∷ []) rs))
       (asked-more (asked ++ r ∷ []) rs (asked-one asked r old all.0 new) all.1))
 
--- what is asked for is of other nodes
+-- only other nodes' objects are asked for
 pub unasked-others : (own : ℕ) (asked rs : List Ref)
     → AllByRecursion (λ (r : Ref). r.node ≢ own) (unasked own asked rs)
 unasked-others own asked [] = tt
@@ -105,7 +105,7 @@ timely-new own nodes = record {
       (sym (get_or-replicate_any nodes i no_link)) (omega arith);
 }
 
--- messages to other nodes leave this one's link
+-- messages to other nodes don't change the link to this one
 append_to-other : (links : List Link) (ms : List (ℕ × Message)) (i : ℕ)
     → AllByRecursion (λ (m : ℕ × Message). m.0 ≢ i) ms
     → get_or (append_to links ms) i no_link ≡ get_or links i no_link
@@ -183,7 +183,7 @@ reports-new own nodes = record {
   others = λ _ i. get_or-replicate_any nodes i 0;
 }
 
--- node 0 hears from another one
+-- node 0 gets a report from another node
 pub reports-heard : (own : ℕ) (reports : List ℕ) (from cycle : ℕ) → own ≡ 0 → from ≢ 0
     → AreReports own reports → AreReports own (set reports from cycle)
 reports-heard own reports from cycle first other old = record {

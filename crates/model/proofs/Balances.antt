@@ -1,4 +1,4 @@
--- What a node counts of its own messages.
+-- How a node counts its own messages.
 use Rattle.std.proofs.Common.{◌≡◌, ℕ, ◌≤◌, pos, ◌+ℤ◌, true, [], ◌∷◌, Option, Some, None, refl, ap, arith, le-ltb}
 use Rattle.std.specs.Prelude.{nat_lt}
 use Rattle.std.proofs.lemmas.Bool.{cond-false}
@@ -9,7 +9,7 @@ use Rattle.model.specs.declared.balance.Balance.TheVariants.{Earlier, Recent}
 use Rattle.model.specs.State.{Ring, LocalState}
 use Rattle.model.specs.Counting.{is_reference, reference_balance, balance_of, counted_up, counted_down, stamped, append}
 
--- references that are sent count with those of the cycle
+-- messages with references that a node sends count as recent
 pub own-reference : (cycle : ℕ) → reference_balance cycle cycle ≡ Recent
 own-reference cycle =
     let same : cycle ≤ cycle = omega arith in
@@ -40,7 +40,7 @@ append-reference to b p is =
     })
     (own-balance p.phases.cycle b is)
 
--- counting leaves the token where it is
+-- counting doesn't change the token
 pub up-token : (b : Option Balance) (r : Ring) → (counted_up b r).token ≡ r.token
 up-token (Some Earlier) r = refl
 up-token (Some Recent) r = refl

@@ -1,9 +1,9 @@
--- Lists of tests: what they say where all pass, and where one fails.
+-- Lists of tests: the result if all pass, and if one fails.
 use Rattle.std.proofs.Common.{◌≡◌, ◌≢◌, Bool, true, false, List, [], ◌∷◌, ◌++◌, Ok, Err, refl, sym}
 use Rattle.ids.specs.declared.refusal.Refusal.{Refusal}
 use Rattle.model.specs.Checks.{guarded, AllPass}
 
--- what passed every test is the value
+-- if every test passed, the result is the value
 pub guarded-ok : {A : Type 0} (cs : List (Bool × Refusal)) (x y : A) → guarded cs x ≡ Ok y → x ≡ y
 guarded-ok [] x y h = cc
 guarded-ok ((true, r) ∷ cs) x y h = guarded-ok cs x y h
@@ -30,7 +30,7 @@ pub passed-both : (ts us : List (Bool × Refusal)) → AllPass ts → AllPass us
 passed-both [] us h g = g
 passed-both (t ∷ ts) us h g = (h.0, passed-both ts us h.1 g)
 
--- a refusal that isn't this test's comes without it too
+-- a refusal that isn't this test's also comes without this test
 pub guarded-without : {A : Type 0} (ts us : List (Bool × Refusal)) (c : Bool) (k e : Refusal)
     (x : A) → e ≢ k → guarded ((ts ++ (c, k) ∷ []) ++ us) x ≡ Err e → guarded (ts ++ us) x ≡ Err e
 guarded-without [] us true k e x other h = h
@@ -38,7 +38,7 @@ guarded-without [] us false k e x other h = absurd (other (let same : k ≡ e = 
 guarded-without ((true, r) ∷ ts) us c k e x other h = guarded-without ts us c k e x other h
 guarded-without ((false, r) ∷ ts) us c k e x other h = h
 
--- tests that pass say nothing
+-- tests that pass don't change the result
 pub guarded-passed : {A : Type 0} (ts us : List (Bool × Refusal)) (x : A) → AllPass ts
     → guarded (ts ++ us) x ≡ guarded us x
 guarded-passed [] us x h = refl

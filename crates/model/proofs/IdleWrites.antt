@@ -19,7 +19,7 @@ rewritten-kept (Occupied own x) g f same =
     ] same
 rewritten-kept Retired g f same = refl
 
--- where there is no such object, or it stays the same, so does the heap
+-- if there is no such object, or the write leaves it the same, the heap stays the same
 pub with_rewritten-kept : (h : Heap) (r : Ref) (f : Object → Object)
     → ((o : Object) → object_at h r ≡ Some o → f o ≡ o) → with_rewritten h r f ≡ h
 with_rewritten-kept h r f same =
@@ -36,7 +36,7 @@ kept-past (Some x) place v past o is =
     (ap (λ places. record x { places = places })
     (set_out x.places place v (ltb-false place (length x.places) past)))
 
--- where there is no such place, nothing changes
+-- if there is no such place, nothing changes
 pub with_place-kept : (h : Heap) (r : Ref) (place : ℕ) (v : Option Ref)
     → has_place (object_at h r) place ≡ false → with_place h r place v ≡ h
 with_place-kept h r place v past =

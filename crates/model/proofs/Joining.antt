@@ -1,4 +1,4 @@
--- What a node is after it joined a cycle, for the tests of a message that makes it join.
+-- The state of a node after it joined a cycle, for the tests of a message that makes it join.
 use Rattle.std.proofs.Common.{◌≡◌, ℕ, Bool, true, false, cond, not, ◌==◌, ◌&&◌, List, [], ◌∷◌, ◌++◌, length, Option, is_none, eq-eqb, refl, ap, sym, ◌∙◌, ⊎_elim}
 use Rattle.std.proofs.lemmas.Bool.{cases_Bool, cond-true, cond-false}
 use Rattle.std.proofs.Math.Bool.{and-true, and-false}
@@ -32,7 +32,7 @@ calm-none h calm = none_from_length h.grey calm
 pub none-calm : (h : Heap) → h.grey ≡ [] → is_calm h ≡ true
 none-calm h none = ap (λ (z : List ℕ). length z == 0) none
 
--- an unmarked object turns grey, and else nothing changes
+-- an unmarked object turns grey; otherwise nothing changes
 make-grey : (cycle : ℕ) (h : Heap) (r : Ref) → is_unmarked cycle (object_at h r) ≡ true
     → is_calm (make_grey cycle h r) ≡ false
 unfolding make_grey
@@ -116,7 +116,7 @@ pub join-token : (p : LocalState) (cycle : ℕ) → (p.phases.ended == cycle) �
 unfolding enter
 join-token p cycle before = ap (λ (w : Work). w.local.ring.token) (join-built p cycle before)
 
--- it has grey objects where it had some, or where its program holds an unmarked one
+-- it has grey objects if it had some, or if its program holds a reference to an unmarked one
 pub join-calm : (p : LocalState) (cycle : ℕ) → (p.phases.ended == cycle) ≡ false
     → is_calm (join p cycle).local.heap ≡ stays_calm p.own cycle p.heap (filled (roots p.heap))
 unfolding enter
@@ -126,7 +126,7 @@ join-calm p cycle before =
 
 -- ---- the tests of a message that makes the node join
 
--- what they come to on the node as it was
+-- these tests, in terms of the node before it joined
 abbrev pub settles_joining : LocalState → ℕ → Body → Bool
 settles_joining p cycle (body.Token token) = is_none p.ring.token
 settles_joining p cycle body.Ended =

@@ -1,5 +1,5 @@
--- What every event leaves as it was, on the node as it stands, and what it leaves of the numbers
--- taken in: proved once, from what the event does.
+-- What no event changes on the node as the code keeps it, and how an event changes the numbers
+-- received. Both are proved once, from the effect of the event.
 use Rattle.std.proofs.Common.{◌≡◌, ℕ, ◌+◌, ◌<◌, ◌≤◌, ◌==◌, Bool, true, List, [], ◌∷◌, ◌++◌, map, get_or, set, Option, Some, None, option_to_list, Result, Ok, Err, refl, ap, sym, ◌∙◌, subst, ⊎_elim, arith}
 use Rattle.std.specs.Prelude.{nat_lt}
 use Rattle.std.proofs.lemmas.Bool.{cases_Bool, cond_both, leb-true, leb-false, ltb-true, ltb-false}
@@ -30,7 +30,7 @@ use Rattle.model.proofs.Lookups.{map-set_same}
 use Rattle.model.proofs.ShadingParts.{shade_all-closed, shade_all-open, vouch_all-closed, vouch_all-open}
 use Rattle.model.proofs.Shown.{view-ok}
 
--- where a node stands, and in what space, and the numbers that it took in
+-- the same shape, node number and numbers received
 record StandsAs (p q : LocalState) : Type 0 where
   shape : q.shape ≡ p.shape
   own : q.own ≡ p.own
@@ -46,11 +46,11 @@ stands-through first second = record {
   got = second.got ∙ first.got;
 }
 
--- the node, with a message counted as taken in
+-- the node, with a message counted as received
 abbrev counted_in : LocalState → ℕ → ℕ → LocalState
 counted_in p from number = record p { got = set p.got from number }
 
--- the numbers taken in after an event: a message that was taken in is the last one of its sender
+-- the numbers received after an event: a received message is the last one from its sender
 abbrev pub got_after : List ℕ → Event → Result Answer Refusal → List ℕ
 got_after got (event.Data d) (Ok answer.Received) = set got d.from d.number
 got_after got e r = got
@@ -223,7 +223,7 @@ let_go-kept links (Some a) = map-set_same kept_of links a.from _ no_link refl
 let_go-none : (links : List Link) (o : Option Ack) → o ≡ None → let_go links o ≡ links
 let_go-none links o none = ap (let_go links) none
 
--- an answered event: the effect that the node has afterwards, of which every test passed
+-- an answered event: every test passed, and the node and the answer are those of the effect
 record Answered (n new : NodeView) (e : Event) (a : Answer) : Type 0 where
   passed : AllPass (tests n.local e)
   now : new ≡ record n {
@@ -251,7 +251,7 @@ answered n new e a h =
       answer = found.3 ∙ ap (λ (z : Effect). z.answer) (sym same);
     }
 
--- what a call made of an event left as every event leaves it
+-- a call for an event leaves what every event leaves
 pub act-leaves : (n new : NodeView) (e : Event) (r : Result Answer Refusal)
     → Performed (is_shading e) r n new (view_act n e) → Leaves n new e
 unfolding view_act
@@ -285,7 +285,7 @@ got-refused : (got : List ℕ) (e : Event) (f : Refusal) → got_after got e (Er
 got-refused got (event.Data d) f = refl
 got-refused got e f = refl
 
--- what a call made of an event, and the numbers taken in
+-- the numbers received after a call for an event
 pub act-got : (n new : NodeView) (e : Event) (r : Result Answer Refusal)
     → Performed (is_shading e) r n new (view_act n e)
     → new.local.got ≡ got_after n.local.got e r
@@ -296,8 +296,8 @@ act-got n new e (Ok a) p =
     ap (λ (v : NodeView). v.local.got) h.now ∙ (made-stands n.local (map used n.links) e).got
     ∙ ap (λ (z : Answer). got_after n.local.got e (Ok z)) (sym h.answer)
 
--- A message that was answered was taken in before; or it is ahead of its turn, but within the
--- window; or its turn has come.
+-- An answered message is a repeat; or it is ahead of its turn, but within the window; or its turn
+-- has come.
 pub data Turned (p : LocalState) (d : Data) (a : Answer) : Type 0 where
   again : d.number ≤ got_from p d.from → a ≡ answer.Repeat → Turned p d a
   ahead : got_from p d.from + 1 < d.number → d.number ≤ got_from p d.from + WINDOW

@@ -1,11 +1,12 @@
--- Look-ups in lists, alone and side by side.
+-- Look-ups in one list, and in two lists side by side.
 use Rattle.std.proofs.Common.{◌≡◌, ℕ, zero, suc, ◌+◌, ◌<◌, List, [], ◌∷◌, ◌++◌, length, map, take, drop, get_or, set, slice_get, replicate, ap, sym, ◌∙◌, refl, arith}
 use Rattle.std.specs.List.{AllByRecursion}
 use Rattle.std.proofs.lemmas.List.{take-append-drop}
 
--- What holds at a place of two lists of one length still holds after a write to one place of both.
+-- A relation that holds at each index of two lists of one length still holds after a write to one
+-- index of both.
 module _ {A B : Type 0} (P : A → B → Type 0) (d : A) (e : B) (x : A) (y : B) where
-  -- where it holds of what was written if that place was written
+  -- if it holds of the written elements in case this index was written
   pub both_set_if : (xs : List A) (ys : List B) (i : ℕ) → length xs ≡ length ys → (k : ℕ)
       → (i ≡ k → P x y) → P (get_or xs k d) (get_or ys k e)
       → P (get_or (set xs i x) k d) (get_or (set ys i y) k e)
@@ -18,13 +19,13 @@ module _ {A B : Type 0} (P : A → B → Type 0) (d : A) (e : B) (x : A) (y : B)
   both_set_if (a ∷ xs) (b ∷ ys) (suc i) w (suc k) p h =
       both_set_if xs ys i (omega arith) k (λ q. p (ap suc q)) h
 
-  -- where it holds of what was written, wherever that went, and held everywhere
+  -- if it holds of the written elements, whichever index was written
   pub both_set : (xs : List A) (ys : List B) (i : ℕ) → length xs ≡ length ys → P x y
       → ((k : ℕ) → P (get_or xs k d) (get_or ys k e)) → (k : ℕ)
       → P (get_or (set xs i x) k d) (get_or (set ys i y) k e)
   both_set xs ys i w p h k = both_set_if xs ys i w k (λ _. p) (h k)
 
--- two lists of one length that two functions can't tell apart at any place
+-- two functions that agree at every index of two lists of one length give the same list
 pub maps_agree : {A B : Type 0} (f : A → ℕ) (g : B → ℕ) (xs : List A) (ys : List B) (d : A) (e : B)
     → length xs ≡ length ys → ((k : ℕ) → f (get_or xs k d) ≡ g (get_or ys k e))
     → map f xs ≡ map g ys
@@ -36,8 +37,8 @@ maps_agree f g (a ∷ xs) (b ∷ ys) d e w h =
     let others : map f xs ≡ map g ys = maps_agree f g xs ys d e (omega arith) (λ j. h (suc j)) in
     cc
 
--- what holds at a place still holds after a write, where it holds of what was written if
--- that place was written
+-- a property of the element at an index still holds after a write, if it holds of the written
+-- element in case this index was written
 pub at_set_if : {A : Type 0} (P : A → Type 0) (xs : List A) (i k : ℕ) (x d : A) → (i ≡ k → P x)
     → P (get_or xs k d) → P (get_or (set xs i x) k d)
 at_set_if P [] i k x d p h = h
@@ -46,12 +47,12 @@ at_set_if P (a ∷ xs) zero (suc k) x d p h = h
 at_set_if P (a ∷ xs) (suc i) zero x d p h = h
 at_set_if P (a ∷ xs) (suc i) (suc k) x d p h = at_set_if P xs i k x d (λ e. p (ap suc e)) h
 
--- the same where it holds of what was written, wherever that went
+-- the same if it holds of the written element, whichever index was written
 pub at_set : {A : Type 0} (P : A → Type 0) (xs : List A) (i k : ℕ) (x d : A) → P x
     → P (get_or xs k d) → P (get_or (set xs i x) k d)
 at_set P xs i k x d p h = at_set_if P xs i k x d (λ _. p) h
 
--- what holds at each place holds for one more element at the end
+-- a property of the element at each index still holds after one more element is appended
 pub at_push : {A : Type 0} (P : A → Type 0) (xs : List A) (k : ℕ) (x d : A) → P x → P d
     → P (get_or xs k d) → P (get_or (xs ++ x ∷ []) k d)
 at_push P [] zero x d p q h = p
@@ -59,7 +60,7 @@ at_push P [] (suc k) x d p q h = q
 at_push P (a ∷ xs) zero x d p q h = h
 at_push P (a ∷ xs) (suc k) x d p q h = at_push P xs k x d p q h
 
--- a write that a function can't tell from what stood there
+-- a write that doesn't change the function's value there
 pub map-set_same : {A B : Type 0} (f : A → B) (xs : List A) (i : ℕ) (x d : A)
     → f x ≡ f (get_or xs i d) → map f (set xs i x) ≡ map f xs
 map-set_same f [] i x d h = refl
@@ -67,19 +68,19 @@ map-set_same {B = B} f (a ∷ xs) zero x d h = ap (λ (z : B). z ∷ map f xs) h
 map-set_same {B = B} f (a ∷ xs) (suc i) x d h =
     ap (λ (z : List B). f a ∷ z) (map-set_same f xs i x d h)
 
--- what holds of each element, where something else follows from it
+-- if P implies Q, and P holds of each element, then so does Q
 pub all-map : {A : Type 0} (P Q : A → Type 0) → ((x : A) → P x → Q x) → (xs : List A)
     → AllByRecursion P xs → AllByRecursion Q xs
 all-map P Q each [] all = tt
 all-map P Q each (x ∷ xs) all = (each x all.0, all-map P Q each xs all.1)
 
--- a list of one value has it everywhere, and past the end
+-- a list of one repeated value has it at every index, and past the end
 pub get_or-replicate_any : {A : Type 0} (n k : ℕ) (a : A) → get_or (replicate n a) k a ≡ a
 get_or-replicate_any zero k a = refl
 get_or-replicate_any (suc n) zero a = refl
 get_or-replicate_any (suc n) (suc k) a = get_or-replicate_any n k a
 
--- what stands at a place of the first of two lists, of the front of a list, and of its end
+-- the element at an index: of the first of two lists, of the front of a list, and of its rest
 pub slice_get-left : {A : Type 0} (xs ys : List A) (k : ℕ) → k < length xs
     → slice_get (xs ++ ys) k ≡ slice_get xs k
 slice_get-left [] ys k h = absurd (omega arith)

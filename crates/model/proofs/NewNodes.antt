@@ -1,4 +1,4 @@
--- A new node: nothing was sent, so it shows a new state, and all counts as saved.
+-- A new node: nothing was sent, so it shows a new state, and everything counts as saved.
 use Rattle.std.proofs.Common.{◌≡◌, ℕ, zero, suc, List, [], ◌∷◌, length, map, get_or, replicate, refl, ap, sym, ◌∙◌, subst, arith}
 use Rattle.std.proofs.lemmas.List.{length-replicate}
 use Rattle.ids.specs.Limits.{Shaped}
@@ -25,7 +25,7 @@ new-shown shape own = record {
       (record { within = omega arith; unacknowledged = refl }));
 }
 
--- a saved node holds all that was sent
+-- a saved node holds everything that was sent
 pub new-counted : (shape : Shaped) (own j : ℕ)
     → (link_to (new_view shape own) j).kept ≡ length (sent_to (new_node shape own) j)
 new-counted shape own j = ap (λ (l : Link). l.kept) (new-link shape own j)

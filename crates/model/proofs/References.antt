@@ -29,7 +29,7 @@ empty_place P zero j = tt
 empty_place P (suc n) zero = tt
 empty_place P (suc n) (suc j) = empty_place P n j
 
--- a new heap holds none
+-- a new heap holds no references
 pub holds-new_heap : (P : Ref → Type 0) (shape : Shaped) → HoldsOnly P (new_heap shape)
 holds-new_heap P shape = record {
   registers = λ k. empty_place P shape.registers k;
@@ -37,7 +37,7 @@ holds-new_heap P shape = record {
   places = λ k g o j e. absurd cc;
 }
 
--- every object of the slot, if it has one, holds only such references
+-- if the slot has an object, that object holds only such references
 abbrev SlotHolds : (P : Ref → Type 0) → Slot → Type 0
 SlotHolds P s = (g : ℕ) (o : Object) (j : ℕ) → s ≡ Occupied g o → IfAny P (get_or o.places j None)
 
@@ -70,7 +70,7 @@ holds-with_object P h cycle places all = record {
       places-slots_with P h.free h.slots cycle places k (λ g o j. all.places k g o j) g o j e;
 }
 
--- a rewritten object, where what rewrites it keeps the property of its places
+-- rewriting an object keeps the property, if the rewriting function keeps it
 rewritten_slot : (P : Ref → Type 0) (f : Object → Object) (generation : ℕ) (s : Slot)
     → ((o : Object) (j : ℕ) → IfAny P (get_or o.places j None)
     → IfAny P (get_or (f o).places j None)) → SlotHolds P s → SlotHolds P (rewritten f generation s)
@@ -114,14 +114,14 @@ place_of-object P (Occupied g o) generation place h =
     (λ _. h g o place refl) (λ _. tt)
 place_of-object P Retired generation place h = tt
 
--- what stands in a place has the property
+-- the reference in a place has the property
 pub holds-place_of : (P : Ref → Type 0) (h : Heap) (r : Ref) (place : ℕ) → HoldsOnly P h
     → IfAny P (place_of (object_at h r) place)
 holds-place_of P h r place all =
     place_of-object P (get_or h.slots r.slot Retired) r.generation place
     (λ g o j. all.places r.slot g o j)
 
--- a letter comes, and the oldest letter leaves
+-- a letter is added, and the oldest letter leaves
 pub holds-with_letter : (P : Ref → Type 0) (h : Heap) (l : Letter) → HoldsOnly P h
     → IfAny P l.reference → HoldsOnly P (with_letter h l)
 holds-with_letter P h l all here = record {
@@ -141,7 +141,7 @@ holds-letter_gone P h all = record {
   places = all.places;
 }
 
--- another property, which follows
+-- if P implies Q, and all references have P, then all have Q
 pub holds-map : (P Q : Ref → Type 0) → ((r : Ref) → P r → Q r) → (h : Heap) → HoldsOnly P h
     → HoldsOnly Q h
 holds-map P Q each h all = record {
@@ -163,7 +163,7 @@ pub list-any : (P : Ref → Type 0) (v : Option Ref) → AllByRecursion P (optio
 list-any P None h = tt
 list-any P (Some r) h = h.0
 
--- a reference that is there
+-- a reference that is present
 pub any-there : (P : Ref → Type 0) (v : Option Ref) (r : Ref) → is_some v ≡ true → IfAny P v
     → P (unwrap_or v r)
 any-there P None r there h = absurd cc
@@ -249,14 +249,14 @@ holds-sweep_some P cycle k zero s all = all
 holds-sweep_some P cycle k (suc n) s all =
     holds-sweep_some P cycle (k + 1) n (sweep_one cycle k s) (holds-sweep_one P cycle k s all)
 
--- ---- what is shaded together
+-- ---- references that are shaded together
 
 pub all-append : {X : Type 0} (P : X → Type 0) (xs ys : List X) → AllByRecursion P xs
     → AllByRecursion P ys → AllByRecursion P (xs ++ ys)
 all-append P [] ys first second = second
 all-append P (x ∷ xs) ys first second = (first.0, all-append P xs ys first.1 second)
 
--- what is there of a list has the property that each has
+-- the references that are present in a list have the property that all in the list have
 pub holds-filled : (P : Ref → Type 0) (os : List (Option Ref))
     → ((k : ℕ) → IfAny P (get_or os k None)) → AllByRecursion P (filled os)
 holds-filled P [] h = tt
@@ -272,7 +272,7 @@ letter-references P [] h k = tt
 letter-references P (l ∷ ls) h zero = h zero
 letter-references P (l ∷ ls) h (suc k) = letter-references P ls (λ i. h (suc i)) k
 
--- what programs hold
+-- the roots of a program
 pub holds-roots : (P : Ref → Type 0) (h : Heap) → HoldsOnly P h
     → AllByRecursion P (filled (roots h))
 holds-roots P h all =
@@ -287,7 +287,7 @@ places_in_slot P (Free g) h = tt
 places_in_slot P (Occupied g o) h = holds-filled P o.places (λ j. h g o j refl)
 places_in_slot P Retired h = tt
 
--- what the places of a slot's object hold
+-- the references in the places of a slot's object
 pub holds-places : (P : Ref → Type 0) (h : Heap) (k : ℕ) → HoldsOnly P h
     → AllByRecursion P (filled (places_in (slot_at h k)))
 holds-places P h k all = places_in_slot P (slot_at h k) (λ g o j. all.places k g o j)

@@ -1,5 +1,5 @@
--- References are shaded and vouched for part by part: what becomes of the heap, what is asked for,
--- and the Marks that are sent may be told apart, and so may be done in any order.
+-- Shading and vouching for a list of references, in separate parts: the heap, the references asked
+-- for, and the Marks that are sent. So these parts may be done in any order.
 use Rattle.std.proofs.Common.{◌≡◌, ℕ, ℤ, pos, ◌+ℤ◌, true, false, cond, ◌==◌, ◌||◌, List, [], ◌∷◌, ◌++◌, length, Option, option_to_list, refl, ap, sym, ◌∙◌, ⊎_elim, arith, append_assoc, append-nil}
 use Rattle.std.specs.List.{AllByRecursion}
 use Rattle.std.proofs.lemmas.Bool.{cases_Bool, cond_both, cond-true, cond-false, or_left, or_right}
@@ -23,7 +23,7 @@ met-here w r new opened here =
     cond-true (is_open w.local) _ w opened
     ∙ cond-true (r.node == w.local.own) (shade_local w r) _ here
 
--- another node's
+-- a reference to another node's object
 abbrev if_known : Work → Ref → Work → Work
 if_known w r new = cond (is_in r w.local.asked) w new
 
@@ -43,9 +43,9 @@ met-new : (w : Work) (r : Ref) (new : Work) → is_open w.local ≡ true
 met-new w r new opened far fresh =
     met-far w r new opened far ∙ cond-false (is_in r w.local.asked) w new fresh
 
--- ---- many
+-- ---- many references
 
--- a node with these parts of its own
+-- a node with these parts replaced
 abbrev pub built : LocalState → Heap → List Ref → ℤ → List (ℕ × Message) → Work
 built p h asked z sends =
     record {
@@ -122,7 +122,7 @@ vouch_all-closed w [] shut = refl
 vouch_all-closed w (r ∷ rs) shut = ap (λ (x : Work). vouch_all x rs) (met-closed w r _ shut)
     ∙ vouch_all-closed w rs shut
 
--- the node with one reference shaded, when what it comes to is known
+-- shading one more reference, for each of the three cases: an own object, one known, one new
 shaded-here : (p : LocalState) (sends : List (ℕ × Message)) (r : Ref) (rs : List Ref)
     → (r.node == p.own) ≡ true
     → shaded_work (record p { heap = make_grey p.phases.cycle p.heap r }) sends rs
@@ -148,7 +148,7 @@ shaded-known p sends r rs far known =
     (ap (λ (us : List Ref). p.ring.earlier +ℤ pos (length us)) none)
     (ap (λ (us : List Ref). sends ++ marks_for p.phases.cycle us) none)
 
--- what a new reference of another node leaves
+-- the node after it asked for one new reference
 abbrev asked_once : LocalState → Ref → LocalState
 asked_once p r =
     record p {
@@ -194,7 +194,7 @@ shade_all-open p sends (r ∷ rs) opened =
     (cases_Bool (is_in r p.asked)))
     (cases_Bool (r.node == p.own))
 
--- the same for vouching, which leaves the balance and sends nothing
+-- the same for vouching, which doesn't change the balance and sends nothing
 vouched-same : (p : LocalState) (sends : List (ℕ × Message)) (h g : Heap) (asked known : List Ref)
     → h ≡ g → asked ≡ known → noted p h asked sends ≡ noted p g known sends
 vouched-same p sends h g asked known a b =
@@ -265,7 +265,7 @@ make_all_grey-append own cycle h [] us = refl
 make_all_grey-append own cycle h (r ∷ rs) us =
     make_all_grey-append own cycle (cond (r.node == own) (make_grey cycle h r) h) rs us
 
--- what holds of all references holds of those among them that weren't asked for
+-- a property of all references is one of those among them that weren't asked for
 pub unasked-all : (P : Ref → Type 0) (own : ℕ) (asked rs : List Ref) → AllByRecursion P rs
     → AllByRecursion P (unasked own asked rs)
 unasked-all P own asked [] all = tt

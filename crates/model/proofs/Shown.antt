@@ -1,5 +1,5 @@
--- An event on a node that keeps windows is the event on every state that it shows: proved
--- once, for all events.
+-- An event on a node that keeps windows is the event on every state that it shows. This is proved
+-- once for all events.
 use Rattle.std.proofs.Common.{◌≡◌, ℕ, ◌+◌, ◌-◌, ◌<◌, ◌≤◌, min, Bool, true, false, List, [], ◌∷◌, ◌++◌, length, map, drop, get_or, set, Option, Some, None, Result, Ok, Err, refl, ap, sym, ◌∙◌, subst, ⊎_elim, arith, length-append, append-nil}
 use Rattle.std.specs.Prelude.{nat_le, IsOk}
 use Rattle.std.proofs.Math.Nat.{min-le_right, min-eq_left, min-eq_right}
@@ -24,7 +24,7 @@ use Rattle.model.proofs.Checks.{guarded-ok, guarded-passes, guarded-pass, guarde
 use Rattle.model.proofs.Lookups.{both_set, maps_agree}
 use Rattle.std.proofs.lemmas.List.{length-set, length-drop, drop-drop, drop-append-le, set-get_or}
 
--- one link more message
+-- one more message on a link
 shows_appended : (l : Link) (sent : List Message) (x : Message) → ShowsSent l sent
     → ShowsSent (appended l x) (sent ++ x ∷ [])
 shows_appended l sent x h = record {
@@ -55,7 +55,7 @@ counts_agree : (n : NodeView) (s : NodeState) → Shows n s → map used n.links
 counts_agree n s h =
     maps_agree used length n.links s.sent no_link [] h.width (λ k. used_is _ _ (h.links k))
 
--- letting go of messages shows the same
+-- a link shows the same messages after some were dropped
 shows_trimmed : (l : Link) (sent : List Message) (number : ℕ) → ShowsSent l sent
     → ShowsSent (trimmed l number) sent
 shows_trimmed l sent number h =
@@ -98,7 +98,7 @@ shows_let_go links sent (Some a) h = record {
       (shows_trimmed _ _ a.number (h.each a.from)) h.each);
 }
 
--- the tests of an acknowledgement that a state can't make
+-- the tests on the code's node: also those of an acknowledgement, which a state can't make
 abbrev unheard : List (Bool × Refusal) → NodeView → Option Ack → List (Bool × Refusal)
     → List (Bool × Refusal)
 unheard ts n o us = (ts ++ ack_tests n o) ++ us
@@ -145,7 +145,7 @@ spent-told : (o : Option Ack) (e : Refusal) → e ≡ LinkSpent → IsTold o e
 spent-told None e h = tt
 spent-told (Some a) e h = λ beyond. let wrong : LinkSpent ≡ AckBeyond = sym h ∙ beyond in absurd cc
 
--- what memory is refused in place of: of the state the same as of the node as it stands
+-- `Memory` replaces the same results on the state as on the code's node
 module _ (n : NodeView) (s : NodeState) (o : Option Ack) (links : List Link)
     (ts f : List (Bool × Refusal)) (x : Effect) where
   spent-heard : (r : Result Effect Refusal) → guarded (unheard ts n o f) x ≡ r
@@ -172,7 +172,7 @@ module _ (n : NodeView) (s : NodeState) (o : Option Ack) (links : List Link)
   replaced-heard true h =
       spent-heard (guarded (unheard ts n o f) x) refl h
 
--- the tests, the number of messages and the effect are those of the state
+-- the tests, the numbers of messages and the effect are those of the state
 module _ (n : NodeView) (s : NodeState) (e : Event) (ts f : List (Bool × Refusal)) (x : Effect)
   where
     follows_effect : (new : NodeView) (r : Result Answer Refusal) → Shows n s
@@ -218,8 +218,8 @@ module _ (n : NodeView) (s : NodeState) (e : Event) (ts f : List (Bool × Refusa
           (p.1 full)),
     )
 
--- What a node answered to an event, and the node after it, follow the event on every
--- state that it shows.
+-- A node's result for an event, and the node after it, follow the event on every state that the
+-- node shows.
 pub act-shown : (n new : NodeView) (e : Event) (r : Result Answer Refusal)
     → Performs (is_shading e) r new (view_act n e) → (s : NodeState) → Shows n s
     → Follows e r new (act s e)
@@ -244,7 +244,7 @@ act-shown n new e r p s h =
     ((fits (map length s.sent) (made s.local (map length s.sent) e).sends, LinkSpent) ∷ [])
     (made s.local (map length s.sent) e) new r h ready
 
--- a message that the node may take in, in its turn
+-- a message that the node may receive in its turn
 pub view-taken_in : (n : NodeView) (d : Data) → is_addressed n.local d.from d.to ≡ true
     → d.number ≡ got_from n.local d.from + 1 → may_take n.local d.from d.stamp d.body ≡ true
     → view_act n (event.Data d)
@@ -301,7 +301,7 @@ ack-passes n new a x h =
           }) (sym same),
     )
 
--- an acknowledgement that was answered is of released messages, and lets go of them
+-- an answered acknowledgement is of released messages, and drops them
 pub ack-done : (n new : NodeView) (a : Ack) (x : Answer) → view_act n (event.Ack a) ≡ Ok (new, x)
     → (a.number ≤ (link_to n a.from).kept)
     × (new ≡ record n { links = set n.links a.from (trimmed (link_to n a.from) a.number) })
@@ -309,7 +309,7 @@ ack-done n new a x h =
     let found = ack-passes n new a x h in
     (leb-true _ _ found.1.1.0, found.2)
 
--- one that is addressed to the node is refused for what wasn't released alone
+-- if it is addressed to the node, it is refused only if it goes beyond what was released
 pub ack-refused : (n : NodeView) (a : Ack) (e : Refusal) → is_addressed n.local a.from a.to ≡ true
     → view_act n (event.Ack a) ≡ Err e → (e ≡ AckBeyond) × ((link_to n a.from).kept < a.number)
 unfolding view_act

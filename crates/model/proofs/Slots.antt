@@ -1,4 +1,4 @@
--- What stands in slots.
+-- The content of slots.
 use Rattle.std.proofs.Common.{◌≡◌, ◌≢◌, ℕ, ◌<◌, ◌==◌, true, List, length, get_or, Option, None, Some, refl, sym, ap, ◌∙◌, ⊎_elim}
 use Rattle.std.proofs.lemmas.Bool.{cases_lt, cond_both, cond-true, eqb-true, eq-eqb, not_from_true, both_ways}
 use Rattle.std.proofs.lemmas.List.{get_or_past}
@@ -19,7 +19,7 @@ occupied-within slots k g o there =
     slot-within slots k (λ (e : get_or slots k Retired ≡ Retired).
     absurd (let both : Retired ≡ Occupied g o = sym e ∙ there in cc))
 
--- the same slot, the same object
+-- the same slot has the same object
 pub same-object : (s : Slot) (g : ℕ) (x y : Object) → s ≡ Occupied g x → s ≡ Occupied g y → x ≡ y
 same-object s g x y a b = let both : Occupied g x ≡ Occupied g y = sym a ∙ b in cc
 
@@ -39,7 +39,7 @@ pub found-object : (h : Heap) (r : Ref) (o : Object) → object_at h r ≡ Some 
     → slot_at h r.slot ≡ Occupied r.generation o
 found-object h r o found = object-in (slot_at h r.slot) r.generation o found
 
--- an unmarked object is there
+-- an unmarked object exists
 pub unmarked-there : (cycle : ℕ) (o : Option Object) → is_unmarked cycle o ≡ true
     → (x : Object) × (o ≡ Some x) × (x.mark ≢ cycle)
 unmarked-there cycle None h = absurd cc

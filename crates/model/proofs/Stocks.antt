@@ -19,7 +19,7 @@ use Rattle.model.proofs.Slots.{slot-within, occupied-within, found-object, unmar
 
 -- ---- lists
 
--- one element more, which differs from those before it
+-- one more element, which differs from those before it
 pub distinct-push : {A : Type 0} (same : A → A → Bool) (xs : List A) (x : A) → IsDistinct same xs
     → AllByRecursion (λ (y : A). same y x ≡ false) xs → IsDistinct same (xs ++ x ∷ [])
 unfolding IsDistinct
@@ -127,7 +127,7 @@ module _ (shape : Shaped) (own cycle ended : ℕ) (h : Heap) (old : IsStocked sh
 
     -- ---- slots
 
-    -- a list of slots in which what was marked still is
+    -- a list of slots in which every marked slot is still marked
     stocked-slots : (slots : List Slot) (free : List ℕ)
         → ((k : ℕ) → IsSlotOf cycle (get_or slots k Retired))
         → ((k : ℕ) → HasMarked cycle (slot_at h k) → HasMarked cycle (get_or slots k Retired))
@@ -187,7 +187,7 @@ module _ (shape : Shaped) (own cycle ended : ℕ) (h : Heap) (old : IsStocked sh
             at_set (HasMarked cycle) h.slots j k
             (Occupied (next_generation (slot_at h j)) (new_object cycle places)) Retired refl there
 
-    -- an object is rewritten, which keeps how many places it has, and a mark of this cycle
+    -- an object is rewritten, which keeps its number of places, and a mark of this cycle
 
     rewritten-slot : (f : Object → Object) (generation : ℕ) (s : Slot)
         → ((g : ℕ) (o : Object) → IsObject cycle g o → IsObject cycle g (f o)) → IsSlotOf cycle s
@@ -304,7 +304,7 @@ module _ (shape : Shaped) (own cycle ended : ℕ) (h : Heap) (old : IsStocked sh
               calm = λ done. absurd (opened done);
             }
 
-    -- the last one is scanned, and a sweep and a later cycle find none
+    -- the last grey object is scanned; a sweep and a later cycle find no grey objects
 
     pub stocked-scanned : IsStocked shape own cycle ended (without_last_grey h)
     stocked-scanned = record {
@@ -348,7 +348,7 @@ stocked-greyed shape own cycle ended h (r ∷ rs) opened old =
     (λ _. stocked-make_grey shape own cycle ended h old r opened)
     (λ _. old))
 
--- ---- slots are swept, where nothing is grey
+-- ---- slots are swept while no object is grey
 
 vacated-sound : (cycle of : ℕ) (s : Slot) → is_garbage of s ≡ true → IsSlotOf cycle s
     → IsSlotOf cycle (vacated_slot (generation_in s))

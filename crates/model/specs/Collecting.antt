@@ -1,5 +1,5 @@
--- A node's own steps of a collection cycle ("Cycles" in docs/RULES.md): it begins, grey objects are
--- scanned, the token goes round as in EWD998, and what isn't marked is swept.
+-- A node's own steps of a collection cycle ("Cycles" in docs/RULES.md). The node begins the cycle,
+-- scans grey objects, passes the token as in EWD998, and sweeps what isn't marked.
 use Rattle.std.specs.Prelude.{ℕ, zero, suc, min, ◌+◌, ◌-◌, ◌+ℤ◌, ◌%◌, pos, ℤ, Bool, true, false, cond, not, nat_lt, ◌==◌, ◌&&◌, List, [], ◌∷◌, length, drop, Option, None, is_some, slice_set}
 use Rattle.std.specs.Int.{w64, int_wrap}
 use Rattle.std.specs.List.{list_all}
@@ -31,39 +31,40 @@ whitened r = record r { colour = White }
 abbrev pub without_token : Ring → Ring
 without_token r = record r { token = None }
 
--- a probe starts with a white token and nothing counted
+-- the token with which a probe starts: white, with the sum 0
 abbrev pub new_token : Token
 new_token = record { colour = White; q = pos 0 }
 
 abbrev pub token_of : Ring → Token
 token_of r = unwrap_or r.token new_token
 
--- the token's sum with the node's balance, in two's complement of 64 bits
+-- the token's sum plus the node's balance, in two's complement of 64 bits
 abbrev pub sum_of : Ring → ℤ
 sum_of r = int_wrap w64 ((token_of r).q +ℤ r.earlier)
 
--- the token as the node hands it on: black where the node is
+-- the token as the node passes it on: black if the node is black
 abbrev pub forwarded : Ring → Token
 forwarded r =
     record { colour = cond (is_white r.colour) (token_of r).colour Black; q = sum_of r }
 
--- node 0 sees that nobody was black, and that all that was counted has arrived
+-- Node 0 finds that no node was black and that all counted messages have arrived: node 0 and the
+-- token are white, and the sum is 0.
 abbrev pub is_concluded : Ring → Bool
 is_concluded r =
     is_white r.colour && (is_white (token_of r).colour && int_eq (sum_of r) (pos 0))
 
--- the token comes to a node from the next one, and to the last one from node 0
+-- the token comes from the next node; to the last node it comes from node 0
 abbrev pub token_sender : LocalState → ℕ
 token_sender p = (p.own + 1) % p.shape.nodes
 
--- node 0 sends the token round
+-- node 0 sends a new token around the ring
 unfoldable pub probe : LocalState → Work
 probe p =
     append (p.shape.nodes - 1) (body.Token new_token) (record p { ring = whitened p.ring })
 
 -- ---- Begin
 
--- the last cycle is swept here, and all others have reported it
+-- node 0 has swept the last cycle, and all other nodes have reported it as swept
 abbrev pub is_swept_everywhere : Phases → Bool
 is_swept_everywhere ph =
     (ph.swept == ph.cycle) && list_all (λ report. report == ph.cycle) (drop 1 ph.reports)
@@ -75,7 +76,7 @@ begin_tests p =
     ∷ (nat_lt p.phases.cycle GREATEST_CYCLE, CyclesSpent)
     ∷ []
 
--- node 0 joins the next cycle, sends the token round, and tells the others
+-- node 0 joins the next cycle, starts a probe, and sends Begin to the others
 unfoldable pub begun : LocalState → Effect
 begun p =
     answers
@@ -87,7 +88,7 @@ begun p =
 abbrev pub scan_tests : LocalState → List (Bool × Refusal)
 scan_tests p = (not (is_calm p.heap), NothingToDo) ∷ []
 
--- The generation and the places of the object in a slot. A slot with none has no places.
+-- The generation of a slot, and the places of its object. A slot without an object has no places.
 abbrev pub generation_in : Slot → ℕ
 generation_in (Free g) = g
 generation_in (Occupied g o) = g
@@ -106,7 +107,7 @@ scanned_reference p =
       generation = generation_in (slot_at p.heap (last_grey p.heap));
     }
 
--- the last grey object leaves the list, and what its places hold is shaded in order
+-- the last grey object leaves the list, and the references in its places are shaded in order
 unfoldable pub scan : LocalState → Work
 scan p =
     shade_all
@@ -123,7 +124,7 @@ abbrev pub pass_tests : LocalState → List (Bool × Refusal)
 pass_tests p =
     (is_some p.ring.token, NothingToDo) ∷ (is_calm p.heap, NothingToDo) ∷ []
 
--- marking has ended, which the others are told
+-- marking has ended, and node 0 sends Ended to the others
 unfoldable pub conclude : LocalState → Work
 conclude p =
     announce
@@ -133,7 +134,7 @@ conclude p =
       ring = without_token p.ring;
     })
 
--- node 0 concludes, or sends the token round again
+-- node 0 concludes that marking has ended, or starts another probe
 abbrev pub judged : LocalState → Effect
 judged p =
     cond
@@ -141,7 +142,7 @@ judged p =
     (answers (conclude p) (answer.Ended p.phases.cycle))
     (answers (probe (record p { ring = without_token p.ring })) answer.ProbeAgain)
 
--- another node hands the token on to the one before it
+-- another node passes the token to the node before it
 abbrev pub handed_on : LocalState → Effect
 handed_on p =
     answers
@@ -162,7 +163,8 @@ is_garbage cycle (Free g) = false
 is_garbage cycle (Occupied g o) = not (o.mark == cycle)
 is_garbage cycle Retired = false
 
--- A freed slot is the next to be used, with the next generation. After the last one it is retired.
+-- A freed slot is the next to be used, with the next generation. After the last generation it is
+-- retired.
 abbrev pub vacated_slot : ℕ → Slot
 vacated_slot g = cond (g == GREATEST_GENERATION) Retired (Free (g + 1))
 
@@ -176,7 +178,7 @@ vacated h k g =
       free = vacated_free k g h.free;
     }
 
--- a heap, and how many of its objects were freed so far
+-- a heap, and how many of its objects have been freed so far
 pub record Sweeping : Type 0 where
   pub heap : Heap
   pub freed : ℕ
@@ -191,7 +193,7 @@ sweep_one cycle k s =
     })
     s
 
--- so many slots, from slot k on
+-- this many slots, from slot k on
 abbrev pub sweep_some : ℕ → ℕ → ℕ → Sweeping → Sweeping
 sweep_some cycle k zero s = s
 sweep_some cycle k (suc n) s = sweep_some cycle (k + 1) n (sweep_one cycle k s)
@@ -199,7 +201,7 @@ sweep_some cycle k (suc n) s = sweep_some cycle (k + 1) n (sweep_one cycle k s)
 abbrev pub sweep_tests : LocalState → List (Bool × Refusal)
 sweep_tests p = (nat_lt p.phases.swept p.phases.ended, NothingToDo) ∷ []
 
--- how many slots are left to be swept, and how many of them are looked at
+-- how many slots are still to be swept, and how many of them this sweep looks at
 abbrev pub unswept : LocalState → ℕ
 unswept p = length p.heap.slots - p.phases.cursor
 
@@ -217,7 +219,7 @@ sweeping p count =
     (looked_at p count)
     (record { heap = p.heap; freed = 0 })
 
--- once all slots are swept the cycle is, and the cursor waits for the next one
+-- once all slots are swept, the cycle counts as swept, and the cursor is 0 for the next one
 abbrev pub after_sweep : LocalState → ℕ → LocalState
 after_sweep p count =
     record p {
@@ -228,7 +230,7 @@ after_sweep p count =
       };
     }
 
--- a node other than 0 then reports to it
+-- a node other than node 0 then reports this to node 0
 abbrev pub reports_sweep : LocalState → ℕ → Bool
 reports_sweep p count = sweeps_last p count && not (p.own == 0)
 

@@ -9,20 +9,20 @@ use Rattle.model.specs.declared.balance.Balance.TheVariants.{Earlier, Recent}
 use Rattle.model.specs.State.{Ring, LocalState}
 use Rattle.model.specs.Effects.{Work}
 
--- a body that carries references, whether or not the one that may be left out is there
+-- a body that carries references, even if an optional one is absent
 abbrev pub is_reference : Body → Bool
 is_reference (body.Give label reference) = true
 is_reference (body.Put target place reference) = true
 is_reference (body.Get target place label) = true
 is_reference b = false
 
--- references count with those of the cycle that they were sent in
+-- a message with references counts as earlier if its stamp is below the node's cycle
 abbrev pub reference_balance : ℕ → ℕ → Balance
 reference_balance cycle stamp = cond (nat_lt stamp cycle) Earlier Recent
 
--- The balance that a message of this stamp counts in at a node of this cycle, whether the node
--- sends it or takes it in. Marks always count in the present cycle, and what neither marks nor
--- carries references counts in none.
+-- The balance in which a node of this cycle counts a message of this stamp, both when it sends it
+-- and when it receives it. Marks always count in the present cycle. Messages that are not Marks and
+-- carry no references aren't counted.
 abbrev pub balance_of : ℕ → ℕ → Body → Option Balance
 balance_of cycle stamp (body.Mark target) = Some Earlier
 balance_of cycle stamp (body.Give label reference) = Some (reference_balance cycle stamp)
@@ -30,23 +30,23 @@ balance_of cycle stamp (body.Put target place reference) = Some (reference_balan
 balance_of cycle stamp (body.Get target place label) = Some (reference_balance cycle stamp)
 balance_of cycle stamp b = None
 
--- one more was sent
+-- one more message was sent
 abbrev pub counted_up : Option Balance → Ring → Ring
 counted_up (Some Earlier) r = record r { earlier = r.earlier +ℤ pos 1 }
 counted_up (Some Recent) r = record r { recent = r.recent +ℤ pos 1 }
 counted_up None r = r
 
--- One more was taken in. One that counts in the present cycle makes the node black.
+-- One more message was received. If it counts in the present cycle, the node becomes black.
 abbrev pub counted_down : Option Balance → Ring → Ring
 counted_down (Some Earlier) r = record r { colour = Black; earlier = r.earlier -ℤ pos 1 }
 counted_down (Some Recent) r = record r { recent = r.recent -ℤ pos 1 }
 counted_down None r = r
 
--- a message bears its sender's cycle
+-- a message has its sender's cycle as its stamp
 abbrev pub stamped : LocalState → Body → Message
 stamped p b = record { stamp = p.phases.cycle; body = b }
 
--- a message is appended, and counted
+-- a message is appended and counted
 unfoldable pub append : ℕ → Body → LocalState → Work
 append to b p =
     record {
@@ -54,7 +54,7 @@ append to b p =
       sends = (to, stamped p b) ∷ [];
     }
 
--- the same message for each other node below this number, in order of their numbers
+-- the same message for each other node below this number, in ascending order
 abbrev pub to_others : LocalState → Body → ℕ → List (ℕ × Message)
 to_others p b zero = []
 to_others p b (suc n) = to_others p b n ++ cond (n == p.own) [] ((n, stamped p b) ∷ [])

@@ -1,4 +1,4 @@
--- What can be reached in a space ("Cuts and reach" in docs/RULES.md).
+-- What is reachable in a space ("Cuts and reach" in docs/RULES.md).
 use Rattle.std.specs.Prelude.{◌≡◌, ◌≢◌, ℕ, ◌+◌, ◌≤◌, Bool, true, cond, List, [], ◌∷◌, Some, None, Ok, slice_get, slice_index_or, ◌⊎◌}
 use Rattle.ids.specs.declared.names.Ref.{Ref}
 use Rattle.msg.specs.declared.body.Message.{Message}
@@ -9,25 +9,25 @@ use Rattle.model.specs.State.{Object, Occupied, NodeState, register_at, slot_at,
 use Rattle.model.specs.Steps.{carried, act, receive, is_own}
 use Rattle.model.specs.World.{World}
 
--- for each node number one state
+-- a state for each node number
 abbrev pub Cut : Type 0
 Cut = ℕ → NodeState
 
--- for each node its current state or its saved one, where the choice is true
+-- for each node its saved state if the choice is true, else its current one
 abbrev pub cut : World → (ℕ → Bool) → Cut
 cut w saved i = cond (saved i) (node_at w.saved i) (node_at w.current i)
 
--- how many messages of one node another has taken in
+-- how many messages of one node another node has received
 abbrev pub taken : Cut → ℕ → ℕ → ℕ
 taken c from to = got_from (c to).local from
 
--- The message stands in flight at its place among all that were ever sent on its link: appending
--- messages and taking others in doesn't move it.
+-- The message is in flight. Its place is its index among all messages ever sent on its link, so it
+-- doesn't change when other messages are appended or received.
 pub record IsInFlight (c : Cut) (from to place : ℕ) (x : Message) : Type 0 where
   pub later : taken c from to ≤ place
   pub there : slice_get (sent_to (c from) to) place ≡ Some x
 
--- membership by cases
+-- membership in a list, by cases
 abbrev pub Among : {A : Type 0} → A → List A → Type 0
 Among x [] = ⊥
 Among x (y ∷ ys) = (x ≡ y) ⊎ Among x ys
@@ -37,8 +37,8 @@ pub record IsLive (c : Cut) (r : Ref) : Type 0 where
   pub object : Object
   pub there : slot_at (c r.node).local.heap r.slot ≡ Occupied r.generation object
 
--- What is reachable: the references in registers and letters, those that messages in flight carry,
--- and with a reference all that stand in the places of its object.
+-- What is reachable: the references in registers and letters; those that messages in flight carry;
+-- and with a reference, all those in the places of its object.
 pub data Reachable (c : Cut) : Ref → Type 0 where
   in_register : {r : Ref} (i k : ℕ) → register_at (c i).local.heap k ≡ Some r → Reachable c r
   in_letter : {r : Ref} (i k : ℕ) (l : Letter) → slice_get (c i).local.heap.letters k ≡ Some l
@@ -54,8 +54,8 @@ pub record Becomes (c d : Cut) (i : ℕ) (s : NodeState) : Type 0 where
   pub changed : d i ≡ s
   pub others : (j : ℕ) → j ≢ i → d j ≡ c j
 
--- a step with no saves and no restarts: a node's own event, or the first message
--- in flight is taken in
+-- a step without saves and restarts: a node's own event, or the receipt of the first message in
+-- flight on a link
 pub data PlainStep (c d : Cut) : Type 0 where
   acts : (i : ℕ) (e : Event) (s : NodeState) (a : Answer) → is_own e ≡ true
       → act (c i) e ≡ Ok (s, a) → Becomes c d i s → PlainStep c d

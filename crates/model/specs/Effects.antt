@@ -1,12 +1,12 @@
--- What a step of a node leaves: its part, the messages that it appended, its answer ("Events" in
--- docs/RULES.md).
+-- What a step of a node yields: its local state, the messages that it appended, and its answer
+-- ("Events" in docs/RULES.md).
 use Rattle.std.specs.Prelude.{ℕ, List, [], ◌++◌}
 use Rattle.msg.specs.declared.body.Message.{Message}
 use Rattle.model.specs.declared.event.Answer.{Answer}
 use Rattle.model.specs.State.{Heap, LocalState}
 
--- a node's part after some step, and the messages that it appended, each with its receiver, in
--- order
+-- a node's local state after some step, and the messages that it appended, in order, each with its
+-- receiver
 pub record Work : Type 0 where
   pub local : LocalState
   pub sends : List (ℕ × Message)
@@ -19,7 +19,7 @@ at_rest p = record { local = p; sends = [] }
 abbrev pub then : Work → (LocalState → Work) → Work
 then w f = record { local = (f w.local).local; sends = w.sends ++ (f w.local).sends }
 
--- what an event does: the part, the messages, the answer
+-- what an event does: the local state, the messages, the answer
 pub record Effect : Type 0 where
   pub local : LocalState
   pub sends : List (ℕ × Message)
@@ -28,7 +28,7 @@ pub record Effect : Type 0 where
 abbrev pub answers : Work → Answer → Effect
 answers w a = record { local = w.local; sends = w.sends; answer = a }
 
--- the part alone changes
+-- only the heap changes
 abbrev pub becomes : LocalState → Heap → Answer → Effect
 becomes p h a = record { local = record p { heap = h }; sends = []; answer = a }
 

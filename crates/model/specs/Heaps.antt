@@ -1,4 +1,4 @@
--- What the events do to a node's heap, with the tests that stand before each.
+-- What the events do to a node's heap, and the tests that come before each of them.
 use Rattle.std.specs.Prelude.{ℕ, Bool, false, cond, ◌||◌, ◌==◌, not, nat_lt, nat_le, List, [], ◌∷◌, ◌++◌, length, drop, replicate, Option, Some, None, is_some, Result, slice_index_or, slice_set}
 use Rattle.std.specs.Option.{unwrap_or}
 use Rattle.ids.specs.declared.names.Ref.{Ref}
@@ -22,8 +22,8 @@ is_filled h k = is_some (register_at h k)
 abbrev pub register_tests : Heap → ℕ → List (Bool × Refusal)
 register_tests h register = (is_register h register, NoRegister) ∷ []
 
--- The slot that was freed last is used first, else the next fresh one. A fresh
--- slot's generation is 1.
+-- The slot that was freed last is used first, else the next fresh one. The first generation of a
+-- slot is 1.
 abbrev pub has_slot : ℕ → Heap → Bool
 has_slot limit h = nat_lt 0 (length h.free) || nat_lt (length h.slots) limit
 
@@ -73,7 +73,7 @@ abbrev pub drop_tests : Heap → ℕ → List (Bool × Refusal)
 drop_tests h register =
     (is_register h register, NoRegister) ∷ (is_filled h register, EmptyRegister) ∷ []
 
--- the register becomes what the other one holds
+-- the register gets the content of the source register
 abbrev pub copy_tests : Heap → ℕ → ℕ → List (Bool × Refusal)
 copy_tests h register source =
     (is_register h register, NoRegister) ∷ (is_register h source, NoRegister)
@@ -82,7 +82,8 @@ copy_tests h register source =
 abbrev pub register_copied : Heap → ℕ → ℕ → Heap
 register_copied h register source = with_register h register (register_at h source)
 
--- What a register names; an empty one names no object, since generations start at 1.
+-- The reference in a register. An empty register gives one that names no object, since generations
+-- start at 1.
 abbrev pub no_reference : Ref
 no_reference = record { node = 0; slot = 0; generation = 0 }
 
@@ -93,13 +94,13 @@ named h k = unwrap_or (register_at h k) no_reference
 abbrev pub is_local : ℕ → Heap → ℕ → Bool
 is_local own h k = (named h k).node == own
 
--- the object of a slot, where it has this generation
+-- the object of a slot, if it has this generation
 abbrev pub object_of : Slot → ℕ → Option Object
 object_of (Free g) generation = None
 object_of (Occupied g o) generation = cond (g == generation) (Some o) None
 object_of Retired generation = None
 
--- the object of a reference to this heap's node, while it is live
+-- the object that a reference to this node names, while it is live
 abbrev pub object_at : Heap → Ref → Option Object
 object_at h r = object_of (slot_at h r.slot) r.generation
 
@@ -107,7 +108,7 @@ abbrev pub has_place : Option Object → ℕ → Bool
 has_place None place = false
 has_place (Some o) place = nat_lt place (length o.places)
 
--- what stands in a place; nothing where there is no such place, or no object
+-- the content of a place; nothing if there is no such place or no object
 abbrev pub place_of : Option Object → ℕ → Option Ref
 place_of None place = None
 place_of (Some o) place = slice_index_or o.places place None
@@ -116,7 +117,7 @@ abbrev pub word_of : Option Object → ℕ
 word_of None = 0
 word_of (Some o) = o.word
 
--- Rewriting a live object. Where it isn't live, nothing changes.
+-- Rewrites a live object. If the object isn't live, nothing changes.
 abbrev pub rewritten : (Object → Object) → ℕ → Slot → Slot
 rewritten f generation (Free g) = Free g
 rewritten f generation (Occupied g o) = Occupied g (cond (g == generation) (f o) o)
@@ -126,14 +127,14 @@ abbrev pub with_rewritten : Heap → Ref → (Object → Object) → Heap
 with_rewritten h r f =
     record h { slots = slice_set h.slots r.slot (rewritten f r.generation (slot_at h r.slot)) }
 
--- A live object's place becomes this. Where there is no such place, nothing changes.
+-- Writes a place of a live object. If there is no such place, nothing changes.
 abbrev pub with_place : Heap → Ref → ℕ → Option Ref → Heap
 with_place h r place v = with_rewritten h r (λ o. record o { places = slice_set o.places place v })
 
 abbrev pub with_word : Heap → Ref → ℕ → Heap
 with_word h r word = with_rewritten h r (λ o. record o { word = word })
 
--- a register names an object of the node's own that passes a test
+-- the register names an object of this node, and the last test passes
 abbrev pub own_tests : ℕ → Heap → ℕ → Bool → List (Bool × Refusal)
 own_tests own h object passes =
     (is_register h object, NoRegister)
@@ -142,7 +143,7 @@ own_tests own h object passes =
     ∷ (passes, NoField)
     ∷ []
 
--- reading a place of the object that a register names into a register
+-- reading a place of the object that a register names into another register
 abbrev pub load_tests : ℕ → Heap → ℕ → ℕ → ℕ → List (Bool × Refusal)
 load_tests own h register object place =
     (is_register h register, NoRegister)
@@ -151,7 +152,7 @@ load_tests own h register object place =
 abbrev pub place_loaded : Heap → ℕ → ℕ → Option Ref
 place_loaded h object place = place_of (object_at h (named h object)) place
 
--- writing what a register holds into a place of the object that another names
+-- writing a register's reference into a place of the object that another register names
 abbrev pub store_tests : ℕ → Heap → ℕ → ℕ → ℕ → List (Bool × Refusal)
 store_tests own h object place register =
     (is_register h object, NoRegister)
@@ -171,7 +172,7 @@ clear_tests own h object place =
 abbrev pub word_tests : ℕ → Heap → ℕ → List (Bool × Refusal)
 word_tests own h object = own_tests own h object (is_some (object_at h (named h object)))
 
--- asking the owner of an object that isn't this node's to write or to read a place of it
+-- asking the owner of another node's object to write or to read a place of it
 abbrev pub put_tests : ℕ → Heap → ℕ → ℕ → ℕ → List (Bool × Refusal)
 put_tests own h object place register =
     (is_register h object, NoRegister)
@@ -199,16 +200,16 @@ abbrev pub accept_tests : Heap → ℕ → List (Bool × Refusal)
 accept_tests h register =
     (is_register h register, NoRegister) ∷ (nat_lt 0 (length h.letters), NoLetter) ∷ []
 
--- the oldest letter leaves, and the register becomes its reference, or empty where it has none
+-- the oldest letter leaves, and the register gets its reference, or becomes empty if it has none
 abbrev pub letter_taken : Heap → ℕ → Heap
 letter_taken h register =
     with_register (record h { letters = drop 1 h.letters }) register (oldest_letter h).reference
 
--- a letter comes last
+-- the letter is appended as the last one
 abbrev pub with_letter : Heap → Letter → Heap
 with_letter h l = record h { letters = h.letters ++ l ∷ [] }
 
--- the events of a heap as a whole: what they leave and answer, or the first refusal that applies
+-- the events of a heap as a whole: the heap and the answer, or the first refusal that applies
 unfoldable pub heap_alloc : ℕ → ℕ → ℕ → Heap → ℕ → ℕ → Result (Heap × Ref) Refusal
 heap_alloc limit own cycle h register places =
     guarded (alloc_tests limit h register places)

@@ -1,5 +1,5 @@
--- Where references stand, and what it means that all of them have some property ("Well-formed
--- nodes" in docs/RULES.md).
+-- The places in which a node holds references, and what it means that all of these references have
+-- some property ("Well-formed nodes" in docs/RULES.md).
 use Rattle.std.specs.Prelude.{◌≡◌, ℕ, ◌<◌, ◌≤◌, Option, Some, None, slice_index_or}
 use Rattle.std.specs.List.{AllByRecursion}
 use Rattle.ids.specs.Limits.{Shaped}
@@ -12,7 +12,7 @@ use Rattle.model.specs.State.{Object, Occupied, Heap, register_at, slot_at}
 use Rattle.model.specs.Heaps.{no_letter}
 use Rattle.model.specs.Steps.{mentioned}
 
--- where there is a reference, it has the property
+-- the reference, if there is one, has the property
 abbrev pub IfAny : (P : Ref → Type 0) → Option Ref → Type 0
 IfAny P None = Unit {0}
 IfAny P (Some r) = P r
@@ -30,18 +30,18 @@ pub record IsWithin (shape : Shaped) (r : Ref) : Type 0 where
   pub slot : r.slot < shape.slots
   pub generation : 1 ≤ r.generation
 
--- the message that stands past the end of a list of messages
+-- what a look-up past the end of a list of messages gives
 abbrev pub no_message : Message
 no_message = record { stamp = 0; body = body.Give 0 None }
 
--- where a message names a place, an object may have it
+-- if the message names a place, an object can have such a place
 abbrev pub IsPlaced : Body → Type 0
 IsPlaced (body.Put target place reference) = place < GREATEST_PLACES
 IsPlaced (body.Get target place label) = place < GREATEST_PLACES
 IsPlaced b = Unit {0}
 
--- a message whose stamp is a cycle, whose references the shape has room for, and
--- whose place may be one
+-- a message whose stamp is a valid cycle, whose references the shape has room for, and whose place
+-- an object can have
 pub record IsSendable (shape : Shaped) (x : Message) : Type 0 where
   pub stamp : x.stamp ≤ GREATEST_CYCLE
   pub references : AllByRecursion (IsWithin shape) (mentioned x.body)

@@ -1,5 +1,6 @@
--- Marking what references name, by hand of the owner or by a message to it ("Shading and vouching"
--- in docs/RULES.md). The colours are those of Dijkstra, Lamport, Martin, Scholten and Steffens.
+-- Marking the objects that references name: the owner marks its own objects, and other nodes ask it
+-- by a message ("Shading and vouching" in docs/RULES.md). The colours are those of Dijkstra,
+-- Lamport, Martin, Scholten and Steffens.
 use Rattle.std.specs.Prelude.{ℕ, pos, ◌-◌, ◌+ℤ◌, Bool, false, cond, not, nat_lt, ◌==◌, ◌&&◌, ◌||◌, List, [], ◌∷◌, ◌++◌, length, take, map, Option, Some, None, option_to_list, slice_index_or}
 use Rattle.std.specs.List.{list_any}
 use Rattle.ids.specs.declared.names.Ref.{Ref}
@@ -18,8 +19,8 @@ is_same a b = (a.node == b.node) && ((a.slot == b.slot) && (a.generation == b.ge
 abbrev pub is_in : Ref → List Ref → Bool
 is_in r rs = list_any (is_same r) rs
 
--- The node has joined a cycle whose marking it doesn't know to have ended. While it isn't so,
--- nothing is shaded.
+-- The node has joined a cycle, and doesn't know that its marking has ended. Otherwise nothing is
+-- shaded.
 abbrev pub is_open : LocalState → Bool
 is_open p = not (p.phases.ended == p.phases.cycle)
 
@@ -31,11 +32,11 @@ is_unmarked cycle (Some o) = not (o.mark == cycle)
 abbrev pub with_mark : ℕ → Object → Object
 with_mark cycle o = record o { mark = cycle }
 
--- an object of the node that shading would turn grey
+-- a reference to an object of this node that shading would turn grey
 abbrev pub wakes : ℕ → ℕ → Heap → Ref → Bool
 wakes own cycle h r = (r.node == own) && is_unmarked cycle (object_at h r)
 
--- an unmarked object is marked, and its slot comes last on the grey list
+-- an unmarked object is marked, and its slot is appended to the grey list
 unfoldable pub make_grey : ℕ → Heap → Ref → Heap
 make_grey cycle h r =
     cond
@@ -43,17 +44,18 @@ make_grey cycle h r =
     (record (with_rewritten h r (with_mark cycle)) { grey = h.grey ++ r.slot ∷ [] })
     h
 
--- an object of the node
+-- shades an object of the node
 abbrev pub shade_local : Work → Ref → Work
 shade_local w r =
     record w { local = record w.local { heap = make_grey w.local.phases.cycle w.local.heap r } }
 
--- the reference comes last among those asked for
+-- the reference is appended to those asked for
 abbrev pub with_asked : Work → Ref → Work
 with_asked w r = record w { local = record w.local { asked = w.local.asked ++ r ∷ [] } }
 
--- A reference is met: an object of the node is marked; one of another node, where it wasn't asked
--- for in this cycle, leaves the work named last.
+-- The node meets a reference while it is marking. It marks an object of its own. For another node's
+-- object that it hasn't asked for in this cycle, the result is the last argument. Otherwise nothing
+-- changes.
 abbrev pub met : Work → Ref → Work → Work
 met w r new =
     cond
@@ -61,7 +63,7 @@ met w r new =
     (cond (r.node == w.local.own) (shade_local w r) (cond (is_in r w.local.asked) w new))
     w
 
--- the owner of an object of another node is asked to mark it, once in a cycle
+-- the owner of another node's object is asked to mark it, once in a cycle
 unfoldable pub shade : Work → Ref → Work
 shade w r = met w r (then (with_asked w r) (append r.node (body.Mark r)))
 
@@ -69,8 +71,8 @@ abbrev pub shade_all : Work → List Ref → Work
 shade_all w [] = w
 shade_all w (r ∷ rs) = shade_all (shade w r) rs
 
--- A reference that came with the node's own cycle: its sender has seen to the Mark, and none is
--- sent.
+-- A reference that came with a message of the node's own cycle. The sender has seen to the Mark, so
+-- none is sent.
 unfoldable pub vouch : Work → Ref → Work
 vouch w r = met w r (with_asked w r)
 
@@ -78,7 +80,7 @@ abbrev pub vouch_all : Work → List Ref → Work
 vouch_all w [] = w
 vouch_all w (r ∷ rs) = vouch_all (vouch w r) rs
 
--- the references that are there
+-- the references that are present
 abbrev pub filled : List (Option Ref) → List Ref
 filled [] = []
 filled (o ∷ os) = option_to_list o ++ filled os
@@ -86,12 +88,12 @@ filled (o ∷ os) = option_to_list o ++ filled os
 abbrev pub reference_of : Letter → Option Ref
 reference_of l = l.reference
 
--- what a node's program holds: its registers in order, and then its letters, oldest first
+-- the roots that a node's program holds: its registers in order, then its letters, oldest first
 abbrev pub roots : Heap → List (Option Ref)
 roots h = h.registers ++ map reference_of h.letters
 
--- What was sent and taken in with references in the cycle that is left counts with all before it
--- from now on, and the node is black.
+-- The ring after joining a cycle. The messages with references of the cycle that was left now count
+-- with all earlier ones, and the node is black.
 abbrev pub entered : Ring → Ring
 entered r = record r { colour = Black; earlier = r.earlier +ℤ r.recent; recent = pos 0 }
 
@@ -103,11 +105,11 @@ enter p cycle =
       ring = entered p.ring;
     }
 
--- the node joins a cycle: what its program holds is shaded
+-- the node joins a cycle: its roots are shaded
 unfoldable pub join : LocalState → ℕ → Work
 join p cycle = shade_all (at_rest (enter p cycle)) (filled (roots p.heap))
 
--- a node joins the cycle of a message, unless it is there already or past it
+-- a node joins the cycle of a message, unless it is already in that cycle or past it
 abbrev pub joined : LocalState → ℕ → Work
 joined p stamp = cond (nat_lt p.phases.cycle stamp) (join p stamp) (at_rest p)
 
@@ -115,25 +117,25 @@ joined p stamp = cond (nat_lt p.phases.cycle stamp) (join p stamp) (at_rest p)
 abbrev pub is_calm : Heap → Bool
 is_calm h = length h.grey == 0
 
--- it stays so where none of these references would turn an object grey
+-- no object is grey, and none of these references would turn one grey
 abbrev pub stays_calm : ℕ → ℕ → Heap → List Ref → Bool
 stays_calm own cycle h rs = is_calm h && not (list_any (wakes own cycle h) rs)
 
--- the grey object that is scanned next, and the heap without it on its list
+-- the grey object that is scanned next, and the heap with that object off its grey list
 abbrev pub last_grey : Heap → ℕ
 last_grey h = slice_index_or h.grey (length h.grey - 1) 0
 
 abbrev pub without_last_grey : Heap → Heap
 without_last_grey h = record h { grey = take (length h.grey - 1) h.grey }
 
--- ---- the same by parts: what is shaded of the heap, what is asked for, and the Marks for that
+-- ---- the same in parts: the heap after shading, the references asked for, and the Marks for these
 
 abbrev pub make_all_grey : ℕ → ℕ → Heap → List Ref → Heap
 make_all_grey own cycle h [] = h
 make_all_grey own cycle h (r ∷ rs) =
     make_all_grey own cycle (cond (r.node == own) (make_grey cycle h r) h) rs
 
--- the references to other nodes that weren't asked for, each once
+-- the references to other nodes' objects that haven't been asked for, each once
 abbrev pub unasked : ℕ → List Ref → List Ref → List Ref
 unasked own asked [] = []
 unasked own asked (r ∷ rs) =

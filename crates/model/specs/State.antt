@@ -1,5 +1,5 @@
--- What a node is, as plain data ("A node" in docs/RULES.md). Look-ups are total: past the end of a
--- list they give a default, and the default node refuses every event.
+-- The state of a node, as plain data ("A node" in docs/RULES.md). Look-ups are total: past the end
+-- of a list they give a default, and the default node refuses every event.
 use Rattle.std.specs.Prelude.{ℕ, ℤ, pos, List, [], replicate, Option, None, slice_index_or}
 use Rattle.ids.specs.Limits.{Shaped}
 use Rattle.ids.specs.declared.names.Ref.{Ref}
@@ -15,8 +15,8 @@ pub record Object : Type 0 where
   pub places : List (Option Ref)
   pub mark : ℕ
 
--- A slot is free, with the generation of its next object; or it has an object and its generation;
--- or it has run out of generations.
+-- A slot is free, with the generation of its next object; or occupied by an object of a generation;
+-- or retired, once its generations are used up.
 pub data Slot : Type 0 where
   Free : ℕ → Slot
   Occupied : ℕ → Object → Slot
@@ -24,15 +24,15 @@ pub data Slot : Type 0 where
 
 pub record Heap : Type 0 where
   pub slots : List Slot
-  -- the free slots, the next to be used first
+  -- the free slots; the first is used next
   pub free : List ℕ
   pub registers : List (Option Ref)
   -- oldest first
   pub letters : List Letter
-  -- marked objects whose places are still to be shaded, by slot; the last is scanned first
+  -- slots of marked objects whose places are still to be shaded; the last is scanned first
   pub grey : List ℕ
 
--- how far the node's collection cycle is, and at node 0 what the others reported
+-- how far the node is in its collection cycle; at node 0 also what the others reported
 pub record Phases : Type 0 where
   pub cycle : ℕ
   pub ended : ℕ
@@ -41,29 +41,30 @@ pub record Phases : Type 0 where
   pub cursor : ℕ
   pub reports : List ℕ
 
--- the node's part of the ring that finds the end of marking
+-- the node's part of the ring that detects the end of marking
 pub record Ring : Type 0 where
   pub colour : Colour
-  -- messages sent less those received, of those that count in the current cycle; texts say `old`
+  -- Messages sent less messages received, of those that count in the current cycle. Texts call it
+  -- `old`.
   pub earlier : ℤ
-  -- The same of those that the next cycle counts: the ones with references and the current
-  -- cycle's stamp. Texts say `cur`.
+  -- The same for those that the next cycle counts: messages with references and the current cycle's
+  -- stamp. Texts call it `cur`.
   pub recent : ℤ
   pub token : Option Token
 
--- all of a node but what it sent
+-- all of a node except what it sent
 pub record LocalState : Type 0 where
   pub shape : Shaped
   pub own : ℕ
   pub heap : Heap
-  -- references of other nodes that were shaded or vouched for in this cycle
+  -- references to other nodes' objects that were shaded or vouched for in this cycle
   pub asked : List Ref
   pub phases : Phases
   pub ring : Ring
-  -- for each node, how many of its messages were taken in
+  -- for each node, how many of its messages were received
   pub got : List ℕ
 
--- a node, with all that it ever sent to each node
+-- a node, with everything that it ever sent to each node
 pub record NodeState : Type 0 where
   pub local : LocalState
   pub sent : List (List Message)
@@ -117,7 +118,7 @@ new_local shape own = record {
 abbrev pub new_node : Shaped → ℕ → NodeState
 new_node shape own = record { local = new_local shape own; sent = replicate shape.nodes [] }
 
--- the node that stands past the end of a list of nodes
+-- what a look-up past the end of a list of nodes gives
 abbrev pub no_node : NodeState
 no_node = new_node (record { nodes = 0; registers = 0; slots = 0 }) 1
 

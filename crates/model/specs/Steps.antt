@@ -1,5 +1,5 @@
--- What an event does to a node ("Events" in docs/RULES.md). An event is a list of tests in the
--- order of its refusals, an effect that is total, and one last test: that its messages get numbers.
+-- What an event does to a node ("Events" in docs/RULES.md). An event is a list of tests, in the
+-- order of its refusals, and a total effect. One last test is that all its messages get numbers.
 use Rattle.std.specs.Prelude.{ℕ, ◌+◌, Bool, true, false, ◌&&◌, ◌||◌, not, cond, nat_lt, nat_le, ◌==◌, List, [], ◌∷◌, ◌++◌, length, map, Option, Some, None, is_none, option_to_list, Result, Ok, Err, slice_index_or, slice_set}
 use Rattle.ids.specs.Limits.{Shaped}
 use Rattle.ids.specs.declared.names.Ref.{Ref}
@@ -22,8 +22,8 @@ use Rattle.model.specs.Counting.{balance_of, counted_down, append}
 use Rattle.model.specs.Shading.{is_open, is_calm, shade, shade_all, vouch_all, joined}
 use Rattle.model.specs.Collecting.{token_sender, begin_tests, begun, scan_tests, scanned, pass_tests, passed, sweep_tests, swept_slots, reports_sweep}
 
--- A message to another node that is answered with its number; counts says for each node how many
--- messages were appended so far.
+-- Appends a message to another node; the answer is the message's number. For each node, `counts`
+-- says how many messages were appended so far.
 abbrev pub sends_one : LocalState → List ℕ → ℕ → Body → Effect
 sends_one p counts to b =
     answers (append to b p) (answer.Sent (slice_index_or counts to 0 + 1))
@@ -42,7 +42,7 @@ copied p register source = becomes p (register_copied p.heap register source) an
 unfoldable pub dropped : LocalState → ℕ → Effect
 dropped p register = becomes p (with_register p.heap register None) answer.Done
 
--- Load: what the place holds is shaded, and then the register gets it
+-- Load: the reference in the place is shaded, and then the register gets it
 abbrev pub with_loaded : ℕ → Option Ref → LocalState → Work
 with_loaded register v p = at_rest (record p { heap = with_register p.heap register v })
 
@@ -73,7 +73,7 @@ word_read p object = unchanged p (answer.Word (word_of (object_at p.heap (named 
 unfoldable pub word_set : LocalState → ℕ → ℕ → Effect
 word_set p object word = becomes p (with_word p.heap (named p.heap object) word) answer.Done
 
--- Give: what the register holds goes to another node
+-- Give: the register's reference goes to another node
 unfoldable pub given : LocalState → List ℕ → ℕ → ℕ → ℕ → Effect
 given p counts to label register =
     sends_one p counts to (body.Give label (register_at p.heap register))
@@ -83,13 +83,13 @@ unfoldable pub accepted : LocalState → ℕ → Effect
 accepted p register =
     becomes p (letter_taken p.heap register) (answer.Letter (oldest_letter p.heap))
 
--- Put: the owner of the object is asked to put what the register holds into a place of it
+-- Put: the owner of the object is asked to store the register's reference in a place of it
 unfoldable pub put_asked : LocalState → List ℕ → ℕ → ℕ → ℕ → Effect
 put_asked p counts object place register =
     sends_one p counts (named p.heap object).node
     (body.Put (named p.heap object) place (register_at p.heap register))
 
--- Get: the owner of the object is asked for what stands in a place of it
+-- Get: the owner of the object is asked for the content of a place of it
 unfoldable pub get_asked : LocalState → List ℕ → ℕ → ℕ → ℕ → Effect
 get_asked p counts object place label =
     sends_one p counts (named p.heap object).node (body.Get (named p.heap object) place label)
@@ -108,7 +108,7 @@ is_next p from number = number == got_from p from + 1
 abbrev pub is_early : LocalState → ℕ → ℕ → Bool
 is_early p from number = nat_lt (got_from p from + 1) number
 
--- every reference that stands in a message
+-- every reference in a message
 abbrev pub mentioned : Body → List Ref
 mentioned body.Begin = []
 mentioned (body.Token token) = []
@@ -131,7 +131,7 @@ carried (body.Get target place label) = target ∷ []
 carried body.Ended = []
 carried body.Swept = []
 
--- the object of the receiver that a message is about
+-- the receiver's object that a message is about
 abbrev pub target_of : Body → Option Ref
 target_of (body.Mark target) = Some target
 target_of (body.Put target place reference) = Some target
@@ -146,15 +146,16 @@ are_within shape [] = true
 are_within shape (r ∷ rs) = is_within shape r && are_within shape rs
 
 -- The node is in the cycle of a message with this stamp, or past it, or may join it. Node 0 begins
--- cycles and joins none; another one joins the next one alone, and only when it has swept its own.
+-- cycles and never joins one. Another node joins only the next cycle, once it has swept its own.
 abbrev pub may_reach : LocalState → ℕ → Bool
 may_reach p stamp =
     nat_le stamp p.phases.cycle
     || (not (p.own == 0)
     && (nat_le stamp (p.phases.cycle + 1) && nat_le p.phases.cycle p.phases.swept))
 
--- A body that the node may follow when it comes from there: what it is about is the node's own;
--- node 0 alone says that a cycle begins and that marking has ended, and alone hears who has swept.
+-- A body that the node may follow if it comes from this sender. The object that it is about is the
+-- node's own. Only node 0 says that a cycle begins and that marking has ended, and only node 0 is
+-- told that a node has swept.
 abbrev pub may_follow : LocalState → ℕ → Body → Bool
 may_follow p from body.Begin = from == 0
 may_follow p from (body.Token token) = from == token_sender p
@@ -165,11 +166,11 @@ may_follow p from (body.Get target place label) = target.node == p.own
 may_follow p from body.Ended = from == 0
 may_follow p from body.Swept = p.own == 0
 
--- the node is in the cycle of this stamp, and doesn't know its marking to have ended
+-- the node is in the cycle of this stamp, and doesn't know that its marking has ended
 abbrev pub is_marking : LocalState → ℕ → Bool
 is_marking p stamp = (stamp == p.phases.cycle) && is_open p
 
--- What the ring and the sweep say must be true of a node that has joined the message's cycle.
+-- What the ring and the sweep require of a node that has joined the message's cycle.
 abbrev pub may_settle : LocalState → ℕ → Body → Bool
 may_settle p stamp (body.Token token) = is_marking p stamp && is_none p.ring.token
 may_settle p stamp body.Ended =
@@ -177,14 +178,14 @@ may_settle p stamp body.Ended =
 may_settle p stamp body.Swept = stamp == p.phases.cycle
 may_settle p stamp b = true
 
--- a message that the node may take in, in its turn
+-- a message that the node may receive in its turn
 abbrev pub may_take : LocalState → ℕ → ℕ → Body → Bool
 may_take p from stamp b =
     may_reach p stamp
     && (are_within p.shape (mentioned b)
     && (may_follow p from b && may_settle (joined p stamp).local stamp b))
 
--- the message counts as taken in
+-- the message counts as received
 unfoldable pub count_in : ℕ → ℕ → ℕ → Body → LocalState → LocalState
 count_in from number stamp b p =
     record p {
@@ -192,8 +193,8 @@ count_in from number stamp b p =
       ring = counted_down (balance_of p.phases.cycle stamp b) p.ring;
     }
 
--- What it carries is shaded where it comes from an earlier cycle than the node's, and vouched for
--- where it comes from the same.
+-- The references that the message carries are shaded if it comes from an earlier cycle than the
+-- node's, and vouched for if it comes from the same cycle.
 abbrev pub take_carried : ℕ → Body → LocalState → Work
 take_carried stamp b p =
     cond
@@ -201,13 +202,14 @@ take_carried stamp b p =
     (shade_all (at_rest p) (carried b))
     (vouch_all (at_rest p) (carried b))
 
--- a place is read for another node: what it holds is shaded, and then sent back
+-- a place is read for another node: its reference is shaded, and then sent back
 abbrev pub answer_get : ℕ → ℕ → Option Ref → LocalState → Work
 answer_get from label v p =
     then (shade_all (at_rest p) (option_to_list v)) (append from (body.Give label v))
 
--- what its body asks for: the token is held; an object is marked; a letter is added; a place is
--- written; what stands in a place is sent back; marking has ended; a node has swept
+-- The body is followed. Token: it is held. Mark: the object is shaded. Give: a letter is added.
+-- Put: a place is written. Get: the content of a place is sent back. Ended: marking has ended.
+-- Swept: the sender has swept.
 unfoldable pub take_body : ℕ → ℕ → Body → LocalState → Work
 take_body from stamp body.Begin p = at_rest p
 take_body from stamp (body.Token token) p =
@@ -228,7 +230,7 @@ take_body from stamp body.Swept p =
       phases = record p.phases { reports = slice_set p.phases.reports from stamp };
     })
 
--- a message is taken in by a node that is in its cycle or past it
+-- a message is received by a node that is in its cycle or past it
 unfoldable pub settled : ℕ → ℕ → ℕ → Body → LocalState → Work
 settled from number stamp b p =
     then (take_carried stamp b (count_in from number stamp b p)) (take_body from stamp b)
@@ -237,7 +239,7 @@ unfoldable pub taken_in : LocalState → ℕ → ℕ → ℕ → Body → Effect
 taken_in p from number stamp b =
     answers (then (joined p stamp) (settled from number stamp b)) answer.Received
 
--- What may come of a message is tested in its turn alone.
+-- Whether a message may be received is tested only in its turn.
 abbrev pub receipt_tests : LocalState → ℕ → ℕ → ℕ → ℕ → Body → List (Bool × Refusal)
 receipt_tests p from to number stamp b =
     (is_addressed p from to, WrongNode)
@@ -250,8 +252,8 @@ receipt p from number stamp b =
     cond (is_repeat p from number) (unchanged p answer.Repeat)
     (cond (is_early p from number) (unchanged p answer.Early) (taken_in p from number stamp b))
 
--- The tests of an event, in the order of its refusals. A state keeps no messages before their turn,
--- so it has none for Next: of a node that keeps them, the next one comes as Data.
+-- The tests of an event, in the order of its refusals. A state keeps no early messages, so Next
+-- never finds one. On a node that keeps them, Next acts as the Data event of the waiting message.
 abbrev pub tests : LocalState → Event → List (Bool × Refusal)
 tests p (event.Alloc register places) = alloc_tests p.shape.slots p.heap register places
 tests p (event.Copy register source) = copy_tests p.heap register source
@@ -317,7 +319,7 @@ abbrev pub received : LocalState → List ℕ → ℕ → ℕ → ℕ → ℕ �
 received p counts from to number stamp b =
     checked (receipt_tests p from to number stamp b) counts (receipt p from number stamp b)
 
--- each message at the end of what was sent to its receiver
+-- each message is appended to what was sent to its receiver
 abbrev pub append_all : List (List Message) → List (ℕ × Message) → List (List Message)
 append_all sent [] = sent
 append_all sent (m ∷ ms) =
@@ -327,7 +329,7 @@ abbrev pub after : NodeState → Result Effect Refusal → Result (NodeState × 
 after s (Ok x) = Ok (record { local = x.local; sent = append_all s.sent x.sends }, x.answer)
 after s (Err e) = Err e
 
--- an event of a node: the node afterwards and its answer, or the first refusal that applies
+-- an event of a node: the new state and the answer, or the first refusal that applies
 unfoldable pub act : NodeState → Event → Result (NodeState × Answer) Refusal
 act s e = after s (effect s.local (map length s.sent) e)
 
@@ -336,8 +338,8 @@ unfoldable pub receive : NodeState → ℕ → ℕ → ℕ → ℕ → Body → 
 receive s from to number stamp b =
     after s (received s.local (map length s.sent) from to number stamp b)
 
--- The acknowledgement that an event brings. It changes no state: a state has all that was ever
--- sent, and doesn't know what was let go of.
+-- The acknowledgement that an event brings. It changes no state: a state holds everything that was
+-- ever sent, and doesn't record which messages were dropped.
 abbrev pub ack_of : Event → Option Ack
 ack_of (event.Ack a) = Some a
 ack_of e = None
@@ -348,8 +350,8 @@ is_own (event.Data d) = false
 is_own (event.Ack a) = false
 is_own e = true
 
--- An event that shades. It may append any number of Marks, and how many shows only when it looks at
--- each reference in turn, so memory may be refused before a link shows to have no number left.
+-- An event that shades. It may append any number of Marks, and learns how many only while it looks
+-- at each reference in turn. So it may run out of memory before a link shows to be out of numbers.
 abbrev pub is_shading : Event → Bool
 is_shading (event.Load register object place) = true
 is_shading event.Begin = true
@@ -357,8 +359,8 @@ is_shading event.Scan = true
 is_shading (event.Data d) = true
 is_shading e = false
 
--- An event that is never refused for want of memory. A message may want some in its turn alone, and
--- a sweep only to report that it is done.
+-- An event that never fails for lack of memory. A message may allocate only in its turn, and a
+-- sweep only to report that it is done.
 abbrev pub is_memory_free : LocalState → Event → Bool
 is_memory_free p (event.Copy register source) = true
 is_memory_free p (event.Drop register) = true

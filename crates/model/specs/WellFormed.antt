@@ -1,6 +1,6 @@
--- What is true of the parts of every node, besides the references that it holds ("Well-formed
--- nodes" in docs/RULES.md): of its heap, of what it asked for, of its token, of the reports that
--- it has, and of its link to itself.
+-- What is true of the parts of every node: of its heap, of what it asked for, of its token, of its
+-- reports, and of its link to itself ("Well-formed nodes" in docs/RULES.md). The references that it
+-- holds are treated in `References`.
 use Rattle.std.specs.Prelude.{◌≡◌, ◌≢◌, ℕ, eqb, ◌<◌, ◌≤◌, List, [], length, Option, Some, None, slice_index_or}
 use Rattle.std.specs.List.{AllByRecursion, IsDistinct}
 use Rattle.ids.specs.Limits.{Shaped}
@@ -23,7 +23,7 @@ pub record IsObject (cycle generation : ℕ) (o : Object) : Type 0 where
   pub places : length o.places ≤ GREATEST_PLACES
   pub mark : o.mark ≤ cycle
 
--- A slot is free once its first object has gone: so its next one has at least generation 2.
+-- A slot becomes free when its first object is freed, so its next object has at least generation 2.
 abbrev pub IsSlotOf : ℕ → Slot → Type 0
 IsSlotOf cycle (Free g) = 2 ≤ g
 IsSlotOf cycle (Occupied g o) = IsObject cycle g o
@@ -35,8 +35,8 @@ HasMarked cycle (Free g) = ⊥
 HasMarked cycle (Occupied g o) = o.mark ≡ cycle
 HasMarked cycle Retired = ⊥
 
--- The heap of a node: its registers, its letters, its slots, and its grey objects, of which there
--- are none where marking has ended.
+-- The heap of a node: its registers, its letters, its slots, and its grey objects. Once marking has
+-- ended there are no grey objects.
 pub record IsStocked (shape : Shaped) (own cycle ended : ℕ) (h : Heap) : Type 0 where
   pub registers : length h.registers ≡ shape.registers
   pub letters : AllByRecursion (λ (l : Letter). IsOther shape own l.from) h.letters
@@ -45,7 +45,7 @@ pub record IsStocked (shape : Shaped) (own cycle ended : ℕ) (h : Heap) : Type 
   pub once : IsDistinct eqb h.grey
   pub calm : ended ≡ cycle → h.grey ≡ []
 
--- a node asks for what other nodes own, each reference once
+-- a node asks only for other nodes' objects, with each reference once
 pub record AreAsked (shape : Shaped) (own : ℕ) (asked : List Ref) : Type 0 where
   pub within : AllByRecursion (IsWithin shape) asked
   pub others : AllByRecursion (λ (r : Ref). r.node ≢ own) asked
@@ -56,13 +56,13 @@ abbrev pub IsHeld : ℕ → ℕ → Option Token → Type 0
 IsHeld cycle ended None = Unit {0}
 IsHeld cycle ended (Some token) = ended < cycle
 
--- node 0 alone has reports, and none of its own
+-- only node 0 has reports, and none of its own sweeps
 pub record AreReports (own : ℕ) (reports : List ℕ) : Type 0 where
   pub first : slice_index_or reports 0 0 ≡ 0
   pub others : own ≢ 0 → (i : ℕ) → slice_index_or reports i 0 ≡ 0
 
--- A node sends nothing to itself, and takes nothing in from itself. No message that it keeps is of
--- a later cycle.
+-- A node sends nothing to itself and receives nothing from itself. No message that it keeps is of a
+-- later cycle.
 pub record AreTimely (own cycle : ℕ) (links : List Link) (got : List ℕ) : Type 0 where
   pub unused : slice_index_or links own no_link ≡ no_link
   pub unheard : slice_index_or got own 0 ≡ 0

@@ -1,4 +1,5 @@
--- A space of nodes: for each its current state and the one last saved ("A space" in docs/RULES.md).
+-- A space of nodes: the current state of each node, and the one last saved ("A space" in
+-- docs/RULES.md).
 use Rattle.std.specs.Prelude.{◌++◌, ◌≡◌, ◌≢◌, ℕ, ◌-◌, ◌<◌, ◌≤◌, Bool, true, false, cond, nat_lt, nat_le, ◌==◌, ◌&&◌, ◌||◌, not, is_some, List, [], ◌∷◌, length, map, Option, Some, None, Result, Ok, Err, IsOk, slice_get, slice_set}
 use Rattle.std.specs.List.{range_with_len}
 use Rattle.ids.specs.Limits.{Shaped}
@@ -26,17 +27,17 @@ new_nodes shape = map (new_node shape) (range_with_len 0 shape.nodes)
 abbrev pub new_world : Shaped → World
 new_world shape = record { current = new_nodes shape; saved = new_nodes shape }
 
--- the message of a number among those sent, which are numbered from 1
+-- the message of this number among those sent; numbers start at 1
 abbrev pub numbered : List Message → ℕ → Option Message
 numbered sent number = cond (nat_lt 0 number) (slice_get sent (number - 1)) None
 
 -- A message to another node is released once a saved state of its sender holds it. Saved lists only
--- ever grow longer, so what was released stays so.
+-- grow, so a released message stays released.
 abbrev pub released : World → ℕ → ℕ → ℕ → Option Message
 released w from to number =
     cond (from == to) None (numbered (sent_to (node_at w.saved from) to) number)
 
--- the node's current state and answer afterwards
+-- the space with the node's new state, and the node's answer
 abbrev pub moved : World → ℕ → Result (NodeState × Answer) Refusal
     → Result (World × Outcome) Refusal
 moved w i (Ok x) = Ok (record w { current = slice_set w.current i x.0 }, outcome.Answer x.1)
@@ -47,16 +48,17 @@ delivery w from to number None = Ok (w, outcome.NoFrame)
 delivery w from to number (Some x) =
     moved w to (receive (node_at w.current to) from to number x.stamp x.body)
 
--- What a node has taken in of another's messages is acknowledged once a saved
--- state of it holds that.
+-- The messages that a node has received from another are acknowledged once its saved state counts
+-- them as received.
 abbrev pub acknowledged : World → ℕ → ℕ → ℕ
 acknowledged w from to = got_from (node_at w.saved to).local from
 
--- how many messages of one node to another are released
+-- how many messages from one node to another are released
 abbrev pub release_count : World → ℕ → ℕ → ℕ
 release_count w from to = length (sent_to (node_at w.saved from) to)
 
--- an acknowledgement is handed to the sender, who tests it as its event Ack; it changes no state
+-- An acknowledgement is handed to the sender, which tests it like its event Ack. It changes no
+-- state.
 abbrev pub handing : World → ℕ → ℕ → Result (World × Outcome) Refusal
 handing w from to =
     guarded
@@ -67,7 +69,7 @@ handing w from to =
 abbrev pub is_node : World → ℕ → Bool
 is_node w i = nat_lt i (length w.current)
 
--- a step of the space: the space afterwards and what became of the step, or its refusal
+-- a step of the space: the new space and the outcome, or the refusal
 unfoldable pub take_step : World → Step → Result (World × Outcome) Refusal
 take_step w (step.Act i e) =
     cond (is_node w i) (cond (is_own e) (moved w i (act (node_at w.current i) e)) (Err WrongNode))
@@ -103,19 +105,19 @@ abbrev pub outcome_of : Result (World × Outcome) Refusal → Result Outcome Ref
 outcome_of (Ok x) = Ok x.1
 outcome_of (Err e) = Err e
 
--- what became of each step of a list
+-- the outcome of each step of a list
 abbrev pub outcomes : World → List Step → List (Result Outcome Refusal)
 outcomes w [] = []
 outcomes w (s ∷ ss) = outcome_of (take_step w s) ∷ outcomes (happens w s) ss
 
--- what a node's saved state sent, its current state sent too, and perhaps more after it
+-- all that a node's saved state sent, its current state sent too, perhaps followed by more
 pub record KeepsSent (w : World) : Type 0 where
   pub width : length w.saved ≡ length w.current
   pub sent : (i j : ℕ)
       → (more : List Message)
       × (sent_to (node_at w.current i) j ≡ sent_to (node_at w.saved i) j ++ more)
 
--- a step whose event comes from no other node
+-- any step except an Act with an event that comes from another node
 abbrev pub is_own_step : Step → Bool
 is_own_step (step.Act i e) = is_own e
 is_own_step (step.Save i) = true
@@ -131,7 +133,7 @@ is_shading_step (step.Restart i) = false
 is_shading_step (step.Deliver from to number) = true
 is_shading_step (step.Hand from to) = false
 
--- a step that is never refused for want of memory
+-- a step that never fails for lack of memory
 abbrev pub is_step_memory_free : World → Step → Bool
 is_step_memory_free w (step.Act i e) =
     not (is_node w i) || is_memory_free (node_at w.current i).local e
@@ -143,25 +145,25 @@ is_step_memory_free w (step.Deliver from to number) =
     || not (is_next (node_at w.current to).local from number))
 is_step_memory_free w (step.Hand from to) = true
 
--- Why a step was refused: for the first reason that applies. A space can't tell that the image of a
--- node is too large, since an image lacks the messages that were acknowledged, and no state says
--- which these are. For that only a save is refused, and only in place of an answer.
+-- Why a step was refused: for the first reason that applies. The definitions can't say that a
+-- node's image is too large: an image leaves out acknowledged messages, and no state records which
+-- these are. Only a save fails with `ImageTooLarge`, and only instead of an answer.
 abbrev pub IsStepRefusal : World → Step → Refusal → Type 0
 IsStepRefusal w (step.Save i) ImageTooLarge = IsOk (take_step w (step.Save i))
 IsStepRefusal w s e = IsFirstRefusal (is_shading_step s) e (take_step w s)
 
--- What a step answered, and the space of the code after it, against the step of the definitions;
--- `shows` says which space of the definitions one of the code shows. An answer is the definition's,
--- and the space of the definition is then shown; after a refusal the same space is shown as before.
+-- The result of a step of the code, and the space after it, compared with the step of the
+-- definitions. `shows` says which space of the definitions a space of the code shows. An answer is
+-- the definition's, and the code then shows the definition's new space. After a refusal it shows
+-- the same space as before.
 abbrev pub FollowsStep : {S : Type 0} → (S → World → Type 0) → World → Step
     → Result Outcome Refusal → S → Type 0
 FollowsStep shows w s (Ok o) new = (v : World) × (take_step w s ≡ Ok (v, o)) × shows new v
 FollowsStep shows w s (Err e) new = IsStepRefusal w s e × shows new w
 
--- Whether what became of a step is an event of the space. Reading a word is none, nor is a message
--- that was taken in before or comes before its turn, one that isn't there, an acknowledgement handed
--- over, and what was refused. Of the code's own result it says the same, where memory may have been
--- refused too.
+-- Whether the outcome of a step makes it an event of the space. Not events are: reading a word, a
+-- repeat, an early message, a message that isn't there, an acknowledgement, and a refusal. The same
+-- test applies to the code's own result, which may also be a failed allocation.
 abbrev pub is_eventful : Result Outcome Refusal → Bool
 is_eventful (Ok (outcome.Answer (answer.Word word))) = false
 is_eventful (Ok (outcome.Answer answer.Repeat)) = false
@@ -172,13 +174,13 @@ is_eventful (Ok (outcome.Handed number)) = false
 is_eventful (Ok outcome.NoFrame) = false
 is_eventful (Err e) = false
 
--- A step of the space is an event. The definitions refuse nothing for memory.
+-- A step of the space that is an event. The definitions never fail for lack of memory.
 abbrev pub is_event : World → Step → Bool
 is_event w s = is_eventful (outcome_of (take_step w s))
 
--- The frames ever released: those of all messages that saved states have sent, and between any two
--- nodes the acknowledgements of every number up to what a saved state has taken in. In the second,
--- the node that acknowledges comes first.
+-- The frames ever released: all messages that saved states have sent, and between any two nodes the
+-- acknowledgements of every number up to what a saved state has received. An acknowledgement names
+-- the acknowledging node first.
 abbrev pub IsInNet : World → Plain → Type 0
 IsInNet w (data_frame from to number stamp body) =
     released w from to number ≡ Some (record { stamp = stamp; body = body })

@@ -1,11 +1,11 @@
-//! The two balances of messages that a node keeps. What has to arrive before marking ends counts
-//! apart from what the next cycle will have to wait for.
-/// The two balances of messages that a node keeps, each of those that it sent less those that it
-/// took in.
+//! The two balances of messages that a node keeps. Messages that have to arrive before marking ends
+//! are counted apart from those that the next cycle has to wait for.
+/// One of the two balances of messages that a node keeps: those that it sent less those that it
+/// received.
 #[derive(Clone, Copy, Debug, PartialEq, Eq)]
 pub enum Balance {
-    /// Messages that must have arrived before marking may end in the node's cycle.
+    /// Messages that have to arrive before marking may end in the node's cycle.
     Earlier,
-    /// Messages with references from the node's cycle. They count in the next one.
+    /// Messages with references from the node's cycle. They count in the next cycle.
     Recent,
 }

@@ -1,10 +1,9 @@
-//! What a node may be asked, and what it answers. These enums are at once the program's own types
-//! and the data of the definitions.
+//! The events of a node and its answers. The program uses these enums, and so do the definitions.
 use ids::Ref;
 use msg::{Ack, Data, Token};
 
-/// A received message that waits for the program: who sent it, its label, and its reference
-/// where one was sent.
+/// A received letter that waits until the program accepts it: its sender, its label, and the
+/// reference that was sent, if any.
 #[derive(Clone, Copy, Debug, PartialEq, Eq)]
 pub struct Letter {
     pub from: u8,
@@ -12,8 +11,8 @@ pub struct Letter {
     pub reference: Option<Ref>,
 }
 
-/// What one node may be asked to do. A program names objects by its registers alone: `object` is
-/// the register that names one.
+/// An event of one node. A program names objects only by its registers: `object` is the register
+/// that names the object.
 #[derive(Clone, Copy, Debug, PartialEq, Eq)]
 pub enum Event {
     /// Makes a new object with this many empty places, and puts its reference into the register.
@@ -21,7 +20,7 @@ pub enum Event {
         register: u16,
         places: u8,
     },
-    /// Puts into the register what the source register holds.
+    /// Copies the reference in the source register into the register.
     Copy {
         register: u16,
         source: u16,
@@ -30,13 +29,14 @@ pub enum Event {
     Drop {
         register: u16,
     },
-    /// Puts into the register what stands in a place of the object, also where that is nothing.
+    /// Copies the content of a place of the object into the register. If the place is empty, the
+    /// register becomes empty.
     Load {
         register: u16,
         object: u16,
         place: u8,
     },
-    /// Puts what the register holds into a place of the object.
+    /// Stores the register's reference in a place of the object.
     Store {
         object: u16,
         place: u8,
@@ -56,85 +56,86 @@ pub enum Event {
         object: u16,
         word: u64,
     },
-    /// Sends a letter with the register's reference, or with none where that is
-    /// empty, to another node.
+    /// Sends a letter to another node, with the register's reference, or without one if the
+    /// register is empty.
     Give {
         to: u8,
         label: u32,
         register: u16,
     },
-    /// Takes the oldest letter, and puts its reference, or nothing, into the register.
+    /// Removes the oldest letter and puts its reference into the register. If the letter has none,
+    /// the register becomes empty.
     Accept {
         register: u16,
     },
-    /// Asks the owner of an object of another node to put what the register holds into a place of
-    /// it; an empty register empties the place.
+    /// Asks the owner of an object of another node to store the register's reference in a place of
+    /// that object. An empty register empties the place.
     Put {
         object: u16,
         place: u8,
         register: u16,
     },
-    /// Asks the owner of an object of another node for what stands in a place of it. The owner
-    /// sends it back in a letter with this label.
+    /// Asks the owner of an object of another node for the content of a place of that object. The
+    /// owner sends it back in a letter with this label.
     Get {
         object: u16,
         place: u8,
         label: u32,
     },
-    /// Begins the next cycle. Only node 0 may, once the last one is swept everywhere.
+    /// Begins the next cycle. Only node 0 may do this, once all nodes have swept the last cycle.
     Begin,
-    /// Marks what the places of a grey object refer to.
+    /// Shades the references in the places of a grey object.
     Scan,
-    /// Hands the token on. At node 0 decides whether marking has ended, and where it may not have,
-    /// sends the token round again.
+    /// Passes the token on. Node 0 decides instead whether marking has ended. If it may not have
+    /// ended, node 0 sends the token around the ring again.
     Pass,
     /// Looks at the next slots, at most this many, and frees the objects that aren't marked.
     Sweep {
         count: u32,
     },
-    /// The message that waits for its turn, as the next one from this node, is taken in. A node
-    /// that keeps no messages before their turn has none that waits.
+    /// Receives the message that waits to be the next one from this node. On a node that keeps no
+    /// early messages, none waits.
     Next {
         from: u8,
     },
     /// A message from another node.
     Data(Data),
-    /// Another node acknowledges the messages that it has taken in and saved.
+    /// Another node acknowledges messages that it has received and saved.
     Ack(Ack),
 }
 
-/// What a node answers to an event that it was not refused.
+/// The answer of a node to an event that it didn't refuse.
 #[derive(Clone, Copy, Debug, PartialEq, Eq)]
 pub enum Answer {
     /// The reference of the new object.
     New(Ref),
-    /// It is done.
+    /// The event is done.
     Done,
-    /// What stood in the place.
+    /// The content of the place.
     Value(Option<Ref>),
     /// The object's word.
     Word(u64),
     /// The number of the message that was appended.
     Sent(u64),
-    /// The letter that was taken.
+    /// The letter that was accepted.
     Letter(Letter),
     /// The cycle that begins.
     Begun(u64),
-    /// The object whose places were looked at.
+    /// The object whose places were scanned.
     Scanned(Ref),
-    /// The token as it was handed on.
+    /// The token as it was passed on.
     Passed(Token),
-    /// Marking may not have ended yet, and the token goes round again.
+    /// Marking may not have ended yet, and the token goes around again.
     ProbeAgain,
     /// Marking has ended in this cycle.
     Ended(u64),
-    /// How many objects were freed, and whether the node has swept all its slots.
+    /// How many objects were freed, and whether the node has now swept all its slots.
     Freed { count: u32, done: bool },
-    /// The message was taken in.
+    /// The message was received.
     Received,
-    /// The message was taken in before, and changes nothing.
+    /// The message had been received before. It changes nothing.
     Repeat,
-    /// The message came before its turn. It changes nothing; a node that keeps such messages
-    /// takes it in when its turn has come.
+    /// The message came before its turn. It changes nothing. A node that keeps early messages
+    /// receives it when its turn comes.
     Early,
 }

@@ -1,11 +1,11 @@
-//! What is true of the object space: the definitions that every other crate's contracts cite.
+//! The definitions of the object space, which the contracts of all other crates cite.
 //!
-//! The code here is the few enums that are at once the program's own types and the data of the
-//! definitions: events and answers of a node, the balances in which it counts messages, steps and
-//! outcomes of a space. The definitions stand in `specs/`: `State` says what a node is, `Steps`
-//! what an event does to it, with `Heaps`, `Counting`, `Shading` and `Collecting` for its parts,
-//! `View` how a node that keeps only windows of what it sent shows such a state, `World` what a
-//! space of nodes does, `Cuts` what is reachable in it. `docs/RULES.md` tells the same in words.
+//! The code here is a few enums that both the program and the definitions use: events and answers
+//! of a node, the balances in which it counts messages, and steps and outcomes of a space. The
+//! definitions are in `specs/`. `State` says what a node is, and `Steps` what an event does to it;
+//! `Heaps`, `Counting`, `Shading` and `Collecting` define the parts of that. `View` says which
+//! state a node shows that keeps only the unacknowledged part of what it sent. `World` says what a
+//! space of nodes does, and `Cuts` what is reachable in it. `docs/RULES.md` says the same in words.
 #![tactic(auto)]
 
 mod balance;

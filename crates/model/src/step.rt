@@ -1,5 +1,4 @@
-//! What may happen in a space of nodes, and what became of it. A run is a new space after any list
-//! of these steps.
+//! The steps of a space of nodes, and their outcomes. A run is a new space after any list of steps.
 use crate::event::{Answer, Event};
 
 /// One step of a space of nodes in one thread.
@@ -13,19 +12,19 @@ pub enum Step {
     Restart(u8),
     /// The message of this number, if it was ever released, is given to its receiver.
     Deliver { from: u8, to: u8, number: u64 },
-    /// What the node `to`, as it was saved, has taken in from the node `from` is
-    /// acknowledged to that one.
+    /// The messages that the saved state of the node `to` has received from the node `from` are
+    /// acknowledged to `from`.
     Hand { from: u8, to: u8 },
 }
 
-/// What became of a step that was not refused.
+/// The outcome of a step that was not refused.
 #[derive(Clone, Copy, Debug, PartialEq, Eq)]
 pub enum Outcome {
-    /// What the node answered.
+    /// The node's answer.
     Answer(Answer),
-    /// The node was saved, or restarted.
+    /// The node was saved or restarted.
     Done,
-    /// The acknowledgement of this number was handed over.
+    /// The acknowledgement of this number was handed to the sender.
     Handed(u64),
     /// No such message was ever released.
     NoFrame,

@@ -1,4 +1,4 @@
--- Worked examples of whole cycles, computed: what is held stays, and what isn't goes.
+-- Worked examples of whole cycles, computed: what is held stays, and what isn't held goes.
 use Rattle.std.proofs.Common.{◌≡◌, ℕ, ◌+◌, pos, List, [], ◌∷◌, ◌++◌, refl}
 use Rattle.std.specs.Int.{int_wrap}
 use Rattle.ids.specs.declared.refusal.Refusal.TheVariants.{NothingToDo}
@@ -14,7 +14,7 @@ use Rattle.rows.proofs.ObjectRows.{store}
 use Rattle.rows.proofs.Words.{begin_cycle, scan_grey, pass_token, sweep_slots, save, deliver, ok, began, scanned_grey, probe_again, ended, freed_done, Row, ◌gives◌, Prints, mark_of, after, passes_on}
 
 -- Two nodes mark nothing until this cycle ends. Node 1 was black when it joined, so the token goes
--- round twice: it comes to node 1 as this message of node 0, and back as this one of node 1.
+-- around twice. It comes to node 1 as this message of node 0, and back as this message of node 1.
 abbrev pub two_probes : ℕ → ℕ → ℕ → List Row
 two_probes cycle out back =
     save 0 gives done
@@ -40,7 +40,7 @@ swept_by_both =
     ∷ begin_cycle 0 gives began 2
     ∷ []
 
--- nothing is there at all
+-- there are no objects at all
 abbrev empty_space : List Row
 empty_space =
     begin_cycle 0 gives began 1
@@ -94,7 +94,7 @@ unfolding int_wrap take_step act receive append announce shade vouch make_grey e
     take_body settled taken_in
 ring-freed-prints = refl
 
--- it isn't, and both stay
+-- that register isn't emptied, and both stay
 abbrev ring_kept : List Row
 ring_kept =
     building

@@ -1,5 +1,5 @@
 -- A worked example of old garbage: two objects of two nodes that name each other. Both nodes have
--- saved them, no cut reaches them, and after the next cycle's sweeps they are gone.
+-- saved them, and they are reachable in no cut. After the next cycle's sweeps they are gone.
 use Rattle.std.proofs.Common.{◌≡◌, ℕ, zero, suc, ◌<◌, ◌≤◌, Bool, List, [], ◌∷◌, ◌++◌, Option, None, Some, slice_get, refl, sym, ◌∙◌, subst, arith}
 use Rattle.std.proofs.lemmas.Bool.{cond_both}
 use Rattle.std.specs.Int.{int_wrap}
@@ -29,7 +29,7 @@ unfolding int_wrap take_step act receive append announce shade vouch make_grey e
     take_body settled taken_in
 ring-swept-prints = refl
 
--- node i, which holds nothing, and whose object names the one of node j
+-- node i, which holds nothing, and whose object names that of node j
 abbrev half : ℕ → ℕ → List (List Message) → List ℕ → NodeState
 half i j sent got = record {
   local = record {
@@ -68,7 +68,7 @@ unfolding int_wrap take_step act receive append announce shade vouch make_grey e
     take_body settled taken_in
 left-is = refl
 
--- what holds of both nodes' states, and of the one past the end, holds in every cut
+-- what holds of both nodes' states, and of the default node past the end, holds in every cut
 in-cut : (choice : ℕ → Bool) (i : ℕ) (P : ℕ → NodeState → Type 0)
     → P 0 (node_at left.current 0) → P 1 (node_at left.current 1) → ((j : ℕ) → P j no_node)
     → P i (cut left choice i)
@@ -98,7 +98,7 @@ no-letters : (choice : ℕ → Bool) (i : ℕ) → (cut left choice i).local.hea
 no-letters choice i =
     in-cut choice i (λ _ s. s.local.heap.letters ≡ []) refl refl (λ _. refl)
 
--- all that was sent was taken in
+-- everything that was sent was received
 all-taken : (choice : ℕ → Bool) (from to place : ℕ) (x : Message)
     → IsInFlight (cut left choice) from to place x → ⊥
 all-taken choice from to place x flight =

@@ -20,7 +20,7 @@ use Rattle.rows.proofs.Rows.{Answers, effect_answer, object, space}
 
 -- ---- cycles
 
--- a node of two after so many cycles, all swept, and with this report of node 1
+-- a node of two after this many cycles, all swept, and with this report of node 1
 abbrev after_cycles : ℕ → ℕ → ℕ → LocalState
 after_cycles own count report =
     let p : LocalState = new_local (space 2 1 2) own in
@@ -37,12 +37,12 @@ after_cycles own count report =
 abbrev last_but_one : ℕ
 last_but_one = GREATEST_CYCLE - 1
 
--- how the node answers Begin, having appended so many messages for node 1
+-- how the node answers Begin after it has appended this many messages for node 1
 abbrev begins : LocalState → ℕ → Result Answer Refusal
 begins p count = effect_answer (effect p (0 ∷ count ∷ []) event.Begin)
 
--- The last cycle is the one of the greatest number. The refusals come in their order, and that for
--- the link comes last: two messages are appended, so two numbers are wanted.
+-- The last cycle is that of the greatest number. The refusals come in their order, and that for the
+-- link comes last: two messages are appended, so two numbers are needed.
 pub cycles : Answers (
     (begins (after_cycles 0 last_but_one last_but_one) 0, Ok (answer.Begun GREATEST_CYCLE))
     ∷ (begins (after_cycles 0 GREATEST_CYCLE GREATEST_CYCLE) 0, Err CyclesSpent)
@@ -75,11 +75,11 @@ scanning =
       };
     }
 
--- how it answers Scan, having appended so many messages for node 1
+-- how it answers Scan after it has appended this many messages for node 1
 abbrev scans : ℕ → Result Answer Refusal
 scans count = effect_answer (effect scanning (0 ∷ count ∷ []) event.Scan)
 
--- two Marks want two numbers
+-- two Marks need two numbers
 pub marks : Answers (
     (scans (GREATEST_NUMBER - 1), Err LinkSpent)
     ∷ (scans (GREATEST_NUMBER - 2), Ok (answer.Scanned (object 0 0 3)))
@@ -116,8 +116,8 @@ greatest = pos (2 ^ 63 - 1)
 abbrev least : ℤ
 least = neg_ℤ (pos (2 ^ 63))
 
--- It is added in two's complement of 64 bits. A black node makes the token black, and no node makes
--- it white.
+-- The balance is added in two's complement of 64 bits. A black node makes the token black, and no
+-- node makes it white.
 pub sums : Answers (
     (passes (with_token 1 White (neg_ℤ (pos 3)) White (pos 5)), passed_token White (pos 2))
     ∷ (passes (with_token 1 White (pos 1) White greatest), passed_token White least)
@@ -128,7 +128,7 @@ pub sums : Answers (
 unfolding int_wrap append passed
 sums = refl
 
--- Node 0 concludes where it is white, the token is white, and both sums together are 0.
+-- Node 0 concludes if it is white, the token is white, and the sum of token and balance is 0.
 pub verdicts : Answers (
     (passes (with_token 0 White (pos 3) White (neg_ℤ (pos 3))), Ok (answer.Ended 1))
     ∷ (passes (with_token 0 White (pos 2) White (neg_ℤ (pos 3))), Ok answer.ProbeAgain)
@@ -172,8 +172,8 @@ effect_of (Err e) = record { local = new_local (space 0 0 0) 1; sends = []; answ
 abbrev swept : Effect
 swept = effect_of (effect (sweepable 0) (0 ∷ 0 ∷ []) (event.Sweep 16))
 
--- A slot that has used up the generations is retired. The others that are freed have the next one,
--- and are used before those that were free.
+-- A slot that has used up its generations is retired. The other freed slots have the next
+-- generation, and are used before those that were free already.
 pub generations : (swept.answer ≡ answer.Freed 2 true)
     × (swept.local.heap.slots
     ≡ Retired ∷ Free GREATEST_GENERATION ∷ Occupied 4 marked ∷ Free 2 ∷ [])
@@ -181,7 +181,7 @@ pub generations : (swept.answer ≡ answer.Freed 2 true)
 unfolding sweep_one swept_slots
 generations = (refl, refl, refl)
 
--- A sweep appends a message, and so may want memory, only where it is the last of another node than
+-- A sweep appends a message, and so may allocate, only if it is the last one of a node other than
 -- 0.
 pub sweep-memory : (is_memory_free (sweepable 0) (event.Sweep 4) ≡ true)
     × (is_memory_free (sweepable 1) (event.Sweep 3) ≡ true)
@@ -194,7 +194,7 @@ sweeps own count =
     effect_answer
     (effect (sweepable own) (GREATEST_NUMBER ∷ GREATEST_NUMBER ∷ []) (event.Sweep count))
 
--- the report wants a number
+-- the report needs a number
 pub reports : Answers (
     (sweeps 1 3, Ok (answer.Freed 2 false))
     ∷ (sweeps 1 4, Err LinkSpent)

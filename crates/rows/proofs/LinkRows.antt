@@ -25,7 +25,7 @@ use Rattle.rows.proofs.Rows.{Table, steps_of, outcomes_of, object, space, alloc,
 abbrev handed : ℕ → Result Outcome Refusal
 handed number = Ok (outcome.Handed number)
 
--- what a saved node has taken in is acknowledged, and nothing else
+-- what a saved node has received is acknowledged, and nothing else
 pub acknowledged-saved : Holds (space 2 4 16) (
     (give 0 1 1 0, sent 1)
     ∷ (step.Hand 0 1, handed 0)
@@ -44,7 +44,7 @@ pub acknowledged-saved : Holds (space 2 4 16) (
 unfolding take_step act receive given taken_in count_in take_body append shade vouch settled
 acknowledged-saved = refl
 
--- Messages are taken in in order and once. One that comes before its turn changes nothing.
+-- Messages are received in order and once. One that comes before its turn changes nothing.
 abbrev in_turn : Table
 in_turn =
     (alloc 0 0 0, made (object 0 0 1))
@@ -69,7 +69,7 @@ space_after shape rows = run (new_world shape) (steps_of rows)
 abbrev balance : World → ℕ → ℤ
 balance w node = (node_at w.current node).local.ring.recent
 
--- and each that was taken in counts one down
+-- and each message received counts down by one
 pub counted-once : balance (space_after (space 2 4 16) in_turn) 1 ≡ negsuc 1
 unfolding take_step act receive allocated given taken_in count_in take_body append shade vouch
     settled
@@ -146,7 +146,7 @@ pub window-ends : (released_at (link_to full 1) 31 ≡ Some (letter_of 3))
     × (released_at (link_to full 1) 32 ≡ None)
 window-ends = (refl, refl)
 
--- an acknowledgement moves the window, an old one doesn't
+-- an acknowledgement moves the window, but an old one doesn't
 pub window-moves : (released_at (link_to after_one 1) 31 ≡ Some (letter_of 33))
     × (released_at (link_to after_one 1) 0 ≡ Some (letter_of 2))
     × (view_act after_one (event.Ack none) ≡ Ok (after_one, answer.Done))

@@ -1,4 +1,4 @@
--- Worked examples of marking, computed: a cycle begins, and what programs hold is shaded.
+-- Worked examples of marking, computed: a cycle begins, and the roots of programs are shaded.
 use Rattle.std.proofs.Common.{pos, neg_ℤ, false, List, [], ◌∷◌, ◌++◌, refl}
 use Rattle.ids.specs.declared.refusal.Refusal.TheVariants.{NoRegister, EmptyRegister, Remote, NoField, TooManyFields, SelfSend, NotDirector, CycleRunning, NothingToDo}
 use Rattle.msg.specs.declared.body.Colour.TheVariants.{White, Black}
@@ -11,8 +11,8 @@ use Rattle.rows.proofs.Rows.{object, space, alloc, drop_register, give, made, se
 use Rattle.rows.proofs.ObjectRows.{load, store}
 use Rattle.rows.proofs.Words.{begin_cycle, scan_grey, save, deliver, ok, began, scanned_grey, state, Row, ◌gives◌, ◌shows◌, Prints, comes_over}
 
--- Node 0 has a letter with a reference of node 1 when the cycle begins, and asks for its marking:
--- the Mark, the token and Begin are its messages 1, 2 and 3.
+-- Node 0 has a letter with a reference of node 1 when the cycle begins, and asks node 1 to mark the
+-- object. The Mark, the token and Begin are its messages 1, 2 and 3.
 abbrev marked_at_owner : List Row
 marked_at_owner =
     alloc 1 0 0 gives made (object 1 0 1)
@@ -56,7 +56,7 @@ unfolding take_step act receive append announce shade vouch make_grey enter join
     stored given accepted begun probe scan scanned count_in take_body settled taken_in
 two-owners-prints = refl
 
--- Refusals of loads and of what comes with them, and of beginning.
+-- Refusals of loads and of related events, and of Begin.
 abbrev refusals : List Row
 refusals =
     load 0 0 256 0 gives refused NoRegister

@@ -12,7 +12,7 @@ use Rattle.rows.proofs.Rows.{object, space, alloc, drop_register, made, received
 use Rattle.rows.proofs.Words.{begin_cycle, scan_grey, pass_token, sweep_slots, save, restart, deliver, ok, began, scanned_grey, probe_again, ended, freed_done, state, Row, ◌gives◌, ◌shows◌, Prints, passes_on, first_token}
 use Rattle.rows.proofs.CycleRows.{two_probes, swept_by_both}
 
--- What becomes garbage while a cycle runs stays in it, and goes in the next.
+-- What becomes garbage while a cycle runs stays in that cycle, and goes in the next.
 abbrev next_cycle : List Row
 next_cycle =
     alloc 0 0 0 gives made (object 0 0 1)
@@ -31,7 +31,7 @@ unfolding int_wrap take_step act receive append announce shade vouch make_grey e
     settled taken_in
 next-cycle-prints = refl
 
--- The next cycle begins when node 0 has swept this one, and both others have reported theirs.
+-- The next cycle begins when node 0 has swept this one, and both others have reported their sweeps.
 abbrev all_reported : List Row
 all_reported =
     begin_cycle 1 gives refused NotDirector
@@ -68,7 +68,7 @@ unfolding int_wrap take_step act receive append announce shade vouch make_grey e
     probe conclude passed sweep_one swept_slots count_in take_body settled taken_in
 all-reported-prints = refl
 
--- A restart takes back a cycle that wasn't saved, and the same one begins anew.
+-- A restart takes back a cycle that wasn't saved, and the same cycle begins again.
 abbrev cycle_taken_back : List Row
 cycle_taken_back =
     alloc 0 0 0 gives made (object 0 0 1)

@@ -45,7 +45,7 @@ value r = Ok (outcome.Answer (answer.Value r))
 abbrev pub reads : ℕ → Result Outcome Refusal
 reads n = Ok (outcome.Answer (answer.Word n))
 
--- a new object of node 1 with so many places, which node 0 gets into its register 0
+-- a new object of node 1 with this many places, whose reference node 0 gets in its register 0
 abbrev shared : ℕ → Table
 shared places =
     (alloc 1 0 places, made (object 1 0 1))
@@ -55,7 +55,7 @@ shared places =
     ∷ (accept 0 0, letter 1 1 (object 1 0 1))
     ∷ []
 
--- what is stored is loaded, from that place of that object alone, until it is cleared
+-- what is stored is loaded, only from that place of that object, until it is cleared
 pub stored-loaded : Holds (space 2 4 16) (
     (alloc 0 0 2, made (object 0 0 1))
     ∷ (alloc 0 1 2, made (object 0 1 1))
@@ -75,7 +75,7 @@ pub stored-loaded : Holds (space 2 4 16) (
 unfolding take_step act allocated dropped loaded stored cleared shade
 stored-loaded = refl
 
--- a copied register names the same object, and the word is the object's
+-- a copied register names the same object, and the word belongs to the object
 pub one-word : Holds (space 2 4 16) (
     (alloc 0 0 0, made (object 0 0 1))
     ∷ (alloc 0 1 0, made (object 0 1 1))
@@ -93,7 +93,7 @@ pub one-word : Holds (space 2 4 16) (
 unfolding take_step act allocated copied dropped word_read word_set
 one-word = refl
 
--- the refusals of a load, in order, and of what comes with it
+-- the refusals of a load, in order, and of related events
 pub load-refusals : Holds (space 2 256 16) (
     (load 0 0 256 0, refused NoRegister)
     ∷ (load 0 0 1 0, refused EmptyRegister)
@@ -142,8 +142,8 @@ unfolding take_step act receive allocated copied loaded stored cleared word_read
     accepted taken_in count_in take_body append shade vouch settled
 object-refusals = refl
 
--- a place of another node's object is written and read by messages; where there is no such
--- place, nothing comes back
+-- a place of another node's object is written and read by messages; if there is no such place,
+-- nothing comes back
 pub put-got : Holds (space 2 4 16) (
     shared 2
     ++ (alloc 0 1 0, made (object 0 0 1))
@@ -167,7 +167,7 @@ unfolding take_step act receive allocated loaded given accepted put_asked get_as
     count_in take_body append shade vouch settled
 put-got = refl
 
--- an empty register empties the place; the refusals of both, in order
+-- an empty register empties the place; the refusals of both events, in order
 pub put-refusals : Holds (space 2 3 16) (
     (alloc 1 0 1, made (object 1 0 1))
     ∷ (store 1 0 0 0, dropped_now)

@@ -1,5 +1,5 @@
--- Worked examples of the ring, computed: messages that were under way when a node joined, and such
--- as were sent in the cycle.
+-- Worked examples of the ring, computed: messages that were in flight when a node joined, and
+-- messages that were sent in the cycle.
 use Rattle.std.proofs.Common.{pos, neg_ℤ, true, false, List, [], ◌∷◌, ◌++◌, refl}
 use Rattle.std.specs.Int.{int_wrap}
 use Rattle.ids.specs.declared.refusal.Refusal.TheVariants.{NothingToDo}
@@ -63,7 +63,7 @@ unfolding int_wrap take_step act receive append announce shade vouch make_grey e
     take_body settled taken_in
 held-back-prints = refl
 
--- A reference of the same cycle to a third node's object is no cause for a Mark.
+-- A reference of the same cycle to a third node's object causes no Mark.
 abbrev same_cycle : List Row
 same_cycle =
     comes_over 0 1 0
@@ -83,7 +83,7 @@ unfolding int_wrap take_step act receive append announce shade vouch make_grey e
     given accepted begun probe scan scanned conclude passed count_in take_body settled taken_in
 same-cycle-prints = refl
 
--- A reference of the same cycle to an unmarked object of the receiver comes before the Mark of it.
+-- A reference of the same cycle to an unmarked object of the receiver comes before the Mark for it.
 abbrev overtakes_mark : List Row
 overtakes_mark =
     alloc 2 0 0 gives made (object 2 0 1)
@@ -121,7 +121,7 @@ unfolding int_wrap take_step act receive append announce shade vouch make_grey e
     dropped given accepted begun probe conclude passed count_in take_body settled taken_in
 overtakes-mark-prints = refl
 
--- Node 0 counts its own balance: in the second probe the token has met nobody black and its sum is
+-- Node 0 counts its own balance. In the second probe the token has met no black node and its sum is
 -- 0, but a Mark from node 0 to node 1 hasn't arrived.
 abbrev own_balance : List Row
 own_balance =

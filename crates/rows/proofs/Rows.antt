@@ -1,5 +1,5 @@
 -- Worked examples, computed: the definitions answer what they should. A run of a new space is a
--- table, a row for each step with what became of it.
+-- table, with a row for each step and its outcome.
 use Rattle.std.proofs.Common.{◌≡◌, ℕ, ◌-◌, List, [], ◌∷◌, map, Option, Some, None, Result, Ok, Err, refl}
 use Rattle.ids.specs.Limits.{Shaped}
 use Rattle.ids.specs.declared.names.Ref.{Ref}
@@ -90,7 +90,7 @@ steps_of rows = map (λ (r : Step × Result Outcome Refusal). r.0) rows
 abbrev pub outcomes_of : Table → List (Result Outcome Refusal)
 outcomes_of rows = map (λ (r : Step × Result Outcome Refusal). r.1) rows
 
--- in a new space of this shape, each step has the outcome that stands beside it
+-- in a new space of this shape, each step has the outcome beside it
 abbrev pub Holds : Shaped → Table → Type 0
 Holds shape rows = outcomes (new_world shape) (steps_of rows) ≡ outcomes_of rows
 
@@ -111,7 +111,7 @@ unfolding take_step act receive allocated dropped given accepted taken_in count_
     shade vouch settled
 one-reference = refl
 
--- nothing leaves before it is saved, and nothing is taken in twice
+-- nothing leaves before it is saved, and nothing is received twice
 pub saved-first : Holds (space 2 4 16) (
     (alloc 1 1 0, made (object 1 0 1))
     ∷ (give 1 0 7 1, sent 1)
@@ -126,7 +126,7 @@ unfolding take_step act receive allocated dropped given accepted taken_in count_
     shade vouch settled
 saved-first = refl
 
--- messages are taken in in order, and letters are read in that order
+-- messages are received in order, and letters are read in that order
 pub in-order : Holds (space 3 4 16) (
     (give 0 2 4 0, sent 1)
     ∷ (give 0 2 5 0, sent 2)
@@ -169,7 +169,7 @@ unfolding take_step act receive allocated dropped given accepted taken_in count_
     shade vouch settled
 taken-back = refl
 
--- what was released stays so, and a receiver that forgets it takes it in again
+-- what was released stays released, and a receiver that forgets it receives it again
 pub released-again : Holds (space 3 4 16) (
     (give 2 1 10 0, sent 1)
     ∷ (step.Save 2, done)
@@ -188,7 +188,7 @@ unfolding take_step act receive allocated dropped given accepted taken_in count_
     shade vouch settled
 released-again = refl
 
--- refusals, and the order in which they are met
+-- refusals, and the order in which they apply
 pub refusals : Holds (space 2 2 1) (
     (alloc 0 2 9, refused NoRegister)
     ∷ (alloc 0 0 8, made (object 0 0 1))
@@ -218,7 +218,7 @@ unfolding take_step act receive allocated dropped given accepted taken_in count_
     shade vouch settled
 refusals = refl
 
--- each call answers what stands beside it
+-- each call has the answer beside it
 abbrev pub Call : Type 0
 Call = Result Answer Refusal × Result Answer Refusal
 
@@ -234,7 +234,7 @@ abbrev offered : ℕ → ℕ → ℕ → ℕ → Option Ref → Result Answer Re
 offered from to number stamp reference =
     answer_of (receive (new_node (space 2 4 16) 1) from to number stamp (body.Give 7 reference))
 
--- messages that a node may not take in
+-- messages that a node may not receive
 pub wrong-messages : Answers (
     (offered 0 1 1 0 (Some (object 1 15 1)), Ok answer.Received)
     ∷ (offered 0 1 2 0 None, Ok answer.Early)
@@ -258,7 +258,7 @@ abbrev pub effect_answer : Result Effect Refusal → Result Answer Refusal
 effect_answer (Ok x) = Ok x.answer
 effect_answer (Err e) = Err e
 
--- node 0 gives to node 1, for which it appended so many messages before
+-- node 0 gives to node 1 after it has appended this many messages for it
 abbrev given_after : ℕ → Result Answer Refusal
 given_after count =
     effect_answer (effect (new_local (space 2 4 16) 0) (0 ∷ count ∷ []) (event.Give 1 7 0))
@@ -272,13 +272,13 @@ pub numbers : Answers (
 unfolding given append
 numbers = refl
 
--- A heap of three slots whose slots 2 and 0 were freed in this order: slot 0 is used first.
+-- A heap of three slots whose slots 2 and 0 were freed in this order. Slot 0 is used first.
 abbrev freed : Heap
 freed =
     record (new_heap (space 2 1 3)) { slots = Free 7 ∷ Retired ∷ Free 4 ∷ []; free = 0 ∷ 2 ∷ [] }
 
--- the slot that was freed last is used first, under its next generation; the object's mark
--- is the node's cycle
+-- the slot that was freed last is used first, under its next generation; the object's mark is the
+-- node's cycle
 pub reuse : heap_alloc 3 1 5 freed 0 2
     ≡ Ok (
       record {
@@ -294,8 +294,8 @@ pub reuse : heap_alloc 3 1 5 freed 0 2
 unfolding heap_alloc
 reuse = refl
 
--- Where no slot is free the next one is fresh, while the limit has one. A retired slot
--- is never used again.
+-- If no slot is free the next one is fresh, while the limit has one. A retired slot is never used
+-- again.
 abbrev used_up : Heap
 used_up = record (new_heap (space 2 1 3)) { slots = Retired ∷ Retired ∷ [] }
 

@@ -12,8 +12,8 @@ use Rattle.rows.proofs.Rows.{object, space, alloc, drop_register, give, accept, 
 use Rattle.rows.proofs.ObjectRows.{copy, load, store, put, get, value}
 use Rattle.rows.proofs.Words.{begin_cycle, scan_grey, pass_token, sweep_slots, save, deliver, ok, began, scanned_grey, probe_again, ended, freed_done, state, Row, ◌gives◌, ◌shows◌, Prints, passes_on, first_token, comes_over}
 
--- A node that joins shades its registers in order, and then its letters, oldest first. The last
--- object that turned grey is scanned first.
+-- A node that joins shades its registers in order, and then its letters, oldest first. The object
+-- that turned grey last is scanned first.
 abbrev roots_in_order : List Row
 roots_in_order =
     alloc 1 0 0 gives made (object 1 0 1)
@@ -78,7 +78,7 @@ unfolding take_step act append announce shade make_grey enter join allocated dro
     probe scan scanned
 places-in-order-prints = refl
 
--- Node 1 makes two objects, the first with so many places, and references to both end up in this
+-- Node 1 makes two objects, the first with this many places. References to both end up in this
 -- register of node 0 and the next one.
 abbrev two_come_over : ℕ → ℕ → List Row
 two_come_over places register =
@@ -95,8 +95,8 @@ two_come_over places register =
     ∷ accept 0 (register + 1) gives letter 1 2 (object 1 1 1)
     ∷ []
 
--- Marks are sent in the order of the places, and one for each object: the second place names the
--- same object as the first.
+-- Marks are sent in the order of the places, one for each object. The second place names the same
+-- object as the first.
 abbrev marks_in_order : List Row
 marks_in_order =
     two_come_over 0 1
@@ -124,7 +124,7 @@ unfolding take_step act receive append announce shade vouch make_grey enter join
     stored given accepted begun probe scan scanned count_in take_body settled taken_in
 marks-in-order-prints = refl
 
--- Of a Put from an earlier cycle the object that it writes to is shaded before the reference that
+-- For a Put from an earlier cycle, the object that it writes to is shaded before the reference that
 -- it brings. Node 1 has joined by the token, which comes to it from node 2.
 abbrev target_first : List Row
 target_first =
@@ -147,7 +147,7 @@ unfolding int_wrap take_step act receive append announce shade vouch make_grey e
     settled taken_in
 target-first-prints = refl
 
--- What a Get asks for is shaded before it is sent back: where it names an object of the node that
+-- What a Get asks for is shaded before it is sent back. If it names an object of the node that
 -- asked, the Mark comes before the Give.
 abbrev mark_before_answer : List Row
 mark_before_answer =
@@ -181,7 +181,7 @@ unfolding int_wrap take_step act receive append announce shade vouch make_grey e
     taken_in
 mark-before-answer-prints = refl
 
--- An object of the node itself that a Get asks for turns grey.
+-- An own object of the node turns grey when a Get asks for it.
 abbrev value_shaded : List Row
 value_shaded =
     alloc 1 0 1 gives made (object 1 0 1)

@@ -1,6 +1,6 @@
 -- A worked example of what programs see: a run with a restart and a sweep, and its sights in two
--- cuts. The restart undoes what node 1 got first, of the collector nothing is seen, and what came
--- after a save isn't in the saved state.
+-- cuts. The restart undoes what node 1 received first. Nothing is seen of the collector, and what
+-- came after a save isn't in the saved state.
 use Rattle.std.proofs.Common.{◌≡◌, true, false, List, [], ◌∷◌, ◌++◌, Some, Ok, Err, refl}
 use Rattle.std.specs.Int.{int_wrap}
 use Rattle.ids.specs.declared.refusal.Refusal.TheVariants.{EmptyRegister}
@@ -52,7 +52,7 @@ steps_in [] = []
 steps_in (s gives r ∷ rs) = s ∷ steps_in rs
 steps_in (i shows n ∷ rs) = steps_in rs
 
--- up to the last saves
+-- the sights up to the last saves
 abbrev before_saves : List Sight
 before_saves =
     told 0 (event.Alloc 0 1) (Ok (answer.New (object 0 0 1)))
@@ -66,7 +66,7 @@ before_saves =
     ∷ came 1 0
     ∷ []
 
--- what the restart undid can't be seen beside what came after it: the one message comes once
+-- what the restart undid can't be seen together with what came after it: the one message comes once
 pub not-twice : IsRun 2 (new_space (space 2 4 16)) (
     told 0 (event.Alloc 0 1) (Ok (answer.New (object 0 0 1)))
     ∷ told 0 (event.Give 1 7 0) (Ok (answer.Sent 1))

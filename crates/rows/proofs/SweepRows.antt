@@ -34,7 +34,7 @@ unfolding int_wrap take_step act receive append announce shade vouch make_grey e
     dropped begun probe conclude passed sweep_one swept_slots count_in take_body settled taken_in
 slots-again-prints = refl
 
--- Of the slots that one sweep frees the last is used first.
+-- Of the slots that one sweep frees, the last one is used first.
 abbrev freed_last_first : List Row
 freed_last_first =
     alloc 0 0 0 gives made (object 0 0 1)
@@ -54,8 +54,8 @@ unfolding int_wrap take_step act receive append announce shade vouch make_grey e
     dropped begun probe conclude passed sweep_one swept_slots count_in take_body settled taken_in
 freed-last-first-prints = refl
 
--- A sweep looks at so many slots and no more. It may look at none, which ends it where there is
--- none left.
+-- A sweep looks at no more slots than the given number. That number may be 0, which ends the sweep
+-- if no slot is left.
 abbrev swept_in_parts : List Row
 swept_in_parts =
     sweep_slots 0 1 gives refused NothingToDo
@@ -102,8 +102,7 @@ unfolding int_wrap take_step act receive append announce shade vouch make_grey e
     dropped begun probe conclude passed sweep_one swept_slots count_in take_body settled taken_in
 made-marked-prints = refl
 
--- What is loaded is shaded, so that it stays when its place is emptied before the object is
--- scanned.
+-- What is loaded is shaded, so it stays if its place is emptied before the object is scanned.
 abbrev load_shades : List Row
 load_shades =
     alloc 0 0 1 gives made (object 0 0 1)

@@ -1,6 +1,6 @@
--- Worked examples of messages that a node may take in, and of what they leave, computed for one
--- node in states that are set up by hand. A row is what the node answers to its next message from
--- another node.
+-- Worked examples of messages that a node may receive, and of their effects, computed for one node
+-- in states that are set up by hand. A row is the node's answer to its next message from another
+-- node.
 use Rattle.std.proofs.Common.{◌≡◌, ℕ, pos, neg_ℤ, true, false, [], ◌∷◌, Some, None, Result, Ok, Err, refl}
 use Rattle.ids.specs.declared.names.Ref.{Ref}
 use Rattle.ids.specs.declared.refusal.Refusal.{Refusal}
@@ -31,7 +31,7 @@ token = record { colour = White; q = pos 5 }
 abbrev holding_token : LocalState → LocalState
 holding_token p = record p { ring = record p.ring { token = Some token } }
 
--- with one object, marked like this, in slot 0 under generation 2
+-- the node with one object, with this mark, in slot 0 under generation 2
 abbrev with_object : ℕ → LocalState → LocalState
 with_object mark p =
     record p {
@@ -49,7 +49,7 @@ with_root r p = record p { heap = record p.heap { registers = None ∷ Some r �
 abbrev give : Body
 give = body.Give 7 None
 
--- what the node answers to its first message from there, of this stamp
+-- the node's answer to its first message from this sender, with this stamp
 abbrev told : LocalState → ℕ → ℕ → Body → Result Answer Refusal
 told p from stamp b = effect_answer (received p (0 ∷ 0 ∷ 0 ∷ []) from p.own 1 stamp b)
 
@@ -59,8 +59,8 @@ taken = Ok answer.Received
 abbrev wrong : Result Answer Refusal
 wrong = Err WrongNode
 
--- A stamp above the node's cycle makes it join: the next cycle alone, once its own is swept, and
--- never at node 0.
+-- A stamp above the node's cycle makes it join. It joins only the next cycle, only once it has
+-- swept its own, and never at node 0.
 pub stamps : Answers (
     (told (standing 1 0 0 0) 2 0 give, taken)
     ∷ (told (standing 1 0 0 0) 2 1 give, taken)
@@ -78,7 +78,7 @@ pub stamps : Answers (
 unfolding append shade vouch make_grey enter join count_in take_body settled taken_in
 stamps = refl
 
--- who may say what, and of which objects
+-- who may send what, and about which objects
 pub senders : Answers (
     (told (standing 1 1 0 0) 0 1 body.Begin, taken)
     ∷ (told (standing 1 1 0 0) 0 0 body.Begin, taken)
@@ -105,8 +105,7 @@ pub senders : Answers (
 unfolding append shade vouch make_grey enter join count_in take_body settled taken_in
 senders = refl
 
--- The token, that marking has ended, and that a node has swept must fit the node as it is after
--- joining.
+-- The token, Ended and Swept must fit the node as it is after joining.
 pub in-phase : Answers (
     (told (standing 1 0 0 0) 2 1 (body.Token token), taken)
     ∷ (told (standing 1 0 0 0) 2 0 (body.Token token), wrong)
@@ -124,8 +123,7 @@ pub in-phase : Answers (
 unfolding append shade vouch make_grey enter join count_in take_body settled taken_in
 in-phase = refl
 
--- Where the end of marking makes a node join first, it may do so only where that turns nothing
--- grey.
+-- If the end of marking makes a node join first, the node may do so only if no object turns grey.
 pub ended-unjoined : Answers (
     (told (standing 1 0 0 0) 0 1 body.Ended, taken)
     ∷ (told (with_object 0 (standing 1 0 0 0)) 0 1 body.Ended, taken)
@@ -136,7 +134,7 @@ pub ended-unjoined : Answers (
 unfolding append shade vouch make_grey enter join count_in take_body settled taken_in
 ended-unjoined = refl
 
--- ---- what is left
+-- ---- the state afterwards
 
 abbrev left_by : Result Effect Refusal → LocalState
 left_by (Ok x) = x.local
@@ -146,8 +144,8 @@ left_by (Err e) = new_local (space 0 0 0) 1
 abbrev left : LocalState → ℕ → Body → LocalState
 left p stamp b = left_by (received p (0 ∷ 0 ∷ 0 ∷ []) 0 p.own 1 stamp b)
 
--- Joining empties what was asked for, counts all messages as earlier ones, makes the node black,
--- and sets the cursor back.
+-- Joining empties the list of references asked for, counts all messages as earlier ones, makes the
+-- node black, and resets the cursor.
 abbrev before_joining : LocalState
 before_joining =
     let p : LocalState = standing 1 0 0 0 in
@@ -195,7 +193,7 @@ pub token-held : (numbers_of given_token ≡ state 1 0 0 White (pos 0) (pos 0) 0
 unfolding append shade vouch make_grey enter join count_in take_body settled taken_in
 token-held = (refl, refl)
 
--- So is the end of marking, which is noted;
+-- Ended is counted in no balance either. The node notes that marking has ended.
 abbrev told_ended : LocalState
 told_ended = left (standing 1 1 0 0) 1 body.Ended
 
@@ -203,7 +201,7 @@ pub ended-noted : numbers_of told_ended ≡ state 1 1 0 White (pos 0) (pos 0) 0 
 unfolding append shade vouch make_grey enter join count_in take_body settled taken_in
 ended-noted = refl
 
--- and what another node has swept, which node 0 notes with that node's number.
+-- Node 0 notes Swept under the number of the node that has swept.
 abbrev told_swept : LocalState
 told_swept = left_by (received (standing 0 1 1 1) (0 ∷ 0 ∷ 0 ∷ []) 2 0 1 1 body.Swept)
 

@@ -1,6 +1,6 @@
--- Words for tables of steps and states: the events of a cycle, what becomes of them, and a node in
--- numbers. A run of a new space is a table, a row for each step with what became of it, and now and
--- then a node as it then is.
+-- Words for tables of steps and states: the events of a cycle, their outcomes, and a node in
+-- numbers. A run of a new space is a table, with a row for each step and its outcome, and now and
+-- then a node as it is at that point.
 use Rattle.std.specs.Prelude.{◌≡◌, ℕ, ◌-◌, ℤ, pos, Bool, true, false, List, [], ◌∷◌, length, count_by, is_some, Result, Ok}
 use Rattle.ids.specs.Limits.{Shaped}
 use Rattle.ids.specs.declared.names.Ref.{Ref}
@@ -40,7 +40,7 @@ restart node = step.Restart node
 abbrev pub deliver : ℕ → ℕ → ℕ → Step
 deliver from to number = step.Deliver from to number
 
--- ---- what became of a step
+-- ---- outcomes of steps
 
 abbrev pub ok : Result Outcome Refusal
 ok = dropped_now
@@ -60,7 +60,7 @@ probe_again = Ok (outcome.Answer answer.ProbeAgain)
 abbrev pub ended : ℕ → Result Outcome Refusal
 ended cycle = Ok (outcome.Answer (answer.Ended cycle))
 
--- so many objects were freed, and all slots are swept, or more are to be
+-- this many objects were freed; all slots are swept, or some are left
 abbrev pub freed_done : ℕ → Result Outcome Refusal
 freed_done count = Ok (outcome.Answer (answer.Freed count true))
 
@@ -122,19 +122,19 @@ pub data Row : Type 0 where
   ◌gives◌ : Step → Result Outcome Refusal → Row
   ◌shows◌ : ℕ → Numbers → Row
 
--- the table as the definitions would write it, from a space on
+-- the table as the definitions would write it, from this space on
 abbrev pub table : World → List Row → List Row
 table w [] = []
 table w (s gives r ∷ rows) = s gives outcome_of (take_step w s) ∷ table (happens w s) rows
 table w (i shows n ∷ rows) = i shows numbers_of (node_at w.current i).local ∷ table w rows
 
--- they write this one, in a new space of this shape
+-- they write this table, in a new space of this shape
 abbrev pub Prints : Shaped → List Row → Type 0
 Prints shape rows = table (new_world shape) rows ≡ rows
 
 -- ---- rows that many tables have
 
--- A node passes the token on, is saved, and the node before it gets the token as this message.
+-- A node passes the token on and is saved, and the node before it gets the token as this message.
 abbrev pub passes_on : ℕ → ℤ → Colour → ℕ → List Row
 passes_on node q colour number =
     pass_token node gives passed_token q colour
@@ -142,15 +142,15 @@ passes_on node q colour number =
     ∷ deliver node (node - 1) number gives received
     ∷ []
 
--- of three nodes the last joins by the first token of a cycle, which then comes to node 1
+-- of three nodes, the last one joins by the first token of a cycle, which then comes to node 1
 abbrev pub first_token : List Row
 first_token =
     save 0 gives done
     ∷ deliver 0 2 1 gives received
     ∷ passes_on 2 (pos 0) Black 1
 
--- A new node makes its first object, and its first message brings a reference to it, which ends up
--- in this register of the other.
+-- A new node makes its first object, and its first message brings a reference to it. The reference
+-- ends up in this register of the other node.
 abbrev pub comes_over : ℕ → ℕ → ℕ → List Row
 comes_over from to register =
     alloc from 0 0 gives made (object from 0 1)
@@ -160,7 +160,7 @@ comes_over from to register =
     ∷ accept to register gives letter from 1 (object from 0 1)
     ∷ []
 
--- the cycle that marked the object in a slot; 0 where none is there
+-- the cycle that marked the object in a slot; 0 if the slot has no object
 abbrev pub mark_of : Slot → ℕ
 mark_of (Free g) = 0
 mark_of (Occupied g o) = o.mark

@@ -1,4 +1,4 @@
--- Frames that stand one after another in one buffer.
+-- Frames one after another in one buffer.
 use Rattle.std.proofs.Common.{◌≡◌, ℕ, zero, suc, ◌<◌, ◌≤◌, List, [], ◌∷◌, ◌++◌, length, take, drop, get_or, slice_get, Some, refl, ap, sym, ◌∙◌, subst, arith}
 use Rattle.std.specs.List.{slice_range}
 use Rattle.std.proofs.lemmas.List.{take-append-le, take-append-drop, drop_at, length-take-le}
@@ -26,7 +26,7 @@ starts-within from all zero (end ∷ ends) h less =
 starts-within from all (suc k) [] h less = absurd (omega arith)
 starts-within from all (suc k) (end ∷ ends) h less = starts-within end all k ends h.1 (omega arith)
 
--- a part that ends at a place, as it is read
+-- a part with this end, as it is read
 pub record IsPart (bytes : List ℕ) (from k end : ℕ) (ends : List ℕ) : Type 0 where
   pub ordered : get_or (from ∷ ends) k 0 ≤ end
   pub within : end ≤ length bytes
@@ -61,7 +61,7 @@ cut-left xs ys from all (end ∷ ends) h less =
     let others = cut-left xs ys end all ends h.1 less in
     cc
 
--- one frame more
+-- one more frame
 pub cut_push : (xs ys : List ℕ) (from : ℕ) (ends : List ℕ) → AreEnds from (length xs) ends
     → cut_at (xs ++ ys) from (ends ++ length (xs ++ ys) ∷ []) ≡ cut_at xs from ends ++ ys ∷ []
 cut_push xs ys from [] h =
@@ -78,7 +78,7 @@ pub ends_push : (from all end : ℕ) (ends : List ℕ) → AreEnds from all ends
 ends_push from all end [] h more = (omega arith, refl)
 ends_push from all end (first ∷ ends) h more = (h.0, ends_push first all end ends h.1 more)
 
--- the first frames alone
+-- only the first frames
 ends-take : (from all n : ℕ) (ends : List ℕ) → AreEnds from all ends → n ≤ length ends
     → AreEnds from (get_or (from ∷ ends) n 0) (take n ends)
 ends-take from all zero ends h less = refl
@@ -107,5 +107,5 @@ cut_front bytes n ends h less =
     ∙ ap (λ zs. cut_at zs 0 (take n ends)) (take-append-drop end bytes)
     ∙ sym (cut-take bytes 0 n ends)
 
--- what letting go of the last frames wants
+-- the rules for dropping the last frames
 pub ruleset fronts = (cut_length, ends_front, cut_front)

@@ -19,13 +19,13 @@ use Rattle.image.specs.Grammar.{ring_format, held_format}
 use Rattle.image.specs.Images.{image_of, stored_by, stored_link, stored_links}
 use Rattle.site.proofs.Refusals.{memory-alone}
 
--- ---- how long it is
+-- ---- its length
 
 four : (n : ℕ) → length (number4.spell n) ≡ 4
 unfolding number4
 four n = refl
 
--- what stands before the lists, and each of these
+-- the part before the lists, and each of the lists
 spelling_length : (s : Stored) → length (spelling Second s)
     ≡ length ((front_format Second).spell (front_of s)) + 23
     + (length (flat_map number8.spell s.reports)
@@ -69,7 +69,7 @@ empty-links (suc n) =
     (flat_map (link_format Second).spell (new_links n))
     in omega (arith, this, empty-links n)
 
--- those to other nodes
+-- the links to other nodes
 other-links : (own n : ℕ)
     → length (flat_map (link_format Second).spell (remove (new_links n) own)) ≤ 20 * n
 unfolding link_format number4 number8
@@ -109,7 +109,7 @@ new-within shape own h =
       other-links own shape.nodes,
     )
 
--- so it is refused for want of memory alone
+-- so saving it fails only for lack of memory
 pub new-starved : (shape : Shaped) (own : ℕ) (e : Refusal) → IsShape shape
     → (e ≢ Memory
     → (e ≡ ImageTooLarge) × (GREATEST_IMAGE < length (image_of (new_view shape own))))

@@ -1,4 +1,4 @@
--- What the outboxes of a node hold as they grow.
+-- The frames in a node's outboxes as they grow.
 use Rattle.std.proofs.Common.{◌≡◌, ◌≢◌, ℕ, zero, suc, ◌+◌, ◌<◌, ◌≤◌, IsTrue, List, [], ◌∷◌, ◌++◌, length, map, get_or, set, Option, Some, None, slice_get, refl, ap, sym, subst, ◌∙◌, ⊎_elim, arith}
 use Rattle.std.specs.Option.{option_map}
 use Rattle.std.proofs.lemmas.List.{get_or-set_same, get_or-set_other, get_or_default, length_push, take-append-le, length-take}
@@ -20,7 +20,7 @@ slice_get_push [] y (suc k) h = absurd (omega arith)
 slice_get_push (x ∷ xs) y zero h = absurd (omega arith)
 slice_get_push (x ∷ xs) y (suc k) h = slice_get_push xs y k (omega arith)
 
--- the bytes of a frame that was made of a message
+-- the bytes of a frame that was made from a message
 spells_message : (own to place : ℕ) (m : Option Message) (p : Plain) (bytes : List ℕ)
     → Some p ≡ option_map (frame_of own to (place + 1)) m → Fits p × (bytes ≡ spelling p)
     → IsFrameOf own to place m (Some bytes)
@@ -29,7 +29,7 @@ spells_message own to place (Some x) p bytes e spelled =
     let same : p ≡ frame_of own to (place + 1) x = cc in
     (subst Fits same spelled.0, spelled.1 ∙ ap spelling same)
 
--- one frame more
+-- one more frame
 pub staged_more : {n : NodeView} {to : ℕ} {before after : List (List ℕ)} (p : Plain)
     (bytes : List ℕ) → IsTrue (is_other n.local to)
     → Some p ≡ numbered_frame n to (length after + 1) → Fits p × (bytes ≡ spelling p)
@@ -55,7 +55,7 @@ staged_more {n = n} {to = to} {before = before} {after = after} p bytes other ma
 
 -- ---- the outboxes of a node, one to each node
 
--- what stands in a place, at any default, has released what it had at first
+-- the outbox at an index, whatever the default, has released what it had at first
 pub read_released : (row : List OutboxView) (before : List (List (List ℕ))) (to : ℕ)
     (d : OutboxView) → to < length row → map released_frames row ≡ before
     → released_frames (get_or row to d) ≡ get_or before to []
@@ -84,7 +84,7 @@ row_own n before row to own so_far =
     below_more (λ j. j ≢ n.local.own → IsStaged n j (get_or before j [])
     (get_or row j no_outbox).frames) to so_far (λ other. absurd (other own))
 
--- where the space has no node, there are no messages and no frames
+-- past the last node of the space there are no messages and no frames
 past-staged : (n : NodeView) (j : ℕ) (before after : List (List ℕ)) → length n.links ≤ j
     → before ≡ [] → after ≡ [] → IsStaged n j before after
 past-staged n j before after past a b =
@@ -98,7 +98,7 @@ past-staged n j before after past a b =
       all = omega (arith, ap used none);
     })
 
--- all outboxes are staged, and all that they hold is released
+-- all outboxes are staged, and everything that they hold is released
 pub row_releases : (n : NodeView) (before : List (List (List ℕ))) (row : List OutboxView)
     → length n.links ≡ length before → length row ≡ length before
     → AreStagedTo (length before) n before row

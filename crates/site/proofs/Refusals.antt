@@ -1,9 +1,9 @@
--- Refusals for want of memory.
+-- Refusals for lack of memory.
 use Rattle.std.proofs.Common.{◌≡◌, ◌≢◌, ◌⊎◌, inl, inr, ⊎_elim, refl}
 use Rattle.ids.specs.declared.refusal.Refusal.{Refusal}
 use Rattle.ids.specs.declared.refusal.Refusal.TheVariants.{Memory}
 
--- for want of memory, or for something else
+-- a refusal is `Memory` or something else
 pub memory-or : (e : Refusal) → (e ≡ Memory) ⊎ (e ≢ Memory)
 memory-or Memory = inl refl
 memory-or e = inr (λ is. absurd cc)

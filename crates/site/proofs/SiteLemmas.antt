@@ -28,17 +28,17 @@ link-same f v u j e =
     sym (get_or-map f v.links j no_link) ∙ ap (λ (z : List ℕ). get_or z j (f no_link)) e
     ∙ get_or-map f u.links j no_link
 
--- ---- what was let go of
+-- ---- what was dropped
 
 pub base-at : (n : NodeView) (j : ℕ) → get_or (bases n) j 0 ≡ (link_to n j).base
 base-at n j = get_or-map base_of n.links j no_link
 
--- an acknowledgement is of messages within a bound that is given for each node
+-- an acknowledgement within a bound that is given for each node
 abbrev pub IsAckWithin : (ℕ → ℕ) → Option Ack → Type 0
 IsAckWithin B None = Unit {0}
 IsAckWithin B (Some a) = a.number ≤ B a.from
 
--- the bounds hold of what was let go of, and then of what the acknowledgement lets go of too
+-- if what was dropped is within the bounds, so is what is dropped after the acknowledgement
 pub bases-within : (B : ℕ → ℕ) (all : List ℕ) (o : Option Ack) (j : ℕ) → IsAckWithin B o
     → ((k : ℕ) → get_or all k 0 ≤ B k) → get_or (bases_acked all o) j 0 ≤ B j
 bases-within B all None j told low = low j
@@ -84,12 +84,12 @@ act-used n new e (Ok x) j p =
     subst (λ (v : NodeView). used (link_to n j) ≤ used (link_to v j)) (sym found.2)
     (le_trans (let_go-used n.links (ack_of e) j) (append-used links found.0.sends j))
 
--- what an acknowledgement came to
+-- the event that an acknowledgement came with
 ack-event : (e : Event) (a : Ack) → ack_of e ≡ Some a → e ≡ event.Ack a
 ack-event (event.Ack b) a h = let same : b ≡ a = cc in ap (λ z. event.Ack z) same
 ack-event e a h = absurd cc
 
--- letting go moves the base to the number, where that is above
+-- dropping messages raises the base to the number, if that is above it
 trimmed-base : (l : Link) (number : ℕ) → l.kept ≤ used l → number ≤ l.kept
     → (trimmed l number).base ≡ max number l.base
 trimmed-base l number held few =
@@ -97,7 +97,7 @@ trimmed-base l number held few =
     let other : l.base + (number - l.base) ≡ number - l.base + l.base = omega arith in
     ap (λ (k : ℕ). l.base + k) (min-eq_left some) ∙ other ∙ sub-add-eq-max number l.base
 
--- what an answered event lets go of
+-- what an answered event drops
 acted-lets_go : {rows : List (List (List ℕ))} {n new : NodeView} {e : Event}
     {r : Result Answer Refusal} → (o : Option Ack) → IsBacked rows n → Leaves n new e
     → Performed (is_shading e) r n new (view_act n e) → ack_of e ≡ o
@@ -130,7 +130,7 @@ acted-base {n = n} {new = new} {e = e} {r = Ok x} j h left p =
           left.kept,
     )
 
--- what a call of a node leaves of the site whose current one it was
+-- the site after a call of its current node
 module _ (n saved v : NodeView) (rows : List (List (List ℕ))) (e : Event)
     (r : Result Answer Refusal)
     (h : IsSite (record { current = n; saved = saved; released = rows })) (left : Leaves n v e)
@@ -220,7 +220,7 @@ site_restarted n v saved rows h same =
       saved = h.saved;
     })
 
--- ---- new ones
+-- ---- new sites
 
 pub no-frames : (n : ℕ) → map released_frames (replicate n no_outbox) ≡ replicate n []
 no-frames zero = refl

@@ -2,7 +2,7 @@
 use Rattle.std.specs.Prelude.{◌≡◌, ℕ, ◌≤◌, List, [], ◌∷◌, length, slice_range}
 use Rattle.site.specs.declared.frames.Frames.TheInside.{Inside}
 
--- the parts of the bytes that end at these places, of which the first one begins at `from`
+-- the parts of the bytes that end at these offsets; the first part begins at `from`
 abbrev pub cut_at : List ℕ → ℕ → List ℕ → List (List ℕ)
 cut_at bytes from [] = []
 cut_at bytes from (end ∷ ends) = slice_range bytes from end ∷ cut_at bytes end ends

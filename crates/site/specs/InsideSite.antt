@@ -1,4 +1,4 @@
--- How a site shows what it is.
+-- How the fields of a site show what it holds.
 use Rattle.std.specs.Prelude.{map}
 use Rattle.site.specs.declared.site.Site.TheInside.{Inside}
 use Rattle.site.specs.Outboxes.{released_frames}

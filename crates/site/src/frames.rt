@@ -1,5 +1,5 @@
-//! Frames one after another in one buffer, each found by its place. All frames of a link are kept
-//! for good, so none has a block of its own.
+//! Frames one after another in one buffer, each found by its index. All frames of a link are kept
+//! forever, so no frame has an allocation of its own.
 ghost use Rattle.std.specs.Prelude.{◌≡◌, ◌++◌, ◌<◌, ◌≤◌, [], ◌∷◌, length, take, slice_get, slice_index, Some, IfErr, OnOk, OnErr};
 ghost use Rattle.ids.specs.declared.refusal.Refusal.TheVariants.{Memory};
 
@@ -7,11 +7,11 @@ use ids::Refusal;
 use std::alloc::Global;
 use std::marker::Model;
 
-/// Frames one after another in one buffer, each found by its place.
+/// Frames one after another in one buffer, each found by its index.
 #[derive(Drop)]
 pub struct Frames {
     bytes: Vec<u8>,
-    // Where each frame ends in the bytes.
+    // The end of each frame in `bytes`.
     ends: Vec<usize>,
 }
 
@@ -28,7 +28,7 @@ impl Model for Frames {
 }
 
 impl Frames {
-    /// No frames.
+    /// Makes an empty list of frames.
     pub fn new(alloc: Global) -> Frames
         ensures { result ≡ [] }
     {
@@ -38,7 +38,7 @@ impl Frames {
         }
     }
 
-    /// How many frames there are.
+    /// The number of frames.
     #[tactic(auto, using(crate::proofs::Cuts::cut_length))]
     pub fn len(&self) -> usize
         ensures { result ≡ length self.now }
@@ -46,7 +46,7 @@ impl Frames {
         self.ends.len()
     }
 
-    /// The bytes of the frame in this place, counted from 0.
+    /// The bytes of the frame with this index, counted from 0.
     #[tactic(auto, using(crate::proofs::Cuts::cut_length))]
     pub fn get(&self, place: usize) -> &[u8]
         requires { place < length self.now }
@@ -56,7 +56,7 @@ impl Frames {
         &self.bytes[start(&self.ends, place)..end]
     }
 
-    /// Puts a frame behind the others. `Memory` where a growth was refused; then nothing changes.
+    /// Appends a frame. Fails with `Memory` if allocation fails; then nothing changes.
     #[tactic(auto, using(crate::proofs::Cuts::cut_push, crate::proofs::Cuts::ends_push))]
     pub fn push(&mut self, frame: &[u8]) -> Result<(), Refusal>
         ensures done { OnOk result (self.new ≡ self.old ++ frame.now ∷ []) }
@@ -69,7 +69,7 @@ impl Frames {
         Ok(())
     }
 
-    /// Lets go of all frames but the first `count`.
+    /// Drops all frames except the first `count`.
     #[tactic(auto, using(crate::proofs::Cuts::fronts))]
     pub fn truncate(&mut self, count: usize)
         requires { count ≤ length self.old }
@@ -80,7 +80,7 @@ impl Frames {
     }
 }
 
-/// Where the frame in this place begins: where the one before it ends.
+/// The offset at which the frame with this index begins, which is the end of the one before it.
 fn start(ends: &[usize], place: usize) -> usize
     requires { place ≤ length ends.now }
     ensures { result ≡ slice_index (0 ∷ ends.now) place }

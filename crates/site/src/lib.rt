@@ -1,4 +1,4 @@
-//! One node of a space: as it stands, the image of it as it was saved last, and the frames of its
+//! One node of a space: the current node, the image of the one saved last, and the frames of its
 //! messages that were released.
 #![tactic(auto)]
 

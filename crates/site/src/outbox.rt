@@ -1,5 +1,5 @@
-//! The frames of one node's messages to another: those that were released, and behind them those
-//! that a save is to release. They count only when nothing of the save can fail any more.
+//! The frames of one node's messages to another: those that were released, followed by those that a
+//! save is to release. The latter count only when nothing in the save can fail any more.
 ghost use Rattle.std.specs.Prelude.{◌≡◌, ◌≢◌, ◌≤◌, ◌<◌, ◌++◌, [], ◌∷◌, ℕ, length, map, take, replicate, slice_index_or, IsTrue, IfOk, IfErr, OnOk, OnErr};
 ghost use Rattle.std.specs.Option.{option_map};
 ghost use Rattle.ids.specs.declared.refusal.Refusal.TheVariants.{Memory};
@@ -18,8 +18,8 @@ use node::Core;
 use std::alloc::Global;
 use std::marker::Model;
 
-/// The frames of one node's messages to another: those that were released, and after them the ones
-/// that the save under way is to release.
+/// The frames of one node's messages to another: those that were released, followed by those that
+/// the present save is to release.
 #[derive(Drop)]
 pub struct Outbox {
     frames: Frames,
@@ -39,7 +39,7 @@ impl Model for Outbox {
 }
 
 impl Outbox {
-    /// An outbox without frames.
+    /// Makes an outbox without frames.
     pub fn new(alloc: Global) -> Outbox
         ensures { result ≡ no_outbox }
     {
@@ -62,8 +62,8 @@ impl Outbox {
         }
     }
 
-    /// Makes the frames of all messages to the node `to` that follow the released ones, and
-    /// releases none. `Memory` where a growth was refused.
+    /// Makes the frames of all messages to the node `to` that follow the released ones, but
+    /// releases none. Fails with `Memory` if allocation fails.
     pub fn stage(&mut self, node: &Core, to: u8) -> Result<(), Refusal>
         requires other { IsTrue (is_other node.now.local to) }
         requires kept { (link_to node.now to).base ≤ length (released_frames self.old) }
@@ -101,8 +101,8 @@ fn stage_frames(frames: &mut Frames, node: &Core, to: u8) -> Result<(), Refusal>
     Ok(())
 }
 
-/// Puts the bytes of a frame behind the others.
-// (apart from the loop, which most often has no frame and pays for no piece)
+/// Appends the bytes of a frame.
+// Kept out of the loop: most often there is no frame, and then no `Piece` is needed.
 #[inline(never)]
 fn push_frame(frames: &mut Frames, frame: &Frame) -> Result<(), Refusal>
     ensures spelled { Fits (plain frame.now) }
@@ -115,7 +115,7 @@ fn push_frame(frames: &mut Frames, frame: &Frame) -> Result<(), Refusal>
     frames.push(piece.as_slice())
 }
 
-/// An outbox to each of so many nodes.
+/// Makes an outbox to each of `count` nodes. Fails with `Memory` if allocation fails.
 pub fn new_outboxes(alloc: Global, count: u8) -> Result<Vec<Outbox>, Refusal>
     ensures made { IfOk result (λ v. v.items ≡ replicate count no_outbox) }
     ensures refused { IfErr result (λ e. e ≡ Memory) }
@@ -127,8 +127,8 @@ pub fn new_outboxes(alloc: Global, count: u8) -> Result<Vec<Outbox>, Refusal>
     Ok(row)
 }
 
-/// Makes and releases the frames of all messages that the node has appended since the released
-/// ones, to each other node. `Memory` where a growth was refused; then none is released.
+/// Makes and releases the frames of all messages to other nodes that the node has appended since
+/// the released ones. Fails with `Memory` if allocation fails; then none is released.
 pub fn release_all(row: &mut [Outbox], node: &Core) -> Result<(), Refusal>
     requires row { length row.old ≡ node.now.local.shape.nodes }
     requires kept { HasFrames node.now (map released_frames row.old) }
@@ -143,7 +143,7 @@ pub fn release_all(row: &mut [Outbox], node: &Core) -> Result<(), Refusal>
     Ok(())
 }
 
-/// Makes these frames, and releases none.
+/// Makes these frames, but releases none.
 fn stage_all(row: &mut [Outbox], node: &Core) -> Result<(), Refusal>
     requires row { length row.old ≡ node.now.local.shape.nodes }
     requires kept { HasFrames node.now (map released_frames row.old) }

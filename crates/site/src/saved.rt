@@ -1,5 +1,5 @@
-//! A node as it was saved: the bytes of its image, and memory for the next one. Which node they
-//! say, proofs know by a snapshot that has no bytes.
+//! A node as it was saved: the bytes of its image, and memory for the next image. For proofs, a
+//! snapshot without bytes says which node the image spells.
 ghost use Rattle.std.specs.Prelude.{◌≡◌, IfOk, IfErr};
 ghost use Rattle.ids.specs.declared.refusal.Refusal.TheVariants.{Memory};
 ghost use Rattle.image.specs.Nodes.{IsImageOf};
@@ -12,17 +12,17 @@ use std::marker::Model;
 use std::mem;
 use std::snapshot::Snapshot;
 
-// How large the memory of an image may be that is kept for the next one. What is larger is given
-// back: a large node's second image would be memory that nobody needs between its saves.
+// The most memory of an image that is kept for the next one. A larger image is freed: for a large
+// node, a second image would be memory that nobody needs between its saves.
 const GREATEST_SPARE: usize = 1_048_576;
 
-/// A node as it was saved: the bytes of its image, and memory for the next one.
+/// A node as it was saved: the bytes of its image, and memory for the next image.
 #[derive(Drop)]
 pub struct SavedNode {
     image: Vec<u8>,
-    // The image before it, where that is small, or no bytes: the next one takes its memory.
+    // The image before this one if it is small, else no bytes. The next image reuses its memory.
     spare: Vec<u8>,
-    // The node that the image says, for proofs alone: it has no bytes.
+    // The node that the image spells. It is only for proofs and has no bytes.
     says: Snapshot<Core>,
 }
 
@@ -39,7 +39,7 @@ impl Model for SavedNode {
 }
 
 impl SavedNode {
-    /// This node, which was saved as this image.
+    /// Makes the saved form of this node, whose image this is.
     pub fn new(image: Vec<u8>, node: &Core) -> SavedNode
         requires { IsImageOf image.items node.now }
         ensures { result ≡ node.now }
@@ -51,14 +51,14 @@ impl SavedNode {
         }
     }
 
-    /// Memory for the next image: bytes of no meaning.
+    /// Takes the memory for the next image. Its bytes have no meaning.
     pub fn take_spare(&mut self, alloc: Global) -> Vec<u8>
         ensures { self.new ≡ self.old }
     {
         mem::replace(&mut self.spare, Vec::new(alloc))
     }
 
-    /// This node was saved now, as this image.
+    /// Notes that this node has now been saved as this image.
     pub fn renew(&mut self, image: Vec<u8>, node: &Core)
         requires { IsImageOf image.items node.now }
         ensures { self.new ≡ node.now }
@@ -70,7 +70,7 @@ impl SavedNode {
         self.says = Snapshot::of(node);
     }
 
-    /// The node that was saved, made from its image. `Memory` where a growth was refused.
+    /// Makes the saved node from its image. Fails with `Memory` if allocation fails.
     pub fn read(&self, alloc: Global) -> Result<Core, Refusal>
         ensures same { IfOk result (λ n. n ≡ self.now) }
         ensures refused { IfErr result (λ e. e ≡ Memory) }

@@ -1,5 +1,6 @@
 //! One node of a space, the image of the one saved last, and the frames that were released. A
-//! restart reads the image and a delivery the frame, so what is proved of them holds of bytes.
+//! restart reads the image and a delivery reads the frame, so what is proved of them holds of
+//! bytes.
 ghost use Rattle.std.specs.Prelude.{◌≡◌, ◌≢◌, ◌<◌, length, Err, IsTrue, IfOk, IfErr, OnOk, OnErr, slice_index_or, ◌↔◌};
 ghost use Rattle.std.specs.Option.{option_map};
 ghost use Rattle.ids.specs.declared.refusal.Refusal.TheVariants.{Memory, ImageTooLarge};
@@ -27,15 +28,15 @@ use node::{Core, Node};
 use std::alloc::Global;
 use std::marker::Model;
 
-/// One node of a space: as it stands, the image of it as it was saved last, and for each node the
-/// frames of all messages to there that were ever released.
+/// One node of a space: the current node, the image of the one saved last, and for each node the
+/// frames of all messages to it that were ever released.
 pub struct Site {
     current: Node,
     saved: SavedNode,
     outboxes: Vec<Outbox>,
 }
 
-// Written out, so that the crates above need not prove anew how each field is dropped.
+// Written out, so that the crates above need not prove again how each field is dropped.
 impl Drop for Site {
     fn drop(self) {
         let Site {
@@ -59,7 +60,8 @@ impl Model for Site {
 }
 
 impl Site {
-    /// The site of a new node, which counts as saved. `Memory` where a growth was refused.
+    /// Makes the site of a new node, which counts as saved. Fails with `Memory` if allocation
+    /// fails.
     pub fn new(alloc: Global, shape: Shape, own: NodeId) -> Result<Site, Refusal>
         requires { own.number < shape.nodes }
         ensures made { IfOk result (λ s. s ≡ new_keeping shape own.number) }
@@ -82,7 +84,7 @@ impl Site {
         &self.current
     }
 
-    /// What was saved of the node, made from its image. `Memory` where a growth was refused.
+    /// Makes the saved node from its image. Fails with `Memory` if allocation fails.
     pub fn saved(&self, alloc: Global) -> Result<Core, Refusal>
         ensures same { IfOk result (λ n. n ≡ self.now.site.saved) }
         ensures refused { IfErr result (λ e. e ≡ Memory) }
@@ -90,8 +92,8 @@ impl Site {
         self.saved.read(alloc)
     }
 
-    /// Gives the current node an event. It refuses what the node refuses; then the site is as
-    /// before, but that a message that waited for its turn may have left its place.
+    /// Gives the current node an event, and fails with whatever the node refuses. If it fails, the
+    /// site is as before, except that an early message may have left its place.
     #[tactic(auto, using(crate::proofs::SiteLemmas::site_acted, crate::proofs::SiteLemmas::acts))]
     #[inline(always)]
     pub fn act(&mut self, event: Event) -> Result<Answer, Refusal>
@@ -100,9 +102,9 @@ impl Site {
         self.current.act(event)
     }
 
-    /// Saves the current node as its image, and releases the frames of all its messages.
-    /// `ImageTooLarge` where the image is too large, and else `Memory` where a growth was refused;
-    /// then nothing changes.
+    /// Saves the current node as its image, and releases the frames of all its messages. Fails with
+    /// `ImageTooLarge` if the image is too large, and otherwise with `Memory` if allocation fails.
+    /// If it fails, nothing changes.
     pub fn save(&mut self, alloc: Global) -> Result<(), Refusal>
         ensures done { OnOk result (Saves self.old.site self.new.site) }
         ensures early { self.new.early ≡ self.old.early }
@@ -120,8 +122,8 @@ impl Site {
         Ok(())
     }
 
-    /// Makes the saved node the current one, from its image; what was kept until its turn is lost.
-    /// `Memory` where a growth was refused; then nothing changes.
+    /// Makes the saved node, from its image, the current one. Early messages that were kept are
+    /// lost. Fails with `Memory` if allocation fails; then nothing changes.
     #[tactic(auto, using(crate::proofs::SiteLemmas::site_restarted))]
     pub fn restart(&mut self, alloc: Global) -> Result<(), Refusal>
         ensures done { OnOk result (self.new ≡ restarted self.old) }
@@ -141,7 +143,7 @@ impl Site {
         self.outboxes.get(usize::from(to))?.frame(number)
     }
 
-    /// What the saved node acknowledges to another node of its space. The current one knows it.
+    /// What the saved node acknowledges to another node of its space. The current node knows it.
     pub fn acknowledgement(&self, from: u8) -> Ack
         requires { IsTrue (is_other self.now.site.current.local from) }
         ensures from { result.from ≡ self.now.site.current.local.own }

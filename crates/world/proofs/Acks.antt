@@ -32,7 +32,7 @@ hand-to-itself n from to less below same =
     (λ w h. cond-true _ _ _ (are-nodes h from to less below)
     ∙ cond-true _ _ _ (eq-eqb from to same)) (λ saves. saves) refl
 
--- what comes from another node to this one
+-- a message from another node to this one
 pub addressed-to : {n : List SiteView} {from to : ℕ} → IsSim n → from < length n → to < length n
     → from ≢ to → is_addressed (site_at n from).current.local to from ≡ true
 addressed-to {n = n} {from = from} {to = to} sim less below apart =
@@ -40,7 +40,7 @@ addressed-to {n = n} {from = from} {to = to} sim less below apart =
     addressed-between (site_at n from).current.local to from (length n) placed.own placed.nodes
     below (λ e. apart (sym e))
 
--- what stands at the number of one node is told of another
+-- the node with one number sees another number as another node
 pub is-another : {n : List SiteView} {from to : ℕ} {q : SiteView} → IsSim n → from < length n
     → to < length n → from ≢ to → q ≡ site_at n to → is_other q.current.local from ≡ true
 is-another {n = n} {from = from} {to = to} {q = q} sim less below apart there =
@@ -61,7 +61,7 @@ module _ {n : List SiteView} {w : World} {from to : ℕ} {a : Ack} (h : ShowsWor
       ap (λ k. (link_to (site_at n from).current k).kept) ack.sender
       ∙ (h.each from).current.counted to
 
-  -- what the step comes to between two nodes, but for the test of the number
+  -- the step between two nodes, reduced to the test of the number
   handed : take_step w (step.Hand from to) ≡ guarded
       ((nat_le (acknowledged w from to) (release_count w from to), AckBeyond) ∷ [])
       (w, outcome.Handed (acknowledged w from to))

@@ -1,5 +1,5 @@
--- What a space of the code answers is what the definitions answer; so programs see of it a run of a
--- space without a collector.
+-- The answers of a space of the code are those of the definitions. So programs see a run of a space
+-- without a collector.
 use Rattle.std.proofs.Common.{◌≡◌, ◌≢◌, ℕ, Bool, true, false, List, [], ◌∷◌, ◌++◌, Result, Ok, Err, refl, ap, sym, ◌∙◌, subst, ⊎_elim}
 use Rattle.std.proofs.lemmas.Bool.{cases_Bool, cond-true, cond-false}
 use Rattle.ids.specs.declared.refusal.Refusal.{Refusal}
@@ -15,13 +15,13 @@ use Rattle.world.specs.Spaces.{SpaceView, ShowsSpace, step_met}
 use Rattle.world.specs.Answered.{Call, AreCalls, space_after, is_taken, steps_of, sights, AnswersAreUnseen}
 use Rattle.world.proofs.Refusals.{refused-as, step-first}
 
--- what the calls answered is what the definitions answer, and what they lead to is shown
+-- the calls' answers are those of the definitions, and the space that they lead to is shown
 record Answered (w : World) (old : SpaceView) (ks : List Call) (choice : ℕ → Bool) : Type 0
   where
     seen : sights w old ks choice ≡ kept w (steps_of old ks) choice
     shown : ShowsSpace (space_after old ks) (run w (steps_of old ks))
 
--- one call more, which is this step
+-- one more call, which is this step
 module _ (w : World) (old : SpaceView) (k : Call) (ks : List Call) (choice : ℕ → Bool) where
   abbrev met : Step
   met = step_met old.early k.step
@@ -48,7 +48,7 @@ module _ (w : World) (old : SpaceView) (k : Call) (ks : List Call) (choice : ℕ
         (sym (cond-true (is_taken k.result) (met ∷ later) later is)) rest.shown;
   }
 
-  -- one that the code alone refused
+  -- a step that only the code refused
   lost-call : is_taken k.result ≡ false → Answered w k.space ks choice
       → Answered w old (k ∷ ks) choice
   lost-call lost rest = record {

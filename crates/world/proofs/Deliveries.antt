@@ -42,7 +42,7 @@ missing-as : (from to place : ℕ) (sent : Option Message) → IsFrameOf from to
 missing-as from to place None h = refl
 missing-as from to place (Some x) h = absurd h
 
--- nothing was released under the number
+-- nothing was released under this number
 deliver-nothing : (n : List SiteView) (from to number : ℕ) → from < length n → to < length n
     → ((w : World) → ShowsWorld n w → released w from to number ≡ None)
     → Stepped (Ok outcome.NoFrame) n n (step.Deliver from to number)
@@ -96,12 +96,12 @@ act-receives : (s : NodeState) (d : Data) (from to number : ℕ) (x : Message)
 unfolding act receive
 act-receives s d from to number x h = cc
 
--- where a message was released, that it isn't the next one alone keeps it from wanting memory
+-- if the delivery of a released message never fails for lack of memory, it isn't the next one
 next-free : (nodes free : Bool) (sent : Option Message) (x : Message) → nodes ≡ true → sent ≡ Some x
     → (not nodes || (not (is_some sent) || free)) ≡ true → free ≡ true
 next-free nodes free sent x are is h = rw (are, is) at h
 
--- where the message was released whose frame the node is given, that is its delivery
+-- if the node is given the frame of a released message, that is the message's delivery
 pub delivery-gives : {n : List SiteView} {w : World} {from to number : ℕ} {d : Data} (x : Message)
     → ShowsWorld n w → from < length n → to < length n → released w from to number ≡ Some x
     → plain_data d ≡ data_frame from to number x.stamp x.body

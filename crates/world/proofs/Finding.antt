@@ -14,7 +14,7 @@ use Rattle.laws.proofs.Lookups.{among-append, among-append_left, among-append_ri
 use Rattle.laws.proofs.Meets.{in-among}
 use Rattle.world.specs.Reach.{Adds}
 
--- what stands past the end of a list
+-- what a look-up past the end of a list gives
 abbrev pub no_ref : Ref
 no_ref = record { node = 0; slot = 0; generation = 0 }
 
@@ -59,7 +59,7 @@ pub adds-more : {a b c : List Ref} {P Q R : Ref → Type 0} → Adds a b P → A
     → ((r : Ref) → P r ⊎ Q r → R r) → ((r : Ref) → R r → P r ⊎ Q r) → Adds a c R
 adds-more h g to from = adds-as to from (adds-then h g)
 
--- a reference that is there, or comes last
+-- a reference that is already in the list, or is appended
 adds-by : (ks : List Ref) (k : Ref) (b : Bool) → is_in k ks ≡ b
     → Adds ks (insert_key is_same ks k) (λ r. Some k ≡ Some r)
 adds-by ks k true there =
@@ -92,7 +92,7 @@ pub adds-one : (ks ls : List Ref) (k : Ref) → ls ≡ insert_key is_same ks k
 adds-one ks ls k is =
     subst (λ z. Adds ks z (λ r. Some k ≡ Some r)) (sym is) (adds-by ks k (is_in k ks) refl)
 
--- one of the first so many
+-- one of the first n
 abbrev pub Below : (ℕ → Ref → Type 0) → ℕ → Ref → Type 0
 Below P n r = (k : ℕ) × (k < n) × P k r
 
@@ -109,14 +109,14 @@ below-more P n h g =
     let same : below.0 ≡ n = omega (arith, below.1) in inr (subst (λ k. P k r) same below.2))
     (cases_lt below.0 n))
 
--- nothing comes after so many
+-- there are no more than n
 pub below-all : {a b : List Ref} (P : ℕ → Ref → Type 0) (n : ℕ)
     → ((k : ℕ) (r : Ref) → P k r → k < n) → Adds a b (Below P n)
     → Adds a b (λ r. (k : ℕ) × P k r)
 below-all P n within h =
     adds-as (λ r below. (below.0, below.2)) (λ r x. (x.0, within x.0 r x.1, x.1)) h
 
--- ---- the references that are there
+-- ---- the references that are present
 
 among-option : (o : Option Ref) (r : Ref) → Among r (option_to_list o) → o ≡ Some r
 among-option None r h = absurd h
@@ -147,7 +147,7 @@ take-more : {A : Type 0} (xs : List A) (i : ℕ) (d : A) → i < length xs
 take-more xs i d less = let next : i + 1 ≡ suc i = omega arith in
     ap (λ k. take k xs) next ∙ take-suc xs i d less
 
--- one reference more of a list was looked at
+-- one more reference of a list was looked at
 pub filled-more : {a b c : List Ref} (xs : List (Option Ref)) (i : ℕ) (d : Option Ref)
     → i < length xs → Adds a b (λ r. Among r (filled (take i xs)))
     → Adds b c (λ r. get_or xs i d ≡ Some r) → Adds a c (λ r. Among r (filled (take (i + 1) xs)))
@@ -172,7 +172,7 @@ pub filled-all : {a b : List Ref} (xs : List (Option Ref)) (i : ℕ) → length 
 filled-all {a = a} {b = b} xs i past h =
     subst (λ z. Adds a b (λ r. Among r (filled z))) (take_all i xs past) h
 
--- ---- where in a list something stands
+-- ---- the index of an element in a list
 
 pub among-place : (r : Ref) (xs : List Ref) → Among r xs
     → (k : ℕ) × (k < length xs) × (get_or xs k no_ref ≡ r)

@@ -1,4 +1,4 @@
--- The parts of a search: what one node's messages carry, what stands in the places of an object,
+-- The parts of a search: what one node's messages carry, the references in the places of an object,
 -- and how far the search has come.
 use Rattle.std.proofs.Common.{◌≡◌, ℕ, ◌+◌, ◌-◌, ◌<◌, ◌≤◌, Bool, true, false, cond, List, length, ◌==◌, get_or, slice_get, Option, Some, None, refl, ap, sym, ◌∙◌, subst, ⊎_elim, arith}
 use Rattle.std.specs.Prelude.{is_some, nat_le}
@@ -19,7 +19,7 @@ use Rattle.world.specs.Shows.{site_at, no_site}
 use Rattle.world.specs.Reach.{Adds, Follows, IsFound, given, standing, IsCarriedAt, Standing, carried_by, places_of, chosen}
 use Rattle.world.proofs.Finding.{Below, no_ref, adds-as, adds-kept, below-more, among-place, place-among, slice_read}
 
--- what is read somewhere is within the list
+-- an element that was read is within the list
 pub some-within : (xs : List (Option Ref)) (k : ℕ) (r : Ref) → get_or xs k None ≡ Some r
     → k < length xs
 some-within xs k r there =
@@ -63,7 +63,7 @@ carried-more from to place later h g =
     (λ r x. subst (λ (z : Option Message). Among r (carried_by z)) (sym x.2) x.3)
     g)
 
--- ---- what stands in places
+-- ---- references in places
 
 live-slot : (s : Slot) (g : ℕ) → is_some (object_of s g) ≡ true
     → filled (places_in s) ≡ places_of (object_of s g)
@@ -90,9 +90,9 @@ none-stands sites read owner r width past there =
     let stands : Standing no_site.current owner r = rw (none, same) at there in
     absurd stands
 
--- ---- how far the search is
+-- ---- how far the search has come
 
--- what stands in the places of the first so many was found
+-- the references in the places of the first `next` objects were found
 pub record Following (v : ℕ → NodeView) (start ks : List Ref) (next : ℕ) : Type 0 where
   pub kept : (r : Ref) → Among r start → Among r ks
   pub closed : (k : ℕ) → k < next → (r : Ref)

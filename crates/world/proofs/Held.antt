@@ -1,4 +1,4 @@
--- What the nodes of a space keep is of messages that were released, after each step.
+-- The messages that the nodes of a space keep were released; this is so after each step.
 use Rattle.std.proofs.Common.{◌≡◌, ◌≢◌, ℕ, ◌-◌, ◌<◌, ◌≤◌, ◌==◌, ltb, ap₂, true, List, [], ◌∷◌, length, get_or, set, Option, Some, None, Result, Ok, Err, refl, ap, sym, ◌∙◌, subst, ⊎_elim, arith}
 use Rattle.std.specs.Prelude.{IfOk, OnErr, OnOk, slice_get}
 use Rattle.std.proofs.lemmas.Bool.{cases_lt, cond_both}
@@ -39,7 +39,7 @@ use Rattle.world.proofs.Steps.{Gives, acted, given-follows, given-free, given-le
 use Rattle.world.proofs.Acks.{hands}
 use Rattle.world.proofs.Deliveries.{IsReleased, delivered, delivery-gives, delivery-lets-go, found}
 
--- ---- what was released stays so
+-- ---- what was released stays released
 
 grown-net : (w v : World) (i from : ℕ) (d : Data)
     → ((k : ℕ) → SentMore (node_at w.saved k) (node_at v.saved k)) → IsOfNet w i from d
@@ -52,11 +52,11 @@ grown-net w v i from d more h = record {
       h.there;
 }
 
--- each frame that is kept is of a message that was released
+-- each kept frame is of a message that was released
 abbrev pub AreOfNet : World → List Rings → Type 0
 AreOfNet w all = (i : ℕ) → OfAll (IsOfNet w i) (get_or all i [])
 
--- so it is after a step where it is before it
+-- if this holds before a step, it holds after it
 follows-space : {n : SpaceView} {w : World} (m : SpaceView) (s : Step) (r : Result Outcome Refusal)
     → ShowsSpace n w → length m.early ≡ length m.sites → AreOfNet w m.early
     → FollowsStep ShowsWorld w s r m.sites → FollowsStep ShowsSpace w s r m
@@ -77,7 +77,7 @@ follows-space {w = w} m s (Ok o) h width held f =
       },
     )
 
--- what is kept afterwards is of the space before
+-- what is kept afterwards is of messages that the space before had released
 abbrev pub KeepsNet : SpaceView → SpaceView → Type 0
 KeepsNet n m =
     (w : World) → ShowsSpace n w → (length m.early ≡ length m.sites) × AreOfNet w m.early
@@ -85,7 +85,7 @@ KeepsNet n m =
 pub keeps-same : (n : SpaceView) → KeepsNet n n
 keeps-same n w h = (h.width, h.held)
 
--- and what it is
+-- and it is what the definitions say
 abbrev pub KeepsSo : SpaceView → SpaceView → Step → Result Outcome Refusal → Type 0
 KeepsSo n m s r = (w : World) → ShowsSpace n w → KeepsAfter w n.early s r m.early
 
@@ -129,7 +129,7 @@ changed qs i q p less read =
       was = ap early_of there ∙ sym (get_or-map early_of qs i none);
     }
 
--- as the code has it, which reads the site at a place of what it sees of the space
+-- in terms of the code, which reads the site at a place of its view of the space
 pub space-changes : {n : SpaceView} {i place : ℕ} {q p : KeepingSite} (seen : List KeepingSite)
     → space_of seen ≡ n → place ≡ i → i < length n.sites → q ≡ get_or seen place q
     → SpaceChanges n (space_of (set seen place p)) i q p
@@ -168,12 +168,12 @@ module _ {n m : SpaceView} {i : ℕ} {q p : KeepingSite} (c : SpaceChanges n m i
   keeps-none nodes same =
       keeps-changed (λ w h. subst (OfAll (IsOfNet w i)) (sym same) (of-none (IsOfNet w i) nodes))
 
-  -- so nothing changes of what the nodes keep
+  -- so nothing changes in what the nodes keep
   pub early-same : p.early ≡ q.early → m.early ≡ n.early
   early-same same =
       c.early ∙ ap (set n.early i) (same ∙ c.was) ∙ set-get_or n.early i []
 
-  -- every node stands at its number
+  -- every node still has its number
   stands : (f : SiteView → NodeView) → IsPlaced (length n.sites) i (f p.site)
       → ((k : ℕ) → k < length n.sites → IsPlaced (length n.sites) k (f (site_at n.sites k)))
       → (k : ℕ) → k < length n.sites
@@ -249,7 +249,7 @@ module _ {n m : SpaceView} {i : ℕ} {q p : KeepingSite} (c : SpaceChanges n m i
       ∙ set-get_or n.sites i no_site))
       h
 
-  -- whatever became of the call
+  -- whether the call succeeded or not
   pub sim-after-save : {A : Type 0} (r : Result A Refusal) → IsSim n.sites
       → OnOk r (Saves q.site p.site) → OnErr r (p ≡ q) → IsSim m.sites
   sim-after-save (Ok x) h done same = sim-saved h done
@@ -304,7 +304,7 @@ keeps-given {n = n} {i = i} {e = e} {r = r} h new =
     (after-all (IsOfNet w i) (site_at n.sites i).current.local (kept_at n.early i) e r (shown.held i)
     (new w shown)))
 
--- what the nodes keep then is what the answer leaves of it
+-- after the event, the nodes keep what its answer leaves of it
 early-given : {n m : SpaceView} {i : ℕ} {e : Event} {r : Result Answer Refusal}
     → GivenSpace r n m i e → (w : World) → ShowsSpace n w
     → m.early ≡ given_early w n.early i e r
@@ -318,7 +318,7 @@ early-acted : {n m : SpaceView} {i : ℕ} {e : Event} (r : Result Answer Refusal
 early-acted (Ok a) h w shown = early-given h w shown
 early-acted (Err f) h w shown = early-given h w shown
 
--- what was released was released by a node that is there
+-- a released message was released by an existing node
 released-within : (w : World) (from to number : ℕ) (x : Message)
     → released w from to number ≡ Some x → from < length w.saved
 released-within w from to number x there =
@@ -460,7 +460,7 @@ module _ {n : SpaceView} (from to number : ℕ) {bytes : List ℕ} {d : Data} (a
       (early-delivered r h)
       (delivered apart there less (sites-given h) reads)
 
--- ---- a node that isn't there
+-- ---- a node that doesn't exist
 
 not-met : (n : SpaceView) (i : ℕ) (e : Event) → length n.early ≡ length n.sites
     → length n.sites ≤ i → step_met n.early (step.Act i e) ≡ step.Act i e

@@ -16,7 +16,7 @@ abbrev is_size : Refusal → Bool
 is_size ImageTooLarge = true
 is_size e = false
 
--- a test of the size of an image is among the tests
+-- one of the tests is of the size of an image
 abbrev tests_size : List (Bool × Refusal) → Bool
 tests_size [] = false
 tests_size (c ∷ cs) = is_size c.1 || tests_size cs
@@ -33,7 +33,7 @@ none-appended (t ∷ ts) us first second =
     let parts = neither (is_size t.1) (tests_size ts) first in
     rw parts.0 (none-appended ts us parts.1 second)
 
--- what is refused is a test's refusal
+-- a refusal is that of one of the tests
 guarded-other : {A : Type 0} (cs : List (Bool × Refusal)) (x : A) (e : Refusal)
     → tests_size cs ≡ false → guarded cs x ≡ Err e → e ≢ ImageTooLarge
 guarded-other [] x e none is = absurd cc

@@ -22,7 +22,7 @@ use Rattle.node.proofs.Kept.{of-none}
 abbrev pub new_sites : Shaped → List SiteView
 new_sites shape = map (new_site shape) (range_with_len 0 shape.nodes)
 
--- nothing was sent, released, acknowledged or let go of
+-- nothing was sent, released, acknowledged or dropped
 new-node-shown : (shape : Shaped) (own : ℕ) (B : ℕ → ℕ)
     → ShowsNode (new_node shape own) B (new_view shape own) (new_node shape own)
 new-node-shown shape own B = record {
@@ -47,7 +47,7 @@ new-site-shown B i shape own = record {
       rw (nothing-sent shape own j, get_or-replicate_any {A = List (List ℕ)} shape.nodes j []) tt;
 }
 
--- so it is for the site of each number, and past the last one
+-- this holds for the site of each number, and past the last one
 each-shown : (B : ℕ → ℕ) (i : ℕ) (shape : Shaped) (xs : List ℕ) (k : ℕ)
     → ShowsNew B i (get_or (map (new_site shape) xs) k no_site)
     (get_or (map (new_node shape) xs) k no_node)

@@ -1,4 +1,4 @@
--- What a search finds is what can be reached.
+-- A search finds exactly what is reachable.
 use Rattle.std.proofs.Common.{◌≡◌, ℕ, ◌==◌, ◌&&◌, ◌+◌, ◌-◌, ◌<◌, ◌≤◌, Bool, true, false, cond, List, [], length, map, get_or, slice_get, Option, Some, None, inl, inr, refl, ap, ap₂, sym, ◌∙◌, subst, ⊎_elim, le_trans, le_refl, eq-eqb, arith}
 use Rattle.std.proofs.Math.ListN.{get_or-map}
 use Rattle.std.proofs.lemmas.Bool.{cases_lt, cond-true, eqb-true}
@@ -81,7 +81,7 @@ letter-held h k l r there is =
     ∙ get_or-map reference_of h.letters k (record { from = 0; label = 0; reference = None })
     ∙ ap reference_of (get_or_from_slice_get h.letters k l _ there) ∙ is
 
--- ---- what stands in places
+-- ---- references in places
 
 slot-read : (s : Slot) (g : ℕ) (r : Ref) → Among r (places_of (object_of s g))
     → (o : Object) × (s ≡ Occupied g o) × Among r (filled o.places)
@@ -100,7 +100,7 @@ slot-stands s g o r is there =
     rw is (subst (λ z. Among r (places_of z))
     (sym (cond-true (g == g) _ _ (eq-eqb g g refl))) there)
 
--- only messages to nodes of the space were sent
+-- messages were sent only to nodes of the space
 receiver-there : (sent : List (List Message)) (j place : ℕ) (x : Message)
     → slice_get (get_or sent j []) place ≡ Some x → j < length sent
 receiver-there sent j place x there =
@@ -127,12 +127,12 @@ module _ (n : List SiteView) (saved : List Bool) (read : List (Option NodeView))
   base : Base shape c
   base = all-base shape within steps choice
 
-  -- as many nodes as the shape has
+  -- there are as many nodes as the shape has
   count : length w.current ≡ shape.nodes
   count = run-count (new_world shape) steps
       ∙ length-map-range_with_len (new_node shape) 0 shape.nodes
 
-  -- the nodes of the choice show its states
+  -- the chosen nodes show the chosen states
   node-shown : (i : ℕ) → ShowsNode (node_at w.saved i) (acknowledged w i) (chosen n read i) (c i)
   node-shown i = rw (are i) (by (choice i))
     where
@@ -146,7 +146,7 @@ module _ (n : List SiteView) (saved : List Bool) (read : List (Option NodeView))
   local-is : (i : ℕ) → (chosen n read i).local ≡ (c i).local
   local-is i = (node-shown i).shows.local
 
-  -- no node has let go of a message that its receiver hasn't taken in
+  -- no node has dropped a message that its receiver hasn't received
   acked-taken : (i j : ℕ) → acknowledged w i j ≤ taken c i j
   acked-taken i j = by (choice j)
     where
@@ -249,7 +249,7 @@ reordered xs ys r moved there =
     (f.0, f.1, get_or_default xs f.0 r no_ref f.1 ∙ f.2) in
     place-among ys g.0 r g.1 (get_or_default ys g.0 no_ref r g.1 ∙ g.2)
 
--- the steps of a search, and what came of them
+-- the steps of a search, and their results
 pub record IsSearched (n : List SiteView) (saved : List Bool) (sorted : List Ref) : Type 0 where
   pub read : List (Option NodeView)
   pub are : AreRead n saved read
@@ -281,7 +281,7 @@ reached {n = n} {saved = saved} {sorted = sorted} s shape steps within shown r =
           there)),
     )
 
--- it doesn't matter which of two references is asked about first
+-- the comparison of two references doesn't depend on their order
 same_flips : (r s : Ref) → is_same r s ≡ is_same s r
 same_flips r s =
     ap₂ ◌&&◌ (flip r.node s.node) (ap₂ ◌&&◌ (flip r.slot s.slot) (flip r.generation s.generation))
@@ -295,7 +295,7 @@ same_flips r s =
         by true false e f = sym (eq-eqb b a (sym (eqb-true a b e))) ∙ f
         by false true e f = sym e ∙ eq-eqb a b (sym (eqb-true b a f))
 
--- what was found comes once, in whatever order
+-- the references found come once, in whatever order
 pub once-sorted : {found all sorted : List Ref} → all ≡ found → IsPermutation all sorted
     → IsDistinct is_same found → IsDistinct is_same sorted
 once-sorted {found = found} {all = all} {sorted = sorted} same moved once =

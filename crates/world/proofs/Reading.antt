@@ -10,7 +10,7 @@ use Rattle.world.specs.Shows.{site_at}
 use Rattle.site.specs.Sites.{SiteView}
 
 module _ (sites : List SiteView) (saved : List Bool) where
-  -- the saved node of a number, where it was chosen
+  -- the saved node of this number, if it was chosen
   abbrev pub read_at : ℕ → Option NodeView
   read_at i = cond (get_or saved i false) (Some (site_at sites i).saved) None
 

@@ -8,18 +8,18 @@ use Rattle.model.specs.declared.step.Step.{Step}
 use Rattle.model.specs.declared.step.Step.TheVariants as step
 use Rattle.model.specs.World.{World, IsStepRefusal, is_shading_step, take_step}
 
--- what the definitions refuse
+-- a refusal of the definitions
 pub first-refused : {Y : Type 0} (shading : Bool) (r : Result Y Refusal) (e : Refusal) → e ≢ Memory
     → r ≡ Err e → IsFirstRefusal shading e r
 first-refused shading r e other h = (λ _. h, λ memory. absurd (other memory))
 
--- memory, in place of an answer
+-- `Memory`, instead of an answer
 pub first-memory : {Y : Type 0} (r : Result Y Refusal) (e : Refusal) → e ≡ Memory → IsOk r
     → IsFirstRefusal false e r
 first-memory r e memory h = (λ other. absurd (other memory), λ _. h)
 
--- Where one call is refused or answered, another is too, and for the same: so what is put in place
--- of the one stands in place of the other.
+-- If the second call fails whenever the first one does, and with the same refusal, and is answered
+-- whenever the first one is, then whatever may replace the first result may replace the second.
 replaced-by : {X Y : Type 0} (shading : Bool) (x : Result X Refusal) (y : Result Y Refusal)
     → ((f : Refusal) → x ≡ Err f → y ≡ Err f) → ((v : X) → x ≡ Ok v → IsOk y)
     → IsReplaced shading x → IsReplaced shading y
@@ -29,21 +29,21 @@ replaced-by true (Ok v) (Ok w) refuses answers h = tt
 replaced-by true (Ok v) (Err g) refuses answers h = let none = answers v refl in absurd cc
 replaced-by true (Err f) y refuses answers h = rw (refuses f refl) h
 
--- what is refused and answered where something else is
+-- the same for the first refusal that applies
 pub first-by : {X Y : Type 0} (shading : Bool) (x : Result X Refusal) (y : Result Y Refusal)
     (e : Refusal) → ((f : Refusal) → x ≡ Err f → y ≡ Err f) → ((v : X) → x ≡ Ok v → IsOk y)
     → IsFirstRefusal shading e x → IsFirstRefusal shading e y
 first-by shading x y e refuses answers h =
     (λ other. refuses e (h.0 other), λ memory. replaced-by shading x y refuses answers (h.1 memory))
 
--- what a refusal other than of memory says
+-- what a refusal other than `Memory` says
 pub refused-as : {Y : Type 0} (shading : Bool) (r : Result Y Refusal) (e : Refusal)
     → IsFirstRefusal shading e r → e ≢ Memory → r ≡ Err e
 refused-as shading r e h other = h.0 other
 
--- ---- of a step
+-- ---- refusals of a step
 
--- a refusal that a space can tell
+-- a refusal that can be derived from a space
 module _ (w : World) (e : Refusal) (told : e ≢ ImageTooLarge) where
   pub step-refused : (s : Step) → IsFirstRefusal (is_shading_step s) e (take_step w s)
       → IsStepRefusal w s e

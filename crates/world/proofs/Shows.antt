@@ -1,4 +1,4 @@
--- What a space shows after one of its sites changed.
+-- What a space shows after one of its sites has changed.
 use Rattle.std.proofs.Common.{◌≡◌, ◌≢◌, ℕ, ◌+◌, ◌-◌, ◌<◌, ◌≤◌, List, [], length, get_or, set, slice_get, Option, Some, None, Ok, refl, ap, sym, ◌∙◌, subst, ⊎_elim, le_trans, le_refl, arith}
 use Rattle.std.proofs.lemmas.Bool.{cases_eq, cases_lt, lt-leb, cond-false}
 use Rattle.std.proofs.lemmas.List.{length-set, length-map, length-drop, get_or_read, set-get_or, get_or-set_same, get_or-set_other}
@@ -41,12 +41,12 @@ node-moved {B = B} {n = n} {m = m} o h left shown let_go told = record {
 kept-sent : (l : Link) (sent : List Message) → ShowsSent l sent → ShowsSent (all_kept l) sent
 kept-sent l sent h = record { within = h.within; unacknowledged = h.unacknowledged }
 
--- so many messages were appended as the state has sent
+-- the link has appended as many messages as the state has sent
 sent-used : (l : Link) (sent : List Message) → ShowsSent l sent → used l ≡ length sent
 sent-used l sent h =
     omega (arith, h.within, ap length h.unacknowledged, length-drop l.base sent)
 
--- then the state that is shown is the saved one
+-- after a save, the state that is shown is the saved one
 node-saved : (B C : ℕ → ℕ) (n : NodeView) {saved s : NodeState} → ShowsNode saved B n s
     → ((j : ℕ) → B j ≤ C j) → ShowsNode s C (kept_view n) s
 node-saved B C n {s = s} h more = record {
@@ -85,7 +85,7 @@ message-shown l sent k h low =
 abbrev AreFrames : ℕ → ℕ → List Message → List (List ℕ) → Type 0
 AreFrames i j sent frames = (k : ℕ) → IsFrameOf i j k (slice_get sent k) (slice_get frames k)
 
--- also where messages came to those that were there
+-- also after more messages were appended
 module _ (was now : List Message) (grown : Grows was now) where
   frame-grows : (i j k : ℕ) (x : Option Message) (bytes : List ℕ) → slice_get was k ≡ x
       → IsFrameOf i j k x (Some bytes) → IsFrameOf i j k (slice_get now k) (Some bytes)
@@ -115,13 +115,13 @@ module _ (was now : List Message) (grown : Grows was now) where
 
 -- ---- the space as a whole
 
--- The site of node i changes, from q to p: m is the space after it.
+-- The site of node i changes, from q to p; m is the space after it.
 pub record Changes (n m : List SiteView) (i : ℕ) (q p : SiteView) : Type 0 where
   pub within : i < length n
   pub old : q ≡ site_at n i
   pub new : m ≡ set n i p
 
--- as the code has it, which reads the site at a place of what it sees of the space
+-- in terms of the code, which reads the site at a place of its view of the space
 pub site-read : {n seen : List SiteView} {i place : ℕ} {q : SiteView} → seen ≡ n → place ≡ i
     → i < length n → q ≡ get_or seen place q → q ≡ site_at n i
 site-read {n = n} {i = i} {q = q} seen named less read =
@@ -135,7 +135,7 @@ changes seen named less read = record {
   new = rw (seen, named);
 }
 
--- what holds of what was written and of all the others
+-- what holds of the element written, and of all others
 module _ {A : Type 0} (P : ℕ → A → Type 0) (xs : List A) (i : ℕ) (x d : A)
     (less : i < length xs) where
   at_each : P i x → (k : ℕ) → (k ≢ i → P k (get_or xs k d)) → P k (get_or (set xs i x) k d)
@@ -143,7 +143,7 @@ module _ {A : Type 0} (P : ℕ → A → Type 0) (xs : List A) (i : ℕ) (x d : 
       ⊎_elim (λ (same : k ≡ i). rw (same, get_or-set_same xs i x d less) here)
       (λ (other : k ≢ i). rw (get_or-set_other xs i k x d other) (there other)) (cases_eq k i)
 
--- a step that the definitions answer leads to the space that happens
+-- if the definitions answer a step, it leads to the space that `happens` gives
 grown-by : (w v : World) (s : Step) (o : Outcome) → KeepsSent w → take_step w s ≡ Ok (v, o)
     → KeepsSent v
 grown-by w v s o h e =
@@ -201,7 +201,7 @@ module _ {n m : List SiteView} {i : ℕ} {q p : SiteView} (c : Changes n m i q p
       let old : ShowsSite w i q = rw c.old (h.each i) in
       let less : i < length w.saved = omega (arith, c.within, h.width, h.grown.width) in
       let now : node_at v.saved i ≡ t = get_or-set_same w.saved i t no_node less in
-      -- the node has taken in what it acknowledges, so no less is acknowledged than before
+      -- the node has received whatever it acknowledges, so no less is acknowledged than before
       let heard : (k : ℕ) → got_from (node_at w.saved i).local k ≤ got_from t.local k = λ k.
       let acks = ap (λ z. get_or z k 0) old.current.acks in
       let local = ap (λ (x : LocalState). got_from x k) old.current.shows.local in

@@ -78,7 +78,7 @@ module _ {n : List SiteView} {w : World} (h : ShowsWorld n w) where
   unfolding take_step
   restart-step i less = cond-true _ _ _ (is-node i less)
 
--- ---- what a step may come to
+-- ---- the possible results of a step
 
 -- it is refused, and changes nothing
 refusing : {n m : List SiteView} (s : Step) (e : Refusal) → m ≡ n
@@ -97,7 +97,7 @@ refusing s e same refused large free = record {
   memory_free = free;
 }
 
--- it is refused, and not for the size of an image
+-- it is refused, but not for the size of an image
 refusing-other : {n m : List SiteView} (s : Step) (e : Refusal) → m ≡ n
     → ((w : World) → ShowsWorld n w → IsFirstRefusal (is_shading_step s) e (take_step w s))
     → e ≢ ImageTooLarge → (SavesTooLarge n s → ⊥)
@@ -120,7 +120,7 @@ answering s o follows short lets_go = record {
   memory_free = λ w h free. tt;
 }
 
--- no node is saved where none is named
+-- no node is saved if no existing node is named
 none-saved : (n : List SiteView) (s : Step) → NamesNoNode n s → SavesTooLarge n s → ⊥
 none-saved n (step.Save i) past saves = omega (arith, past, saves.0)
 none-saved n (step.Act i e) past saves = saves
@@ -134,7 +134,7 @@ no-node n s past =
     (λ w h. first-refused _ _ NoNode (λ e. absurd cc) (takes-no-node h s past))
     (λ e. absurd cc) (none-saved n s past) (λ w h free e. absurd cc)
 
--- a refusal that never comes, since no space could be shown
+-- a refusal that never occurs, since no space could be shown
 pub never : (n : List SiteView) (s : Step) (e : Refusal) → e ≢ ImageTooLarge
     → (SavesTooLarge n s → ⊥) → ((w : World) → ShowsWorld n w → ⊥) → Stepped (Err e) n n s
 never n s e other short none =
@@ -148,7 +148,8 @@ nothing n s o is = answering s o (λ w h. (w, is w h, h))
 
 -- ---- a node is given an event
 
--- The step gives node i the event e, in a space that shows w; and its answer is o of the node's.
+-- The step gives node i the event e, in a space that shows w. Its outcome is o of the node's
+-- answer.
 pub record Gives (n : List SiteView) (w : World) (i : ℕ) (e : Event) (s : Step)
     (o : Answer → Outcome) : Type 0 where
   pub answers : (v : NodeView) (t : NodeState) (x : Answer)
@@ -160,14 +161,14 @@ pub record Gives (n : List SiteView) (w : World) (i : ℕ) (e : Event) (s : Step
   pub within : IsAckWithin (acknowledged w i) (ack_of e)
   pub free : is_step_memory_free w s ≡ true → is_memory_free (site_at n i).current.local e ≡ true
 
--- then it lets go of what the event lets go of
+-- the step then drops the messages that the event drops
 abbrev pub LetsGo : ℕ → Event → Step → (Answer → Outcome) → Type 0
 LetsGo i e s o =
     (all : List SiteBases) (x : Answer) → bases_after all s (o x)
     ≡ set all i
     (record (bases_at all i) { current = bases_acked (bases_at all i).current (ack_of e) })
 
--- what was let go of, after one site changed
+-- how many messages are dropped after one site has changed
 bases-changed : {n m : List SiteView} {i : ℕ} {q p : SiteView} (f : SiteBases → SiteBases)
     → Changes n m i q p → site_bases p ≡ f (site_bases q)
     → bases_of m ≡ set (bases_of n) i (f (bases_at (bases_of n) i))
@@ -176,7 +177,7 @@ bases-changed {n = n} {i = i} {p = p} f c is =
     ∙ ap (set (bases_of n) i)
     (is ∙ ap f (ap site_bases c.old ∙ sym (get_or-map site_bases n i no_site)))
 
--- what becomes of it in one space that is shown
+-- the result in one space that is shown
 pub given-follows : {n m : List SiteView} {i : ℕ} {e : Event} {s : Step} {o : Answer → Outcome}
     {w : World} (r : Result Answer Refusal) → Given r n m i e → ShowsWorld n w → Gives n w i e s o
     → FollowsStep ShowsWorld w s (outcome_by o r) m
@@ -245,7 +246,7 @@ given {s = s} {o = o} {r = r} h lets_go short gives = record {
   memory_free = λ w shown free. given-free r h (gives w shown) free;
 }
 
--- a step that moves a node by an event that is no acknowledgement
+-- a step that changes a node by an event that is no acknowledgement
 pub moves : {n : List SiteView} {w : World} {i : ℕ} {e : Event} {s : Step} → ShowsWorld n w
     → ack_of e ≡ None → is_shading_step s ≡ is_shading e
     → take_step w s ≡ moved w i (act (node_at w.current i) e)
@@ -266,7 +267,7 @@ moves {n = n} {w = w} {i = i} {e = e} {s = s} h none kind step free = record {
   free = λ is. rw (h.each i).current.shows.local (free is);
 }
 
--- it lets go of nothing
+-- it drops no messages
 pub lets-nothing-go : (i : ℕ) (e : Event) (s : Step) → ack_of e ≡ None
     → ((all : List SiteBases) (x : Answer) → bases_after all s (outcome.Answer x) ≡ all)
     → LetsGo i e s outcome.Answer
@@ -290,7 +291,7 @@ acted {i = i} {e = e} h own =
 -- ---- steps of the other kinds
 
 module _ {n m : List SiteView} {i : ℕ} {q p : SiteView} (c : Changes n m i q p) where
-  -- memory was refused, in place of an answer
+  -- allocation failed, so `Memory` replaces an answer
   starved : (s : Step) (e : Refusal) → p ≡ q → e ≡ Memory
       → is_shading_step s ≡ false
       → ((w : World) → ShowsWorld n w → IsOk (take_step w s) × (is_step_memory_free w s ≡ false))
@@ -313,7 +314,7 @@ module _ {n m : List SiteView} {i : ℕ} {q p : SiteView} (c : Changes n m i q p
   saves-over saves =
       subst (λ (z : SiteView). GREATEST_IMAGE < length (image_of z.current)) (sym c.old) saves.1
 
-  -- a save is refused memory, or the image is too large
+  -- a save fails because allocation fails, or because the image is too large
   pub save-refused : (e : Refusal) → p ≡ q → (e ≢ Memory → e ≡ ImageTooLarge)
       → (◌≡◌ {A = Result (Unit {0}) Refusal} (Err e) (Err ImageTooLarge) ↔ IsOver)
       → Stepped (Err e) n m (step.Save i)

@@ -1,4 +1,4 @@
--- What a space of the code answers to a list of steps, as its programs see it.
+-- The answers of the code's space to a list of steps, as its programs see them.
 use Rattle.std.specs.Prelude.{ℕ, Bool, true, false, cond, List, [], ◌∷◌, ◌++◌, Result, Err}
 use Rattle.ids.specs.Limits.{Shaped, IsShape}
 use Rattle.ids.specs.declared.refusal.Refusal.{Refusal}
@@ -11,13 +11,13 @@ use Rattle.laws.specs.Objects.{new_space, Sight, IsRun, after}
 use Rattle.laws.specs.Sights.{seen, at_first, LooksLike}
 use Rattle.world.specs.Spaces.{SpaceView, ShowsSpace, FollowsSpace, step_met}
 
--- a call of `Sim::step`: the step, what was answered, and the space of the code then
+-- a call of `Sim::step`: the step, the result, and the space of the code afterwards
 pub record Call : Type 0 where
   pub step : Step
   pub result : Result Outcome Refusal
   pub space : SpaceView
 
--- calls one after another, of each of which the contract of `Sim::step` says so much (`follows`)
+-- calls one after another, each of which meets the clause `follows` of `Sim::step`
 abbrev pub AreCalls : SpaceView → List Call → Type 0
 AreCalls old [] = Unit {0}
 AreCalls old (k ∷ ks) =
@@ -28,22 +28,22 @@ abbrev pub space_after : SpaceView → List Call → SpaceView
 space_after old [] = old
 space_after old (k ∷ ks) = space_after k.space ks
 
--- Whether a call took a step of the definitions. What is refused for memory, or of an image that is
--- too large, is refused by the code alone.
+-- Whether a call took a step of the definitions. Only the code fails for lack of memory, or because
+-- an image is too large.
 abbrev pub is_taken : Result Outcome Refusal → Bool
 is_taken (Err Memory) = false
 is_taken (Err ImageTooLarge) = false
 is_taken r = true
 
--- The steps that were taken, as the definitions have them: Next of a frame that waits is its
+-- The steps that were taken, as the definitions have them. Next of a frame that waits is its
 -- delivery.
 abbrev pub steps_of : SpaceView → List Call → List Step
 steps_of old [] = []
 steps_of old (k ∷ ks) =
     cond (is_taken k.result) (step_met old.early k.step ∷ steps_of k.space ks) (steps_of k.space ks)
 
--- What was seen, by what the calls answered, as far as the cut has it that the choice picks at the
--- end. Which message a delivery is of, the space of the definitions says.
+-- What was seen, by the answers of the calls, as far as it belongs to the cut that the choice picks
+-- at the end. The space of the definitions says which message was delivered.
 abbrev pub sights : World → SpaceView → List Call → (ℕ → Bool) → List Sight
 sights w old [] choice = []
 sights w old (k ∷ ks) choice =
@@ -52,9 +52,9 @@ sights w old (k ∷ ks) choice =
     ++ sights (happens w (step_met old.early k.step)) k.space ks choice)
     (sights w k.space ks choice)
 
--- What programs see of the code: what the calls answered, seen so, is a run of a space without a
--- collector, in each choice of current and saved states; the space of the code then shows what the
--- steps lead to, and the run ends as the choice's cut of that is.
+-- What programs see of the code. In each choice of current and saved states, the sights that the
+-- calls' answers give are a run of a space without a collector. The space of the code then shows
+-- the definitions' space after these steps, and the run ends like the choice's cut of that space.
 abbrev pub AnswersAreUnseen : Type 0
 AnswersAreUnseen =
     (shape : Shaped) → IsShape shape

@@ -1,6 +1,6 @@
--- What a search for references has found. A test's list of them is searched in turn: what the
--- registers, letters and messages of all nodes refer to, and then what stands in the places of
--- each.
+-- The results of a search for references. A test's search begins with the references in the
+-- registers, letters and messages of all nodes. Then it goes through its list, and adds those in
+-- the places of each object.
 use Rattle.std.specs.Prelude.{◌≡◌, ℕ, ◌+◌, ◌<◌, ◌≤◌, ◌++◌, Bool, false, cond, List, [], length, Option, Some, None, ◌⊎◌, slice_index_or}
 use Rattle.std.specs.Ordering.{nat_cmp, ordering_then}
 use Rattle.std.specs.declared.cmp.Ordering.{Ordering}
@@ -21,7 +21,7 @@ in_order a b =
     ordering_then (nat_cmp a.node b.node)
     (ordering_then (nat_cmp a.slot b.slot) (nat_cmp a.generation b.generation))
 
--- of each node the saved one, where the choice is true, and else none
+-- for each node the saved one if the choice is true, else none
 abbrev pub AreRead : List SiteView → List Bool → List (Option NodeView) → Type 0
 AreRead sites saved read =
     (i : ℕ)
@@ -32,11 +32,11 @@ abbrev pub node_or : Option NodeView → NodeView → NodeView
 node_or (Some n) current = n
 node_or None current = current
 
--- of each node the one that was read, or else the current one
+-- for each node the one that was read, or else the current one
 abbrev pub chosen : List SiteView → List (Option NodeView) → ℕ → NodeView
 chosen sites read i = node_or (slice_index_or read i None) (site_at sites i).current
 
--- what a register or a letter of the node refers to
+-- the reference is in a register or a letter of the node
 abbrev pub IsHeld : NodeView → Ref → Type 0
 IsHeld n r = (k : ℕ) × (slice_index_or (roots n.local.heap) k None ≡ Some r)
 
@@ -45,8 +45,8 @@ abbrev pub carried_by : Option Message → List Ref
 carried_by None = []
 carried_by (Some x) = carried x.body
 
--- the message in this place among all from one node to another is kept by the one, the other hasn't
--- taken it in, and it carries the reference
+-- One node keeps the message in this place among all its messages to the other. The other node
+-- hasn't received it, and the message carries the reference.
 abbrev pub IsCarriedAt : (from to : NodeView) → ℕ → Ref → Type 0
 IsCarriedAt from to place r =
     (x : Message) × (got_from to.local from.local.own ≤ place)
@@ -55,7 +55,7 @@ IsCarriedAt from to place r =
 abbrev pub IsCarried : (from to : NodeView) → Ref → Type 0
 IsCarried from to r = (place : ℕ) × IsCarriedAt from to place r
 
--- so of the messages of one node to all nodes
+-- the same for the messages of one node to all nodes
 abbrev pub IsLinked : List SiteView → List (Option NodeView) → ℕ → Ref → Type 0
 IsLinked sites read i r =
     (j : ℕ) × (j < length sites) × IsCarried (chosen sites read i) (chosen sites read j) r
@@ -69,12 +69,12 @@ abbrev pub places_of : Option Object → List Ref
 places_of None = []
 places_of (Some o) = filled o.places
 
--- the reference stands in a place of the node's object, which is live
+-- the reference is in a place of the node's object, which is live
 abbrev pub Standing : NodeView → Ref → Ref → Type 0
 Standing n owner r = Among r (places_of (object_at n.local.heap owner))
 
--- The second list is the first one with more behind it: it has all that pass the test, and nothing
--- else besides.
+-- The second list is the first one with more at its end. It has all references that pass the test,
+-- and no others were added.
 pub record Adds (before after : List Ref) (test : Ref → Type 0) : Type 0 where
   pub more : List Ref
   pub grown : after ≡ before ++ more

@@ -21,26 +21,28 @@ use Rattle.node.specs.declared.summary.Summary.{Summary}
 use Rattle.site.specs.Outboxes.{IsFrameOf, numbered_bytes}
 use Rattle.site.specs.Sites.{SiteView, Acted, frames_to, new_site, bases, bases_to}
 
--- the site of a node, and past the last one one that no space has
+-- the site of a node; past the last one, a site that no space has
 abbrev pub no_site : SiteView
 no_site = new_site (record { nodes = 0; registers = 0; slots = 0 }) 1
 
 abbrev pub site_at : List SiteView → ℕ → SiteView
 site_at sites i = slice_index_or sites i no_site
 
--- the frame of a number from one node to another, if it was released
+-- the frame of this number from one node to another, if it was released
 abbrev pub frame_at : List SiteView → (from to number : ℕ) → Option (List ℕ)
 frame_at sites from to number = numbered_bytes (frames_to (site_at sites from) to) number
 
--- what the saved node `to` acknowledges to the node `from`, which takes it for its own
+-- what the saved node `to` acknowledges to the node `from`, and `from` accepts it as addressed to
+-- it
 pub record IsAckOf (sites : List SiteView) (from to : ℕ) (a : Ack) : Type 0 where
   pub sender : a.from ≡ to
   pub receiver : a.to ≡ from
   pub number : a.number ≡ slice_index_or (site_at sites to).saved.acks from 0
   pub addressed : IsTrue (is_addressed (site_at sites from).current.local a.from a.to)
 
--- The node, current or saved, shows the state. Its saved state says what it counts as released and
--- what it acknowledges. It has let go of no message above the number that is acknowledged to it.
+-- The node, current or saved, shows the state. Its saved state says how many messages it counts as
+-- released, and what it acknowledges. It has dropped no message above the number acknowledged to
+-- it.
 pub record ShowsNode (saved : NodeState) (acked : ℕ → ℕ) (n : NodeView)
     (s : NodeState) : Type 0 where
   pub shows : Shows n s
@@ -51,7 +53,7 @@ pub record ShowsNode (saved : NodeState) (acked : ℕ → ℕ) (n : NodeView)
 pub record ShowsSite (w : World) (i : ℕ) (q : SiteView) : Type 0 where
   pub current : ShowsNode (node_at w.saved i) (acknowledged w i) q.current (node_at w.current i)
   pub saved : ShowsNode (node_at w.saved i) (acknowledged w i) q.saved (node_at w.saved i)
-  -- each released frame spells the message of its number, and there is one for each
+  -- each released frame spells the message of its number, and each message has one
   pub released : (j k : ℕ) → i ≢ j
       → IsFrameOf i j k (slice_get (sent_to (node_at w.saved i) j) k) (slice_get (frames_to q j) k)
 
@@ -60,7 +62,7 @@ pub record ShowsWorld (sites : List SiteView) (w : World) : Type 0 where
   pub grown : KeepsSent w
   pub each : (i : ℕ) → ShowsSite w i (site_at sites i)
 
--- a node stands at its number, in a space of so many nodes
+-- the node has this number, in a space of this many nodes
 pub record IsPlaced (count i : ℕ) (n : NodeView) : Type 0 where
   pub own : n.local.own ≡ i
   pub nodes : n.local.shape.nodes ≡ count
@@ -70,7 +72,7 @@ pub record IsSim (sites : List SiteView) : Type 0 where
   pub current : (i : ℕ) → i < length sites → IsPlaced (length sites) i (site_at sites i).current
   pub saved : (i : ℕ) → i < length sites → IsPlaced (length sites) i (site_at sites i).saved
 
--- what the current node of a number answered to an event, and the space after it
+-- the answer of the current node of this number to an event, and the space after it
 pub record Given (result : Result Answer Refusal) (old new : List SiteView) (i : ℕ)
     (e : Event) : Type 0 where
   pub within : i < length old
@@ -78,7 +80,7 @@ pub record Given (result : Result Answer Refusal) (old new : List SiteView) (i :
   pub acted : Acted result (site_at old i) site e
   pub others : new ≡ slice_set old i site
 
--- what the nodes of a site have let go of
+-- how many messages the nodes of a site have dropped
 pub record SiteBases : Type 0 where
   pub current : List ℕ
   pub saved : List ℕ
@@ -92,8 +94,8 @@ bases_of sites = map site_bases sites
 abbrev pub bases_at : List SiteBases → ℕ → SiteBases
 bases_at all i = slice_index_or all i (site_bases no_site)
 
--- The same after a step that was answered. A node lets go of messages by an acknowledgement alone,
--- up to its number; a save and a restart make two nodes alike.
+-- The same after an answered step. Only an acknowledgement makes a node drop messages, up to its
+-- number. A save and a restart make both nodes of a site the same.
 abbrev pub bases_after : List SiteBases → Step → Outcome → List SiteBases
 bases_after all (step.Save i) o = slice_set all i
     (record (bases_at all i) { saved = (bases_at all i).current })
@@ -104,19 +106,19 @@ bases_after all (step.Hand from to) (outcome.Handed number) =
     (record (bases_at all from) { current = bases_to (bases_at all from).current to number })
 bases_after all s o = all
 
--- the step saves a node that is there, and the node's image is longer than an image may be
+-- the step saves a node that exists, and the node's image is longer than an image may be
 abbrev pub SavesTooLarge : List SiteView → Step → Type 0
 SavesTooLarge sites (step.Save i) =
     (i < length sites) × (GREATEST_IMAGE < length (image_of (site_at sites i).current))
 SavesTooLarge sites s = ⊥
 
--- A step against that of the definitions, on each of their spaces that was shown before.
+-- A step compared with that of the definitions, on each of their spaces that was shown before.
 abbrev pub FollowsShown : Result Outcome Refusal → List SiteView → List SiteView → Step → Type 0
 FollowsShown result old new s =
     (w : World) → ShowsWorld old w → FollowsStep ShowsWorld w s result new
 
--- What a step answered, and the space after it. An answer is that of the definitions, whose space
--- is then shown; a refusal is the first that applies, or of an image that is too large, and changes
+-- The result of a step, and the space after it. An answer is that of the definitions, whose new
+-- space is then shown. A refusal is the first that applies, or `ImageTooLarge`, and changes
 -- nothing.
 pub record Stepped (result : Result Outcome Refusal) (old new : List SiteView)
     (s : Step) : Type 0 where
@@ -127,6 +129,6 @@ pub record Stepped (result : Result Outcome Refusal) (old new : List SiteView)
   pub memory_free : (w : World) → ShowsWorld old w → IsTrue (is_step_memory_free w s)
       → IfErr result (λ e. e ≢ Memory)
 
--- the current node of a number, in numbers
+-- the current node of this number, in numbers
 abbrev pub summary_at : World → ℕ → Option Summary
 summary_at w i = cond (is_node w i) (Some (summary_of (node_at w.current i).local)) None

@@ -1,4 +1,5 @@
--- A space of the code with what its nodes keep until its turn, against a space of the definitions.
+-- A space of the code, together with the early messages that its nodes keep, compared with a space
+-- of the definitions.
 use Rattle.std.specs.Prelude.{◌≡◌, ◌≢◌, ℕ, ◌++◌, List, [], ◌∷◌, length, map, IsTrue, IfOk, IfErr, OnErr, ◌↔◌, slice_index_or, Some, Result, Ok, Err, ◌<◌, slice_set}
 use Rattle.ids.specs.Limits.{Shaped}
 use Rattle.ids.specs.declared.refusal.Refusal.{Refusal}
@@ -19,7 +20,7 @@ use Rattle.node.specs.Keeping.{Rings, early_after, no_rings, own_step, ring_of}
 use Rattle.site.specs.Sites.{SiteView, KeepingSite, ActedKeeping}
 use Rattle.world.specs.Shows.{ShowsWorld, SavesTooLarge, bases_of, bases_after, site_at}
 
--- the sites, and for each of them what its current node keeps
+-- the sites, and for each of them the early messages that its current node keeps
 pub record SpaceView : Type 0 where
   pub sites : List SiteView
   pub early : List Rings
@@ -33,7 +34,7 @@ early_of q = q.early
 abbrev pub space_of : List KeepingSite → SpaceView
 space_of qs = record { sites = map site_of qs; early = map early_of qs }
 
--- what a node keeps; one that isn't there keeps nothing
+-- what a node keeps; one that doesn't exist keeps nothing
 abbrev pub kept_at : List Rings → ℕ → Rings
 kept_at all i = slice_index_or all i []
 
@@ -41,7 +42,7 @@ kept_at all i = slice_index_or all i []
 abbrev pub keeping_at : SpaceView → ℕ → KeepingSite
 keeping_at n i = record { site = site_at n.sites i; early = kept_at n.early i }
 
--- what the current node of a number answered to an event, and the space after it
+-- the answer of the current node of this number to an event, and the space after it
 pub record GivenSpace (result : Result Answer Refusal) (old new : SpaceView) (i : ℕ)
     (e : Event) : Type 0 where
   pub within : i < length old.sites
@@ -50,8 +51,8 @@ pub record GivenSpace (result : Result Answer Refusal) (old new : SpaceView) (i 
   pub sites : new.sites ≡ slice_set old.sites i site.site
   pub early : new.early ≡ slice_set old.early i site.early
 
--- What a step is to the definitions, by what the nodes keep: Next of a frame that waits is its
--- delivery.
+-- The step of the definitions that a step is, by what the nodes keep. Next of a frame that waits is
+-- its delivery.
 abbrev pub step_met : List Rings → Step → Step
 step_met all (step.Act i e) = own_step (kept_at all i) i e
 step_met all s = s
@@ -62,7 +63,7 @@ pub record IsOfNet (w : World) (i sender : ℕ) (d : Data) : Type 0 where
   pub to : d.to ≡ i
   pub there : released w sender i d.number ≡ Some (record { stamp = d.stamp; body = d.body })
 
--- The sites show the space, and each frame that is kept is of a message that was released.
+-- The sites show the space, and each kept frame is of a message that was released.
 pub record ShowsSpace (n : SpaceView) (w : World) : Type 0 where
   pub world : ShowsWorld n.sites w
   pub width : length n.early ≡ length n.sites
@@ -71,12 +72,12 @@ pub record ShowsSpace (n : SpaceView) (w : World) : Type 0 where
 
 -- ---- what is kept after a step
 
--- what the nodes keep once one of them answered so to an event
+-- what the nodes keep after one of them gave this answer to an event
 abbrev pub given_early : World → List Rings → ℕ → Event → Result Answer Refusal → List Rings
 given_early w all i e r =
     slice_set all i (early_after (node_at w.current i).local (kept_at all i) e r)
 
--- the message of this number was delivered, and answered so
+-- the message of this number was delivered, with this answer
 pub record KeepsDelivered (w : World) (all : List Rings) (from to number : ℕ) (a : Answer)
     (es : List Rings) : Type 0 where
   pub frame : Data
@@ -84,8 +85,8 @@ pub record KeepsDelivered (w : World) (all : List Rings) (from to number : ℕ) 
   pub is : IsOfNet w to from frame
   pub early : es ≡ given_early w all to (event.Data frame) (Ok a)
 
--- What the nodes of a space keep after a step, by what they kept. A restart loses what its node
--- keeps; a save, and an acknowledgement, leave it.
+-- What the nodes of a space keep after a step, by what they kept before. A restart loses what its
+-- node keeps; a save and an acknowledgement don't change it.
 abbrev pub KeepsAfter : World → List Rings → Step → Result Outcome Refusal → List Rings → Type 0
 KeepsAfter w all (step.Act i e) (Ok (outcome.Answer a)) es = es ≡ given_early w all i e (Ok a)
 KeepsAfter w all (step.Act i e) (Err r) es = es ≡ given_early w all i e (Err r)
@@ -97,19 +98,19 @@ KeepsAfter w all s r es = es ≡ all
 
 -- ---- a step
 
--- what becomes of a step by which a node was given an event, by what the node answered
+-- the outcome of a step that gave a node an event, by the node's answer
 abbrev pub outcome_by : (Answer → Outcome) → Result Answer Refusal → Result Outcome Refusal
 outcome_by o (Ok x) = Ok (o x)
 outcome_by o (Err f) = Err f
 
--- A step against that of the definitions which it is, on each of their spaces that was shown
+-- A step compared with the definitions' step that it is, on each of their spaces that was shown
 -- before.
 abbrev pub FollowsSpace : Result Outcome Refusal → SpaceView → SpaceView → Step → Type 0
 FollowsSpace result old new s =
     (w : World) → ShowsSpace old w → FollowsStep ShowsSpace w (step_met old.early s) result new
 
--- What a step answered, and the space after it. A refusal leaves every site as it was; a frame that
--- waited may have left its place.
+-- The result of a step, and the space after it. A refusal leaves every site as it was, but an early
+-- frame may have left its place.
 pub record SteppedSpace (result : Result Outcome Refusal) (old new : SpaceView) (s : Step)
     : Type 0 where
   pub follows : FollowsSpace result old new s
@@ -122,8 +123,8 @@ pub record SteppedSpace (result : Result Outcome Refusal) (old new : SpaceView) 
       → IsTrue (is_step_memory_free w (step_met old.early s))
       → IfErr result (λ e. e ≢ Memory)
 
--- Steps one after another are a run of the definitions, without those that are refused memory or
--- whose image is too large.
+-- Steps one after another are a run of the definitions, without those that fail with `Memory` or
+-- `ImageTooLarge`.
 abbrev pub ExtendsSpace : Result Outcome Refusal → SpaceView → SpaceView → Step → Type 0
 ExtendsSpace result old new s =
     (shape : Shaped) (steps : List Step) → ShowsSpace old (run (new_world shape) steps)

@@ -1,6 +1,6 @@
-//! A space of nodes in one thread: each step is one step of the definitions in `model`, over
-//! current states, saved states and the frames that saved states released. A list of steps is
-//! therefore a run, and the theorems speak of what the space then shows.
+//! A space of nodes in one thread. Each step is one step of the definitions in `model`, over
+//! current states, saved states and the frames that saved states released. So a list of steps is a
+//! run, and the theorems apply to what the space then shows.
 #![tactic(auto)]
 
 mod headline;

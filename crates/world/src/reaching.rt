@@ -1,5 +1,5 @@
-//! What can be reached, for tests. It is worked out anew from all nodes and messages, by no means
-//! of the collector's.
+//! The reachable references, for tests. They are computed from scratch from all nodes and messages,
+//! without any help of the collector.
 ghost use Rattle.std.specs.Prelude.{◌≡◌, ◌<◌, false, List, length, IfOk, IfErr, OnOk, Some, slice_index_or, ◌↔◌};
 ghost use Rattle.std.specs.List.{IsDistinct};
 ghost use Rattle.std.specs.List.Sorted.{IsSorted};
@@ -20,12 +20,14 @@ use msg::{Body, Message};
 use node::Core;
 use std::alloc::Global;
 
-/// The references that can be reached where of each node the saved state is taken for which `saved`
-/// is true, and of the others the current one: those in registers and letters, those that messages
-/// in flight carry, and with each all that stand in the places of its object. Each comes once, and
-/// they are sorted by node, slot and generation. `Memory` where a growth was refused. It is for
-/// tests: it makes the saved nodes from their images, looks at all nodes, and at every message that
-/// they keep, and takes time in proportion to these and to the objects that it finds.
+/// The references that are reachable in a choice of states: a node's saved state if its entry in
+/// `saved` is true, else its current one. These are the references in registers and letters, those
+/// that messages in flight carry, and with each, all those in the places of its object. Each comes
+/// once, and they are sorted by node, slot and generation. Fails with `Memory` if allocation fails.
+///
+/// This function is meant for tests. It restores the saved nodes from their images, and looks at
+/// all nodes and at every message that they keep. It takes time in proportion to these, and to the
+/// objects that it finds.
 pub fn reach(alloc: Global, sim: &Sim, saved: &[bool]) -> Result<Vec<Ref>, Refusal>
     requires width { length saved.now ≡ length sim.now.sites }
     ensures reached { (shape : Shaped) (steps : List Step) → IsShape shape
@@ -45,7 +47,7 @@ pub fn reach(alloc: Global, sim: &Sim, saved: &[bool]) -> Result<Vec<Ref>, Refus
     Ok(all)
 }
 
-/// Of each node the saved one, where `saved` is true.
+/// For each node the saved one, if its entry in `saved` is true.
 pub(crate) fn read_saved(
     alloc: Global,
     sim: &Sim,
@@ -80,7 +82,7 @@ pub(crate) fn chosen<'a>(sim: &'a Sim, read: &'a [Option<Core>], number: u8) -> 
     }
 }
 
-/// Adds what all registers and letters hold, and what messages in flight carry.
+/// Adds the references in all registers and letters, and those that messages in flight carry.
 fn add_roots(found: &mut IndexSet<Ref>, sim: &Sim, read: &[Option<Core>]) -> Result<(), Refusal>
     requires width { length read.now ≡ length sim.now.sites }
     ensures done { OnOk result
@@ -94,7 +96,7 @@ fn add_roots(found: &mut IndexSet<Ref>, sim: &Sim, read: &[Option<Core>]) -> Res
     Ok(())
 }
 
-/// Adds what the node's registers and letters hold.
+/// Adds the references in the node's registers and letters.
 fn add_held(found: &mut IndexSet<Ref>, node: &Core) -> Result<(), Refusal>
     ensures done { OnOk result (Adds found.old.keys found.new.keys (IsHeld node.now)) }
     ensures refused { IfErr result (λ e. e ≡ Memory) }
@@ -105,7 +107,7 @@ fn add_held(found: &mut IndexSet<Ref>, node: &Core) -> Result<(), Refusal>
     Ok(())
 }
 
-/// Adds what the messages of this node carry that are in flight.
+/// Adds the references that this node's messages in flight carry.
 fn add_links(
     found: &mut IndexSet<Ref>,
     sim: &Sim,
@@ -125,7 +127,7 @@ fn add_links(
     Ok(())
 }
 
-/// Adds what the messages of one node carry that the other hasn't taken in.
+/// Adds the references that one node's messages to another carry, for those not yet received.
 fn add_carried(found: &mut IndexSet<Ref>, from: &Core, to: &Core) -> Result<(), Refusal>
     ensures done { OnOk result (Adds found.old.keys found.new.keys (IsCarried from.now to.now)) }
     ensures refused { IfErr result (λ e. e ≡ Memory) }
@@ -166,7 +168,7 @@ fn carried(body: Body) -> [Option<Ref>; 2]
     }
 }
 
-/// Adds all that stands in the places of what was found, and of what is added so.
+/// Adds all references in the places of the objects found, and of the objects that this adds.
 fn follow(found: &mut IndexSet<Ref>, sim: &Sim, read: &[Option<Core>]) -> Result<(), Refusal>
     requires width { length read.now ≡ length sim.now.sites }
     ensures done { OnOk result
@@ -181,11 +183,11 @@ fn follow(found: &mut IndexSet<Ref>, sim: &Sim, read: &[Option<Core>]) -> Result
             add_standing(found, chosen(sim, read, reference.node), reference)?;
         }
     }
-    // No memory holds as many references.
+    // No memory holds this many references.
     Err(Refusal::Memory)
 }
 
-/// Adds what stands in the places of the node's object, while it is live.
+/// Adds the references in the places of the node's object, if that is live.
 fn add_standing(found: &mut IndexSet<Ref>, node: &Core, reference: Ref) -> Result<(), Refusal>
     ensures done { OnOk result (Adds found.old.keys found.new.keys (Standing node.now reference)) }
     ensures refused { IfErr result (λ e. e ≡ Memory) }

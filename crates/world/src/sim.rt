@@ -1,5 +1,5 @@
-//! A space in one thread. It finds the nodes that a step names; what becomes of one node is the
-//! site's matter.
+//! A space in one thread. It looks up the nodes that a step names, and leaves the work on one node
+//! to its `Site`.
 ghost use Rattle.std.specs.Prelude.{◌≡◌, ◌<◌, length, slice_get, Err, IsTrue, IfOk, IfErr, OnOk, OnErr, ◌≢◌, ◌↔◌, replicate};
 ghost use Rattle.std.specs.Option.{option_copied, option_map};
 ghost use Rattle.ids.specs.declared.refusal.Refusal.TheVariants.{Memory, ImageTooLarge};
@@ -39,15 +39,15 @@ use site::Site;
 use std::alloc::Global;
 use std::marker::Model;
 
-/// A space of nodes in one thread. It keeps for each node the current one and the image of the one
-/// last saved, and for each ordered pair of nodes the bytes of all frames that were ever released.
-/// The current ones keep messages that came before their turn, each of which was released.
+/// A space of nodes in one thread. For each node it keeps the current node and the image of the one
+/// last saved. For each ordered pair of nodes it keeps the bytes of all frames ever released. The
+/// current nodes keep early messages, each of which was released.
 pub struct Sim {
     alloc: Global,
     sites: Vec<Site>,
 }
 
-// Written out, so that the crates above need not prove anew how each field is dropped.
+// Written out, so that the crates above need not prove again how each field is dropped.
 impl Drop for Sim {
     fn drop(self) {
         let Sim { alloc: _, sites: _ } = self;
@@ -69,7 +69,7 @@ impl Model for Sim {
 }
 
 impl Sim {
-    /// A space of new nodes. `Memory` where a growth was refused.
+    /// Makes a space of new nodes. Fails with `Memory` if allocation fails.
     pub fn new(alloc: Global, shape: Shape) -> Result<Sim, Refusal>
         ensures made { IfOk result (λ s. ShowsSpace s (new_world shape)) }
         ensures early { IfOk result (λ s.
@@ -83,15 +83,20 @@ impl Sim {
         Ok(Sim { alloc, sites })
     }
 
-    /// Takes one step. `NoNode` where the step names a node that the space doesn't have, before
-    /// anything else; else what the node refuses; `ImageTooLarge` where a node is to be saved whose
-    /// image would be too large; and `Memory` where a growth was refused. A refused step changes
-    /// nothing, but that a message that waited for its turn may have left its place. Never refused
-    /// memory are the events that a node never refuses it, the delivery of nothing or of a message
-    /// that isn't the next one, an acknowledgement, and a save whose image is too large. An
-    /// acknowledgement alone lets go of messages: those up to its number. Steps one after another
-    /// are a run of the definitions, without those that are refused memory or whose image is too
-    /// large; there `Next` of a message that waits is its delivery.
+    /// Takes one step.
+    ///
+    /// It fails with `NoNode`, before anything else, if the step names a node that the space
+    /// doesn't have. Otherwise it fails with whatever the node refuses. A save fails with
+    /// `ImageTooLarge` if the node's image would be too large, and a step fails with `Memory` if
+    /// allocation fails. A refused step changes nothing, except that an early message may have left
+    /// its place.
+    ///
+    /// Some steps never fail with `Memory`: an event for which a node never does, the delivery of
+    /// nothing or of a message that isn't the next one, an acknowledgement, and a save whose image
+    /// is too large. Only an acknowledgement drops messages: those up to its number.
+    ///
+    /// Steps one after another are a run of the definitions, without those that fail with `Memory`
+    /// or `ImageTooLarge`. In that run, a `Next` of a message that waits is its delivery.
     #[inline(always)]
     pub fn step(&mut self, step: Step) -> Result<Outcome, Refusal>
         requires own { IsTrue (is_own_step step) }
@@ -112,8 +117,8 @@ impl Sim {
         self.take(step)
     }
 
-    /// Gives a node an event that comes from no other node: the step [`Step::Act`], as
-    /// [`Sim::step`] takes it, but it gives the node's answer alone.
+    /// Gives a node an event that comes from no other node. This is the step [`Step::Act`], as
+    /// [`Sim::step`] takes it, except that only the node's answer is returned.
     #[inline(always)]
     pub fn act(&mut self, node: u8, event: Event) -> Result<Answer, Refusal>
         requires own { IsTrue (is_own event) }
@@ -150,7 +155,7 @@ impl Sim {
         }
     }
 
-    /// The current node of this number.
+    /// The current node of this number, if there is one.
     pub fn node(&self, number: u8) -> Option<&Node>
         ensures core { option_map (λ n. n.core) (option_copied result)
             ≡ option_map (λ q. q.current) (slice_get self.now.sites number) }
@@ -160,7 +165,7 @@ impl Sim {
         Some(self.sites.get(usize::from(number))?.node())
     }
 
-    /// The current node of this number, in numbers.
+    /// A summary, in numbers, of the current node of this number, if there is one.
     #[tactic(auto, using(crate::proofs::Steps::state_shown))]
     pub fn state(&self, number: u8) -> Option<Summary>
         ensures here { result
@@ -178,7 +183,7 @@ impl Sim {
         &self.sites[usize::from(number)]
     }
 
-    /// How many nodes there are.
+    /// The number of nodes.
     pub fn count(&self) -> u8
         ensures value { result ≡ length self.now.sites }
         ensures early { length self.now.early ≡ length self.now.sites }
@@ -198,7 +203,7 @@ impl Sim {
         self.give(node, event)
     }
 
-    // (apart from `step`, whose other steps want little)
+    // Kept out of `step`, so that the other steps, which need little, don't pay for this one.
     #[inline(never)]
     fn act_step(&mut self, node: u8, event: Event) -> Result<Outcome, Refusal>
         requires own { IsTrue (is_own event) }
@@ -250,7 +255,7 @@ impl Sim {
         let Some(bytes) = self.released(from, to, number) else {
             return Ok(Outcome::NoFrame);
         };
-        // Messages alone are released, so other bytes never stand here.
+        // Only messages are released, so the bytes here are never those of another frame.
         let Frame::Data(message) = decode(bytes)? else {
             return Err(Refusal::BadFrame);
         };
@@ -274,8 +279,8 @@ impl Sim {
         Ok(Outcome::Handed(ack.number))
     }
 
-    /// Gives the current node of this number an event. It refuses what the node refuses; then
-    /// nothing changes, but that a message that waited may have left its place.
+    /// Gives the current node of this number an event, and fails with whatever the node refuses. If
+    /// it fails, nothing changes, except that an early message may have left its place.
     #[inline(always)]
     fn give(&mut self, node: u8, event: Event) -> Result<Answer, Refusal>
         requires { node < length self.old.sites }

@@ -8,7 +8,7 @@ use Rattle.image.proofs.Spelled.{image_of_one}
 use Rattle.site.proofs.Refusals.{memory-alone}
 use Rattle.site.proofs.saved.SavedNode.read.Goals as goal
 
--- bytes say one node
+-- bytes spell at most one node
 pub returns-clause-same : goal.returns-clause-same
 returns-clause-same c =
     let bytes = c.deref.result.now in
@@ -19,7 +19,7 @@ returns-clause-same c =
     ∙ c.self.view_is)
     c.core_from_bytes.ensures.read
 
--- and these do
+-- and these bytes spell one
 pub returns-clause-refused : goal.returns-clause-refused
 returns-clause-refused c =
     let bytes = c.deref.result.now in

@@ -9,7 +9,7 @@ use Rattle.site.proofs.NewImages.{new-starved}
 use Rattle.site.proofs.SiteLemmas.{no-frames, site-new}
 use Rattle.site.proofs.site.Site.new.Goals as goal
 
--- a new node's image says it, since nothing was sent
+-- a new node's image spells it, since nothing was sent
 pub new-saved-requires : goal.new-saved-requires
 new-saved-requires c =
     let made = ap (λ (w : WholeNode). w.core) c.in_ok-current.ensures.made in

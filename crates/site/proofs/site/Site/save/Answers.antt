@@ -7,13 +7,13 @@ use Rattle.site.specs.Sites.{KeepingSite, IsSite}
 use Rattle.site.proofs.SiteLemmas.{site-saved}
 use Rattle.site.proofs.site.Site.save.Goals as goal
 
--- once all counts as saved, the image says the node
+-- once everything counts as saved, the image spells the node
 pub renew-requires : goal.renew-requires
 renew-requires c =
     rw (c.in_ok-image.ensures.written, c.core-2.ensures.value, c.kept.ensures)
     c.in_ok-image.ensures.image
 
--- frames that were made and not released show nowhere
+-- frames that were made but not released show nowhere
 pub invariant_of-self-in_err-release_all : goal.invariant_of-self-in_err-release_all
 invariant_of-self-in_err-release_all c =
     let wrote = with_items_is c.self.inside.outboxes c.release_all.new.row
