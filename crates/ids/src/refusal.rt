@@ -7,7 +7,8 @@ ghost use Rattle.ids.specs.declared.refusal.Refusal.TheVariants.{Memory};
 use std::alloc::{AllocError, AllocFailed};
 use std::fmt;
 
-/// Why a call was refused. A refused call leaves the value that it was called on as it was.
+/// Why a call was refused. A refused call leaves its value unchanged, unless its own documentation
+/// says otherwise.
 #[derive(Clone, Copy, Debug, PartialEq, Eq)]
 pub enum Refusal {
     /// An allocation failed.
