@@ -100,7 +100,7 @@ TakesState denied node r later = (r ≡ reply.Refused Memory) × (later ≡ deni
 TakesState (there w all sums) node r later =
     (r ≡ state_reply (summary_at w node)) × (later ≡ there w all sums)
 
--- the sums are printed; memory for them runs out only if some sweep freed objects or was counted
+-- the sums are printed; memory for them runs out only if there was a sweep
 abbrev pub IsReport : List ℕ → Reply → Type 0
 IsReport sums (reply.Report freed) = freed.items ≡ sums
 IsReport sums (reply.Refused e) = (e ≡ Memory) × (sums ≢ [])
