@@ -1,8 +1,8 @@
 //! The findings of a trial whose workers ended and were started again, and of its programs'
 //! letters.
 
-/// A letter to the next node's program, known by its unique label. If it isn't `sure`, a restart
-/// may have undone it.
+/// A letter to the next node's program, known by its unique label. If `is_sure` is
+/// false, a restart may have undone it.
 #[derive(Clone, Copy)]
 pub struct Noted {
     pub label: u32,
