@@ -48,8 +48,8 @@ struct Seen {
 
 /// The program of a node. In each round it makes an object, gives it to the next node's program,
 /// and accepts a letter if one is there. Into an object that it receives it puts its newest object,
-/// asks for that back with a Get, and empties the place. So at the end one object of each node is
-/// reachable.
+/// asks for that back with a Get, and empties the place. So once all letters and answers have come,
+/// one object of each node is reachable; the program drops that too when it finishes.
 #[derive(Drop)]
 pub struct Program<'a, S> {
     cell: &'a S,
