@@ -27,7 +27,7 @@ impl Freed {
         }
     }
 
-    /// Counts this many more objects that a sweep of this cycle freed.
+    /// Adds this many objects, which a sweep of this cycle freed.
     pub(crate) fn add(&mut self, cycle: u64, count: u32)
         ensures { (sums : List ℕ) → KeepsSums self.old.sums sums
             → KeepsSums self.new.sums (freed_more cycle count sums) }

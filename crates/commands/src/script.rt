@@ -37,7 +37,7 @@ use world::Sim;
 
 /// What a script runs on.
 trait Space: Drop + Sized {
-    /// The space of the definitions that this one shows.
+    /// Which spaces of the definitions this one shows.
     ghost shows: { Self → World → Type 0 };
 
     /// The messages that each node keeps until their turn.
@@ -218,9 +218,9 @@ fn run_lines<S: Space, W: Write>(alloc: Global, script: &str, out: &mut W) -> Op
     Some(status)
 }
 
-/// Does what the line of this number says and prints the reply. It returns the least status that
-/// the script has then; `None` if the output failed. The line is read into a value that all lines
-/// share, because a new one would be zeroed first.
+/// Does what the line of this number says, prints the reply, and returns the line's status; `None`
+/// if the output failed. The line is read into a value that all lines share, because a new one
+/// would be zeroed first.
 fn run_line<S: Space, W: Write>(
     alloc: Global,
     state: &mut State<S>,
@@ -374,8 +374,8 @@ fn print_no_command<W: Write>(out: &mut W, number: usize) -> Option<u8>
     Some(UNREADABLE)
 }
 
-/// Prints the reply to the line of this number, and returns the least status that the script has
-/// then; `None` if the output failed.
+/// Prints the reply to the line of this number, and returns the line's status; `None` if the output
+/// failed.
 fn print_reply<W: Write>(out: &mut W, number: usize, reply: &Reply) -> Option<u8>
     ensures text { OnSome result
         (Appends (W.contents out.old) (W.contents out.new) (reply_text number reply.now)) }

@@ -31,7 +31,7 @@ behind text = past (drop (word_end text) text)
 abbrev pub digit_count : List ℕ → ℕ
 digit_count text = prefix_len is_ascii_digit text
 
--- a word ends before this
+-- whether a word ends before this text, which is then empty or begins with a space
 abbrev pub ends_word : List ℕ → Bool
 ends_word [] = true
 ends_word (byte ∷ bytes) = is_space byte

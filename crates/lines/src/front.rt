@@ -41,7 +41,7 @@ pub(crate) fn past_spaces(text: &str) -> &str
     &text[space_len(text.as_bytes())..]
 }
 
-// The text after the spaces at its front, if a word ends before them.
+// The same for a text that follows a word, so it is empty or begins with a space.
 #[inline(always)]
 fn past_word(rest: &str) -> &str
     requires { ends_word rest.now ≡ true }
@@ -176,7 +176,7 @@ fn more_digits(text: &[u8], first: u64) -> Option<(u64, usize)>
     Some((number, len))
 }
 
-// Whether a word ends before this.
+// Whether a word ends before this text, which is then empty or begins with a space.
 #[inline(always)]
 fn ends_word(rest: &[u8]) -> bool
     ensures { result ≡ ends_word rest.now }

@@ -1,5 +1,5 @@
-//! The texts of what a script's lines do. Each outcome has one text, which is defined in the
-//! specification too.
+//! The texts of the outcomes of a script's lines. Each outcome has one text, which the
+//! specification defines too.
 ghost use Rattle.std.specs.Prelude.{◌≡◌, ◌≤◌, ◌+◌, ◌++◌, Some, IfOk, IfErr, codes, decimal, length, string_bytes};
 ghost use Rattle.ids.specs.Texts.{reference_text};
 ghost use Rattle.ids.specs.declared.refusal.Refusal.TheVariants.{Memory};
@@ -22,7 +22,9 @@ const LONGEST: usize = 120;
 
 /// The text of a step's outcome, one of these:
 ///
-/// - a reference, or a reference or `-` for the value of a place, or an object's word
+/// - a reference
+/// - a reference or `-`, for the value of a place
+/// - an object's word
 /// - `ok`
 /// - `sent` and the message's number
 /// - `from`, the sender, `label`, the label, and the reference or `-`

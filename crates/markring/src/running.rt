@@ -407,7 +407,7 @@ fn print_texts<W: Write>(out: &mut W, texts: &[String]) -> io::Result<()> {
     Ok(())
 }
 
-// The least status that a script has if a line has this outcome.
+// The status of a line with this outcome. The script's status is the greatest of these.
 fn status_after(told: &Told) -> u8
     ensures { result ≤ 2 }
 {

@@ -12,7 +12,7 @@ pub enum OpenFault {
     /// number.
     #[error("disks refused")]
     Disks,
-    /// There was no memory for the text, or a node, its disk or the wire was refused.
+    /// There was no memory for the text, or a node, its disk or the wire failed with this refusal.
     #[error("refused {0}")]
     Refused(Refusal),
 }

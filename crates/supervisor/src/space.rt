@@ -84,8 +84,8 @@ impl<D: Disk + Drop> Space<D> {
     }
 
     /// Restarts a node: it continues from the state that its disk holds. `NoNode` if there is no
-    /// node of that number. After `Disk`, if the device failed, or `Memory`, if allocation failed,
-    /// the node's cell is closed until a restart succeeds.
+    /// node of that number; `Disk` if the device failed; `Memory` if allocation failed. After the
+    /// last two, the node's cell is closed until a restart succeeds.
     pub fn restart<R: Wait>(&self, rt: &R, node: u8) -> Result<(), Refusal>
         ensures no_node { self.now.plan.nodes ≤ node → IfErr result (λ e. e ≡ refusal.NoNode) }
         ensures others { node < self.now.plan.nodes
@@ -187,14 +187,13 @@ impl<D: Disk + Send + Drop + 'static> Space<D> {
 
     /// Waits until a node's worker has ended, if one is running, and restarts the node, as
     /// [`Space::restart`] does. Then it starts a new worker for the node, with the configuration's
-    /// turns, which asks this gate. `revive` doesn't end the old worker: it ends when its gate ends
-    /// it or its turns are over.
+    /// turns, which asks this gate. `revive` doesn't end the old worker: that ends when its gate
+    /// ends it or its turns are over.
     ///
-    /// `NoNode` if there is no node of that number, and `Memory` if allocating room for the worker
-    /// or its report failed: these change nothing, and the old worker continues. After any other
-    /// error no new worker is started, and the old one has ended. `Disk` if the device failed, or
-    /// `Memory`, in the restart: the node's cell is then closed until a restart succeeds. `Memory`
-    /// also if allocation or the creation of the thread failed.
+    /// `NoNode` if there is no node of that number, and `Memory` if there is no room for the worker
+    /// or its report: these change nothing, and the old worker continues. `Disk` or `Memory` if the
+    /// restart fails: the node's cell is then closed until a restart succeeds. `Memory` also if the
+    /// new worker can't be started. After these, the old worker has ended, and there is no new one.
     pub fn revive<R, G>(&mut self, rt: &R, node: u8, gate: Arc<G>) -> Result<(), Refusal>
     where
         R: Threads + Wait + Clone + Send + Drop + 'static,

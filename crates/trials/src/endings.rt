@@ -6,7 +6,7 @@ use std::sync::atomic::{AtomicBool, AtomicU64, Ordering};
 use std::time::Clock;
 use workers::{Gate, Point, Stage};
 
-// A worker ends at one of this many points, on average.
+// On average, a worker ends at one in this many points.
 const POINTS: u64 = 400;
 
 /// A gate that pauses before each turn, and ends workers at pseudorandom points.

@@ -47,8 +47,8 @@ is_dashed (b ∷ bs) = b == 45
 abbrev pub has_no_dash : List (List ℕ) → Bool
 has_no_dash words = list_all (λ word. not (is_dashed word)) words
 
--- The arguments at which options may occur, without the first `--`, which ends the options. `None`
--- if an argument before that begins with a dash.
+-- The positional arguments: all words except the first `--`, which ends the options. `None` if a
+-- word before it begins with a dash.
 abbrev pub operands : List (List ℕ) → Option (List (List ℕ))
 operands [] = Some []
 operands (word ∷ words) =

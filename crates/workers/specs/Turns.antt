@@ -108,7 +108,7 @@ abbrev pub freed_over : Turns → ℕ
 freed_over Start = 0
 freed_over (Then' m before past) = freed_over before + freed_in past.value
 
--- One more turn. If the turns before were those of a node's worker, they still are with it.
+-- One more turn. If the turns before are a node's turns and this is its next one, all of them are.
 pub record AddsTurn (past : Past) (old new : Turns) : Type 0 where
   pub counts : count new ≡ count old + 1
   pub wholes : (ended : Option Stage)

@@ -31,7 +31,7 @@ pub trait Gate {
     fn at(&self, point: Point);
 
     /// Whether the worker continues from this point; asked after [`Gate::at`]. If not, the worker
-    /// ends there: it makes no further call, and what it did remains.
+    /// ends there: it makes no further call, and what it has done stays in effect.
     fn go_on(&self, _point: Point) -> bool {
         true
     }
