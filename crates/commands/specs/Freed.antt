@@ -15,8 +15,7 @@ use Rattle.world.specs.Shows.{summary_at}
 abbrev pub padded : ℕ → List ℕ → List ℕ
 padded cycle sums = sums ++ replicate (cycle - length sums) 0
 
--- the sums, from cycle 1 on, once a sweep of this cycle freed this many objects; there is no cycle
--- 0
+-- the sums, from cycle 1 on, after a sweep of this cycle that freed this many (there is no cycle 0)
 abbrev pub freed_more : ℕ → ℕ → List ℕ → List ℕ
 freed_more cycle count sums =
     cond (cycle == 0) sums

@@ -16,10 +16,10 @@ use words::{DONE, REFUSED, UNREADABLE};
 /// Prints the frame that the word spells, with two hexadecimal digits of either case for each byte,
 /// and returns the exit status 0.
 ///
-/// If the bytes spell no frame, or there are none, it prints the refusal [`Refusal::BadFrame`]. If
-/// memory runs out, it prints [`Refusal::Memory`]. The status is then 1. If the word isn't
-/// hexadecimal digits or has an odd number of them, it prints `words refused`, and the status is 2.
-/// If the output fails, the status is 1, whatever was printed.
+/// If the bytes spell no frame, it prints the refusal [`Refusal::BadFrame`]; so it does for an
+/// empty word. If memory runs out, it prints [`Refusal::Memory`]. The status is then 1. If the word
+/// isn't hexadecimal digits or has an odd number of them, it prints `words refused`, and the status
+/// is 2. If the output fails, the status is 1, whatever was printed.
 pub fn decode<W: Write>(alloc: Global, word: &str, out: &mut W) -> u8
     ensures status { PrintsDecoded word.now result (W.contents out.old) (W.contents out.new)
         ⊎ (result ≡ 1) }

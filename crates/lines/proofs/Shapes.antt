@@ -212,7 +212,7 @@ different a b apart = by (bytes_eq a b) refl
     by true same = absurd (apart ((bytes_eq-Decides a b).0 same))
     by false same = refl
 
--- how a text is cut whose first word isn't a number
+-- how a text whose first word isn't a number is cut
 pub record IsCommand (text first rest : List ℕ) : Type 0 where
   pub none : starts_number text ≡ false
   pub word : first ≡ word_of text

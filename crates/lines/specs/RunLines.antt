@@ -1,4 +1,4 @@
--- What the lines of a script mean that runs on node threads.
+-- The meaning of the lines of a script that runs on node threads.
 use Rattle.std.specs.Prelude.{ℕ, Bool, true, false, cond, List, [], ◌∷◌, Option, Some, None, codes, option_map}
 use Rattle.std.specs.Str.{bytes_eq}
 use Rattle.lines.specs.Grammar.{line_of, of_two, u16_of, u8_of}
@@ -33,7 +33,7 @@ shared_of line.Blank = Some said.Blank
 shared_of (line.Step s) = step_said s
 shared_of l = None
 
--- what one word means that isn't a line of other scripts, and what two and three words mean
+-- the meaning of one, two and three words that aren't a line of other scripts
 unfoldable pub with_word : List ℕ → Option RunLine
 with_word a = cond (bytes_eq a (codes "cycle")) (Some said.Cycle) None
 
@@ -46,7 +46,7 @@ with_all a b c =
     cond (bytes_eq a (codes "await"))
     (of_two u8_of u16_of (λ node register. said.Await node register) b c) None
 
--- what words mean that aren't a line of other scripts
+-- the meaning of words that aren't a line of other scripts
 unfoldable pub of_runs : List (List ℕ) → Option RunLine
 of_runs (a ∷ []) = with_word a
 of_runs (a ∷ b ∷ []) = with_words a b

@@ -86,7 +86,7 @@ decode_shape = slice_index_or (built program).subs 1 (built program).top
 abbrev faults : Shape → List Text → Kinds
 faults s words = level_fault s [] nothing_held words false []
 
--- the value that a subcommand's matches for these arguments have for an argument's name
+-- the value of the named argument in a subcommand's matches for these words
 abbrev given : Shape → Text → List Text → Option Text
 given s id words = first_of id (rows_after s.rules [] words)
 

@@ -13,7 +13,7 @@ use Rattle.workers.specs.declared.turn.Turn.{Turn}
 abbrev pub at : ℕ → ℕ → Stage → Bool → Call
 at node turn s goes_on = call.At (record { node = node; turn = turn; stage = s }) goes_on
 
--- whether the worker was ended there
+-- whether the gate ended the worker there
 abbrev pub ends_at : Option Stage → Stage → Bool
 ends_at (Some stage.Start) stage.Start = true
 ends_at (Some stage.TakenIn) stage.TakenIn = true
@@ -49,7 +49,7 @@ saves unsaved = call.Unsaved unsaved ∷ cond unsaved (call.Save ∷ []) []
 abbrev pub raises : ℕ → List Call
 raises node = cond (node == 0) (call.Raise ∷ []) []
 
--- the gate is asked, and these calls follow if the worker isn't ended there
+-- the gate is asked, and these calls follow if it doesn't end the worker there
 abbrev pub asks : ℕ → ℕ → Option Stage → Stage → List Call → List Call
 asks node turn ended s rest =
     at node turn s (not (ends_at ended s)) ∷ cond (ends_at ended s) [] rest
@@ -62,8 +62,8 @@ turn_of node nodes turn ended scanned unsaved =
     (saves unsaved ++ asks node turn ended stage.Saved
     (sends node nodes ++ (raises node ++ asks node turn ended stage.Sent [])))))
 
--- a turn of this number, of a node of a space of this many nodes, up to the stage at which the
--- worker was ended
+-- a turn with this number, for a node of a space of this many nodes, up to the stage at which the
+-- gate ended the worker
 pub record IsTurn (node nodes turn : ℕ) (ended : Option Stage) (past : Past) : Type 0 where
   pub scanned : ℕ
   pub few : scanned ≤ 8
@@ -94,7 +94,7 @@ abbrev pub whole_turns : Option Stage → Turns → ℕ
 whole_turns ended Start = 0
 whole_turns ended (Then' m before past) = count before + cond (is_whole ended) 1 0
 
--- turns of a node, the last of them up to the stage at which the worker was ended
+-- turns for a node, the last of them up to the stage at which the gate ended the worker
 abbrev pub AreTurns : ℕ → ℕ → Option Stage → Turns → Type 0
 AreTurns node nodes ended Start = ended ≡ None
 AreTurns node nodes ended (Then' m before past) =
