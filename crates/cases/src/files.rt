@@ -173,7 +173,7 @@ impl Plan {
         }
     }
 
-    // What this call does; the next one is set.
+    // What this call does. It also sets what the next one does.
     fn meets(&self) -> Next {
         let next = self.next.get();
         match next {

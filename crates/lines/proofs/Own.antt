@@ -1,4 +1,4 @@
--- No line asks for an event from another node.
+-- No line asks for an event that comes from another node.
 use Rattle.std.proofs.Common.{◌≡◌, ℕ, Bool, true, false, cond, List, [], ◌∷◌, Option, Some, None, IfSome, refl, subst, sym}
 use Rattle.std.specs.Option.{option_and_then, option_map}
 use Rattle.model.specs.declared.event.Event.{Event}
