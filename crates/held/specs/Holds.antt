@@ -11,7 +11,7 @@ use denote.RawPtr.{Ptr, null_ptr}
 
 -- every box of the C library's heap is freed by the same handle
 abbrev pub heap : Global
-heap = record { memory = record {} }
+heap = record { memory = record { seal = tt } }
 
 -- the box at the pointer, with its value; or nothing, and the pointer is null
 abbrev pub holds : (R : RattleType) → Ptr → Option R.Denot → Fml
