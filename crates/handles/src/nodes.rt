@@ -2,6 +2,8 @@
 ghost use Rattle.std.specs.Prelude.{◌≡◌, None, Some, Ok, Option};
 ghost use Rattle.std.specs.Coded.{coded_option};
 ghost use Rattle.held.specs.Holds.{unboxed};
+ghost use Rattle.handles.specs.declared.lone.LoneNode.{LoneNode};
+ghost use Rattle.handles.specs.contracts.lone.LoneNode.{the_row as LoneRow};
 ghost use Rattle.node.specs.Summaries.{summary_of};
 ghost use Rattle.handles.specs.Faults.{Filled, Freed, Through, empty, read};
 ghost use Rattle.handles.specs.Lone.{Made, NodeActs, Read, TookIn};

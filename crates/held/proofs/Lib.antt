@@ -1,2 +1,3 @@
 pub mod Parts
-mod Names
+pub mod Crossing
+pub mod Names

@@ -4,6 +4,15 @@ pub use mathlib.Core.List.{List, [], ◌∷◌, ◌++◌}
 pub use Prim.Native.Nat.{ℕ}
 pub use lib.Dec.{lit<}
 pub use seplogic.Ra.Ura.{Ura}
+pub use base.Fraction.{full_share}
+pub use types.Kit.{fsplit3, fjoin3}
+pub use types.Part.{look_in, store_in}
+pub use types.Run.{assigns, load}
+pub use types.ByLocal.{through}
+pub use denote.Laws.{shows}
+pub use denote.Memory.{cell_at}
+pub use denote.Steps.{closes, opens, peeks}
+pub use denote.Triple.Walked.{Goes-ref, stay_ref}
 pub use base.Logic.{SProp, ent, emp, never, guard, guard_i, id⊢, via, fst∗, snd∗}
 pub use base.Fml.{Fml, ftrue, fex, flft}
 pub use mir.Raw.{raw as bare}

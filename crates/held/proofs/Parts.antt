@@ -10,7 +10,10 @@ use Rattle.held.proofs.Names.{heap, holds, Good}
 use base.Fraction.{full_share}
 use mir.Val.{has_ty}
 use mir.Syntax.{ty_ptr}
+use base.Logic.{emp}
 use denote.RawPtr.{lies_at, in_a_block}
+use denote.Shadow.{makes_shadow}
+use denote.Struct.Struct.{Struct}
 use Rattle.held.specs.contracts.Held as held
 
 -- the machine value of a struct whose only field is this pointer
@@ -68,3 +71,13 @@ module _ (R : RattleType) where
           use1 𝓛 (given (Testable (block_ptr b o))
           (‵ (box_owns (ghosts.dealloc_token heap) R (block_ptr b o) y)))
           (tested 𝓛 (block_ptr b o) y) $ learn t (λ test. one b o y e refl test))
+
+-- the fields of such a struct, which own nothing
+abbrev pub Pointer : RattleType
+Pointer = Struct (record { name = []; args = []; types = []; fields = RawPtr ∷ [] })
+
+pub fields-made : {M : Type 1} {𝓤 : Ura M} (𝓛 : Logic 𝓤) (p : Ptr)
+    → ent 𝓤 (emp 𝓤) (sem 𝓛 (Pointer.own_val (p, tt) (word p ∷ [])))
+fields-made 𝓛 p =
+    makes_shadow 𝓛 (Pointer.own_val (p, tt) (word p ∷ [])) (λ vss. (tt, (tt, tt)))
+    ((ptr_val p ∷ [], tt), (refl, (refl, tt)))
