@@ -15,6 +15,7 @@ mod fault;
 mod fields;
 mod lone;
 mod nodes;
+mod packing;
 
 pub use fault::{Fault, OK};
 pub use fields::{CAnswer, CEvent, CLink, CRef, CState};

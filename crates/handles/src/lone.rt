@@ -1,9 +1,10 @@
 //! A node whose caller moves its frames and stores its images.
 ghost use Rattle.std.specs.Prelude.{◌≡◌, ◌||◌, false, None, Ok};
 ghost use Rattle.msg.specs.Frames.{plain};
-ghost use Rattle.handles.specs.Lone.{Given, Made, Read, TookIn, is_congested, is_counted};
+ghost use Rattle.handles.specs.Lone.{Acknowledged, Given, Made, Read, TookIn, is_congested, is_counted};
 ghost use Rattle.handles.specs.Lone.{lone, receiver_of, unacknowledged};
 
+mod frames;
 mod reading;
 
 use crate::fault::Fault;

@@ -1,5 +1,5 @@
 //! Reads of a node that its caller holds. They change nothing and take no memory.
-ghost use Rattle.std.specs.Prelude.{◌≡◌};
+ghost use Rattle.std.specs.Prelude.{◌≡◌, ◌<◌, OnOk, length};
 ghost use Rattle.handles.specs.Reads.{link_of, other_node, register_of, waiting_number};
 ghost use Rattle.node.specs.Summaries.{summary_of};
 
@@ -11,7 +11,8 @@ use node::{Core, Node, Summary};
 
 /// Fails with `NoNode` if this isn't another node of the node's space.
 pub(crate) fn other_node(core: &Core, node: u8) -> Result<(), Fault>
-    ensures { result ≡ other_node core.now.local node }
+    ensures value { result ≡ other_node core.now.local node }
+    ensures linked { OnOk result (node < length core.now.links) }
 {
     let state = core.state();
     if node < state.shape.nodes() && node != state.own {
