@@ -65,7 +65,7 @@ packing room n to after (suc place) =
     pack_above room after (packing room n to after place) (released_frame n to place)
 
 -- all of them
-abbrev pub window : ℕ → NodeView → ℕ → ℕ → Packed
+unfoldable pub window : ℕ → NodeView → ℕ → ℕ → Packed
 window room n to after = packing room n to after WINDOW
 
 -- A buffer with these parts at its front, and the counts of them.

@@ -1,4 +1,5 @@
-use Rattle.std.specs.Prelude.{inl}
+use Rattle.std.proofs.Common.{inl, subst, sym}
+use Rattle.handles.specs.Lone.{Handled}
 use Rattle.handles.proofs.lone.LoneNode.take.Goals as goal
 
 pub returns-in-Data : goal.returns-in-Data
@@ -8,7 +9,9 @@ returns-in-Data c =
       frame = c.in_ok-data.field-0;
       fits = found.0;
       spelled = found.1;
-      handled = rw c.in-Data.is in c.perform.ensures;
+      handled = subst
+          (λ f. Handled f c.args.self.now c.perform.new.self c.perform.result)
+          (sym c.in-Data.is) c.perform.ensures;
     })
 
 pub returns-in-Ack : goal.returns-in-Ack
@@ -18,5 +21,7 @@ returns-in-Ack c =
       frame = c.in_ok-data.field-0;
       fits = found.0;
       spelled = found.1;
-      handled = rw c.in-Ack.is in c.acknowledge.ensures;
+      handled = subst
+          (λ f. Handled f c.args.self.now c.acknowledge.new.self c.acknowledge.result)
+          (sym c.in-Ack.is) c.acknowledge.ensures;
     })
