@@ -10,6 +10,7 @@ use Rattle.node.specs.Frames.{acknowledgement, released_frame}
 use Rattle.handles.specs.Reads.{found}
 use Rattle.handles.specs.declared.fault.Fault.{Fault}
 use Rattle.handles.specs.declared.fault.Fault.TheVariants as fault
+use Rattle.handles.specs.declared.lone.LoneNode.{LoneNode}
 use Rattle.handles.specs.declared.packing.Packing.{Packing}
 
 -- ---- One frame
@@ -94,3 +95,11 @@ Packs n to after (Err fault.Nothing) old new before needed =
 Packs n to after (Err (fault.Refused NoNode)) old new before needed =
     (is_other n.local to ≡ false) × (needed ≡ before) × (new ≡ old)
 Packs n to after (Err e) old new before needed = ⊥
+
+-- the same for what a handle holds
+abbrev pub HandlePacks : Option LoneNode → ℕ → ℕ → Result ℕ Fault → List ℕ → List ℕ → ℕ → ℕ
+    → Type 0
+HandlePacks (Some n) to after r old new before needed =
+    Packs n.node.core to after r old new before needed
+HandlePacks None to after r old new before needed =
+    (r ≡ Err fault.NoHandle) × (new ≡ old) × (needed ≡ before)

@@ -31,6 +31,7 @@ lone n limit = record {
   node = n;
   limit = limit;
   mark = 0;
+  counts = None;
   is_changed = false;
   is_unsaved = false;
 }

@@ -5,11 +5,13 @@ ghost use Rattle.handles.specs.Lone.{Acknowledged, Given, Made, Read, TookIn, is
 ghost use Rattle.handles.specs.Lone.{lone, receiver_of, unacknowledged};
 
 mod frames;
+mod images;
 mod reading;
 
 use crate::fault::Fault;
 use ids::{NodeId, Ref, Refusal, Shape};
 use image::from_bytes;
+pub(crate) use images::Counts;
 use model::{Answer, Event};
 use msg::{Ack, Data, Frame, decode};
 use node::Node;
@@ -22,8 +24,10 @@ pub struct LoneNode {
     // How many of the messages to another node may be unacknowledged for the program to send it
     // another one; 0 if any number.
     limit: u64,
-    // The mark of the last image, which is the number of images.
+    // The mark of the last image, which is the number of images, and what that image holds of the
+    // links; none if there was no image.
     mark: u64,
+    counts: Option<Vec<Counts>>,
     // Whether an event changed the node since the last image, and since the last one that was kept.
     is_changed: bool,
     is_unsaved: bool,
@@ -60,6 +64,7 @@ impl LoneNode {
             node,
             limit,
             mark: 0,
+            counts: None,
             is_changed: false,
             is_unsaved: false,
         }

@@ -6,6 +6,9 @@ ghost use Rattle.handles.specs.declared.lone.LoneNode.{LoneNode};
 ghost use Rattle.handles.specs.contracts.lone.LoneNode.{the_row as LoneRow};
 ghost use Rattle.node.specs.Summaries.{summary_of};
 ghost use Rattle.handles.specs.Faults.{Filled, Freed, Through, empty, read};
+ghost use Rattle.handles.specs.Bytes.{WroteIf};
+ghost use Rattle.handles.specs.Frames.{HandlePacks, ack_bytes, frame_bytes};
+ghost use Rattle.handles.specs.Images.{HandleImaged, Kept, SizedSame};
 ghost use Rattle.handles.specs.Lone.{Made, NodeActs, Read, TookIn};
 ghost use Rattle.handles.specs.Reads.{link_of, register_of, waiting_number};
 
@@ -213,5 +216,109 @@ impl NodeHandle {
         let found = node.waiting(from);
         self.put(alloc, node);
         found
+    }
+
+    /// Writes a frame of a window; see [`LoneNode::frame_at`].
+    pub fn frame_at(
+        &mut self,
+        alloc: Global,
+        to: u8,
+        place: u8,
+        buffer: &mut [u8],
+        needed: &mut usize,
+    ) -> Result<(), Fault>
+        ensures same { self.new.held ≡ self.old.held }
+        ensures wrote { WroteIf (read (λ n. frame_bytes n.node.core to place) self.old.held) result
+            buffer.old buffer.new needed.old needed.new }
+    {
+        let Some(node) = self.take(alloc) else {
+            return Err(Fault::NoHandle);
+        };
+        let wrote = node.frame_at(to, place, buffer, needed);
+        self.put(alloc, node);
+        wrote
+    }
+
+    /// Writes an acknowledgement; see [`LoneNode::ack_for`].
+    pub fn ack_for(
+        &mut self,
+        alloc: Global,
+        from: u8,
+        buffer: &mut [u8],
+        needed: &mut usize,
+    ) -> Result<(), Fault>
+        ensures same { self.new.held ≡ self.old.held }
+        ensures wrote { WroteIf (read (λ n. ack_bytes n.node.core from) self.old.held) result
+            buffer.old buffer.new needed.old needed.new }
+    {
+        let Some(node) = self.take(alloc) else {
+            return Err(Fault::NoHandle);
+        };
+        let wrote = node.ack_for(from, buffer, needed);
+        self.put(alloc, node);
+        wrote
+    }
+
+    /// Writes the frames of a window; see [`LoneNode::frames`].
+    pub fn frames(
+        &mut self,
+        alloc: Global,
+        to: u8,
+        after: u64,
+        buffer: &mut [u8],
+        needed: &mut usize,
+    ) -> Result<usize, Fault>
+        ensures same { self.new.held ≡ self.old.held }
+        ensures packs { HandlePacks self.old.held to after result buffer.old buffer.new needed.old
+            needed.new }
+    {
+        let Some(node) = self.take(alloc) else {
+            return Err(Fault::NoHandle);
+        };
+        let packed = node.frames(to, after, buffer, needed);
+        self.put(alloc, node);
+        packed
+    }
+
+    /// The number of bytes of the node's image; see [`LoneNode::image_size`].
+    pub fn image_size(&mut self, alloc: Global) -> Result<usize, Fault>
+        ensures { Through SizedSame self.old.held self.new.held result }
+    {
+        let Some(node) = self.take(alloc) else {
+            return Err(Fault::NoHandle);
+        };
+        let size = node.image_size(alloc);
+        self.put(alloc, node);
+        size
+    }
+
+    /// Writes the node's image; see [`LoneNode::image`].
+    pub fn image(
+        &mut self,
+        alloc: Global,
+        buffer: &mut [u8],
+        needed: &mut usize,
+    ) -> Result<u64, Fault>
+        ensures { HandleImaged self.old.held self.new.held result buffer.old buffer.new needed.old
+            needed.new }
+    {
+        let Some(mut node) = self.take(alloc) else {
+            return Err(Fault::NoHandle);
+        };
+        let mark = node.image(alloc, buffer, needed);
+        self.put(alloc, node);
+        mark
+    }
+
+    /// Counts as saved what the image with this mark holds; see [`LoneNode::kept`].
+    pub fn kept(&mut self, alloc: Global, mark: u64) -> Result<(), Fault>
+        ensures { Through (Kept mark) self.old.held self.new.held result }
+    {
+        let Some(mut node) = self.take(alloc) else {
+            return Err(Fault::NoHandle);
+        };
+        let kept = node.kept(mark);
+        self.put(alloc, node);
+        kept
     }
 }

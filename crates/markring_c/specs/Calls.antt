@@ -1,6 +1,6 @@
 -- What the exports do: they call the method of a handle, return the status of its result, and write
 -- what the result holds.
-use Rattle.std.specs.Prelude.{◌≡◌, ℤ, Option, Some, None, Result}
+use Rattle.std.specs.Prelude.{◌≡◌, ℕ, ℤ, Option, Some, None, Result}
 use Rattle.model.specs.declared.event.Answer.{Answer}
 use Rattle.model.specs.declared.event.Event.{Event}
 use Rattle.handles.specs.Faults.{Through, status, status_of, written}
@@ -25,6 +25,19 @@ pub record Finished {X : Type 0} (Does : Option X → Option X → Result (Unit 
   pub result : Result (Unit {0}) Fault
   pub does : Does old new result
   pub status : s ≡ status result
+
+-- the same where the handle isn't named
+pub record Finishes (Does : Result (Unit {0}) Fault → Type 0) (s : ℤ) : Type 0 where
+  pub result : Result (Unit {0}) Fault
+  pub does : Does result
+  pub status : s ≡ status result
+
+-- The call did this with some result, whose number was written.
+pub record Numbered (Does : Result ℕ Fault → Type 0) (s : ℤ) (before after : ℕ) : Type 0 where
+  pub result : Result ℕ Fault
+  pub does : Does result
+  pub status : s ≡ status result
+  pub number : after ≡ written (λ x. x) result before
 
 abbrev pub NodeCalled : Event → Option LoneNode → Option LoneNode → ℤ → CAnswer → CAnswer → Type 0
 NodeCalled e = Answered (Through (NodeActs e))

@@ -4,9 +4,12 @@ ghost use Rattle.node.specs.Summaries.{summary_of};
 ghost use Rattle.handles.specs.Faults.{read, status, written};
 ghost use Rattle.handles.specs.Fields.{bit, event_of, reference_fields, state_fields};
 ghost use Rattle.handles.specs.Lone.{Made, Read, TookIn};
+ghost use Rattle.handles.specs.Bytes.{WroteIf};
 ghost use Rattle.handles.specs.Faults.{Filled, Freed, Through};
+ghost use Rattle.handles.specs.Frames.{HandlePacks, ack_bytes, frame_bytes};
+ghost use Rattle.handles.specs.Images.{HandleImaged, Kept, SizedSame};
 ghost use Rattle.handles.specs.Reads.{link_of, register_of, waiting_number};
-ghost use Rattle.markring_c.specs.Calls.{Answered, Finished, NodeActed};
+ghost use Rattle.markring_c.specs.Calls.{Answered, Finished, Finishes, NodeActed, Numbered};
 
 use crate::written::{answered, status, written};
 use handles::{CAnswer, CEvent, CLink, CRef, CState, Fault, NodeHandle, OK};
@@ -178,4 +181,90 @@ pub extern "C" fn markring_node_waiting(
         ≡ written (λ x. x) (read (λ n. waiting_number n.node from) node.old.held) number.old }
 {
     written(node.waiting(alloc, from), number)
+}
+
+/// Writes the frame in this place of the window to another node.
+#[unsafe(no_mangle)]
+pub extern "C" fn markring_node_frame_at(
+    alloc: Global,
+    node: &mut NodeHandle,
+    to: u8,
+    place: u8,
+    buffer: &mut [u8],
+    needed: &mut usize,
+) -> i32
+    ensures same { node.new.held ≡ node.old.held }
+    ensures wrote { Finishes (λ r. WroteIf (read (λ n. frame_bytes n.node.core to place)
+        node.old.held) r buffer.old buffer.new needed.old needed.new) result }
+{
+    status(node.frame_at(alloc, to, place, buffer, needed))
+}
+
+/// Writes the acknowledgement to another node.
+#[unsafe(no_mangle)]
+pub extern "C" fn markring_node_ack_for(
+    alloc: Global,
+    node: &mut NodeHandle,
+    from: u8,
+    buffer: &mut [u8],
+    needed: &mut usize,
+) -> i32
+    ensures same { node.new.held ≡ node.old.held }
+    ensures wrote { Finishes (λ r. WroteIf (read (λ n. ack_bytes n.node.core from) node.old.held) r
+        buffer.old buffer.new needed.old needed.new) result }
+{
+    status(node.ack_for(alloc, from, buffer, needed))
+}
+
+/// Writes the frames in the window to another node with numbers above this one.
+#[unsafe(no_mangle)]
+pub extern "C" fn markring_node_frames(
+    alloc: Global,
+    node: &mut NodeHandle,
+    to: u8,
+    after: u64,
+    buffer: &mut [u8],
+    count: &mut usize,
+    needed: &mut usize,
+) -> i32
+    ensures same { node.new.held ≡ node.old.held }
+    ensures packs { Numbered (λ r. HandlePacks node.old.held to after r buffer.old buffer.new
+        needed.old needed.new) result count.old count.new }
+{
+    written(node.frames(alloc, to, after, buffer, needed), count)
+}
+
+/// The number of bytes of the node's image.
+#[unsafe(no_mangle)]
+pub extern "C" fn markring_node_image_size(
+    alloc: Global,
+    node: &mut NodeHandle,
+    size: &mut usize,
+) -> i32
+    ensures { Numbered (Through SizedSame node.old.held node.new.held) result size.old size.new }
+{
+    written(node.image_size(alloc), size)
+}
+
+/// Writes the node's image.
+#[unsafe(no_mangle)]
+pub extern "C" fn markring_node_image(
+    alloc: Global,
+    node: &mut NodeHandle,
+    buffer: &mut [u8],
+    needed: &mut usize,
+    mark: &mut u64,
+) -> i32
+    ensures { Numbered (λ r. HandleImaged node.old.held node.new.held r buffer.old buffer.new
+        needed.old needed.new) result mark.old mark.new }
+{
+    written(node.image(alloc, buffer, needed), mark)
+}
+
+/// Counts as saved what the image with this mark holds.
+#[unsafe(no_mangle)]
+pub extern "C" fn markring_node_kept(alloc: Global, node: &mut NodeHandle, mark: u64) -> i32
+    ensures { Finished (Through (Kept mark)) node.old.held node.new.held result }
+{
+    status(node.kept(alloc, mark))
 }
