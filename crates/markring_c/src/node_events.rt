@@ -60,7 +60,17 @@ pub extern "C" fn markring_node_load(
 ) -> i32
     ensures { NodeCalled (event.Load register object place) node.old.held node.new.held result answer.old answer.new }
 {
-    answered(node.act(alloc, Event::Load { register, object, place }), answer)
+    answered(
+        node.act(
+            alloc,
+            Event::Load {
+                register,
+                object,
+                place,
+            },
+        ),
+        answer,
+    )
 }
 
 /// Stores the register's reference in a place of the object.
@@ -75,7 +85,17 @@ pub extern "C" fn markring_node_store(
 ) -> i32
     ensures { NodeCalled (event.Store object place register) node.old.held node.new.held result answer.old answer.new }
 {
-    answered(node.act(alloc, Event::Store { object, place, register }), answer)
+    answered(
+        node.act(
+            alloc,
+            Event::Store {
+                object,
+                place,
+                register,
+            },
+        ),
+        answer,
+    )
 }
 
 /// Empties a place of the object.
@@ -131,7 +151,17 @@ pub extern "C" fn markring_node_give(
 ) -> i32
     ensures { NodeCalled (event.Give to label register) node.old.held node.new.held result answer.old answer.new }
 {
-    answered(node.act(alloc, Event::Give { to, label, register }), answer)
+    answered(
+        node.act(
+            alloc,
+            Event::Give {
+                to,
+                label,
+                register,
+            },
+        ),
+        answer,
+    )
 }
 
 /// Removes the oldest letter and puts its reference into the register.
@@ -159,7 +189,17 @@ pub extern "C" fn markring_node_put(
 ) -> i32
     ensures { NodeCalled (event.Put object place register) node.old.held node.new.held result answer.old answer.new }
 {
-    answered(node.act(alloc, Event::Put { object, place, register }), answer)
+    answered(
+        node.act(
+            alloc,
+            Event::Put {
+                object,
+                place,
+                register,
+            },
+        ),
+        answer,
+    )
 }
 
 /// Asks the owner of another node's object for the content of a place.
@@ -174,7 +214,17 @@ pub extern "C" fn markring_node_get(
 ) -> i32
     ensures { NodeCalled (event.Get object place label) node.old.held node.new.held result answer.old answer.new }
 {
-    answered(node.act(alloc, Event::Get { object, place, label }), answer)
+    answered(
+        node.act(
+            alloc,
+            Event::Get {
+                object,
+                place,
+                label,
+            },
+        ),
+        answer,
+    )
 }
 
 /// Begins the next cycle.
@@ -238,4 +288,3 @@ pub extern "C" fn markring_node_next(
 {
     answered(node.act(alloc, Event::Next { from }), answer)
 }
-

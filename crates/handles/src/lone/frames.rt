@@ -36,12 +36,7 @@ impl LoneNode {
     }
 
     /// Writes the acknowledgement to another node. Fails with `NoNode`, and with `ShortBuffer`.
-    pub fn ack_for(
-        &self,
-        from: u8,
-        buffer: &mut [u8],
-        needed: &mut usize,
-    ) -> Result<(), Fault>
+    pub fn ack_for(&self, from: u8, buffer: &mut [u8], needed: &mut usize) -> Result<(), Fault>
         ensures { WroteIf (ack_bytes self.now.node.core from) result buffer.old buffer.new
             needed.old needed.new }
     {
