@@ -48,8 +48,8 @@ impl LoneNode {
     }
 
     /// Writes the frames in the window to another node with numbers above this one, each after its
-    /// length and its number, and returns how many fit. Fails with `NoNode`, with `Nothing` if there
-    /// is no such frame, and with `ShortBuffer` if not even the first fits.
+    /// length and its number, and returns how many fit. Fails with `NoNode`, with `Nothing` if
+    /// there is no such frame, and with `ShortBuffer` if not even the first fits.
     pub fn frames(
         &self,
         to: u8,

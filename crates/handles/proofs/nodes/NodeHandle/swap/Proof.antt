@@ -45,8 +45,14 @@ swap_spec 𝓤 𝓛 𝓜 𝓡 wired =
     held_out T ! given vss.1.0 (λ ew. keep ! (0 ∷ 2 ∷ 3 ∷ 4 ∷ []) $
     suffices ! (Run us) (subst (λ (ws : List Val). ent 𝓤 (Run us) (Run ws)) (sym (λ i. are.0.0 i
     ++ (ew i ++ []))) (id⊢ 𝓤 (Run us))) $
-    enter ! 𝓣.C 𝓣.Λ fn us Post $ alloc_all ! (λ l. pass_all ! refl ((tt, tt), (word-good T
-    given.at, tt)) $
+    enter ! 𝓣.C 𝓣.Λ fn us Post $ alloc_all ! (λ l. pass_all ! refl (
+      (tt, tt),
+      (
+        word-good T
+            given.at,
+        tt,
+      ),
+    ) $
     move ! (1 ∷ 2 ∷ 3 ∷ []) $ opens ! tt R rb ro (λ ms. move ! (1 ∷ []) $
     peeks ! R _ (shows 𝓛 R) h ms (λ is. fsplit ! $ drop ! $
     rewrite ! 1 Cell (lowers.val_is h ms is) refl $
@@ -69,5 +75,7 @@ swap_spec 𝓤 𝓛 𝓜 𝓡 wired =
     move ! (4 ∷ []) $ nothing ! $ move ! (1 ∷ 0 ∷ []) $ join ! $ move ! (3 ∷ 4 ∷ []) $
     feq_i ! (List Val) vss.0 (vptr rb ro ∷ []) are.0.0 $ fjoin3 ! $ nothing ! $ nothing ! $
     fjoin ! $ move ! (1 ∷ 0 ∷ []) $ fjoin ! $
-    move ! (1 ∷ 0 ∷ 2 ∷ 3 ∷ []) $ by ! (leaves 𝓛 En hs c z (word h.at) r (after, (tt, tt)) (tt,
-    (tt, tt))))))))
+    move ! (1 ∷ 0 ∷ 2 ∷ 3 ∷ []) $ by ! (leaves 𝓛 En hs c z (word h.at) r (after, (tt, tt)) (
+      tt,
+      (tt, tt),
+    )))))))
