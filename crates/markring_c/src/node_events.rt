@@ -61,8 +61,8 @@ pub extern "C" fn markring_node_load(
     place: u8,
     answer: &mut CAnswer,
 ) -> i32
-    ensures { NodeCalled (event.Load register object place) node.old.held node.new.held result answer.old
-        answer.new }
+    ensures { NodeCalled (event.Load register object place) node.old.held node.new.held result
+        answer.old answer.new }
 {
     answered(
         node.act(
@@ -87,8 +87,8 @@ pub extern "C" fn markring_node_store(
     register: u16,
     answer: &mut CAnswer,
 ) -> i32
-    ensures { NodeCalled (event.Store object place register) node.old.held node.new.held result answer.old
-        answer.new }
+    ensures { NodeCalled (event.Store object place register) node.old.held node.new.held result
+        answer.old answer.new }
 {
     answered(
         node.act(
@@ -157,8 +157,8 @@ pub extern "C" fn markring_node_give(
     register: u16,
     answer: &mut CAnswer,
 ) -> i32
-    ensures { NodeCalled (event.Give to label register) node.old.held node.new.held result answer.old
-        answer.new }
+    ensures { NodeCalled (event.Give to label register) node.old.held node.new.held result
+        answer.old answer.new }
 {
     answered(
         node.act(
@@ -197,8 +197,8 @@ pub extern "C" fn markring_node_put(
     register: u16,
     answer: &mut CAnswer,
 ) -> i32
-    ensures { NodeCalled (event.Put object place register) node.old.held node.new.held result answer.old
-        answer.new }
+    ensures { NodeCalled (event.Put object place register) node.old.held node.new.held result
+        answer.old answer.new }
 {
     answered(
         node.act(
@@ -223,8 +223,8 @@ pub extern "C" fn markring_node_get(
     label: u32,
     answer: &mut CAnswer,
 ) -> i32
-    ensures { NodeCalled (event.Get object place label) node.old.held node.new.held result answer.old
-        answer.new }
+    ensures { NodeCalled (event.Get object place label) node.old.held node.new.held result
+        answer.old answer.new }
 {
     answered(
         node.act(
