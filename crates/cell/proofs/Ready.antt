@@ -24,7 +24,7 @@ use Rattle.cell.proofs.Places.{mapped-from, mapped-there}
 
 -- ---- The states of nodes whose messages are all saved
 
-many-sent : (l : Link) → length (sent_of l) ≡ used l
+pub many-sent : (l : Link) → length (sent_of l) ≡ used l
 many-sent l =
     length-append (replicate l.base no_message) l.unacknowledged
     ∙ ap (λ (i : ℕ). i + length l.unacknowledged) (length-replicate l.base no_message)
@@ -37,10 +37,10 @@ shown-sent l = record {
       ∙ ap (λ (i : ℕ). drop i (sent_of l)) (length-replicate l.base no_message);
 }
 
-sent-at : (n : NodeView) (j : ℕ) → sent_to (state_of n) j ≡ sent_of (link_to n j)
+pub sent-at : (n : NodeView) (j : ℕ) → sent_to (state_of n) j ≡ sent_of (link_to n j)
 sent-at n j = get_or-mapped sent_of n.links j no_link
 
-shown : (n : NodeView) → Shows n (state_of n)
+pub shown : (n : NodeView) → Shows n (state_of n)
 shown n = record {
   local = refl;
   width = sym (length-map n.links sent_of);
@@ -59,7 +59,7 @@ saved-as n h = record {
   acks = ap (λ (v : NodeView). v.acks) (sym h);
 }
 
-state-at : (nodes : List NodeView) (k : ℕ) (n : NodeView) → slice_get nodes k ≡ Some n
+pub state-at : (nodes : List NodeView) (k : ℕ) (n : NodeView) → slice_get nodes k ≡ Some n
     → node_at (world_of nodes).current k ≡ state_of n
 state-at nodes k n there =
     get_or-map state_of nodes k n no_node (slice_get_within nodes k n there)
