@@ -50,10 +50,10 @@ cuts-alike w v choice h heard =
       locals = λ i. (like i).local;
       flights = λ from to.
           ap (λ (n : ℕ). drop n (sent_to (cut w choice from) to))
-              (ap (λ (p : LocalState). got_from p from) (like to).local)
+          (ap (λ (p : LocalState). got_from p from) (like to).local)
           ∙ drop-more (sent_to (cut w choice from) to) (sent_to (cut v choice from) to)
-              (acknowledged v from to) (taken (cut v choice) from to)
-              (acked-taken v choice from to heard) ((like from).later to);
+          (acknowledged v from to) (taken (cut v choice) from to)
+          (acked-taken v choice from to heard) ((like from).later to);
     }
 
 -- ---- What is reachable
@@ -109,7 +109,7 @@ ends-too nodes cycle h ends = record {
     calm = λ i inside at.
         sym (ap (λ (p : LocalState). p.heap.grey) (h.locals i))
         ∙ ends.terminated.calm i inside
-            (ap (λ (p : LocalState). p.phases.cycle) (h.locals i) ∙ at);
+        (ap (λ (p : LocalState). p.phases.cycle) (h.locals i) ∙ at);
     delivered = λ from to place x fly.
         ends.terminated.delivered from to place x (flies-too from to place x (cuts-sym h) fly);
   };

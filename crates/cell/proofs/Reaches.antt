@@ -31,7 +31,7 @@ use Rattle.cell.proofs.Ready.{shown, state-at}
 
 -- ---- The run that reaches a world
 
--- where the run leads, which may have other messages that are acknowledged
+-- the world to which the run leads; its acknowledged messages may be others
 abbrev pub end_of : {w : World} → IsReached w → World
 end_of r = run (new_world r.shape) r.steps
 
