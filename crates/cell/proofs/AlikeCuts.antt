@@ -28,8 +28,8 @@ cuts-sym h = record {
 
 chosen-like : (acked : ℕ → ℕ) (b : Bool) (s t p q : NodeState) → IsLike acked s t
     → IsLike acked p q → IsLike acked (cond b s p) (cond b t q)
-chosen-like acked true s t p q yes no = yes
-chosen-like acked false s t p q yes no = no
+chosen-like acked true s t p q first second = first
+chosen-like acked false s t p q first second = second
 
 -- in each cut, a node has received what it has acknowledged
 acked-taken : (v : World) (choice : ℕ → Bool) (from to : ℕ) → Behind HeardMore v

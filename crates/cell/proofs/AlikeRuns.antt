@@ -102,10 +102,10 @@ refused-like w v e h = record { outcome = refl; worlds = h }
 
 cond-like : {w v : World} (b c : Bool) (r q s t : Result (World × Outcome) Refusal) → b ≡ c
     → StepsAlike w v r q → StepsAlike w v s t → StepsAlike w v (cond b r s) (cond c q t)
-cond-like true true r q s t same yes no = yes
-cond-like true false r q s t same yes no = absurd cc
-cond-like false true r q s t same yes no = absurd cc
-cond-like false false r q s t same yes no = no
+cond-like true true r q s t same first second = first
+cond-like true false r q s t same first second = absurd cc
+cond-like false true r q s t same first second = absurd cc
+cond-like false false r q s t same first second = second
 
 moved-like : (w v : World) (i : ℕ) (r q : Result (NodeState × Answer) Refusal) → AreAlike w v
     → AnsweredAlike (acknowledged v i) r q → StepsAlike w v (moved w i r) (moved v i q)
@@ -316,7 +316,9 @@ step-like w v (step.Deliver from to number) h heard =
     (refused-like w v NoNode h)
 step-like w v (step.Hand from to) h heard =
     cond-like _ _ _ _ _ _ (both-nodes w v from to h)
-    (cond-like _ _ _ _ _ _ refl (record { outcome = refl; worlds = h }) (handed-like w v from to h))
+    (cond-like (from == to) (from == to) (Ok (w, outcome.NoFrame)) (Ok (v, outcome.NoFrame))
+    (handing w from to) (handing v from to) refl (record { outcome = refl; worlds = h })
+    (handed-like w v from to h))
     (refused-like w v NoNode h)
 
 -- ---- Runs
