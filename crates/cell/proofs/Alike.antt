@@ -1,11 +1,10 @@
 -- States that differ at most in messages up to some numbers. An event reads the local part and the
 -- counts of messages alone, so it keeps them alike.
-use Rattle.std.proofs.Common.{◌≡◌, ◌≤◌, ◌<◌, ◌+◌, ◌-◌, ℕ, zero, suc, true, List, [], ◌∷◌, ◌++◌, length, length-append, length-set, map, drop, drop-drop, get_or, set, slice_get, Some, Result, Ok, Err, refl, sym, ap, ◌∙◌, subst, arith}
+use Rattle.std.proofs.Common.{◌≡◌, ◌≤◌, ◌+◌, ◌-◌, ℕ, zero, suc, true, List, [], ◌∷◌, ◌++◌, length, length-append, length-set, map, drop, drop-drop, get_or, set, slice_get, Some, Result, Ok, Err, refl, sym, ap, ◌∙◌, subst, arith}
 use Rattle.std.proofs.lemmas.List.{length-map, map-set}
 use Rattle.std.proofs.Math.ListN.{get_or-map}
 use Rattle.std.proofs.lemmas.Option.{slice_get_within}
 use Rattle.ids.specs.declared.refusal.Refusal.{Refusal}
-use Rattle.msg.specs.declared.body.Body.{Body}
 use Rattle.msg.specs.declared.body.Message.{Message}
 use Rattle.model.specs.declared.event.Event.{Event}
 use Rattle.model.specs.declared.event.Answer.{Answer}
@@ -121,7 +120,8 @@ pub like-more : (acked more : ℕ → ℕ) (s t : NodeState) → ((to : ℕ) →
 like-more acked more s t grows h = record {
   local = h.local;
   counts = h.counts;
-  later = λ to. drop-more (sent_to s to) (sent_to t to) (acked to) (more to) (grows to) (h.later to);
+  later = λ to.
+      drop-more (sent_to s to) (sent_to t to) (acked to) (more to) (grows to) (h.later to);
 }
 
 -- ---- Events

@@ -1,10 +1,9 @@
 -- Cuts of worlds that differ at most in acknowledged messages: the local parts and the messages in
 -- flight are the same. So the same is reachable, and every theorem on the one holds of the other.
-use Rattle.std.proofs.Common.{◌≡◌, ◌≤◌, ◌<◌, ℕ, Bool, true, false, cond, List, drop, slice_get, Option, Some, refl, sym, ap, ◌∙◌, subst, arith, le_refl}
+use Rattle.std.proofs.Common.{◌≡◌, ◌≤◌, ◌<◌, ℕ, Bool, true, false, cond, drop, slice_get, sym, ap, ◌∙◌, subst, le_refl}
 use Rattle.std.proofs.lemmas.Bool.{cond_both}
 use Rattle.ids.specs.declared.names.Ref.{Ref}
 use Rattle.msg.specs.declared.body.Message.{Message}
-use Rattle.model.specs.declared.event.Letter.{Letter}
 use Rattle.model.specs.State.{LocalState, NodeState, got_from, node_at, register_at, sent_to, slot_at}
 use Rattle.model.specs.World.{World, acknowledged}
 use Rattle.model.specs.Cuts.{Cut, cut, taken, IsInFlight, IsLive, Reachable, in_letter, in_message, in_place, in_register}

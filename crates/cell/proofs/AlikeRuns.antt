@@ -1,6 +1,6 @@
 -- Worlds that differ at most in acknowledged messages. Every step keeps them so, and is an event of
 -- both or of none.
-use Rattle.std.proofs.Common.{◌≡◌, ◌≤◌, ◌<◌, ◌⊎◌, ◌-◌, ℕ, Bool, true, false, cond, ◌==◌, ◌&&◌, leb, leb-false, le-leb, leb-true, ltb, le_refl, le_trans, List, [], ◌∷◌, length, set, length-set, slice_get, Option, None, Some, Result, Ok, Err, refl, sym, ap, ◌∙◌, subst, arith, inl, inr, ⊎_elim}
+use Rattle.std.proofs.Common.{◌≡◌, ◌≤◌, ◌<◌, ◌-◌, ℕ, Bool, true, false, cond, ◌==◌, ◌&&◌, leb, leb-false, le-leb, leb-true, ltb, le_refl, le_trans, List, [], ◌∷◌, set, slice_get, Option, None, Some, Result, Ok, Err, refl, sym, ap, ◌∙◌, subst, arith, ⊎_elim}
 use Rattle.std.proofs.lemmas.Bool.{cases_Bool, cond_both, cond-true, cond-false}
 use Rattle.ids.specs.declared.refusal.Refusal.{Refusal}
 use Rattle.ids.specs.declared.refusal.Refusal.TheVariants.{AckBeyond, NoNode, WrongNode}
@@ -11,15 +11,15 @@ use Rattle.model.specs.declared.step.Outcome.TheVariants as outcome
 use Rattle.model.specs.declared.step.Step.{Step}
 use Rattle.model.specs.declared.step.Step.TheVariants as step
 use Rattle.model.specs.State.{LocalState, NodeState, got_from, no_node, node_at, sent_to}
-use Rattle.model.specs.Steps.{act, is_addressed, is_own, is_repeat, receive}
-use Rattle.model.specs.World.{World, acknowledged, delivery, handing, happens, is_event, is_eventful, is_node, moved, numbered, outcome_of, release_count, released, run, take_step, world_after}
+use Rattle.model.specs.Steps.{act, is_addressed, receive}
+use Rattle.model.specs.World.{World, acknowledged, delivery, handing, happens, is_eventful, is_node, moved, numbered, outcome_of, release_count, released, run, take_step, world_after}
 use Rattle.model.proofs.Lookups.{at_set_if}
 use Rattle.laws.proofs.Cuts.{released-numbered}
 use Rattle.laws.proofs.Net.{HeardMore, heard-onward}
 use Rattle.laws.proofs.Onward.{Behind, step-behind}
 use Rattle.wire.specs.Rule.{AreEvents}
-use Rattle.cell.specs.Reached.{AreAlike, AreLike, IsLike}
-use Rattle.cell.proofs.Alike.{AnsweredAlike, act-like, again-same, also-there, as-many, get-later, like-both, like-more, like-sym, likes-more, likes-set, receive-like}
+use Rattle.cell.specs.Reached.{AreAlike, AreLike}
+use Rattle.cell.proofs.Alike.{AnsweredAlike, act-like, again-same, also-there, as-many, get-later, like-both, like-sym, likes-more, likes-set, receive-like}
 
 -- ---- What is acknowledged
 

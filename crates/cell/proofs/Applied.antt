@@ -1,8 +1,7 @@
 -- The theorems on runs, applied to worlds that a run reaches, except perhaps for acknowledged
 -- messages.
-use Rattle.std.proofs.Common.{◌≡◌, ◌≤◌, ◌<◌, ℕ, pos, Bool, List, length, sym, ap, ◌∙◌, subst}
+use Rattle.std.proofs.Common.{◌≡◌, ◌≤◌, ◌<◌, ℕ, pos, Bool, length, sym, ap, ◌∙◌, subst}
 use Rattle.ids.specs.declared.names.Ref.{Ref}
-use Rattle.model.specs.declared.step.Step.{Step}
 use Rattle.model.specs.State.{LocalState, slot_at}
 use Rattle.model.specs.World.{World, new_world, run}
 use Rattle.model.specs.Cuts.{Cut, cut}

@@ -1,5 +1,5 @@
 -- The theorems on lists of steps, applied to what cells do.
-use Rattle.std.proofs.Common.{◌≡◌, ◌⊎◌, ℕ, ◌+◌, ◌<◌, Bool, true, false, List, [], ◌++◌, map, length, Ok, Err, refl, sym, ap, ◌∙◌, subst}
+use Rattle.std.proofs.Common.{◌≡◌, ◌⊎◌, ℕ, ◌+◌, ◌<◌, Bool, true, false, List, map, length, Ok, Err, refl, sym, ap, ◌∙◌, subst}
 use Rattle.ids.specs.declared.limits.TheConstants.{WINDOW}
 use Rattle.ids.specs.declared.names.Ref.{Ref}
 use Rattle.ids.specs.declared.refusal.Refusal.{Refusal}
@@ -87,8 +87,8 @@ sweeps-free-none-reachable count old new v w reached shows swept =
       e.before,
       e.after,
       λ choice r current reach own.
-          (let kept = swept-in (run v.opening e.log) (stays-reached v.opening e.log reached) choice v.me
-          count s a r current
+          (let now = stays-reached v.opening e.log reached in
+          let kept = swept-in (run v.opening e.log) now choice v.me count s a r current
           (ap (λ (t : NodeState). act t (event.Sweep count)) here ∙ answered) reach own in (
             kept.0,
             ap (λ (p : LocalState). slot_at p.heap r.slot)

@@ -1,21 +1,19 @@
 -- The nodes in which a reached world begins are of one age, and the other way round.
-use Rattle.std.proofs.Common.{◌≡◌, ◌≤◌, ◌<◌, ◌+◌, ℕ, true, Bool, List, [], Some, length, map, slice_get, sym, ap, ◌∙◌, subst, arith, ⊎_elim, le_trans}
+use Rattle.std.proofs.Common.{◌≡◌, ◌≤◌, ◌<◌, ℕ, true, List, [], Some, length, slice_get, sym, ap, ◌∙◌, arith, ⊎_elim}
 use Rattle.std.proofs.lemmas.Bool.{cases_lt}
 use Rattle.std.proofs.lemmas.List.{get_or_past, length-map}
 use Rattle.ids.specs.Limits.{Shaped}
-use Rattle.msg.specs.declared.body.Message.{Message}
 use Rattle.model.specs.State.{LocalState, NodeState, got_from, node_at, sent_to}
-use Rattle.model.specs.View.{NodeView, link_to, used}
-use Rattle.model.specs.World.{World, acknowledged, release_count, run, new_world}
+use Rattle.model.specs.View.{link_to, used}
+use Rattle.model.specs.World.{World, acknowledged, release_count}
 use Rattle.laws.proofs.Base.{all-base}
 use Rattle.node.specs.Keeping.{WholeNode}
 use Rattle.wire.specs.Readers.{AreOpened}
 use Rattle.cell.specs.Ages.{AreOfOneAge}
 use Rattle.cell.specs.Laws.{restarted}
 use Rattle.cell.specs.Opened.{cores, state_of, world_of}
-use Rattle.cell.specs.Reached.{AreHeld, BeginReached, IsReached}
-use Rattle.cell.specs.Theorems.{AreLeft, BeginOfOneAge, LeftIsOfOneAge, ReopenedIsReached}
-use Rattle.cell.proofs.Alike.{as-many}
+use Rattle.cell.specs.Reached.{AreHeld, IsReached}
+use Rattle.cell.specs.Theorems.{BeginOfOneAge, LeftIsOfOneAge, ReopenedIsReached}
 use Rattle.cell.proofs.AlikeRuns.{acks-like, sent-like}
 use Rattle.cell.proofs.Applied.{node-count}
 use Rattle.cell.proofs.Left.{left-opened, restarted-reached}

@@ -1,15 +1,14 @@
 -- Worlds that a run reaches, except perhaps for acknowledged messages, and the nodes in which such
 -- a world begins.
-use Rattle.std.proofs.Common.{◌≡◌, ◌≤◌, ◌<◌, ◌⊎◌, ◌+◌, ◌++◌, ℕ, zero, List, [], Some, length, map, drop, get_or, replicate, slice_get, refl, sym, ap, ◌∙◌, subst, arith, inl, inr, ⊎_elim}
+use Rattle.std.proofs.Common.{◌≡◌, ◌≤◌, ◌<◌, ◌⊎◌, ◌++◌, ℕ, List, [], Some, length, map, slice_get, refl, sym, ap, ◌∙◌, subst, arith, inl, inr, ⊎_elim}
 use Rattle.std.proofs.lemmas.Bool.{cases_lt}
 use Rattle.std.proofs.lemmas.List.{get_or_past, length-map}
 use Rattle.std.proofs.lemmas.Option.{slice_get_within}
 use Rattle.ids.specs.Limits.{Shaped, IsShape}
 use Rattle.msg.specs.declared.body.Message.{Message}
-use Rattle.model.specs.State.{LocalState, NodeState, got_from, new_node, no_node, node_at, sent_to}
-use Rattle.model.specs.View.{Link, NodeView, Shows, ShowsSent, link_to, new_view, used}
+use Rattle.model.specs.State.{NodeState, new_node, no_node, node_at, sent_to}
+use Rattle.model.specs.View.{NodeView, Shows, link_to}
 use Rattle.model.specs.World.{World, acknowledged, new_world, run}
-use Rattle.model.specs.declared.step.Step.{Step}
 use Rattle.model.proofs.Lookups.{get_or-replicate_any, maps_agree}
 use Rattle.model.proofs.Runs.{run-append}
 use Rattle.laws.proofs.Net.{HeardMore, run-heard}
@@ -20,7 +19,7 @@ use Rattle.wire.specs.Readers.{AreOpened, IsSavedAs}
 use Rattle.wire.proofs.NewWires.{new-at, new-saved, new-width}
 use Rattle.cell.specs.Laws.{IsLeft}
 use Rattle.cell.specs.Opened.{IsReadFrom, cores, state_of, world_of}
-use Rattle.cell.specs.Reached.{AlikeGoOn, AreAlike, AreHeld, AreLike, BeginReached, IsLike, IsReached, WorldOfIsReached}
+use Rattle.cell.specs.Reached.{AlikeGoOn, AreAlike, AreHeld, AreLike, IsLike, IsReached, WorldOfIsReached}
 use Rattle.cell.specs.Theorems.{FreshIsReached, StaysReached}
 use Rattle.cell.proofs.Alike.{drop-more, same-like}
 use Rattle.cell.proofs.AlikeRuns.{acks-like, alike-both, alike-self, events-like, heard-like, run-like}

@@ -1,5 +1,5 @@
-//! Whether nodes that were read from disks can be the saved states of one moment. What each node has
-//! received from each other one has to fit what that one keeps and what it has dropped.
+//! Whether nodes that were read from disks can be the saved states of one moment. What each node
+//! has received from each other one has to fit what that one keeps and what it has dropped.
 ghost use Rattle.std.specs.Prelude.{◌≡◌, ◌<◌, ℕ, false, IfNone, IfSome, IsTrue, length};
 ghost use Rattle.model.specs.State.{got_from};
 ghost use Rattle.model.specs.View.{link_to};

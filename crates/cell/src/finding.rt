@@ -148,7 +148,7 @@ fn read_all<D: Disk + Drop>(
         HasPlace (λ k d. IsCause D.seen D.moment D.faults shape k d r) disks.items)) }
     ensures ages { IfErr result (IfAges (λ i j. ⊥)) }
     ensures count { IfOk result (λ r. length r.0.items ≡ shape.nodes) }
-    ensures all { IfOk result (λ r. length r.0.items ≡ vec_len disks) }
+    ensures all { IfOk result (λ r. length r.0.items ≡ length disks.items) }
     ensures found { IfOk result (λ r.
         AreFound (λ n s. (s.ready ≡ true) × OpensToNode n (D.seen s.disk))
         shape r.0.items r.1.items) }
@@ -203,7 +203,7 @@ pub fn find<D: Disk + Drop>(
         shape r.0.items r.1.items) }
     ensures read { IfOk result (λ r.
         AreBeside (λ k d n. IsReadFrom shape k (D.seen d) n) disks.items r.0.items) }
-    ensures all { IfOk result (λ r. length r.0.items ≡ vec_len disks) }
+    ensures all { IfOk result (λ r. length r.0.items ≡ length disks.items) }
     ensures one_age { IfOk result (λ r. AreOfOneAge r.0.items) }
 {
     let (nodes, shelves) = read_all(alloc, shape, disks)?;

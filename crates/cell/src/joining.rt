@@ -1,6 +1,6 @@
 //! Makes the cells of nodes that are on shelves, and the wire between them. The caller names the
 //! world whose states the nodes are in; the theorems hold if a run reaches it.
-ghost use Rattle.std.specs.Prelude.{◌≡◌, ◌≢◌, true, All, IfErr, IfOk, IsErrOf, map, vec_len};
+ghost use Rattle.std.specs.Prelude.{◌≡◌, ◌≢◌, true, All, IfErr, IfOk, IsErrOf, length, map, vec_len};
 ghost use Rattle.ids.specs.declared.refusal.Refusal.TheVariants.{Memory};
 ghost use Rattle.model.specs.World.{World};
 ghost use Rattle.wire.specs.Readers.{AreOpened, IsMade};
@@ -109,7 +109,7 @@ pub fn open<D: Disk + Drop>(
     ensures read { IfOk result (λ r. AreBeside (λ k d n. IsReadFrom shape k (D.seen d) n)
         disks.items (map (λ c. c.node) r.1.items)) }
     ensures count { IfOk result (λ r. vec_len r.1 ≡ shape.nodes) }
-    ensures all { IfOk result (λ r. vec_len r.1 ≡ vec_len disks) }
+    ensures all { IfOk result (λ r. length r.1.items ≡ length disks.items) }
     ensures one_age { IfOk result (λ r. AreOfOneAge (map (λ c. c.node) r.1.items)) }
     ensures new { IfOk result (λ r. All IsNew r.1.items) }
     ensures made { IfOk result (λ r. IsMade

@@ -1,4 +1,3 @@
-use Rattle.std.proofs.Common.{sym, subst}
 use Rattle.std.proofs.lemmas.Result.{err_from_is_err_and}
 use Rattle.cell.proofs.Causes.{same-error}
 use Rattle.cell.proofs.finding.find.Goals as goal
