@@ -1,6 +1,6 @@
-/* Stands before the C library's allocator, and refuses requests for memory that a program's first thread makes of it: the
- * one numbered $REFUSE, counted from 1, or with $REFUSE_ALL that one and all later ones. At the program's end it writes how
- * many there were into the file $REQUESTS. A program is run with it by LD_PRELOAD; tests/memory does so. */
+/* Wraps the C library's allocator, and makes allocations of a program's first thread fail: the one numbered $REFUSE, counted
+ * from 1, or with $REFUSE_ALL that one and all later ones. When the program ends, the number of requests is written to the
+ * file $REQUESTS. It is loaded with LD_PRELOAD, as tests/memory does. */
 #define _GNU_SOURCE
 #include <errno.h>
 #include <fcntl.h>
@@ -27,7 +27,7 @@ __attribute__((constructor)) static void begin(void) {
     first = pthread_self();
 }
 
-/* Whether the request that comes now is refused. Those of other threads come in any order, and none of them is. */
+/* Whether this request fails. Requests of other threads come in any order, so they aren't counted and never fail. */
 static int refuses(void) {
     if (!pthread_equal(pthread_self(), first)) return 0;
     requests++;
@@ -52,7 +52,7 @@ int posix_memalign(void **place, size_t align, size_t size) {
     return block ? 0 : ENOMEM;
 }
 
-/* Writes how many requests there were. */
+/* Writes the number of requests. */
 static void tell(void) {
     const char *path = getenv("REQUESTS");
     int file = path ? open(path, O_WRONLY | O_CREAT | O_TRUNC, 0644) : -1;
@@ -61,7 +61,7 @@ static void tell(void) {
     close(file);
 }
 
-/* Programs of Rattle end by this. */
+/* Rattle programs end by calling this. */
 void _exit(int status) {
     tell();
     syscall(SYS_exit_group, status);

@@ -1,12 +1,12 @@
 //! Values in an arena, which count how often one of them is dropped. So a case shows that each
-//! value is dropped once, also by an ending arena, which no clause says.
+//! value is dropped once, also when the arena ends. No clause says that.
 use crate::case::{Line, Stop, number, verb};
 use crate::out::Out;
 use arena::{Arena, Fault, Key, Slot, Slots};
 use std::alloc::Global;
 use std::cell::Cell;
 
-/// A value that counts in a cell how often one like it is dropped.
+/// A value that counts in a cell how often such a value is dropped.
 struct Counted<'a> {
     drops: &'a Cell<u64>,
 }
@@ -18,7 +18,8 @@ impl Drop for Counted<'_> {
     }
 }
 
-/// A case over arenas: one of words, which commands name slots of, and those whose drops count.
+/// A case for arenas: one of words, whose slots are named by commands, and arenas of values whose
+/// drops are counted.
 pub fn run(alloc: Global, lines: &[Line<'_>], out: &mut Out) -> Result<(), Stop> {
     let mut arena = Arena::with_limit(alloc, 0);
     for line in lines {
@@ -39,7 +40,7 @@ pub fn run(alloc: Global, lines: &[Line<'_>], out: &mut Out) -> Result<(), Stop>
     Ok(())
 }
 
-// An arena of one slot that holds the word under this generation.
+// An arena of one slot, which holds the word with this generation.
 fn single(alloc: Global, generation: u64, word: u64) -> Result<Arena<u64>, Stop> {
     let mut slots = Slots::new(alloc, 1);
     slots.push(Slot::Occupied(generation, word))?;
@@ -87,8 +88,8 @@ fn put_word(word: Option<u64>, out: &mut Out) {
     }
 }
 
-// How often values were dropped in an arena in which so many are stored, taken out, and stored
-// again, after each of these; and once it has ended.
+// How often values were dropped: after this many are stored, after this many are removed, after
+// this many are stored again, and once the arena has ended.
 fn put_drops(alloc: Global, words: &[&str], out: &mut Out) -> Result<(), Stop> {
     let limit = number(words, 1)?;
     let counts = [number(words, 2)?, number(words, 3)?, number(words, 4)?];
@@ -99,7 +100,7 @@ fn put_drops(alloc: Global, words: &[&str], out: &mut Out) -> Result<(), Stop> {
     Ok(())
 }
 
-// The same after each of the three; the arena then ends.
+// The same after each of the three steps; the arena then ends.
 fn dropped(alloc: Global, limit: u32, counts: [u32; 3], drops: &Cell<u64>) -> [u64; 3] {
     let [stored, taken, again] = counts;
     let mut arena = Arena::with_limit(alloc, limit);
@@ -111,14 +112,14 @@ fn dropped(alloc: Global, limit: u32, counts: [u32; 3], drops: &Cell<u64>) -> [u
     [after_storing, after_taking, drops.get()]
 }
 
-// Stores so many values; one that is refused is let go.
+// Stores this many values; a value that is refused is dropped.
 fn store<'a>(arena: &mut Arena<Counted<'a>>, drops: &'a Cell<u64>, count: u32) {
     for _ in 0..count {
         let _ = arena.insert(Counted { drops });
     }
 }
 
-// Takes out what the first so many slots hold first, and lets go of it.
+// Removes and drops the first value of each of this many slots, from slot 0 on.
 fn take_out(arena: &mut Arena<Counted<'_>>, count: u32) {
     for slot in 0..count {
         if arena.is_empty() {

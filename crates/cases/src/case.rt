@@ -1,15 +1,16 @@
-//! A case as lines of words, and what words say. The first line that is no command ends it.
+//! A case as lines of words, and the meaning of words. The first line that isn't a command ends the
+//! case.
 use crate::out::Out;
 use hex::FromHexError;
 use std::alloc::{AllocError, AllocFailed, Global};
 use std::str::FromStr;
 
-/// Why a case goes no further.
+/// Why a case ends early.
 #[derive(Clone, Copy)]
 pub enum Stop {
-    /// The line is no command, or none that can be done now.
+    /// The line isn't a command, or is one that can't be done now.
     Unknown,
-    /// Memory was refused to the interpreter itself.
+    /// The interpreter itself ran out of memory.
     Memory,
 }
 
@@ -28,18 +29,18 @@ impl<T: Drop> From<AllocFailed<T>> for Stop {
 /// A line of a case, as its words.
 #[derive(Drop)]
 pub struct Line<'a> {
-    /// Which line of the case it is, counted from 1.
+    /// The number of the line in the case, counted from 1.
     pub number: usize,
     pub words: Vec<&'a str>,
 }
 
-/// What takes the commands of a case, one after another.
+/// What receives the commands of a case, one after another.
 pub trait Subject {
-    /// Does what the words of a line say, and prints what comes of it.
+    /// Does what the words of a line say, and prints the outcome.
     fn take(&mut self, words: &[&str], out: &mut Out) -> Result<(), Stop>;
 }
 
-/// Gives the subject all lines of a case, and lets go of it.
+/// Gives the subject all lines of a case, and drops it.
 pub fn take_all<S: Subject + Drop>(
     mut subject: S,
     lines: &[Line<'_>],
@@ -51,7 +52,7 @@ pub fn take_all<S: Subject + Drop>(
     Ok(())
 }
 
-/// The lines of a case that hold words, but comments.
+/// The lines of a case that contain words and aren't comments.
 pub fn read_lines<'a>(alloc: Global, text: &'a str) -> Result<Vec<Line<'a>>, AllocError> {
     let mut lines = Vec::new(alloc);
     let mut number = 0usize;
@@ -65,7 +66,7 @@ pub fn read_lines<'a>(alloc: Global, text: &'a str) -> Result<Vec<Line<'a>>, All
     Ok(lines)
 }
 
-// The words of a line; none where it is a comment.
+// The words of a line; none for a comment.
 fn words_of<'a>(alloc: Global, line: &'a str) -> Result<Vec<&'a str>, AllocError> {
     let mut words = Vec::new(alloc);
     for word in line.split(' ') {
@@ -114,7 +115,7 @@ where
     read(word(words, place)?)
 }
 
-/// The bytes of two hexadecimal digits each; `-` stands for none.
+/// The bytes, spelled with two hexadecimal digits each; `-` means no bytes.
 pub fn bytes_of(alloc: Global, word: &str) -> Result<Vec<u8>, Stop> {
     if word == "-" {
         return Ok(Vec::new(alloc));

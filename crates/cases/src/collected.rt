@@ -1,5 +1,5 @@
-//! A whole cycle frees what can't be reached and nothing else, after lists of steps of programs
-//! that look random. What can be reached is worked out anew, by no means of the collector's.
+//! A whole cycle frees exactly the objects that can't be reached, after lists of pseudorandom steps
+//! of programs. What can be reached is computed separately, without any part of the collector.
 ghost use Rattle.std.specs.Prelude.{◌≡◌, true};
 ghost use Rattle.model.specs.Steps.{is_own};
 
@@ -16,15 +16,15 @@ const NODES: u8 = 3;
 
 const REGISTERS: u8 = 3;
 
-/// More rounds than it takes until nothing is on its way, or a cycle is swept everywhere.
+/// More rounds than it takes until nothing is in flight, or a cycle has been swept everywhere.
 const ROUNDS: u32 = 100;
 
 /// More messages than a list sends from one node to another, and more slots than a node has.
 const MANY: u32 = 10_000;
 
-/// How many objects the cycles freed, and how many they kept that were reached just before them.
-/// How many references that were reached name no object after the cycle; how many objects are there
-/// then that weren't reached; how many cycles didn't come to their end.
+/// Counts over all cycles: how many objects were freed, and how many were kept that had been
+/// reached just before. How many references that had been reached name no object after the cycle.
+/// How many objects are left that hadn't been reached. How many cycles didn't end.
 #[derive(Drop)]
 struct Sums {
     freed: u64,
@@ -34,7 +34,7 @@ struct Sums {
     unended: u64,
 }
 
-/// A command over lists of steps.
+/// A command about lists of steps.
 pub fn take(alloc: Global, words: &[&str], out: &mut Out) -> Result<(), Stop> {
     if verb(words) != "collect" {
         return Err(Stop::Unknown);
@@ -57,7 +57,7 @@ pub fn take(alloc: Global, words: &[&str], out: &mut Out) -> Result<(), Stop> {
     Ok(())
 }
 
-// So many lists of so many turns, each with a cycle after it.
+// This many lists of this many turns, each with a cycle after it.
 fn run_lists(alloc: Global, lists: u64, turns: u32, sums: &mut Sums) -> Result<(), Refusal> {
     for seed in 0..lists {
         run_list(alloc, seed, turns, sums)?;
@@ -87,7 +87,7 @@ fn new_space(alloc: Global) -> Result<Sim, Refusal> {
     }
 }
 
-// What happens next where no collection runs: a step of a program, a save with deliveries, or an
+// A random step while no collection runs: a step of a program, a save with deliveries, or an
 // acknowledgement.
 fn take_turn(sim: &mut Sim, dice: &mut Dice) {
     let node = dice.below(NODES);
@@ -136,7 +136,7 @@ fn save(sim: &mut Sim, node: u8) {
     let _ = sim.step(Step::Save(node));
 }
 
-// Whether the message of this number is new to the receiver, and was taken in.
+// Whether the message of this number is new to the receiver, and was received.
 fn deliver(sim: &mut Sim, from: u8, to: u8, number: u64) -> bool {
     match sim.step(Step::Deliver { from, to, number }) {
         Ok(outcome) => outcome == Outcome::Answer(Answer::Received),
@@ -144,7 +144,7 @@ fn deliver(sim: &mut Sim, from: u8, to: u8, number: u64) -> bool {
     }
 }
 
-// The number of the message that the receiver took in last from the sender.
+// The number of the message that the receiver received last from the sender.
 fn taken(sim: &Sim, from: u8, to: u8) -> u64 {
     match sim.node(to) {
         Some(receiver) => receiver.core().taken_from(from),
@@ -152,7 +152,7 @@ fn taken(sim: &Sim, from: u8, to: u8) -> u64 {
     }
 }
 
-// A node is saved, and another one takes in messages from it: the next three, and one again.
+// A node is saved, and another one receives messages from it: the next three, and one again.
 fn save_and_send(sim: &mut Sim, from: u8, to: u8) {
     save(sim, from);
     let last = taken(sim, from, to);
@@ -161,8 +161,8 @@ fn save_and_send(sim: &mut Sim, from: u8, to: u8) {
     }
 }
 
-// One cycle, once all messages were taken in and all nodes saved; what was reached just before it
-// against what is there after it.
+// One cycle, once all messages were received and all nodes saved. It compares what was reached just
+// before the cycle with what is there after it.
 fn collect(alloc: Global, sim: &mut Sim, sums: &mut Sums) -> Result<(), Refusal> {
     let is_settled = settle(sim);
     if sim.count() != NODES {
@@ -176,7 +176,7 @@ fn collect(alloc: Global, sim: &mut Sim, sums: &mut Sums) -> Result<(), Refusal>
     Ok(())
 }
 
-// Whether nothing is on its way any more, and each node is as it was saved.
+// Whether nothing is in flight any more, and each node is as it was saved.
 fn settle(sim: &mut Sim) -> bool {
     for _round in 0..ROUNDS {
         if !exchange(sim) {
@@ -186,7 +186,7 @@ fn settle(sim: &mut Sim) -> bool {
     false
 }
 
-// Saves each node and hands over what it sent; whether anything was taken in.
+// Saves each node and delivers what it sent; whether anything was received.
 fn exchange(sim: &mut Sim) -> bool {
     let mut is_busy = false;
     for from in 0..NODES {
@@ -200,7 +200,7 @@ fn exchange(sim: &mut Sim) -> bool {
     is_busy
 }
 
-// Hands over all that was released from one node to another; whether anything was taken in.
+// Delivers everything that was released from one node to another; whether anything was received.
 fn hand_over(sim: &mut Sim, from: u8, to: u8) -> bool {
     for count in 0..MANY {
         let next = taken(sim, from, to).saturating_add(1);
@@ -226,7 +226,7 @@ fn run_cycle(sim: &mut Sim, sums: &mut Sums) -> bool {
     false
 }
 
-// All that the collector may do at a node now.
+// Everything that the collector may do at a node now.
 fn work(sim: &mut Sim, node: u8, sums: &mut Sums) {
     for _object in 0..MANY {
         if sim.act(node, Event::Scan).is_err() {
@@ -249,8 +249,8 @@ fn has_swept(sim: &Sim) -> bool {
     true
 }
 
-// The references come once each, so where all name objects and there are no more objects than
-// these, they are the same.
+// The references are distinct. So if all name objects and there are no more objects than
+// references, the two are the same.
 fn compare(sim: &Sim, reached: &[Ref], sums: &mut Sums) {
     let mut kept = 0_u64;
     for reference in reached {

@@ -1,4 +1,4 @@
-//! A disk of a space, which can be told to fail and to crash, and what it then opens to.
+//! A disk of a space, which a case can make fail and crash, and what it then opens to.
 use crate::case::{Stop, number, verb};
 use crate::out::{Out, count, put_tally};
 use crate::shelves::node_on;
@@ -6,7 +6,7 @@ use disk::{MemoryDisk, is_blank};
 use ids::Refusal;
 use std::alloc::Global;
 
-/// Lets the disk fail or crash, as the words say: the verb, the disk's node and a number.
+/// Makes the disk fail or crash, as the words say: the verb, the disk's node and a number.
 pub fn change(disk: &mut MemoryDisk, words: &[&str], out: &mut Out) -> Result<(), Stop> {
     match verb(words) {
         "fail" => disk.fail_from(number(words, 2)?),
@@ -18,7 +18,7 @@ pub fn change(disk: &mut MemoryDisk, words: &[&str], out: &mut Out) -> Result<()
     Ok(())
 }
 
-// The disk that a crash leaves takes its place.
+// Replaces the disk with the one that a crash leaves.
 fn crash(disk: &mut MemoryDisk, fill: u8, out: &mut Out) -> Result<(), Stop> {
     match disk.after_crash(fill) {
         Ok(left) => {
@@ -43,7 +43,7 @@ pub fn put_crashes(alloc: Global, disk: &MemoryDisk, node: u8, out: &mut Out) {
     put_tally(&NAMES, &tally, out);
 }
 
-// The place of that among `NAMES`.
+// The place of the outcome in `NAMES`.
 fn opens_to(alloc: Global, left: Result<MemoryDisk, Refusal>, own: u8) -> usize {
     let Ok(mut disk) = left else {
         return 3;

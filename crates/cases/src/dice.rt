@@ -1,5 +1,5 @@
-//! Numbers that look random, the same ones for each seed, and what a program does by them. So a run
-//! that failed can be run again.
+//! Pseudorandom numbers, the same ones for each seed, and what a program does with them. So a run
+//! that failed can be repeated.
 ghost use Rattle.std.specs.Prelude.{◌≡◌, true};
 ghost use Rattle.model.specs.Steps.{is_own};
 
@@ -8,11 +8,11 @@ use model::Event;
 /// How many places an object of such a program has.
 const PLACES: u8 = 2;
 
-/// The label of what its Gets bring.
+/// The label of the answers to its Gets.
 pub const ASKED: u32 = u32::MAX;
 
-/// Dice, as the number that a throw leaves, of a program that uses so many registers from the first
-/// one on.
+/// Dice for a program that uses this many registers from the first one on. A throw changes the
+/// number that they hold.
 #[derive(Drop)]
 pub struct Dice {
     pub state: u64,
@@ -21,7 +21,7 @@ pub struct Dice {
 }
 
 impl Dice {
-    /// A number below the sides, of which there is at least one.
+    /// A number below the number of sides, which is at least one.
     pub fn below(&mut self, sides: u8) -> u8 {
         let grown = self.state.wrapping_mul(6_364_136_223_846_793_005);
         self.state = grown.wrapping_add(1_442_695_040_888_963_407);
@@ -33,7 +33,7 @@ impl Dice {
         u16::from(self.below(self.registers)).saturating_add(self.first)
     }
 
-    /// What a program may do with what it holds.
+    /// What a program may do with the references that it holds.
     pub fn own_event(&mut self) -> Event
         ensures { is_own result ≡ true }
     {

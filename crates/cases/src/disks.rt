@@ -1,5 +1,5 @@
-//! A disk in memory, which can be told to fail and to crash. A case sees what an opening finds
-//! after each of the crashes that may come.
+//! A disk in memory, which a case can make fail and crash. A case sees what an opening finds after
+//! each of the crashes that are possible.
 use crate::case::{Stop, Subject, number, verb};
 use crate::out::{Out, count, put_tally};
 use crate::shelves::{Bench, Held, node_on};
@@ -12,7 +12,7 @@ use std::alloc::Global;
 pub struct Disks {
     alloc: Global,
     bench: Bench<MemoryDisk>,
-    // The image that was noted as the old one.
+    // The image that was recorded as the old one.
     old: Vec<u8>,
 }
 
@@ -41,7 +41,7 @@ impl Disks {
         Ok(())
     }
 
-    // The disk is the one that a crash leaves.
+    // Replaces the disk with the one that a crash leaves.
     fn crash(&mut self, fill: u8, out: &mut Out) -> Result<(), Stop> {
         let left = after_crash(&self.bench.held, fill)?;
         self.bench.hold(left, out);
@@ -85,7 +85,7 @@ impl Subject for Disks {
     }
 }
 
-// The k-th call of the disk from now fails, and no later one.
+// Makes the k-th call of the disk from now on fail, and no later one.
 fn fail_once(held: &mut Held<MemoryDisk>, k: u64, out: &mut Out) -> Result<(), Stop> {
     match held {
         Held::Loose(disk) => disk.fail_once(k),
@@ -96,7 +96,7 @@ fn fail_once(held: &mut Held<MemoryDisk>, k: u64, out: &mut Out) -> Result<(), S
     Ok(())
 }
 
-// From now on the k-th call of the disk and all later ones fail.
+// Makes the k-th call of the disk from now on and all later ones fail.
 fn fail(held: &mut Held<MemoryDisk>, k: u64, out: &mut Out) -> Result<(), Stop> {
     match held {
         Held::Loose(disk) => disk.fail_from(k),
@@ -118,7 +118,7 @@ fn after_crash(held: &Held<MemoryDisk>, fill: u8) -> Result<Result<MemoryDisk, R
 /// What a disk opens to.
 const NAMES: [&str; 5] = ["blank", "old", "new", "other", "refused"];
 
-// The place of that among `NAMES`.
+// The place of the outcome in `NAMES`.
 fn opens_to(alloc: Global, left: Result<MemoryDisk, Refusal>, old: &[u8], new: &[u8]) -> usize {
     let Ok(mut disk) = left else {
         return 4;

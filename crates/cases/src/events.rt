@@ -1,5 +1,5 @@
-//! Events of a node, in the words that scripts have for them behind the node's number. Cases of
-//! nodes, cells and disks have them alike.
+//! Events of a node, in the words that scripts use after the node's number. Cases of nodes, cells
+//! and disks share them.
 ghost use Rattle.std.specs.Prelude.{◌≡◌, true, IfOk};
 ghost use Rattle.model.specs.Steps.{is_own};
 
@@ -8,7 +8,7 @@ use lines::Line;
 use model::{Event, Step};
 use std::alloc::{AllocError, Global};
 
-/// The event that the words say, which comes from no other node.
+/// The event that the words say; it doesn't come from another node.
 pub fn event_of(alloc: Global, words: &[&str]) -> Result<Event, Stop>
     ensures { IfOk result (λ e. is_own e ≡ true) }
 {
@@ -18,7 +18,7 @@ pub fn event_of(alloc: Global, words: &[&str]) -> Result<Event, Stop>
     }
 }
 
-/// The event that is to be repeated, and how often: `repeat COUNT EVENT`.
+/// The event to repeat, and how often: `repeat COUNT EVENT`.
 pub fn repeated(alloc: Global, words: &[&str]) -> Result<(Event, u64), Stop>
     ensures { IfOk result (λ r. is_own r.0 ≡ true) }
 {
@@ -28,7 +28,7 @@ pub fn repeated(alloc: Global, words: &[&str]) -> Result<(Event, u64), Stop>
     }
 }
 
-// A line of a script in which the words stand behind a node's number.
+// A line of a script with the words after a node's number.
 fn script_line(alloc: Global, words: &[&str]) -> Result<String, AllocError> {
     let mut line = String::from_str(alloc, "0")?;
     for word in words {

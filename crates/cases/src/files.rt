@@ -1,5 +1,5 @@
-//! Disks in files of a folder, some of which fail as they are told to. Those that fail stand in for
-//! files of the system, call by call.
+//! Disks in files of a folder, some of which fail on command. Those that fail replace the system's
+//! files, call by call.
 use crate::case::{Line, Stop, Subject, bytes_of, take_all, verb, word};
 use crate::out::Out;
 use crate::shelves::{Bench, area_of};
@@ -11,8 +11,8 @@ use std::fs::{self, File, Files, Metadata, OpenFile, OpenOptions};
 use std::io::{self, ErrorKind};
 use std::os::unix::fs::FileExt;
 
-/// A case over two disks in files, of which one's fail as they are told to. Each answer is printed
-/// before the next line is taken.
+/// A case for two disks in files, one of which has files that fail on command. Each answer is
+/// printed before the next line is read.
 pub fn run<R: Files<File = File> + Print + AllocGlobal>(
     rt: &R,
     lines: &[Line<'_>],
@@ -147,14 +147,14 @@ fn put_done(done: io::Result<()>, out: &mut Out) {
 #[derive(Clone, Copy)]
 enum Next {
     Well,
-    /// It is interrupted, and the one after it does well.
+    /// It is interrupted, and the call after it succeeds.
     Interrupted,
     /// A write takes two bytes.
     Short,
     /// A write takes two bytes, and the call after it fails.
     Stops,
     Fails,
-    /// It fails, and so do all later ones.
+    /// It fails, and so do all later calls.
     Lost,
 }
 
@@ -173,7 +173,7 @@ impl Plan {
         }
     }
 
-    // What this call does; the next one is set.
+    // What this call does. It also sets what the next one does.
     fn meets(&self) -> Next {
         let next = self.next.get();
         match next {
@@ -211,7 +211,7 @@ impl Plans {
     }
 }
 
-/// A file that fails where its plan says so.
+/// A file that fails when its plan says so.
 #[derive(Drop)]
 struct Flaky<'a> {
     file: File,

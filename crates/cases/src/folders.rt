@@ -1,5 +1,5 @@
-//! The disks of a space in files, in a folder for each node below one that a seed names, and the
-//! nodes that they hold.
+//! The disks of a space in files, and the nodes that they hold. Each node's folder is inside a
+//! folder that is named by a seed.
 use crate::shelves::node_on;
 use disk::FileDisk;
 use ids::Refusal;
@@ -8,7 +8,7 @@ use std::alloc::Global;
 use std::fs::File;
 use std::rt::Files;
 
-// The disk of a node, in a folder of its own.
+// The disk of a node, in its own folder.
 fn disk_in<R: Files<File = File>>(
     rt: &R,
     alloc: Global,
@@ -19,7 +19,7 @@ fn disk_in<R: Files<File = File>>(
     FileDisk::at(rt, alloc, path.as_str())
 }
 
-/// The disks of so many nodes.
+/// The disks of this many nodes.
 pub fn disks_in<R: Files<File = File>>(
     rt: &R,
     alloc: Global,

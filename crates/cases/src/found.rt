@@ -1,18 +1,19 @@
-//! What came of a space whose workers ended and came back, and of the letters of its programs.
+//! The findings of a trial whose workers ended and were started again, and of its programs'
+//! letters.
 
-/// A letter to the next node's program: by its label, which no other has. Where it isn't sure, a
-/// restart may have lost what was done with it.
+/// A letter to the next node's program, known by its unique label. If `is_sure` is
+/// false, a restart may have undone it.
 #[derive(Clone, Copy)]
 pub struct Noted {
     pub label: u32,
     pub is_sure: bool,
 }
 
-/// What came of such a space.
+/// The findings of such a trial.
 #[derive(Clone, Copy, Debug)]
 pub struct Found {
-    /// How many letters were taken, how many workers ended, how many objects were reached and
-    /// there at the end.
+    /// How many letters were accepted, how many workers ended, and how many objects were both
+    /// reached and there at the end.
     pub letters: u64,
     pub ends: u64,
     pub kept: u64,
@@ -23,7 +24,7 @@ pub struct Found {
     /// References that were reached and name no object, and objects that weren't reached.
     pub missing: u64,
     pub left: u64,
-    /// Messages that weren't taken in, and nodes that hadn't swept the last cycle.
+    /// Messages that weren't received, and nodes that hadn't swept the last cycle.
     pub waiting: u64,
     pub unswept: u64,
 }
@@ -52,14 +53,14 @@ impl Found {
         letters && objects && self.waiting == 0 && self.unswept == 0
     }
 
-    /// Whether it went far enough to be a trial.
+    /// Whether the trial went far enough to count.
     pub fn has(&self, least: u64) -> bool {
         self.letters >= least && self.ends >= least && self.kept >= least
     }
 }
 
-/// What came of the letters that were given: which of them didn't come, and how many came that
-/// weren't given.
+/// Compares the letters that were given with those that came: which of them didn't come, and how
+/// many came that hadn't been given.
 pub fn compare_letters(given: &[Noted], taken: &[Noted], found: &mut Found) {
     let mut rest = taken;
     for letter in given {

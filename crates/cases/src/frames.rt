@@ -1,21 +1,21 @@
-//! Bytes that are cut or changed: what is still read as a frame or as a node. What is read is to be
-//! spelled so again.
+//! Bytes that are cut or changed, and whether they are still read as a frame or as a node. Whatever
+//! is read has to have the same spelling again.
 use crate::case::{Stop, bytes_of, verb, word};
 use crate::out::{Out, Tally, count, put_tally};
 use ids::Refusal;
 use msg::{decode, encode};
 use std::alloc::{AllocError, Global};
 
-/// What becomes of bytes: they are what they are read as, spelled again; they are refused, as no
-/// spelling; or anything else.
+/// The outcome for some bytes: they are read, and the result is spelled the same again; they are
+/// rejected because they spell nothing; or anything else.
 const NAMES: [&str; 3] = ["read", "refused", "other"];
 
-// The bytes that the frame has which these spell.
+// The bytes of the frame that these bytes spell.
 fn frame_again(alloc: Global, bytes: &[u8]) -> Result<Vec<u8>, Refusal> {
     encode(alloc, &decode(bytes)?)
 }
 
-// The bytes that the node has which these spell.
+// The bytes of the node that these bytes spell.
 fn image_again(alloc: Global, bytes: &[u8]) -> Result<Vec<u8>, Refusal> {
     let node = image::from_bytes(alloc, bytes)?;
     let again = image::to_bytes(alloc, &node);
@@ -23,7 +23,7 @@ fn image_again(alloc: Global, bytes: &[u8]) -> Result<Vec<u8>, Refusal> {
     again
 }
 
-// The place among `NAMES` of what becomes of the bytes, as a frame or as an image.
+// The place in `NAMES` of the outcome for the bytes, as a frame or as an image.
 fn meet(alloc: Global, is_frame: bool, bytes: &[u8]) -> usize {
     let again = if is_frame {
         frame_again(alloc, bytes)
@@ -37,7 +37,7 @@ fn meet(alloc: Global, is_frame: bool, bytes: &[u8]) -> usize {
     }
 }
 
-// All shorter beginnings of the bytes, and these with one byte more.
+// All shorter prefixes of the bytes, and the bytes with one more.
 fn cut(
     alloc: Global,
     is_frame: bool,
@@ -72,7 +72,7 @@ fn change(alloc: Global, is_frame: bool, mut bytes: Vec<u8>, tally: &mut Tally) 
     }
 }
 
-// Whether bytes of this kind spell a frame, and not an image.
+// Whether bytes of this kind spell a frame, rather than an image.
 fn is_frame(kind: &str) -> Result<bool, Stop> {
     match kind {
         "frame" => Ok(true),
@@ -81,7 +81,7 @@ fn is_frame(kind: &str) -> Result<bool, Stop> {
     }
 }
 
-/// A command over bytes that may spell a frame or a node.
+/// A command about bytes that may spell a frame or a node.
 pub fn take(alloc: Global, words: &[&str], out: &mut Out) -> Result<(), Stop> {
     let is_frame = is_frame(word(words, 1)?)?;
     let bytes = bytes_of(alloc, word(words, 2)?)?;

@@ -1,7 +1,7 @@
-//! A disk that is lent, and so is still there where it is given up.
+//! A borrowed disk, which still exists after its holder has dropped it.
 use disk::{Area, Disk, DiskFault};
 
-/// A disk of somebody else's.
+/// A disk that belongs to somebody else.
 #[derive(Drop)]
 pub struct Lent<'a, D> {
     pub disk: &'a mut D,

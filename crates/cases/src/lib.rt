@@ -1,7 +1,7 @@
-//! What the cases of `trials` are made of: their lines as words, what they print, events, dice, how
-//! large a space is, and what is found in one at the end; and the subjects that need neither a wire
-//! nor threads: nodes, bytes that are cut or changed, disks in memory and in files, arenas, and
-//! lists of steps with a collection cycle after them.
+//! What the cases of `trials` share: their lines as words, what they print, events, dice, the size
+//! of a space, and what is found in a space at the end. It also has the subjects that need neither
+//! a wire nor threads: nodes, bytes that are cut or changed, disks in memory and in files, arenas,
+//! and lists of steps followed by a collection cycle.
 #![tactic(auto)]
 
 pub mod arenas;

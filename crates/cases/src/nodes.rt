@@ -1,5 +1,5 @@
-//! One node: its events, its frames and its image. It may be made of any image, so a case reaches
-//! nodes that no short run does.
+//! One node: its events, its frames and its image. It may be created from any image, so a case
+//! reaches nodes that no short run does.
 use crate::case::{Stop, Subject, bytes_of, number, verb, word};
 use crate::events::{event_of, repeated};
 use crate::out::Out;
@@ -23,7 +23,7 @@ impl Nodes {
         Nodes { alloc, node: None }
     }
 
-    /// The node takes the place of the one that was there, unless it was refused.
+    /// Replaces the node, unless the new one was refused.
     pub(crate) fn set(&mut self, made: Result<Node, Refusal>, out: &mut Out) {
         match made {
             Ok(node) => {
@@ -61,7 +61,7 @@ impl Subject for Nodes {
     }
 }
 
-/// The shape that the words behind the first one say.
+/// The shape that the words after the first one say.
 pub fn shape_of(words: &[&str]) -> Result<Shape, Stop> {
     let (nodes, registers) = (number(words, 1)?, number(words, 2)?);
     Shape::new(nodes, registers, number(words, 3)?).ok_or(Stop::Unknown)
@@ -109,7 +109,7 @@ fn act(alloc: Global, node: &mut Node, words: &[&str], out: &mut Out) -> Result<
     Ok(())
 }
 
-// The frame that the bytes spell is given to the node.
+// Gives the node the frame that the bytes spell.
 fn take_frame(node: &mut Node, bytes: &[u8]) -> Result<Answer, Refusal> {
     match decode(bytes)? {
         Frame::Data(data) => node.act(Event::Data(data)),
@@ -117,7 +117,7 @@ fn take_frame(node: &mut Node, bytes: &[u8]) -> Result<Answer, Refusal> {
     }
 }
 
-// The event, so often, up to the first refusal; the last answer.
+// Repeats the event this many times, or until one fails; the last answer.
 fn repeat(node: &mut Node, event: Event, count: u64) -> Result<Answer, Refusal> {
     let mut last = Answer::Done;
     for _ in 0..count {
@@ -126,12 +126,12 @@ fn repeat(node: &mut Node, event: Event, count: u64) -> Result<Answer, Refusal> 
     Ok(last)
 }
 
-/// The node's image as bytes, or why it has none.
+/// The node's image as bytes, or why there isn't one.
 pub fn put_image(alloc: Global, node: &Node, out: &mut Out) {
     out.spelled(image::to_bytes(alloc, node));
 }
 
-/// The frame's bytes, or `-` where there is none.
+/// The frame's bytes, or `-` for no frame.
 pub fn put_frame(alloc: Global, frame: Option<Frame>, out: &mut Out) {
     match frame {
         Some(frame) => out.spelled(encode(alloc, &frame)),

@@ -4,13 +4,13 @@ use ids::Refusal;
 use std::alloc::Global;
 use std::fmt::{Debug, Display};
 
-/// The lines that are to be printed, and which line of the case they come from.
+/// The lines to print, and the line of the case that they answer.
 #[derive(Drop)]
 pub struct Out {
     alloc: Global,
     text: String,
     line: usize,
-    /// Memory for a line was refused, or a line could not be printed.
+    /// Allocation for a line failed, or a line couldn't be printed.
     pub failed: bool,
 }
 
@@ -25,13 +25,13 @@ impl Out {
         }
     }
 
-    /// From now on the answers are those to this line, whose words these are.
+    /// From now on the answers are for this line, whose words these are.
     pub fn at<'a>(&mut self, line: &'a Line<'a>) -> &'a [&'a str] {
         self.line = line.number;
         line.words.as_slice()
     }
 
-    /// Prints what there is, and keeps none of it.
+    /// Prints the lines so far, and forgets them.
     pub fn flush<R: Print>(&mut self, rt: &R) {
         if rt.print(self.text.as_str()).is_err() {
             self.failed = true;
@@ -56,7 +56,7 @@ impl Out {
         self.show(&format_args!("{value:?}"));
     }
 
-    /// That the line of the case is no command.
+    /// A line saying that the line of the case isn't a command.
     pub fn unknown(&mut self) {
         let line = self.line;
         self.show(&format_args!("line {line}: not a command"));
@@ -103,17 +103,17 @@ impl Out {
     }
 }
 
-/// How often each of some things came.
+/// How often each of several outcomes occurred.
 pub type Tally = [u64; 5];
 
-/// The one of this place came once more.
+/// Counts the outcome in this place.
 pub fn count(tally: &mut Tally, place: usize) {
     if place < tally.len() {
         tally[place] = tally[place].saturating_add(1);
     }
 }
 
-/// A line for each that has a name.
+/// A line for each outcome that has a name.
 pub fn put_tally(names: &[&str], tally: &Tally, out: &mut Out) {
     for (name, count) in names.iter().zip(tally.iter()) {
         out.show(&format_args!("{name} {count}"));

@@ -1,5 +1,5 @@
-//! What the nodes of a space reach, once nothing is on its way and a cycle is swept everywhere:
-//! what isn't reached is to be gone.
+//! What the nodes of a space reach once nothing is in flight and a cycle has been swept everywhere.
+//! Objects that aren't reached should be gone.
 use crate::found::Found;
 use ids::{Ref, Refusal};
 use indexmap::IndexSet;
@@ -18,7 +18,7 @@ fn live(nodes: &[Node]) -> u64 {
     live
 }
 
-// How many messages of a node weren't taken in.
+// How many messages of a node weren't received.
 fn waiting_of(nodes: &[Node], from: &Node) -> u64 {
     let mut waiting = 0u64;
     for to in nodes {
@@ -29,7 +29,7 @@ fn waiting_of(nodes: &[Node], from: &Node) -> u64 {
     waiting
 }
 
-// Counts the messages that weren't taken in, and the nodes that haven't swept this cycle.
+// Counts the messages that weren't received, and the nodes that haven't swept this cycle.
 fn look_each(nodes: &[Node], cycle: u64, found: &mut Found) {
     for node in nodes {
         found.waiting = found.waiting.saturating_add(waiting_of(nodes, node));
@@ -53,7 +53,7 @@ fn add_all(reached: &mut IndexSet<Ref>, references: &[Option<Ref>]) -> Result<()
     Ok(())
 }
 
-// Adds what the node's program holds.
+// Adds the references that the node's program holds.
 fn add_roots(reached: &mut IndexSet<Ref>, node: &Core) -> Result<(), Refusal> {
     for number in 0..node.root_count() {
         add(reached, node.root(number))?;
@@ -61,7 +61,8 @@ fn add_roots(reached: &mut IndexSet<Ref>, node: &Core) -> Result<(), Refusal> {
     Ok(())
 }
 
-// Adds what is reached from the references that are there; how many of all these name no object.
+// Adds what is reached from the references that are there; the result is how many of all these name
+// no object.
 fn follow_all(nodes: &[Node], reached: &mut IndexSet<Ref>) -> Result<u64, Refusal> {
     let mut missing = 0u64;
     for next in 0..MANY {
@@ -88,8 +89,8 @@ fn reach_all(alloc: Global, nodes: &[Node]) -> Result<(u64, u64), Refusal> {
     Ok((reached.len() as u64, missing))
 }
 
-/// What is there and what is reached, once nothing is on its way and this cycle is swept
-/// everywhere.
+/// Counts what is there and what is reached, once nothing is in flight and this cycle has been
+/// swept everywhere.
 pub fn count_reached(
     alloc: Global,
     nodes: &[Node],

@@ -1,5 +1,5 @@
-//! A disk, and a shelf over it that keeps the node of the case. In memory and in files it takes the
-//! same commands.
+//! A disk, and a shelf on it that keeps the node of the case. The commands are the same for disks
+//! in memory and in files.
 use crate::case::{Stop, Subject, bytes_of, number, verb, word};
 use crate::nodes::Nodes;
 use crate::out::Out;
@@ -10,7 +10,7 @@ use node::Node;
 use std::alloc::Global;
 use std::mem;
 
-/// A disk, by itself or with a shelf over it.
+/// A disk, by itself or with a shelf on it.
 #[derive(Drop)]
 pub enum Held<D: Disk> {
     Nothing,
@@ -20,7 +20,7 @@ pub enum Held<D: Disk> {
     Shelved(Shelf<D>),
 }
 
-/// What a case over a disk holds.
+/// What a case about a disk holds.
 #[derive(Drop)]
 pub struct Bench<D: Disk> {
     pub nodes: Nodes,
@@ -47,7 +47,7 @@ impl<D: Disk + Drop> Bench<D> {
         }
     }
 
-    // The disk that is held by itself; then nothing is held.
+    // Takes out the disk that is held by itself; then nothing is held.
     fn loose(&mut self) -> Result<D, Stop> {
         match mem::replace(&mut self.held, Held::Nothing) {
             Held::Loose(disk) => Ok(disk),
@@ -55,7 +55,7 @@ impl<D: Disk + Drop> Bench<D> {
         }
     }
 
-    // Creates a shelf, once the disk is known to hold none.
+    // Creates a shelf, once it is known that the disk has none.
     fn create(&mut self, out: &mut Out) -> Result<(), Stop> {
         let disk = self.loose()?;
         let Some(node) = &self.nodes.node else {
@@ -67,7 +67,7 @@ impl<D: Disk + Drop> Bench<D> {
         Ok(())
     }
 
-    // Opens a shelf. A disk that is refused is given up.
+    // Opens a shelf. If the opening fails, the disk is dropped.
     fn open(&mut self, out: &mut Out) -> Result<(), Stop> {
         let disk = self.loose()?;
         match Shelf::open::<Images>(self.nodes.alloc, disk) {
@@ -80,7 +80,7 @@ impl<D: Disk + Drop> Bench<D> {
         Ok(())
     }
 
-    // Saves the node so often, up to the first refusal.
+    // Saves the node this many times, or until a save fails.
     fn save(&mut self, count: u64, out: &mut Out) -> Result<(), Stop> {
         let Held::Shelved(shelf) = &mut self.held else {
             return Err(Stop::Unknown);
@@ -147,8 +147,8 @@ pub fn node_on<D: Disk + Drop>(alloc: Global, disk: D) -> Result<Node, Refusal> 
     }
 }
 
-// The disk once a creation of the node was tried, and what it was answered. `BadImage` stands for a
-// disk that isn't blank.
+// The disk after an attempt to create the node on it, and the result of that. A disk that isn't
+// blank gives `BadImage`.
 fn created<D: Disk + Drop>(
     alloc: Global,
     mut disk: D,
@@ -175,7 +175,7 @@ fn refusal_of(_fault: DiskFault) -> Refusal {
     Refusal::Disk
 }
 
-// A command to a disk, which stands behind the first word.
+// A command to a disk, which follows the first word.
 fn on_disk<D: Disk>(
     alloc: Global,
     disk: &mut D,
@@ -230,7 +230,7 @@ pub fn area_of(word: &str) -> Result<Area, Stop> {
     }
 }
 
-// Prints what the disk gives from an offset on, at most so much.
+// Prints what the disk has from an offset on, up to the size of this buffer.
 fn put_read<D: Disk>(disk: &mut D, area: Area, at: usize, into: &mut [u8], out: &mut Out) {
     match disk.read(area, at, into) {
         Ok(found) => match into.get(..found) {
@@ -241,7 +241,7 @@ fn put_read<D: Disk>(disk: &mut D, area: Area, at: usize, into: &mut [u8], out: 
     }
 }
 
-// Writes at an offset; where that isn't the area's start, the byte before it is read first, and
+// Writes at an offset. If that isn't the start of the area, the byte before it is read first, and
 // there has to be one.
 fn write<D: Disk>(
     disk: &mut D,

@@ -1,8 +1,8 @@
-//! How large a space in memory is, as the text of its configuration, and its disks.
+//! The size of a space in memory, the text of its configuration, and its disks.
 use disk::MemoryDisk;
 use std::alloc::{AllocError, Global};
 
-/// How many nodes a space has, each with so many registers and slots, and how many turns its
+/// How many nodes a space has, each with this many registers and slots, and how many turns its
 /// workers take at most.
 #[derive(Clone, Copy)]
 pub struct Size {
@@ -13,7 +13,7 @@ pub struct Size {
 }
 
 impl Size {
-    /// Two nodes of three registers and eight slots.
+    /// Two nodes with three registers and eight slots each.
     pub fn pair(turns: u32) -> Size {
         Size {
             nodes: 2,
@@ -37,7 +37,7 @@ impl Size {
     }
 }
 
-/// So many blank disks in memory.
+/// This many blank disks in memory.
 pub fn blank_disks(alloc: Global, nodes: u8) -> Result<Vec<MemoryDisk>, AllocError> {
     let mut disks = Vec::new(alloc);
     for _ in 0..nodes {

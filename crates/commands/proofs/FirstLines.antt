@@ -11,7 +11,7 @@ use Rattle.std.proofs.lemmas.List.Splits.{length-slice_split, slice_split_at, sl
 use Rattle.std.proofs.lemmas.Str.{IsCharBoundary-after_ascii, IsCharBoundary-before_ascii}
 use Rattle.memchr.specs.Find.{IsFirstByte, is_byte, is_byte2}
 
--- what is first in the front of a text is first in it
+-- the first newline in the front of a text is the first in the text
 pub first_near : (text : List ℕ) (n k : ℕ) → IsFirstByte (is_byte 10) (take n text) (Some k)
     → IsFirstByte (is_byte 10) text (Some k)
 first_near text n k h =
@@ -28,7 +28,7 @@ first_near text n k h =
       ap (λ (b : ℕ). b == 10) (sym (same k (omega (arith, h.0.high, len)))) ∙ h.1,
     )
 
--- two bytes that are the same
+-- two equal bytes
 either : (t : Bool) → (t || t) ≡ t
 either true = refl
 either false = refl

@@ -1,4 +1,4 @@
--- What was printed before a turn of the loop over a script's lines.
+-- What has been printed before each iteration of the loop over a script's lines.
 use Rattle.std.proofs.Common.{inl, inr, ◌≡◌, ◌≢◌, ℕ, ◌+◌, ◌≤◌, max, List, [], ◌∷◌, ◌++◌, length, Option, refl, sym, ap, ◌∙◌, subst, arith, append_assoc, append-nil, length-append}
 use Rattle.std.specs.Io.KnownBytes.{Appends, Keeps}
 use Rattle.std.specs.Str.Lines.{lines}
@@ -51,8 +51,8 @@ small_status remaining status old new (replied script all prints) =
     omega (arith, prints.worst, status_of_le prints.replies)
 small_status remaining status old new (unread prints) = no_script_le status old new prints
 
--- where the loop over a script's lines stands: the text that is left, how many lines were passed, the
--- space, the status so far and what the output holds, where that is known
+-- A point of the loop over a script's lines: the remaining text, how many lines were processed, the
+-- space, the status so far, and the contents of the output, if they are known.
 pub record Point (S : Type 0) : Type 0 where
   pub rest : List ℕ
   pub count : ℕ
@@ -60,7 +60,7 @@ pub record Point (S : Type 0) : Type 0 where
   pub status : ℕ
   pub output : Option (List ℕ)
 
--- before a turn: the replies to the lines that were passed, and what is left
+-- before an iteration: the replies to the lines processed so far, and the remaining text
 pub record PrintedBefore {S : Type 0} (shows : S → World → Type 0) (keeps : S → List Rings) (script : List ℕ)
     (start : Option (List ℕ)) (p : Point S) : Type 0 where
   pub replies : List Reply
@@ -87,7 +87,7 @@ printed_nothing shows keeps script known =
       appended = Appends-nil known;
     }
 
--- a line that does not end the program
+-- a line that doesn't end the program
 goes_on : (r : Reply) (rs : List Reply) (P : Type 0) → r ≢ reply.NoCommand → P → GoesOn r rs P
 goes_on reply.NoCommand rs P goes p = absurd (goes refl)
 goes_on reply.Nothing rs P goes p = p
@@ -111,7 +111,7 @@ last_reply (reply.Refused x) e = absurd cc
 no_last : (r : Reply) → status_after r ≢ 2 → r ≢ reply.NoCommand
 no_last r other e = other (ap status_after e)
 
--- a turn: the line, and what it came to
+-- an iteration: the line and its reply
 pub record Turn {S : Type 0} (shows : S → World → Type 0) (keeps : S → List Rings) (p q : Point S) : Type 0 where
   pub text : List ℕ
   pub status : ℕ
@@ -147,7 +147,7 @@ module _ {S : Type 0} (shows : S → World → Type 0) (keeps : S → List Rings
       ∙ ap (λ k. max k (status_after reply_now)) before.worst
       ∙ sym (status_of_push before.replies reply_now)
 
-  -- it does not end the program
+  -- it doesn't end the program
   pub printed_more : turn.status ≢ 2 → PrintedBefore shows keeps script start q
   printed_more other =
       let taken = turn.says.answers before.held before.shown in

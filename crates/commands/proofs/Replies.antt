@@ -19,25 +19,25 @@ use Rattle.commands.specs.declared.freed.Freed.{Freed}
 use Rattle.commands.specs.Freed.{KeepsSums, freed_after}
 use Rattle.commands.specs.Script.{Held, RefusesStep, awaited, denied, there, ShowsHeld, TakesSpace, TakesStep, none_kept}
 
--- what holds of what was printed with its status
+-- what holds of the text that was printed, with its status
 pub printed_as : {A : Type 0} {Q P : ℕ → Type 0} (r : Option ℕ) → OnSome r A
     → IfSome r Q → (A → (status : ℕ) → Q status → P status) → IfSome r P
 printed_as (Some status) text is follows = follows text status is
 printed_as None text is follows = tt
 
--- what an `Ok` has whose value was handed on
+-- what holds of an `Ok` whose value was returned
 pub of_ok : {E : Type 0} (P : ℕ → Type 0) (r : Result ℕ E) (n : ℕ) → Some n ≡ result_ok r
     → IfOk r P → P n
 of_ok P (Ok k) n is holds = let same : k ≡ n = cc in subst P same holds
 of_ok P (Err e) n is holds = absurd cc
 
--- a line that was read is the one that was made
+-- a line that was read is the one that was built
 pub read_some : {X : Type 0} (done : Option X) (l : Line) (said : Option Line)
     → read done l ≡ said → is_some done ≡ true → Some l ≡ said
 read_some None l said e done = absurd cc
 read_some (Some d) l said e done = e
 
--- a step that is no event leaves the sums
+-- a step that isn't an event doesn't change the sums
 pub no_sweep : (w : World) (s : Step) (o : Outcome) (sums : List ℕ)
     → ((i : ℕ) (e : Event) → s ≢ step.Act i e) → (P : List ℕ → Type 0) → P sums
     → P (freed_after w s o sums)
@@ -89,7 +89,7 @@ module _ {S : Type 0} (shows : S → World → Type 0) (keeps : S → List Rings
         (r.2, refl, noted r.0 sums r.2 shown.2),
       )
 
-  -- one that was refused
+  -- a step that was refused
   pub refusal_shows : (h : Held) (step : Step) (x y : S) (f : Freed) (e : Refusal)
       → ShowsHeld shows keeps (state.Open x f) h
       → ((w : World) → shows x w → RefusesStep w (keeps x) step e

@@ -1,5 +1,5 @@
--- A save is refused because the image is too large only where that of a node that shows its state
--- is.
+-- A save fails with `ImageTooLarge` only if the image of some node that shows the state is too
+-- large.
 use Rattle.std.proofs.Common.{◌≡◌, List, Result, Ok, Err, ap}
 use Rattle.std.specs.Prelude.{IfErr, ◌↔◌}
 use Rattle.ids.specs.declared.refusal.Refusal.{Refusal}

@@ -1,5 +1,5 @@
--- What is printed for a word that is to spell a frame, and the status; what the output held before
--- and afterwards is said where it is known.
+-- What is printed for a word that should spell a frame, and the status. The contents of the output
+-- before and afterwards are described if they are known.
 use Rattle.std.specs.Prelude.{◌≡◌, ℕ, List, [], ◌∷◌, ◌++◌, ◌⊎◌, Option, Result, Ok, Err, codes}
 use Rattle.std.specs.Io.KnownBytes.{Appends}
 use Rattle.hex.specs.Hex.{decode_of}
@@ -14,18 +14,18 @@ pub data PrintsSpelled (bytes : List ℕ) (status : ℕ) (old new : Option (List
   -- they spell this frame
   frame : (f : Plain) → Fits f → bytes ≡ spelling f → status ≡ 0
       → Appends old new (frame_text f ++ (10 ∷ [])) → PrintsSpelled bytes status old new
-  -- they spell none
+  -- they spell no frame
   no_frame : ((f : Plain) → Fits f → bytes ≡ spelling f → ⊥) → status ≡ 1
       → Appends old new (refused_text BadFrame ++ (10 ∷ [])) → PrintsSpelled bytes status old new
 
--- for bytes, or a word that is no hexadecimal digits or an odd number of them
+-- for bytes, or for a word that isn't hexadecimal digits or has an odd number of them
 abbrev pub PrintsBytes : Result (List ℕ) FromHexError → ℕ → Option (List ℕ) → Option (List ℕ)
     → Type 0
 PrintsBytes (Ok bytes) status old new = PrintsSpelled bytes status old new
 PrintsBytes (Err e) status old new = (status ≡ 2)
     × Appends old new (codes "words refused" ++ (10 ∷ []))
 
--- for a word, where memory may be refused
+-- for a word; memory may run out
 abbrev pub PrintsDecoded : List ℕ → ℕ → Option (List ℕ) → Option (List ℕ) → Type 0
 PrintsDecoded word status old new =
     PrintsBytes (decode_of word) status old new

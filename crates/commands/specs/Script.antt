@@ -1,4 +1,4 @@
--- What a script prints, and the status that it ends with.
+-- What a script prints, and its exit status.
 use Rattle.std.specs.Prelude.{◌≡◌, ◌≢◌, ℕ, ◌+◌, ◌<◌, true, length, max, List, [], ◌∷◌, ◌++◌, ◌⊎◌, Option, Some, None, IfSome, Ok, Err, codes, decimal, replicate}
 use Rattle.std.specs.Io.KnownBytes.{Appends}
 use Rattle.std.specs.Str.Lines.{lines}
@@ -27,14 +27,15 @@ use Rattle.lines.specs.Text.{outcome_text, refused_text, report_text, summary_te
 use Rattle.node.specs.Keeping.{Rings, no_rings}
 use Rattle.node.specs.declared.summary.Summary.{Summary}
 
--- the space of a script: not asked for yet, refused for want of memory, or there
+-- the space of a script: not asked for yet, refused because memory ran out, or there
 pub data Held : Type 0 where
   awaited : Held
   denied : Held
-  -- with what its nodes keep until its turn, and how many objects the sweeps of each cycle freed
+  -- with the messages that its nodes keep until their turn, and how many objects the sweeps of each
+  -- cycle freed
   there : World → List Rings → List ℕ → Held
 
--- the program's space shows that of the definitions, and keeps what is said; beside it the program
+-- the program's space shows that of the definitions and keeps these messages; the program also
 -- keeps the sums
 abbrev pub ShowsHeld : {S : Type 0} → (S → World → Type 0) → (S → List Rings) → State S → Held
     → Type 0
@@ -44,15 +45,15 @@ ShowsHeld shows keeps (state.Open s f) (there w all sums) =
     shows s w × (keeps s ≡ all) × KeepsSums f.sums sums
 ShowsHeld shows keeps s h = ⊥
 
--- whatever the old state shows, the new one shows what comes of it
+-- whatever the old state shows, the new one shows the result of this change
 abbrev pub Moves : {S : Type 0} → (S → World → Type 0) → (S → List Rings)
     → (Held → Held → Type 0) → State S → State S → Type 0
 Moves shows keeps becomes old new =
     (h : Held) → ShowsHeld shows keeps old h
     → (later : Held) × becomes h later × ShowsHeld shows keeps new later
 
--- The step saves a node, and the image of one that shows its state is longer than an image may be.
--- A state doesn't say which messages the node has let go of.
+-- The step saves a node, and an image of a node that shows its state is longer than an image may
+-- be. A state doesn't say which messages the node has dropped.
 abbrev pub MayBeTooLarge : World → Step → Type 0
 MayBeTooLarge w (step.Save i) =
     (n : NodeView)
@@ -60,15 +61,16 @@ MayBeTooLarge w (step.Save i) =
     × (GREATEST_IMAGE < length (image_of n))
 MayBeTooLarge w s = ⊥
 
--- A step is refused so, on a space whose nodes keep this. One that takes no memory is not refused
--- for want of it, and none but a save of an image that is too large because of that.
+-- A step is refused like this, on a space whose nodes keep these messages. A step that allocates
+-- nothing isn't refused for lack of memory, and `ImageTooLarge` comes only from a save of an image
+-- that is too large.
 pub record RefusesStep (w : World) (all : List Rings) (step : Step) (e : Refusal) : Type 0 where
   pub first : IsStepRefusal w (step_met all step) e
   pub memory_free : is_step_memory_free w (step_met all step) ≡ true → e ≢ Memory
   pub too_large : e ≡ ImageTooLarge → MayBeTooLarge w step
 
--- What is printed for a step of a space that is there, and the space afterwards with what its nodes
--- keep and the sums.
+-- What is printed for a step of a space that is there, and the space afterwards, with the messages
+-- that its nodes keep and the sums.
 abbrev pub IsStepReply : World → List Rings → List ℕ → Step → Reply → Held → Type 0
 IsStepReply w all sums step (reply.Outcome o) later =
     (v : World) × (kept : List Rings) × (take_step w (step_met all step) ≡ Ok (v, o))
@@ -87,7 +89,7 @@ TakesStep awaited step r later = (r ≡ reply.NoCommand) × (later ≡ awaited)
 TakesStep denied step r later = (r ≡ reply.Refused Memory) × (later ≡ denied)
 TakesStep (there w all sums) step r later = IsStepReply w all sums step r later
 
--- what is printed for a node in numbers, where there is such a node
+-- what is printed for a node in numbers, if there is such a node
 abbrev pub state_reply : Option Summary → Reply
 state_reply (Some s) = reply.Summary s
 state_reply None = reply.Refused NoNode
@@ -98,7 +100,7 @@ TakesState denied node r later = (r ≡ reply.Refused Memory) × (later ≡ deni
 TakesState (there w all sums) node r later =
     (r ≡ state_reply (summary_at w node)) × (later ≡ there w all sums)
 
--- the sums are printed; memory for them is refused only where some sweep was answered
+-- the sums are printed; memory for them runs out only if there was a sweep
 abbrev pub IsReport : List ℕ → Reply → Type 0
 IsReport sums (reply.Report freed) = freed.items ≡ sums
 IsReport sums (reply.Refused e) = (e ≡ Memory) × (sums ≢ [])
@@ -109,11 +111,11 @@ TakesReport awaited r later = (r ≡ reply.NoCommand) × (later ≡ awaited)
 TakesReport denied r later = (r ≡ reply.Refused Memory) × (later ≡ denied)
 TakesReport (there w all sums) r later = IsReport sums r × (later ≡ there w all sums)
 
--- what the nodes of a new space keep
+-- the messages that the nodes of a new space keep
 abbrev pub none_kept : ℕ → List Rings
 none_kept nodes = replicate nodes (no_rings nodes)
 
--- a space of these sizes is made, or refused for want of memory
+-- a space of these sizes is created, or refused because memory ran out
 abbrev pub IsNewReply : Shaped → Reply → Held → Type 0
 IsNewReply sizes r later =
     ((r ≡ reply.Outcome outcome.Done)
@@ -126,7 +128,7 @@ TakesSpace denied sizes r later = (r ≡ reply.NoCommand) × (later ≡ denied)
 TakesSpace (there w all sums) sizes r later =
     (r ≡ reply.NoCommand) × (later ≡ there w all sums)
 
--- `space` stands once and first, and its sizes are within the limits
+-- `space` occurs only once and first, and its sizes are within the limits
 pub record AsksSpace (h : Held) (sizes : Shaped) (r : Reply) (later : Held) : Type 0 where
   pub within : IsShape sizes → TakesSpace h sizes r later
   pub outside : (IsShape sizes → ⊥) → (r ≡ reply.NoCommand) × (later ≡ h)
@@ -151,7 +153,7 @@ reply_text number (reply.Refused e) = refused_text e ++ (10 ∷ [])
 reply_text number reply.NoCommand =
     codes "line " ++ (decimal number ++ (codes ": not a command" ++ (10 ∷ [])))
 
--- what is printed for replies, of which the first is to the line of this number
+-- what is printed for replies, the first of which is to the line of this number
 abbrev pub printed : ℕ → List Reply → List ℕ
 printed number [] = []
 printed number (r ∷ rs) = reply_text number r ++ printed (number + 1) rs
@@ -164,7 +166,8 @@ status_after (reply.Report freed) = 0
 status_after (reply.Refused e) = 1
 status_after reply.NoCommand = 2
 
--- A line, which takes the space so, came to a reply: that is printed, and the status is its own.
+-- A line that changes the space like this has a reply; the reply is printed, and the status is that
+-- of the reply.
 pub record PrintsReply {S : Type 0} (shows : S → World → Type 0) (keeps : S → List Rings)
     (takes : Held → Reply → Held → Type 0) (number : ℕ) (old new : State S)
     (before after : Option (List ℕ)) (status : ℕ) : Type 0 where
@@ -190,22 +193,22 @@ Replies h (l ∷ ls) [] = ⊥
 Replies h (l ∷ ls) (r ∷ rs) =
     (later : Held) × TakesLine h (line_of (words_of l)) r later × GoesOn r rs (Replies later ls rs)
 
--- the program printed the replies to the script's lines, and ends with the status of the worst;
--- what the output held before and afterwards is said where it is known
+-- The program printed the replies to the script's lines, and its exit status is that of the worst.
+-- The contents of the output before and afterwards are described if they are known.
 pub record PrintsReplies (script : List ℕ) (status : ℕ) (old new : Option (List ℕ)) : Type 0 where
   pub replies : List Reply
   pub follow : Replies awaited (lines script) replies
   pub worst : status ≡ status_of replies
   pub appended : Appends old new (printed 1 replies)
 
--- the program printed why it could not read the script
+-- the program printed why it couldn't read the script
 abbrev pub PrintsNoScript : ℕ → Option (List ℕ) → Option (List ℕ) → Type 0
 PrintsNoScript status old new =
     ((status ≡ 2) × Appends old new (codes "file refused" ++ (10 ∷ [])))
     ⊎ ((status ≡ 1) × Appends old new (refused_text Memory ++ (10 ∷ [])))
 
--- what a run of a script prints, and the status that it ends with; what was read is all that the
--- reader had, where that is known
+-- What a run of a script prints, and its exit status. If the contents of the reader are known, the
+-- script is all of them.
 pub data RunsScript (remaining : Option (List ℕ)) (status : ℕ) (old new : Option (List ℕ)) : Type 0
   where
     -- the replies to the lines

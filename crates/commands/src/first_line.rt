@@ -1,5 +1,5 @@
-//! The first line of a text. The end of most lines is near, so the next few bytes are searched at
-//! once before all others.
+//! The first line of a text. Most lines end soon, so the next few bytes are searched together
+//! before the rest.
 ghost use Rattle.std.specs.Prelude.{◌≡◌, ◌<◌, ◌∷◌, length};
 ghost use Rattle.std.specs.Str.Lines.{lines, strip_carriage_return};
 ghost use Rattle.memchr.specs.Find.{IsFirstByte, is_byte};
@@ -9,8 +9,8 @@ use memchr::{memchr, memchr2};
 // How many bytes are searched first.
 const NEAR: usize = 32;
 
-/// The first line of a text, without what ends it, and what stands behind it. A newline ends a
-/// line, or a carriage return and a newline; the last line may end with the text.
+/// The first line of a text, without its line ending, and the text after it. A line ends with a
+/// newline, or with a carriage return and a newline; the last line may end with the text.
 #[inline(always)]
 pub(crate) fn first_line(text: &str) -> (&str, &str)
     requires { 0 < length text.now }
@@ -34,8 +34,8 @@ fn line_end(text: &[u8]) -> Option<usize>
     }
 }
 
-/// The same of a line that is long. (It asks for either of two bytes that are the same: `memchr`
-/// itself is then called in one place only, and is inlined there.)
+/// The same for a long line. (It searches for either of two equal bytes, so that `memchr` itself is
+/// called in one place only, and is inlined there.)
 #[inline(never)]
 #[tactic(auto, using(crate::proofs::FirstLines::first_of_two))]
 fn far_line_end(text: &[u8]) -> Option<usize>
@@ -44,7 +44,7 @@ fn far_line_end(text: &[u8]) -> Option<usize>
     memchr2(b'\n', b'\n', text)
 }
 
-/// The text without the carriage return at its end, if one stands there.
+/// The text without the carriage return at its end, if it ends with one.
 #[inline(always)]
 fn without_return(text: &str) -> &str
     ensures { result.now ≡ strip_carriage_return text.now }

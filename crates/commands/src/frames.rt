@@ -1,5 +1,5 @@
-//! Frames, read from the words that spell their bytes. Words that are no hexadecimal digits, and
-//! bytes that are no frame, are told apart by the status.
+//! Frames, read from words that spell their bytes. The status distinguishes words that aren't
+//! hexadecimal digits from bytes that aren't a frame.
 ghost use Rattle.std.specs.Prelude.{◌≡◌, ◌≤◌, ◌∷◌, [], ◌++◌, ◌⊎◌, IfOk, codes};
 ghost use Rattle.std.specs.Io.KnownBytes.{Appends};
 ghost use Rattle.commands.specs.Frames.{PrintsDecoded, PrintsSpelled};
@@ -13,11 +13,13 @@ use std::io;
 use std::io::Write;
 use words::{DONE, REFUSED, UNREADABLE};
 
-/// Prints the frame that the word spells, two hexadecimal digits of either case for each byte, and
-/// answers the program's status: 0. Where the bytes spell no frame, as no bytes at all, it prints
-/// the refusal [`Refusal::BadFrame`]; where memory is refused, [`Refusal::Memory`]; and the status
-/// is 1. Where the word is no hexadecimal digits or an odd number of them, it says that words are
-/// refused, and the status is 2. Where output failed, the status is 1, whatever was printed.
+/// Prints the frame that the word spells, with two hexadecimal digits of either case for each byte,
+/// and returns the exit status 0.
+///
+/// If the bytes spell no frame, it prints the refusal [`Refusal::BadFrame`]; so it does for an
+/// empty word. If memory runs out, it prints [`Refusal::Memory`]. The status is then 1. If the word
+/// isn't hexadecimal digits or has an odd number of them, it prints `words refused`, and the status
+/// is 2. If the output fails, the status is 1, whatever was printed.
 pub fn decode<W: Write>(alloc: Global, word: &str, out: &mut W) -> u8
     ensures status { PrintsDecoded word.now result (W.contents out.old) (W.contents out.new)
         ⊎ (result ≡ 1) }
@@ -29,7 +31,7 @@ pub fn decode<W: Write>(alloc: Global, word: &str, out: &mut W) -> u8
     }
 }
 
-/// Prints what the word spells, and answers the status; the error is that output failed.
+/// Prints what the word spells, and returns the status. It fails if the output does.
 fn print_decoded<W: Write>(alloc: Global, word: &str, out: &mut W) -> io::Result<u8>
     ensures { IfOk result (λ status.
         PrintsDecoded word.now status (W.contents out.old) (W.contents out.new)) }
@@ -41,8 +43,8 @@ fn print_decoded<W: Write>(alloc: Global, word: &str, out: &mut W) -> io::Result
     }
 }
 
-/// Prints the frame that the bytes spell, or the refusal, and answers the status; the error is that
-/// output failed.
+/// Prints the frame that the bytes spell, or the refusal, and returns the status. It fails if the
+/// output does.
 fn print_frame<W: Write>(out: &mut W, bytes: &[u8]) -> io::Result<u8>
     ensures { IfOk result (λ status.
         PrintsSpelled bytes.now status (W.contents out.old) (W.contents out.new)) }
@@ -56,8 +58,8 @@ fn print_frame<W: Write>(out: &mut W, bytes: &[u8]) -> io::Result<u8>
     }
 }
 
-/// Prints that the word is no hexadecimal digits, and answers its status; the error is that output
-/// failed.
+/// Prints that the word isn't hexadecimal digits, and returns the status for that. It fails if the
+/// output does.
 fn print_refused_word<W: Write>(out: &mut W) -> io::Result<u8>
     ensures { IfOk result (λ status. (status ≡ 2)
         × Appends (W.contents out.old) (W.contents out.new) (codes "words refused" ++ 10 ∷ [])) }
@@ -66,7 +68,7 @@ fn print_refused_word<W: Write>(out: &mut W) -> io::Result<u8>
     Ok(UNREADABLE)
 }
 
-/// Prints a refusal, and answers its status; the error is that output failed.
+/// Prints a refusal, and returns the status for that. It fails if the output does.
 fn print_refusal<W: Write>(out: &mut W, refusal: Refusal) -> io::Result<u8>
     ensures { IfOk result (λ status. (status ≡ 1)
         × Appends (W.contents out.old) (W.contents out.new) (refused_text refusal ++ 10 ∷ [])) }

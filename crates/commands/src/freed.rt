@@ -1,5 +1,5 @@
-//! How many objects the sweeps of each cycle freed, in a script. The sums are kept by what sweeps
-//! answered, so memory that is refused to them makes later reports fail and no sweep.
+//! How many objects the sweeps of each cycle of a script freed. The sums are computed from the
+//! answers to sweeps. So if there is no memory for them, later reports fail, but no sweep does.
 ghost use Rattle.std.specs.Prelude.{◌≡◌, ◌≢◌, ℕ, ◌-◌, ◌+◌, ◌<◌, List, [], IfOk, IfErr, OnSome, slice_index, slice_set};
 ghost use Rattle.ids.specs.declared.refusal.Refusal.TheVariants.{Memory};
 ghost use Rattle.model.specs.declared.step.Outcome.TheVariants as outcome;
@@ -10,8 +10,8 @@ use ids::Refusal;
 use model::{Answer, Event};
 use std::alloc::Global;
 
-/// Of each cycle from the first on, how many objects its sweeps freed. None where memory for that
-/// was refused, or a sum grew too large.
+/// How many objects the sweeps of each cycle freed, from the first cycle on. `None` if memory for
+/// that ran out, or a sum grew too large.
 #[derive(Drop)]
 pub(crate) struct Freed {
     sums: Option<Vec<u64>>,
@@ -27,7 +27,7 @@ impl Freed {
         }
     }
 
-    /// A sweep of this cycle freed so many more.
+    /// Adds this many objects, which a sweep of this cycle freed.
     pub(crate) fn add(&mut self, cycle: u64, count: u32)
         ensures { (sums : List ℕ) → KeepsSums self.old.sums sums
             → KeepsSums self.new.sums (freed_more cycle count sums) }
@@ -43,7 +43,7 @@ impl Freed {
         }
     }
 
-    /// The sums, of the cycles from the first on. `Memory` where they aren't known, or there is no
+    /// The sums, for the cycles from the first on. `Memory` if they aren't known, or there is no
     /// room for them; never before the first sweep.
     pub(crate) fn sums(&self, alloc: Global) -> Result<Vec<u64>, Refusal>
         ensures known { (sums : List ℕ) → KeepsSums self.now.sums sums
@@ -62,7 +62,7 @@ impl Freed {
     }
 }
 
-/// Adds to the sum of this cycle, from 1 on. None where memory was refused, or the sum is too
+/// Adds to the sum of this cycle; cycles count from 1. `None` if memory runs out, or the sum is too
 /// large.
 fn add_at(sums: &mut Vec<u64>, cycle: usize, count: u64) -> Option<()>
     requires { 0 < cycle }
@@ -76,7 +76,7 @@ fn add_at(sums: &mut Vec<u64>, cycle: usize, count: u64) -> Option<()>
     Some(())
 }
 
-/// The node that is asked to sweep, where an event of this node asks for that.
+/// The node that is asked to sweep, if an event of this node asks for that.
 pub(crate) fn sweeper(node: u8, event: &Event) -> Option<u8>
     ensures { result ≡ sweeper (step.Act node event.now) }
 {
@@ -86,7 +86,7 @@ pub(crate) fn sweeper(node: u8, event: &Event) -> Option<u8>
     }
 }
 
-/// How many objects were freed, where an answer says so.
+/// How many objects were freed, if an answer says so.
 pub(crate) fn freed_by(answer: &Answer) -> Option<u32>
     ensures { result ≡ freed_in (outcome.Answer answer.now) }
 {

@@ -1,6 +1,6 @@
-//! What the program `markring` does over one thread: scripts of a space, and frames that words
-//! spell. All that is written is what the definitions answer, and the contract says so of every
-//! writer that says what it holds.
+//! What the program `markring` does on one thread: it runs scripts on a space, and prints frames
+//! that words spell. The output is exactly what the definitions answer. The contracts state that
+//! for every writer whose contents are known.
 #![tactic(auto)]
 
 mod first_line;

@@ -1,5 +1,5 @@
-//! Runs a script over a space of nodes. Line by line the space takes a step and the reply is
-//! written, through the first line that is none; the status is that of the worst.
+//! Runs a script over a space of nodes. For each line the space takes a step, and the reply is
+//! printed; a line outside the grammar is the last. The status is that of the worst reply.
 ghost use Rattle.std.specs.Prelude.{◌≡◌, ◌≤◌, ◌⊎◌, ◌++◌, ◌∷◌, [], ℕ, List, Some, IfOk, IfErr, IfSome, OnSome, IsTrue, ◌≢◌};
 ghost use Rattle.std.specs.Io.KnownBytes.{Appends};
 ghost use Rattle.ids.specs.declared.refusal.Refusal.TheVariants.{Memory, ImageTooLarge};
@@ -35,23 +35,23 @@ use std::io::{ErrorKind, Read, Write};
 use words::{DONE, REFUSED, UNREADABLE};
 use world::Sim;
 
-/// What a script runs over.
+/// What a script runs on.
 trait Space: Drop + Sized {
-    /// A space of the definitions that this one shows.
+    /// Which spaces of the definitions this one shows.
     ghost shows: { Self → World → Type 0 };
 
-    /// For each node what it keeps until its turn.
+    /// The messages that each node keeps until their turn.
     ghost keeps: { Self → List Rings };
 
-    /// A new space of this shape. `Memory` where a growth was refused.
+    /// A new space of this shape. `Memory` if allocation fails.
     fn new(alloc: Global, shape: Shape) -> Result<Self, Refusal>
         ensures made { IfOk result (λ s. shows s (new_world shape)) }
         ensures early { IfOk result (λ s. keeps s ≡ none_kept shape.nodes) }
         ensures refused { IfErr result (λ e. e ≡ Memory) };
 
     /// Takes a step, or refuses it and shows the same as before; a message that waited for its turn
-    /// may have left its place then. A step that takes no memory is not refused for want of it, and
-    /// none but a save of an image that is too large because of that.
+    /// may have left its place then. A step that allocates nothing isn't refused for lack of
+    /// memory, and `ImageTooLarge` comes only from a save of an image that is too large.
     fn step(&mut self, step: Step) -> Result<Outcome, Refusal>
         requires own { IsTrue (is_own_step step) }
         ensures follows { (w : World) → shows self.old w
@@ -64,8 +64,8 @@ trait Space: Drop + Sized {
         ensures too_large { (w : World) → shows self.old w
             → IfErr result (λ e. e ≡ ImageTooLarge → MayBeTooLarge w step) };
 
-    /// Gives a node an event of its own: the step [`Step::Act`], but it gives the node's answer
-    /// alone.
+    /// Gives a node an event of its own: the step [`Step::Act`], but it returns just the node's
+    /// answer.
     fn act(&mut self, node: u8, event: Event) -> Result<Answer, Refusal>
         requires own { IsTrue (is_own event) }
         ensures follows { (w : World) → shows self.old w
@@ -110,35 +110,36 @@ impl Space for Sim {
 /// The space of a script.
 #[derive(Drop)]
 enum State<S> {
-    /// No line asked for it yet.
+    /// No line has asked for it yet.
     Unopened,
-    /// It is there, with what its sweeps freed.
+    /// It is there, with the numbers of objects that its sweeps freed.
     Open { space: S, freed: Freed },
     /// It was refused, and so is each step of it.
     Refused(Refusal),
 }
 
-/// What a line of a script comes to.
+/// The reply to a line of a script.
 #[derive(Drop)]
 enum Reply {
     /// Nothing is printed.
     Nothing,
     Outcome(Outcome),
     Summary(Summary),
-    /// How many objects the sweeps of each cycle freed, from the first one on.
+    /// How many objects the sweeps of each cycle freed, from the first cycle on.
     Report(Vec<u64>),
     Refused(Refusal),
-    /// It is outside the grammar.
+    /// The line is outside the grammar.
     NoCommand,
 }
 
-/// Runs a script in one thread, prints what its lines come to, and answers the program's status: 0
-/// where no line was refused; 1 where some was, memory was refused or output failed; 2 where the
-/// script can't be read, or a line is outside the grammar. The script is read to its end before its
-/// first line is run, and a line outside the grammar is the last one that is looked at.
+/// Runs a script in one thread, prints the replies to its lines, and returns the exit status. The
+/// status is 0 if no line was refused; 1 if a line was refused, memory ran out or the output
+/// failed; and 2 if the script can't be read or a line is outside the grammar. The script is read
+/// to its end before its first line is run. A line outside the grammar is the last one that is
+/// looked at.
 ///
-/// What became of a step is written in one call, any other line in several, so a writer whose calls
-/// cost much is passed in a buffer; the output is flushed at the end. Where output failed, some of
+/// The outcome of a step is written in one call, any other line in several, so a writer whose calls
+/// are expensive should be buffered. The output is flushed at the end. If the output fails, some of
 /// the text may have been written.
 pub fn sim<R: Read + Drop, W: Write>(alloc: Global, script: R, out: &mut W) -> u8
     ensures status { RunsScript (R.remaining script) result
@@ -151,8 +152,8 @@ pub fn sim<R: Read + Drop, W: Write>(alloc: Global, script: R, out: &mut W) -> u
     }
 }
 
-/// Runs a script, and answers the status; None where output failed. An error of output is large,
-/// and no one is told what it was, so none is handed on.
+/// Runs a script, and returns the status; `None` if the output failed. An error of the output is
+/// large and nobody reports its cause, so it isn't returned.
 fn run<S: Space, R: Read + Drop, W: Write>(alloc: Global, script: R, out: &mut W) -> Option<u8>
     ensures { IfSome result (λ status.
         RunsScript (R.remaining script) status (W.contents out.old) (W.contents out.new)) }
@@ -165,8 +166,8 @@ fn run<S: Space, R: Read + Drop, W: Write>(alloc: Global, script: R, out: &mut W
     Some(status)
 }
 
-/// Prints that a script, or another file, can't be read, for an error of this kind, and answers the
-/// status: 1 for want of memory, else 2. The error is that output failed.
+/// Prints that a script or another file can't be read, after an error of this kind. It returns the
+/// status: 1 if memory ran out, else 2. It fails if the output does.
 pub fn print_unread<W: Write>(out: &mut W, kind: ErrorKind) -> io::Result<u8>
     ensures printed { IfOk result (λ status.
         PrintsNoScript status (W.contents out.old) (W.contents out.new)) }
@@ -185,7 +186,7 @@ pub fn print_unread<W: Write>(out: &mut W, kind: ErrorKind) -> io::Result<u8>
     }
 }
 
-/// Runs a script's lines, and answers the status; None where output failed.
+/// Runs a script's lines, and returns the status; `None` if the output failed.
 fn run_lines<S: Space, W: Write>(alloc: Global, script: &str, out: &mut W) -> Option<u8>
     ensures { IfSome result (λ status.
         PrintsReplies script.now status (W.contents out.old) (W.contents out.new)) }
@@ -217,9 +218,9 @@ fn run_lines<S: Space, W: Write>(alloc: Global, script: &str, out: &mut W) -> Op
     Some(status)
 }
 
-/// Does what the line of this number says, prints what it comes to, and answers the status that a
-/// script has at least then; None where output failed. What it says is read into a place that all
-/// lines share, since a new one would be made zero first.
+/// Does what the line of this number says, prints the reply, and returns the line's status; `None`
+/// if the output failed. The line is read into a value that all lines share, because a new one
+/// would be zeroed first.
 fn run_line<S: Space, W: Write>(
     alloc: Global,
     state: &mut State<S>,
@@ -242,8 +243,8 @@ fn run_line<S: Space, W: Write>(
     }
 }
 
-/// Takes a step of the space, where it was asked for, and prints what becomes of it. Most lines are
-/// steps, and most steps events, so what they come to is not moved into replies.
+/// Takes a step of the space, if a line has asked for a space, and prints the outcome. Most lines
+/// are steps and most steps are events, so their outcomes aren't moved into replies.
 fn run_step<S: Space, W: Write>(
     state: &mut State<S>,
     printer: &mut Printer,
@@ -266,7 +267,7 @@ fn run_step<S: Space, W: Write>(
     }
 }
 
-/// Gives a node an event, and prints what becomes of it.
+/// Gives a node an event, and prints the outcome.
 #[inline(always)]
 fn run_event<S: Space, W: Write>(
     space: &mut S,
@@ -295,8 +296,8 @@ fn run_event<S: Space, W: Write>(
     }
 }
 
-/// Takes a step that is no event, and prints what becomes of it. (Kept out of what calls it: what
-/// becomes of a step is large.)
+/// Takes a step that isn't an event, and prints the outcome. (Not inlined, because an outcome is
+/// large.)
 #[inline(never)]
 fn run_move<S: Space, W: Write>(
     space: &mut S,
@@ -320,8 +321,8 @@ fn run_move<S: Space, W: Write>(
     }
 }
 
-/// Does what a line says that is no step, as [`run_line`] does. (Kept out of that one: a reply is
-/// large, and would be made zero for each step.)
+/// Does what a line says that isn't a step, as [`run_line`] does. (Not inlined there: a reply is
+/// large, and would be zeroed for each step.)
 #[inline(never)]
 fn run_other<S: Space, W: Write>(
     alloc: Global,
@@ -349,8 +350,8 @@ fn run_other<S: Space, W: Write>(
     print_reply(out, number, &reply)
 }
 
-/// Prints that a line was refused, and answers the status; None where output failed. (Kept out of
-/// what calls it: what an error of output takes would be made zero there for each step.)
+/// Prints that a line was refused, and returns the status; `None` if the output failed. (Not
+/// inlined: the room for an error of the output would be zeroed in the caller for each step.)
 #[inline(never)]
 fn print_refusal<W: Write>(out: &mut W, refusal: Refusal) -> Option<u8>
     ensures text { OnSome result
@@ -361,8 +362,8 @@ fn print_refusal<W: Write>(out: &mut W, refusal: Refusal) -> Option<u8>
     Some(REFUSED)
 }
 
-/// Prints that the line of this number is outside the grammar, and answers the status; None where
-/// output failed.
+/// Prints that the line of this number is outside the grammar, and returns the status; `None` if
+/// the output failed.
 #[cold]
 fn print_no_command<W: Write>(out: &mut W, number: usize) -> Option<u8>
     ensures text { OnSome result
@@ -373,8 +374,8 @@ fn print_no_command<W: Write>(out: &mut W, number: usize) -> Option<u8>
     Some(UNREADABLE)
 }
 
-/// Prints what the line of this number comes to, and answers the status that a script has at least
-/// then; None where output failed.
+/// Prints the reply to the line of this number, and returns the line's status; `None` if the output
+/// failed.
 fn print_reply<W: Write>(out: &mut W, number: usize, reply: &Reply) -> Option<u8>
     ensures text { OnSome result
         (Appends (W.contents out.old) (W.contents out.new) (reply_text number reply.now)) }
@@ -391,7 +392,7 @@ fn print_reply<W: Write>(out: &mut W, number: usize, reply: &Reply) -> Option<u8
     Some(DONE)
 }
 
-/// Makes the space of these sizes, where no line asked for one before and they are within the
+/// Creates the space of these sizes, if no line asked for one before and they are within the
 /// limits.
 fn take_space<S: Space>(
     alloc: Global,
@@ -410,7 +411,7 @@ fn take_space<S: Space>(
     }
 }
 
-/// Makes the space, where no line asked for it before.
+/// Creates the space, if no line asked for one before.
 fn open<S: Space>(alloc: Global, state: &mut State<S>, shape: Shape) -> Reply
     ensures { Moves S.shows S.keeps
         (λ h later. TakesSpace h shape result later) state.old state.new }
@@ -444,7 +445,8 @@ fn note<S: Space>(space: &S, freed: &mut Freed, swept: Option<u8>, count: Option
     }
 }
 
-/// Looks at a node, where the space was asked for. `NoNode` where it has none of that number.
+/// Looks at a node, if a line has asked for a space. `NoNode` if the space has no node of that
+/// number.
 fn show_state<S: Space>(state: &State<S>, node: u8) -> Reply
     ensures { Moves S.shows S.keeps
         (λ h later. TakesState h node result later) state.now state.now }
@@ -459,8 +461,8 @@ fn show_state<S: Space>(state: &State<S>, node: u8) -> Reply
     }
 }
 
-/// Looks at what the sweeps freed, where the space was asked for. `Memory` where that isn't known,
-/// or there is no room to say it, but never before the first sweep.
+/// Reports what the sweeps freed, if a line has asked for a space. `Memory` if that isn't known or
+/// there is no room to report it, but never before the first sweep.
 fn report<S: Space>(alloc: Global, state: &State<S>) -> Reply
     ensures { Moves S.shows S.keeps
         (λ h later. TakesReport h result later) state.now state.now }

@@ -27,7 +27,7 @@ at_digit n c cs is =
     ∙ ap (λ (t : Bool). cond t (cond (nat_lt (n * 10 + (c - 48)) (2 ^ 64))
     (value_after (n * 10 + (c - 48)) (digits_of cs)) None) None) is
 
--- and further on
+-- and at a later place
 module _ (n i : ℕ) (text : List ℕ) (within : i < length text)
     (is : is_ascii_digit (get_or text i 0) ≡ true) where
   abbrev more : ℕ
@@ -71,7 +71,7 @@ pub digit_first : (text : List ℕ) → starts_number text ≡ true
 digit_first [] is = absurd cc
 digit_first (c ∷ cs) is = is
 
--- tests of numbers that are one more
+-- tests of numbers that are one greater
 eq_suc : (a b : ℕ) → (1 + a == 1 + b) ≡ (a == b)
 eq_suc a b = grind (arith, nat_tests)
 
@@ -91,7 +91,7 @@ swap true b o = refl
 swap false true o = refl
 swap false false o = refl
 
--- a word is a number where it has no more than its digits
+-- a word is a number if it has nothing but its digits
 all-one : (n c : ℕ) (cs : List ℕ) (is : Bool) → is_ascii_digit c ≡ is
     → ((m : ℕ) → value_after m cs
     ≡ cond (digit_count cs == length cs) (value_after m (digits_of cs)) None)
@@ -119,7 +119,7 @@ all-front : (n : ℕ) (w : List ℕ)
 all-front n [] = refl
 all-front n (c ∷ cs) = all-one n c cs (is_ascii_digit c) refl (λ m. all-front m cs)
 
--- the number of a word that ends here, of which so many bytes are digits, which spell this
+-- the number of a word that ends here and begins with this many digits, which spell this value
 abbrev number_at : (digits end : ℕ) → Option ℕ → Option ℕ
 number_at digits end value = cond (fits_word end) (cond (digits == end) value None) None
 
@@ -191,7 +191,7 @@ stops : (text : List ℕ) → Stops text (digit_count text) (word_end text)
 stops [] = record { same = refl; within = omega arith; whole = refl }
 stops (c ∷ cs) = stops_one c cs (is_ascii_digit c) (is_space c) refl refl (stops cs)
 
--- that of the word at the front of a text
+-- the number of the word at the front of a text
 pub word_number : (text : List ℕ) → IsNumberAt (digit_count text) (word_end text)
     (value_after 0 (digits_of text)) (u64_of (word_of text))
 word_number text =
@@ -214,7 +214,7 @@ word_number text =
           digits;
     }
 
--- it is whole where the word ends behind its digits
+-- it is the whole word if the word ends after its digits
 pub word_ends : (text : List ℕ) → ends_word (drop (digit_count text) text) ≡ true
     → digit_count text ≡ word_end text
 word_ends text ends = eqb-true _ _ ((stops text).whole ∙ ends)
@@ -223,7 +223,7 @@ pub word_goes_on : (text : List ℕ) → ends_word (drop (digit_count text) text
     → digit_count text ≢ word_end text
 word_goes_on text goes_on = eqb-false _ _ ((stops text).whole ∙ goes_on)
 
--- by the tests that tell whether there is such a number
+-- by the tests that decide whether there is such a number
 module _ {digits end : ℕ} {value u : Option ℕ} (at : IsNumberAt digits end value u) where
   pub not_value : None ≡ value → None ≡ u
   not_value none =

@@ -7,13 +7,13 @@ use Rattle.std.proofs.lemmas.Bool.{cases_lt, cond-false, cond-true, le-ltb, lt-l
 use Rattle.std.proofs.lemmas.Str.{digit_value_digit}
 use Rattle.lines.specs.Grammar.{value_after}
 
--- that of digits which follow those of n, where all are digits and it fits
+-- the number spelled by the digits of n followed by these, if all are digits and it fits
 abbrev checked : ℕ → List ℕ → Option ℕ
 checked n ds =
     let value = digits_value_after 10 n ds in
     cond (list_all is_ascii_digit ds) (cond (nat_lt value (2 ^ 64)) (Some value) None) None
 
--- digits that follow don't make a number less
+-- further digits don't make a number smaller
 grows : (n : ℕ) (ds : List ℕ) → n ≤ digits_value_after 10 n ds
 grows n [] = omega arith
 grows n (c ∷ cs) = omega (arith, grows (n * 10 + digit_value c) cs)
@@ -31,7 +31,7 @@ too_large n ds large =
 digit : (c : ℕ) → is_ascii_digit c ≡ true → digit_value c ≡ c - 48
 digit c is = omega (arith, digit_value_digit c (search (rules, tests)))
 
--- the first of the digits, where the others are known
+-- the first of the digits, when the others are known
 from_digit : (n c : ℕ) (cs : List ℕ) → is_ascii_digit c ≡ true
     → ((m : ℕ) → m < 2 ^ 64 → value_after m cs ≡ checked m cs)
     → cond (nat_lt (n * 10 + (c - 48)) (2 ^ 64)) (value_after (n * 10 + (c - 48)) cs) None
@@ -46,7 +46,7 @@ from_digit n c cs is others =
     ∙ ap (λ m. checked m cs) same)
     (cases_lt more (2 ^ 64))
 
--- so the number is read from digit to digit
+-- so the number is read digit by digit
 pub value_checked : (n : ℕ) (ds : List ℕ) → n < 2 ^ 64 → value_after n ds ≡ checked n ds
 value_checked n [] small = sym (cond-true _ _ _ (lt-ltb n (2 ^ 64) small))
 value_checked n (c ∷ cs) small =

@@ -1,4 +1,4 @@
--- No line asks for an event from another node.
+-- No line asks for an event that comes from another node.
 use Rattle.std.proofs.Common.{◌≡◌, ℕ, Bool, true, false, cond, List, [], ◌∷◌, Option, Some, None, IfSome, refl, subst, sym}
 use Rattle.std.specs.Option.{option_and_then, option_map}
 use Rattle.model.specs.declared.event.Event.{Event}
@@ -12,7 +12,7 @@ use Rattle.lines.specs.declared.line.Line.TheVariants as line
 use Rattle.lines.specs.Operands.{read}
 use Rattle.lines.specs.Grammar.{Number, acted, alone, command_of, delivery_of, hand_of, is_own_line, line_of, node_line_of, of_three, of_two, report_of, space_of, stepped, u16_of, u32_of, u64_of, u8_of, with_none, with_one, with_three, with_two}
 
--- what is there, if anything is, passes the test
+-- the value, if there is one, passes the test
 record Passes {X : Type 0} (test : X → Bool) (o : Option X) : Type 0 where
   pub there : IfSome o (λ x. test x ≡ true)
 
@@ -160,7 +160,7 @@ own-line (first ∷ words) = either _ (some {x = line.Blank} refl) (own-command 
 pub own_line : (words : List (List ℕ)) → IfSome (line_of words) (λ l. is_own_line l ≡ true)
 own_line words = (own-line words).there
 
--- the same of one that was made where it stays
+-- the same of a line that was built in place
 pub own_read : {X : Type 0} (done : Option X) (l : Line) (words : List (List ℕ))
     → read done l ≡ line_of words → IfSome done (λ d. is_own_line l ≡ true)
 own_read None l words e = tt

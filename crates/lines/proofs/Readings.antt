@@ -1,4 +1,4 @@
--- Operands, as they are read one after another.
+-- Operands, read one after another.
 use Rattle.std.proofs.Common.{◌≡◌, ◌∙◌, ◌==◌, ℕ, true, false, List, [], ◌∷◌, length, Option, Some, None, refl, sym, ap}
 use Rattle.std.specs.Option.{option_and_then}
 use Rattle.lines.specs.Grammar.{u64_of, words_of}
@@ -7,13 +7,13 @@ use Rattle.lines.specs.Operands.{operands_of}
 use Rattle.lines.specs.Words.{IsTrimmed, behind, word_of}
 use Rattle.lines.proofs.Words.{words_none, words_split}
 
--- the number at the front of a text, and what stands behind it
+-- the number at the front of a text, and the text after it
 pub record Takes (text : List ℕ) (n : ℕ) (rest : List ℕ) : Type 0 where
   pub word : List ℕ
   pub words : words_of text ≡ word ∷ words_of rest
   pub number : Some n ≡ u64_of word
 
--- what stands at the front spells no number
+-- the word at the front spells no number
 pub record TakesNone (text : List ℕ) : Type 0 where
   pub word : List ℕ
   pub others : List (List ℕ)

@@ -16,7 +16,7 @@ cycle_lines-push n (x ∷ sums) freed =
     ∙ ap (λ k. cycle_lines (n + 1) sums ++ cycle_line k freed) place)
     ∙ sym (append_assoc (cycle_line n x) (cycle_lines (n + 1) sums) _)
 
--- after the lines of the cycles before this place comes the one of the cycle there
+-- the line of a cycle follows the lines of the cycles before it
 pub next_line : (start mid new : Option (List ℕ)) (sums : List ℕ) (place : ℕ)
     → place < length sums → Appends start mid (cycle_lines 1 (take place sums))
     → Appends mid new (cycle_line (place + 1) (get_or sums place 0))

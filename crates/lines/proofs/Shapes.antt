@@ -32,7 +32,7 @@ one32 = record { is = u32-is }
 one64 : One u64_of
 one64 = record { is = u64-is }
 
--- ---- what stands behind a node's number and a verb
+-- ---- the words after a node's number and a verb
 
 one-verb : (verb : List ℕ) → One (λ a. with_one verb a)
 unfolding with_one
@@ -78,7 +78,7 @@ no_words : (node : ℕ) → node_line_of node [] ≡ None
 unfolding node_line_of
 no_words node = refl
 
--- ---- what stands behind a first word that is no number
+-- ---- the words after a first word that isn't a number
 
 space-all : All space_of
 unfolding space_of
@@ -147,7 +147,7 @@ asked node (b ∷ bytes) trimmed =
     ap (node_line_of node) (words_split (b ∷ bytes) trimmed (search (rules, tests)))
     ∙ operands_are (node-all node (word_of (b ∷ bytes))) (words_of (behind (b ∷ bytes)))
 
--- what stands behind a node's number is cut so
+-- how the text after a node's number is cut
 pub record IsCut (text verb rest : List ℕ) : Type 0 where
   pub trimmed : IsTrimmed text
   pub word : verb ≡ word_of text
@@ -193,7 +193,7 @@ module _ (node : ℕ) {text verb rest : List ℕ} (cut : IsCut text verb rest) w
 
 -- ---- by the first byte
 
--- one that is no digit begins no number
+-- a byte that isn't a digit begins no number
 pub no_number : (text : List ℕ) → starts_number text ≡ false → u8_of (word_of text) ≡ None
 no_number text none = u8-is (word_of text)
     ∙ ap (λ o. option_and_then (λ n. u8_of (decimal n)) o) (no_u64 text none)
@@ -212,7 +212,7 @@ different a b apart = by (bytes_eq a b) refl
     by true same = absurd (apart ((bytes_eq-Decides a b).0 same))
     by false same = refl
 
--- what stands behind a first word that is no number is cut so
+-- how a text whose first word isn't a number is cut
 pub record IsCommand (text first rest : List ℕ) : Type 0 where
   pub none : starts_number text ≡ false
   pub word : first ≡ word_of text

@@ -36,7 +36,7 @@ pub u64_of_decimal : (n : ℕ) → n < 2 ^ 64 → u64_of (decimal n) ≡ Some n
 unfolding u64_of
 u64_of_decimal n fits = decimal_below (2 ^ 64) n fits ∙ cond-true _ _ _ (lt-ltb n (2 ^ 64) fits)
 
--- so a narrower number is there where it fits
+-- so a narrower number is read if it fits
 pub u8_of_decimal : (n : ℕ) → n < 2 ^ 64
     → u8_of (decimal n) ≡ cond (nat_lt n (2 ^ 8)) (Some n) None
 unfolding u8_of

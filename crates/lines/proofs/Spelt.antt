@@ -1,4 +1,4 @@
--- What is made of words by the numbers that they spell alone, so that the words may be forgotten.
+-- What depends only on the numbers that words spell, so that the words themselves may be forgotten.
 use Rattle.std.proofs.Common.{◌≡◌, ◌∙◌, ℕ, Bool, true, false, cond, List, [], ◌∷◌, Option, Some, None, refl, sym, ap, decimal}
 use Rattle.std.specs.Option.{option_and_then, option_map}
 use Rattle.lines.specs.declared.line.Line.{Line}
@@ -59,7 +59,7 @@ pub three_either : {X : Type 0} {f g : List ℕ → List ℕ → List ℕ → Op
 three_either true p q = p
 three_either false p q = q
 
--- ---- made of numbers
+-- ---- built from numbers
 
 map_then : {A B C : Type 0} (make : B → C) (f : A → Option B) (o : Option A)
     → option_map make (option_and_then f o) ≡ option_and_then (λ x. option_map make (f x)) o
@@ -143,7 +143,7 @@ three_of {f = f} {g = g} {h = h} make p q r = record {
 
 -- ---- of all words
 
--- by the operands that they spell
+-- by the operands that the words spell
 pub record All (f : List (List ℕ) → Option Line) : Type 0 where
   pub one : One (λ a. f (a ∷ []))
   pub two : Two (λ a b. f (a ∷ b ∷ []))

@@ -64,7 +64,7 @@ past_utf8 (b ∷ text) utf8 =
     past_one IsUtf8 b text (is_space b) refl
     (λ e. past_utf8 text (utf8_after b text utf8 e)) (λ _. utf8)
 
--- no space stands at the front then
+-- then no space is at the front
 past_all : (text : List ℕ) → prefix_len is_space (past text) ≡ 0
 past_all [] = refl
 past_all (b ∷ text) =
@@ -109,7 +109,7 @@ filled_one : (b : ℕ) (w : List ℕ) (rest : List (List ℕ))
     → filled ((b ∷ w) ∷ rest) ≡ (b ∷ w) ∷ filled rest
 filled_one b w rest = cond-true _ _ _ (lt-ltb 0 (length (b ∷ w)) (omega arith))
 
--- a text that begins with a word has that one, and those behind it
+-- a text that begins with a word has that word, and those after it
 one_word : (b : ℕ) (text : List ℕ) (is : Bool) → is_space b ≡ is
     → cond is (1 + prefix_len is_space text) 0 ≡ 0
     → Parts (b ∷ text) (take (cond (not is) (1 + word_end text) 0) (b ∷ text))
@@ -148,13 +148,13 @@ cut_at_word text = (
       absurd (omega (arith, at, high)),
 )
 
--- a text may be cut behind the spaces at its front
+-- a text may be cut after the spaces at its front
 pub cut_at_past : (text : List ℕ) → IsUtf8 text → IsCharBoundary text (prefix_len is_space text)
 cut_at_past text utf8 =
     IsCharBoundary-from_drop text (prefix_len is_space text) (prefix_len-le-length is_space text)
     (past_utf8 text utf8)
 
--- ---- behind a word
+-- ---- after a word
 
 pub past_none : (text : List ℕ) → (length text == 0) ≡ true → text ≡ past text
 past_none [] none = refl

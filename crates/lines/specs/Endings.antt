@@ -1,8 +1,8 @@
--- A text that is made from its last byte to its first one.
+-- A text that is written from its last byte to its first.
 use Rattle.std.specs.Prelude.{◌≡◌, ℕ, List, ◌++◌, drop}
 use Rattle.lines.specs.declared.ending.Ending.{Ending}
 
--- what is there so far
+-- the text so far
 abbrev pub held : Ending → List ℕ
 held e = drop e.start e.bytes
 

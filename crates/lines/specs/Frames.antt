@@ -13,11 +13,11 @@ abbrev pub colour_text : Colour → List ℕ
 colour_text White = codes "white"
 colour_text Black = codes "black"
 
--- the token: its colour, and the sum of the balances that it has met
+-- the token: its colour, and the sum of the balances that it has collected
 abbrev pub token_text : Token → List ℕ
 token_text t = colour_text t.colour ++ (codes " " ++ signed_decimal t.q)
 
--- what a message says: its kind, and the parts of that
+-- the body of a message: its kind and its fields
 abbrev pub body_text : Body → List ℕ
 body_text body.Begin = codes "begin"
 body_text (body.Token token) = codes "token " ++ token_text token

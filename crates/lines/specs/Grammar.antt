@@ -13,23 +13,23 @@ use Rattle.model.specs.declared.step.Step.{Step}
 use Rattle.model.specs.declared.step.Step.TheVariants as step
 use Rattle.model.specs.World.{is_own_step}
 
--- the words of a line: what stands between spaces
+-- the words of a line, which spaces separate
 unfoldable pub words_of : List ℕ → List (List ℕ)
 words_of text = filter (λ word. nat_lt 0 (length word)) (slice_split (λ byte. byte == 32) text)
 
--- one digit or more, but not too many, and nothing else
+-- at least one digit, at most MOST_DIGITS of them, and nothing else
 unfoldable pub is_number : List ℕ → Bool
 is_number word =
     nat_lt 0 (length word) && (nat_le (length word) MOST_DIGITS && list_all is_ascii_digit word)
 
--- the number that digits spell which follow those of n, where it is below 2 ^ 64
+-- the number spelled by the digits of n followed by these, if it is below 2 ^ 64
 abbrev pub value_after : ℕ → List ℕ → Option ℕ
 value_after n [] = Some n
 value_after n (c ∷ cs) =
     let more = n * 10 + (c - 48) in
     cond (is_ascii_digit c) (cond (nat_lt more (2 ^ 64)) (value_after more cs) None) None
 
--- the number that a word spells, where it is below the limit
+-- the number that a word spells, if it is below the limit
 abbrev pub number_below : ℕ → List ℕ → Option ℕ
 number_below limit word =
     let n = digits_value 10 word in
@@ -48,7 +48,7 @@ u32_of word = number_below (2 ^ 32) word
 unfoldable pub u64_of : List ℕ → Option ℕ
 u64_of word = number_below (2 ^ 64) word
 
--- what is made of numbers, each read from a word in its own way
+-- values built from numbers, each of which is read from a word in its own way
 abbrev pub Number : Type 0
 Number = List ℕ → Option ℕ
 
@@ -61,7 +61,7 @@ abbrev pub of_three : {X : Type 0} → Number → Number → Number → (ℕ →
 of_three first second third make a b c =
     option_and_then (λ x. of_two second third (λ y z. make x y z) b c) (first a)
 
--- what a verb says with no operand, with one, with two and with three
+-- what a verb means with no operand, with one, with two and with three
 unfoldable pub with_none : List ℕ → Option Event
 with_none verb =
     cond (bytes_eq verb (codes "begin")) (Some event.Begin)
@@ -110,7 +110,7 @@ with_three verb a b c =
 abbrev pub acted : ℕ → Option Event → Option Line
 acted node event = option_map (λ e. line.Step (step.Act node e)) event
 
--- a verb that stands alone after a node's number
+-- a verb alone after a node's number
 unfoldable pub alone : ℕ → List ℕ → Option Line
 alone node verb =
     cond (bytes_eq verb (codes "save")) (Some (line.Step (step.Save node)))
@@ -118,7 +118,7 @@ alone node verb =
     (cond (bytes_eq verb (codes "state")) (Some (line.State node))
     (acted node (with_none verb))))
 
--- what stands after a node's number
+-- the words after a node's number
 unfoldable pub node_line_of : ℕ → List (List ℕ) → Option Line
 node_line_of node (verb ∷ []) = alone node verb
 node_line_of node (verb ∷ a ∷ []) = acted node (with_one verb a)
@@ -126,24 +126,24 @@ node_line_of node (verb ∷ a ∷ b ∷ []) = acted node (with_two verb a b)
 node_line_of node (verb ∷ a ∷ b ∷ c ∷ []) = acted node (with_three verb a b c)
 node_line_of node words = None
 
--- what stands after `space`
+-- the words after `space`
 unfoldable pub space_of : List (List ℕ) → Option Line
 space_of (a ∷ b ∷ c ∷ []) =
     of_three u8_of u16_of u32_of (λ nodes registers slots. line.Space nodes registers slots) a b c
 space_of words = None
 
--- what stands after `deliver`
+-- the words after `deliver`
 unfoldable pub delivery_of : List (List ℕ) → Option Step
 delivery_of (a ∷ b ∷ c ∷ []) =
     of_three u8_of u8_of u64_of (λ from to number. step.Deliver from to number) a b c
 delivery_of words = None
 
--- what stands after `ack`
+-- the words after `ack`
 unfoldable pub hand_of : List (List ℕ) → Option Step
 hand_of (a ∷ b ∷ []) = of_two u8_of u8_of (λ from to. step.Hand from to) a b
 hand_of words = None
 
--- what stands after `report`
+-- the words after `report`
 unfoldable pub report_of : List (List ℕ) → Option Line
 report_of [] = Some line.Report
 report_of words = None
@@ -159,13 +159,13 @@ command_of first words =
     (cond (bytes_eq first (codes "report")) (report_of words)
     (option_and_then (λ node. node_line_of node words) (u8_of first)))))
 
--- what a line of these words says, or none where they are outside the grammar
+-- what a line of these words says, or None if they are outside the grammar
 unfoldable pub line_of : List (List ℕ) → Option Line
 line_of [] = Some line.Blank
 line_of (first ∷ words) =
     cond (starts_with (λ x y. x == y) first (codes "#")) (Some line.Blank) (command_of first words)
 
--- a line that asks for no event from another node
+-- a line whose event, if it has one, is the node's own, so it comes from no other node
 abbrev pub is_own_line : Line → Bool
 is_own_line (line.Step s) = is_own_step s
 is_own_line line.Blank = true

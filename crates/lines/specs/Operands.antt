@@ -1,4 +1,4 @@
--- The numbers that stand behind a verb, and lines that are made where they stay.
+-- The numbers after a verb, and lines that are built in place.
 use Rattle.std.specs.Prelude.{ℕ, List, [], ◌∷◌, Option, Some, None, decimal, option_map}
 use Rattle.lines.specs.declared.line.Line.{Line}
 use Rattle.lines.specs.declared.operands.Operands.{Operands}
@@ -14,13 +14,13 @@ operands_of (a ∷ b ∷ c ∷ []) =
     of_three u64_of u64_of u64_of (λ x y z. operands.Three x y z) a b c
 operands_of words = None
 
--- words that spell these
+-- words that spell these numbers
 abbrev pub spelled : Operands → List (List ℕ)
 spelled operands.Zero = []
 spelled (operands.One a) = decimal a ∷ []
 spelled (operands.Two a b) = decimal a ∷ decimal b ∷ []
 spelled (operands.Three a b c) = decimal a ∷ decimal b ∷ decimal c ∷ []
 
--- what a line became, where it was read
+-- what a line became, if it was read
 abbrev pub read : {X : Type 0} → Option X → Line → Option Line
 read done line = option_map (λ d. line) done

@@ -18,7 +18,7 @@ letter_text l =
     codes "from " ++ (decimal l.from ++ (codes " label "
     ++ (decimal l.label ++ (codes " " ++ optional_text l.reference))))
 
--- the token as it was handed on
+-- the token as it was passed on
 abbrev pub passed_text : Token → List ℕ
 passed_text t = codes "passed " ++ (signed_decimal t.q ++ (codes " " ++ colour_text t.colour))
 
@@ -47,7 +47,7 @@ answer_text answer.Received = codes "received"
 answer_text answer.Repeat = codes "repeat"
 answer_text answer.Early = codes "early"
 
--- what became of a step that was not refused
+-- the outcome of a step that wasn't refused
 abbrev pub outcome_text : Outcome → List ℕ
 outcome_text (outcome.Answer a) = answer_text a
 outcome_text outcome.Done = codes "ok"

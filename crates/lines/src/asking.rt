@@ -1,6 +1,6 @@
-//! What a line asks of a node, told apart by how many numbers stand behind its verb, and the verb.
-//! Each line is made in the function of its verb, where it stays: a part that was handed on would
-//! be copied, so what puts one there is always inlined.
+//! What a line asks of a node, by the number of operands after its verb and by the verb. The
+//! function for each verb builds the line in place. A part that was returned would be copied, so
+//! the functions that fill in a part are always inlined.
 ghost use Rattle.std.specs.Prelude.{◌≡◌, Some, decimal, option_map};
 ghost use Rattle.model.specs.declared.event.Event.TheVariants as event;
 ghost use Rattle.lines.specs.Grammar.{acted, alone, of_two, of_three, u8_of, u16_of, u32_of, u64_of, with_none, with_one, with_two, with_three};
@@ -10,7 +10,7 @@ use crate::line::Line;
 use crate::operands::{to_u8, to_u16, to_u32};
 use model::{Event, Step};
 
-/// What a verb says that stands alone after a node's number.
+/// The meaning of a verb alone after a node's number.
 #[tactic(auto, unfolding(crate::specs::Grammar::alone))]
 pub(crate) fn alone(line: &mut Line, node: u8, verb: &str) -> Option<()>
     ensures { read result line.new ≡ alone node verb.now }
@@ -23,7 +23,7 @@ pub(crate) fn alone(line: &mut Line, node: u8, verb: &str) -> Option<()>
     }
 }
 
-/// The line says this.
+/// Sets the line to this.
 #[inline(always)]
 pub(crate) fn say(line: &mut Line, said: Line) -> Option<()>
     ensures { read result line.new ≡ Some said }
@@ -41,7 +41,7 @@ fn act(line: &mut Line, node: u8, event: Event) -> Option<()>
     Some(())
 }
 
-/// What a verb says with no operand.
+/// The meaning of a verb with no operand.
 #[tactic(auto, unfolding(crate::specs::Grammar::with_none))]
 fn with_none(line: &mut Line, node: u8, verb: &str) -> Option<()>
     ensures { read result line.new ≡ acted node (with_none verb.now) }
@@ -54,7 +54,7 @@ fn with_none(line: &mut Line, node: u8, verb: &str) -> Option<()>
     }
 }
 
-/// What a verb says with one operand.
+/// The meaning of a verb with one operand.
 #[tactic(auto, unfolding(crate::specs::Grammar::with_one))]
 pub(crate) fn with_one(line: &mut Line, node: u8, verb: &str, a: u64) -> Option<()>
     ensures { read result line.new ≡ acted node (with_one verb.now (decimal a)) }
@@ -109,7 +109,7 @@ fn next(line: &mut Line, node: u8, from: u64) -> Option<()>
     act(line, node, Event::Next { from })
 }
 
-/// What a verb says with two operands.
+/// The meaning of a verb with two operands.
 #[tactic(auto, unfolding(crate::specs::Grammar::with_two))]
 pub(crate) fn with_two(line: &mut Line, node: u8, verb: &str, a: u64, b: u64) -> Option<()>
     ensures { read result line.new ≡ acted node (with_two verb.now (decimal a) (decimal b)) }
@@ -156,7 +156,7 @@ fn set_word(line: &mut Line, node: u8, object: u64, word: u64) -> Option<()>
     act(line, node, Event::SetWord { object, word })
 }
 
-/// What a verb says with three operands.
+/// The meaning of a verb with three operands.
 #[tactic(auto, unfolding(crate::specs::Grammar::with_three))]
 pub(crate) fn with_three(
     line: &mut Line,

@@ -1,4 +1,4 @@
-//! A text that is made from its last byte to its first one.
+//! `Ending`, a fixed buffer that is filled from the back.
 ghost use Rattle.std.specs.Prelude.{◌≡◌, ◌≤◌, ◌+◌, ◌∷◌, [], length, decimal};
 ghost use Rattle.std.specs.Fmt.{signed_decimal};
 ghost use Rattle.ids.specs.Texts.{optional_text, reference_text};
@@ -8,20 +8,20 @@ ghost use Rattle.lines.specs.declared.ending.TheConstants.{ROOM};
 use ids::Ref;
 use itoa::write_digits;
 
-/// How many bytes such a text may have: those of the longest answer, and some more.
+/// The size of the buffer in bytes: the longest answer fits, with some to spare.
 pub(crate) const ROOM: usize = 128;
 
-/// The end of a text, which grows at its front: so the digits of a number are written where they
-/// stay, and what is there is one slice at any time.
+/// The end of a text, which grows at its front. So the digits of a number are written straight into
+/// place, and the text so far is always one slice.
 #[derive(Clone, Copy)]
 pub(crate) struct Ending {
     bytes: [u8; ROOM],
-    // Where it begins.
+    // The place at which the text begins.
     start: usize,
 }
 
 impl Ending {
-    /// The end of any text, which is empty.
+    /// An empty text.
     pub(crate) fn new() -> Ending
         ensures empty { held result ≡ [] }
         ensures room { result.start ≡ ROOM }
@@ -32,7 +32,7 @@ impl Ending {
         }
     }
 
-    /// Becomes the end of any text again.
+    /// Makes the text empty again.
     #[inline(always)]
     pub(crate) fn clear(&mut self)
         ensures empty { held self.new ≡ [] }
@@ -41,7 +41,7 @@ impl Ending {
         self.start = ROOM;
     }
 
-    /// What is there.
+    /// The text so far.
     pub(crate) fn as_bytes(&self) -> &[u8]
         requires { self.now.start ≤ ROOM }
         ensures { result.now ≡ held self.now }
@@ -81,7 +81,7 @@ impl Ending {
         self.start = write_digits(number, &mut self.bytes, self.start);
     }
 
-    /// Puts a number before it, with its sign where that is a minus.
+    /// Puts a signed number before it, with a minus sign if it is negative.
     pub(crate) fn put_signed(&mut self, number: i64)
         requires { (21 ≤ self.old.start) × (self.old.start ≤ ROOM) }
         ensures grows { Grows (signed_decimal number) self.old self.new }
@@ -110,7 +110,7 @@ impl Ending {
         self.put_number(u64::from(reference.node));
     }
 
-    /// Puts a reference before it, or a dash where there is none.
+    /// Puts a reference before it, or a dash for `None`.
     #[inline(always)]
     pub(crate) fn put_optional(&mut self, reference: Option<Ref>)
         requires { (62 ≤ self.old.start) × (self.old.start ≤ ROOM) }

@@ -1,4 +1,4 @@
-//! The texts of messages and frames, as people read them.
+//! The texts of messages and frames, for people to read.
 ghost use Rattle.std.specs.Prelude.{Some};
 ghost use Rattle.msg.specs.Frames.{plain, plain_data};
 ghost use Rattle.lines.specs.Frames.{body_text, colour_text, frame_text};
@@ -22,7 +22,7 @@ impl fmt::Display for ColourText {
     }
 }
 
-/// Writes what a message says: its kind, and the parts of that.
+/// Writes the body of a message: its kind and its fields.
 #[derive(Clone, Copy)]
 struct BodyText(Body);
 
@@ -53,7 +53,7 @@ impl fmt::Display for BodyText {
     }
 }
 
-/// Writes a message's two nodes, its number, its stamp and what it says.
+/// Writes a message's two nodes, its number, its stamp and its body.
 #[derive(Clone, Copy)]
 struct DataText(Data);
 

@@ -1,5 +1,5 @@
-//! The front of a line: its first word, and the number that it spells. All of it is small and is
-//! always inlined, since a result of several words would else go through memory.
+//! The front of a line: its first word, and the number that the word spells. All of it is small and
+//! always inlined, because a result of several words would otherwise go through memory.
 ghost use Rattle.std.specs.Prelude.{◌≡◌, ◌<◌, ◌-◌, IfSome, length, option_map, slice_index, take, true};
 ghost use Rattle.std.specs.Char.{is_ascii_digit};
 ghost use Rattle.std.specs.List.{prefix_len, position_or_len};
@@ -8,7 +8,7 @@ ghost use Rattle.lines.specs.Words.{IsTrimmed, behind, digit_count, ends_word, f
 
 use crate::line::MOST_DIGITS;
 
-// How many spaces stand at the front.
+// How many spaces are at the front.
 #[inline(always)]
 fn space_len(text: &[u8]) -> usize
     ensures { result ≡ prefix_len is_space text.now }
@@ -20,7 +20,7 @@ fn space_len(text: &[u8]) -> usize
     len
 }
 
-// How many bytes stand before the first space.
+// How many bytes precede the first space.
 #[inline(always)]
 fn word_len(text: &[u8]) -> usize
     ensures { result ≡ position_or_len is_space text.now }
@@ -32,7 +32,7 @@ fn word_len(text: &[u8]) -> usize
     len
 }
 
-/// What stands behind the spaces at the front.
+/// The text after the spaces at its front.
 #[inline(always)]
 pub(crate) fn past_spaces(text: &str) -> &str
     ensures rest { result.now ≡ past text.now }
@@ -41,7 +41,7 @@ pub(crate) fn past_spaces(text: &str) -> &str
     &text[space_len(text.as_bytes())..]
 }
 
-// What stands behind the spaces at the front, where a word ends before them.
+// The same for a text that follows a word, so it is empty or begins with a space.
 #[inline(always)]
 fn past_word(rest: &str) -> &str
     requires { ends_word rest.now ≡ true }
@@ -54,7 +54,7 @@ fn past_word(rest: &str) -> &str
     past_spaces(&rest[1..])
 }
 
-/// The word at the front, and what stands behind it from the next word on.
+/// The word at the front, and the text from the next word on.
 #[inline(always)]
 pub(crate) fn first_word(text: &str) -> (&str, &str)
     ensures word { result.0.now ≡ word_of text.now }
@@ -65,9 +65,8 @@ pub(crate) fn first_word(text: &str) -> (&str, &str)
     (word, past_spaces(rest))
 }
 
-/// The number that the word at the front spells, where it spells one, and what stands behind it
-/// from the next word on. (Most numbers have one digit, and one space behind it: those are told
-/// apart first.)
+/// The number that the word at the front spells, if it spells one, and the text from the next word
+/// on. (Most numbers are one digit followed by one space, so that case is tested first.)
 #[inline(always)]
 #[tactic(auto, using(crate::proofs::OneDigit::one_there, crate::proofs::OneDigit::one_digit))]
 pub(crate) fn first_number(text: &str) -> Option<(u64, &str)>
@@ -82,7 +81,7 @@ pub(crate) fn first_number(text: &str) -> Option<(u64, &str)>
     any_number(text)
 }
 
-// The same of any text. The digits are read once.
+// The same for any text. The digits are read once.
 #[inline(always)]
 fn any_number(text: &str) -> Option<(u64, &str)>
     ensures number { option_map (λ r. r.0) result ≡ u64_of (word_of text.now) }
@@ -102,7 +101,7 @@ fn any_number(text: &str) -> Option<(u64, &str)>
     Some((number, past_word(&text[len..])))
 }
 
-/// The number that the word spells, where it fits.
+/// The number that the word spells, if it fits.
 pub(crate) fn read_u64(word: &str) -> Option<u64>
     ensures { result ≡ u64_of word.now }
 {
@@ -119,8 +118,8 @@ pub(crate) fn read_u64(word: &str) -> Option<u64>
     Some(number)
 }
 
-// The number that the digits at the front spell, where it fits, and how many they are. (The first
-// one always fits, and most numbers have no other.)
+// The number that the digits at the front spell, if it fits, and how many digits there are. (The
+// first digit always fits, and most numbers have no other.)
 #[inline(always)]
 #[tactic(auto, using(crate::proofs::Fronts::no_digits, crate::proofs::Fronts::spell_none, crate::proofs::Fronts::some_digit, crate::proofs::Fronts::digit_first))]
 fn leading_digits(text: &[u8]) -> Option<(u64, usize)>
@@ -134,7 +133,7 @@ fn leading_digits(text: &[u8]) -> Option<(u64, usize)>
     more_digits(text, u64::from(text[0] - b'0'))
 }
 
-// Whether one digit stands at the front, and behind it one space.
+// Whether exactly one digit is at the front, followed by exactly one space.
 #[inline(always)]
 fn is_one_digit(text: &[u8]) -> bool
     ensures { result ≡ is_one_digit text.now }
@@ -145,7 +144,7 @@ fn is_one_digit(text: &[u8]) -> bool
     }
 }
 
-// Whether a digit stands at the front.
+// Whether a digit is at the front.
 #[inline(always)]
 fn starts_number(text: &[u8]) -> bool
     ensures { result ≡ starts_number text.now }
@@ -156,7 +155,7 @@ fn starts_number(text: &[u8]) -> bool
     }
 }
 
-// The same of a text that begins with a digit, which spells this number.
+// The same for a text that begins with a digit, which spells this number.
 #[inline(always)]
 fn more_digits(text: &[u8], first: u64) -> Option<(u64, usize)>
     requires some { 0 < length text.now }
@@ -177,7 +176,7 @@ fn more_digits(text: &[u8], first: u64) -> Option<(u64, usize)>
     Some((number, len))
 }
 
-// Whether a word ends before this.
+// Whether a word ends before this text, which is then empty or begins with a space.
 #[inline(always)]
 fn ends_word(rest: &[u8]) -> bool
     ensures { result ≡ ends_word rest.now }
@@ -188,7 +187,7 @@ fn ends_word(rest: &[u8]) -> bool
     }
 }
 
-// Whether a number may have so many digits.
+// Whether a number may have this many digits.
 #[inline(always)]
 fn fits_word(digits: usize) -> bool
     ensures { result ≡ fits_word digits }

@@ -1,5 +1,5 @@
-//! One line of a script, over one thread or over node threads: what it says, and how what it comes
-//! to is printed.
+//! One line of a script, on one thread or on node threads: what it says, and how its outcome is
+//! printed.
 #![tactic(auto)]
 
 mod asking;

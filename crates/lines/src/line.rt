@@ -1,4 +1,5 @@
-//! One line of a script. Its words are read one after another; what isn't in the grammar is none.
+//! One line of a script. Its words are read one after another; anything outside the grammar is
+//! rejected.
 ghost use Rattle.std.specs.Prelude.{◌≡◌, false, IfSome, IsTrue, option_and_then};
 ghost use Rattle.lines.specs.Grammar.{command_of, delivery_of, hand_of, is_own_line, line_of, node_line_of, report_of, space_of, stepped, u8_of, u16_of, words_of};
 ghost use Rattle.lines.specs.Operands.{read, spelled};
@@ -9,13 +10,13 @@ use crate::front::{first_number, first_word, past_spaces, read_u64};
 use crate::operands::{Operands, to_u8, to_u16, to_u32};
 use model::Step;
 
-/// The most digits that a number has, leading zeros counted.
+/// The most digits that a number has, including leading zeros.
 pub(crate) const MOST_DIGITS: usize = 20;
 
 /// What one line of a script says.
 #[derive(Clone, Copy)]
 pub enum Line {
-    /// Nothing: no word stands there, or a comment.
+    /// Nothing: the line has no word, or is a comment.
     Blank,
     /// The sizes of the space, which need not be within the limits.
     Space {
@@ -32,8 +33,7 @@ pub enum Line {
 }
 
 impl Line {
-    /// What the line says, or None where it is outside the grammar. Words are what stands between
-    /// spaces.
+    /// What the line says, or `None` if it is outside the grammar. Spaces separate its words.
     pub fn parse(text: &str) -> Option<Line>
         ensures reads { result ≡ line_of (words_of text.now) }
         ensures own { IfSome result (λ l. IsTrue (is_own_line l)) }
@@ -43,8 +43,8 @@ impl Line {
         Some(line)
     }
 
-    /// Becomes what the line says. Where it is outside the grammar, None, and what stands here then
-    /// means nothing. A line is large, so it is made where it stays.
+    /// Sets this to what the line says. `None` if that is outside the grammar; the value is then
+    /// meaningless. A `Line` is large, so it is built in place.
     pub fn read(&mut self, text: &str) -> Option<()>
         ensures reads { read result self.new ≡ line_of (words_of text.now) }
         ensures own { IfSome result (λ done. IsTrue (is_own_line self.new)) }
@@ -53,7 +53,7 @@ impl Line {
     }
 }
 
-/// What the words of a text say.
+/// The meaning of the words of a text.
 fn line_in(line: &mut Line, text: &str) -> Option<()>
     requires { IsTrimmed text.now }
     ensures { read result line.new ≡ line_of (words_of text.now) }
@@ -70,7 +70,7 @@ fn line_in(line: &mut Line, text: &str) -> Option<()>
     command(line, text)
 }
 
-/// What a line says that begins with a node's number.
+/// The meaning of a line that begins with a node's number.
 fn node_line(line: &mut Line, text: &str) -> Option<()>
     requires { IsTrimmed text.now }
     ensures { read result line.new
@@ -81,7 +81,7 @@ fn node_line(line: &mut Line, text: &str) -> Option<()>
     asked_of(line, to_u8(number)?, text)
 }
 
-/// What the words behind a node's number say.
+/// The meaning of the words after a node's number.
 fn asked_of(line: &mut Line, node: u8, text: &str) -> Option<()>
     requires { IsTrimmed text.now }
     ensures { read result line.new ≡ node_line_of node (words_of text.now) }
@@ -96,7 +96,7 @@ fn asked_of(line: &mut Line, node: u8, text: &str) -> Option<()>
     }
 }
 
-/// What a line says whose first word is no number.
+/// The meaning of a line whose first word isn't a number.
 fn command(line: &mut Line, text: &str) -> Option<()>
     requires trimmed { IsTrimmed text.now }
     requires other { starts_number text.now ≡ false }
@@ -163,7 +163,7 @@ fn report(line: &mut Line, operands: Operands) -> Option<()>
     say(line, Line::Report)
 }
 
-/// The number that the word spells, where it fits.
+/// The number that the word spells, if it fits.
 #[tactic(auto, unfolding(crate::specs::Grammar::u8_of, crate::specs::Grammar::u64_of))]
 pub fn read_u8(word: &str) -> Option<u8>
     ensures { result ≡ u8_of word.now }
@@ -171,7 +171,7 @@ pub fn read_u8(word: &str) -> Option<u8>
     u8::try_from(read_u64(word)?).ok()
 }
 
-/// The number that the word spells, where it fits.
+/// The number that the word spells, if it fits.
 #[tactic(auto, unfolding(crate::specs::Grammar::u16_of, crate::specs::Grammar::u64_of))]
 pub fn read_u16(word: &str) -> Option<u16>
     ensures { result ≡ u16_of word.now }

@@ -1,4 +1,4 @@
-//! The operands of a line: the numbers that stand behind its verb, three at most.
+//! The operands of a line: the numbers after its verb, three at most.
 ghost use Rattle.std.specs.Prelude.{◌≡◌, decimal};
 ghost use Rattle.lines.specs.Grammar.{u8_of, u16_of, u32_of, words_of};
 ghost use Rattle.lines.specs.Operands.{operands_of};
@@ -6,7 +6,7 @@ ghost use Rattle.lines.specs.Words.{IsTrimmed};
 
 use crate::front::first_number;
 
-/// What stands behind a verb.
+/// The operands after a verb.
 #[derive(Clone, Copy)]
 pub(crate) enum Operands {
     Zero,
@@ -16,8 +16,9 @@ pub(crate) enum Operands {
 }
 
 impl Operands {
-    /// The numbers that the words of the text spell. None where a word spells none, or more than
-    /// three stand there. (Inlined, so that what it gives is told apart where it is found.)
+    /// The numbers that the words of the text spell. `None` if a word isn't a number, or if there
+    /// are more than three. (Inlined, so that the caller's match on the result is merged with the
+    /// tests here.)
     #[inline(always)]
     pub(crate) fn read(text: &str) -> Option<Operands>
         requires { IsTrimmed text.now }
@@ -48,7 +49,7 @@ impl Operands {
     }
 }
 
-/// The number, where it fits.
+/// The number, if it fits.
 #[inline(always)]
 #[tactic(auto, using(crate::proofs::Spelling::u8_of_decimal))]
 pub(crate) fn to_u8(number: u64) -> Option<u8>
@@ -57,7 +58,7 @@ pub(crate) fn to_u8(number: u64) -> Option<u8>
     u8::try_from(number).ok()
 }
 
-/// The number, where it fits.
+/// The number, if it fits.
 #[inline(always)]
 #[tactic(auto, using(crate::proofs::Spelling::u16_of_decimal))]
 pub(crate) fn to_u16(number: u64) -> Option<u16>
@@ -66,7 +67,7 @@ pub(crate) fn to_u16(number: u64) -> Option<u16>
     u16::try_from(number).ok()
 }
 
-/// The number, where it fits.
+/// The number, if it fits.
 #[inline(always)]
 #[tactic(auto, using(crate::proofs::Spelling::u32_of_decimal))]
 pub(crate) fn to_u32(number: u64) -> Option<u32>

@@ -1,4 +1,4 @@
-//! Prints what a script's lines come to.
+//! Prints the outcomes of a script's lines.
 ghost use Rattle.std.specs.Prelude.{◌≡◌, ◌∷◌, [], ◌++◌, OnOk};
 ghost use Rattle.std.specs.Io.KnownBytes.{Appends};
 ghost use Rattle.lines.specs.Text.{answer_text, cycle_line, outcome_text, report_text};
@@ -9,7 +9,7 @@ use model::{Answer, Outcome};
 use std::io;
 use std::io::Write;
 
-/// Prints what became of a step that was not refused, in one call.
+/// Prints the outcome of a step that wasn't refused, in one call.
 pub fn print_outcome<W: Write>(out: &mut W, outcome: &Outcome) -> io::Result<()>
     ensures { OnOk result
         (Appends (W.contents out.old) (W.contents out.new) (outcome_text outcome.now ++ 10 ∷ [])) }
@@ -20,8 +20,8 @@ pub fn print_outcome<W: Write>(out: &mut W, outcome: &Outcome) -> io::Result<()>
     out.write_all(line.as_bytes())
 }
 
-/// Prints what nodes answer. The text of each answer is made in the same place, since a new one
-/// would be made zero first.
+/// Prints what nodes answer. Every answer's text is built in the same buffer, because a new buffer
+/// would be zeroed first.
 #[derive(Clone, Copy)]
 pub struct Printer {
     line: Ending,
@@ -47,7 +47,7 @@ impl Printer {
     }
 }
 
-/// Prints how many objects the sweeps of each cycle freed, a line for each.
+/// Prints how many objects the sweeps of each cycle freed, one line for each cycle.
 pub fn print_report<W: Write>(out: &mut W, sums: &[u64]) -> io::Result<()>
     ensures { OnOk result
         (Appends (W.contents out.old) (W.contents out.new) (report_text sums.now)) }

@@ -1,5 +1,5 @@
-//! One line of a script that runs over node threads. It is a line of a script over one thread, less
-//! what the workers do by themselves, and three lines more.
+//! One line of a script that runs on node threads. The grammar is that of scripts on one thread,
+//! without what the workers do by themselves, and with three more lines.
 ghost use Rattle.std.specs.Prelude.{◌≡◌, ◌∷◌, [], IfNone, IfSome, IsTrue};
 ghost use Rattle.lines.specs.Grammar.{is_own_line, line_of, words_of};
 ghost use Rattle.lines.specs.RunLines.{is_for_workers, is_own_said, of_runs, run_line_of, shared_of};
@@ -13,7 +13,7 @@ use model::{Event, Step};
 /// What one line of such a script says.
 #[derive(Clone, Copy)]
 pub enum RunLine {
-    /// Nothing: no word stands there, or a comment.
+    /// Nothing: the line has no word, or is a comment.
     Blank,
     /// An event of a node's own program.
     Act(u8, Event),
@@ -21,16 +21,16 @@ pub enum RunLine {
     Restart(u8),
     /// A collection cycle, until its end.
     Cycle,
-    /// A letter, taken into this register of the node once one is there.
+    /// Waits for a letter and accepts it into this register of the node.
     Await { node: u8, register: u16 },
     /// The trace of a node's last calls.
     Trace(u8),
 }
 
 impl RunLine {
-    /// What the line says, or None where it is outside the grammar: `cycle`, `await` with a node
-    /// and a register, a node and `trace`, and the lines of other scripts that ask for an event of a
-    /// program or for a restart.
+    /// What the line says, or `None` if it is outside the grammar. The grammar has `cycle`, `await`
+    /// with a node and a register, a node and `trace`, and the lines of other scripts that ask for
+    /// an event of a program or for a restart.
     #[tactic(auto, using(crate::proofs::Words::after_spaces))]
     pub fn parse(text: &str) -> Option<RunLine>
         ensures reads { result ≡ run_line_of (words_of text.now) }
@@ -43,7 +43,7 @@ impl RunLine {
     }
 }
 
-// What a line of other scripts says here.
+// What a line of other scripts means here.
 fn shared(line: Line) -> Option<RunLine>
     ensures { result ≡ shared_of line }
 {
@@ -61,7 +61,7 @@ fn shared(line: Line) -> Option<RunLine>
     }
 }
 
-// Whether the workers see to an event: those of the collector, and messages that wait.
+// Whether the workers take care of an event: those of the collector, and messages that wait.
 fn is_for_workers(event: &Event) -> bool
     ensures { result ≡ is_for_workers event.now }
 {
@@ -71,7 +71,7 @@ fn is_for_workers(event: &Event) -> bool
     }
 }
 
-// The word at the front, if one stands there, and what stands behind it from the next word on.
+// The word at the front, if there is one, and the text from the next word on.
 #[tactic(auto, using(crate::proofs::Words::words_split, crate::proofs::Words::words_none))]
 fn next_word(text: &str) -> Option<(&str, &str)>
     requires { IsTrimmed text.now }
@@ -85,7 +85,7 @@ fn next_word(text: &str) -> Option<(&str, &str)>
     Some(first_word(text))
 }
 
-// What words say that are no line of other scripts.
+// The meaning of words that aren't a line of other scripts.
 #[tactic(auto, unfolding(crate::specs::RunLines::of_runs))]
 fn of_runs(text: &str) -> Option<RunLine>
     requires { IsTrimmed text.now }

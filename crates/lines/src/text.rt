@@ -1,5 +1,5 @@
-//! The texts of what a script's lines come to. Each outcome has one text, which a definition gives
-//! too.
+//! The texts of the outcomes of a script's lines. Each outcome has one text, which the
+//! specification defines too.
 ghost use Rattle.std.specs.Prelude.{◌≡◌, ◌≤◌, ◌+◌, ◌++◌, Some, IfOk, IfErr, codes, decimal, length, string_bytes};
 ghost use Rattle.ids.specs.Texts.{reference_text};
 ghost use Rattle.ids.specs.declared.refusal.Refusal.TheVariants.{Memory};
@@ -17,15 +17,28 @@ use node::Summary;
 use std::alloc::Global;
 use std::{fmt, str};
 
-/// The most bytes that what became of a step takes.
+/// The most bytes that the outcome of a step takes.
 const LONGEST: usize = 120;
 
-/// The text of what became of a step: a reference, a reference or `-` for what stood in a place, an
-/// object's word, `ok`, `sent` and the message's number, `from`, the sender, `label`, the label and
-/// the reference or `-`, `cycle` and the cycle that begins, `scanned` and the reference, `passed`,
-/// the token's sum and its colour, `probe again`, `ended` and the cycle, `freed`, the count and
-/// `done` or `more`, `received`, `repeat`, `early`, `ack` and the number acknowledged, or
-/// `no frame`. The only refusal is [`Refusal::Memory`].
+/// The text of a step's outcome, one of these:
+///
+/// - a reference
+/// - a reference or `-`, for the value of a place
+/// - an object's word
+/// - `ok`
+/// - `sent` and the message's number
+/// - `from`, the sender, `label`, the label, and the reference or `-`
+/// - `cycle` and the cycle that begins
+/// - `scanned` and the reference
+/// - `passed`, the token's sum and its colour
+/// - `probe again`
+/// - `ended` and the cycle
+/// - `freed`, the count, and `done` or `more`
+/// - `received`, `repeat` or `early`
+/// - `ack` and the number acknowledged
+/// - `no frame`
+///
+/// The only error is [`Refusal::Memory`].
 pub fn answer_text(alloc: Global, outcome: &Outcome) -> Result<String, Refusal>
     ensures text { IfOk result (λ s. string_bytes s ≡ outcome_text outcome.now) }
     ensures refused { IfErr result (λ e. e ≡ Memory) }
@@ -34,7 +47,7 @@ pub fn answer_text(alloc: Global, outcome: &Outcome) -> Result<String, Refusal>
     Ok(text)
 }
 
-/// Writes what became of a step that was not refused.
+/// Writes the outcome of a step that wasn't refused.
 #[derive(Clone, Copy)]
 pub struct OutcomeText(pub Outcome);
 
@@ -52,7 +65,7 @@ impl fmt::Display for OutcomeText {
     }
 }
 
-/// Puts what became of a step that was not refused before a text.
+/// Puts the outcome of a step that wasn't refused before a text.
 #[tactic(auto, using(crate::proofs::Endings::both))]
 pub(crate) fn put_outcome(text: &mut Ending, outcome: &Outcome)
     requires { (LONGEST ≤ text.old.start) × (text.old.start ≤ ROOM) }
@@ -68,7 +81,7 @@ pub(crate) fn put_outcome(text: &mut Ending, outcome: &Outcome)
 }
 
 /// Puts what a node answered before a text. (What it calls is inlined too, so that an answer need
-/// not stand in memory.)
+/// not be in memory.)
 #[inline(always)]
 #[tactic(auto, using(crate::proofs::Endings::both))]
 pub(crate) fn put_answer(text: &mut Ending, answer: &Answer)
@@ -95,7 +108,7 @@ pub(crate) fn put_answer(text: &mut Ending, answer: &Answer)
     }
 }
 
-/// Puts a number, and its name before that.
+/// Puts a name and a number before a text.
 #[inline(always)]
 #[tactic(auto, using(crate::proofs::Endings::both))]
 fn put_named(text: &mut Ending, name: &[u8], number: u64)
@@ -107,7 +120,7 @@ fn put_named(text: &mut Ending, name: &[u8], number: u64)
     text.put(name);
 }
 
-/// Puts a letter that a program took before a text.
+/// Puts a letter that a program accepted before a text.
 #[inline(always)]
 #[tactic(auto, using(crate::proofs::Endings::both))]
 fn put_letter(text: &mut Ending, letter: &Letter)

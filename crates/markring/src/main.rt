@@ -1,5 +1,5 @@
-//! The program `markring`. It finds the files that its words name, and puts a buffer round standard
-//! output; what `sim` and `decode` print is the matter of the crates below.
+//! The program `markring`. It opens the files that its arguments name and buffers standard output;
+//! the crates below decide what `sim` and `decode` print.
 #![tactic(auto)]
 
 ghost use Rattle.std.specs.Prelude.{◌≤◌, IfOk};
@@ -25,7 +25,7 @@ fn main(rt: HostRuntime) -> ExitCode {
     ExitCode::from(status)
 }
 
-/// Does what the program's words say, and answers the status.
+/// Does what the program's arguments ask for, and returns the exit status.
 fn run<R>(rt: &R) -> Result<u8, WordsError>
 where
     R: Env + Input + Print + AllocGlobal,
@@ -42,7 +42,7 @@ where
     }
 }
 
-/// Runs the script of a file.
+/// Runs the script in a file.
 fn sim_file<R: Files + Print + AllocGlobal>(rt: &R, path: &str) -> u8
     ensures { result ≤ 2 }
 {
@@ -52,7 +52,7 @@ fn sim_file<R: Files + Print + AllocGlobal>(rt: &R, path: &str) -> u8
     }
 }
 
-/// Runs the script of a file over node threads, as the configuration of another file says.
+/// Runs the script in a file on node threads, as the configuration in another file says.
 fn run_files<R>(rt: &R, config: &str, script: &str) -> u8
 where
     R: Print + AllocGlobal,
@@ -70,7 +70,7 @@ where
     }
 }
 
-/// Runs a script, and prints through a buffer.
+/// Runs a script, with buffered output.
 fn sim_buffered<R: Print + AllocGlobal, S: Read + Drop>(rt: &R, script: S) -> u8
     ensures { result ≤ 2 }
 {

@@ -1,5 +1,5 @@
-//! Runs a script over node threads. The main thread is the program of all nodes, beside a worker
-//! for each; it waits by looking again.
+//! Runs a script on node threads. The main thread acts as the program of every node, next to a
+//! worker for each. To wait for something, it polls.
 ghost use Rattle.std.specs.Prelude.{◌≡◌, ◌≤◌, IfOk, true};
 ghost use Rattle.std.specs.Arc.{arc_value};
 ghost use Rattle.model.specs.Steps.{is_own};
@@ -23,14 +23,14 @@ use wire::Watch;
 use words::{DONE, REFUSED, UNREADABLE};
 use workers::{Gate, Point, Stage};
 
-/// How many microseconds a worker pauses before a turn, for each node of the space: the frames of
-/// a round of turns are as many as pairs of nodes.
+/// How many microseconds a worker pauses before a turn, per node of the space. In a round of turns
+/// there is a frame for each pair of nodes, so larger spaces pause longer.
 const PAUSE: u64 = 500;
 
-/// How many microseconds pass between two looks at what a line waits for.
+/// The interval between two polls, in microseconds.
 const LOOK: u64 = 500;
 
-/// What a line of a script comes to.
+/// The outcome of a script's line.
 #[derive(Drop)]
 enum Told {
     /// Nothing is printed.
@@ -41,11 +41,12 @@ enum Told {
     Refused(Refusal),
     /// All workers had ended before a cycle did.
     NoVerdict,
-    /// It is outside the grammar.
+    /// The line is outside the grammar.
     NoCommand,
 }
 
-/// A gate that pauses before each turn, so that workers with nothing to do leave processors free.
+/// A gate that pauses before each turn, so that workers with nothing to do leave the processors to
+/// others.
 #[derive(Drop)]
 struct Pause<R> {
     rt: R,
@@ -60,11 +61,13 @@ impl<R: Clock> Gate for Pause<R> {
     }
 }
 
-/// Runs a script over node threads, as the configuration says, and answers the status: 0 where no
-/// line was refused; 1 where the space couldn't be opened or started, some line was refused, a
-/// cycle had no end, a node couldn't be saved at the end, memory was refused or output failed; 2
-/// where the configuration is refused, one of the two can't be read, or a line is outside the
-/// grammar, which is then the last one.
+/// Runs a script on node threads, as the configuration says, and returns the exit status:
+///
+/// - 0 if no line was refused
+/// - 1 if the space couldn't be opened or started, a line was refused, a cycle didn't end, a node
+///   couldn't be saved at the end, memory ran out, or the output failed
+/// - 2 if the configuration is rejected, one of the two can't be read, or a line is outside the
+///   grammar, which is then the last one
 pub fn run<R, C: Read + Drop, S: Read + Drop, W: Write>(
     rt: &R,
     alloc: Global,
@@ -117,7 +120,7 @@ where
     }
 }
 
-// Opens the disks that the configuration names, and runs the script over them.
+// Opens the disks that the configuration names, and runs the script on them.
 fn run_config<R, W: Write>(
     rt: &R,
     alloc: Global,
@@ -132,7 +135,7 @@ where
     let nodes = config.shape.nodes();
     match &config.folder {
         Some(folder) => {
-            // Files with the numbers of standard streams that are closed, so that no disk gets one.
+            // Files that take the numbers of closed standard streams, so that no disk gets one.
             let _low = low_files(rt, alloc);
             match file_disks(rt, alloc, folder.as_str(), nodes) {
                 Ok(disks) => run_disks(rt, alloc, config, disks, script, out),
@@ -146,7 +149,7 @@ where
     }
 }
 
-// Three open files, as far as the system gives them.
+// Three open files, or fewer if the system refuses some.
 fn low_files<R: Files<File = File>>(rt: &R, _alloc: Global) -> [Option<File>; 3] {
     let first = File::open(rt, "/dev/null").ok();
     let second = File::open(rt, "/dev/null").ok();
@@ -154,7 +157,7 @@ fn low_files<R: Files<File = File>>(rt: &R, _alloc: Global) -> [Option<File>; 3]
     [first, second, third]
 }
 
-// A disk for each node in a folder of its own, named by the node's number.
+// A disk for each node, in a folder named by the node's number.
 fn file_disks<R: Files<File = File>>(
     rt: &R,
     alloc: Global,
@@ -179,7 +182,7 @@ fn memory_disks(alloc: Global, nodes: u8) -> Result<Vec<MemoryDisk>, Refusal> {
     Ok(disks)
 }
 
-// Prints that the space can't be opened, and answers the status.
+// Prints that the space can't be opened, and returns the status.
 fn print_unopened<W: Write>(out: &mut W) -> io::Result<u8>
     ensures { IfOk result (λ status. status ≤ 2) }
 {
@@ -227,7 +230,8 @@ fn gate<R: Clone + Drop>(rt: &R, alloc: Global, nodes: u8) -> Result<Arc<Pause<R
     Ok(Arc::new(alloc, Pause { rt, pause })?)
 }
 
-// Saves what is unsaved, so that no effect of the script is lost, and answers the status.
+// Saves the nodes that have unsaved events, so that no effect of the script is lost, and returns
+// the status.
 fn save_all<R: Wait, D: Disk + Drop>(rt: &R, space: &Space<D>, nodes: u8) -> u8
     ensures { result ≤ 2 }
 {
@@ -243,7 +247,7 @@ fn save_all<R: Wait, D: Disk + Drop>(rt: &R, space: &Space<D>, nodes: u8) -> u8
     status
 }
 
-// Runs a script's lines, and answers the status; the error is that output failed.
+// Runs a script's lines, and returns the status. It fails if the output does.
 fn run_lines<R: Clock + Wait, D: Disk + Drop, W: Write>(
     rt: &R,
     space: &Space<D>,
@@ -360,8 +364,8 @@ fn await_end<R: Clock + Wait, D: Disk + Drop>(
     unreachable!()
 }
 
-// Takes a letter once one is there. It ends too where something else is refused, or where all
-// workers have ended.
+// Waits for a letter and accepts it. The call also ends if the event fails for another reason, or
+// if all workers have ended.
 fn await_letter<R: Clock + Wait, D: Disk + Drop>(
     rt: &R,
     space: &Space<D>,
@@ -379,7 +383,7 @@ fn await_letter<R: Clock + Wait, D: Disk + Drop>(
     unreachable!()
 }
 
-// Prints what the line of this number comes to.
+// Prints the outcome of the line of this number.
 fn print_told<W: Write>(out: &mut W, number: usize, told: &Told) -> io::Result<()> {
     match told {
         Told::Nothing => {}
@@ -392,7 +396,7 @@ fn print_told<W: Write>(out: &mut W, number: usize, told: &Told) -> io::Result<(
     out.flush()
 }
 
-// Prints texts, a line each, or `-` where there are none.
+// Prints texts, one on each line, or `-` if there aren't any.
 fn print_texts<W: Write>(out: &mut W, texts: &[String]) -> io::Result<()> {
     if texts.is_empty() {
         return writeln!(out, "-");
@@ -403,7 +407,7 @@ fn print_texts<W: Write>(out: &mut W, texts: &[String]) -> io::Result<()> {
     Ok(())
 }
 
-// The status that a script has at least where a line comes to this.
+// The status of a line with this outcome. The script's status is the greatest of these.
 fn status_after(told: &Told) -> u8
     ensures { result ≤ 2 }
 {

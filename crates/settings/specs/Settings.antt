@@ -1,4 +1,4 @@
--- What a TOML document says of a space.
+-- What a TOML document says about a space.
 use Rattle.std.specs.Prelude.{ℕ, ℤ, pos, ◌==◌, ◌&&◌, nat_le, suc, cond, List, Option, Some, None, codes, is_some, option_and_then, option_map, string_bytes}
 use Rattle.ids.specs.Limits.{Shaped}
 use Rattle.ids.specs.declared.limits.TheConstants.{LEAST_NODES, GREATEST_NODES}
@@ -32,12 +32,12 @@ abbrev pub number_at : List ℕ → ℕ → ℕ → Members → Option ℕ
 number_at key least greatest t =
     within least greatest (option_and_then as_integer (get_member key t))
 
--- a text or nothing; anything else is refused
+-- a string or nothing; anything else is rejected
 abbrev pub folder_in : Option Data → Option (Option (List ℕ))
 folder_in None = Some None
 folder_in (Some d) = option_map (λ s. Some s) (as_str d)
 
--- how many keys there are: a key stands once in a table
+-- how many keys there are; each key occurs once in a table
 abbrev pub count_keys : Members → ℕ
 count_keys no_members = 0
 count_keys (member key d ms) = suc (count_keys ms)
@@ -50,7 +50,7 @@ shape_at t =
     (number_at (codes "registers") 1 GREATEST_REGISTERS t))
     (number_at (codes "nodes") LEAST_NODES GREATEST_NODES t)
 
--- the four keys that are wanted, and the folder where it is there, and no other key
+-- the four required keys, the folder if it is there, and no other key
 abbrev pub table_settings : Members → Option Settings
 table_settings t =
     option_and_then (λ shape. option_and_then (λ turns. option_and_then (λ folder.

@@ -1,5 +1,5 @@
-//! The configuration of a space, as a TOML document says it. It is read exactly: a key more, a key
-//! less or a number outside its limits makes it none.
+//! The configuration of a space, read from a TOML document. It is read strictly: an extra key, a
+//! missing key, or a number outside its limits is an error.
 ghost use Rattle.std.specs.Prelude.{◌≡◌, ◌≤◌, ◌<◌, ◌⊎◌, None, Some, IfErr, IfOk, IfSome, cond};
 ghost use Rattle.std.specs.Prelude.{◌==◌, option_and_then, option_map};
 ghost use Rattle.toml.specs.Data.{as_integer, get_member};
@@ -18,7 +18,7 @@ use toml::{Table, Value};
 /// The greatest number of turns that a worker may be given.
 pub const GREATEST_TURNS: u32 = 1_000_000;
 
-/// How many keys a configuration has without the key `folder`.
+/// How many keys a configuration has, not counting `folder`.
 const KEYS: usize = 4;
 
 /// How a space is to be opened and run.
@@ -28,11 +28,11 @@ pub struct Config {
     pub shape: Shape,
     /// How many turns each worker takes at most.
     pub turns: u32,
-    /// The folder in which each node has a folder for its disk; none for disks in memory.
+    /// The folder in which each node has a folder for its disk; `None` for disks in memory.
     pub folder: Option<String>,
 }
 
-// What a table says.
+// The contents of a table.
 #[derive(Clone, Copy)]
 struct Found<'a> {
     shape: Shape,
@@ -41,11 +41,12 @@ struct Found<'a> {
 }
 
 impl Config {
-    /// What a TOML document says that has these keys at its top and no others: `nodes`, 2 to 64;
-    /// `registers`, 1 to 256; `slots`, 1 to 1,048,576; `turns`, 1 to 1,000,000; and, if it is
-    /// there, `folder`, a text.
+    /// Reads a TOML document that has these keys at its top level and no others: `nodes`, 2 to 64;
+    /// `registers`, 1 to 256; `slots`, 1 to 1,048,576; `turns`, 1 to 1,000,000; and optionally
+    /// `folder`, a string.
     ///
-    /// `Config` exactly where the text is no such document; or Memory, in place of either answer.
+    /// `Config` exactly if the text isn't such a document. `Refused` with `Memory` may come instead
+    /// of either result.
     pub fn from_text(alloc: Global, text: &str) -> Result<Config, OpenFault>
         ensures read { IfOk result (λ c. text_settings text.now ≡ Some (settings_of c)) }
         ensures refused { IfErr result (λ e.
@@ -64,7 +65,7 @@ impl Config {
     }
 }
 
-// The configuration that a table is.
+// The configuration that a table gives.
 fn config_in(alloc: Global, table: &Table) -> Result<Config, OpenFault>
     ensures read { IfOk result (λ c. table_settings (table_view table.now) ≡ Some (settings_of c)) }
     ensures refused { IfErr result (λ e.
@@ -88,7 +89,7 @@ fn config_in(alloc: Global, table: &Table) -> Result<Config, OpenFault>
     })
 }
 
-// What a table says, if it is a configuration.
+// The contents of a table, if it is a configuration.
 fn found_in(table: &Table) -> Option<Found<'_>>
     ensures { option_map found_settings result ≡ table_settings (table_view table.now) }
 {
@@ -105,7 +106,7 @@ fn found_in(table: &Table) -> Option<Found<'_>>
     })
 }
 
-// Whether a table has as many keys as a configuration with a folder or without.
+// Whether a table has as many keys as a configuration with a folder, or without.
 fn has_keys(table: &Table, with_folder: bool) -> bool
     ensures { result ≡ (count_keys (table_view table.now) == cond with_folder 5 4) }
 {
@@ -119,7 +120,7 @@ fn count_in(table: &Table) -> usize
     table.len()
 }
 
-// The sizes that a table says, if all three are there and within their limits.
+// The sizes that a table gives, if all three are there and within their limits.
 fn shape_in(table: &Table) -> Option<Shape>
     ensures { result ≡ shape_at (table_view table.now) }
 {
@@ -146,7 +147,7 @@ fn number_at(table: &Table, key: &str, least: u32, greatest: u32) -> Option<u32>
     number_within(integer_in(value_at(table, key)), least, greatest)
 }
 
-// The number, if it is one within these limits.
+// The number, if there is one within these limits.
 fn number_within(number: Option<i64>, least: u32, greatest: u32) -> Option<u32>
     ensures value { result ≡ within least greatest number }
     ensures within { IfSome result (λ n. (least ≤ n) × (n ≤ greatest)) }
@@ -168,7 +169,7 @@ fn integer_in(value: Option<&Value>) -> Option<i64>
     }
 }
 
-// The text there, if anything is: the outer None is for a value that is no text.
+// The string, if there is a value. The outer `None` is for a value that isn't a string.
 fn folder_in(value: Option<&Value>) -> Option<Option<&str>>
     ensures { option_map (λ o. option_map (λ s. s.now) o) result
         ≡ folder_in (option_map (λ v. view v.now) value.entry) }

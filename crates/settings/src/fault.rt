@@ -1,17 +1,18 @@
-//! Why a space isn't opened. Either the text, the disks together, or one thing that was refused.
+//! Why a space can't be opened: because of the text, of the disks together, or of a single refusal.
 use ids::Refusal;
 use thiserror::Error;
 
-/// Why a space isn't opened.
+/// Why a space can't be opened.
 #[derive(Clone, Copy, Debug, PartialEq, Eq, Error)]
 pub enum OpenFault {
-    /// The text is no configuration.
+    /// The text isn't a configuration.
     #[error("config refused")]
     Config,
-    /// There are fewer or more disks than nodes, or a disk holds a node of another shape or number.
+    /// The number of disks isn't the number of nodes, or a disk holds a node of another shape or
+    /// number.
     #[error("disks refused")]
     Disks,
-    /// Memory for the text, or a node, its disk or the wire was refused.
+    /// There was no memory for the text, or a node, its disk or the wire failed with this refusal.
     #[error("refused {0}")]
     Refused(Refusal),
 }

@@ -1,4 +1,4 @@
-//! The configuration of a space, as a text says it, and why a space isn't opened.
+//! The configuration of a space, read from a text, and the errors of opening a space.
 #![tactic(auto)]
 
 mod config;

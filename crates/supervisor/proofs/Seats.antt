@@ -1,4 +1,4 @@
--- The seats of cells that are handed on one after another.
+-- The seats of cells that are passed on one after another.
 use Rattle.std.proofs.Common.{◌≡◌, ◌<◌, suc, List, [], ◌∷◌, drop, get_or, length, map, refl, subst, sym, arith}
 use Rattle.wire.specs.Readers.{IsSeatOf}
 use Rattle.wire.specs.declared.seats.NodeSeat.{NodeSeat}

@@ -1,4 +1,4 @@
--- Watches of a wire, of which the last is handed out.
+-- Watches of a wire, the last of which is given out.
 use Rattle.std.proofs.Common.{◌≡◌, ℕ, zero, suc, List, [], ◌∷◌, ◌++◌, length, Option, Some, None, IfSome, slice_get, refl, ap, ◌∙◌}
 use Rattle.std.specs.Prelude.{option_to_list}
 use Rattle.wire.specs.Readers.{IsWatchOf}

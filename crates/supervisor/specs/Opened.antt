@@ -1,4 +1,4 @@
--- The cells and the watches of a wire, the workers of a space, and why one isn't opened.
+-- The cells and the watches of a wire, the workers of a space, and the errors of opening a space.
 use Rattle.std.specs.Prelude.{◌≡◌, ◌≢◌, ℕ, ◌+◌, List, Option, None, Some, slice_get, vec_len}
 use Rattle.ids.specs.declared.refusal.Refusal.{Refusal}
 use Rattle.ids.specs.declared.refusal.Refusal.TheVariants.{Memory}
@@ -18,12 +18,12 @@ AreWatches wire watches = (k : ℕ) (x : Watch) → slice_get watches k ≡ Some
 abbrev pub AreSeats : Wire → List NodeSeat → Type 0
 AreSeats wire seats = (k : ℕ) (s : NodeSeat) → slice_get seats k ≡ Some s → IsSeatOf wire s
 
--- how many workers a space has, those that have ended too
+-- how many workers a space has, including those that have ended
 abbrev pub worker_count : Option Team → ℕ
 worker_count None = 0
 worker_count (Some t) = vec_len t.workers + vec_len t.reports
 
--- what is so of a refusal that isn't Memory, where the configuration was read before
+-- what holds for a refusal other than Memory, once the configuration has been read
 abbrev pub IfRefused : (Refusal → Type 0) → OpenFault → Type 0
 IfRefused P Config = ⊥
 IfRefused P Disks = Unit {0}

@@ -1,5 +1,5 @@
-//! The cells of a space, shared by its threads. Each stands under a lock of its own, and all know
-//! one wire.
+//! The cells of a space, shared by its threads. Each is under a lock of its own, and all share one
+//! wire.
 ghost use Rattle.std.specs.Prelude.{◌≡◌, ◌≢◌, IfErr, IfOk, IsErrOf, map, vec_len};
 ghost use Rattle.std.specs.Arc.{arc_value};
 ghost use Rattle.ids.specs.declared.refusal.Refusal.TheVariants.{Memory};
@@ -17,10 +17,10 @@ use std::alloc::Global;
 use std::sync::Arc;
 use wire::{Watch, Wire};
 
-/// How many watches a space hands out.
+/// How many watches a space gives out.
 pub const WATCHES: u8 = 16;
 
-// A cell that threads share, with its wire.
+// A cell with its wire, as threads share it.
 fn share<D: Disk + Drop>(
     alloc: Global,
     wire: &Arc<Wire>,
@@ -86,7 +86,7 @@ fn open_alone<D: Disk + Drop>(
 }
 
 /// The wire of a space on these disks, its cells in order, as threads share them, and the wire's
-/// watches. Refused as [`cell::open`]; all disks are then given up.
+/// watches. Fails as [`cell::open`] does; all disks are then dropped.
 pub(crate) fn open_cells<D: Disk + Drop>(
     alloc: Global,
     shape: Shape,

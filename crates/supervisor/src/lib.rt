@@ -1,6 +1,5 @@
-//! A space whose nodes run in threads of their own: how it is opened from its disks, started and
-//! closed. What is proved of a cell is proved of whoever calls it, so nothing of the theorems rests
-//! on this crate.
+//! A space whose nodes run in threads: how it is opened from its disks, started and closed. What is
+//! proved of a cell holds whoever calls it, so no theorem depends on this crate.
 #![tactic(auto)]
 
 mod cells;

@@ -1,5 +1,5 @@
-//! A space of nodes on their disks, and its workers. Programs get at each node through its cell,
-//! beside the worker; a space that is let go asks its workers to stop.
+//! A space of nodes on their disks, with its workers. Programs use each node through its cell,
+//! concurrently with the worker. When a space is dropped, it asks its workers to stop.
 ghost use Rattle.std.specs.Prelude.{◌≡◌, ◌≤◌, ◌<◌, ◌≢◌, ◌↔◌, ◌⊎◌, ◌+◌, false, true, Some, IfErr, IfNone};
 ghost use Rattle.std.specs.Prelude.{IfOk, IfSome, IsErrOf, IsSome, OnErr, OnOk, is_some, length, map};
 ghost use Rattle.std.specs.Prelude.{max, option_to_list, slice_get, vec_len};
@@ -26,8 +26,8 @@ use std::thread::Threads;
 use wire::{Watch, Wire};
 use workers::{Gate, Report};
 
-/// A space whose nodes lie on disks, and its workers, once they are started. Where it is let go,
-/// the workers are asked to stop; [`Space::close`] also waits for their end.
+/// A space whose nodes are on disks, and its workers once they are started. When it is dropped, it
+/// asks the workers to stop; [`Space::close`] also waits until they have ended.
 #[derive(Drop)]
 pub struct Space<D: Disk> {
     alloc: Global,
@@ -41,14 +41,14 @@ pub struct Space<D: Disk> {
 }
 
 impl<D: Disk + Drop> Space<D> {
-    /// Opens a space of this configuration on these disks, the first for node 0. Where nothing was
-    /// ever created on a disk, its node is a new one; else it goes on as it was saved last. Disks
-    /// that hold nodes are those of one space that was closed or stopped earlier.
+    /// Opens a space of this configuration on these disks, the first for node 0. If nothing was
+    /// ever created on a disk, its node is new; otherwise it continues from its last saved state.
+    /// Disks that hold nodes have to be those of one space that was closed or stopped earlier.
     ///
-    /// `Disks` where there are fewer or more disks than nodes, or where a disk holds a node of
-    /// another shape or number; `Refused` with BadImage, ImageTooLarge or Disk for the cause that
-    /// [`cell::find`] has, with Memory where a growth was refused, and with nothing else; never
-    /// `Config`. All disks are then given up.
+    /// `Disks` if the number of disks isn't the number of nodes, or if a disk holds a node of
+    /// another shape or number. `Refused` with `BadImage`, `ImageTooLarge` or `Disk` for the causes
+    /// that [`cell::find`] lists, and with `Memory` if allocation failed; with nothing else. Never
+    /// `Config`. After an error all disks are dropped.
     pub fn open(alloc: Global, config: &Config, disks: Vec<D>) -> Result<Space<D>, OpenFault>
         ensures disks { vec_len disks ≢ config.now.shape.nodes → IsErrOf result fault.Disks }
         ensures other { IsErrOf result fault.Disks → vec_len disks ≡ config.now.shape.nodes →
@@ -75,7 +75,7 @@ impl<D: Disk + Drop> Space<D> {
         })
     }
 
-    /// Begins a collection cycle: an event of node 0, refused as [`Event::Begin`] is.
+    /// Begins a collection cycle: an event of node 0, which fails as [`Event::Begin`] does.
     pub fn begin<R: Wait>(&self, rt: &R) -> Result<Answer, Refusal> {
         match self.program(0) {
             Some(program) => program.act(rt, Event::Begin),
@@ -83,9 +83,9 @@ impl<D: Disk + Drop> Space<D> {
         }
     }
 
-    /// Restarts a node: it goes on as its disk holds it. NoNode where there is no node of that
-    /// number; Disk where the device failed, Memory: the node's cell is then closed, until a
-    /// restart is Ok.
+    /// Restarts a node: it continues from the state that its disk holds. `NoNode` if there is no
+    /// node of that number; `Disk` if the device failed; `Memory` if allocation failed. After the
+    /// last two, the node's cell is closed until a restart succeeds.
     pub fn restart<R: Wait>(&self, rt: &R, node: u8) -> Result<(), Refusal>
         ensures no_node { self.now.plan.nodes ≤ node → IfErr result (λ e. e ≡ refusal.NoNode) }
         ensures others { node < self.now.plan.nodes
@@ -109,7 +109,7 @@ impl<D: Disk + Drop> Space<D> {
         }
     }
 
-    /// A right to look at the space's board; none after the sixteenth.
+    /// A watch of the space's board; `None` after the sixteenth.
     pub fn watch(&mut self) -> Option<Watch>
         ensures of { IfSome result (λ x. IsWatchOf (arc_value self.new.wire) x) }
         ensures left { vec_len self.old.watches
@@ -124,8 +124,8 @@ impl<D: Disk + Drop> Space<D> {
     }
 
     /// The last cycle that the watch knows node 0 to have ended: the one on the board, or a later
-    /// one that the watch was told. It is never earlier than what the watch saw before. Node 0 had
-    /// ended it, and was saved so.
+    /// one that the watch was told of. It is never earlier than what the watch saw before. Node 0
+    /// had ended that cycle, and had been saved in such a state.
     pub fn look(&self, watch: &mut Watch) -> Cycle
         requires { IsWatchOf (arc_value self.now.wire) watch.old }
         ensures same { IsSameWatch watch.old watch.new }
@@ -146,8 +146,8 @@ impl<D: Disk + Drop> Space<D> {
         }
     }
 
-    /// Stops the workers, waits for their end, and answers all their reports, sorted by node; none
-    /// where none was started.
+    /// Stops the workers, waits until they have ended, and returns all their reports, sorted by
+    /// node. The result is empty if no worker was started.
     pub fn close<R: Threads>(self, rt: &R) -> Vec<Report>
         ensures count { vec_len result ≡ worker_count self.team }
         ensures sorted { IsNonDecreasingBy (λ r. r.node) result.items }
@@ -161,11 +161,11 @@ impl<D: Disk + Drop> Space<D> {
 }
 
 impl<D: Disk + Send + Drop + 'static> Space<D> {
-    /// Starts a worker for each node, which asks the gate at each point of its turns. It is started
-    /// once.
+    /// Starts a worker for each node. The workers ask the gate at each point of their turns. A
+    /// space is started once.
     ///
-    /// Memory where a growth or a thread was refused: the workers that were started are then
-    /// stopped and joined, and it may be started again.
+    /// `Memory` if an allocation or the creation of a thread failed. The workers that had been
+    /// started are then stopped and joined, and `start` may be called again.
     pub fn start<R, G>(&mut self, rt: &R, gate: Arc<G>) -> Result<(), Refusal>
     where
         R: Threads + Wait + Clone + Send + Drop + 'static,
@@ -185,14 +185,15 @@ impl<D: Disk + Send + Drop + 'static> Space<D> {
         Ok(())
     }
 
-    /// Waits for the end of a node's worker, where one runs; restarts the node, as
-    /// [`Space::restart`] does; and starts a new worker for it, with the configuration's turns,
-    /// which asks this gate. Nobody ends the old worker: its gate does, or it has taken its turns.
+    /// Waits until a node's worker has ended, if one is running, and restarts the node, as
+    /// [`Space::restart`] does. Then it starts a new worker for the node, with the configuration's
+    /// turns, which asks this gate. `revive` doesn't end the old worker: that ends when its gate
+    /// ends it or its turns are over.
     ///
-    /// NoNode where there is no node of that number; Memory where room for the worker or its report
-    /// was refused: these change nothing, and the old worker goes on. Disk where the device failed,
-    /// Memory: the node's cell is then closed, until a restart is Ok; or Memory where the thread
-    /// was refused. No worker is started then, and the old one has ended.
+    /// `NoNode` if there is no node of that number, and `Memory` if there is no room for the worker
+    /// or its report: these change nothing, and the old worker continues. `Disk` or `Memory` if the
+    /// restart fails: the node's cell is then closed until a restart succeeds. `Memory` also if the
+    /// new worker can't be started. After these, the old worker has ended, and there is no new one.
     pub fn revive<R, G>(&mut self, rt: &R, node: u8, gate: Arc<G>) -> Result<(), Refusal>
     where
         R: Threads + Wait + Clone + Send + Drop + 'static,

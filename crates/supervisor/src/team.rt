@@ -1,5 +1,5 @@
-//! The threads of a space's workers. Each gets its order through a channel that was filled before
-//! the thread was made, and every thread is joined or asked to stop.
+//! The threads of a space's workers. Each receives its order through a channel that was filled
+//! before the thread was created. Every thread is joined or asked to stop.
 ghost use Rattle.std.specs.Prelude.{◌≡◌, ◌≤◌, ◌<◌, ◌+◌, IfErr, IfOk, OnErr, OnOk, length};
 ghost use Rattle.std.specs.Prelude.{vec_capacity, vec_len};
 ghost use Rattle.std.specs.List.Sorted.{IsNonDecreasingBy};
@@ -20,14 +20,14 @@ pub struct Plan {
     pub turns: u32,
 }
 
-// What a worker is told first: its node, and how many turns it takes at most.
+// What a worker receives first: its node, and how many turns it takes at most.
 #[derive(Drop)]
 struct Order {
     node: u8,
     turns: u32,
 }
 
-// Asks the workers to stop where it is let go.
+// Asks the workers to stop when it is dropped.
 struct Halt {
     stop: Arc<Stop>,
 }
@@ -39,15 +39,15 @@ impl Drop for Halt {
     }
 }
 
-// A worker that nobody has joined yet, and its node.
+// A worker that hasn't been joined yet, and its node.
 #[derive(Drop)]
 struct Worker {
     node: u8,
     handle: JoinHandle<Report>,
 }
 
-/// Workers in threads of their own, at most one a node, and the reports of those that were joined.
-/// Where it is let go the workers are asked to stop, and [`Team::close`] also waits for their end.
+/// Workers in threads, at most one for each node, and the reports of those that were joined. When
+/// it is dropped, the workers are asked to stop; [`Team::close`] also waits until they have ended.
 #[derive(Drop)]
 pub struct Team {
     halt: Halt,
@@ -56,7 +56,7 @@ pub struct Team {
     ghost room: { vec_len workers + vec_len reports ≤ vec_capacity reports },
 }
 
-// What a worker's thread does: it receives its order, and takes its turns.
+// What a worker's thread does: it receives its order and takes its turns.
 fn work<R: Wait, S: Site, G: Gate>(
     rt: &R,
     orders: &Receiver<Order>,
@@ -72,7 +72,7 @@ fn work<R: Wait, S: Site, G: Gate>(
     run_node(rt, site, gate, node, plan.nodes, turns, stop).report
 }
 
-// Starts the thread of a worker: its order waits in a channel before the thread is made.
+// Starts the thread of a worker. Its order is in the channel before the thread is created.
 fn start_thread<R, S, G>(
     rt: &R,
     alloc: Global,
@@ -107,7 +107,7 @@ where
     }
 }
 
-// Sorts reports by their nodes.
+// Sorts reports by node.
 fn sort(reports: &mut Vec<Report>)
     ensures count { vec_len reports.new ≡ vec_len reports.old }
     ensures sorted { IsNonDecreasingBy (λ r. r.node) reports.new.items }
@@ -118,7 +118,7 @@ fn sort(reports: &mut Vec<Report>)
 impl Team {
     ghost use Rattle.supervisor.specs.Teams.{HasRoom};
 
-    // No worker yet, with room for those of this plan and for their reports.
+    // No workers yet, with room for those of this plan and for their reports.
     fn empty(alloc: Global, plan: Plan) -> Result<Team, Refusal>
         ensures room { IfOk result (λ t. plan.nodes ≤ vec_capacity t.workers) }
         ensures reports { IfOk result (λ t. plan.nodes ≤ vec_capacity t.reports) }
@@ -137,7 +137,7 @@ impl Team {
         })
     }
 
-    // Adds a worker, for whom there is room.
+    // Adds a worker, for which there is room.
     fn add(&mut self, worker: Worker)
         requires room { vec_len self.old.workers < vec_capacity self.old.workers }
         requires reports { vec_len self.old.workers + vec_len self.old.reports
@@ -150,10 +150,10 @@ impl Team {
     }
 
     /// Starts a worker for each site, the first for node 0. Each receives its order, its node and
-    /// the greatest number of its turns, through a channel of its own.
+    /// its turn limit, through a channel of its own.
     ///
-    /// Memory where a growth or a thread was refused: the workers that were started are then
-    /// stopped and joined.
+    /// `Memory` if an allocation or the creation of a thread failed: the workers that had been
+    /// started are then stopped and joined.
     pub fn start<R, S, G>(
         rt: &R,
         alloc: Global,
@@ -181,8 +181,8 @@ impl Team {
         Ok(team)
     }
 
-    /// Starts one more worker, of a node that has none. Memory where a growth or a thread was
-    /// refused; nothing was started then.
+    /// Starts one more worker, for a node that has none. `Memory` if an allocation or the creation
+    /// of the thread failed; nothing was started then.
     pub(crate) fn begin<R, S, G>(
         &mut self,
         rt: &R,
@@ -219,8 +219,8 @@ impl Team {
         Ok(self.workers.reserve(1)?)
     }
 
-    /// Makes room for one more worker and its report, and waits for the end of the node's worker,
-    /// where there is one. Memory where that room was refused: nobody is waited for then.
+    /// Makes room for one more worker and its report, and waits until the node's worker has ended,
+    /// if it has one. `Memory` if allocating that room failed: it waits for nothing then.
     pub(crate) fn await_end<R: Threads>(&mut self, rt: &R, node: u8) -> Result<(), Refusal>
         ensures room { OnOk result (HasRoom self.new) }
         ensures started { vec_len self.new.workers + vec_len self.new.reports
@@ -241,8 +241,8 @@ impl Team {
         self.halt.stop.ended() >= (self.workers.len() + self.reports.len()) as u64
     }
 
-    /// Stops the workers, waits for their end, and answers all their reports, sorted by node. It
-    /// takes no memory.
+    /// Stops the workers, waits until they have ended, and returns all their reports, sorted by
+    /// node. It allocates nothing.
     pub fn close<R: Threads>(self, rt: &R) -> Vec<Report>
         ensures count { vec_len result ≡ vec_len self.workers + vec_len self.reports }
         ensures sorted { IsNonDecreasingBy (λ r. r.node) result.items }

@@ -1,4 +1,4 @@
--- One line more of those at the front.
+-- One line more at the end of those already formatted.
 use Rattle.std.proofs.Common.{◌≡◌, ℕ, suc, ◌+◌, List, [], ◌∷◌, ◌++◌, length, map, take, slice_get, Some, None, ◌<◌, ap, ◌∙◌, sym, arith}
 use Rattle.std.proofs.Math.Seq.{take-suc}
 use Rattle.std.proofs.lemmas.List.{map-append}
@@ -18,7 +18,7 @@ next_line lines k l there =
     ∙ ap (λ z. map line_text (take k lines) ++ line_text z ∷ [])
     (get_or_from_slice_get lines k l l there)
 
--- there is a line at every place that is taken
+-- there is a line at every place that is read
 pub never_past : (lines : List Line) (k : ℕ) → k < length lines → slice_get lines k ≡ None → ⊥
 never_past lines k below past =
     let there = slice_get-some lines k below in

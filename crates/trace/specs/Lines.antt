@@ -53,7 +53,7 @@ word_of Ack = codes "ack"
 word_of Save = codes "save"
 word_of Reopen = codes "reopen"
 
--- a refusal is written by its number
+-- a refusal is written as its number
 abbrev pub outcome_text : Outcome → List ℕ
 outcome_text Done = codes "ok"
 outcome_text Repeat = codes "repeat"

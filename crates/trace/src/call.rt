@@ -1,5 +1,5 @@
-//! What was asked of a node's thread, and what came of it, each in a few bytes. Their words are
-//! those of scripts.
+//! What a node's thread was asked to do and the outcome, each in a few bytes. The words are those
+//! of scripts.
 ghost use Rattle.std.specs.Prelude.{◌≡◌, Some};
 ghost use Rattle.trace.specs.Lines.{call_of, outcome_text, word_of};
 
@@ -7,7 +7,7 @@ use ids::Refusal;
 use model::Event;
 use std::fmt;
 
-/// What was asked of a node's thread: an event of its node, a save, or a reopening of its disk.
+/// What a node's thread was asked to do: an event of its node, a save, or a reopening of its disk.
 #[derive(Clone, Copy, Debug, PartialEq, Eq)]
 pub enum Call {
     Alloc,
@@ -34,7 +34,7 @@ pub enum Call {
 }
 
 impl Call {
-    /// The call that is this event.
+    /// The call for this event.
     pub fn of(event: &Event) -> Call
         ensures { result ≡ call_of event.now }
     {
@@ -61,7 +61,7 @@ impl Call {
         }
     }
 
-    /// The call's word, as scripts have it; `reopen` for a reopening.
+    /// The call's word, as in scripts; `reopen` for a reopening.
     pub fn word(self) -> &'static str
         ensures { result.now ≡ word_of self }
     {
@@ -91,12 +91,12 @@ impl Call {
     }
 }
 
-/// What came of a call.
+/// The outcome of a call.
 #[derive(Clone, Copy, Debug, PartialEq, Eq)]
 pub enum Outcome {
-    /// It was done.
+    /// It succeeded.
     Done,
-    /// The message was taken in before.
+    /// The message had been received before.
     Repeat,
     /// The message came before its turn.
     Early,

@@ -1,5 +1,5 @@
-//! The last events, saves and reopenings of a node, and what came of them, for who looks for a
-//! fault. It is of a fixed length, and adding to it takes no memory.
+//! The last events, saves and reopenings of a node with their outcomes, for debugging. A trace has
+//! a fixed length, and adding to it allocates nothing.
 #![tactic(auto)]
 
 mod call;

@@ -1,4 +1,5 @@
-//! The last calls, in room that is made once. So a line can be added where no memory is left.
+//! The last calls, in memory that is allocated once. So a line can be added even if no memory is
+//! left.
 ghost use Rattle.std.specs.Prelude.{◌≡◌, ◌++◌, [], ◌∷◌, map, Some, IfOk, IfErr, string_bytes};
 ghost use Rattle.circular_buffer.specs.Buffer.{keep_last};
 ghost use Rattle.ids.specs.declared.limits.TheConstants.{TRACE_EVENTS};
@@ -12,8 +13,8 @@ use std::alloc::Global;
 use std::fmt;
 use std::marker::Model;
 
-/// A call and what came of it. Its text is the call's word, and `ok`, `repeat`, `early` or the
-/// number of the refusal.
+/// A call and its outcome. Its text is the call's word, and `ok`, `repeat`, `early` or the number
+/// of the refusal.
 #[derive(Clone, Copy, Debug, PartialEq, Eq)]
 pub struct Line {
     pub call: Call,
@@ -33,7 +34,7 @@ pub struct Trace {
     lines: HeapCircularBuffer<Line, Global>,
 }
 
-// Written out, so that the crates above need not prove anew how each field is dropped.
+// Written out, so that the crates above need not prove again how each field is dropped.
 impl Drop for Trace {
     fn drop(self) {
         let Trace { lines: _ } = self;
@@ -53,7 +54,7 @@ impl Model for Trace {
 }
 
 impl Trace {
-    /// A trace of no call yet, with room for all that it will hold. `Memory` where that is refused.
+    /// An empty trace, with room for all that it will hold. `Memory` if allocation fails.
     pub fn new(alloc: Global) -> Result<Trace, Refusal>
         ensures empty { IfOk result (λ t. t ≡ []) }
         ensures refused { IfErr result (λ e. e ≡ Memory) }
@@ -62,7 +63,7 @@ impl Trace {
         Ok(Trace { lines })
     }
 
-    /// Adds a call, in place of the oldest one where the trace is full. It takes no memory.
+    /// Adds a call. If the trace is full, it replaces the oldest one. It allocates nothing.
     pub fn push(&mut self, call: Call, outcome: Outcome)
         ensures { self.new
             ≡ keep_last TRACE_EVENTS (self.old ++ record { call = call; outcome = outcome } ∷ []) }
@@ -70,7 +71,7 @@ impl Trace {
         self.lines.push_back(Line { call, outcome });
     }
 
-    /// The texts of the calls, the oldest first. `Memory` where a growth was refused.
+    /// The texts of the calls, the oldest first. `Memory` if allocation fails.
     pub fn lines(&self, alloc: Global) -> Result<Vec<String>, Refusal>
         ensures texts { IfOk result (λ v. map string_bytes v.items ≡ map line_text self.now) }
         ensures refused { IfErr result (λ e. e ≡ Memory) }

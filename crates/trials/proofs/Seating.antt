@@ -38,7 +38,7 @@ next-new shape nodes all n number h new is = (
       (pushed-at nodes n k m found),
 )
 
--- what holds of all holds of the one that is taken from the front, and of those after it
+-- what holds of all holds of the first element, and of those after it
 pub first-all : {A : Type 0} (P : A → Type 0) (xs : List A) (x : A) → 0 < length xs → All P xs
     → x ≡ get_or xs 0 x → P x
 first-all P xs x some all is = subst P (sym is) (All-get_or P xs 0 x some all)

@@ -1,5 +1,4 @@
-//! Cells of new nodes on a wire, which are saved in memory. Their disks can be told to fail and to
-//! crash.
+//! Cells of new nodes on a wire, saved in memory. A case can make their disks fail and crash.
 ghost use Rattle.std.specs.Prelude.{◌≡◌, true, All, IfOk};
 ghost use Rattle.model.specs.Steps.{is_own};
 ghost use Rattle.wire.specs.Readers.{IsSeatOf, IsWatchOf};
@@ -18,7 +17,7 @@ use node::Node;
 use std::alloc::Global;
 use wire::{Inbound, Outbound, Watch, Wire};
 
-// A cell, with the wire on which it sits.
+// A cell, with the wire that its seat is on.
 #[derive(Drop)]
 struct Seated<'a> {
     wire: &'a Wire,
@@ -33,7 +32,7 @@ impl Seated<'_> {
         self.cell.act(self.wire, event)
     }
 
-    // The event, so often, up to the first refusal; the last answer.
+    // Repeats the event this many times, or until one fails; the last answer.
     fn repeat(&mut self, event: Event, count: u64) -> Result<Answer, Refusal>
         requires { is_own event ≡ true }
     {
@@ -71,7 +70,7 @@ impl Seated<'_> {
         self.cell.unsaved()
     }
 
-    // From now on the k-th call of its disk fails, and all later ones.
+    // Makes the k-th call of its disk from now on fail, and all later ones.
     fn fail(&mut self, k: u64) {
         self.cell.fail_from(k);
     }
@@ -116,7 +115,7 @@ fn seat_all<'a>(
     Ok(seated)
 }
 
-/// A case over the cells of new nodes.
+/// A case for the cells of new nodes.
 pub fn run(alloc: Global, shape: Shape, lines: &[Line<'_>], out: &mut Out) -> Result<(), Stop> {
     match on_wire(alloc, shape, lines, out) {
         Ok(taken) => taken,
@@ -141,7 +140,7 @@ fn on_wire(
     Ok(take_all(cells, lines, out))
 }
 
-// The cells of a case, and a watch that hears nothing.
+// The cells of a case, and a watch that is never told anything.
 #[derive(Drop)]
 struct Cells<'a> {
     alloc: Global,
@@ -196,7 +195,7 @@ fn on_cell(
     Ok(())
 }
 
-// A question to a cell.
+// A query of a cell.
 fn ask(alloc: Global, seated: &mut Seated<'_>, words: &[&str], out: &mut Out) -> Result<(), Stop> {
     match verb(words) {
         "unsaved" => out.debug(&seated.is_unsaved()),
@@ -216,7 +215,7 @@ fn ask(alloc: Global, seated: &mut Seated<'_>, words: &[&str], out: &mut Out) ->
     Ok(())
 }
 
-// Lets the cell's disk fail, or gives its node an event.
+// Makes the cell's disk fail, or gives its node an event.
 fn act(alloc: Global, seated: &mut Seated<'_>, words: &[&str], out: &mut Out) -> Result<(), Stop> {
     match verb(words) {
         "fail" => seated.fail(number(words, 1)?),
@@ -241,7 +240,7 @@ fn put_trace(seated: &Seated<'_>, out: &mut Out) {
     }
 }
 
-// The node that a crash now leaves on the cell's disk, in numbers.
+// The node, in numbers, that a crash now leaves on the cell's disk.
 fn put_crashed(alloc: Global, seated: &Seated<'_>, fill: u8, out: &mut Out) {
     match crashed(alloc, seated, fill) {
         Ok(node) => {

@@ -1,6 +1,6 @@
-//! Workers that end at random points of random turns, and come back, over disks in files, while
-//! programs do what the dice say. At the end all letters came once and in order, and what is there
-//! is what was reached.
+//! Workers that end at random points of random turns and are started again, on disks in files,
+//! while programs act at random. At the end, all letters came exactly once and in order, and
+//! exactly the reachable objects are left.
 ghost use Rattle.std.specs.Prelude.{◌≡◌, IfSome, false, is_some, true};
 
 use crate::endings::{Ends, ending};
@@ -20,16 +20,16 @@ use std::thread::Threads;
 use std::time::{Clock, Duration, Instant};
 use supervisor::Space;
 
-// How many letters may be on their way to a node.
+// How many letters may be in flight to a node.
 const GREATEST_AWAY: usize = 20;
 
-// How long the programs pause after each has done something, in microseconds.
+// How long the programs pause after each has acted, in microseconds.
 const BETWEEN: u64 = 1_000;
 
 // How many slots a node has.
 const SLOTS: u32 = 64;
 
-// How a space is to be tried.
+// The parameters of a trial.
 #[derive(Clone, Copy)]
 struct Plan {
     nodes: u8,
@@ -37,7 +37,7 @@ struct Plan {
     seed: u64,
 }
 
-// A space whose workers end and come back, and its programs.
+// A space whose workers end and are started again, and its programs.
 #[derive(Drop)]
 struct Play<'a, R> {
     rt: &'a R,
@@ -54,7 +54,7 @@ impl<R> Play<'_, R>
 where
     R: Clock + Threads + Wait + Clone + Send + Sync + Drop + 'static,
 {
-    // Each program does something, and workers that ended come back, until the time is over.
+    // Until the time is over, every program acts, and workers that ended are started again.
     fn play(&mut self, end: Instant) -> Result<(), Refusal> {
         let rt = self.rt;
         for _ in rt.forever() {
@@ -144,7 +144,7 @@ fn players_of<R: Wait>(
     Ok(players)
 }
 
-// The programs after they played in a space whose workers end, and how many ended.
+// The programs after they have played in a space whose workers end, and how many workers ended.
 fn played<R>(rt: &R, alloc: Global, plan: Plan) -> Option<(Vec<Player>, u64)>
 where
     R: Files<File = File> + Clock + Threads + Wait + Clone + Send + Sync + Drop + 'static,
@@ -178,7 +178,7 @@ where
     Some((players, ends))
 }
 
-// Its space came back: each takes the letters that are there.
+// The space was opened again: each program accepts the letters that are there.
 fn take_all<R: Wait>(
     rt: &R,
     space: &Space<FileDisk>,
@@ -194,7 +194,7 @@ fn take_all<R: Wait>(
     Ok(())
 }
 
-// The cycle that is begun now.
+// Begins a cycle; its number.
 fn begin<R: Wait>(rt: &R, space: &Space<FileDisk>) -> Option<u64> {
     match space.begin(rt) {
         Ok(Answer::Begun(cycle)) => Some(cycle),
@@ -202,7 +202,8 @@ fn begin<R: Wait>(rt: &R, space: &Space<FileDisk>) -> Option<u64> {
     }
 }
 
-// The space comes back, all letters are taken, and then one more cycle is swept: its number.
+// Opens the space again, accepts all letters, and then runs one more cycle until it is swept; its
+// number.
 fn settle<R>(rt: &R, alloc: Global, plan: Plan, players: &mut [Player]) -> Option<u64>
 where
     R: Files<File = File> + Wait,
@@ -218,7 +219,7 @@ where
     cycle
 }
 
-// What came of a space that was tried so.
+// The findings of a trial.
 fn found_in<R>(rt: &R, alloc: Global, plan: Plan) -> Option<Found>
 where
     R: Files<File = File> + Clock + Threads + Wait + Clone + Send + Sync + Drop + 'static,
@@ -236,7 +237,7 @@ where
     Some(found)
 }
 
-/// A command over workers that end.
+/// A command about workers that end.
 pub(crate) fn take<R>(rt: &R, alloc: Global, words: &[&str], out: &mut Out) -> Result<(), Stop>
 where
     R: Files<File = File> + Clock + Threads + Wait + Clone + Send + Sync + Drop + 'static,
@@ -255,8 +256,8 @@ where
     Ok(())
 }
 
-// Whether all is right, and whether it went far enough; or, where that isn't asked, all that was
-// found.
+// Prints whether all is right and whether the trial went far enough, or, if that isn't asked, all
+// findings.
 fn put(found: Option<Found>, least: Option<u64>, out: &mut Out) {
     match (found, least) {
         (Some(found), Some(least)) => out.debug(&(found.is_right(), found.has(least))),

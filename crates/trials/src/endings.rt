@@ -6,21 +6,21 @@ use std::sync::atomic::{AtomicBool, AtomicU64, Ordering};
 use std::time::Clock;
 use workers::{Gate, Point, Stage};
 
-// At one of so many points a worker ends.
+// On average, a worker ends at one in this many points.
 const POINTS: u64 = 400;
 
-/// A gate that pauses before each turn, and ends workers as the dice say.
+/// A gate that pauses before each turn, and ends workers at pseudorandom points.
 #[derive(Drop)]
 pub struct Ends<R> {
     rt: R,
     seed: u64,
     // How often it was asked.
     asked: AtomicU64,
-    // The workers that it ended, and that haven't come back.
+    // The workers that it has ended and that haven't been started again.
     ended: Vec<AtomicBool>,
 }
 
-// A number that looks random, the same one for each number.
+// A pseudorandom number, the same one for each argument.
 fn mixed(number: u64) -> u64 {
     let first = number.wrapping_mul(0x9E37_79B9_7F4A_7C15);
     let second = (first ^ (first >> 30)).wrapping_mul(0xBF58_476D_1CE4_E5B9);
@@ -28,7 +28,7 @@ fn mixed(number: u64) -> u64 {
 }
 
 impl<R> Ends<R> {
-    /// Whether it ended the worker of this node since the last time.
+    /// Whether it ended the worker of this node since the last call.
     pub fn has_ended(&self, node: u8) -> bool {
         match self.ended.get(usize::from(node)) {
             Some(ended) => ended.swap(false, Ordering::SeqCst),
@@ -56,7 +56,7 @@ impl<R: Clock> Gate for Ends<R> {
     }
 }
 
-/// A gate that ends workers of so many nodes, at the points that this seed has.
+/// A gate that ends workers of this many nodes, at the points that this seed determines.
 pub fn ending<R: Clone + Drop>(
     rt: &R,
     alloc: Global,

@@ -1,5 +1,5 @@
-//! Gates of workers, which pause before each turn, hold a worker up or end it, and how long who
-//! waits pauses.
+//! Gates of workers, which pause before each turn and may hold a worker up or end it. Pollers pause
+//! for the same time.
 use std::alloc::Global;
 use std::sync::atomic::{AtomicBool, Ordering};
 use std::sync::{Arc, Wait};
@@ -7,7 +7,7 @@ use std::thread;
 use std::time::{Clock, Duration};
 use workers::{Gate, Point, Stage};
 
-// How many microseconds a worker pauses before each turn, and who waits before the next look.
+// How many microseconds a worker pauses before each turn, and a poller before it looks again.
 const PAUSE: u64 = 200;
 
 /// Sleeps as long as a worker pauses before each turn.
@@ -33,9 +33,9 @@ impl Gate for Open {
     fn at(&self, _point: Point) {}
 }
 
-/// A gate that pauses before each turn. It may hold a node's worker at a stage until it may go,
-/// where another one's turn begins once the first one waits, and lets it go at its end; and it may
-/// end a worker at a point.
+/// A gate that pauses before each turn. It may hold a node's worker at a stage: the other workers
+/// begin their turns once that one waits, and it continues when another one's turn is over. The
+/// gate may also end a worker at a point.
 #[derive(Drop)]
 pub(crate) struct Holds<R> {
     rt: R,
@@ -46,7 +46,7 @@ pub(crate) struct Holds<R> {
 }
 
 impl<R> Holds<R> {
-    /// From now on the worker that is held may go on.
+    /// From now on the worker that is held may continue.
     pub(crate) fn let_go(&self) {
         self.may_go.store(true, Ordering::SeqCst);
     }
@@ -85,7 +85,8 @@ impl<R: Clock + Wait> Gate for Holds<R> {
     }
 }
 
-/// A gate that holds this node's worker at this stage, and ends one at this point, if any.
+/// A gate that holds this node's worker at this stage, and ends a worker at this point, if these
+/// are given.
 pub(crate) fn gate<R: Clone + Drop>(
     rt: &R,
     alloc: Global,

@@ -1,5 +1,5 @@
-//! The steps of a wire between two new nodes, on which node 0 sends its acknowledgement of nothing.
-//! A case can look at a mailbox while it is being filled or emptied.
+//! The steps of a wire between two new nodes, on which node 0 sends an acknowledgement of no
+//! messages. A case can look at a mailbox while it is being filled or emptied.
 ghost use Rattle.std.specs.Prelude.{◌≡◌, ℕ, Some, length, slice_get, IfOk};
 ghost use Rattle.msg.specs.Grammar.{ack_frame};
 ghost use Rattle.node.specs.Keeping.{WholeNode, new_whole};
@@ -54,7 +54,7 @@ impl Joined {
         })
     }
 
-    // A save of node 0, whose ended cycle goes onto the board, and is heard of.
+    // A save of node 0, whose ended cycle is raised on the board and reported to the watch.
     fn raise(&mut self, out: &mut Out) {
         save(&self.wire, &mut self.first);
         let raised = raise(&self.wire, &mut self.first);
@@ -62,7 +62,7 @@ impl Joined {
         out.text("ok");
     }
 
-    // So many frames, each sent and then taken; whether none was missing.
+    // Sends and takes this many frames, one after another; whether none was missing.
     fn repeat(&mut self, count: u64) -> Result<bool, Refusal> {
         for _ in 0..count {
             let sent = send(&self.wire, self.alloc, &mut self.first)?;
@@ -118,7 +118,7 @@ impl Subject for Joined {
     }
 }
 
-/// A case over a wire between two new nodes.
+/// A case for a wire between two new nodes.
 pub(crate) fn run(alloc: Global, lines: &[Line<'_>], out: &mut Out) -> Result<(), Stop> {
     match Joined::new(alloc) {
         Ok(joined) => take_all(joined, lines, out),
@@ -151,7 +151,7 @@ fn new_wire(alloc: Global, shape: Shape) -> Result<(Wire, Vec<NodeSeat>, Watch),
     Ok((wire, seats, watch))
 }
 
-// The bytes of node 0's acknowledgement of nothing.
+// The bytes of node 0's acknowledgement of no messages.
 fn nothing(alloc: Global) -> Result<Vec<u8>, Refusal>
     ensures { IfOk result (λ b. Spells (ack_frame 0 1 0) b.items) }
 {
@@ -161,7 +161,7 @@ fn nothing(alloc: Global) -> Result<Vec<u8>, Refusal>
     encode(alloc, &Frame::Ack(ack))
 }
 
-// Node 0 sends the frame, where the mailbox is empty.
+// Node 0 sends the frame, if the mailbox is empty.
 fn send(wire: &Wire, alloc: Global, seat: &mut NodeSeat) -> Result<bool, Refusal>
     requires { IsSeatOf wire.now seat.old × (width wire.now ≡ 2) × (seat_node seat.old ≡ 0) }
     ensures { IsSame seat.old seat.new }
@@ -174,7 +174,7 @@ fn send(wire: &Wire, alloc: Global, seat: &mut NodeSeat) -> Result<bool, Refusal
     Ok(true)
 }
 
-// Node 1 takes what is there for it from node 0.
+// Node 1 takes the frame from node 0, if there is one.
 fn receive(wire: &Wire, seat: &mut NodeSeat) -> Option<Vec<u8>>
     requires { IsSeatOf wire.now seat.old × (width wire.now ≡ 2) × (seat_node seat.old ≡ 1) }
     ensures { IsSame seat.old seat.new }
@@ -251,7 +251,7 @@ fn raise(wire: &Wire, seat: &mut NodeSeat) -> Raised
     wire.raise(seat, Cycle { number: 0 })
 }
 
-// How many frames node 0 sent, in so many tries.
+// How many frames node 0 sent in this many attempts.
 fn send_often(wire: &Wire, alloc: Global, seat: &mut NodeSeat, tries: u32) -> u64
     requires { IsSeatOf wire.now seat.old × (width wire.now ≡ 2) × (seat_node seat.old ≡ 0) }
 {
@@ -264,7 +264,7 @@ fn send_often(wire: &Wire, alloc: Global, seat: &mut NodeSeat, tries: u32) -> u6
     sent
 }
 
-// How many frames node 1 took, in so many tries.
+// How many frames node 1 took in this many attempts.
 fn receive_often(wire: &Wire, seat: &mut NodeSeat, tries: u32) -> u64
     requires { IsSeatOf wire.now seat.old × (width wire.now ≡ 2) × (seat_node seat.old ≡ 1) }
 {
@@ -277,7 +277,7 @@ fn receive_often(wire: &Wire, seat: &mut NodeSeat, tries: u32) -> u64
     taken
 }
 
-// Both at once, in a thread each.
+// Both concurrently, each in its own thread.
 fn exchange<R: Threads + Sync>(rt: &R, joined: Joined, tries: u32) -> (u64, u64) {
     let Joined {
         alloc,
@@ -302,8 +302,8 @@ fn exchange<R: Threads + Sync>(rt: &R, joined: Joined, tries: u32) -> (u64, u64)
     )
 }
 
-/// Node 0 tries to send so often, and node 1 to take, in a thread each. Whether frames were sent,
-/// none was taken twice, and all were taken but one that may be left.
+/// Node 0 tries to send this many times and node 1 to take, each in its own thread. Whether frames
+/// were sent, none was taken twice, and all were taken except at most one that is left.
 pub fn exchange_frames<R: Threads + Sync>(
     rt: &R,
     alloc: Global,

@@ -1,4 +1,4 @@
-//! Runs a case: the first line that is read names a subject, and each further one is a command to
+//! Runs a case. The first line that is read names a subject, and each further line is a command to
 //! it, whose answer is printed. `tests/README.md` lists the commands.
 #![tactic(auto)]
 
@@ -34,10 +34,10 @@ use std::sync::Wait;
 use std::thread::Threads;
 use std::time::Clock;
 
-/// Output or memory was refused.
+/// The output or an allocation failed.
 const FAILED: u8 = 1;
 
-/// A line is no command.
+/// A line isn't a command.
 const UNREADABLE: u8 = 2;
 
 fn main(rt: HostRuntime) -> ExitCode {
@@ -47,7 +47,7 @@ fn main(rt: HostRuntime) -> ExitCode {
     }
 }
 
-// Runs the case on standard input, and prints what it answers.
+// Runs the case on standard input, and prints its answers.
 fn run<R>(rt: &R) -> io::Result<u8>
 where
     R: Files<File = File>

@@ -1,4 +1,4 @@
-//! A ring of nodes of which each gives letters to the next one, in threads or on one thread.
+//! A ring of nodes, each of which gives letters to the next one, in threads or on one thread.
 ghost use Rattle.std.specs.Prelude.{◌≡◌, true};
 ghost use Rattle.model.specs.Steps.{is_own};
 
@@ -10,37 +10,38 @@ use std::thread;
 use std::thread::Threads;
 use workers::Site;
 
-// How many turns on one thread may come at the end, besides four for each letter.
+// How many turns on one thread may follow at the end, in addition to four for each letter.
 const GREATEST_TURNS: u32 = 20_000;
 
-// How many letters more a member gives than it takes, so that what its node keeps stays small.
+// How many letters a member may give beyond those that it has accepted, so that its node's state
+// stays small.
 const AHEAD: u32 = 16;
 
 // The register of a member's object.
 const OWN: u16 = 0;
 
-// The register of what came in its last letter.
+// The register of the reference in its last letter.
 const OTHER: u16 = 1;
 
-/// A cell in a ring, which gives letters to the next one, and takes those of the one before it.
+/// A cell in a ring. It gives letters to the next cell, and accepts those of the previous one.
 #[derive(Drop)]
 pub struct Member<'a, S> {
     cell: &'a S,
-    // How many members have taken all their letters.
+    // How many members have accepted all their letters.
     over: &'a AtomicU64,
     next: u8,
     previous: u8,
-    // How many letters it is to give, and to take.
+    // How many letters it is to give, and to accept.
     letters: u32,
     given: u32,
     taken: u32,
-    // How many letters weren't the next one of the member before it.
+    // How many letters weren't the next one of the previous member.
     wrong: u32,
 }
 
 impl<'a, S: Site> Member<'a, S> {
-    /// The member of a ring of so many nodes that works on the cell of this one. It is to give and
-    /// to take so many letters.
+    /// The member of a ring of this many nodes that works on this node's cell. It is to give and to
+    /// accept this many letters.
     pub fn new(
         cell: &'a S,
         over: &'a AtomicU64,
@@ -76,7 +77,7 @@ impl<'a, S: Site> Member<'a, S> {
         let _ = self.act(rt, object);
     }
 
-    // Gives a letter, where it is to and may.
+    // Gives a letter, if one is left to give and it isn't too far ahead.
     fn give<R: Wait>(&mut self, rt: &R) {
         let letter = Event::Give {
             to: self.next,
@@ -105,7 +106,7 @@ impl<'a, S: Site> Member<'a, S> {
         }
     }
 
-    // Gives a letter, saves, sends and takes in what there is, and takes a letter.
+    // Gives a letter, saves, sends and receives what there is, and accepts a letter.
     fn turn<R: Wait>(&mut self, rt: &R) {
         self.give(rt);
         if self.cell.unsaved(rt) {
@@ -118,7 +119,7 @@ impl<'a, S: Site> Member<'a, S> {
         self.take(rt);
     }
 
-    // Takes so many turns, but none once so many members have taken all their letters.
+    // Takes this many turns, but stops once this many members have accepted all their letters.
     fn take_turns<R: Wait>(&mut self, rt: &R, turns: u32, members: u64) {
         for _ in 0..turns {
             if self.over.load(Ordering::SeqCst) == members {
@@ -128,13 +129,13 @@ impl<'a, S: Site> Member<'a, S> {
         }
     }
 
-    // Whether it took all its letters, each once and in order.
+    // Whether it accepted all its letters, each once and in order.
     fn has_taken(&self) -> bool {
         self.taken == self.letters && self.wrong == 0
     }
 }
 
-/// The numbers before and after this one in a ring of so many.
+/// The numbers before and after this one in a ring of this many.
 pub(crate) fn beside(own: u8, nodes: u8) -> (u8, u8) {
     let last = nodes.saturating_sub(1);
     let next = if own < last { own.saturating_add(1) } else { 0 };
@@ -157,7 +158,7 @@ fn turn_each<R: Wait, S: Site>(rt: &R, members: &mut [Member<'_, S>]) {
     }
 }
 
-/// On one thread, until each has taken all its letters; whether that came.
+/// Takes turns on one thread until each member has accepted all its letters; whether that happened.
 pub fn finish<R: Wait, S: Site>(rt: &R, members: &mut [Member<'_, S>], letters: u32) -> bool {
     for _ in 0..letters.saturating_mul(4).saturating_add(GREATEST_TURNS) {
         if have_taken(members) {
@@ -168,7 +169,7 @@ pub fn finish<R: Wait, S: Site>(rt: &R, members: &mut [Member<'_, S>], letters: 
     false
 }
 
-/// Each takes so many turns, in a thread of its own.
+/// Each member takes this many turns, in its own thread.
 pub fn take_turns<R, S>(rt: &R, members: &mut [Member<'_, S>], turns: u32)
 where
     R: Threads + Wait + Sync,

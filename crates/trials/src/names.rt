@@ -2,7 +2,7 @@
 use cases::{Out, Stop, number, verb};
 use ids::Cycle;
 
-/// A command over cycles and laws.
+/// A command about cycles and laws.
 pub(crate) fn take(words: &[&str], out: &mut Out) -> Result<(), Stop> {
     match verb(words) {
         "cycle" => put(Cycle::new(number(words, 1)?), out),
@@ -22,7 +22,7 @@ fn put(cycle: Option<Cycle>, out: &mut Out) {
     }
 }
 
-// Each law is called once.
+// Calls each law once.
 fn call_laws() {
     msg::grammar();
     image::grammar();

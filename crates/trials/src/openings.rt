@@ -1,5 +1,4 @@
-//! Spaces that are opened on disks in memory, which can be told to fail and to crash. No worker is
-//! started.
+//! Opens spaces on disks in memory, which a case can make fail and crash. No worker is started.
 use crate::spaces::config_of;
 use cases::crashes::{change, put_crashes};
 use cases::{Lent, Line, Out, Size, Stop, blank_disks, number, verb};
@@ -8,7 +7,7 @@ use ids::Refusal;
 use std::alloc::Global;
 use supervisor::{OpenFault, Space};
 
-/// A case over the disks of spaces.
+/// A case for the disks of spaces.
 pub(crate) fn run(alloc: Global, lines: &[Line<'_>], out: &mut Out) -> Result<(), Stop> {
     let mut disks = Vec::new(alloc);
     for line in lines {
@@ -45,7 +44,7 @@ fn disk_of(held: &mut [MemoryDisk], node: u8) -> Result<&mut MemoryDisk, Stop> {
     }
 }
 
-// The answer to opening a space on the disks. It is let go of at once.
+// The result of opening a space on the disks. The space is dropped immediately.
 fn open(alloc: Global, held: &mut [MemoryDisk], out: &mut Out) {
     match opened(alloc, held) {
         Ok(()) => out.text("ok"),

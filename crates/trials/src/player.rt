@@ -1,6 +1,6 @@
-//! Programs that do what the dice say, and know which of their letters are to come, whatever the
-//! restarts of their nodes lose. A program writes the label of its last letter into an object, so
-//! that a restart tells it which letters are still known.
+//! Programs that act at random, and know which of their letters will come although restarts of
+//! nodes lose some. A program writes the label of its last letter into an object; after a restart
+//! that label shows which letters its node still has.
 ghost use Rattle.std.specs.Prelude.{◌≡◌, true};
 ghost use Rattle.model.specs.Steps.{is_own};
 
@@ -12,13 +12,14 @@ use std::alloc::{AllocError, Global};
 use std::sync::Wait;
 use workers::Site;
 
-// The register of the object whose word says which letter is to be given next.
+// The register of the object whose word is the label of the next letter to be given.
 const GIVEN: u16 = 0;
 
-// The register of the object whose word says which letter was taken last, and one more.
+// The register of the object whose word is the label of the letter that was accepted last, plus
+// one.
 const TAKEN: u16 = 1;
 
-// The other registers begin here.
+// The first of the other registers.
 const OTHERS: u16 = 2;
 
 /// How many registers a program uses.
@@ -36,10 +37,9 @@ pub(crate) fn dice_of(seed: u64) -> Dice {
     }
 }
 
-/// The program of a node. It gives letters to the next node's program, takes those of the one
-/// before it, and for the rest does what the dice say. After each letter it writes into the word of
-/// an object how far it is, so that after a restart it knows which letters the node still knows of,
-/// but for one.
+/// The program of a node. It gives letters to the next node's program, accepts those of the
+/// previous one, and otherwise acts at random. After each letter it records its progress in the
+/// word of an object. So after a restart it knows which letters the node still has, except for one.
 #[derive(Drop)]
 pub(crate) struct Player {
     next: u8,
@@ -47,7 +47,8 @@ pub(crate) struct Player {
     label: u32,
     given: Vec<Noted>,
     taken: Vec<Noted>,
-    // How many letters came that must not: not from the node before, again, or out of order.
+    // How many letters came that must not come: not from the previous node, a second time, or out
+    // of order.
     wrong: u64,
 }
 
@@ -63,7 +64,7 @@ fn write_word<R: Wait, S: Site>(rt: &R, cell: &S, object: u16, label: u32) {
     let _ = act(rt, cell, Event::SetWord { object, word });
 }
 
-// The word of an object; 0 where it has none.
+// The word of an object; 0 if there is no object.
 fn word<R: Wait, S: Site>(rt: &R, cell: &S, object: u16) -> u64 {
     match act(rt, cell, Event::Word { object }) {
         Ok(Answer::Word(word)) => word,
@@ -71,7 +72,7 @@ fn word<R: Wait, S: Site>(rt: &R, cell: &S, object: u16) -> u64 {
     }
 }
 
-// What is left after a restart: the letters below this label, and maybe one more.
+// What is left after a restart: the letters below this label, and possibly one more.
 fn cut(letters: &mut Vec<Noted>, label: u64) {
     let later = letters
         .iter()
@@ -85,7 +86,8 @@ fn cut(letters: &mut Vec<Noted>, label: u64) {
 }
 
 impl Player {
-    /// The program of a node among so many, which has the objects for its words, and is saved so.
+    /// The program of a node of this many. It has the objects for its words, and has been saved
+    /// with them.
     pub(crate) fn new<R: Wait, S: Site>(
         rt: &R,
         alloc: Global,
@@ -118,7 +120,7 @@ impl Player {
         cut(&mut self.taken, word(rt, cell, TAKEN));
     }
 
-    /// Does something.
+    /// Takes a random step.
     pub(crate) fn step<R: Wait, S: Site>(
         &mut self,
         rt: &R,
@@ -164,7 +166,7 @@ impl Player {
         Ok(self.given.push(noted)?)
     }
 
-    // Takes a letter, where one is there.
+    // Accepts a letter, if one is there.
     fn take<R: Wait, S: Site>(
         &mut self,
         rt: &R,
@@ -180,7 +182,7 @@ impl Player {
         }
     }
 
-    /// Its node was restarted; it takes all letters that are there.
+    /// Its node was restarted; it accepts all letters that are there.
     pub(crate) fn take_all<R: Wait, S: Site>(
         &mut self,
         rt: &R,
@@ -193,8 +195,8 @@ impl Player {
         Ok(())
     }
 
-    // A letter comes that is later than all others, or the one of which it isn't sure that it was
-    // taken.
+    // Records a letter that is later than all others, or is the one of which the program isn't sure
+    // whether it was accepted.
     fn note(&mut self, letter: Letter) -> Result<(), AllocError> {
         let label = letter.label;
         let last = self.taken.last().copied();
@@ -215,7 +217,7 @@ impl Player {
     }
 }
 
-// Whether a letter of this label must not come after the last one.
+// Whether a letter with this label must not follow the last one.
 fn is_wrong(last: Option<Noted>, label: u32) -> bool {
     match last {
         Some(last) => label < last.label || (label == last.label && last.is_sure),
@@ -223,13 +225,13 @@ fn is_wrong(last: Option<Noted>, label: u32) -> bool {
     }
 }
 
-// The program that takes the letters of this one.
+// The program that accepts the letters of this one.
 fn after(players: &[Player], place: usize) -> Option<&Player> {
     let next = place.saturating_add(1);
     players.get(if next < players.len() { next } else { 0 })
 }
 
-/// How many letters of the program in this place weren't taken yet.
+/// How many letters of the program in this place haven't been accepted yet.
 pub(crate) fn away(players: &[Player], place: usize) -> usize {
     match (players.get(place), after(players, place)) {
         (Some(player), Some(next)) => player.given.len().saturating_sub(next.taken.len()),
@@ -237,7 +239,7 @@ pub(crate) fn away(players: &[Player], place: usize) -> usize {
     }
 }
 
-/// What came of the letters of these programs.
+/// Compares the letters that these programs gave with those that they accepted.
 pub(crate) fn compare_all(players: &[Player], found: &mut Found) {
     for (place, player) in players.iter().enumerate() {
         if let Some(next) = after(players, place) {

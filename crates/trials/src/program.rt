@@ -1,4 +1,4 @@
-//! The program of a node, which plays rounds beside the node's worker.
+//! The program of a node, which plays rounds concurrently with the node's worker.
 ghost use Rattle.std.specs.Prelude.{◌≡◌, true};
 ghost use Rattle.model.specs.Steps.{is_own};
 
@@ -18,16 +18,16 @@ use workers::{Report, Site};
 // The register of a program's newest object.
 const OWN: u16 = 0;
 
-// The register of what came in its last letter.
+// The register of the reference in its last letter.
 const OTHER: u16 = 1;
 
 // A register that stays empty.
 const EMPTY: u16 = 2;
 
-// The label of what a Get brings. A letter of another program has its number as label.
+// The label of the answer to a Get. A letter of another program has its number as label.
 const ASKED: u32 = u32::MAX;
 
-// How often who waits tries again, with a pause each time, until it gives up.
+// How often a waiting program tries again, with a pause each time, until it gives up.
 const TRIES: u32 = 100_000;
 
 // An object that a program made, and the word that it wrote into it.
@@ -37,8 +37,8 @@ struct Made {
     word: u64,
 }
 
-// How many letters of another program came, how many answers to a Get, and how much of all that
-// was seen wasn't as it must be.
+// How many letters of another program came, how many answers to a Get, and how often something that
+// was seen was wrong.
 #[derive(Clone, Copy)]
 struct Seen {
     letters: u32,
@@ -47,25 +47,26 @@ struct Seen {
 }
 
 /// The program of a node. In each round it makes an object, gives it to the next node's program,
-/// and takes a letter where one is there. Into an object that it is given it puts its newest one,
-/// asks for it back, and empties the place, so that what is reachable at last is one object a node.
+/// and accepts a letter if one is there. Into an object that it receives it puts its newest object,
+/// asks for that back with a Get, and empties the place. So once all letters and answers have come,
+/// one object of each node is reachable; the program drops that too when it finishes.
 #[derive(Drop)]
 pub struct Program<'a, S> {
     cell: &'a S,
-    // How many programs are over.
+    // How many programs have finished.
     over: &'a AtomicU64,
     node: u8,
     next: u8,
     previous: u8,
     rounds: u32,
     newest: Option<Made>,
-    // What it asked back, oldest first.
+    // The objects that it asked back, the oldest first.
     asked: VecDeque<Made>,
     seen: Seen,
 }
 
 impl<'a, S: Site> Program<'a, S> {
-    /// The program of a node among so many, which plays so many rounds.
+    /// The program of a node of this many, which plays this many rounds.
     pub fn new(
         alloc: Global,
         cell: &'a S,
@@ -159,7 +160,7 @@ impl<'a, S: Site> Program<'a, S> {
         self.must(rt, letter);
     }
 
-    // Takes a letter where one is there, and pauses. Node 0's program begins a cycle, where it may.
+    // Accepts a letter if one is there, and pauses. Node 0's program begins a cycle, if it may.
     fn await_more<R: Clock + Wait>(&mut self, rt: &R) {
         if self.node == 0 {
             let _ = self.act(rt, Event::Begin);
@@ -188,7 +189,7 @@ impl<'a, S: Site> Program<'a, S> {
         self.must(rt, Event::Drop { register: OTHER });
     }
 
-    // Puts its newest object into the one that it is given, asks for it back, and empties the
+    // Puts its newest object into the object that it received, asks for it back, and empties the
     // place.
     fn take_gift<R: Wait>(&mut self, rt: &R, letter: Letter) {
         if letter.label != self.seen.letters {
@@ -206,7 +207,7 @@ impl<'a, S: Site> Program<'a, S> {
         self.note();
     }
 
-    // Puts what a register holds into the object that it is given.
+    // Puts the content of a register into the object that it received.
     fn put<R: Wait>(&mut self, rt: &R, register: u16) {
         let put = Event::Put {
             object: OTHER,
@@ -216,7 +217,7 @@ impl<'a, S: Site> Program<'a, S> {
         self.must(rt, put);
     }
 
-    // Its newest object is asked back.
+    // Records that its newest object was asked back.
     fn note(&mut self) {
         let noted = match self.newest {
             Some(made) => self.asked.push_back(made).is_ok(),
@@ -227,7 +228,7 @@ impl<'a, S: Site> Program<'a, S> {
         }
     }
 
-    // Looks whether what it asked back is what it put there, with the word that it wrote.
+    // Checks that the answer is the object that it put there, with the word that it wrote.
     fn take_back<R: Wait>(&mut self, rt: &R, letter: Letter) {
         self.seen.answers = self.seen.answers.saturating_add(1);
         let Some(made) = self.asked.pop_front() else {
@@ -239,7 +240,7 @@ impl<'a, S: Site> Program<'a, S> {
         }
     }
 
-    // Takes what is still to come, and lets go of its newest object.
+    // Receives what is still to come, and drops its newest object.
     fn finish<R: Clock + Wait>(&mut self, rt: &R) {
         for _ in 0..TRIES {
             if self.has_all() {
@@ -250,7 +251,7 @@ impl<'a, S: Site> Program<'a, S> {
         self.must(rt, Event::Drop { register: OWN });
     }
 
-    // Node 0's program begins cycles until all programs are over.
+    // Node 0's program begins cycles until all programs have finished.
     fn begin_until<R: Clock + Wait>(&self, rt: &R, nodes: u64) {
         if self.node != 0 {
             return;
@@ -265,7 +266,7 @@ impl<'a, S: Site> Program<'a, S> {
     }
 }
 
-/// What all programs came to, and how many objects the workers freed.
+/// What all programs saw, and how many objects the workers freed.
 #[derive(Clone, Copy, Debug)]
 pub struct Went {
     letters: u64,
@@ -285,7 +286,7 @@ impl Went {
         }
     }
 
-    /// Counts what a program came to.
+    /// Adds what a program saw.
     pub fn add<S>(&mut self, program: &Program<'_, S>) {
         let seen = program.seen;
         self.letters = self.letters.saturating_add(u64::from(seen.letters));
@@ -293,7 +294,7 @@ impl Went {
         self.wrong = self.wrong.saturating_add(seen.wrong);
     }
 
-    /// Counts what the workers freed.
+    /// Adds what the workers freed.
     pub fn add_freed(&mut self, reports: &[Report]) {
         for report in reports {
             self.freed = self.freed.saturating_add(report.freed);
@@ -301,7 +302,7 @@ impl Went {
     }
 }
 
-/// Each program in a thread of its own.
+/// Each program in its own thread.
 pub fn play_all<R, S>(rt: &R, programs: &mut [Program<'_, S>], nodes: u8)
 where
     R: Clock + Threads + Wait + Sync,

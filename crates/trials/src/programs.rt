@@ -1,5 +1,5 @@
-//! Spaces of which each node has a program in a thread of its own, beside its worker. What is
-//! printed is the same in each schedule in which every try comes to its end.
+//! Spaces in which each node has a program in its own thread, concurrent with its worker. The
+//! output is the same in each schedule in which no attempt is given up.
 ghost use Rattle.std.specs.Prelude.{◌≡◌, false, is_some};
 
 use crate::gates::{Holds, gate, pause};
@@ -15,7 +15,7 @@ use std::thread::Threads;
 use std::time::Clock;
 use supervisor::Space;
 
-// How often a cycle is tried to be begun, with a pause each time.
+// How often a program tries to begin a cycle, with a pause each time.
 const TRIES: u32 = 100_000;
 
 // The programs of a space.
@@ -35,7 +35,7 @@ fn programs_of<'a, D: Disk + Drop>(
     Ok(programs)
 }
 
-// What the programs of a space come to, each in a thread of its own.
+// What the programs of a space see, each in its own thread.
 fn play_in<R, D>(
     rt: &R,
     alloc: Global,
@@ -58,7 +58,7 @@ where
     Ok(went)
 }
 
-// Begins a cycle, once it may be begun; whether that came.
+// Begins a cycle once that is possible; whether it was.
 fn begin<R: Clock + Wait, D: Disk + Drop>(rt: &R, space: &Space<D>) -> bool {
     for _ in 0..TRIES {
         if space.begin(rt).is_ok() {
@@ -69,8 +69,8 @@ fn begin<R: Clock + Wait, D: Disk + Drop>(rt: &R, space: &Space<D>) -> bool {
     false
 }
 
-// Has all programs play, and then begins three cycles: when the third begins, the first one that
-// began after all programs were over is swept everywhere.
+// Lets all programs play, and then begins three cycles. When the third begins, the first cycle that
+// began after all programs had finished has been swept everywhere.
 fn play_and_sweep<R, D>(
     rt: &R,
     alloc: Global,
@@ -90,7 +90,7 @@ where
     }
 }
 
-// Starts the workers, and has all programs play.
+// Starts the workers, and lets all programs play.
 fn start_and_play<R, D>(
     rt: &R,
     alloc: Global,
@@ -110,8 +110,8 @@ where
     }
 }
 
-/// What came of a space of this size whose programs play so many rounds, each in a thread of its
-/// own beside the workers.
+/// The outcome of a space of this size whose programs play this many rounds, each in its own
+/// thread, concurrently with the workers.
 pub(crate) fn run_programs<R>(rt: &R, alloc: Global, size: Size, rounds: u32) -> Option<Went>
 where
     R: Clock + Threads + Wait + Clone + Send + Sync + Drop + 'static,

@@ -1,17 +1,18 @@
-//! A space after all programs are over, which takes its turns on one thread.
+//! A space after all programs have finished, whose turns are taken on one thread.
 use crate::gates::Open;
 use disk::Disk;
 use std::sync::Wait;
 use supervisor::Space;
 use workers::turn_node;
 
-// More rounds of turns than it takes until nothing is on its way, and a cycle is swept everywhere.
+// More rounds of turns than it takes until nothing is in flight and a cycle has been swept
+// everywhere.
 const ROUNDS: u32 = 100_000;
 
-// More rounds in which no message comes than it takes a node to scan and to sweep all its slots.
+// More rounds without a message than a node needs to scan and sweep all its slots.
 const IDLE: u32 = 40;
 
-// A turn of each node; how many messages came.
+// Takes a turn for each node; how many messages were received.
 fn turn_each<R: Wait, D: Disk + Drop>(rt: &R, space: &Space<D>, nodes: u8) -> u32 {
     let mut received = 0u32;
     for node in 0..nodes {
@@ -24,8 +25,8 @@ fn turn_each<R: Wait, D: Disk + Drop>(rt: &R, space: &Space<D>, nodes: u8) -> u3
     received
 }
 
-/// Turns of each node of a space without workers, one after another, until nothing is on its way
-/// and nothing is left to do.
+/// Takes turns for each node of a space without workers, one after another, until nothing is in
+/// flight and nothing is left to do.
 pub(crate) fn turn_all<R: Wait, D: Disk + Drop>(rt: &R, space: &Space<D>, nodes: u8) {
     let mut idle = 0u32;
     for _ in 0..ROUNDS {

@@ -1,5 +1,5 @@
-//! A worker that its gate ends at a stage, and that comes back. What it had saved is there, and
-//! what it hadn't acknowledged comes again.
+//! A worker that its gate ends at a stage, and that is started again. What its node had saved is
+//! there, and what the node hadn't acknowledged is received again.
 ghost use Rattle.std.specs.Prelude.{◌≡◌, is_some, true};
 
 use crate::gates::{gate, pause};
@@ -24,16 +24,16 @@ const LAST_TURN: u32 = 3;
 // How many letters node 0 gives it.
 const LETTERS: u32 = 40;
 
-// How often it is looked for them.
+// How often the node is polled for them.
 const LOOKS: u32 = 50_000;
 
-// What the object's word becomes while the worker is gone.
+// The word that the object gets while the worker is gone.
 const WORD: u64 = 9;
 
-/// What was seen of a worker that ended and came back.
+/// What was seen of a worker that ended and was started again.
 #[derive(Debug, Drop)]
 pub(crate) struct Seen {
-    /// How many words of the object were read as they were written, before and after.
+    /// How often, before and after, the object's word was read as written.
     words: u32,
     /// The last line of the trace before the new worker's first turn.
     last: String,
@@ -49,7 +49,7 @@ fn reads_word<R: Wait>(rt: &R, program: &Shared<MemoryDisk>) -> bool {
     program.act(rt, Event::Word { object: 0 }) == Ok(Answer::Word(WORD))
 }
 
-// Whether the word is written, and read so.
+// Whether the word could be written, and was read as written.
 fn write_word<R: Wait>(rt: &R, program: &Shared<MemoryDisk>) -> bool {
     let written = Event::SetWord {
         object: 0,

@@ -1,5 +1,5 @@
-//! Cells of new nodes that are shared, on one wire, and a watch that hears of what they raise. What
-//! a call did is seen from outside the lock.
+//! Shared cells of new nodes on one wire, and a watch that is told what they raise. The effect of a
+//! call is seen from outside the lock.
 ghost use Rattle.std.specs.Prelude.{◌≡◌, All, IfOk, Some};
 ghost use Rattle.std.specs.Arc.{arc_value};
 ghost use Rattle.cell.specs.Names.{name_of, IsNamed};
@@ -122,7 +122,7 @@ fn share_all<W: Naming>(
     Ok(shared)
 }
 
-/// A case over the shared cells of new nodes.
+/// A case for the shared cells of new nodes.
 pub fn run<R: Wait>(
     rt: &R,
     alloc: Global,

@@ -1,4 +1,4 @@
-//! Spaces whose nodes have workers. What is printed is the same in each schedule.
+//! Spaces whose nodes have workers. The output is the same in each schedule.
 ghost use Rattle.std.specs.Prelude.{◌≡◌, false, IfSome, is_some};
 
 use crate::gates::{Holds, gate, pause};
@@ -64,7 +64,7 @@ fn await_end<R: Clock + Wait>(rt: &R, space: &Space<MemoryDisk>) {
     }
 }
 
-/// Node 0's program makes an object, and gives node 1 so many letters with it.
+/// Node 0's program makes an object, and gives node 1 this many letters with it.
 pub(crate) fn give<R: Wait>(
     rt: &R,
     program: &Shared<MemoryDisk>,
@@ -86,8 +86,8 @@ pub(crate) fn give<R: Wait>(
     Ok(())
 }
 
-// A space is let go while its workers have many turns left. The gate is the last thing that they
-// let go of.
+// Drops a space while its workers have many turns left. The gate is the last thing that the workers
+// drop.
 fn leave<R>(rt: &R, alloc: Global) -> Option<()>
 where
     R: Clock + Threads + Wait + Clone + Send + Sync + Drop + 'static,
@@ -103,7 +103,7 @@ where
     None
 }
 
-// Starts a space, and lets go of it.
+// Starts a space, and drops it.
 fn start<R>(rt: &R, alloc: Global, gate: &Arc<Holds<R>>) -> Option<()>
 where
     R: Clock + Threads + Wait + Clone + Send + Sync + Drop + 'static,
@@ -115,19 +115,20 @@ where
     started.ok()
 }
 
-// What came of starting and closing a space.
+// What was seen when a space was started and closed.
 #[derive(Clone, Copy, Debug)]
 struct Started {
     answer: Result<(), Refusal>,
     // Whether no worker was left then.
     ended: bool,
-    // How many held the gate then: each worker does until its thread is joined.
+    // How many references to the gate there were then: each worker has one until its thread is
+    // joined.
     holders: usize,
-    // The reports when it was closed.
+    // How many reports there were when it was closed.
     reports: usize,
 }
 
-// Starts a space of so many nodes, whose workers have many turns left, and closes it.
+// Starts a space of this many nodes, whose workers have many turns left, and closes it.
 fn start_all<R>(rt: &R, alloc: Global, nodes: u8) -> Option<Started>
 where
     R: Clock + Threads + Wait + Clone + Send + Sync + Drop + 'static,
@@ -162,7 +163,7 @@ fn stage_of(word: &str) -> Result<Stage, Stop> {
     }
 }
 
-/// A command over spaces.
+/// A command about spaces.
 pub(crate) fn take<R>(rt: &R, alloc: Global, words: &[&str], out: &mut Out) -> Result<(), Stop>
 where
     R: Clock + Threads + Wait + Clone + Send + Sync + Drop + 'static,
@@ -186,7 +187,7 @@ where
     Ok(())
 }
 
-// The commands that have the programs of many nodes do something.
+// The commands in which the programs of many nodes act.
 fn take_many<R>(rt: &R, alloc: Global, words: &[&str], out: &mut Out) -> Result<(), Stop>
 where
     R: Clock + Threads + Wait + Clone + Send + Sync + Drop + 'static,

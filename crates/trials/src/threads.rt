@@ -1,4 +1,4 @@
-//! Threads that work on one wire at once. What is printed is the same whatever their schedule.
+//! Threads that work on one wire concurrently. The output is the same whatever their schedule.
 use crate::mailboxes::exchange_frames;
 use crate::member::{Member, finish, take_turns};
 use crate::spaces::opened;
@@ -11,7 +11,7 @@ use std::sync::atomic::AtomicU64;
 use std::thread::Threads;
 use supervisor::Space;
 
-// The ring of a space's cells, each of which is to give so many letters.
+// The ring of a space's cells, each of which is to give this many letters.
 fn ring<'a, R: Wait, D: Disk + Drop>(
     rt: &R,
     alloc: Global,
@@ -31,8 +31,8 @@ fn ring<'a, R: Wait, D: Disk + Drop>(
     Ok(members)
 }
 
-// The cells of a space as a ring: at most so many turns in a thread each, and then what is left;
-// whether each took in its letters.
+// The cells of a space as a ring. Each takes at most this many turns in its own thread, and the
+// rest follows on one thread; whether each received its letters.
 fn exchange_in<R, D>(
     rt: &R,
     alloc: Global,
@@ -55,7 +55,7 @@ where
     Ok(done)
 }
 
-// The same in a new space of so many nodes.
+// The same in a new space of this many nodes.
 fn exchange<R: Threads + Wait + Sync>(
     rt: &R,
     alloc: Global,
@@ -74,7 +74,7 @@ fn exchange<R: Threads + Wait + Sync>(
     done
 }
 
-/// A command over threads.
+/// A command about threads.
 pub(crate) fn take<R: Threads + Wait + Sync>(
     rt: &R,
     alloc: Global,

@@ -1,5 +1,5 @@
-//! The turns of a worker at one node, one after another on one thread, without the workers of a
-//! team. It shows nothing but how long they take.
+//! The turns of a worker at one node, one after another on one thread, without a team's workers.
+//! This only shows how long they take.
 ghost use Rattle.std.specs.Prelude.{◌≡◌, true};
 ghost use Rattle.model.specs.Steps.{is_own};
 
@@ -11,7 +11,7 @@ use std::alloc::Global;
 use std::sync::Wait;
 use workers::{Site, turn_node};
 
-/// How many words are written before each turn, as the case says: where one is, each turn saves the
+/// How many words are written before each turn, as the case says. If one is, each turn saves the
 /// node.
 pub(crate) fn writes_of(word: &str) -> Result<u32, Stop> {
     match word {
@@ -21,7 +21,7 @@ pub(crate) fn writes_of(word: &str) -> Result<u32, Stop> {
     }
 }
 
-// An event of a node's program, so often; how often it was refused.
+// Repeats an event of a node's program this many times; how often it was refused.
 fn act<R: Wait, S: Site>(rt: &R, site: &S, event: Event, count: u32) -> u64
     requires { is_own event ≡ true }
 {
@@ -34,8 +34,8 @@ fn act<R: Wait, S: Site>(rt: &R, site: &S, event: Event, count: u32) -> u64
     refused
 }
 
-// So many turns of node 0, once its slots are full, and it is saved so. How many events were
-// refused.
+// Takes this many turns of node 0, after filling its slots and saving it. The result is how many
+// events were refused.
 fn take_turns<R: Wait, S: Site>(rt: &R, site: &S, size: Size, turns: u32, writes: u32) -> u64 {
     let object = Event::Alloc {
         register: 0,
@@ -51,8 +51,8 @@ fn take_turns<R: Wait, S: Site>(rt: &R, site: &S, size: Size, turns: u32, writes
     refused
 }
 
-/// Has node 0 of a space, all of whose slots it fills, take so many turns, before each of which its
-/// program writes a word so often. How many events were refused.
+/// Fills all slots of node 0 of a space, and lets it take this many turns. Before each turn its
+/// program writes a word this many times. The result is how many events were refused.
 pub(crate) fn turn_often<R: Wait>(
     rt: &R,
     alloc: Global,

@@ -1,5 +1,5 @@
-//! Turns of a worker over a site that notes what it is asked, and answers from a script. So the
-//! calls of a turn are seen in their order.
+//! Turns of a worker on a site that records what it is asked and gives scripted answers. So the
+//! calls of a turn are seen in order.
 use cases::{Out, Stop, number, verb};
 use ids::{Ref, Refusal};
 use model::{Answer, Event};
@@ -10,14 +10,14 @@ use std::sync::Wait;
 use wire::{Inbound, Outbound, Raised};
 use workers::{Gate, Point, Site, turn_node};
 
-// Notes each call, and each point at which it is asked as a gate.
+// Records each call, and each point at which it is asked as a gate.
 #[derive(Drop)]
 struct Recorder {
     noted: RefCell<String>,
-    // How many events it still answers Scanned; NothingToDo all later ones.
+    // How many more events it answers with `Scanned`; all later ones fail with `NothingToDo`.
     scanned: Cell<u32>,
     unsaved: bool,
-    // Memory for a note was refused.
+    // Allocation for a record failed.
     failed: Cell<bool>,
 }
 
@@ -41,7 +41,7 @@ impl Recorder {
         }
     }
 
-    // Prints what it noted.
+    // Prints what was recorded.
     fn put(&self, out: &mut Out) {
         match self.noted.try_borrow() {
             Ok(noted) => out.text(noted.as_str()),
@@ -101,7 +101,7 @@ impl Gate for Recorder {
     }
 }
 
-/// A command over turns.
+/// A command about turns.
 pub(crate) fn take<R: Wait>(
     rt: &R,
     alloc: Global,

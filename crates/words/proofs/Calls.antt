@@ -1,4 +1,4 @@
--- What `clap` makes of words that begin with no dash.
+-- How `clap` reads arguments that begin with no dash.
 use Rattle.std.proofs.Common.{subst, append-nil, ◌≡◌, ◌∙◌, refl, sym, ap, ℕ, Bool, true, false, ◌&&◌, List, [], ◌∷◌, ◌++◌, Option, Some, None, codes, append_assoc}
 use Rattle.std.specs.Prelude.{option_map, slice_index_or, if◌then◌else◌, option_and_then, fold}
 use Rattle.std.specs.Option.{option_map_or}
@@ -16,7 +16,7 @@ use Rattle.clap.specs.declared.error.kind.ErrorKind.{ErrorKind}
 use Rattle.clap.specs.declared.error.kind.ErrorKind.TheVariants.{DisplayHelp, InvalidSubcommand, MissingRequiredArgument, UnknownArgument}
 use Rattle.words.specs.Called.{Called, call_in, called_of, decode_of, has_no_dash, is_dashed, program, sim, decode, sim_of}
 
--- such a word is no flag, nor `--`
+-- such an argument is neither a flag nor `--`
 record IsBare (v : Text) : Type 0 where
   pub dashes : bytes_eq v (45 ∷ 45 ∷ []) ≡ false
   pub long : long_of v ≡ None
@@ -32,7 +32,7 @@ bare (b ∷ bs) undashed =
       short = ap (λ t. option_and_then short_of_rest (if t then Some bs else None)) undashed;
     }
 
--- before a word, where nothing waits for a value
+-- before an argument, when no option waits for a value
 abbrev ready : Held → ℕ → Walk
 ready h position = record {
   held = h;
@@ -63,7 +63,7 @@ module _ (s : Shape) (names : Names) (h : Held) (position : ℕ) (v : Text)
       ∙ ap (λ o. option_map_or (λ flags. bundle_fault s.rules s.args_override_self flags h) o [])
       b.short
 
-  -- it goes to a positional
+  -- it is read as a positional argument
   pub turn_bare : turn_fault s names (ready h position) v ≡ step_fault s position h value
   turn_bare =
       ap (λ k. or_else k (step_fault s position (word_met s.rules names false idle position v h).0
@@ -82,11 +82,11 @@ sim_shape = slice_index_or (built program).subs 0 (built program).top
 abbrev decode_shape : Shape
 decode_shape = slice_index_or (built program).subs 1 (built program).top
 
--- the faults of a subcommand at words
+-- the faults of a subcommand for these arguments
 abbrev faults : Shape → List Text → Kinds
 faults s words = level_fault s [] nothing_held words false []
 
--- what the matches of a subcommand at words have for an argument
+-- the value of the named argument in a subcommand's matches for these words
 abbrev given : Shape → Text → List Text → Option Text
 given s id words = first_of id (rows_after s.rules [] words)
 
@@ -127,7 +127,7 @@ module _ (v u : Text) (words : List Text) (undashed : is_dashed v ≡ false)
       let second = turn_bare decode_shape [] (after_one (codes "hex")) 2 u neither refl in
       rw (turn, walk) (rw second refl)
 
--- words after a subcommand are the subcommand's
+-- words after a subcommand belong to the subcommand
 walk_stopped : (c : List Rule) (names : Names) (w : Walk) (name : Text) (front words : List Text)
     → fold (walked c names) (record w { stopped = Some (name, front) }) words
     ≡ record w { stopped = Some (name, front ++ words) }
@@ -148,7 +148,7 @@ top = (built program).top
 abbrev names : Names
 names = names_of (built program)
 
--- before the words, and at a subcommand with words behind it
+-- before the words, and at a subcommand with words after it
 abbrev at_start : Walk
 at_start = ready nothing_held 1
 
@@ -209,7 +209,8 @@ module _ (self : Text) (words : List Text) where
   unfolding walk_fault
   stray_found v undashed unnamed = rw (turn_bare top names nothing_held 1 v undashed unnamed) refl
 
--- what the words say is in the matches where `clap` finds no fault, and else they say nothing
+-- if `clap` finds no fault, the matches give what the words ask for; otherwise the words ask for
+-- nothing
 pub data Agrees (faults : Kinds) (said : Option Called) (found : Option (Text × List Row)) : Type 0
   where
     known : faults ≡ [] → said ≡ call_in found → Agrees faults said found
@@ -256,7 +257,7 @@ decode_agrees self (v ∷ u ∷ words) plain =
     let two = two_decode v u words p.0 (parts u words p.1).0 in
     unknown UnknownArgument [] (found.0 ∙ two) refl
 
--- the same of the words after the program's own name
+-- the same, for the words after the program's own name
 abbrev pub AgreesOn : Text → List Text → Text → Type 0
 AgreesOn self words first = Agrees (fault_of program (self ∷ first ∷ words))
     (called_of (first ∷ words)) (subcommand_of program (self ∷ first ∷ words))

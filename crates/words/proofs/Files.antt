@@ -1,4 +1,4 @@
--- The words before and after the `--` that ends options.
+-- The words before and after the `--` that ends the options.
 use Rattle.std.proofs.Common.{◌≡◌, refl, ℕ, false, List, ◌∷◌, Option, Some, None}
 use Rattle.std.specs.Prelude.{is_some, option_and_then, option_map}
 use Rattle.words.specs.Called.{none_of, one_of, run, run_from}

@@ -1,4 +1,4 @@
--- What the matches of the program's words say.
+-- What the matches of the program's arguments say.
 use Rattle.std.proofs.Common.{◌<◌, length, drop, inl, inr, arith, Err, ◌≡◌, ◌∙◌, refl, sym, ap, Bool, true, false, List, [], ◌∷◌, Option, Some, None, Bor, codes}
 use Rattle.std.specs.Prelude.{option_map, Box}
 use Rattle.std.specs.Box.{box_value}
@@ -67,10 +67,10 @@ module _ (m : ArgMatches) (name : Text) (sub : ArgMatches)
       different (codes "decode") name no_decode in
       ap call_in rows_are ∙ rw (sim_apart, decode_apart) refl
 
--- more words than the program's name, where none begins with a dash
+-- more words than the program's name, none of which begins with a dash
 module _ (texts : List Text) (more : 1 < length texts) (plain : has_no_dash (drop 1 texts) ≡ true)
   where
-    -- `clap` refuses them by this error
+    -- `clap` rejects them with this error
     pub read_refused : (e : Error) (fault : WordsError) → HasKind (fault_of program texts) e
         → TellsMemory kind.OutOfMemory (kind_of e) fault
         → Reads (called_of (drop 1 texts)) (Err fault)
@@ -89,7 +89,7 @@ module _ (texts : List Text) (more : 1 < length texts) (plain : has_no_dash (dro
           ]
         ]
 
-    -- `clap` takes them, with these matches
+    -- `clap` accepts them, with these matches
     pub read_taken : (m : ArgMatches) (command : Option Command) → fault_of program texts ≡ []
         → subcommand_rows_of m ≡ subcommand_of program texts
         → option_map call_of command ≡ call_in (subcommand_rows_of m)

@@ -1,4 +1,4 @@
--- The words with which the program is called: what they say, and why they are no command.
+-- The program's arguments: what they ask for, and why they are rejected.
 use Rattle.std.specs.Prelude.{◌≡◌, ◌≢◌, ⊤, Bool, true, false, ◌==◌, not, if◌then◌else◌, ℕ, List, [], ◌∷◌, Option, Some, None, Result, Ok, Err, option_and_then, option_map, codes}
 use Rattle.std.specs.List.{list_all}
 use Rattle.std.specs.Option.{option_map_or}
@@ -11,11 +11,11 @@ use Rattle.words.specs.declared.fault.WordsError.TheVariants.{OutOfMemory, Unkno
 
 -- what the program is asked to do
 pub data Called : Type 0 where
-  -- to run the script of this file, or of standard input
+  -- to run the script in this file, or the one on standard input
   sim : Option (List ℕ) → Called
   -- to print the frame that this word spells
   decode : List ℕ → Called
-  -- to run the script of a file over node threads, as the configuration of a file says
+  -- to run the script in a file on node threads, as the configuration in another file says
   run : List ℕ → List ℕ → Called
 
 abbrev pub call_of : Command → Called
@@ -23,7 +23,7 @@ call_of (command.Sim script) = sim (option_map (λ s. s.now) script)
 call_of (command.Decode hex) = decode hex.now
 call_of (command.Run config script) = run config.now script.now
 
--- what stands after `sim`, and after `decode`
+-- the arguments after `sim`, and after `decode`
 abbrev pub sim_of : List (List ℕ) → Option Called
 sim_of [] = Some (sim None)
 sim_of (script ∷ []) = Some (sim (Some script))
@@ -33,7 +33,7 @@ abbrev pub decode_of : List (List ℕ) → Option Called
 decode_of (hex ∷ []) = Some (decode hex)
 decode_of words = None
 
--- what they say to `clap`
+-- what the arguments mean to `clap`
 abbrev pub called_of : List (List ℕ) → Option Called
 called_of [] = Some (sim None)
 called_of (first ∷ words) =
@@ -47,8 +47,8 @@ is_dashed (b ∷ bs) = b == 45
 abbrev pub has_no_dash : List (List ℕ) → Bool
 has_no_dash words = list_all (λ word. not (is_dashed word)) words
 
--- What stands where options may, but for the first `--`, which ends them; none where a word before
--- that begins with a dash.
+-- The positional arguments: all words except the first `--`, which ends the options. `None` if a
+-- word before it begins with a dash.
 abbrev pub operands : List (List ℕ) → Option (List (List ℕ))
 operands [] = Some []
 operands (word ∷ words) =
@@ -74,24 +74,24 @@ run_of [] = None
 run_of (name ∷ words) =
     if bytes_eq name (codes "run") then option_and_then run_from (operands words) else None
 
--- what is said is read
+-- a command that the arguments give is read
 abbrev pub IsRead : Option Called → Result Command WordsError → Type 0
 IsRead None result = ⊤
 IsRead (Some c) (Ok command) = c ≡ call_of command
 IsRead (Some c) (Err e) = ⊥
 
--- what the words after the program's name say, where none begins with a dash
+-- what the arguments after the program's name ask for, if none begins with a dash
 abbrev pub asked_of : List (List ℕ) → Option Called
 asked_of words = option_map_or (λ c. Some c) (run_of words) (called_of words)
 
--- What words say is read, and words that say nothing are unknown. Memory may be refused in place of
--- either.
+-- What the arguments ask for is read, and arguments that ask for nothing are unknown. Either may
+-- fail with `OutOfMemory` instead.
 abbrev pub Reads : Option Called → Result Command WordsError → Type 0
 Reads said (Ok c) = said ≡ Some (call_of c)
 Reads said (Err Unknown) = said ≡ None
 Reads said (Err OutOfMemory) = ⊤
 
--- what the name and the matches of a subcommand say
+-- what the name and the matches of a subcommand ask for
 abbrev pub call_in : Option (List ℕ × List Row) → Option Called
 call_in None = None
 call_in (Some (name, rows)) =
@@ -99,7 +99,7 @@ call_in (Some (name, rows)) =
     else (if bytes_eq (codes "decode") name then option_map (λ hex. decode hex)
     (first_of (codes "hex") rows) else None)
 
--- want of memory stays that, and every other kind of fault says that the words are unknown
+-- out of memory stays out of memory; any other kind of error means that the arguments are unknown
 pub record TellsMemory {K : Type 0} (memory kind : K) (fault : WordsError) : Type 0 where
   pub wanted : kind ≡ memory → fault ≡ OutOfMemory
   pub other : kind ≢ memory → fault ≡ Unknown

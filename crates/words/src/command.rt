@@ -1,5 +1,5 @@
-//! The words with which the program is called. The kit's reader of arguments takes them apart;
-//! words that begin with a dash are its matter alone, but for `run`, whose `--` is told apart here.
+//! The program's arguments. The kit's argument parser, `clap`, reads them. Arguments that begin
+//! with a dash are left to it alone, except for `run`, whose `--` is handled here.
 ghost use Rattle.std.specs.Prelude.{◌≡◌, ◌<◌, ◌≤◌, false, None, Ok, IfOk, IsTrue, codes, drop, is_some, length, map, option_and_then, option_map, string_bytes};
 ghost use Rattle.std.specs.Str.{bytes_eq};
 ghost use Rattle.clap.specs.Words.{app_of, rule_of, subcommand_rows_of, with_subcommand};
@@ -12,18 +12,18 @@ use std::alloc::{AllocError, Global};
 /// What the program is asked to do.
 #[derive(Clone, Copy)]
 pub enum Command<'a> {
-    /// Runs the script of this file, or of standard input.
+    /// Runs the script in this file, or the one on standard input.
     Sim { script: Option<&'a str> },
-    /// Prints the frame whose bytes this word spells in hexadecimal digits.
+    /// Prints the frame that this word spells in hexadecimal digits.
     Decode { hex: &'a str },
-    /// Runs the script of a file over node threads, which the configuration of a file describes.
+    /// Runs the script in a file on node threads, as the configuration in another file says.
     Run { config: &'a str, script: &'a str },
 }
 
 impl<'a> Command<'a> {
-    /// The command that the words say, of which the first is the program's name. No words beside it
-    /// say `sim`. After `run` a `--` ends options, and no word before it may begin with a dash;
-    /// after other words such a word is read as `clap` reads it.
+    /// The command that the arguments give; the first of them is the program's name. No further
+    /// arguments mean `sim`. After `run` a `--` ends the options, and no argument before it may
+    /// begin with a dash. After any other word, an argument with a dash is read as `clap` reads it.
     pub fn read(alloc: Global, words: &'a [String]) -> Result<Command<'a>, WordsError>
         ensures alone { length words.now ≤ 1 → result ≡ Ok (Command.Sim None) }
         ensures run { IsRead (run_of (drop 1 (map string_bytes words.now))) result }
@@ -39,7 +39,7 @@ impl<'a> Command<'a> {
         }
     }
 
-    // The command that the words say to `clap`, of which the first is the program's name.
+    // The command that the arguments mean to `clap`; the first of them is the program's name.
     fn known_in(alloc: Global, words: &'a [String]) -> Result<Command<'a>, WordsError>
         requires { 1 < length words.now }
         ensures { let said = drop 1 (map string_bytes words.now) in
@@ -50,7 +50,7 @@ impl<'a> Command<'a> {
     }
 }
 
-/// The command `run`, if words say it.
+/// The command `run`, if the arguments give it.
 fn run_in<'a>(words: &'a [String]) -> Option<Command<'a>>
     ensures { option_map call_of result ≡ run_of (drop 1 (map string_bytes words.now)) }
 {
@@ -64,7 +64,7 @@ fn run_in<'a>(words: &'a [String]) -> Option<Command<'a>>
     Some(Command::Run { config, script })
 }
 
-/// The two files that words say. A `--` ends options, and is none of them.
+/// The two files that the arguments name. A `--` ends the options and isn't one of the files.
 #[tactic(auto, using(crate::proofs::Files::two_more))]
 fn files_in<'a>(words: &'a [String]) -> Option<(&'a str, &'a str)>
     ensures { option_map (λ files. run files.0.now files.1.now) result
@@ -86,7 +86,7 @@ fn files_in<'a>(words: &'a [String]) -> Option<(&'a str, &'a str)>
     Some((first, file_in(words)?))
 }
 
-/// The file that words say, if it is one alone.
+/// The file that the arguments name, if they name exactly one.
 #[tactic(auto, using(crate::proofs::Files::one_more))]
 fn file_in<'a>(words: &'a [String]) -> Option<&'a str>
     ensures { option_map (λ file. file.now) result
@@ -108,7 +108,7 @@ fn file_in<'a>(words: &'a [String]) -> Option<&'a str>
     Some(first)
 }
 
-/// Whether words say no file.
+/// Whether the arguments name no file.
 #[tactic(auto, using(crate::proofs::Files::none_more))]
 fn is_over(words: &[String]) -> bool
     ensures { result ≡ is_some (option_and_then none_of (operands (map string_bytes words.now))) }
@@ -119,14 +119,14 @@ fn is_over(words: &[String]) -> bool
     is_end(first.as_str()) && words.is_empty()
 }
 
-/// Whether a word ends options.
+/// Whether an argument ends the options.
 fn is_end(word: &str) -> bool
     ensures { result ≡ bytes_eq word.now (codes "--") }
 {
     word == "--"
 }
 
-/// Whether a word begins with a dash.
+/// Whether an argument begins with a dash.
 fn is_dashed(word: &str) -> bool
     ensures { result ≡ is_dashed word.now }
 {
@@ -136,7 +136,7 @@ fn is_dashed(word: &str) -> bool
     }
 }
 
-/// The command that matches say, which the words of [`known`] have.
+/// The command in these matches, which are of the words in [`known`].
 fn command_in<'a>(matches: &ArgMatches<'a>) -> Option<Command<'a>>
     ensures { option_map call_of result ≡ call_in (subcommand_rows_of matches.now) }
 {
@@ -160,7 +160,7 @@ fn known<'a>(alloc: Global) -> Result<clap::Command<'a>, AllocError>
     with_command(alloc, app, "decode", Arg::new(alloc, "hex").required(true))
 }
 
-/// Adds a command after which one word may stand.
+/// Adds a command that takes one argument.
 fn with_command<'a>(
     alloc: Global,
     app: clap::Command<'a>,

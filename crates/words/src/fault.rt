@@ -1,4 +1,4 @@
-//! Why words are no command, and what is printed then.
+//! Why arguments are rejected, and what is printed then.
 ghost use Rattle.std.specs.Prelude.{◌≡◌, ◌++◌, ◌∷◌, [], IfOk, OnOk, codes};
 ghost use Rattle.std.specs.Io.KnownBytes.{Appends};
 ghost use Rattle.std.specs.IoError.{error_kind};
@@ -15,12 +15,12 @@ use std::alloc::AllocError;
 use std::io;
 use std::io::Write;
 
-/// Why words are no command.
+/// Why arguments are rejected.
 #[derive(Clone, Copy)]
 pub enum WordsError {
-    /// Memory was wanted and refused.
+    /// Allocation failed.
     OutOfMemory,
-    /// They are none that the program knows, or ask for help.
+    /// The program doesn't know them, or they ask for help.
     Unknown,
 }
 
@@ -54,8 +54,8 @@ impl From<AllocError> for WordsError {
     }
 }
 
-/// Prints that the words are no command, and answers the status: 1 for want of memory, else 2. The
-/// error is that output failed.
+/// Prints that the arguments are rejected, and returns the exit status: 1 if memory ran out, else
+/// 2. It fails if the output does.
 pub fn print_refused_words<W: Write>(out: &mut W, error: WordsError) -> io::Result<u8>
     ensures printed { OnOk result
         (Appends (W.contents out.old) (W.contents out.new) (codes "words refused" ++ 10 ∷ [])) }

@@ -1,4 +1,4 @@
-//! What the words ask for with which the program is called, and the statuses with which it ends.
+//! What the program's arguments ask for, and its exit statuses.
 #![tactic(auto)]
 
 mod command;

@@ -1,10 +1,10 @@
-//! The statuses with which the program ends.
+//! The exit statuses of the program.
 
-/// All is done.
+/// Everything succeeded.
 pub const DONE: u8 = 0;
 
-/// Some line was refused, memory was refused, or output failed.
+/// Some line was refused, allocation failed, or the output failed.
 pub const REFUSED: u8 = 1;
 
-/// Words, a file or a script's line can't be read.
+/// The arguments, a file or a line of a script can't be read.
 pub const UNREADABLE: u8 = 2;

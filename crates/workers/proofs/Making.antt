@@ -1,4 +1,4 @@
--- Calls that were made one after another.
+-- Calls made one after another.
 use Rattle.std.proofs.Common.{◌≡◌, ℕ, ◌+◌, Bool, true, List, ◌∷◌, [], ◌++◌, Some, Result, Ok, Err, IfErr, is_ok, sym, subst, append_assoc, arith}
 use Rattle.std.specs.Result.{result_err}
 use Rattle.workers.specs.Calls.{asked, Makes}
@@ -21,7 +21,7 @@ then {first} {second} {r} {f} {s} {g} {old} {middle} {new} before after =
       frees = omega (arith, before.frees, after.frees);
     }
 
--- a question of the gate, by its answer
+-- a question to the gate, with its answer
 pub answered : {node turn r f : ℕ} {s : Stage} {b : Bool} {old new : Past} (answer : Bool)
     → b ≡ answer → Makes (at node turn s b ∷ []) r f old new
     → Makes (at node turn s answer ∷ []) r f old new
@@ -37,7 +37,7 @@ up_to_sent node nodes turn scanned unsaved goes_on =
     ++ (saves unsaved ++ ((at node turn stage.Saved true ∷ [])
     ++ (sends node nodes ++ (raises node ++ at node turn stage.Sent goes_on ∷ []))))))))
 
--- a whole turn, whether its last question ends the worker or not
+-- a whole turn, whether or not its last question ends the worker
 pub at-last : {T : Type 0} (past : Past) (node nodes turn scanned : ℕ) (unsaved : Bool)
     (r : Result T Stage) → IfErr r (λ s. s ≡ stage.Sent)
     → asked past ≡ up_to_sent node nodes turn scanned unsaved (is_ok r)

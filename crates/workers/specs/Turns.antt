@@ -9,11 +9,11 @@ use Rattle.workers.specs.declared.gate.Stage.TheVariants as stage
 use Rattle.workers.specs.declared.run.Turns.{Turns, Start, Then'}
 use Rattle.workers.specs.declared.turn.Turn.{Turn}
 
--- the gate is asked, and answers whether the worker goes on
+-- the gate is asked, and answers whether the worker continues
 abbrev pub at : ℕ → ℕ → Stage → Bool → Call
 at node turn s goes_on = call.At (record { node = node; turn = turn; stage = s }) goes_on
 
--- whether the worker was told to end there
+-- whether the gate ended the worker there
 abbrev pub ends_at : Option Stage → Stage → Bool
 ends_at (Some stage.Start) stage.Start = true
 ends_at (Some stage.TakenIn) stage.TakenIn = true
@@ -33,7 +33,7 @@ takes own n = each_other (λ from. call.PumpIn from false) own n
 abbrev pub sends : ℕ → ℕ → List Call
 sends own n = each_other (λ to. call.PumpOut to) own n
 
--- scans until one is refused, but at most eight
+-- scans until one fails, at most eight
 abbrev pub scans : ℕ → List Call
 scans n = replicate n (call.Scan true) ++ cond (nat_lt n 8) (call.Scan false ∷ []) []
 
@@ -41,15 +41,15 @@ scans n = replicate n (call.Scan true) ++ cond (nat_lt n 8) (call.Scan false ∷
 abbrev pub collects : ℕ → List Call
 collects scanned = scans scanned ++ call.Pass ∷ call.Sweep 64 0 ∷ []
 
--- a save where there is something to save
+-- a save, if there is something to save
 abbrev pub saves : Bool → List Call
 saves unsaved = call.Unsaved unsaved ∷ cond unsaved (call.Save ∷ []) []
 
--- what ended is shown by node 0
+-- node 0 raises the last ended cycle on the board
 abbrev pub raises : ℕ → List Call
 raises node = cond (node == 0) (call.Raise ∷ []) []
 
--- the gate is asked, and these calls follow where the worker isn't told to end there
+-- the gate is asked, and these calls follow if it doesn't end the worker there
 abbrev pub asks : ℕ → ℕ → Option Stage → Stage → List Call → List Call
 asks node turn ended s rest =
     at node turn s (not (ends_at ended s)) ∷ cond (ends_at ended s) [] rest
@@ -62,14 +62,15 @@ turn_of node nodes turn ended scanned unsaved =
     (saves unsaved ++ asks node turn ended stage.Saved
     (sends node nodes ++ (raises node ++ asks node turn ended stage.Sent [])))))
 
--- a turn of this number, of a node among so many, up to where the worker was told to end
+-- a turn with this number, for a node of a space of this many nodes, up to the stage at which the
+-- gate ended the worker
 pub record IsTurn (node nodes turn : ℕ) (ended : Option Stage) (past : Past) : Type 0 where
   pub scanned : ℕ
   pub few : scanned ≤ 8
   pub unsaved : Bool
   pub whole : asked past ≡ turn_of node nodes turn ended scanned unsaved
 
--- nothing was done yet in the turn
+-- nothing has been done yet in the turn
 pub record IsNew (t : Turn) : Type 0 where
   pub asks : asked t.past.value ≡ []
   pub receives : received_in t.past.value ≡ 0
@@ -88,12 +89,12 @@ is_whole None = true
 is_whole (Some stage.Sent) = true
 is_whole _ = false
 
--- the whole ones among turns of which the last ended there
+-- the whole turns among turns the last of which ended there
 abbrev pub whole_turns : Option Stage → Turns → ℕ
 whole_turns ended Start = 0
 whole_turns ended (Then' m before past) = count before + cond (is_whole ended) 1 0
 
--- turns of a node, the last of them up to where the worker was told to end
+-- turns for a node, the last of them up to the stage at which the gate ended the worker
 abbrev pub AreTurns : ℕ → ℕ → Option Stage → Turns → Type 0
 AreTurns node nodes ended Start = ended ≡ None
 AreTurns node nodes ended (Then' m before past) =
@@ -107,7 +108,7 @@ abbrev pub freed_over : Turns → ℕ
 freed_over Start = 0
 freed_over (Then' m before past) = freed_over before + freed_in past.value
 
--- One turn more. Whatever a node's turns were before, they are its turns with it.
+-- One more turn. If the turns before are a node's turns and this is its next one, all of them are.
 pub record AddsTurn (past : Past) (old new : Turns) : Type 0 where
   pub counts : count new ≡ count old + 1
   pub wholes : (ended : Option Stage)

@@ -1,5 +1,5 @@
-//! What a worker did, for proofs alone. It is a list without bytes, from which a turn's contract
-//! speaks.
+//! A record of a worker's calls, for proofs alone. It takes up no bytes, and a turn's contract is
+//! stated in terms of it.
 ghost use Rattle.std.specs.Prelude.{◌≡◌, [], Some};
 ghost use Rattle.workers.specs.Calls.{asked, freed_in, received_in, Adds};
 
@@ -7,37 +7,37 @@ use crate::gate::Point;
 use std::mem;
 use std::snapshot::Snapshot;
 
-/// One call of a worker's, with what is counted of its answer.
+/// A call that a worker made, with the part of its answer that is counted.
 #[derive(Clone, Copy)]
 pub enum Call {
-    /// The gate was asked at this point; whether the worker goes on.
+    /// The gate was asked at this point; whether the worker continues.
     At { point: Point, goes_on: bool },
-    /// What is there from a node was taken in; whether it was a new message.
+    /// `pump_in` from a node; whether it received a new message.
     PumpIn { from: u8, received: bool },
-    /// An object was to be scanned; whether one was.
+    /// A scan; whether an object was scanned.
     Scan { scanned: bool },
-    /// The token was to be passed on.
+    /// An attempt to pass the token on.
     Pass,
-    /// So many slots were to be swept; how many objects were freed.
+    /// A sweep of `count` slots; how many objects it freed.
     Sweep { count: u32, freed: u32 },
-    /// It was asked whether there is anything to save; whether there is.
+    /// A question whether anything is unsaved; the answer.
     Unsaved { unsaved: bool },
-    /// The node was to be saved.
+    /// A save of the node.
     Save,
-    /// A frame was to be sent to a node.
+    /// An attempt to send a frame to a node.
     PumpOut { to: u8 },
-    /// The last cycle that ended was to be shown on the board.
+    /// The last ended cycle was raised on the board.
     Raise,
 }
 
-/// The calls of a turn that are over. Proofs alone read it: a snapshot of it has no bytes.
+/// The completed calls of a turn. Only proofs read it: a snapshot takes up no bytes.
 #[derive(Drop)]
 pub enum Past {
     Start,
     Then { before: Snapshot<Past>, call: Call },
 }
 
-// No call yet.
+// An empty record.
 pub(crate) fn start() -> Snapshot<Past>
     ensures asked { asked result.value ≡ [] }
     ensures received { received_in result.value ≡ 0 }

@@ -1,27 +1,29 @@
-//! The turns of a worker: what a thread does for its node, over and over. A turn is the same calls
-//! in the same order, whatever they answer:
+//! The turns of a worker: what a thread does for its node, over and over. A turn makes the same
+//! calls in the same order, whatever they return:
 //!
 //! ```text
 //! gate: Start
-//! pump_in from each other node, ascending    one message or frame each, where there is one
+//! pump_in from each other node, ascending    one message or frame each, if there is one
 //! gate: TakenIn
-//! scan, until one is refused, at most 8
+//! scan, until one fails, at most 8 times
 //! pass
 //! sweep 64 slots
 //! gate: Collected
-//! save, where something is unsaved
+//! save, if something is unsaved
 //! gate: Saved
-//! pump_out to each other node, ascending     one frame each, where there is room
-//! raise, at node 0 alone
+//! pump_out to each other node, ascending     one frame each, if there is room
+//! raise, at node 0 only
 //! gate: Sent
 //! ```
 //!
-//! Each line but those of the gate is one call of the site, so programs get at the node between any
-//! two. No lock is held while the gate is asked: it may wait, call the space, or end the worker at
-//! that point. [`turn_node`] says that its calls are exactly these; what each did isn't said. A
-//! worker that ends and comes back loses nothing that others count on: what its node had sent was
-//! saved before it left, and what it had taken in without a save it hasn't acknowledged, so it
-//! comes again.
+//! Each line except those of the gate is one or more calls of the site, and programs may act on the
+//! node between any two calls. No lock is held while the gate is asked: it may wait, call the
+//! space, or end the worker at that point. [`turn_node`] guarantees that a turn makes exactly these
+//! calls, but not what each of them did.
+//!
+//! A worker that ends and is started again loses nothing that others count on. What its node had
+//! sent was saved before it left. What it had received without saving it, it hasn't acknowledged,
+//! so its sender sends it again.
 #![tactic(auto)]
 
 mod calls;

@@ -1,6 +1,5 @@
-//! The turns of a worker, one after another. It ends at its limit, where the gate says so, or
-//! before the next turn once the workers are asked to stop; its report counts what the turns came
-//! to.
+//! A worker's run: its turns, one after another. The worker ends at its limit, when the gate ends
+//! it, or before the next turn once the workers are asked to stop. Its report sums up the turns.
 ghost use Rattle.std.specs.Prelude.{◌≡◌};
 ghost use Rattle.workers.specs.Runs.{IsRun};
 ghost use Rattle.workers.specs.Turns.{is_whole, AddsTurn};
@@ -22,7 +21,7 @@ pub struct Stop {
 }
 
 impl Stop {
-    /// Nobody asked yet, and no worker has ended.
+    /// No stop requested, and no worker has ended.
     pub fn new() -> Stop {
         Stop {
             asked: AtomicBool::new(false),
@@ -40,7 +39,7 @@ impl Stop {
         self.asked.load(Ordering::SeqCst)
     }
 
-    /// A worker has ended.
+    /// Counts a worker that has ended.
     pub(crate) fn note_end(&self) {
         self.ended.fetch_add(1, Ordering::SeqCst);
     }
@@ -51,9 +50,9 @@ impl Stop {
     }
 }
 
-/// What a worker did: its node, its whole turns, the new messages that it took in, the objects that
-/// it freed, and where the gate told it to end, if it did. A turn at whose last point it ended is
-/// whole.
+/// What a worker did: its node, its whole turns, the new messages that it received and the objects
+/// that it freed. `ended_at` is the stage at which the gate ended it, if it did. A turn that ended
+/// at its last point counts as whole.
 #[derive(Clone, Copy, Debug, PartialEq, Eq)]
 pub struct Report {
     pub node: u8,
@@ -63,7 +62,7 @@ pub struct Report {
     pub ended_at: Option<Stage>,
 }
 
-/// The turns that are over. Proofs alone read it: a snapshot of it has no bytes.
+/// The completed turns. Only proofs read it: a snapshot takes up no bytes.
 #[derive(Drop)]
 pub enum Turns {
     Start,
@@ -95,8 +94,7 @@ fn add(turns: &mut Snapshot<Turns>, turn: Snapshot<Past>)
     *turns = Snapshot::of(&Turns::Then { before, turn });
 }
 
-// Takes turns until the workers are asked to stop or the gate tells this one to end, but at most
-// this many.
+// Takes at most this many turns, until the workers are asked to stop or the gate ends this one.
 fn take_turns<R: Wait, S: Site, G: Gate>(
     rt: &R,
     site: &S,
@@ -138,9 +136,9 @@ fn take_turns<R: Wait, S: Site, G: Gate>(
     }
 }
 
-/// Takes turns for a node among so many until the workers are asked to stop or the gate tells this
-/// one to end, but at most this many; then notes that a worker has ended. The report counts what the
-/// turns came to.
+/// Takes at most `turns` turns for a node of a space of `nodes` nodes, until the workers are asked
+/// to stop or the gate ends this worker. Then it counts the worker as ended. The report sums up the
+/// turns.
 pub fn run_node<R: Wait, S: Site, G: Gate>(
     rt: &R,
     site: &S,

@@ -1,5 +1,5 @@
-//! What a worker's turn calls. Turns are proved over any such site, so nothing of them rests on how
-//! a cell is shared, or on cells at all.
+//! What a worker's turn calls. Turns are proved for any such site, so the proofs don't depend on
+//! how a cell is shared, or on cells at all.
 ghost use Rattle.std.specs.Prelude.{◌≡◌, true};
 ghost use Rattle.model.specs.Steps.{is_own};
 
@@ -8,25 +8,25 @@ use model::{Answer, Event};
 use std::sync::Wait;
 use wire::{Inbound, Outbound, Raised};
 
-/// A node with its disk, as several threads share it: each call is one event of it, or none, and
-/// each may wait for another thread's.
+/// A node with its disk, as several threads share it. Each call is at most one event of the node,
+/// and may wait for the call of another thread.
 pub trait Site {
-    /// Takes in what is there from another node.
+    /// Receives a frame or a waiting message from another node, if there is one.
     fn pump_in<R: Wait>(&self, rt: &R, from: u8) -> Result<Inbound, Refusal>;
 
     /// Gives the node an event of its own.
     fn act<R: Wait>(&self, rt: &R, event: Event) -> Result<Answer, Refusal>
         requires { is_own event ≡ true };
 
-    /// Whether an event came since the last save or reopening.
+    /// Whether there was an event since the last save or reopening.
     fn unsaved<R: Wait>(&self, rt: &R) -> bool;
 
     /// Saves the node.
     fn save<R: Wait>(&self, rt: &R) -> Result<(), Refusal>;
 
-    /// Sends a frame to another node, where there is room.
+    /// Sends a frame to another node, if there is room.
     fn pump_out<R: Wait>(&self, rt: &R, to: u8) -> Result<Outbound, Refusal>;
 
-    /// Shows on the board what the node, as saved, counts as ended.
+    /// Shows on the board the last cycle that the node, as saved, counts as ended.
     fn raise<R: Wait>(&self, rt: &R) -> Result<Raised, Refusal>;
 }

@@ -1,5 +1,5 @@
-//! The steps of a turn: each of the small functions makes one call and notes it. What they note,
-//! proofs alone read, and from that a turn's contract says which calls it made.
+//! The steps of a turn. Each of the small functions makes one call and records it. Only proofs read
+//! the record; from it, a turn's contract says which calls the turn made.
 ghost use Rattle.std.specs.Prelude.{◌≡◌, ◌≤◌, ℕ, is_ok, Bool, IfErr};
 ghost use Rattle.workers.specs.Calls.{Adds, Makes};
 ghost use Rattle.workers.specs.Turns.{at, collects, raises, saves, scans, sends, takes};
@@ -13,13 +13,13 @@ use std::snapshot::Snapshot;
 use std::sync::Wait;
 use wire::Inbound;
 
-// How many objects a turn scans at most.
+// The most objects that a turn scans.
 const SCANS: u8 = 8;
 
 // How many slots a turn sweeps.
 const SWEPT: u32 = 64;
 
-// Asks the gate. Where the worker is to end there, that stage is the error.
+// Asks the gate. If the worker is to end there, that stage is the error.
 pub(crate) fn ask<G: Gate>(
     gate: &G,
     past: &mut Snapshot<Past>,
@@ -37,7 +37,7 @@ pub(crate) fn ask<G: Gate>(
     if goes_on { Ok(()) } else { Err(stage) }
 }
 
-// Takes in what is there from another node, and says whether it was a new message.
+// Receives a frame or a waiting message from another node; returns whether it was a new message.
 fn take<R: Wait, S: Site>(rt: &R, site: &S, past: &mut Snapshot<Past>, from: u8) -> bool
     ensures { Adds (call.PumpIn from result) past.old.value past.new.value }
 {
@@ -49,7 +49,7 @@ fn take<R: Wait, S: Site>(rt: &R, site: &S, past: &mut Snapshot<Past>, from: u8)
     received
 }
 
-// Scans an object, and says whether there was one.
+// Scans an object; returns whether there was one.
 fn scan<R: Wait, S: Site>(rt: &R, site: &S, past: &mut Snapshot<Past>) -> bool
     ensures { Adds (call.Scan result) past.old.value past.new.value }
 {
@@ -58,7 +58,7 @@ fn scan<R: Wait, S: Site>(rt: &R, site: &S, past: &mut Snapshot<Past>) -> bool
     scanned
 }
 
-// Passes the token on, if it may be.
+// Passes the token on, if the node may.
 fn pass<R: Wait, S: Site>(rt: &R, site: &S, past: &mut Snapshot<Past>)
     ensures { Adds call.Pass past.old.value past.new.value }
 {
@@ -66,7 +66,7 @@ fn pass<R: Wait, S: Site>(rt: &R, site: &S, past: &mut Snapshot<Past>)
     note(past, Call::Pass);
 }
 
-// Sweeps slots, if it is time, and says how many objects it freed.
+// Sweeps slots, if there is a cycle to sweep; returns how many objects it freed.
 fn sweep<R: Wait, S: Site>(rt: &R, site: &S, past: &mut Snapshot<Past>, count: u32) -> u32
     ensures { Adds (call.Sweep count result) past.old.value past.new.value }
 {
@@ -109,7 +109,7 @@ fn show<R: Wait, S: Site>(rt: &R, site: &S, past: &mut Snapshot<Past>)
     note(past, Call::Raise);
 }
 
-// Takes in a frame of each other node, ascending, and says how many were new messages.
+// Receives from each other node, ascending; returns how many new messages there were.
 pub(crate) fn take_in<R: Wait, S: Site>(
     rt: &R,
     site: &S,
@@ -128,7 +128,7 @@ pub(crate) fn take_in<R: Wait, S: Site>(
     received
 }
 
-// Scans objects until that is refused, but at most 8.
+// Scans objects until a scan fails, at most 8 times.
 fn scan_some<R: Wait, S: Site>(rt: &R, site: &S, past: &mut Snapshot<Past>)
     ensures { (n : ℕ) × (n ≤ 8) × Makes (scans n) 0 0 past.old.value past.new.value }
 {
@@ -139,7 +139,7 @@ fn scan_some<R: Wait, S: Site>(rt: &R, site: &S, past: &mut Snapshot<Past>)
     }
 }
 
-// Scans, passes the token on and sweeps, and says how many objects were freed.
+// Scans, passes the token on and sweeps; returns how many objects were freed.
 pub(crate) fn collect<R: Wait, S: Site>(rt: &R, site: &S, past: &mut Snapshot<Past>) -> u32
     ensures { (n : ℕ) × (n ≤ 8) × Makes (collects n) 0 result past.old.value past.new.value }
 {
@@ -148,7 +148,7 @@ pub(crate) fn collect<R: Wait, S: Site>(rt: &R, site: &S, past: &mut Snapshot<Pa
     sweep(rt, site, past, SWEPT)
 }
 
-// Saves the node, where something is unsaved.
+// Saves the node, if something is unsaved.
 pub(crate) fn save_unsaved<R: Wait, S: Site>(rt: &R, site: &S, past: &mut Snapshot<Past>)
     ensures { (b : Bool) × Makes (saves b) 0 0 past.old.value past.new.value }
 {
@@ -174,7 +174,7 @@ pub(crate) fn send_out<R: Wait, S: Site>(
     }
 }
 
-// Shows what ended on the board, at node 0.
+// Raises the last ended cycle on the board, at node 0.
 pub(crate) fn raise<R: Wait, S: Site>(rt: &R, site: &S, past: &mut Snapshot<Past>, node: u8)
     ensures { Makes (raises node) 0 0 past.old.value past.new.value }
 {

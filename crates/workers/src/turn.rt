@@ -1,5 +1,5 @@
-//! One turn of a worker. Its contract says which calls it made, and not what they did: another
-//! thread may come between any two.
+//! One turn of a worker. Its contract says which calls it made, but not what they did, because
+//! another thread may act between any two.
 ghost use Rattle.std.specs.Prelude.{◌≡◌};
 ghost use Rattle.std.specs.Result.{result_err};
 ghost use Rattle.workers.specs.Calls.{freed_in, received_in};
@@ -12,21 +12,21 @@ use crate::steps::{ask, collect, raise, save_unsaved, send_out, take_in};
 use std::snapshot::Snapshot;
 use std::sync::Wait;
 
-/// What a turn came to.
+/// What a turn did.
 #[derive(Drop)]
 pub struct Turn {
-    /// How many new messages it took in.
+    /// How many new messages it received.
     pub received: u8,
     /// How many objects it freed.
     pub freed: u32,
-    /// Where the gate told the worker to end, if it did.
+    /// The stage at which the gate ended the worker, if it did.
     pub ended_at: Option<Stage>,
     /// Its calls, for proofs alone.
     pub past: Snapshot<Past>,
 }
 
-// Takes a turn, in which nothing was done yet. Where the gate tells the worker to end, the stage at
-// which it did is the error.
+// Takes a turn in which nothing has been done yet. If the gate ends the worker, the error is the
+// stage at which it did.
 fn take_turn<R: Wait, S: Site, G: Gate>(
     rt: &R,
     site: &S,
@@ -54,12 +54,14 @@ fn take_turn<R: Wait, S: Site, G: Gate>(
     ask(gate, past, node, number, Stage::Sent)
 }
 
-/// Takes one turn for a node among so many: takes in a frame of each other node, ascending; scans
-/// objects until that is refused, but at most 8; passes the token on; sweeps 64 slots; saves the
-/// node where something is unsaved; sends a frame to each other node, ascending; and at node 0
-/// shows on the board what ended. The gate is asked before, after the frames, after the sweep,
-/// after the save and at the end; where it tells the worker to end, the turn ends there. A call
-/// that is refused changes nothing of the order: the turn goes on with the next one.
+/// Takes one turn for a node of a space of `nodes` nodes. The turn receives a frame from each other
+/// node, ascending; scans objects until a scan fails, at most 8 times; passes the token on; and
+/// sweeps 64 slots. It saves the node if something is unsaved, and sends a frame to each other
+/// node, ascending. At node 0 it then raises the last ended cycle on the board.
+///
+/// The gate is asked at the start, after the frames, after the sweep, after the save and at the
+/// end. If it ends the worker, the turn ends there. A call that fails doesn't change the order: the
+/// turn continues with the next one.
 pub fn turn_node<R: Wait, S: Site, G: Gate>(
     rt: &R,
     site: &S,

@@ -11,7 +11,7 @@ loop-rest-init g c = (
       (g.W.Write.contents c.args.out.now),
 )
 
--- a line that does not end the program
+-- a line that doesn't end the program
 pub loop-rest-preserved : goal.loop-rest-preserved
 loop-rest-preserved g c = (
   search rules,
@@ -29,7 +29,7 @@ loop-rest-preserved g c = (
       c.if-reached-eq-UNREADABLE.false,
 )
 
--- one that does
+-- a line that does
 pub returns-then-reached-eq-UNREADABLE : goal.returns-then-reached-eq-UNREADABLE
 returns-then-reached-eq-UNREADABLE g c =
     printed_last g.S.Space.shows g.S.Space.keeps c.args.script.now (g.W.Write.contents c.args.out.now) _

@@ -20,8 +20,8 @@ returns-in-Ok-print_outcome g c number =
       is = refl;
     }
 
--- what has to hold of the refusal is searched for, so that another one fails at the fact that it
--- breaks
+-- what has to hold of the refusal is found by search, so that a different refusal fails at the fact
+-- that it violates
 pub returns-in-Err : goal.returns-in-Err
 returns-in-Err g c number =
     let shows = g.S.Space.shows in

@@ -14,7 +14,7 @@ at_front c =
     subst (λ t. IsNumberAt (digit_count bytes) (word_end bytes) (value_after 0 (digits_of bytes))
     (u64_of (word_of t))) c.as_bytes-bytes.ensures.value (word_number bytes)
 
--- the test of what stands behind the digits
+-- the test of the text after the digits
 test : (c : After-ends_word) → c.ends_word.result
     ≡ ends_word (drop (digit_count c.as_bytes-bytes.result.now) c.as_bytes-bytes.result.now)
 test c =

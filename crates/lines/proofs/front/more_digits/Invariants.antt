@@ -3,7 +3,7 @@ use Rattle.lines.specs.Grammar.{value_after}
 use Rattle.lines.specs.Words.{digit_count}
 use Rattle.lines.proofs.front.more_digits.Given as goal
 
--- the digits that are left follow those of the number so far
+-- the remaining digits follow those of the number so far
 abbrev pub invariant-loop-len : goal.invariant-loop-len
 invariant-loop-len l = record {
   within : l.len ≤ length l.text;

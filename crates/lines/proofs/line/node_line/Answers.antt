@@ -7,7 +7,7 @@ use Rattle.lines.proofs.Spelling.{u8-is}
 use Rattle.lines.proofs.line.node_line.Goals as goal
 use Rattle.lines.proofs.line.node_line.Goals.{After-first_number}
 
--- what is read of a number, where it is this
+-- what is read of a number, if it is this one
 line : (c : After-first_number) (number : Option ℕ) → number ≡ u64_of (word_of c.args.text.now)
     → option_and_then (λ node. node_line_of node (words_of (behind c.args.text.now)))
     (option_and_then (λ n. u8_of (decimal n)) number)
