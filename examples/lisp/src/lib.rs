@@ -6,7 +6,7 @@
 //! that nests too deeply fails with `NoRegister`.
 //!
 //! `(send NODE VALUE)` sends a reference, and `(receive)` waits for one. A pair of another node is
-//! read by a Get and written by a Put, so programs needn't know where a pair is.
+//! read by a Get and written by a Put, as if it were the node's own.
 
 pub mod read;
 pub mod run;
