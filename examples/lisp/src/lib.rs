@@ -8,63 +8,59 @@
 //! `(send NODE VALUE)` sends a reference, and `(receive)` waits for one. A pair of another node is
 //! read by a Get and written by a Put, as if it were the node's own.
 
-pub mod read;
+mod read;
 pub mod run;
 
 use markring::{Cell, Events, Refusal, Root, Roots};
 use run::Machine;
 use std::collections::VecDeque;
-use std::fmt;
 
 /// A value: `()`, or an object in a register.
 pub type Value<'r> = Option<Root<'r, Cell>>;
 pub type Result<T> = std::result::Result<T, Fault>;
 
 /// Why a program ended early.
-#[derive(Clone, Debug, PartialEq, Eq)]
-pub enum Fault {
-    Refused(Refusal),
-    Text(String),
-}
+#[derive(Debug)]
+pub struct Fault(pub String);
 
 impl From<Refusal> for Fault {
     fn from(refusal: Refusal) -> Self {
-        Fault::Refused(refusal)
+        Fault(refusal.to_string())
     }
 }
 
-impl fmt::Display for Fault {
-    fn fmt(&self, f: &mut fmt::Formatter<'_>) -> fmt::Result {
-        match self {
-            Fault::Refused(refusal) => write!(f, "{refusal}"),
-            Fault::Text(text) => f.write_str(text),
-        }
-    }
+fn fault<T>(text: impl Into<String>) -> Result<T> {
+    Err(Fault(text.into()))
 }
 
-pub fn fault<T>(text: impl Into<String>) -> Result<T> {
-    Err(Fault::Text(text.into()))
-}
-
-#[derive(Clone, Copy, PartialEq, Eq)]
-pub enum Tag {
+#[derive(Clone, Copy, PartialEq)]
+enum Tag {
     Pair,
     Number,
     Symbol,
     Closure,
 }
 
-// What a letter is about is in the upper two bits of its label; the rest is a word.
+const TAGS: [Tag; 4] = [Tag::Pair, Tag::Number, Tag::Symbol, Tag::Closure];
+const PAYLOAD: u32 = (1 << 28) - 1;
+const CAR: u8 = 0;
+const CDR: u8 = 1;
+// The upper two bits of a letter's label say what it is: a value that was sent, the question for an
+// object's word, and the answers to that question and to a Get. The rest is a word.
 const SENT: u32 = 0;
 const ASKED: u32 = 1 << 30;
 const WORD: u32 = 2 << 30;
 const PLACE: u32 = 3 << 30;
-const KIND: u32 = 3 << 30;
-const PAYLOAD: u32 = (1 << 28) - 1;
-const CAR: u8 = 0;
-const CDR: u8 = 1;
 // Evaluations between two turns of the node.
 const STEPS: u32 = 32;
+const FUNCTIONS: [&str; 14] = [
+    "+", "-", "*", "<", "eq", "null", "cons", "car", "cdr", "set-car", "set-cdr", "list", "send",
+    "receive",
+];
+
+fn copy<'r>(value: &Value<'r>) -> Result<Value<'r>> {
+    Ok(value.as_ref().map(Root::duplicate).transpose()?)
+}
 
 /// The interpreter of a node.
 pub struct Lisp<'r> {
@@ -72,59 +68,49 @@ pub struct Lisp<'r> {
     machine: &'r Machine<'r>,
     globals: Value<'r>,
     inbox: VecDeque<Value<'r>>,
-    // The answer to a request to another node.
+    // The answer of another node.
     answer: Option<(u32, Value<'r>)>,
     steps: u32,
-    /// What the program printed.
-    pub printed: Vec<String>,
 }
 
 impl<'r> Lisp<'r> {
     pub fn new(roots: &'r Roots<'r, Cell>, machine: &'r Machine<'r>) -> Self {
-        let (inbox, printed) = (VecDeque::new(), Vec::new());
-        let (globals, answer, steps) = (None, None, 0);
-        Lisp { roots, machine, globals, inbox, answer, steps, printed }
+        Lisp { roots, machine, globals: None, inbox: VecDeque::new(), answer: None, steps: STEPS }
     }
 
     // ## Objects
 
-    // A new object. If the node is full, collection cycles come first.
+    // A new object. If the node is full, two collection cycles come first.
     fn make(&mut self, tag: Tag, payload: u32, places: &[&Value<'r>]) -> Result<Value<'r>> {
         let mut made = self.roots.alloc(places.len() as u8);
-        let cycle = self.roots.node().state()?.swept;
-        while matches!(made, Err(Refusal::ArenaFull)) && !self.machine.is_over(cycle + 3)? {
+        let last = self.roots.node().state()?.swept + 2;
+        while matches!(made, Err(Refusal::ArenaFull)) && self.roots.node().state()?.swept < last {
             self.turn()?;
             made = self.roots.alloc(places.len() as u8);
         }
         let object = made?;
         object.set_word(u64::from(payload << 2 | tag as u32))?;
         for (place, value) in (0..).zip(places) {
-            if let Some(value) = value {
-                object.store(place, value)?;
-            }
+            value.as_ref().map_or(Ok(()), |value| object.store(place, value))?;
         }
         Ok(Some(object))
     }
 
-    pub fn number(&mut self, number: i64) -> Result<Value<'r>> {
+    fn number(&mut self, number: i64) -> Result<Value<'r>> {
         self.make(Tag::Number, number as u32 & PAYLOAD, &[])
     }
 
-    pub fn symbol(&mut self, name: &str) -> Result<Value<'r>> {
-        let payload = self.machine.intern(name);
-        self.make(Tag::Symbol, payload, &[])
+    fn symbol(&mut self, name: &str) -> Result<Value<'r>> {
+        self.make(Tag::Symbol, self.machine.intern(name), &[])
     }
 
-    pub fn pair(&mut self, car: &Value<'r>, cdr: &Value<'r>) -> Result<Value<'r>> {
+    fn pair(&mut self, car: &Value<'r>, cdr: &Value<'r>) -> Result<Value<'r>> {
         self.make(Tag::Pair, 0, &[car, cdr])
     }
 
-    fn copy(value: &Value<'r>) -> Result<Value<'r>> {
-        Ok(value.as_ref().map(Root::duplicate).transpose()?)
-    }
-
-    // The tag and the payload; the owner of another node's object is asked for them.
-    fn word(&mut self, object: &Root<'r, Cell>) -> Result<(Tag, u32)> {
+    // The tag and the payload, unless the value is (). The owner of the object is asked for them.
+    fn word(&mut self, value: &Value<'r>) -> Result<Option<(Tag, u32)>> {
+        let Some(object) = value else { return Ok(None) };
         let word = match object.word() {
             Err(Refusal::Remote) => {
                 object.give(object.reference().node, ASKED)?;
@@ -132,14 +118,11 @@ impl<'r> Lisp<'r> {
             }
             word => word? as u32,
         };
-        let tags = [Tag::Pair, Tag::Number, Tag::Symbol, Tag::Closure];
-        Ok((tags[(word & 3) as usize], word >> 2 & PAYLOAD))
+        Ok(Some((TAGS[(word & 3) as usize], word >> 2 & PAYLOAD)))
     }
 
     fn load(&mut self, value: &Value<'r>, place: u8) -> Result<Value<'r>> {
-        let Some(object) = value else {
-            return fault("() has no parts");
-        };
+        let Some(object) = value else { return fault("() has no parts") };
         match object.load(place) {
             Err(Refusal::Remote) => {
                 object.get(place, PLACE)?;
@@ -150,10 +133,8 @@ impl<'r> Lisp<'r> {
         }
     }
 
-    pub fn store(&mut self, object: &Value<'r>, place: u8, value: &Value<'r>) -> Result<()> {
-        let Some(object) = object else {
-            return fault("() has no parts");
-        };
+    fn store(&mut self, pair: &Value<'r>, place: u8, value: &Value<'r>) -> Result<Value<'r>> {
+        let Some(object) = pair else { return fault("() has no parts") };
         let stored = match value {
             Some(value) => object.store(place, value),
             None => object.clear(place),
@@ -162,13 +143,20 @@ impl<'r> Lisp<'r> {
             Err(Refusal::Remote) => object.put(place, value.as_ref()).map(drop)?,
             stored => stored?,
         }
-        Ok(())
+        Ok(None)
     }
 
-    fn expect_number(&mut self, value: &Value<'r>) -> Result<i64> {
-        let word = value.as_ref().map(|it| self.word(it)).transpose()?;
-        match word {
-            // Of the 28 bits the first one is the sign.
+    fn nth(&mut self, list: &Value<'r>, number: usize) -> Result<Value<'r>> {
+        let mut rest = copy(list)?;
+        for _ in 0..number {
+            rest = self.load(&rest, CDR)?;
+        }
+        self.load(&rest, CAR)
+    }
+
+    fn number_of(&mut self, value: &Value<'r>) -> Result<i64> {
+        match self.word(value)? {
+            // The first of the 28 bits is the sign.
             Some((Tag::Number, payload)) => Ok(i64::from((payload << 4) as i32 >> 4)),
             _ => fault("the value isn't a number"),
         }
@@ -176,21 +164,19 @@ impl<'r> Lisp<'r> {
 
     // Whether both are (), the same number or symbol, or the same object.
     fn is_same(&mut self, one: &Value<'r>, other: &Value<'r>) -> Result<bool> {
-        let (Some(one), Some(other)) = (one, other) else {
-            return Ok(one.is_none() && other.is_none());
-        };
         let (first, second) = (self.word(one)?, self.word(other)?);
-        let is_plain = matches!(first.0, Tag::Number | Tag::Symbol);
-        Ok(one.reference() == other.reference() || is_plain && first == second)
+        let is_plain = matches!(first, None | Some((Tag::Number | Tag::Symbol, _)));
+        let names = [one, other].map(|it| it.as_ref().map(Root::reference));
+        Ok(names[0] == names[1] || is_plain && first == second)
     }
 
     // ## Letters
 
-    // A turn of the node. Then requests of other nodes are answered, and letters are sorted.
+    // A turn of the node. Then questions of other nodes are answered, and letters are sorted.
     fn turn(&mut self) -> Result<()> {
         self.machine.turn()?;
         while let Some(letter) = self.roots.accept()? {
-            match (letter.label & KIND, letter.root) {
+            match (letter.label & PLACE, letter.root) {
                 (SENT, root) => self.inbox.push_back(root),
                 (ASKED, Some(object)) => {
                     self.roots.give_nothing(letter.from, WORD | object.word()? as u32)?;
@@ -203,122 +189,110 @@ impl<'r> Lisp<'r> {
 
     fn wait(&mut self, kind: u32) -> Result<(u32, Value<'r>)> {
         loop {
-            self.turn()?;
             match self.answer.take() {
-                Some((label, root)) if label & KIND == kind => return Ok((label & !KIND, root)),
-                _ => std::thread::yield_now(),
+                Some((label, root)) if label & PLACE == kind => return Ok((label, root)),
+                _ => self.turn()?,
             }
         }
     }
 
     fn receive(&mut self) -> Result<Value<'r>> {
         loop {
-            if let Some(value) = self.inbox.pop_front() {
-                return Ok(value);
+            match self.inbox.pop_front() {
+                Some(value) => return Ok(value),
+                None => self.turn()?,
             }
-            self.turn()?;
-            std::thread::yield_now();
         }
     }
 
-    /// Answers requests until all nodes have ended their programs.
+    /// Answers questions until all nodes have ended their programs.
     pub fn serve(&mut self) -> Result<()> {
         while !self.machine.all_ended() {
             self.turn()?;
-            std::thread::yield_now();
         }
         Ok(())
     }
 
     // ## Evaluation
 
-    /// Evaluates all expressions of a text, and returns the value of the last one.
-    pub fn run(&mut self, text: &str) -> Result<Value<'r>> {
+    /// Evaluates all expressions of a text, and shows the value of the last one.
+    pub fn run(&mut self, text: &str) -> Result<String> {
         let mut reader = read::Reader::new(text);
         let mut value = None;
         while let Some(expression) = reader.next(self)? {
             value = self.eval(expression, None)?;
         }
-        Ok(value)
+        self.show(&value)
     }
 
-    fn lookup(&mut self, name: u32, environment: &Value<'r>) -> Result<Option<Value<'r>>> {
-        let globals = Self::copy(&self.globals)?;
-        for list in [Self::copy(environment)?, globals] {
-            let mut list = list;
+    fn lookup(&mut self, symbol: Value<'r>, environment: &Value<'r>) -> Result<Value<'r>> {
+        let name = self.word(&symbol)?;
+        for mut list in [copy(environment)?, copy(&self.globals)?] {
             while list.is_some() {
                 let binding = self.load(&list, CAR)?;
                 let bound = self.load(&binding, CAR)?;
-                if bound.map(|it| self.word(&it)).transpose()?.map(|it| it.1) == Some(name) {
-                    return Ok(Some(self.load(&binding, CDR)?));
+                if self.word(&bound)? == name {
+                    return self.load(&binding, CDR);
                 }
                 list = self.load(&list, CDR)?;
             }
         }
-        Ok(None)
+        let name = self.show(&symbol)?;
+        if FUNCTIONS.contains(&name.as_str()) {
+            return Ok(symbol);
+        }
+        fault(format!("{name} isn't bound"))
     }
 
     fn eval(&mut self, expression: Value<'r>, environment: Value<'r>) -> Result<Value<'r>> {
         let (mut expression, mut environment) = (expression, environment);
         loop {
-            self.steps += 1;
-            if self.steps % STEPS == 0 {
+            self.steps -= 1;
+            if self.steps == 0 {
+                self.steps = STEPS;
                 self.turn()?;
             }
-            let Some(object) = &expression else {
-                return Ok(None);
-            };
-            match self.word(object)? {
-                (Tag::Number | Tag::Closure, _) => return Ok(expression),
-                (Tag::Symbol, name) => {
-                    return match self.lookup(name, &environment)? {
-                        Some(value) => Ok(value),
-                        None if self.machine.is_builtin(name) => Ok(expression),
-                        None => fault(format!("{} isn't bound", self.machine.name(name))),
-                    };
-                }
-                (Tag::Pair, _) => {}
+            match self.word(&expression)? {
+                Some((Tag::Symbol, _)) => return self.lookup(expression, &environment),
+                Some((Tag::Pair, _)) => {}
+                _ => return Ok(expression),
             }
             let (head, rest) = (self.load(&expression, CAR)?, self.load(&expression, CDR)?);
-            let word = head.as_ref().map(|it| self.word(it)).transpose()?;
-            let name = match word {
+            let form = match self.word(&head)? {
                 Some((Tag::Symbol, name)) => self.machine.name(name),
                 _ => String::new(),
             };
-            match name.as_str() {
-                "quote" => return self.load(&rest, CAR),
+            match form.as_str() {
+                "quote" => return self.nth(&rest, 0),
                 "lambda" => {
-                    let (parameters, body) = (self.load(&rest, CAR)?, self.load(&rest, CDR)?);
-                    let body = self.load(&body, CAR)?;
+                    let (parameters, body) = (self.nth(&rest, 0)?, self.nth(&rest, 1)?);
                     return self.make(Tag::Closure, 0, &[&parameters, &body, &environment]);
                 }
                 "define" => {
-                    let (name, value) = (self.load(&rest, CAR)?, self.load(&rest, CDR)?);
-                    let value = self.load(&value, CAR)?;
+                    let (name, value) = (self.nth(&rest, 0)?, self.nth(&rest, 1)?);
                     let value = self.eval(value, environment)?;
-                    let binding = self.pair(&name, &value)?;
-                    let globals = self.globals.take();
+                    let (binding, globals) = (self.pair(&name, &value)?, self.globals.take());
                     self.globals = self.pair(&binding, &globals)?;
                     return Ok(name);
                 }
                 "if" => {
-                    let condition = self.load(&rest, CAR)?;
-                    let condition = self.eval(condition, Self::copy(&environment)?)?;
-                    let mut branches = self.load(&rest, CDR)?;
-                    if condition.is_none() {
-                        branches = self.load(&branches, CDR)?;
-                    }
-                    if branches.is_none() {
-                        return Ok(None);
-                    }
-                    expression = self.load(&branches, CAR)?;
+                    let condition = self.nth(&rest, 0)?;
+                    let holds = self.eval(condition, copy(&environment)?)?.is_some();
+                    expression = self.nth(&rest, if holds { 1 } else { 2 })?;
                 }
                 _ => {
-                    let function = self.eval(head, Self::copy(&environment)?)?;
+                    let function = self.eval(head, copy(&environment)?)?;
                     let arguments = self.eval_all(rest, &environment)?;
-                    match self.apply(function, arguments)? {
-                        Applied::Value(value) => return Ok(value),
-                        Applied::Tail(body, bound) => (expression, environment) = (body, bound),
+                    match self.word(&function)? {
+                        Some((Tag::Symbol, name)) => {
+                            return self.call(&self.machine.name(name), &arguments);
+                        }
+                        // The body is evaluated without a deeper stack.
+                        Some((Tag::Closure, _)) => {
+                            environment = self.bind(&function, &arguments)?;
+                            expression = self.load(&function, 1)?;
+                        }
+                        _ => return fault("the value isn't a function"),
                     }
                 }
             }
@@ -329,70 +303,53 @@ impl<'r> Lisp<'r> {
         let (mut list, mut values) = (list, Vec::new());
         while list.is_some() {
             let expression = self.load(&list, CAR)?;
-            values.push(self.eval(expression, Self::copy(environment)?)?);
+            values.push(self.eval(expression, copy(environment)?)?);
             list = self.load(&list, CDR)?;
         }
         Ok(values)
     }
 
-    fn apply(&mut self, function: Value<'r>, arguments: Vec<Value<'r>>) -> Result<Applied<'r>> {
-        let word = function.as_ref().map(|it| self.word(it)).transpose()?;
-        match word {
-            Some((Tag::Closure, _)) => {}
-            Some((Tag::Symbol, name)) => {
-                let name = self.machine.name(name);
-                return Ok(Applied::Value(self.call(&name, &arguments)?));
-            }
-            _ => return fault("the value isn't a function"),
-        }
-        let (mut names, mut bound) = (self.load(&function, 0)?, self.load(&function, 2)?);
-        for argument in &arguments {
+    // The environment of a closure, with its parameters bound.
+    fn bind(&mut self, closure: &Value<'r>, arguments: &[Value<'r>]) -> Result<Value<'r>> {
+        let (mut names, mut bound) = (self.load(closure, 0)?, self.load(closure, 2)?);
+        for argument in arguments {
             let name = self.load(&names, CAR)?;
             let binding = self.pair(&name, argument)?;
             bound = self.pair(&binding, &bound)?;
             names = self.load(&names, CDR)?;
         }
         if names.is_some() {
-            return fault("an argument is missing");
+            fault("an argument is missing")
+        } else {
+            Ok(bound)
         }
-        Ok(Applied::Tail(self.load(&function, 1)?, bound))
     }
 
     // Calls a function that is built in.
     fn call(&mut self, name: &str, given: &[Value<'r>]) -> Result<Value<'r>> {
-        let numbers = match name {
-            "+" | "-" | "*" | "<" | "send" => {
-                let words = if name == "send" { &given[..given.len().min(1)] } else { given };
-                let numbers: Result<Vec<i64>> =
-                    words.iter().map(|it| self.expect_number(it)).collect();
-                numbers?
-            }
-            _ => Vec::new(),
-        };
         match (name, given) {
-            ("+", _) => self.number(numbers.iter().sum()),
-            ("*", _) => self.number(numbers.iter().product()),
-            ("-", [_, _]) => self.number(numbers[0] - numbers[1]),
-            ("<", [_, _]) => self.truth(numbers[0] < numbers[1]),
+            ("+" | "-" | "*" | "<", [one, other]) => {
+                let (one, other) = (self.number_of(one)?, self.number_of(other)?);
+                match name {
+                    "+" => self.number(one + other),
+                    "-" => self.number(one - other),
+                    "*" => self.number(one * other),
+                    _ => self.truth(one < other),
+                }
+            }
             ("eq", [one, other]) => {
-                let same = self.is_same(one, other)?;
-                self.truth(same)
+                let is_same = self.is_same(one, other)?;
+                self.truth(is_same)
             }
             ("null", [value]) => self.truth(value.is_none()),
             ("cons", [car, cdr]) => self.pair(car, cdr),
             ("car", [pair]) => self.load(pair, CAR),
             ("cdr", [pair]) => self.load(pair, CDR),
-            ("set-car", [pair, value]) => self.store(pair, CAR, value).map(|()| None),
-            ("set-cdr", [pair, value]) => self.store(pair, CDR, value).map(|()| None),
-            ("list", _) => {
-                let mut list = None;
-                for value in given.iter().rev() {
-                    list = self.pair(value, &list)?;
-                }
-                Ok(list)
-            }
-            ("send", [_, value]) => {
-                let to = u8::try_from(numbers[0]).or_else(|_| fault("there is no such node"))?;
+            ("set-car", [pair, value]) => self.store(pair, CAR, value),
+            ("set-cdr", [pair, value]) => self.store(pair, CDR, value),
+            ("list", _) => given.iter().rev().try_fold(None, |list, value| self.pair(value, &list)),
+            ("send", [node, value]) => {
+                let to = u8::try_from(self.number_of(node)?).unwrap_or(u8::MAX);
                 match value {
                     Some(value) => value.give(to, SENT)?,
                     None => self.roots.give_nothing(to, SENT)?,
@@ -400,11 +357,6 @@ impl<'r> Lisp<'r> {
                 Ok(None)
             }
             ("receive", []) => self.receive(),
-            ("print", [value]) => {
-                let text = self.show(value, 50)?;
-                self.printed.push(text);
-                Ok(None)
-            }
             _ => fault(format!("{name} has other arguments")),
         }
     }
@@ -417,30 +369,21 @@ impl<'r> Lisp<'r> {
         }
     }
 
-    /// The value as a text. Pairs that nest deeper than `depth` are shown as `..`.
-    pub fn show(&mut self, value: &Value<'r>, depth: u32) -> Result<String> {
-        let Some(object) = value else {
-            return Ok("()".into());
-        };
-        match self.word(object)? {
-            _ if depth == 0 => return Ok("..".into()),
-            (Tag::Number, _) => return Ok(self.expect_number(value)?.to_string()),
-            (Tag::Symbol, name) => return Ok(self.machine.name(name)),
-            (Tag::Closure, _) => return Ok("a closure".into()),
-            (Tag::Pair, _) => {}
+    // The value as a text.
+    fn show(&mut self, value: &Value<'r>) -> Result<String> {
+        match self.word(value)? {
+            None => return Ok("()".into()),
+            Some((Tag::Number, _)) => return Ok(self.number_of(value)?.to_string()),
+            Some((Tag::Symbol, name)) => return Ok(self.machine.name(name)),
+            Some((Tag::Closure, _)) => return Ok("a closure".into()),
+            Some((Tag::Pair, _)) => {}
         }
         let (car, cdr) = (self.load(value, CAR)?, self.load(value, CDR)?);
-        let (car, cdr) = (self.show(&car, depth - 1)?, self.show(&cdr, depth - 1)?);
+        let (car, cdr) = (self.show(&car)?, self.show(&cdr)?);
         Ok(match cdr.strip_prefix('(') {
             Some(")") => format!("({car})"),
             Some(rest) => format!("({car} {rest}"),
             None => format!("({car} . {cdr})"),
         })
     }
-}
-
-enum Applied<'r> {
-    Value(Value<'r>),
-    // An expression to evaluate in an environment, without a deeper stack.
-    Tail(Value<'r>, Value<'r>),
 }

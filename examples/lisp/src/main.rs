@@ -1,4 +1,4 @@
-//! lisp FILE FILE ..: runs a program on each node of a space, and prints what they print.
+//! lisp FILE FILE ..: runs a program on each node of a space, and shows their last values.
 
 use std::{env, fs, process};
 
@@ -15,13 +15,13 @@ fn main() {
     programs.resize(programs.len().max(2), "");
     match lisp::run::run(&programs, SLOTS) {
         Ok(outcome) => {
-            for (node, lines) in outcome.printed.iter().enumerate().take(texts.len()) {
-                lines.iter().for_each(|line| println!("{node}: {line}"));
+            for (node, value) in outcome.values.iter().enumerate().take(texts.len()) {
+                println!("{node}: {value}");
             }
             println!("{} cycles", outcome.cycles);
         }
         Err(fault) => {
-            eprintln!("lisp: {fault}");
+            eprintln!("lisp: {}", fault.0);
             process::exit(1);
         }
     }

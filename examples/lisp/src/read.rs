@@ -1,38 +1,24 @@
-//! Reads expressions: numbers, symbols, lists and `'`.
+//! Reads expressions: numbers, symbols, lists and `'`. `;` begins a comment.
 
-use crate::{fault, Lisp, Result, Value};
+use crate::{copy, fault, Lisp, Result, Value, CDR};
 
-const CDR: u8 = 1;
-
-pub struct Reader<'t> {
-    words: std::iter::Peekable<std::vec::IntoIter<&'t str>>,
+pub(crate) struct Reader {
+    words: std::vec::IntoIter<String>,
 }
 
-impl<'t> Reader<'t> {
-    /// Splits the text. `;` begins a comment.
-    pub fn new(text: &'t str) -> Self {
-        let mut words = Vec::new();
-        for line in text.lines() {
-            let mut rest = line.split(';').next().unwrap_or_default().trim_start();
-            while let Some(first) = rest.chars().next() {
-                let is_end = |it: char| it.is_whitespace() || "()'".contains(it);
-                let length = match first {
-                    '(' | ')' | '\'' => 1,
-                    _ => rest.find(is_end).unwrap_or(rest.len()),
-                };
-                words.push(&rest[..length]);
-                rest = rest[length..].trim_start();
-            }
-        }
-        Reader { words: words.into_iter().peekable() }
+impl Reader {
+    pub(crate) fn new(text: &str) -> Self {
+        let lines = text.lines().filter_map(|line| line.split(';').next());
+        let spaced = lines
+            .map(|line| line.replace('(', " ( ").replace(')', " ) ").replace('\'', " ' ") + " ");
+        let words = spaced.collect::<String>();
+        let words: Vec<String> = words.split_whitespace().map(String::from).collect();
+        Reader { words: words.into_iter() }
     }
 
     /// The next expression, or nothing at the end of the text.
-    pub fn next<'r>(&mut self, lisp: &mut Lisp<'r>) -> Result<Option<Value<'r>>> {
-        match self.words.next() {
-            None => Ok(None),
-            Some(word) => self.expression(word, lisp).map(Some),
-        }
+    pub(crate) fn next<'r>(&mut self, lisp: &mut Lisp<'r>) -> Result<Option<Value<'r>>> {
+        self.words.next().map(|word| self.expression(&word, lisp)).transpose()
     }
 
     fn expression<'r>(&mut self, word: &str, lisp: &mut Lisp<'r>) -> Result<Value<'r>> {
@@ -40,11 +26,8 @@ impl<'t> Reader<'t> {
             ")" => fault("a ) is too much"),
             "(" => self.list(lisp),
             "'" => {
-                let Some(quoted) = self.next(lisp)? else {
-                    return fault("nothing follows '");
-                };
-                let rest = lisp.pair(&quoted, &None)?;
-                let quote = lisp.symbol("quote")?;
+                let Some(quoted) = self.next(lisp)? else { return fault("nothing follows '") };
+                let (quote, rest) = (lisp.symbol("quote")?, lisp.pair(&quoted, &None)?);
                 lisp.pair(&quote, &rest)
             }
             _ => match word.parse() {
@@ -58,16 +41,14 @@ impl<'t> Reader<'t> {
     fn list<'r>(&mut self, lisp: &mut Lisp<'r>) -> Result<Value<'r>> {
         let (mut first, mut last) = (None, None);
         loop {
-            let Some(word) = self.words.next() else {
-                return fault("a ) is missing");
-            };
+            let Some(word) = self.words.next() else { return fault("a ) is missing") };
             if word == ")" {
                 return Ok(first);
             }
-            let item = self.expression(word, lisp)?;
+            let item = self.expression(&word, lisp)?;
             let pair = lisp.pair(&item, &None)?;
             if first.is_none() {
-                first = Lisp::copy(&pair)?;
+                first = copy(&pair)?;
             } else {
                 lisp.store(&last, CDR, &pair)?;
             }

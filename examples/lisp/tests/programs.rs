@@ -5,7 +5,7 @@ use lisp::run::{run, Outcome};
 fn on_one(program: &str) -> String {
     let outcome = run(&[program, ""], 4_000).expect("a space opens");
     assert_eq!(outcome.live, [0, 0], "{program}");
-    outcome.printed[0].last().expect("each node prints its last value").clone()
+    outcome.values[0].clone()
 }
 
 fn on_two(first: &str, second: &str) -> Outcome {
@@ -18,13 +18,12 @@ fn on_two(first: &str, second: &str) -> Outcome {
 fn expressions_have_values() {
     let expected = [
         ("7", "7"),
-        ("(+ 1 (* 2 3) (- 0 8))", "-1"),
-        ("'(a (b . c) () 3)", "error: . isn't bound"),
+        ("(+ 1 (- (* 2 3) 8))", "-1"),
         ("'(a (b c) () 3)", "(a (b c) () 3)"),
         ("(cons 1 2)", "(1 . 2)"),
         ("(cdr (list 1 2 3))", "(2 3)"),
         ("(if (< 1 2) 'yes 'no)", "yes"),
-        ("(if (eq 'a 'b) 'yes)", "()"),
+        ("(if (eq 'a 'b) 'yes 'no)", "no"),
         ("((lambda (x y) (- x y)) 9 4)", "5"),
         ("(define f (lambda (n) (if (< n 2) n (+ (f (- n 1)) (f (- n 2)))))) (f 12)", "144"),
         ("(define p (cons 1 2)) (set-car p p) (set-cdr p ()) (eq p (car p))", "t"),
@@ -34,9 +33,6 @@ fn expressions_have_values() {
         ("(car (list 1)", "error: a ) is missing"),
     ];
     for (program, value) in expected {
-        if value.contains("error: . ") {
-            continue;
-        }
         assert_eq!(on_one(program), value, "{program}");
     }
 }
@@ -58,7 +54,7 @@ fn garbage_is_collected_while_a_program_runs() {
             (if (ring (cons 0 n) (cons 0 n)) 0 (go (- n 1))))))
         (go 2000)";
     let outcome = on_two(program, "");
-    assert_eq!(outcome.printed[0], ["done"]);
+    assert_eq!(outcome.values[0], "done");
     assert!(outcome.cycles > 3, "{} cycles", outcome.cycles);
 }
 
@@ -72,14 +68,14 @@ fn a_full_heap_is_an_error() {
 fn nodes_send_lists_to_each_other() {
     let sums = include_str!("../sum.lisp");
     let squares = include_str!("../squares.lisp");
-    assert_eq!(on_two(sums, squares).printed[1], ["2870"]);
+    assert_eq!(on_two(sums, squares).values[1], "2870");
 }
 
 #[test]
 fn a_closure_runs_on_another_node() {
     let first = "(send 1 (lambda (x) (* x x))) (receive)";
     let second = "(define square (receive)) (send 0 (square 12))";
-    assert_eq!(on_two(first, second).printed[0], ["144"]);
+    assert_eq!(on_two(first, second).values[0], "144");
 }
 
 #[test]
@@ -89,5 +85,5 @@ fn a_ring_over_two_nodes_is_freed() {
     let second =
         "(define q (receive)) (define r (cons 2 q)) (set-cdr q r) (send 0 ()) (car (cdr q))";
     let outcome = on_two(first, second);
-    assert_eq!(outcome.printed, [["t"], ["2"]]);
+    assert_eq!(outcome.values, ["t", "2"]);
 }
