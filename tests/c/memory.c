@@ -110,6 +110,12 @@ static bytes all_shown(void)
     return all;
 }
 
+// The disk of a cell is in memory: if that can't grow, it fails.
+static int is_refusal(int status)
+{
+    return status == MARKRING_MEMORY || status == MARKRING_DISK;
+}
+
 // Makes a call, and makes it again if memory was refused to it. `spares` says that it may not have
 // been refused.
 #define MAKE(status, spares, call) \
@@ -120,7 +126,7 @@ static bytes all_shown(void)
         within = 1; \
         int outcome = (call); \
         within = 0; \
-        if (outcome == MARKRING_MEMORY) { \
+        if (is_refusal(outcome)) { \
             bytes after = all_shown(); \
             HOLDS(!(spares)); \
             HOLDS(is_blotted(&answer)); \
@@ -247,11 +253,12 @@ static bytes over_nodes(void)
     return all;
 }
 
+// Saves a cell. No memory is refused to the save itself, see `saves`.
 static void save_cell(int own_number)
 {
     MAY(markring_cell_image_size(&cells[own_number], &size));
     MAY(markring_cell_image(&cells[own_number], image, sizeof image, &needed, &mark));
-    MAY(markring_cell_save(&cells[own_number], mark));
+    OK(markring_cell_save(&cells[own_number], mark));
 }
 
 // Sends from one cell to the other until nothing is left.
@@ -267,21 +274,28 @@ static void flush(int from)
     } while (sent.released != received.received);
 }
 
+// Nothing can be done with a closed cell except reopening and reading it.
+static void expect_closed(markring_cell *cell)
+{
+    blot(&answer);
+    IS(MARKRING_CLOSED, markring_cell_word(cell, 0, &answer));
+    IS(MARKRING_CLOSED, markring_cell_alloc(cell, 99, 99, &answer));
+    IS(MARKRING_CLOSED, markring_cell_receive(cell, 1, &answer));
+    HOLDS(is_blotted(&answer));
+    IS(MARKRING_CLOSED, markring_cell_send(cell, 1, &flag));
+    IS(MARKRING_CLOSED, markring_cell_raise(cell, &number));
+    OK(markring_cell_state(cell, &state));
+}
+
 // A reopening that is refused memory closes the cell, until another one succeeds.
 static void reopen(markring_cell *cell)
 {
     within = 1;
     int status = markring_cell_reopen(cell);
     within = 0;
-    if (status == MARKRING_MEMORY) {
+    if (is_refusal(status)) {
         refusals++;
-        blot(&answer);
-        IS(MARKRING_CLOSED, markring_cell_word(cell, 0, &answer));
-        IS(MARKRING_CLOSED, markring_cell_alloc(cell, 99, 99, &answer));
-        IS(MARKRING_CLOSED, markring_cell_receive(cell, 1, &answer));
-        HOLDS(is_blotted(&answer));
-        IS(MARKRING_CLOSED, markring_cell_send(cell, 1, &flag));
-        IS(MARKRING_CLOSED, markring_cell_raise(cell, &number));
+        expect_closed(cell);
         status = markring_cell_reopen(cell);
     }
     IS(MARKRING_OK, status);
@@ -341,6 +355,59 @@ static bytes over_cells(void)
     return all;
 }
 
+// Saves a cell with a new object, and refuses an allocation of the save. After MEMORY the mark is
+// still good. After DISK the cell is closed, and a reopening finds the old node or the new one.
+// Returns whether the save made that allocation.
+static int save_without(unsigned long one)
+{
+    markring_space space = {0};
+    markring_cell *cell = &cells[0];
+    OK(markring_space_new(&space, 2, 2, 4, 0));
+    OK(markring_space_open(&space));
+    OK(markring_space_cell(&space, 0, cell));
+    OK(markring_space_free(&space));
+    OK(markring_cell_alloc(cell, 0, 1, &answer));
+    OK(markring_cell_image(cell, image, sizeof image, &needed, &mark));
+    requests = 0;
+    refused_one = one;
+    within = 1;
+    int status = markring_cell_save(cell, mark);
+    within = 0;
+    int reached = requests >= one;
+    HOLDS(is_refusal(status) == reached);
+    if (status == MARKRING_MEMORY) {
+        OK(markring_cell_unsaved(cell, &flag));
+        EQUAL(1, flag);
+        status = markring_cell_save(cell, mark);
+    }
+    if (status == MARKRING_DISK) {
+        expect_closed(cell);
+        IS(MARKRING_CLOSED, markring_cell_save(cell, mark));
+        OK(markring_cell_reopen(cell));
+        OK(markring_cell_state(cell, &state));
+        HOLDS(state.live <= 1);
+        if (state.live == 0) {
+            OK(markring_cell_alloc(cell, 0, 1, &answer));
+        }
+        OK(markring_cell_image(cell, image, sizeof image, &needed, &mark));
+        status = markring_cell_save(cell, mark);
+    }
+    IS(MARKRING_OK, status);
+    OK(markring_cell_unsaved(cell, &flag));
+    EQUAL(0, flag);
+    OK(markring_cell_free(cell));
+    return reached;
+}
+
+static void saves(void)
+{
+    unsigned long one = 1;
+    while (save_without(one)) {
+        one++;
+    }
+    printf("%lu allocations of a save refused\n", one - 1);
+}
+
 static void refuse_each(bytes (*scenario)(void))
 {
     refused_one = requests = refusals = 0;
@@ -363,5 +430,6 @@ int main(void)
 {
     refuse_each(over_nodes);
     refuse_each(over_cells);
+    saves();
     return report();
 }
