@@ -32,7 +32,14 @@ pub(crate) fn filled(length: usize) -> Result<Vec<u8>> {
 /// A frame may be lost, repeated and delayed: send the released ones again and again until they are
 /// acknowledged. What a node sent is released once an image that holds it is kept.
 ///
-/// A value of this type may move to another thread, but two threads can't use it at the same time.
+/// A value of this type may move to another thread, but two threads can't use it at the same time:
+///
+/// ```compile_fail
+/// fn is_shared<T: Sync>() {}
+/// is_shared::<markring::Node>();
+/// ```
+///
+/// A letter from one node to another:
 ///
 /// ```
 /// use markring::{Events, Node, Taken};
