@@ -220,10 +220,12 @@ static void open_space(int has_images, markring_watch *watch)
     OK(markring_space_free(&space));
 }
 
-// Runs the threads until all letters have come, or until a time that ends in a crash.
-static void run_threads(int crashes, uint64_t *seed)
+// Runs the threads until all letters have come, or until a time that ends in a crash. Meanwhile this
+// thread looks at the watch.
+static void run_threads(int crashes, uint64_t *seed, markring_watch *watch)
 {
     pthread_t threads[MOST];
+    uint64_t last = 0, cycle = 0;
     atomic_store(&stop, 0);
     atomic_store(&finished, 0);
     for (uint8_t node = 0; node < nodes; node++) {
@@ -234,6 +236,9 @@ static void run_threads(int crashes, uint64_t *seed)
     time_t began = time(NULL);
     do {
         nanosleep(&moment, NULL);
+        OK(markring_watch_look(watch, &cycle));
+        HOLDS(cycle >= last);
+        last = cycle;
     } while (!crashes && atomic_load(&finished) < nodes && time(NULL) - began < SECONDS);
     atomic_store(&stop, 1);
     for (uint8_t node = 0; node < nodes; node++) {
@@ -264,7 +269,7 @@ int main(int length, char **given)
     unsigned long crashes = length > 3 ? strtoul(given[3], NULL, 10) : 5;
     open_space(0, &watch);
     for (unsigned long i = 0; i < crashes; i++) {
-        run_threads(1, &seed);
+        run_threads(1, &seed, &watch);
         OK(markring_watch_look(&watch, &cycle));
         for (uint8_t node = 0; node < nodes; node++) {
             OK(markring_cell_free(&sites[node].cell));
@@ -274,7 +279,7 @@ int main(int length, char **given)
         OK(markring_watch_look(&watch, &later));
         EQUAL(0, later);
     }
-    run_threads(0, &seed);
+    run_threads(0, &seed, &watch);
     for (uint8_t node = 0; node < nodes; node++) {
         EQUAL(letters, word_of(&sites[node], ACCEPTED));
         EQUAL(letters, word_of(&sites[node], GIVEN));
