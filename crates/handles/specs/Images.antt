@@ -1,0 +1,93 @@
+-- Images of a node that its caller stores.
+use Rattle.std.specs.Prelude.{◌≡◌, ℕ, ◌+◌, ◌<◌, ◌≤◌, ◌%◌, ◌^◌, zero, suc, Bool, true, false, ◌==◌, List, [], ◌∷◌, ◌++◌, length, Option, Some, None, Result, Ok, Err, slice_index_or}
+use Rattle.std.specs.Global.{Vec}
+use Rattle.ids.specs.declared.limits.TheConstants.{GREATEST_IMAGE}
+use Rattle.ids.specs.declared.refusal.Refusal.TheVariants.{ImageTooLarge, Memory}
+use Rattle.model.specs.State.{got_from}
+use Rattle.model.specs.View.{NodeView, link_to, used}
+use Rattle.node.specs.Keeping.{WholeNode, kept_whole_with}
+use Rattle.image.specs.Images.{image_of}
+use Rattle.handles.specs.Bytes.{Wrote}
+use Rattle.handles.specs.declared.fault.Fault.{Fault}
+use Rattle.handles.specs.declared.fault.Fault.TheVariants as fault
+use Rattle.handles.specs.declared.lone.images.Counts.{Counts}
+use Rattle.handles.specs.declared.lone.LoneNode.{LoneNode}
+
+-- ---- What an image holds of the links
+
+-- how many messages were sent to a node and received from it
+abbrev pub counted : NodeView → ℕ → Counts
+counted n peer = record { sent = used (link_to n peer); received = got_from n.local peer }
+
+abbrev pub counts_below : NodeView → ℕ → List Counts
+counts_below n zero = []
+counts_below n (suc peer) = counts_below n peer ++ counted n peer ∷ []
+
+-- for each node of the space
+unfoldable pub counts_of : NodeView → List Counts
+counts_of n = counts_below n (length n.links)
+
+abbrev pub no_counts : Counts
+no_counts = record { sent = 0; received = 0 }
+
+-- These numbers count as saved, on the links to the first nodes.
+abbrev pub keeps_below : List Counts → ℕ → WholeNode → WholeNode
+keeps_below counts zero n = n
+keeps_below counts (suc peer) n =
+    kept_whole_with peer (slice_index_or counts peer no_counts).sent
+    (slice_index_or counts peer no_counts).received (keeps_below counts peer n)
+
+unfoldable pub keeps : List Counts → WholeNode → WholeNode
+keeps counts n = keeps_below counts (length n.core.links) n
+
+-- ---- The calls
+
+-- the length of the image, or why there is none
+abbrev pub Sized : NodeView → Result ℕ Fault → Type 0
+Sized n (Ok size) = size ≡ length (image_of n)
+Sized n (Err (fault.Refused ImageTooLarge)) = GREATEST_IMAGE < length (image_of n)
+Sized n (Err (fault.Refused Memory)) = length (image_of n) ≤ GREATEST_IMAGE
+Sized n (Err e) = ⊥
+
+-- The image of the node is written, and what it holds is kept for the mark; or nothing changes.
+abbrev pub Imaged : LoneNode → LoneNode → Result ℕ Fault → List ℕ → List ℕ → ℕ → ℕ → Type 0
+Imaged old new (Ok mark) held now before needed =
+    (counts : Vec Counts) × (counts.items ≡ counts_of old.node.core) × (new ≡ record old {
+      counts = Some counts;
+      mark = mark;
+      is_changed = false;
+    }) × (mark ≡ (old.mark + 1) % 2 ^ 64) × Wrote (image_of old.node.core) (Ok tt) held now needed
+Imaged old new (Err fault.ShortBuffer) held now before needed =
+    (new ≡ old) × Wrote (image_of old.node.core) (Err fault.ShortBuffer) held now needed
+Imaged old new (Err (fault.Refused e)) held now before needed =
+    (new ≡ old) × Sized old.node.core (Err (fault.Refused e)) × (now ≡ held) × (needed ≡ before)
+Imaged old new (Err e) held now before needed = ⊥
+
+-- What the last image holds counts as saved, if this is its mark.
+abbrev pub after_kept : Option (Vec Counts) → Bool → LoneNode → LoneNode
+after_kept None same n = n
+after_kept (Some counts) false n = n
+after_kept (Some counts) true n =
+    record n { node = keeps counts.items n.node; is_unsaved = n.is_changed }
+
+abbrev pub kept_result : Option (Vec Counts) → Bool → Result (Unit {0}) Fault
+kept_result None same = Err fault.WrongMark
+kept_result (Some counts) false = Err fault.WrongMark
+kept_result (Some counts) true = Ok tt
+
+abbrev pub Kept : ℕ → LoneNode → LoneNode → Result (Unit {0}) Fault → Type 0
+Kept mark old new r =
+    (new ≡ after_kept old.counts (mark == old.mark) old)
+    × (r ≡ kept_result old.counts (mark == old.mark))
+
+-- ---- The same for what a handle holds
+
+abbrev pub SizedSame : LoneNode → LoneNode → Result ℕ Fault → Type 0
+SizedSame old new r = (new ≡ old) × Sized old.node.core r
+
+abbrev pub HandleImaged : Option LoneNode → Option LoneNode → Result ℕ Fault → List ℕ → List ℕ → ℕ
+    → ℕ → Type 0
+HandleImaged (Some old) (Some new) r held now before needed = Imaged old new r held now before needed
+HandleImaged (Some old) None r held now before needed = ⊥
+HandleImaged None new r held now before needed =
+    (new ≡ None) × (r ≡ Err fault.NoHandle) × (now ≡ held) × (needed ≡ before)

@@ -1,0 +1,7 @@
+pub mod Bytes
+pub mod Faults
+pub mod Fields
+pub mod Frames
+pub mod Images
+pub mod Lone
+pub mod Reads

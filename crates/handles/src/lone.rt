@@ -1,0 +1,185 @@
+//! A node whose caller moves its frames and stores its images.
+ghost use Rattle.std.specs.Prelude.{◌≡◌, ◌||◌, false, None, Ok};
+ghost use Rattle.msg.specs.Frames.{plain};
+ghost use Rattle.handles.specs.Lone.{Acknowledged, Given, Made, Read, TookIn, is_congested, is_counted};
+ghost use Rattle.handles.specs.Lone.{lone, receiver_of, unacknowledged};
+
+mod frames;
+mod images;
+mod reading;
+
+use crate::fault::Fault;
+use ids::{NodeId, Ref, Refusal, Shape};
+use image::from_bytes;
+pub(crate) use images::Counts;
+use model::{Answer, Event};
+use msg::{Ack, Data, Frame, decode};
+use node::Node;
+use std::alloc::Global;
+
+/// A node whose caller moves its frames and stores its images.
+#[derive(Drop)]
+pub struct LoneNode {
+    pub(crate) node: Node,
+    // How many of the messages to another node may be unacknowledged for the program to send it
+    // another one; 0 if any number.
+    limit: u64,
+    // The mark of the last image, which is the number of images, and what that image holds of the
+    // links; none if there was no image.
+    mark: u64,
+    counts: Option<Vec<Counts>>,
+    // Whether an event changed the node since the last image, and since the last one that was kept.
+    is_changed: bool,
+    is_unsaved: bool,
+}
+
+// Whether an answer is that of an event that changes the node. Reading a word changes nothing, nor
+// does a repeat or an early message.
+fn is_counted(answer: &Answer) -> bool
+    ensures { result ≡ is_counted answer.now }
+{
+    match answer {
+        Answer::Word(_) | Answer::Repeat | Answer::Early => false,
+        Answer::New(_)
+        | Answer::Done
+        | Answer::Value(_)
+        | Answer::Sent(_)
+        | Answer::Letter(_)
+        | Answer::Begun(_)
+        | Answer::Scanned(_)
+        | Answer::Passed(_)
+        | Answer::ProbeAgain
+        | Answer::Ended(_)
+        | Answer::Freed { .. }
+        | Answer::Received => true,
+    }
+}
+
+impl LoneNode {
+    // A node of which no image was taken, with nothing unsaved.
+    fn of(node: Node, limit: u64) -> LoneNode
+        ensures { result ≡ lone node limit }
+    {
+        LoneNode {
+            node,
+            limit,
+            mark: 0,
+            counts: None,
+            is_changed: false,
+            is_unsaved: false,
+        }
+    }
+
+    /// A new node. Fails with `BadArgument` if these are no sizes of a space, then with `NoNode` if
+    /// the space has no such node, and with `Memory`.
+    pub fn new(
+        alloc: Global,
+        nodes: u8,
+        registers: u16,
+        slots: u32,
+        own: u8,
+        limit: u64,
+    ) -> Result<LoneNode, Fault>
+        ensures { Made (record { nodes = nodes; registers = registers; slots = slots }) own limit
+            result }
+    {
+        let shape = Shape::new(nodes, registers, slots).ok_or(Fault::BadArgument)?;
+        let own = NodeId::new(own).ok_or(Fault::Refused(Refusal::NoNode))?;
+        let node = Node::new(alloc, shape, own)?;
+        Ok(LoneNode::of(node, limit))
+    }
+
+    /// The node of an image. Fails with `BadImage` if the bytes are no image, and with `Memory`.
+    pub fn read(alloc: Global, bytes: &[u8], limit: u64) -> Result<LoneNode, Fault>
+        ensures { Read bytes.now limit result }
+    {
+        let node = from_bytes(alloc, bytes)?;
+        Ok(LoneNode::of(node, limit))
+    }
+
+    // The number of unacknowledged messages to a node.
+    fn unacknowledged(&self, to: u8) -> u64
+        ensures { result ≡ unacknowledged self.now.node.core to }
+    {
+        let links = self.node.core().links();
+        if to < links.width() {
+            links.used(to) - links.base(to)
+        } else {
+            0
+        }
+    }
+
+    // The node that the program's message would go to.
+    fn receiver(&self, event: &Event) -> Option<u8>
+        ensures { result ≡ receiver_of self.now.node.core.local event.now }
+    {
+        match event {
+            Event::Give { to, .. } => Some(*to),
+            Event::Put { object, .. } | Event::Get { object, .. } => {
+                let register = usize::from(*object);
+                let held = self.node.core().heap().registers().get(register)?;
+                let reference: Ref = (*held)?;
+                Some(reference.node)
+            }
+            _ => None,
+        }
+    }
+
+    // Whether as many messages on the link as the limit allows aren't acknowledged.
+    #[inline(always)]
+    fn is_congested(&self, event: &Event) -> bool
+        ensures { result ≡ is_congested self.now event.now }
+    {
+        if self.limit == 0 {
+            return false;
+        }
+        match self.receiver(event) {
+            Some(to) => self.limit <= self.unacknowledged(to),
+            None => false,
+        }
+    }
+
+    /// Gives the node an event of its own. Fails with `Congested` before any other test if the
+    /// event sends a message and as many on that link as the limit allows aren't acknowledged; else
+    /// as the node refuses the event.
+    #[inline(always)]
+    pub fn act(&mut self, event: Event) -> Result<Answer, Fault>
+        ensures { Given (is_congested self.old event) self.old self.new event result }
+    {
+        if self.is_congested(&event) {
+            return Err(Fault::Congested);
+        }
+        self.perform(event)
+    }
+
+    // Gives the node an event.
+    #[inline(always)]
+    fn perform(&mut self, event: Event) -> Result<Answer, Fault>
+        ensures { Given false self.old self.new event result }
+    {
+        let answer = self.node.act(event)?;
+        let changes = is_counted(&answer);
+        self.is_changed = self.is_changed || changes;
+        self.is_unsaved = self.is_unsaved || changes;
+        Ok(answer)
+    }
+
+    // Gives the node an acknowledgement, which changes no state.
+    fn acknowledge(&mut self, ack: Ack) -> Result<Answer, Fault>
+        ensures { Acknowledged self.old self.new ack result }
+    {
+        let answer = self.node.act(Event::Ack(ack))?;
+        Ok(answer)
+    }
+
+    /// Gives the node the frame that the bytes spell. Fails with `BadFrame` if they spell none, else
+    /// as the node refuses the frame.
+    pub fn take(&mut self, bytes: &[u8]) -> Result<Answer, Fault>
+        ensures { TookIn bytes.now self.old self.new result }
+    {
+        match decode(bytes)? {
+            Frame::Data(data) => self.perform(Event::Data(data)),
+            Frame::Ack(ack) => self.acknowledge(ack),
+        }
+    }
+}

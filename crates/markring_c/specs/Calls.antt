@@ -1,0 +1,50 @@
+-- What the exports do: they call the method of a handle, return the status of its result, and write
+-- what the result holds.
+use Rattle.std.specs.Prelude.{◌≡◌, ℕ, ℤ, Option, Some, None, Result}
+use Rattle.model.specs.declared.event.Answer.{Answer}
+use Rattle.model.specs.declared.event.Event.{Event}
+use Rattle.handles.specs.Faults.{Through, status, status_of, written}
+use Rattle.handles.specs.Fields.{answer_fields}
+use Rattle.handles.specs.Lone.{NodeActs}
+use Rattle.handles.specs.declared.fault.Fault.{Fault}
+use Rattle.handles.specs.declared.fault.Fault.TheVariants as fault
+use Rattle.handles.specs.declared.fields.CAnswer.{CAnswer}
+use Rattle.handles.specs.declared.lone.LoneNode.{LoneNode}
+
+-- The call did this with some result, which was written to the answer.
+pub record Answered {X : Type 0} (Does : Option X → Option X → Result Answer Fault → Type 0)
+    (old new : Option X) (s : ℤ) (before after : CAnswer) : Type 0 where
+  pub result : Result Answer Fault
+  pub does : Does old new result
+  pub status : s ≡ status result
+  pub answer : after ≡ written answer_fields result before
+
+-- The call did this, with some result that says nothing else.
+pub record Finished {X : Type 0} (Does : Option X → Option X → Result (Unit {0}) Fault → Type 0)
+    (old new : Option X) (s : ℤ) : Type 0 where
+  pub result : Result (Unit {0}) Fault
+  pub does : Does old new result
+  pub status : s ≡ status result
+
+-- the same where the handle isn't named
+pub record Finishes (Does : Result (Unit {0}) Fault → Type 0) (s : ℤ) : Type 0 where
+  pub result : Result (Unit {0}) Fault
+  pub does : Does result
+  pub status : s ≡ status result
+
+-- The call did this with some result, whose number was written.
+pub record Numbered (Does : Result ℕ Fault → Type 0) (s : ℤ) (before after : ℕ) : Type 0 where
+  pub result : Result ℕ Fault
+  pub does : Does result
+  pub status : s ≡ status result
+  pub number : after ≡ written (λ x. x) result before
+
+abbrev pub NodeCalled : Event → Option LoneNode → Option LoneNode → ℤ → CAnswer → CAnswer → Type 0
+NodeCalled e = Answered (Through (NodeActs e))
+
+-- the same for an event that fields describe, if they describe one
+abbrev pub NodeActed : Option Event → Option LoneNode → Option LoneNode → ℤ → CAnswer → CAnswer
+    → Type 0
+NodeActed (Some e) old new s before after = NodeCalled e old new s before after
+NodeActed None old new s before after =
+    (new ≡ old) × (s ≡ status_of fault.BadArgument) × (after ≡ before)

@@ -1,0 +1,241 @@
+//! The events of a node.
+ghost use Rattle.model.specs.declared.event.Event.TheVariants as event;
+ghost use Rattle.markring_c.specs.Calls.{NodeCalled};
+
+use crate::written::answered;
+use handles::{CAnswer, NodeHandle};
+use model::Event;
+use std::alloc::Global;
+
+/// Makes a new object with this many empty places, and puts its reference into the register.
+#[unsafe(no_mangle)]
+pub extern "C" fn markring_node_alloc(
+    alloc: Global,
+    node: &mut NodeHandle,
+    register: u16,
+    places: u8,
+    answer: &mut CAnswer,
+) -> i32
+    ensures { NodeCalled (event.Alloc register places) node.old.held node.new.held result answer.old answer.new }
+{
+    answered(node.act(alloc, Event::Alloc { register, places }), answer)
+}
+
+/// Copies the reference in the source register into the register.
+#[unsafe(no_mangle)]
+pub extern "C" fn markring_node_copy(
+    alloc: Global,
+    node: &mut NodeHandle,
+    register: u16,
+    source: u16,
+    answer: &mut CAnswer,
+) -> i32
+    ensures { NodeCalled (event.Copy register source) node.old.held node.new.held result answer.old answer.new }
+{
+    answered(node.act(alloc, Event::Copy { register, source }), answer)
+}
+
+/// Empties the register.
+#[unsafe(no_mangle)]
+pub extern "C" fn markring_node_drop(
+    alloc: Global,
+    node: &mut NodeHandle,
+    register: u16,
+    answer: &mut CAnswer,
+) -> i32
+    ensures { NodeCalled (event.Drop register) node.old.held node.new.held result answer.old answer.new }
+{
+    answered(node.act(alloc, Event::Drop { register }), answer)
+}
+
+/// Copies the content of a place of the object into the register.
+#[unsafe(no_mangle)]
+pub extern "C" fn markring_node_load(
+    alloc: Global,
+    node: &mut NodeHandle,
+    register: u16,
+    object: u16,
+    place: u8,
+    answer: &mut CAnswer,
+) -> i32
+    ensures { NodeCalled (event.Load register object place) node.old.held node.new.held result answer.old answer.new }
+{
+    answered(node.act(alloc, Event::Load { register, object, place }), answer)
+}
+
+/// Stores the register's reference in a place of the object.
+#[unsafe(no_mangle)]
+pub extern "C" fn markring_node_store(
+    alloc: Global,
+    node: &mut NodeHandle,
+    object: u16,
+    place: u8,
+    register: u16,
+    answer: &mut CAnswer,
+) -> i32
+    ensures { NodeCalled (event.Store object place register) node.old.held node.new.held result answer.old answer.new }
+{
+    answered(node.act(alloc, Event::Store { object, place, register }), answer)
+}
+
+/// Empties a place of the object.
+#[unsafe(no_mangle)]
+pub extern "C" fn markring_node_clear(
+    alloc: Global,
+    node: &mut NodeHandle,
+    object: u16,
+    place: u8,
+    answer: &mut CAnswer,
+) -> i32
+    ensures { NodeCalled (event.Clear object place) node.old.held node.new.held result answer.old answer.new }
+{
+    answered(node.act(alloc, Event::Clear { object, place }), answer)
+}
+
+/// Reads the word of the object.
+#[unsafe(no_mangle)]
+pub extern "C" fn markring_node_word(
+    alloc: Global,
+    node: &mut NodeHandle,
+    object: u16,
+    answer: &mut CAnswer,
+) -> i32
+    ensures { NodeCalled (event.Word object) node.old.held node.new.held result answer.old answer.new }
+{
+    answered(node.act(alloc, Event::Word { object }), answer)
+}
+
+/// Writes the word of the object.
+#[unsafe(no_mangle)]
+pub extern "C" fn markring_node_set_word(
+    alloc: Global,
+    node: &mut NodeHandle,
+    object: u16,
+    word: u64,
+    answer: &mut CAnswer,
+) -> i32
+    ensures { NodeCalled (event.SetWord object word) node.old.held node.new.held result answer.old answer.new }
+{
+    answered(node.act(alloc, Event::SetWord { object, word }), answer)
+}
+
+/// Sends a letter to another node.
+#[unsafe(no_mangle)]
+pub extern "C" fn markring_node_give(
+    alloc: Global,
+    node: &mut NodeHandle,
+    to: u8,
+    label: u32,
+    register: u16,
+    answer: &mut CAnswer,
+) -> i32
+    ensures { NodeCalled (event.Give to label register) node.old.held node.new.held result answer.old answer.new }
+{
+    answered(node.act(alloc, Event::Give { to, label, register }), answer)
+}
+
+/// Removes the oldest letter and puts its reference into the register.
+#[unsafe(no_mangle)]
+pub extern "C" fn markring_node_accept(
+    alloc: Global,
+    node: &mut NodeHandle,
+    register: u16,
+    answer: &mut CAnswer,
+) -> i32
+    ensures { NodeCalled (event.Accept register) node.old.held node.new.held result answer.old answer.new }
+{
+    answered(node.act(alloc, Event::Accept { register }), answer)
+}
+
+/// Asks the owner of another node's object to store the register's reference there.
+#[unsafe(no_mangle)]
+pub extern "C" fn markring_node_put(
+    alloc: Global,
+    node: &mut NodeHandle,
+    object: u16,
+    place: u8,
+    register: u16,
+    answer: &mut CAnswer,
+) -> i32
+    ensures { NodeCalled (event.Put object place register) node.old.held node.new.held result answer.old answer.new }
+{
+    answered(node.act(alloc, Event::Put { object, place, register }), answer)
+}
+
+/// Asks the owner of another node's object for the content of a place.
+#[unsafe(no_mangle)]
+pub extern "C" fn markring_node_get(
+    alloc: Global,
+    node: &mut NodeHandle,
+    object: u16,
+    place: u8,
+    label: u32,
+    answer: &mut CAnswer,
+) -> i32
+    ensures { NodeCalled (event.Get object place label) node.old.held node.new.held result answer.old answer.new }
+{
+    answered(node.act(alloc, Event::Get { object, place, label }), answer)
+}
+
+/// Begins the next cycle.
+#[unsafe(no_mangle)]
+pub extern "C" fn markring_node_begin(
+    alloc: Global,
+    node: &mut NodeHandle,
+    answer: &mut CAnswer,
+) -> i32
+    ensures { NodeCalled event.Begin node.old.held node.new.held result answer.old answer.new }
+{
+    answered(node.act(alloc, Event::Begin), answer)
+}
+
+/// Shades the references in the places of a grey object.
+#[unsafe(no_mangle)]
+pub extern "C" fn markring_node_scan(
+    alloc: Global,
+    node: &mut NodeHandle,
+    answer: &mut CAnswer,
+) -> i32
+    ensures { NodeCalled event.Scan node.old.held node.new.held result answer.old answer.new }
+{
+    answered(node.act(alloc, Event::Scan), answer)
+}
+
+/// Passes the token on, or decides whether marking has ended.
+#[unsafe(no_mangle)]
+pub extern "C" fn markring_node_pass(
+    alloc: Global,
+    node: &mut NodeHandle,
+    answer: &mut CAnswer,
+) -> i32
+    ensures { NodeCalled event.Pass node.old.held node.new.held result answer.old answer.new }
+{
+    answered(node.act(alloc, Event::Pass), answer)
+}
+
+/// Frees the unmarked objects in the next slots, at most this many.
+#[unsafe(no_mangle)]
+pub extern "C" fn markring_node_sweep(
+    alloc: Global,
+    node: &mut NodeHandle,
+    count: u32,
+    answer: &mut CAnswer,
+) -> i32
+    ensures { NodeCalled (event.Sweep count) node.old.held node.new.held result answer.old answer.new }
+{
+    answered(node.act(alloc, Event::Sweep { count }), answer)
+}
+
+/// Receives the message that waits from another node.
+#[unsafe(no_mangle)]
+pub extern "C" fn markring_node_next(
+    alloc: Global,
+    node: &mut NodeHandle,
+    from: u8,
+    answer: &mut CAnswer,
+) -> i32
+    ensures { NodeCalled (event.Next from) node.old.held node.new.held result answer.old answer.new }
+{
+    answered(node.act(alloc, Event::Next { from }), answer)
+}
+

@@ -1,0 +1,270 @@
+//! Nodes, except for their events one by one.
+ghost use Rattle.std.specs.Prelude.{◌≡◌, Ok};
+ghost use Rattle.node.specs.Summaries.{summary_of};
+ghost use Rattle.handles.specs.Faults.{read, status, written};
+ghost use Rattle.handles.specs.Fields.{bit, event_of, reference_fields, state_fields};
+ghost use Rattle.handles.specs.Lone.{Made, Read, TookIn};
+ghost use Rattle.handles.specs.Bytes.{WroteIf};
+ghost use Rattle.handles.specs.Faults.{Filled, Freed, Through};
+ghost use Rattle.handles.specs.Frames.{HandlePacks, ack_bytes, frame_bytes};
+ghost use Rattle.handles.specs.Images.{HandleImaged, Kept, SizedSame};
+ghost use Rattle.handles.specs.Reads.{link_of, register_of, waiting_number};
+ghost use Rattle.markring_c.specs.Calls.{Answered, Finished, Finishes, NodeActed, Numbered};
+
+use crate::written::{answered, status, written};
+use handles::{CAnswer, CEvent, CLink, CRef, CState, Fault, NodeHandle, OK};
+use std::alloc::Global;
+
+/// Makes a new node.
+#[unsafe(no_mangle)]
+pub extern "C" fn markring_node_new(
+    alloc: Global,
+    node: &mut NodeHandle,
+    nodes: u8,
+    registers: u16,
+    slots: u32,
+    own: u8,
+    limit: u64,
+) -> i32
+    ensures { Finished (Filled
+        (Made (record { nodes = nodes; registers = registers; slots = slots }) own limit))
+        node.old.held node.new.held result }
+{
+    status(node.fill_new(alloc, nodes, registers, slots, own, limit))
+}
+
+/// Frees the node.
+#[unsafe(no_mangle)]
+pub extern "C" fn markring_node_free(alloc: Global, node: &mut NodeHandle) -> i32
+    ensures { Finished Freed node.old.held node.new.held result }
+{
+    status(node.free(alloc))
+}
+
+/// Gives the node the event that the fields describe.
+#[unsafe(no_mangle)]
+pub extern "C" fn markring_node_act(
+    alloc: Global,
+    node: &mut NodeHandle,
+    event: &CEvent,
+    answer: &mut CAnswer,
+) -> i32
+    ensures { NodeActed (event_of event.now) node.old.held node.new.held result answer.old
+        answer.new }
+{
+    match event.event() {
+        Some(it) => answered(node.act(alloc, it), answer),
+        None => Fault::BadArgument.status(),
+    }
+}
+
+/// Gives the node a frame.
+#[unsafe(no_mangle)]
+pub extern "C" fn markring_node_take(
+    alloc: Global,
+    node: &mut NodeHandle,
+    bytes: &[u8],
+    answer: &mut CAnswer,
+) -> i32
+    ensures { Answered (Through (TookIn bytes.now)) node.old.held node.new.held result answer.old
+        answer.new }
+{
+    answered(node.take_frame(alloc, bytes), answer)
+}
+
+/// Makes the node of an image.
+#[unsafe(no_mangle)]
+pub extern "C" fn markring_node_from_image(
+    alloc: Global,
+    node: &mut NodeHandle,
+    bytes: &[u8],
+    limit: u64,
+) -> i32
+    ensures { Finished (Filled (Read bytes.now limit)) node.old.held node.new.held result }
+{
+    status(node.fill_read(alloc, bytes, limit))
+}
+
+/// The node in numbers.
+#[unsafe(no_mangle)]
+pub extern "C" fn markring_node_state(
+    alloc: Global,
+    node: &mut NodeHandle,
+    state: &mut CState,
+) -> i32
+    ensures same { node.new.held ≡ node.old.held }
+    ensures status { result
+        ≡ status (read (λ n. Ok (summary_of n.node.core.local)) node.old.held) }
+    ensures value { state.new ≡ written state_fields
+        (read (λ n. Ok (summary_of n.node.core.local)) node.old.held) state.old }
+{
+    match node.state(alloc) {
+        Ok(it) => {
+            *state = CState::of(it);
+            OK
+        }
+        Err(fault) => fault.status(),
+    }
+}
+
+/// The links between the node and another one.
+#[unsafe(no_mangle)]
+pub extern "C" fn markring_node_link(
+    alloc: Global,
+    node: &mut NodeHandle,
+    peer: u8,
+    link: &mut CLink,
+) -> i32
+    ensures same { node.new.held ≡ node.old.held }
+    ensures status { result ≡ status (read (λ n. link_of n.node.core peer) node.old.held) }
+    ensures value { link.new
+        ≡ written (λ x. x) (read (λ n. link_of n.node.core peer) node.old.held) link.old }
+{
+    written(node.link(alloc, peer), link)
+}
+
+/// The reference in a register.
+#[unsafe(no_mangle)]
+pub extern "C" fn markring_node_register(
+    alloc: Global,
+    node: &mut NodeHandle,
+    register: u16,
+    reference: &mut CRef,
+) -> i32
+    ensures same { node.new.held ≡ node.old.held }
+    ensures status { result
+        ≡ status (read (λ n. register_of n.node.core.local register) node.old.held) }
+    ensures value { reference.new ≡ written reference_fields
+        (read (λ n. register_of n.node.core.local register) node.old.held) reference.old }
+{
+    match node.register(alloc, register) {
+        Ok(it) => {
+            *reference = CRef::of(it);
+            OK
+        }
+        Err(fault) => fault.status(),
+    }
+}
+
+/// Whether an event has changed the node since the image that was kept last.
+#[unsafe(no_mangle)]
+pub extern "C" fn markring_node_unsaved(
+    alloc: Global,
+    node: &mut NodeHandle,
+    flag: &mut u8,
+) -> i32
+    ensures same { node.new.held ≡ node.old.held }
+    ensures status { result ≡ status (read (λ n. Ok n.is_unsaved) node.old.held) }
+    ensures value { flag.new
+        ≡ written bit (read (λ n. Ok n.is_unsaved) node.old.held) flag.old }
+{
+    match node.is_unsaved(alloc) {
+        Ok(it) => {
+            *flag = u8::from(it);
+            OK
+        }
+        Err(fault) => fault.status(),
+    }
+}
+
+/// The number of the message that waits from another node.
+#[unsafe(no_mangle)]
+pub extern "C" fn markring_node_waiting(
+    alloc: Global,
+    node: &mut NodeHandle,
+    from: u8,
+    number: &mut u64,
+) -> i32
+    ensures same { node.new.held ≡ node.old.held }
+    ensures status { result ≡ status (read (λ n. waiting_number n.node from) node.old.held) }
+    ensures value { number.new
+        ≡ written (λ x. x) (read (λ n. waiting_number n.node from) node.old.held) number.old }
+{
+    written(node.waiting(alloc, from), number)
+}
+
+/// Writes the frame in this place of the window to another node.
+#[unsafe(no_mangle)]
+pub extern "C" fn markring_node_frame_at(
+    alloc: Global,
+    node: &mut NodeHandle,
+    to: u8,
+    place: u8,
+    buffer: &mut [u8],
+    needed: &mut usize,
+) -> i32
+    ensures same { node.new.held ≡ node.old.held }
+    ensures wrote { Finishes (λ r. WroteIf (read (λ n. frame_bytes n.node.core to place)
+        node.old.held) r buffer.old buffer.new needed.old needed.new) result }
+{
+    status(node.frame_at(alloc, to, place, buffer, needed))
+}
+
+/// Writes the acknowledgement to another node.
+#[unsafe(no_mangle)]
+pub extern "C" fn markring_node_ack_for(
+    alloc: Global,
+    node: &mut NodeHandle,
+    from: u8,
+    buffer: &mut [u8],
+    needed: &mut usize,
+) -> i32
+    ensures same { node.new.held ≡ node.old.held }
+    ensures wrote { Finishes (λ r. WroteIf (read (λ n. ack_bytes n.node.core from) node.old.held) r
+        buffer.old buffer.new needed.old needed.new) result }
+{
+    status(node.ack_for(alloc, from, buffer, needed))
+}
+
+/// Writes the frames in the window to another node with numbers above this one.
+#[unsafe(no_mangle)]
+pub extern "C" fn markring_node_frames(
+    alloc: Global,
+    node: &mut NodeHandle,
+    to: u8,
+    after: u64,
+    buffer: &mut [u8],
+    count: &mut usize,
+    needed: &mut usize,
+) -> i32
+    ensures same { node.new.held ≡ node.old.held }
+    ensures packs { Numbered (λ r. HandlePacks node.old.held to after r buffer.old buffer.new
+        needed.old needed.new) result count.old count.new }
+{
+    written(node.frames(alloc, to, after, buffer, needed), count)
+}
+
+/// The number of bytes of the node's image.
+#[unsafe(no_mangle)]
+pub extern "C" fn markring_node_image_size(
+    alloc: Global,
+    node: &mut NodeHandle,
+    size: &mut usize,
+) -> i32
+    ensures { Numbered (Through SizedSame node.old.held node.new.held) result size.old size.new }
+{
+    written(node.image_size(alloc), size)
+}
+
+/// Writes the node's image.
+#[unsafe(no_mangle)]
+pub extern "C" fn markring_node_image(
+    alloc: Global,
+    node: &mut NodeHandle,
+    buffer: &mut [u8],
+    needed: &mut usize,
+    mark: &mut u64,
+) -> i32
+    ensures { Numbered (λ r. HandleImaged node.old.held node.new.held r buffer.old buffer.new
+        needed.old needed.new) result mark.old mark.new }
+{
+    written(node.image(alloc, buffer, needed), mark)
+}
+
+/// Counts as saved what the image with this mark holds.
+#[unsafe(no_mangle)]
+pub extern "C" fn markring_node_kept(alloc: Global, node: &mut NodeHandle, mark: u64) -> i32
+    ensures { Finished (Through (Kept mark)) node.old.held node.new.held result }
+{
+    status(node.kept(alloc, mark))
+}
