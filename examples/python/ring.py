@@ -1,6 +1,5 @@
 """Two objects on two nodes refer to each other. Once no program holds either, a cycle frees both."""
 from markring import Node, errors
-
 nodes = [Node(nodes=2, registers=4, slots=16, own=own) for own in range(2)]
 
 def turn(own):
