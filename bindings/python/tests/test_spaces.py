@@ -1,5 +1,6 @@
 """Nodes in threads of one process."""
 import threading
+import time
 import unittest
 
 from markring import Cell, Ref, Space, Taken, errors
@@ -20,6 +21,8 @@ def turn(cell: Cell, own: int) -> None:
     cell.send(1 - own)
     if own == 0:
         cell.raise_board()
+    # Lets the other thread run.
+    time.sleep(0)
 
 
 class Spaces(unittest.TestCase):
