@@ -7,7 +7,8 @@
 //     random SEEDS STEPS
 #include "check.h"
 
-enum { MOST = 4, REGISTERS = 5, SLOTS = 48, PLACES = 8, IMAGE = 1 << 17, NET = 64 };
+// ROUNDS bounds what must end by itself.
+enum { MOST = 4, REGISTERS = 5, SLOTS = 48, PLACES = 8, IMAGE = 1 << 17, NET = 64, ROUNDS = 1000 };
 
 // ## The model
 
@@ -489,7 +490,7 @@ static void settle(void)
 {
     int moved = 1;
     in_net = 0;
-    while (moved) {
+    for (int rounds = 0; moved && failed == 0 && HOLDS(rounds < ROUNDS); rounds++) {
         moved = 0;
         for (uint8_t from = 0; from < nodes; from++) {
             sites[from].mark = 0;
@@ -521,7 +522,7 @@ static void finish_cycle(void)
 {
     markring_answer answer;
     markring_state state;
-    for (;;) {
+    for (int rounds = 0; failed == 0 && HOLDS(rounds < ROUNDS); rounds++) {
         settle();
         int status = markring_node_begin(&sites[0].node, &answer);
         if (status == MARKRING_OK) {
@@ -606,7 +607,8 @@ static void run(unsigned long steps)
         store(node);
         store(node);
     }
-    for (unsigned long i = 1; i <= steps; i++) {
+    // After a failure the model isn't the nodes' any more.
+    for (unsigned long i = 1; i <= steps && failed == 0; i++) {
         step();
         if (i % (steps / 3 + 1) == 0 || i == steps) {
             checkpoint();
@@ -629,11 +631,10 @@ int main(int length, char **given)
 {
     unsigned long seeds = length > 1 ? strtoul(given[1], NULL, 10) : 40;
     unsigned long steps = length > 2 ? strtoul(given[2], NULL, 10) : 4000;
-    for (unsigned long i = 1; i <= seeds; i++) {
-        unsigned long before = failed;
+    for (unsigned long i = 1; i <= seeds && failed == 0; i++) {
         seed = i * UINT64_C(0x9E3779B97F4A7C15) | 1;
         run(steps);
-        if (failed != before) {
+        if (failed != 0) {
             printf("seed %lu failed\n", i);
         }
     }
