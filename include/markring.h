@@ -382,7 +382,8 @@ int markring_node_sweep(markring_node *node, uint32_t count, markring_answer *an
 int markring_node_next(markring_node *node, uint8_t from, markring_answer *answer);
 
 // Gives the node the event that `*event` describes; see the call of that event.
-// MARKRING_BAD_ARGUMENT: the kind isn't that of an event; then as for the event.
+// MARKRING_BAD_ARGUMENT: the kind isn't that of an event, whether or not the handle is empty; then
+// as for the event.
 int markring_node_act(markring_node *node, const markring_event *event, markring_answer *answer);
 
 // ## Frames
@@ -394,6 +395,8 @@ int markring_node_act(markring_node *node, const markring_event *event, markring
 // MARKRING_LINK_SPENT; MARKRING_ACK_BEYOND.
 int markring_node_take(markring_node *node, const uint8_t *bytes, size_t length,
     markring_answer *answer);
+
+// The three calls that write frames change nothing in the node, and take no memory.
 
 // Writes the frame of the released message at this place of the window to the node `to`. Place 0
 // has the message after the last one that `to` has acknowledged.
@@ -475,6 +478,11 @@ int markring_node_waiting(markring_node *node, uint8_t from, uint64_t *number);
 
 // # Spaces
 //
+// THE LIBRARY DOESN'T EXPORT THE CALLS BELOW YET: those of spaces, cells and watches. Their
+// declarations are here for who builds on them; they are visible if MARKRING_WITH_SPACES is
+// defined.
+#ifdef MARKRING_WITH_SPACES
+
 // A space makes cells and watches, which then go to threads of the caller's. A cell is a node with
 // its place on the wire between the nodes. The space is used by one thread at a time. It may be
 // freed once the cells and watches that are used have been moved out.
@@ -641,6 +649,8 @@ int markring_watch_look(markring_watch *watch, uint64_t *cycle);
 
 // Frees the watch, and leaves the handle empty. It takes no memory.
 int markring_watch_free(markring_watch *watch);
+
+#endif
 
 #ifdef __cplusplus
 }

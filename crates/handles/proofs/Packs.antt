@@ -1,5 +1,5 @@
 -- If no frame fits, nothing is written.
-use Rattle.std.proofs.Common.{◌≡◌, ℕ, ◌+◌, ◌≤◌, Bool, true, false, cond, nat_lt, nat_le, zero, suc, List, [], ◌++◌, drop, length, Option, Some, None, refl, ap, sym, ◌∙◌, subst, arith}
+use Rattle.std.proofs.Common.{◌≡◌, ℕ, ◌+◌, Bool, true, false, cond, nat_lt, nat_le, zero, suc, [], length, Option, Some, None, refl, arith}
 use Rattle.ids.specs.declared.limits.TheConstants.{WINDOW}
 use Rattle.msg.specs.Grammar.{Plain}
 use Rattle.model.specs.View.{NodeView}

@@ -1,5 +1,5 @@
 -- No frame has more than 48 bytes, or 58 with its length and its number.
-use Rattle.std.proofs.Common.{◌≡◌, refl, ℕ, ◌+◌, ◌≤◌, List, ◌∷◌, ◌++◌, length, length-append, arith, Option, Some, None}
+use Rattle.std.proofs.Common.{◌≡◌, refl, ℕ, ◌≤◌, ◌∷◌, length, length-append, arith, Option, Some, None}
 use Rattle.std.specs.Int.{w32, w64, cast_unsigned, to_be_bytes}
 use Rattle.ids.specs.declared.names.Ref.{Ref}
 use Rattle.codec.specs.Formats.{number4, number8, signed8}

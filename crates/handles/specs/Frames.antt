@@ -77,8 +77,8 @@ pub record Holds (whole : List ℕ) (p : Packed) (c : Packing) (held : List ℕ)
   pub within : length p.bytes ≤ length whole
   pub fits : p.needed ≤ length whole → length p.bytes ≡ p.needed
 
--- The frames of a window are in the buffer, as many as fit, and their count is the result; or there
--- are none, or not even the first fits.
+-- The frames of a window are in the buffer, as many as fit, and their count is the result. Or there
+-- isn't one, or not even the first fits.
 abbrev pub Packs : NodeView → ℕ → ℕ → Result ℕ Fault → List ℕ → List ℕ → ℕ → ℕ → Type 0
 Packs n to after (Ok count) old new before needed =
     (is_other n.local to ≡ true) × (0 < count)

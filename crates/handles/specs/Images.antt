@@ -42,7 +42,7 @@ keeps counts n = keeps_below counts (length n.core.links) n
 
 -- ---- The calls
 
--- the length of the image, or why there is none
+-- the length of the image, or the reason why it has no length
 abbrev pub Sized : NodeView → Result ℕ Fault → Type 0
 Sized n (Ok size) = size ≡ length (image_of n)
 Sized n (Err (fault.Refused ImageTooLarge)) = GREATEST_IMAGE < length (image_of n)
@@ -87,7 +87,8 @@ SizedSame old new r = (new ≡ old) × Sized old.node.core r
 
 abbrev pub HandleImaged : Option LoneNode → Option LoneNode → Result ℕ Fault → List ℕ → List ℕ → ℕ
     → ℕ → Type 0
-HandleImaged (Some old) (Some new) r held now before needed = Imaged old new r held now before needed
+HandleImaged (Some old) (Some new) r held now before needed =
+    Imaged old new r held now before needed
 HandleImaged (Some old) None r held now before needed = ⊥
 HandleImaged None new r held now before needed =
     (new ≡ None) × (r ≡ Err fault.NoHandle) × (now ≡ held) × (needed ≡ before)

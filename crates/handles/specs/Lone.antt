@@ -1,6 +1,5 @@
 -- A node whose caller moves its frames and stores its images: what the calls do.
-use Rattle.std.specs.Prelude.{◌≡◌, ◌≢◌, ℕ, ◌-◌, ◌<◌, ◌≤◌, Bool, true, false, cond, ◌==◌, ◌||◌, ◌⊎◌, nat_le, length, List, Option, Some, None, Result, Ok, Err, IfErr, IfOk, OnErr, IsTrue, slice_get, slice_index_or}
-use Rattle.std.specs.Option.{option_map}
+use Rattle.std.specs.Prelude.{◌≡◌, ◌≢◌, ℕ, ◌<◌, ◌≤◌, Bool, true, false, cond, ◌==◌, ◌||◌, ◌⊎◌, nat_le, length, List, Option, Some, None, Result, Ok, Err, IfErr, IfOk, OnErr, IsTrue, slice_get}
 use Rattle.ids.specs.Limits.{Shaped, IsShape}
 use Rattle.ids.specs.declared.names.Ref.{Ref}
 use Rattle.ids.specs.declared.refusal.Refusal.{Refusal}
@@ -36,7 +35,7 @@ lone n limit = record {
   is_unsaved = false;
 }
 
--- a new node, or why there is none: the first that applies
+-- a new node, or the reason why there isn't one: the first that applies
 abbrev pub Made : Shaped → ℕ → ℕ → Result LoneNode Fault → Type 0
 Made sizes own limit (Ok n) =
     IsShape sizes × (own < sizes.nodes) × (n ≡ lone (new_whole sizes own) limit)
@@ -45,7 +44,7 @@ Made sizes own limit (Err (fault.Refused NoNode)) = IsShape sizes × (sizes.node
 Made sizes own limit (Err (fault.Refused Memory)) = IsShape sizes × (own < sizes.nodes)
 Made sizes own limit (Err e) = ⊥
 
--- the node of an image, or why there is none
+-- the node of an image, or the reason why there isn't one
 abbrev pub Read : List ℕ → ℕ → Result LoneNode Fault → Type 0
 Read bytes limit (Ok n) =
     IsImageOf bytes n.node.core × (n ≡ lone (alone n.node.core) limit)
@@ -89,8 +88,8 @@ is_counted answer.Repeat = false
 is_counted answer.Early = false
 is_counted a = true
 
--- What an event is to the node. An answer and the node afterwards are what the definitions say, also
--- of each state that the node shows; a refusal is the first that applies, and changes nothing.
+-- What an event is to the node. An answer and the node afterwards are what the definitions say,
+-- also of each state that the node shows; a refusal is the first that applies, and changes nothing.
 pub record Acts (old new : WholeNode) (e : Event) (r : Result Answer Refusal) : Type 0 where
   pub performs : Performs (is_shading (met old.early e)) r new.core
       (view_act old.core (met old.early e))

@@ -10,7 +10,7 @@ use model::{Answer, Event, Letter};
 use msg::{Colour, Token};
 use node::Summary;
 
-/// A reference, or zeros if there is none: no reference has generation 0.
+/// A reference, or zeros for nothing: no reference has generation 0.
 #[repr(C)]
 #[derive(Clone, Copy)]
 pub struct CRef {

@@ -172,8 +172,8 @@ impl LoneNode {
         Ok(answer)
     }
 
-    /// Gives the node the frame that the bytes spell. Fails with `BadFrame` if they spell none, else
-    /// as the node refuses the frame.
+    /// Gives the node the frame that the bytes spell. Fails with `BadFrame` if they spell none,
+    /// else as the node refuses the frame.
     pub fn take(&mut self, bytes: &[u8]) -> Result<Answer, Fault>
         ensures { TookIn bytes.now self.old self.new result }
     {

@@ -26,7 +26,7 @@ pub record Finished {X : Type 0} (Does : Option X → Option X → Result (Unit 
   pub does : Does old new result
   pub status : s ≡ status result
 
--- the same where the handle isn't named
+-- the same of a call whose handle isn't named here
 pub record Finishes (Does : Result (Unit {0}) Fault → Type 0) (s : ℤ) : Type 0 where
   pub result : Result (Unit {0}) Fault
   pub does : Does result

@@ -16,7 +16,8 @@ pub extern "C" fn markring_node_alloc(
     places: u8,
     answer: &mut CAnswer,
 ) -> i32
-    ensures { NodeCalled (event.Alloc register places) node.old.held node.new.held result answer.old answer.new }
+    ensures { NodeCalled (event.Alloc register places) node.old.held node.new.held result answer.old
+        answer.new }
 {
     answered(node.act(alloc, Event::Alloc { register, places }), answer)
 }
@@ -30,7 +31,8 @@ pub extern "C" fn markring_node_copy(
     source: u16,
     answer: &mut CAnswer,
 ) -> i32
-    ensures { NodeCalled (event.Copy register source) node.old.held node.new.held result answer.old answer.new }
+    ensures { NodeCalled (event.Copy register source) node.old.held node.new.held result answer.old
+        answer.new }
 {
     answered(node.act(alloc, Event::Copy { register, source }), answer)
 }
@@ -43,7 +45,8 @@ pub extern "C" fn markring_node_drop(
     register: u16,
     answer: &mut CAnswer,
 ) -> i32
-    ensures { NodeCalled (event.Drop register) node.old.held node.new.held result answer.old answer.new }
+    ensures { NodeCalled (event.Drop register) node.old.held node.new.held result answer.old
+        answer.new }
 {
     answered(node.act(alloc, Event::Drop { register }), answer)
 }
@@ -58,9 +61,20 @@ pub extern "C" fn markring_node_load(
     place: u8,
     answer: &mut CAnswer,
 ) -> i32
-    ensures { NodeCalled (event.Load register object place) node.old.held node.new.held result answer.old answer.new }
+    ensures { NodeCalled (event.Load register object place) node.old.held node.new.held result
+        answer.old answer.new }
 {
-    answered(node.act(alloc, Event::Load { register, object, place }), answer)
+    answered(
+        node.act(
+            alloc,
+            Event::Load {
+                register,
+                object,
+                place,
+            },
+        ),
+        answer,
+    )
 }
 
 /// Stores the register's reference in a place of the object.
@@ -73,9 +87,20 @@ pub extern "C" fn markring_node_store(
     register: u16,
     answer: &mut CAnswer,
 ) -> i32
-    ensures { NodeCalled (event.Store object place register) node.old.held node.new.held result answer.old answer.new }
+    ensures { NodeCalled (event.Store object place register) node.old.held node.new.held result
+        answer.old answer.new }
 {
-    answered(node.act(alloc, Event::Store { object, place, register }), answer)
+    answered(
+        node.act(
+            alloc,
+            Event::Store {
+                object,
+                place,
+                register,
+            },
+        ),
+        answer,
+    )
 }
 
 /// Empties a place of the object.
@@ -87,7 +112,8 @@ pub extern "C" fn markring_node_clear(
     place: u8,
     answer: &mut CAnswer,
 ) -> i32
-    ensures { NodeCalled (event.Clear object place) node.old.held node.new.held result answer.old answer.new }
+    ensures { NodeCalled (event.Clear object place) node.old.held node.new.held result answer.old
+        answer.new }
 {
     answered(node.act(alloc, Event::Clear { object, place }), answer)
 }
@@ -100,7 +126,8 @@ pub extern "C" fn markring_node_word(
     object: u16,
     answer: &mut CAnswer,
 ) -> i32
-    ensures { NodeCalled (event.Word object) node.old.held node.new.held result answer.old answer.new }
+    ensures { NodeCalled (event.Word object) node.old.held node.new.held result answer.old
+        answer.new }
 {
     answered(node.act(alloc, Event::Word { object }), answer)
 }
@@ -114,7 +141,8 @@ pub extern "C" fn markring_node_set_word(
     word: u64,
     answer: &mut CAnswer,
 ) -> i32
-    ensures { NodeCalled (event.SetWord object word) node.old.held node.new.held result answer.old answer.new }
+    ensures { NodeCalled (event.SetWord object word) node.old.held node.new.held result answer.old
+        answer.new }
 {
     answered(node.act(alloc, Event::SetWord { object, word }), answer)
 }
@@ -129,9 +157,20 @@ pub extern "C" fn markring_node_give(
     register: u16,
     answer: &mut CAnswer,
 ) -> i32
-    ensures { NodeCalled (event.Give to label register) node.old.held node.new.held result answer.old answer.new }
+    ensures { NodeCalled (event.Give to label register) node.old.held node.new.held result
+        answer.old answer.new }
 {
-    answered(node.act(alloc, Event::Give { to, label, register }), answer)
+    answered(
+        node.act(
+            alloc,
+            Event::Give {
+                to,
+                label,
+                register,
+            },
+        ),
+        answer,
+    )
 }
 
 /// Removes the oldest letter and puts its reference into the register.
@@ -142,7 +181,8 @@ pub extern "C" fn markring_node_accept(
     register: u16,
     answer: &mut CAnswer,
 ) -> i32
-    ensures { NodeCalled (event.Accept register) node.old.held node.new.held result answer.old answer.new }
+    ensures { NodeCalled (event.Accept register) node.old.held node.new.held result answer.old
+        answer.new }
 {
     answered(node.act(alloc, Event::Accept { register }), answer)
 }
@@ -157,9 +197,20 @@ pub extern "C" fn markring_node_put(
     register: u16,
     answer: &mut CAnswer,
 ) -> i32
-    ensures { NodeCalled (event.Put object place register) node.old.held node.new.held result answer.old answer.new }
+    ensures { NodeCalled (event.Put object place register) node.old.held node.new.held result
+        answer.old answer.new }
 {
-    answered(node.act(alloc, Event::Put { object, place, register }), answer)
+    answered(
+        node.act(
+            alloc,
+            Event::Put {
+                object,
+                place,
+                register,
+            },
+        ),
+        answer,
+    )
 }
 
 /// Asks the owner of another node's object for the content of a place.
@@ -172,9 +223,20 @@ pub extern "C" fn markring_node_get(
     label: u32,
     answer: &mut CAnswer,
 ) -> i32
-    ensures { NodeCalled (event.Get object place label) node.old.held node.new.held result answer.old answer.new }
+    ensures { NodeCalled (event.Get object place label) node.old.held node.new.held result
+        answer.old answer.new }
 {
-    answered(node.act(alloc, Event::Get { object, place, label }), answer)
+    answered(
+        node.act(
+            alloc,
+            Event::Get {
+                object,
+                place,
+                label,
+            },
+        ),
+        answer,
+    )
 }
 
 /// Begins the next cycle.
@@ -221,7 +283,8 @@ pub extern "C" fn markring_node_sweep(
     count: u32,
     answer: &mut CAnswer,
 ) -> i32
-    ensures { NodeCalled (event.Sweep count) node.old.held node.new.held result answer.old answer.new }
+    ensures { NodeCalled (event.Sweep count) node.old.held node.new.held result answer.old
+        answer.new }
 {
     answered(node.act(alloc, Event::Sweep { count }), answer)
 }
@@ -234,8 +297,8 @@ pub extern "C" fn markring_node_next(
     from: u8,
     answer: &mut CAnswer,
 ) -> i32
-    ensures { NodeCalled (event.Next from) node.old.held node.new.held result answer.old answer.new }
+    ensures { NodeCalled (event.Next from) node.old.held node.new.held result answer.old
+        answer.new }
 {
     answered(node.act(alloc, Event::Next { from }), answer)
 }
-

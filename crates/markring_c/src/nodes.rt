@@ -148,11 +148,7 @@ pub extern "C" fn markring_node_register(
 
 /// Whether an event has changed the node since the image that was kept last.
 #[unsafe(no_mangle)]
-pub extern "C" fn markring_node_unsaved(
-    alloc: Global,
-    node: &mut NodeHandle,
-    flag: &mut u8,
-) -> i32
+pub extern "C" fn markring_node_unsaved(alloc: Global, node: &mut NodeHandle, flag: &mut u8) -> i32
     ensures same { node.new.held ≡ node.old.held }
     ensures status { result ≡ status (read (λ n. Ok n.is_unsaved) node.old.held) }
     ensures value { flag.new

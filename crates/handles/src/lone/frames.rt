@@ -36,12 +36,7 @@ impl LoneNode {
     }
 
     /// Writes the acknowledgement to another node. Fails with `NoNode`, and with `ShortBuffer`.
-    pub fn ack_for(
-        &self,
-        from: u8,
-        buffer: &mut [u8],
-        needed: &mut usize,
-    ) -> Result<(), Fault>
+    pub fn ack_for(&self, from: u8, buffer: &mut [u8], needed: &mut usize) -> Result<(), Fault>
         ensures { WroteIf (ack_bytes self.now.node.core from) result buffer.old buffer.new
             needed.old needed.new }
     {
@@ -53,8 +48,8 @@ impl LoneNode {
     }
 
     /// Writes the frames in the window to another node with numbers above this one, each after its
-    /// length and its number, and returns how many fit. Fails with `NoNode`, with `Nothing` if there
-    /// is no such frame, and with `ShortBuffer` if not even the first fits.
+    /// length and its number, and returns how many fit. Fails with `NoNode`, with `Nothing` if
+    /// there is no such frame, and with `ShortBuffer` if not even the first fits.
     pub fn frames(
         &self,
         to: u8,

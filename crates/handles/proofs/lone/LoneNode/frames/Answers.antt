@@ -1,5 +1,4 @@
-use Rattle.std.proofs.Common.{rules, ◌≡◌, ℕ, List, ◌++◌, drop, length, sym, ap, ◌∙◌}
-use Rattle.handles.specs.Frames.{window}
+use Rattle.std.proofs.Common.{rules, ℕ, List, ◌++◌, drop, length, sym, ap, ◌∙◌}
 use Rattle.handles.proofs.Packs.{window_none}
 use Rattle.handles.proofs.lone.LoneNode.frames.Goals as goal
 
@@ -8,8 +7,7 @@ returns-then-packing-eq0-2 c =
     let old = c.args.buffer.now in
     let done = c.pack_window-packing.ensures in
     let none = sym done.count ∙ c.if-packing-eq0-2.true in
-    let bytes = window_none (length old) c.args.self.now.node.core c.args.to c.args.after none in
-    (
+    let bytes = window_none (length old) c.args.self.now.node.core c.args.to c.args.after none in (
       search rules,
       none,
       done.needed,
