@@ -9,7 +9,6 @@
 enum { ROUNDS = 9, CALLS = 1000000, LETTERS = 20000 };
 
 static markring_node zero, one;
-static markring_cell cell;
 static markring_answer answer;
 
 static void must(int status, const char *call)
@@ -100,30 +99,45 @@ static void letters(void)
         accepted / LETTERS, moved / LETTERS);
 }
 
-int main(void)
+#ifdef MARKRING_WITH_SPACES
+
+static void time_cell(void)
 {
     markring_space space = {0};
-    MUST(markring_node_new(&zero, 2, 4, 1024, 0, 0));
-    MUST(markring_node_new(&one, 2, 4, 1024, 1, 0));
+    markring_cell cell = {0};
     MUST(markring_space_new(&space, 2, 4, 1024, 0));
     MUST(markring_space_open(&space));
     MUST(markring_space_cell(&space, 0, &cell));
+    MUST(markring_cell_alloc(&cell, 0, 2, &answer));
+    TIME("word of a cell", MARKRING_OK, markring_cell_word(&cell, 0, &answer));
+    TIME("set_word of a cell", MARKRING_OK, markring_cell_set_word(&cell, 0, 7, &answer));
+    MUST(markring_cell_free(&cell));
+    MUST(markring_space_free(&space));
+}
+
+#else
+
+static void time_cell(void)
+{
+}
+
+#endif
+
+int main(void)
+{
+    MUST(markring_node_new(&zero, 2, 4, 1024, 0, 0));
+    MUST(markring_node_new(&one, 2, 4, 1024, 1, 0));
     MUST(markring_node_alloc(&zero, 0, 2, &answer));
     MUST(markring_node_alloc(&zero, 1, 2, &answer));
     MUST(markring_node_store(&zero, 0, 0, 1, &answer));
-    MUST(markring_cell_alloc(&cell, 0, 2, &answer));
-    MUST(markring_cell_store(&cell, 0, 0, 0, &answer));
     TIME("word", MARKRING_OK, markring_node_word(&zero, 0, &answer));
     TIME("set_word", MARKRING_OK, markring_node_set_word(&zero, 0, 7, &answer));
     TIME("load", MARKRING_OK, markring_node_load(&zero, 2, 0, 0, &answer));
     TIME("store", MARKRING_OK, markring_node_store(&zero, 0, 1, 2, &answer));
     TIME("a refusal", MARKRING_EMPTY_REGISTER, markring_node_word(&zero, 3, &answer));
-    TIME("word of a cell", MARKRING_OK, markring_cell_word(&cell, 0, &answer));
-    TIME("set_word of a cell", MARKRING_OK, markring_cell_set_word(&cell, 0, 7, &answer));
+    time_cell();
     letters();
     MUST(markring_node_free(&zero));
     MUST(markring_node_free(&one));
-    MUST(markring_cell_free(&cell));
-    MUST(markring_space_free(&space));
     return 0;
 }

@@ -1,7 +1,7 @@
-// Each event has a call of its own, and `act`, for nodes and for cells. This program gives the same
-// events to four spaces of two nodes, by each of these ways: the statuses, the answers and what the
-// nodes show must be the same. It also looks at the fields of each answer, and at the inline
-// functions of the header.
+// Each event has a call of its own, and `act`, for nodes and, if the library has them, for cells.
+// This program gives the same events to spaces of two nodes, one for each of these ways: the
+// statuses, the answers and what the nodes show must be the same. It also looks at the fields of
+// each answer, and at the inline functions of the header.
 //
 //     calls SEED EVENTS
 #include "check.h"
@@ -51,11 +51,16 @@ enum { REGISTERS = 4, SLOTS = 12 };
     }
 
 CALLS(node)
-CALLS(cell)
 
 // Two spaces of nodes and two of cells: the first of each is given `act`.
 static markring_node nodes[2][2];
+#ifdef MARKRING_WITH_SPACES
+CALLS(cell)
 static markring_cell cells[2][2];
+enum { WAYS = 4 };
+#else
+enum { WAYS = 2 };
+#endif
 static unsigned long seen[MARKRING_ANSWER_EARLY + 1], refusals[25];
 
 static markring_event draw_event(uint64_t *seed)
@@ -141,16 +146,18 @@ static void look_at(const markring_answer *answer)
 // Gives an event to node `own` of all spaces.
 static void give_event(uint8_t own_number, const markring_event *event)
 {
-    markring_answer answers[4];
-    int statuses[4];
-    for (int i = 0; i < 4; i++) {
+    markring_answer answers[WAYS];
+    int statuses[WAYS];
+    for (int i = 0; i < WAYS; i++) {
         blot(&answers[i]);
     }
     statuses[0] = markring_node_act(&nodes[0][own_number], event, &answers[0]);
     statuses[1] = call_node(&nodes[1][own_number], event, &answers[1]);
+#ifdef MARKRING_WITH_SPACES
     statuses[2] = markring_cell_act(&cells[0][own_number], event, &answers[2]);
     statuses[3] = call_cell(&cells[1][own_number], event, &answers[3]);
-    for (int i = 0; i < 4; i++) {
+#endif
+    for (int i = 0; i < WAYS; i++) {
         EQUAL((uint64_t)statuses[0], (uint64_t)statuses[i]);
         if (statuses[0] == MARKRING_OK) {
             look_at(&answers[i]);
@@ -163,6 +170,8 @@ static void give_event(uint8_t own_number, const markring_event *event)
     }
 }
 
+#ifdef MARKRING_WITH_SPACES
+
 static void save_cell(markring_cell *cell)
 {
     static uint8_t buffer[1 << 16];
@@ -172,83 +181,160 @@ static void save_cell(markring_cell *cell)
     OK(markring_cell_save(cell, mark));
 }
 
+// Sends and receives once, and returns what the sender and the receiver know of the link.
+static void send_once(int i, uint8_t from, uint8_t to, markring_link *sender, markring_link *receiver)
+{
+    uint8_t sent;
+    markring_answer answer;
+    OK(markring_cell_send(&cells[i][from], to, &sent));
+    while (markring_cell_receive(&cells[i][to], from, &answer) == MARKRING_OK) {
+    }
+    OK(markring_cell_link(&cells[i][from], to, sender));
+    OK(markring_cell_link(&cells[i][to], from, receiver));
+}
+
+static void save_cells(uint8_t own_number)
+{
+    save_cell(&cells[0][own_number]);
+    save_cell(&cells[1][own_number]);
+}
+
+static void move_between_cells(int i, uint8_t from, uint8_t to)
+{
+    markring_link sender, receiver;
+    do {
+        send_once(i, from, to, &sender, &receiver);
+    } while (receiver.received != sender.released);
+}
+
+static void acknowledge_between_cells(int i, uint8_t from, uint8_t to)
+{
+    markring_link sender, receiver;
+    do {
+        send_once(i, from, to, &receiver, &sender);
+    } while (sender.acknowledged != receiver.received_saved);
+}
+
+// The cells show the same as the node.
+static void compare_cells(uint8_t own_number)
+{
+    for (int i = 0; i < 2; i++) {
+        markring_state node, cell;
+        OK(markring_node_state(&nodes[0][own_number], &node));
+        OK(markring_cell_state(&cells[i][own_number], &cell));
+        HOLDS(node.live == cell.live && node.cycle == cell.cycle && node.ended == cell.ended);
+        HOLDS(node.grey == cell.grey && node.letters == cell.letters);
+        HOLDS(node.earlier == cell.earlier && node.recent == cell.recent);
+        for (uint16_t reg = 0; reg <= REGISTERS; reg++) {
+            markring_ref one = {0}, two = {0};
+            int status = markring_node_register(&nodes[0][own_number], reg, &one);
+            IS(status, markring_cell_register(&cells[i][own_number], reg, &two));
+            HOLDS(same_ref(one, two));
+        }
+    }
+}
+
+static void open_cells(int i)
+{
+    markring_space space = {0};
+    OK(markring_space_new(&space, 2, REGISTERS, SLOTS, 0));
+    OK(markring_space_open(&space));
+    OK(markring_space_cell(&space, 0, &cells[i][0]));
+    OK(markring_space_cell(&space, 1, &cells[i][1]));
+    OK(markring_space_free(&space));
+}
+
+static void free_cells(int i)
+{
+    OK(markring_cell_free(&cells[i][0]));
+    OK(markring_cell_free(&cells[i][1]));
+}
+
+#else
+
+static void save_cells(uint8_t own_number)
+{
+    (void)own_number;
+}
+
+static void move_between_cells(int i, uint8_t from, uint8_t to)
+{
+    (void)i, (void)from, (void)to;
+}
+
+static void acknowledge_between_cells(int i, uint8_t from, uint8_t to)
+{
+    (void)i, (void)from, (void)to;
+}
+
+static void compare_cells(uint8_t own_number)
+{
+    (void)own_number;
+}
+
+static void open_cells(int i)
+{
+    (void)i;
+}
+
+static void free_cells(int i)
+{
+    (void)i;
+}
+
+#endif
+
 // Moves all released frames of a node to the other node, in all spaces.
 static void move(uint8_t from, uint8_t to)
 {
-    uint8_t frame[48], sent, place = 0;
+    uint8_t frame[48];
     size_t needed = 0;
     markring_answer answer;
-    markring_link sender, receiver;
     for (int i = 0; i < 2; i++) {
-        for (place = 0; markring_node_frame_at(&nodes[i][from], to, place, frame, sizeof frame,
-                 &needed) == MARKRING_OK; place++) {
+        for (uint8_t place = 0; markring_node_frame_at(&nodes[i][from], to, place, frame,
+                 sizeof frame, &needed) == MARKRING_OK; place++) {
             OK(markring_node_take(&nodes[i][to], frame, needed, &answer));
         }
-        do {
-            OK(markring_cell_send(&cells[i][from], to, &sent));
-            while (markring_cell_receive(&cells[i][to], from, &answer) == MARKRING_OK) {
-            }
-            OK(markring_cell_link(&cells[i][from], to, &sender));
-            OK(markring_cell_link(&cells[i][to], from, &receiver));
-        } while (receiver.received != sender.released);
+        move_between_cells(i, from, to);
     }
 }
 
 // Acknowledges to a node all that the other one has received and saved, in all spaces.
 static void acknowledge(uint8_t from, uint8_t to)
 {
-    uint8_t frame[48], sent;
+    uint8_t frame[48];
     size_t needed = 0;
     markring_answer answer;
-    markring_link sender, receiver;
     for (int i = 0; i < 2; i++) {
         OK(markring_node_ack_for(&nodes[i][from], to, frame, sizeof frame, &needed));
         OK(markring_node_take(&nodes[i][to], frame, needed, &answer));
-        do {
-            OK(markring_cell_send(&cells[i][from], to, &sent));
-            while (markring_cell_receive(&cells[i][to], from, &answer) == MARKRING_OK) {
-            }
-            OK(markring_cell_link(&cells[i][from], to, &receiver));
-            OK(markring_cell_link(&cells[i][to], from, &sender));
-        } while (sender.acknowledged != receiver.received_saved);
+        acknowledge_between_cells(i, from, to);
     }
+}
+
+static void save_all(uint8_t own_number)
+{
+    save(&nodes[0][own_number]);
+    save(&nodes[1][own_number]);
+    save_cells(own_number);
 }
 
 // Saves a node, and moves its frames to the other one, which is saved and acknowledges them.
 static void deliver(uint8_t from, uint8_t to)
 {
-    for (int i = 0; i < 2; i++) {
-        save(&nodes[i][from]);
-        save_cell(&cells[i][from]);
-    }
+    save_all(from);
     move(from, to);
-    for (int i = 0; i < 2; i++) {
-        save(&nodes[i][to]);
-        save_cell(&cells[i][to]);
-    }
+    save_all(to);
     move(to, from);
     acknowledge(to, from);
 }
 
 static void compare(void)
 {
-    for (int own_number = 0; own_number < 2; own_number++) {
+    for (uint8_t own_number = 0; own_number < 2; own_number++) {
         bytes first = image_of(&nodes[0][own_number]), second = image_of(&nodes[1][own_number]);
         HOLDS(same_bytes(&first, &second));
-        for (int i = 0; i < 2; i++) {
-            markring_state node, cell;
-            OK(markring_node_state(&nodes[0][own_number], &node));
-            OK(markring_cell_state(&cells[i][own_number], &cell));
-            HOLDS(node.live == cell.live && node.cycle == cell.cycle && node.ended == cell.ended);
-            HOLDS(node.grey == cell.grey && node.letters == cell.letters);
-            HOLDS(node.earlier == cell.earlier && node.recent == cell.recent);
-            for (uint16_t reg = 0; reg <= REGISTERS; reg++) {
-                markring_ref one = {0}, two = {0};
-                int status = markring_node_register(&nodes[0][own_number], reg, &one);
-                IS(status, markring_cell_register(&cells[i][own_number], reg, &two));
-                HOLDS(same_ref(one, two));
-            }
-        }
+        compare_cells(own_number);
         drop_bytes(&first);
         drop_bytes(&second);
     }
@@ -276,14 +362,10 @@ int main(int length, char **given)
     uint64_t seed = length > 1 ? strtoull(given[1], NULL, 10) : 1;
     unsigned long events = length > 2 ? strtoul(given[2], NULL, 10) : 20000;
     for (int i = 0; i < 2; i++) {
-        markring_space space = {0};
-        OK(markring_space_new(&space, 2, REGISTERS, SLOTS, 0));
-        OK(markring_space_open(&space));
         for (uint8_t own_number = 0; own_number < 2; own_number++) {
-            OK(markring_space_cell(&space, own_number, &cells[i][own_number]));
             OK(markring_node_new(&nodes[i][own_number], 2, REGISTERS, SLOTS, own_number, 0));
         }
-        OK(markring_space_free(&space));
+        open_cells(i);
     }
     for (unsigned long i = 0; i < events; i++) {
         markring_event event = draw_event(&seed);
@@ -308,8 +390,8 @@ int main(int length, char **given)
     for (int i = 0; i < 2; i++) {
         for (int own_number = 0; own_number < 2; own_number++) {
             OK(markring_node_free(&nodes[i][own_number]));
-            OK(markring_cell_free(&cells[i][own_number]));
         }
+        free_cells(i);
     }
     return report();
 }

@@ -65,6 +65,8 @@ static void no_node(markring_node *at)
     NONE(markring_node_waiting(at, 1, TO(uint64_t)));
 }
 
+#ifdef MARKRING_WITH_SPACES
+
 static void no_cell(markring_cell *at)
 {
     markring_answer *answer = TO(markring_answer);
@@ -99,20 +101,15 @@ static void no_space(markring_space *at)
     HOLDS(cell.at == NULL && watch.at == NULL);
 }
 
-static void empty_handles(void)
+static void empty_spaces(void)
 {
-    markring_node node = {0};
     markring_space space = {0};
     markring_cell cell = {0};
     markring_watch watch = {0};
-    // Never filled, and freed.
     for (int twice = 0; twice < 2; twice++) {
-        no_node(&node);
         no_space(&space);
         no_cell(&cell);
         no_watch(&watch);
-        OK(markring_node_new(&node, 2, 1, 1, 0, 0));
-        OK(markring_node_free(&node));
         OK(markring_space_new(&space, 2, 1, 1, 1));
         OK(markring_space_open(&space));
         OK(markring_space_cell(&space, 0, &cell));
@@ -120,7 +117,44 @@ static void empty_handles(void)
         OK(markring_space_free(&space));
         OK(markring_cell_free(&cell));
         OK(markring_watch_free(&watch));
-        HOLDS(node.at == NULL && space.at == NULL && cell.at == NULL && watch.at == NULL);
+        HOLDS(space.at == NULL && cell.at == NULL && watch.at == NULL);
+    }
+}
+
+// A space with the sizes of a node, which are tested in the same way.
+static void space_of(uint8_t nodes, uint16_t registers, uint32_t slots, int status)
+{
+    markring_space space = {0};
+    IS(status, markring_space_new(&space, nodes, registers, slots, 0));
+    HOLDS((space.at != NULL) == (status == MARKRING_OK));
+    if (space.at != NULL) {
+        IS(MARKRING_IN_USE, markring_space_new(&space, 1, 1, 1, 0));
+        OK(markring_space_free(&space));
+    }
+}
+
+#else
+
+static void empty_spaces(void)
+{
+}
+
+static void space_of(uint8_t nodes, uint16_t registers, uint32_t slots, int status)
+{
+    (void)nodes, (void)registers, (void)slots, (void)status;
+}
+
+#endif
+
+// Never filled, and freed.
+static void empty_handles(void)
+{
+    markring_node node = {0};
+    for (int twice = 0; twice < 2; twice++) {
+        no_node(&node);
+        OK(markring_node_new(&node, 2, 1, 1, 0, 0));
+        OK(markring_node_free(&node));
+        HOLDS(node.at == NULL);
     }
 }
 
@@ -153,24 +187,17 @@ static void sizes(void)
     };
     for (size_t i = 0; i < sizeof CASES / sizeof *CASES; i++) {
         markring_node node = {0};
-        markring_space space = {0};
         IS(CASES[i].status, markring_node_new(&node, CASES[i].nodes, CASES[i].registers,
             CASES[i].slots, CASES[i].own, 0));
         HOLDS((node.at != NULL) == (CASES[i].status == MARKRING_OK));
         int status = CASES[i].status == MARKRING_NO_NODE ? MARKRING_OK : CASES[i].status;
-        IS(status, markring_space_new(&space, CASES[i].nodes, CASES[i].registers, CASES[i].slots,
-            0));
-        HOLDS((space.at != NULL) == (status == MARKRING_OK));
+        space_of(CASES[i].nodes, CASES[i].registers, CASES[i].slots, status);
         if (node.at != NULL) {
             void *before = node.at;
             IS(MARKRING_IN_USE, markring_node_new(&node, 1, 1, 1, 0, 0));
             IS(MARKRING_IN_USE, markring_node_from_image(&node, clean, 3, 0));
             HOLDS(node.at == before);
             OK(markring_node_free(&node));
-        }
-        if (space.at != NULL) {
-            IS(MARKRING_IN_USE, markring_space_new(&space, 1, 1, 1, 0));
-            OK(markring_space_free(&space));
         }
     }
 }
@@ -419,6 +446,8 @@ static void frames(uint64_t seed, unsigned long count)
     drop_bytes(&before);
 }
 
+#ifdef MARKRING_WITH_SPACES
+
 // Spaces on images of other nodes, of other shapes, and damaged ones. A space that isn't opened
 // keeps its images, and opens once the wrong one is replaced.
 static void disks(uint64_t seed, unsigned long count)
@@ -515,11 +544,21 @@ static void disks(uint64_t seed, unsigned long count)
     drop_bytes(&good[1]);
 }
 
+#else
+
+static void disks(uint64_t seed, unsigned long count)
+{
+    (void)seed, (void)count;
+}
+
+#endif
+
 int main(int length, char **given)
 {
     uint64_t seed = length > 1 ? strtoull(given[1], NULL, 10) : 1;
     unsigned long count = length > 2 ? strtoul(given[2], NULL, 10) : 2000;
     empty_handles();
+    empty_spaces();
     sizes();
     events();
     images(seed, count);

@@ -38,9 +38,12 @@ void *__wrap_realloc(void *old, size_t size)
 
 // What a call may not change when memory is refused: nodes or cells, and the answer.
 static markring_node nodes[2];
-static markring_cell cells[2];
 static markring_answer answer;
 static unsigned long refusals;
+
+#ifdef MARKRING_WITH_SPACES
+
+static markring_cell cells[2];
 
 static bytes cell_shown(markring_cell *cell)
 {
@@ -72,6 +75,24 @@ static bytes cell_shown(markring_cell *cell)
     return all;
 }
 
+static void add_cell(bytes *all, int own_number)
+{
+    if (cells[own_number].at != NULL) {
+        bytes one = cell_shown(&cells[own_number]);
+        add(all, one.at, one.length);
+        drop_bytes(&one);
+    }
+}
+
+#else
+
+static void add_cell(bytes *all, int own_number)
+{
+    (void)all, (void)own_number;
+}
+
+#endif
+
 static bytes all_shown(void)
 {
     bytes all = {0};
@@ -101,11 +122,7 @@ static bytes all_shown(void)
                 add_number(&all, reference.generation, 8);
             }
         }
-        if (cells[i].at != NULL) {
-            bytes one = cell_shown(&cells[i]);
-            add(&all, one.at, one.length);
-            drop_bytes(&one);
-        }
+        add_cell(&all, i);
     }
     return all;
 }
@@ -167,12 +184,12 @@ static void save_and_send(int from)
         if (place >= link.released - link.acknowledged) {
             break;
         }
-        MAY(markring_node_frame_at(&nodes[from], to, place, frame, sizeof frame, &needed));
+        SPARES(markring_node_frame_at(&nodes[from], to, place, frame, sizeof frame, &needed));
         MAY(markring_node_take(&nodes[to], frame, needed, &answer));
     }
     MAY(markring_node_image(&nodes[to], image, sizeof image, &needed, &mark));
     SPARES(markring_node_kept(&nodes[to], mark));
-    MAY(markring_node_ack_for(&nodes[to], (uint8_t)from, frame, sizeof frame, &needed));
+    SPARES(markring_node_ack_for(&nodes[to], (uint8_t)from, frame, sizeof frame, &needed));
     MAY(markring_node_take(&nodes[from], frame, needed, &answer));
 }
 
@@ -201,9 +218,9 @@ static bytes over_nodes(void)
     // The frames come from the last one to the first, and then again.
     MAY(markring_node_image(zero, image, sizeof image, &needed, &mark));
     SPARES(markring_node_kept(zero, mark));
-    MAY(markring_node_frames(zero, 1, 0, window, sizeof window, &count, &needed));
+    SPARES(markring_node_frames(zero, 1, 0, window, sizeof window, &count, &needed));
     for (uint8_t place = 20; place-- > 0;) {
-        MAY(markring_node_frame_at(zero, 1, place, frame, sizeof frame, &needed));
+        SPARES(markring_node_frame_at(zero, 1, place, frame, sizeof frame, &needed));
         MAY(markring_node_take(one, frame, needed, &answer));
     }
     while (markring_node_waiting(one, 0, &number) == MARKRING_OK) {
@@ -252,6 +269,8 @@ static bytes over_nodes(void)
     SPARES(markring_node_free(one));
     return all;
 }
+
+#ifdef MARKRING_WITH_SPACES
 
 // Saves a cell. No memory is refused to the save itself, see `saves`.
 static void save_cell(int own_number)
@@ -408,6 +427,8 @@ static void saves(void)
     printf("%lu allocations of a save refused\n", one - 1);
 }
 
+#endif
+
 static void refuse_each(bytes (*scenario)(void))
 {
     refused_one = requests = refusals = 0;
@@ -429,7 +450,9 @@ static void refuse_each(bytes (*scenario)(void))
 int main(void)
 {
     refuse_each(over_nodes);
+#ifdef MARKRING_WITH_SPACES
     refuse_each(over_cells);
     saves();
+#endif
     return report();
 }

@@ -1,7 +1,7 @@
 """markring: a garbage-collected object heap over several nodes, with a machine-checked proof.
 
 `Node` is one node, whose frames and images the caller moves and stores. `Space` makes cells, which are the nodes of one
-process. A call that is refused raises a subclass of `Refusal`. docs/RULES.md of the repository has the rules.
+process, if the library exports them. A call that is refused raises a subclass of `Refusal`. docs/RULES.md of the repository has the rules.
 
 The library is the file that the variable MARKRING_LIBRARY names. Without that variable it is `libmarkring.so`, in the
 package, beside it, or in a folder in which the system looks for libraries.

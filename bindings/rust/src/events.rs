@@ -2,8 +2,8 @@
 
 use crate::{Answer, Event, Freed, Letter, Link, Passed, Ref, Result, State};
 
-/// The events of a node, and calls that read it. [`Node`](crate::Node) and [`Cell`](crate::Cell)
-/// have them.
+/// The events of a node, and calls that read it. [`Node`](crate::Node) has them, and
+/// with the feature `spaces` also `Cell`.
 ///
 /// `register`, `source` and `object` are numbers of registers; `object` is the register that refers
 /// to the object. An event that is refused changes nothing.

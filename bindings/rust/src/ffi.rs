@@ -133,7 +133,10 @@ extern "C" {
         limit: u64,
     ) -> c_int;
     pub(crate) fn markring_node_waiting(node: Place, from: u8, number: *mut u64) -> c_int;
+}
 
+#[cfg(feature = "spaces")]
+extern "C" {
     pub(crate) fn markring_space_new(
         space: Place,
         nodes: u8,
@@ -169,6 +172,7 @@ macro_rules! both {
         extern "C" {
             $(
                 pub(crate) fn $node(node: Place, $($name: $kind),*) -> c_int;
+                #[cfg(feature = "spaces")]
                 pub(crate) fn $cell(cell: Place, $($name: $kind),*) -> c_int;
             )*
         }

@@ -5,9 +5,10 @@
 //! over several nodes. `docs/RULES.md` of the repository has the rules.
 //!
 //! - [`Node`]: one node. The caller moves frames between nodes, over any network, and stores images.
-//! - [`Space`], [`Cell`], [`Watch`]: the nodes of a space in threads of one process.
-//! - [`Events`]: what nodes and cells both do.
+//! - [`Events`]: what a node does.
 //! - [`Roots`], [`Root`]: registers that are chosen and emptied automatically.
+//! - `Space`, `Cell`, `Watch`, with the feature `spaces`: the nodes of a space in threads of one
+//!   process, which move frames in shared memory. The library must export them.
 //!
 //! The crate needs `libmarkring.a` or `libmarkring.so`. Its build script looks for them in the
 //! folder that the variable `MARKRING_LIB_DIR` names. Without that variable, it has `tools/library`
@@ -74,6 +75,7 @@ mod ffi;
 mod node;
 mod refusal;
 mod root;
+#[cfg(feature = "spaces")]
 mod space;
 mod value;
 
@@ -81,6 +83,7 @@ pub use events::Events;
 pub use node::Node;
 pub use refusal::{Refusal, Result};
 pub use root::{Accepted, Root, Roots};
+#[cfg(feature = "spaces")]
 pub use space::{Cell, Space, Watch};
 pub use value::{
     Answer, Colour, Event, Frame, Freed, Image, Letter, Link, Passed, Ref, State, Taken,

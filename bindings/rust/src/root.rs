@@ -8,8 +8,8 @@ use core::ops::Range;
 
 /// A range of a node's registers, from which [`Root`]s are made.
 ///
-/// Use these registers by roots alone. After [`Cell::reopen`](crate::Cell::reopen) the registers
-/// hold what was saved, so drop all roots and this value before, and make another one.
+/// Use these registers by roots alone. After a cell was reopened its registers hold what was saved,
+/// so drop all roots and this value before, and make another one.
 ///
 /// ```
 /// use markring::{Node, Roots};

@@ -374,8 +374,8 @@ impl Link {
 pub struct Image {
     /// What to store.
     pub bytes: alloc::vec::Vec<u8>,
-    /// What to pass once the bytes are stored, to [`Node::kept`](crate::Node::kept) or
-    /// [`Cell::save`](crate::Cell::save).
+    /// What to pass to [`Node::kept`](crate::Node::kept), or to a cell's `save`, once the bytes are
+    /// stored.
     pub mark: u64,
 }
 

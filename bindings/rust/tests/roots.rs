@@ -1,6 +1,6 @@
 //! Roots: registers that are emptied automatically.
 
-use markring::{Events, Node, Refusal, Result, Roots, Space};
+use markring::{Events, Node, Refusal, Result, Roots};
 
 #[test]
 fn a_dropped_root_empties_its_register() -> Result<()> {
@@ -43,23 +43,17 @@ fn what_is_refused_takes_no_register() -> Result<()> {
 
 #[test]
 fn roots_reach_objects_of_other_nodes() -> Result<()> {
-    let space = Space::new(2, 4, 16, 0)?;
-    space.open()?;
-    let cells = space.cells()?;
+    let nodes = [Node::new(2, 4, 16, 0)?, Node::new(2, 4, 16, 1)?];
     let flush = |from: usize, to: usize| -> Result<()> {
-        let image = cells[from].image()?;
-        cells[from].save(image.mark)?;
-        // A frame of each message, and then an acknowledgement.
-        while cells[from].send(to as u8)? {
-            cells[to].receive(from as u8)?;
-            if cells[from].link(to as u8)?.appended == cells[to].link(from as u8)?.received {
-                break;
-            }
+        let image = nodes[from].image()?;
+        nodes[from].kept(image.mark)?;
+        for frame in nodes[from].frames(to as u8, 0)? {
+            nodes[to].take(&frame.bytes)?;
         }
         Ok(())
     };
-    let here = Roots::new(&cells[0], 0..4);
-    let there = Roots::new(&cells[1], 0..4);
+    let here = Roots::new(&nodes[0], 0..4);
+    let there = Roots::new(&nodes[1], 0..4);
     let object = here.alloc(2)?;
     object.set_word(5)?;
     object.give(1, 3)?;
