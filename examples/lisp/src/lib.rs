@@ -11,12 +11,12 @@
 mod read;
 pub mod run;
 
-use markring::{Cell, Events, Refusal, Root, Roots};
+use markring::{Events, Node, Refusal, Root, Roots};
 use run::Machine;
 use std::collections::VecDeque;
 
 /// A value: `()`, or an object in a register.
-pub type Value<'r> = Option<Root<'r, Cell>>;
+pub type Value<'r> = Option<Root<'r, Node>>;
 pub type Result<T> = std::result::Result<T, Fault>;
 
 /// Why a program ended early.
@@ -53,10 +53,7 @@ const WORD: u32 = 2 << 30;
 const PLACE: u32 = 3 << 30;
 // Evaluations between two turns of the node.
 const STEPS: u32 = 32;
-const FUNCTIONS: [&str; 14] = [
-    "+", "-", "*", "<", "eq", "null", "cons", "car", "cdr", "set-car", "set-cdr", "list", "send",
-    "receive",
-];
+const FUNCTIONS: &str = "+ - * < eq null cons car cdr set-car set-cdr list send receive";
 
 fn copy<'r>(value: &Value<'r>) -> Result<Value<'r>> {
     Ok(value.as_ref().map(Root::duplicate).transpose()?)
@@ -64,7 +61,7 @@ fn copy<'r>(value: &Value<'r>) -> Result<Value<'r>> {
 
 /// The interpreter of a node.
 pub struct Lisp<'r> {
-    roots: &'r Roots<'r, Cell>,
+    roots: &'r Roots<'r, Node>,
     machine: &'r Machine<'r>,
     globals: Value<'r>,
     inbox: VecDeque<Value<'r>>,
@@ -74,7 +71,7 @@ pub struct Lisp<'r> {
 }
 
 impl<'r> Lisp<'r> {
-    pub fn new(roots: &'r Roots<'r, Cell>, machine: &'r Machine<'r>) -> Self {
+    pub fn new(roots: &'r Roots<'r, Node>, machine: &'r Machine<'r>) -> Self {
         Lisp { roots, machine, globals: None, inbox: VecDeque::new(), answer: None, steps: STEPS }
     }
 
@@ -238,7 +235,7 @@ impl<'r> Lisp<'r> {
             }
         }
         let name = self.show(&symbol)?;
-        if FUNCTIONS.contains(&name.as_str()) {
+        if FUNCTIONS.split(' ').any(|it| it == name) {
             return Ok(symbol);
         }
         fault(format!("{name} isn't bound"))

@@ -13,16 +13,12 @@ fn main() {
     let mut programs: Vec<&str> = texts.iter().map(String::as_str).collect();
     // A space has at least two nodes.
     programs.resize(programs.len().max(2), "");
-    match lisp::run::run(&programs, SLOTS) {
-        Ok(outcome) => {
-            for (node, value) in outcome.values.iter().enumerate().take(texts.len()) {
-                println!("{node}: {value}");
-            }
-            println!("{} cycles", outcome.cycles);
-        }
-        Err(fault) => {
-            eprintln!("lisp: {}", fault.0);
-            process::exit(1);
-        }
+    let outcome = lisp::run::run(&programs, SLOTS).unwrap_or_else(|fault| {
+        eprintln!("lisp: {}", fault.0);
+        process::exit(1);
+    });
+    for (node, value) in outcome.values.iter().enumerate().take(texts.len()) {
+        println!("{node}: {value}");
     }
+    println!("{} cycles", outcome.cycles);
 }
