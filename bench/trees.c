@@ -1,0 +1,282 @@
+// binary-trees of the Benchmarks Game on four heaps: node 0 of a space of two (MARKRING), malloc and
+// free (MALLOC), and Boehm's collector (BOEHM). bench/library compiles it for each.
+//
+//     trees DEPTH
+//
+// The space has no disk: images are taken, and count as stored. A collection cycle runs whenever
+// node 0 has no slot left.
+#define _POSIX_C_SOURCE 200809L
+#include <inttypes.h>
+#include <stdint.h>
+#include <stdio.h>
+#include <stdlib.h>
+
+enum { LEAST = 4, MOST = 20 };
+
+#ifdef MARKRING
+
+#include <markring.h>
+
+enum { SLOTS = 1048576, REGISTERS = 64, SWEPT = 1048576 };
+
+// The register of the long-lived tree, and the first of the others. A tree takes a register for each
+// level.
+enum { LONG_LIVED = 0, FIRST = 1 };
+
+static markring_node nodes[2];
+static uint8_t *image;
+static size_t room;
+static unsigned long cycles;
+
+static void must(int status, const char *call)
+{
+    if (status != MARKRING_OK) {
+        fprintf(stderr, "trees: %s: %s\n", call, markring_status_text(status));
+        exit(1);
+    }
+}
+
+#define MUST(call) must((call), #call)
+
+static void save(int node)
+{
+    size_t needed = 0;
+    uint64_t mark = 0;
+    uint8_t flag = 0;
+    MUST(markring_node_unsaved(&nodes[node], &flag));
+    if (!flag) {
+        return;
+    }
+    int status = markring_node_image(&nodes[node], image, room, &needed, &mark);
+    if (status == MARKRING_SHORT_BUFFER) {
+        free(image);
+        room = needed + needed / 8;
+        image = malloc(room);
+        if (image == NULL) {
+            exit(1);
+        }
+        status = markring_node_image(&nodes[node], image, room, &needed, &mark);
+    }
+    must(status, "markring_node_image");
+    MUST(markring_node_kept(&nodes[node], mark));
+}
+
+static void send(uint8_t from, uint8_t to)
+{
+    uint8_t frame[48];
+    size_t needed = 0;
+    markring_answer answer;
+    for (uint8_t place = 0; place < 32; place++) {
+        int status = markring_node_frame_at(&nodes[from], to, place, frame, sizeof frame, &needed);
+        if (status == MARKRING_NOTHING) {
+            break;
+        }
+        must(status, "markring_node_frame_at");
+        MUST(markring_node_take(&nodes[to], frame, needed, &answer));
+    }
+    MUST(markring_node_ack_for(&nodes[from], to, frame, sizeof frame, &needed));
+    MUST(markring_node_take(&nodes[to], frame, needed, &answer));
+}
+
+static int is_swept(void)
+{
+    markring_state zero, one;
+    MUST(markring_node_state(&nodes[0], &zero));
+    MUST(markring_node_state(&nodes[1], &one));
+    return zero.swept == zero.cycle && one.swept == zero.cycle;
+}
+
+// Runs a whole cycle. It can begin once node 1 has reported the one before.
+static void collect(void)
+{
+    markring_answer answer;
+    int status;
+    while ((status = markring_node_begin(&nodes[0], &answer)) == MARKRING_CYCLE_RUNNING) {
+        save(1);
+        send(1, 0);
+    }
+    must(status, "markring_node_begin");
+    cycles++;
+    do {
+        for (uint8_t node = 0; node < 2; node++) {
+            while (markring_node_scan(&nodes[node], &answer) == MARKRING_OK) {
+            }
+            (void)markring_node_pass(&nodes[node], &answer);
+            (void)markring_node_sweep(&nodes[node], SWEPT, &answer);
+            save(node);
+            send(node, (uint8_t)(1 - node));
+        }
+    } while (!is_swept());
+}
+
+// Makes a tree in the register. The registers above it are used too.
+static void make(uint16_t reg, int depth)
+{
+    markring_answer answer;
+    int status = markring_node_alloc(&nodes[0], reg, 2, &answer);
+    if (status == MARKRING_ARENA_FULL) {
+        collect();
+        status = markring_node_alloc(&nodes[0], reg, 2, &answer);
+    }
+    must(status, "markring_node_alloc");
+    if (depth == 0) {
+        return;
+    }
+    for (uint8_t place = 0; place < 2; place++) {
+        make(reg + 1, depth - 1);
+        MUST(markring_node_store(&nodes[0], reg, place, reg + 1, &answer));
+    }
+}
+
+static uint64_t check(uint16_t reg)
+{
+    markring_answer answer;
+    uint64_t sum = 1;
+    for (uint8_t place = 0; place < 2; place++) {
+        MUST(markring_node_load(&nodes[0], reg + 1, reg, place, &answer));
+        if (!markring_ref_is_some(answer.reference)) {
+            return sum;
+        }
+        sum += check(reg + 1);
+    }
+    return sum;
+}
+
+static void drop_from(uint16_t reg)
+{
+    markring_answer answer;
+    for (; reg < REGISTERS; reg++) {
+        (void)markring_node_drop(&nodes[0], reg, &answer);
+    }
+}
+
+static void begin(void)
+{
+    for (uint8_t own = 0; own < 2; own++) {
+        MUST(markring_node_new(&nodes[own], 2, REGISTERS, SLOTS, own, 0));
+    }
+}
+
+static uint64_t make_and_check(int depth)
+{
+    make(FIRST, depth);
+    uint64_t sum = check(FIRST);
+    drop_from(FIRST);
+    return sum;
+}
+
+static void make_long_lived(int depth)
+{
+    make(LONG_LIVED, depth);
+    drop_from(LONG_LIVED + 1);
+}
+
+static uint64_t check_long_lived(void)
+{
+    return check(LONG_LIVED);
+}
+
+static void end(void)
+{
+    fprintf(stderr, "%lu cycles\n", cycles);
+    MUST(markring_node_free(&nodes[0]));
+    MUST(markring_node_free(&nodes[1]));
+    free(image);
+}
+
+#else
+
+#ifdef BOEHM
+#include <gc/gc.h>
+#define NEW(type) ((type *)GC_MALLOC(sizeof(type)))
+#else
+#define NEW(type) ((type *)malloc(sizeof(type)))
+#endif
+
+typedef struct tree {
+    struct tree *left, *right;
+} tree;
+
+static tree *long_lived;
+
+static tree *make(int depth)
+{
+    tree *it = NEW(tree);
+    if (it == NULL) {
+        exit(1);
+    }
+    it->left = depth > 0 ? make(depth - 1) : NULL;
+    it->right = depth > 0 ? make(depth - 1) : NULL;
+    return it;
+}
+
+static uint64_t check(const tree *it)
+{
+    return it->left == NULL ? 1 : 1 + check(it->left) + check(it->right);
+}
+
+static void drop(tree *it)
+{
+#ifdef BOEHM
+    (void)it;
+#else
+    if (it->left != NULL) {
+        drop(it->left);
+        drop(it->right);
+    }
+    free(it);
+#endif
+}
+
+static void begin(void)
+{
+#ifdef BOEHM
+    GC_INIT();
+#endif
+}
+
+static uint64_t make_and_check(int depth)
+{
+    tree *it = make(depth);
+    uint64_t sum = check(it);
+    drop(it);
+    return sum;
+}
+
+static void make_long_lived(int depth)
+{
+    long_lived = make(depth);
+}
+
+static uint64_t check_long_lived(void)
+{
+    return check(long_lived);
+}
+
+static void end(void)
+{
+    drop(long_lived);
+}
+
+#endif
+
+int main(int length, char **given)
+{
+    int depth = length > 1 ? atoi(given[1]) : 16;
+    if (depth < LEAST + 2 || depth > MOST) {
+        return 2;
+    }
+    begin();
+    printf("stretch tree of depth %d\t check: %" PRIu64 "\n", depth + 1, make_and_check(depth + 1));
+    make_long_lived(depth);
+    for (int d = LEAST; d <= depth; d += 2) {
+        uint64_t trees = UINT64_C(1) << (depth - d + LEAST), sum = 0;
+        for (uint64_t i = 0; i < trees; i++) {
+            sum += make_and_check(d);
+        }
+        printf("%" PRIu64 "\t trees of depth %d\t check: %" PRIu64 "\n", trees, d, sum);
+    }
+    printf("long lived tree of depth %d\t check: %" PRIu64 "\n", depth, check_long_lived());
+    end();
+    return 0;
+}

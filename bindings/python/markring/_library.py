@@ -1,0 +1,166 @@
+"""Finds and loads the library, and declares its functions."""
+from __future__ import annotations
+
+import ctypes
+import os
+from ctypes import POINTER, c_char_p, c_int, c_int64, c_size_t, c_uint8, c_uint16, c_uint32, c_uint64, c_void_p
+from pathlib import Path
+
+NAME = "libmarkring.so"
+
+
+class Handle(ctypes.Structure):
+    """One pointer that the library owns, null if the handle is empty."""
+
+    _fields_ = [("at", c_void_p)]
+
+
+class RawRef(ctypes.Structure):
+    _fields_ = [("node", c_uint8), ("slot", c_uint32), ("generation", c_uint64)]
+
+
+class RawAnswer(ctypes.Structure):
+    _fields_ = [
+        ("kind", c_uint8),
+        ("node", c_uint8),
+        ("colour", c_uint8),
+        ("done", c_uint8),
+        ("label", c_uint32),
+        ("count", c_uint32),
+        ("number", c_uint64),
+        ("sum", c_int64),
+        ("reference", RawRef),
+    ]
+
+
+class RawState(ctypes.Structure):
+    _fields_ = [
+        ("nodes", c_uint8),
+        ("own", c_uint8),
+        ("colour", c_uint8),
+        ("has_token", c_uint8),
+        ("registers", c_uint16),
+        ("slots", c_uint32),
+        ("live", c_uint32),
+        ("cycle", c_uint64),
+        ("ended", c_uint64),
+        ("swept", c_uint64),
+        ("earlier", c_int64),
+        ("recent", c_int64),
+        ("grey", c_uint64),
+        ("letters", c_uint64),
+    ]
+
+
+class RawLink(ctypes.Structure):
+    _fields_ = [
+        ("appended", c_uint64),
+        ("released", c_uint64),
+        ("acknowledged", c_uint64),
+        ("received", c_uint64),
+        ("received_saved", c_uint64),
+    ]
+
+
+U8, U16, U32, U64, SIZE = c_uint8, c_uint16, c_uint32, c_uint64, c_size_t
+TO_SIZE, TO_NUMBER, TO_FLAG = POINTER(c_size_t), POINTER(c_uint64), POINTER(c_uint8)
+ANSWER, AT = POINTER(RawAnswer), POINTER(Handle)
+
+# The arguments after the handle, for nodes and cells alike.
+EVENTS = {
+    "alloc": (U16, U8),
+    "copy": (U16, U16),
+    "drop": (U16,),
+    "load": (U16, U16, U8),
+    "store": (U16, U8, U16),
+    "clear": (U16, U8),
+    "word": (U16,),
+    "set_word": (U16, U64),
+    "give": (U8, U32, U16),
+    "accept": (U16,),
+    "put": (U16, U8, U16),
+    "get": (U16, U8, U32),
+    "begin": (),
+    "scan": (),
+    "pass": (),
+    "sweep": (U32,),
+    "next": (U8,),
+}
+BOTH = {
+    **{name: (*words, ANSWER) for name, words in EVENTS.items()},
+    "free": (),
+    "image_size": (TO_SIZE,),
+    "image": (c_char_p, SIZE, TO_SIZE, TO_NUMBER),
+    "state": (POINTER(RawState),),
+    "link": (U8, POINTER(RawLink)),
+    "register": (U16, POINTER(RawRef)),
+    "unsaved": (TO_FLAG,),
+}
+FUNCTIONS = {
+    "node": {
+        **BOTH,
+        "new": (U8, U16, U32, U8, U64),
+        "take": (c_char_p, SIZE, ANSWER),
+        "frame_at": (U8, U8, c_char_p, SIZE, TO_SIZE),
+        "ack_for": (U8, c_char_p, SIZE, TO_SIZE),
+        "frames": (U8, U64, c_char_p, SIZE, TO_SIZE, TO_SIZE),
+        "kept": (U64,),
+        "from_image": (c_char_p, SIZE, U64),
+        "waiting": (U8, TO_NUMBER),
+    },
+    "space": {
+        "new": (U8, U16, U32, U8),
+        "disk": (U8, c_char_p, SIZE),
+        "open": (),
+        "cell": (U8, AT),
+        "watch": (AT,),
+        "free": (),
+    },
+    "cell": {
+        **BOTH,
+        "receive": (U8, ANSWER),
+        "send": (U8, TO_FLAG),
+        "save": (U64,),
+        "reopen": (),
+        "raise": (TO_NUMBER,),
+    },
+    "watch": {"look": (TO_NUMBER,), "free": ()},
+}
+# The functions by their types of handles and their names, and the widths of their numbers in bits.
+CALLS: dict[str, dict[str, object]] = {}
+WIDTHS: dict[str, dict[str, tuple[int, ...]]] = {}
+
+
+def path() -> str:
+    """The file of the library: the variable MARKRING_LIBRARY, or a file beside the package or in it."""
+    named = os.environ.get("MARKRING_LIBRARY")
+    if named:
+        return named
+    package = Path(__file__).resolve().parent
+    for folder in (package, package.parent):
+        if (folder / NAME).exists():
+            return str(folder / NAME)
+    return NAME
+
+
+def load() -> None:
+    """Loads the library and declares its functions."""
+    try:
+        # Calls keep the interpreter's lock, so two threads are never in the library at the same time. No call waits.
+        library = ctypes.PyDLL(path())
+    except OSError as error:
+        raise ImportError(f"{error}; set MARKRING_LIBRARY to the path of {NAME}") from error
+    numbers = (U8, U16, U32, U64, SIZE)
+    for kind, functions in FUNCTIONS.items():
+        CALLS[kind], WIDTHS[kind] = {}, {}
+        if kind != "node" and not hasattr(library, f"markring_{kind}_free"):
+            # A library without spaces, cells and watches.
+            continue
+        for name, words in functions.items():
+            call = getattr(library, f"markring_{kind}_{name}")
+            call.argtypes, call.restype = (AT, *words), c_int
+            CALLS[kind][name] = call
+            WIDTHS[kind][name] = tuple(8 * ctypes.sizeof(it) if it in numbers else 0 for it in words)
+
+
+load()

@@ -1,0 +1,417 @@
+"""Nodes, spaces, cells and watches."""
+from __future__ import annotations
+
+import ctypes
+from enum import Enum
+from types import TracebackType
+from typing import Any, NamedTuple, Optional, TypeVar, Union
+
+from . import _library as c
+from .errors import BadArgument, check, found
+
+LENGTH, NUMBER = 2, 8
+FRAME, WINDOW = 48, 1_856
+Own = TypeVar("Own", bound="_Handle")
+
+
+class Ref(NamedTuple):
+    """A reference `node.slot.generation`. It names one object, forever, but keeps no object alive."""
+
+    node: int
+    slot: int
+    generation: int
+
+    def __str__(self) -> str:
+        return f"{self.node}.{self.slot}.{self.generation}"
+
+
+class Letter(NamedTuple):
+    """A letter that was accepted."""
+
+    sender: int
+    label: int
+    reference: Optional[Ref]
+
+
+class Freed(NamedTuple):
+    """What a sweep did: how many objects were freed, and whether all slots are swept."""
+
+    count: int
+    done: bool
+
+
+class Passed(NamedTuple):
+    """The token as a node sent it on: its colour, black or not, and its sum."""
+
+    black: bool
+    sum: int
+
+
+class Again(NamedTuple):
+    """Node 0 sent the token around again, since marking may not have ended."""
+
+
+class Ended(NamedTuple):
+    """Node 0 found that the marking of this cycle has ended."""
+
+    cycle: int
+
+
+class Taken(Enum):
+    """What became of a frame."""
+
+    ACKNOWLEDGED = 0
+    RECEIVED = 12
+    REPEAT = 13
+    EARLY = 14
+
+
+class Image(NamedTuple):
+    """A node's image: the bytes to store, and the mark to pass to `kept` or `save` once they are stored."""
+
+    data: bytes
+    mark: int
+
+
+class State(NamedTuple):
+    """A node in numbers. `black` is the node's colour."""
+
+    nodes: int
+    own: int
+    black: bool
+    has_token: bool
+    registers: int
+    slots: int
+    live: int
+    cycle: int
+    ended: int
+    swept: int
+    earlier: int
+    recent: int
+    grey: int
+    letters: int
+
+
+class Link(NamedTuple):
+    """What a node knows of the links between it and another one: the numbers of the last such messages."""
+
+    appended: int
+    released: int
+    acknowledged: int
+    received: int
+    received_saved: int
+
+
+def _ref(raw: c.RawRef) -> Optional[Ref]:
+    return Ref(raw.node, raw.slot, raw.generation) if raw.generation else None
+
+
+def _object(raw: c.RawRef) -> Ref:
+    return Ref(raw.node, raw.slot, raw.generation)
+
+
+class _Handle:
+    """What owns something in the library, until it is closed."""
+
+    _kind = ""
+
+    def __init__(self) -> None:
+        self._at = c.Handle()
+        if not c.CALLS[self._kind]:
+            raise NotImplementedError("this library exports no spaces")
+
+    def _status(self, name: str, *words: Any) -> int:
+        # Otherwise ctypes would cut off what a number has too much.
+        for word, width in zip(words, c.WIDTHS[self._kind][name]):
+            if width and not 0 <= word < 1 << width:
+                raise BadArgument()
+        return c.CALLS[self._kind][name](self._at, *words)  # type: ignore[operator]
+
+    def _call(self, name: str, *words: Any) -> None:
+        check(self._status(name, *words))
+
+    def close(self) -> None:
+        """Frees it. What isn't saved is lost. Later calls raise `NoHandle`; closing again does nothing."""
+        if self._at.at:
+            self._call("free")
+
+    def __enter__(self: Own) -> Own:
+        return self
+
+    def __exit__(
+        self,
+        kind: Optional[type[BaseException]],
+        error: Optional[BaseException],
+        trace: Optional[TracebackType],
+    ) -> None:
+        self.close()
+
+    def __del__(self) -> None:
+        if getattr(self, "_at", None) is not None:
+            self.close()
+
+
+class _Events(_Handle):
+    """What nodes and cells have in common. `register`, `source` and `object` are numbers of registers; `object` is the
+    register that refers to the object. An event that is refused changes nothing."""
+
+    def _answer(self, name: str, *words: int) -> c.RawAnswer:
+        answer = c.RawAnswer()
+        self._call(name, *words, answer)
+        return answer
+
+    def alloc(self, register: int, places: int) -> Ref:
+        """Makes a new object with this many empty places. The register gets its reference."""
+        return _object(self._answer("alloc", register, places).reference)
+
+    def copy(self, register: int, source: int) -> None:
+        """The register gets the reference in `source`."""
+        self._answer("copy", register, source)
+
+    def drop(self, register: int) -> None:
+        """Empties the register."""
+        self._answer("drop", register)
+
+    def load(self, register: int, object: int, place: int) -> Optional[Ref]:
+        """The register gets the content of the object's place, which is returned."""
+        return _ref(self._answer("load", register, object, place).reference)
+
+    def store(self, object: int, place: int, register: int) -> None:
+        """The object's place gets the register's reference."""
+        self._answer("store", object, place, register)
+
+    def clear(self, object: int, place: int) -> None:
+        """Empties the object's place."""
+        self._answer("clear", object, place)
+
+    def word(self, object: int) -> int:
+        """The object's word."""
+        return self._answer("word", object).number
+
+    def set_word(self, object: int, word: int) -> None:
+        """The object gets the word."""
+        self._answer("set_word", object, word)
+
+    def give(self, to: int, label: int, register: int) -> int:
+        """Sends a letter with the label and the register's content. Returns the message's number."""
+        return self._answer("give", to, label, register).number
+
+    def accept(self, register: int) -> Letter:
+        """Removes the oldest letter that waits. The register gets its content."""
+        answer = self._answer("accept", register)
+        return Letter(answer.node, answer.label, _ref(answer.reference))
+
+    def put(self, object: int, place: int, register: int) -> int:
+        """Asks the owner of another node's object to put the register's content into the object's place."""
+        return self._answer("put", object, place, register).number
+
+    def get(self, object: int, place: int, label: int) -> int:
+        """Asks the owner of another node's object for the content of the object's place. It comes in a letter."""
+        return self._answer("get", object, place, label).number
+
+    def begin(self) -> int:
+        """Begins the next cycle, and returns its number."""
+        return self._answer("begin").number
+
+    def scan(self) -> Ref:
+        """Shades the references in the places of a grey object, which is returned."""
+        return _object(self._answer("scan").reference)
+
+    def pass_token(self) -> Union[Passed, Again, Ended]:
+        """Passes the token on, or decides at node 0 whether marking has ended."""
+        answer = self._answer("pass")
+        if answer.kind == 8:
+            return Passed(bool(answer.colour), answer.sum)
+        return Again() if answer.kind == 9 else Ended(answer.number)
+
+    def sweep(self, count: int) -> Freed:
+        """Looks at the next `count` used slots, and frees the objects there that aren't marked."""
+        answer = self._answer("sweep", count)
+        return Freed(answer.count, bool(answer.done))
+
+    def next(self, sender: int) -> None:
+        """Receives the message from the sender that was early and is the next one now."""
+        self._answer("next", sender)
+
+    def state(self) -> State:
+        """The node in numbers."""
+        raw = c.RawState()
+        self._call("state", raw)
+        state = State(*(getattr(raw, it) for it in ("nodes", "own", "colour") + State._fields[3:]))
+        return state._replace(black=bool(raw.colour), has_token=bool(raw.has_token))
+
+    def link(self, peer: int) -> Link:
+        """The links between the node and the node `peer`."""
+        raw = c.RawLink()
+        self._call("link", peer, raw)
+        return Link(*(getattr(raw, it) for it in Link._fields))
+
+    def register(self, register: int) -> Optional[Ref]:
+        """The reference in a register, if any."""
+        raw = c.RawRef()
+        return _ref(raw) if found(self._status("register", register, raw)) else None
+
+    def unsaved(self) -> bool:
+        """Whether an event has changed the node since it was last saved."""
+        flag = ctypes.c_uint8()
+        self._call("unsaved", flag)
+        return bool(flag.value)
+
+    def image_size(self) -> int:
+        """The number of bytes that the node's image has now."""
+        size = ctypes.c_size_t()
+        self._call("image_size", size)
+        return size.value
+
+    def image(self) -> Image:
+        """The node's image, with its mark."""
+        buffer = ctypes.create_string_buffer(self.image_size())
+        needed, mark = ctypes.c_size_t(), ctypes.c_uint64()
+        self._call("image", buffer, len(buffer), needed, mark)
+        return Image(buffer.raw[: needed.value], mark.value)
+
+
+class Node(_Events):
+    """One node of a space, for a caller that moves its frames and stores its images.
+
+    A frame may be lost, repeated and delayed: send the released ones again and again until they are acknowledged. What
+    a node sent is released once an image that holds it is kept.
+    """
+
+    _kind = "node"
+
+    def __init__(self, nodes: int, registers: int, slots: int, own: int, limit: int = 0) -> None:
+        """Makes node `own` of `nodes`. If `limit` isn't 0, `give`, `put` and `get` raise `Congested` while that many
+        messages to the receiver aren't acknowledged."""
+        super().__init__()
+        self._call("new", nodes, registers, slots, own, limit)
+
+    @classmethod
+    def from_image(cls, data: bytes, limit: int = 0) -> Node:
+        """The node of an image. All that it sent and received counts as saved."""
+        node = cls.__new__(cls)
+        _Handle.__init__(node)
+        node._call("from_image", data, len(data), limit)
+        return node
+
+    def take(self, frame: bytes) -> Taken:
+        """Gives the node a frame from another node. After EARLY, call `next` once its turn has come."""
+        answer = c.RawAnswer()
+        self._call("take", frame, len(frame), answer)
+        return Taken(answer.kind)
+
+    def frame_at(self, to: int, place: int) -> Optional[bytes]:
+        """The frame of the released message at this place of the window, 0 to 31, if there is one."""
+        buffer, needed = ctypes.create_string_buffer(FRAME), ctypes.c_size_t()
+        exists = found(self._status("frame_at", to, place, buffer, FRAME, needed))
+        return buffer.raw[: needed.value] if exists else None
+
+    def ack_for(self, sender: int) -> bytes:
+        """The acknowledgement to the sender of all its messages that a saved state has received, as a frame."""
+        buffer, needed = ctypes.create_string_buffer(FRAME), ctypes.c_size_t()
+        self._call("ack_for", sender, buffer, FRAME, needed)
+        return buffer.raw[: needed.value]
+
+    def frames(self, to: int, after: int = 0) -> list[tuple[int, bytes]]:
+        """The frames in the window whose numbers are above `after`, each with its number, in order."""
+        buffer = ctypes.create_string_buffer(WINDOW)
+        count, needed = ctypes.c_size_t(), ctypes.c_size_t()
+        if not found(self._status("frames", to, after, buffer, WINDOW, count, needed)):
+            return []
+        found_frames, rest = [], buffer.raw
+        for _ in range(count.value):
+            length, number = int.from_bytes(rest[:LENGTH], "big"), int.from_bytes(rest[LENGTH:][:NUMBER], "big")
+            rest = rest[LENGTH + NUMBER :]
+            found_frames.append((number, rest[:length]))
+            rest = rest[length:]
+        return found_frames
+
+    def kept(self, mark: int) -> None:
+        """Says that the image with this mark is stored. What that image holds counts as saved."""
+        self._call("kept", mark)
+
+    def waiting(self, sender: int) -> Optional[int]:
+        """The number of the message from the sender that was early and is the next one now, if there is one."""
+        number = ctypes.c_uint64()
+        return number.value if found(self._status("waiting", sender, number)) else None
+
+
+class Space(_Handle):
+    """A space whose nodes are in threads of one process. It makes cells and watches, which then go to threads.
+
+    `NotImplementedError` is raised if the library exports no spaces.
+    """
+
+    _kind = "space"
+
+    def __init__(self, nodes: int, registers: int, slots: int, watches: int = 0) -> None:
+        super().__init__()
+        self.nodes = nodes
+        self._call("new", nodes, registers, slots, watches)
+
+    def disk(self, node: int, image: bytes) -> None:
+        """Gives the stored image from which a node will continue. Give those of all nodes or of none."""
+        self._call("disk", node, image, len(image))
+
+    def open(self) -> list[Cell]:
+        """Opens the space, and moves out the cells of all nodes. If that is refused, the space keeps its images."""
+        self._call("open")
+        cells = [Cell() for _ in range(self.nodes)]
+        for node, cell in enumerate(cells):
+            self._call("cell", node, cell._at)
+        return cells
+
+    def watch(self) -> Optional[Watch]:
+        """A watch, or nothing if the space isn't open or all its watches were moved out."""
+        watch = Watch()
+        return watch if found(self._status("watch", watch._at)) else None
+
+
+class Cell(_Events):
+    """A node with its place on the wire between the nodes of a space.
+
+    A thread makes these calls over and over: `receive` from each other node; events; `image` and `save`; `send` to each
+    other node; and at node 0 `raise_board`. No call waits for another thread.
+    """
+
+    _kind = "cell"
+
+    def receive(self, sender: int) -> Optional[Taken]:
+        """Receives a frame of the sender, or the message that was early and is next. Nothing if there is neither.
+
+        After `WrongNode`, `OutOfOrder`, `LinkSpent` and `Memory` the frame is lost, and its sender offers it again.
+        """
+        answer = c.RawAnswer()
+        return Taken(answer.kind) if found(self._status("receive", sender, answer)) else None
+
+    def send(self, to: int) -> bool:
+        """Sends the next frame, if the mailbox of the receiver is empty, and returns whether it was."""
+        sent = ctypes.c_uint8()
+        self._call("send", to, sent)
+        return bool(sent.value)
+
+    def save(self, mark: int) -> None:
+        """Saves the cell, whose image with this mark is stored. No event may happen between the two."""
+        self._call("save", mark)
+
+    def reopen(self) -> None:
+        """Goes back to the cell as it was last saved. What wasn't saved is lost."""
+        self._call("reopen")
+
+    def raise_board(self) -> int:
+        """Shows the last ended cycle of the saved node 0 to the watches, and returns its number."""
+        cycle = ctypes.c_uint64()
+        self._call("raise", cycle)
+        return cycle.value
+
+
+class Watch(_Handle):
+    """A read-only view of the last cycle whose marking has ended."""
+
+    _kind = "watch"
+
+    def look(self) -> int:
+        """The last cycle that node 0 has shown; 0 if there was none."""
+        cycle = ctypes.c_uint64()
+        self._call("look", cycle)
+        return cycle.value

@@ -1,0 +1,147 @@
+"""Events, frames and images of nodes. What is expected comes from docs/RULES.md and docs/FORMATS.md."""
+import unittest
+
+from markring import Again, Ended, Freed, Letter, Link, Node, Passed, Ref, Refusal, Taken, errors
+
+
+def deliver(giver: Node, own: int, receiver: Node) -> list[Taken]:
+    """Saves the node, and sends all its frames to the other one."""
+    giver.kept(giver.image().mark)
+    taken = [receiver.take(frame) for _, frame in giver.frames(1 - own)]
+    giver.take(receiver.ack_for(own))
+    return taken
+
+
+class Nodes(unittest.TestCase):
+    def setUp(self) -> None:
+        self.zero, self.one = Node(2, 4, 16, 0), Node(2, 4, 16, 1)
+        self.addCleanup(self.zero.close)
+        self.addCleanup(self.one.close)
+
+    def test_events_answer_as_the_rules_say(self) -> None:
+        zero = self.zero
+        self.assertEqual(zero.alloc(0, 2), Ref(0, 0, 1))
+        self.assertEqual(str(zero.alloc(1, 0)), "0.1.1")
+        zero.set_word(0, 2**64 - 1)
+        self.assertEqual(zero.word(0), 2**64 - 1)
+        zero.store(0, 1, 1)
+        self.assertEqual(zero.load(2, 0, 1), Ref(0, 1, 1))
+        self.assertIsNone(zero.load(2, 0, 0))
+        self.assertIsNone(zero.register(2))
+        zero.copy(3, 0)
+        self.assertEqual(zero.register(3), Ref(0, 0, 1))
+        zero.clear(3, 1)
+        self.assertIsNone(zero.load(2, 0, 1))
+        zero.drop(3)
+        self.assertEqual(zero.give(1, 9, 1), 1)
+        state = zero.state()
+        self.assertEqual((state.nodes, state.own, state.registers, state.slots), (2, 0, 4, 16))
+        self.assertEqual((state.live, state.recent, state.earlier, state.black), (2, 1, 0, False))
+        self.assertTrue(zero.unsaved())
+
+    def test_each_refusal_has_a_class(self) -> None:
+        zero = self.zero
+        expected = [
+            (errors.NoRegister, lambda: zero.alloc(4, 9)),
+            (errors.TooManyFields, lambda: zero.alloc(0, 9)),
+            (errors.EmptyRegister, lambda: zero.word(0)),
+            (errors.NoNode, lambda: zero.give(2, 0, 4)),
+            (errors.SelfSend, lambda: zero.give(0, 0, 4)),
+            (errors.NoLetter, lambda: zero.accept(0)),
+            (errors.NothingToDo, zero.scan),
+            (errors.NotDirector, self.one.begin),
+            (errors.BadFrame, lambda: zero.take(b"")),
+            (errors.BadImage, lambda: Node.from_image(b"MR")),
+            (errors.BadArgument, lambda: Node(1, 4, 16, 0)),
+            (errors.BadArgument, lambda: zero.alloc(1 << 16, 0)),
+            (errors.BadArgument, lambda: zero.alloc(-1, 0)),
+            (errors.BadArgument, lambda: zero.frame_at(1, 32)),
+            (errors.WrongMark, lambda: zero.kept(1)),
+        ]
+        for kind, call in expected:
+            with self.subTest(kind), self.assertRaises(kind) as caught:
+                call()
+            self.assertIsInstance(caught.exception, Refusal)
+            self.assertEqual(caught.exception.status, kind.status)
+        self.assertEqual(len(errors.CLASSES), 24 + 7)
+
+    def test_a_closed_node_is_refused(self) -> None:
+        with Node(2, 4, 16, 0) as node:
+            node.alloc(0, 0)
+        node.close()
+        with self.assertRaises(errors.NoHandle):
+            node.word(0)
+
+    def test_a_letter_crosses(self) -> None:
+        self.zero.alloc(0, 0)
+        self.zero.give(1, 7, 0)
+        self.assertEqual(self.zero.frames(1), [])
+        self.assertEqual(deliver(self.zero, 0, self.one), [Taken.RECEIVED])
+        self.assertEqual(self.one.accept(2), Letter(0, 7, Ref(0, 0, 1)))
+        self.assertEqual(self.one.put(2, 1, 2), 1)
+        self.assertEqual(self.one.get(2, 1, 5), 2)
+        with self.assertRaises(errors.Remote):
+            self.one.word(2)
+
+    def test_frames_are_spelled_as_the_formats_say(self) -> None:
+        self.zero.alloc(0, 0)
+        self.zero.give(1, 7, 0)
+        self.zero.kept(self.zero.image().mark)
+        frame = bytes.fromhex("450001 0000000000000001 0000000000000000 04 00000007 01 00 00000000 0000000000000001")
+        self.assertEqual(self.zero.frames(1), [(1, frame)])
+        self.assertEqual(self.zero.frame_at(1, 0), frame)
+        self.assertIsNone(self.zero.frame_at(1, 1))
+        self.assertEqual(self.zero.ack_for(1), bytes.fromhex("42 00 01 0000000000000000"))
+
+    def test_early_frames_wait_for_their_turn(self) -> None:
+        for label in range(2):
+            self.zero.give(1, label, 0)
+        self.zero.kept(self.zero.image().mark)
+        (_, first), (_, second) = self.zero.frames(1)
+        self.assertEqual(self.one.take(second), Taken.EARLY)
+        self.assertIsNone(self.one.waiting(0))
+        self.assertEqual(self.one.take(first), Taken.RECEIVED)
+        self.assertEqual(self.one.waiting(0), 2)
+        self.one.next(0)
+        self.assertEqual(self.one.take(second), Taken.REPEAT)
+        self.assertEqual([self.one.accept(0).label for _ in range(2)], [0, 1])
+
+    def test_kept_releases_what_the_image_holds(self) -> None:
+        self.zero.give(1, 1, 0)
+        image = self.zero.image()
+        self.zero.give(1, 2, 0)
+        self.zero.kept(image.mark)
+        self.assertEqual(self.zero.link(1), Link(2, 1, 0, 0, 0))
+        self.assertTrue(self.zero.unsaved())
+        with Node.from_image(image.data) as again:
+            self.assertEqual(again.link(1), Link(1, 1, 0, 0, 0))
+
+    def test_a_limit_bounds_what_is_not_acknowledged(self) -> None:
+        with Node(2, 4, 16, 0, limit=1) as node:
+            node.give(1, 1, 0)
+            with self.assertRaises(errors.Congested):
+                node.give(1, 2, 0)
+
+    def test_a_cycle_frees_what_no_program_reaches(self) -> None:
+        zero, one = self.zero, self.one
+        zero.alloc(0, 0)
+        zero.drop(0)
+        one.alloc(0, 0)
+        self.assertEqual(zero.begin(), 1)
+        deliver(zero, 0, one)
+        self.assertEqual(one.scan(), Ref(1, 0, 1))
+        self.assertEqual(one.pass_token(), Passed(True, 0))
+        deliver(one, 1, zero)
+        self.assertEqual(zero.pass_token(), Again())
+        deliver(zero, 0, one)
+        self.assertEqual(one.pass_token(), Passed(False, 0))
+        deliver(one, 1, zero)
+        self.assertEqual(zero.pass_token(), Ended(1))
+        self.assertEqual(zero.sweep(16), Freed(1, True))
+        deliver(zero, 0, one)
+        self.assertEqual(one.sweep(0), Freed(0, False))
+        self.assertEqual(one.sweep(16), Freed(0, True))
+
+
+if __name__ == "__main__":
+    unittest.main()

@@ -1,0 +1,123 @@
+"""Nodes in threads of one process."""
+import threading
+import time
+import unittest
+
+from markring import Cell, Ref, Space, Taken, errors
+
+ROUNDS = 30
+
+
+def turn(cell: Cell, own: int) -> None:
+    """One round of a thread of a space of two, without its program."""
+    cell.receive(1 - own)
+    for step in (cell.scan, cell.pass_token, lambda: cell.sweep(16)):
+        try:
+            step()
+        except errors.NothingToDo:
+            pass
+    if cell.unsaved():
+        cell.save(cell.image().mark)
+    cell.send(1 - own)
+    if own == 0:
+        cell.raise_board()
+    # Lets the other thread run.
+    time.sleep(0)
+
+
+def has_spaces() -> bool:
+    try:
+        Space(2, 1, 1).close()
+    except NotImplementedError:
+        return False
+    return True
+
+
+@unittest.skipUnless(has_spaces(), "the library exports no spaces")
+class Spaces(unittest.TestCase):
+    def test_letters_cross_while_cycles_run(self) -> None:
+        with Space(2, 4, 64, watches=1) as space:
+            cells = space.open()
+            watch = space.watch()
+            self.assertIsNone(space.watch())
+        assert watch is not None
+        seen: list[list[int]] = [[], []]
+        done = threading.Barrier(2)
+
+        def work(own: int) -> None:
+            cell = cells[own]
+            while len(seen[own]) < ROUNDS or own == 0 and cell.state().live:
+                if own == 0 and len(seen[0]) == len(seen[1]) < ROUNDS and not cell.register(0):
+                    cell.alloc(0, 0)
+                    cell.give(1, len(seen[0]), 0)
+                turn(cell, own)
+                try:
+                    letter = cell.accept(1)
+                except errors.NoLetter:
+                    if own == 0:
+                        self.begin(cell)
+                    continue
+                seen[own].append(letter.label)
+                if own == 1:
+                    cell.give(0, letter.label, 1)
+                else:
+                    cell.drop(0)
+                cell.drop(1)
+            while own == 1 and cells[0].state().live:
+                turn(cell, own)
+            done.wait()
+
+        threads = [threading.Thread(target=work, args=(own,)) for own in range(2)]
+        for it in threads:
+            it.start()
+        for it in threads:
+            it.join()
+        self.assertEqual(seen, [list(range(ROUNDS))] * 2)
+        self.assertGreater(watch.look(), 0)
+        self.assertEqual([cell.state().live for cell in cells], [0, 0])
+
+    def begin(self, cell: Cell) -> None:
+        try:
+            cell.begin()
+        except errors.CycleRunning:
+            pass
+
+    def test_a_space_continues_from_its_images(self) -> None:
+        space = Space(2, 4, 16)
+        cells = space.open()
+        self.assertRaises(errors.InUse, space.open)
+        cells[0].alloc(3, 1)
+        cells[0].set_word(3, 42)
+        images = []
+        for cell in cells:
+            image = cell.image()
+            cell.save(image.mark)
+            images.append(image)
+        cells[0].set_word(3, 43)
+        self.assertRaises(errors.WrongMark, cells[0].save, images[0].mark)
+        cells[0].reopen()
+        self.assertEqual(cells[0].word(3), 42)
+
+        again = Space(2, 4, 16)
+        self.assertRaises(errors.NoNode, again.disk, 2, b"")
+        again.disk(0, images[1].data)
+        again.disk(1, images[1].data)
+        self.assertRaises(errors.WrongDisks, again.open)
+        again.disk(0, images[0].data[:-1])
+        self.assertRaises(errors.BadImage, again.open)
+        again.disk(0, images[0].data)
+        zero, one = again.open()
+        self.assertEqual(zero.register(3), Ref(0, 0, 1))
+        self.assertEqual(zero.word(3), 42)
+        zero.give(1, 1, 3)
+        zero.save(zero.image().mark)
+        self.assertTrue(zero.send(1))
+        self.assertEqual(one.receive(0), Taken.RECEIVED)
+        self.assertIsNone(one.receive(0))
+        self.assertRaises(errors.NotDirector, one.raise_board)
+        one.close()
+        self.assertRaises(errors.NoHandle, one.state)
+
+
+if __name__ == "__main__":
+    unittest.main()

@@ -1,0 +1,348 @@
+//! What nodes and cells have in common: their events, and calls that read them.
+
+use crate::{Answer, Event, Freed, Letter, Link, Passed, Ref, Result, State};
+
+/// The events of a node, and calls that read it. [`Node`](crate::Node) has them, and
+/// with the feature `spaces` also `Cell`.
+///
+/// `register`, `source` and `object` are numbers of registers; `object` is the register that refers
+/// to the object. An event that is refused changes nothing.
+pub trait Events {
+    /// Makes a new object with this many empty places. The register gets its reference.
+    ///
+    /// # Errors
+    ///
+    /// `NoRegister`, `TooManyFields`, `ArenaFull`, `Memory`.
+    fn alloc(&self, register: u16, places: u8) -> Result<Ref>;
+
+    /// The register gets the reference in `source`.
+    ///
+    /// # Errors
+    ///
+    /// `NoRegister`, `EmptyRegister`.
+    fn copy(&self, register: u16, source: u16) -> Result<()>;
+
+    /// Empties the register.
+    ///
+    /// # Errors
+    ///
+    /// `NoRegister`, `EmptyRegister`.
+    fn drop_register(&self, register: u16) -> Result<()>;
+
+    /// The register gets the content of the object's place, which is returned.
+    ///
+    /// # Errors
+    ///
+    /// `NoRegister`, `EmptyRegister`, `Remote`, `NoField`, `LinkSpent`, `Memory`.
+    fn load(&self, register: u16, object: u16, place: u8) -> Result<Option<Ref>>;
+
+    /// The object's place gets the register's reference.
+    ///
+    /// # Errors
+    ///
+    /// `NoRegister`, `EmptyRegister`, `Remote`, `NoField`.
+    fn store(&self, object: u16, place: u8, register: u16) -> Result<()>;
+
+    /// Empties the object's place.
+    ///
+    /// # Errors
+    ///
+    /// `NoRegister`, `EmptyRegister`, `Remote`, `NoField`.
+    fn clear(&self, object: u16, place: u8) -> Result<()>;
+
+    /// Returns the object's word.
+    ///
+    /// # Errors
+    ///
+    /// `NoRegister`, `EmptyRegister`, `Remote`, `NoField`.
+    fn word(&self, object: u16) -> Result<u64>;
+
+    /// The object gets the word.
+    ///
+    /// # Errors
+    ///
+    /// `NoRegister`, `EmptyRegister`, `Remote`, `NoField`.
+    fn set_word(&self, object: u16, word: u64) -> Result<()>;
+
+    /// Sends a letter with the label and the content of the register to the node `to`. Returns the
+    /// message's number.
+    ///
+    /// # Errors
+    ///
+    /// `Congested`, `NoNode`, `SelfSend`, `NoRegister`, `LinkSpent`, `Memory`.
+    fn give(&self, to: u8, label: u32, register: u16) -> Result<u64>;
+
+    /// Removes the oldest letter that waits. The register gets its content.
+    ///
+    /// # Errors
+    ///
+    /// `NoRegister`, `NoLetter`.
+    fn accept(&self, register: u16) -> Result<Letter>;
+
+    /// Asks the owner of another node's object to put the content of the register into the
+    /// object's place. Returns the message's number.
+    ///
+    /// # Errors
+    ///
+    /// `Congested`, `NoRegister`, `EmptyRegister`, `Local`, `NoField`, `LinkSpent`, `Memory`.
+    fn put(&self, object: u16, place: u8, register: u16) -> Result<u64>;
+
+    /// Asks the owner of another node's object for the content of the object's place. It comes in
+    /// a letter with this label. Returns the message's number.
+    ///
+    /// # Errors
+    ///
+    /// `Congested`, `NoRegister`, `EmptyRegister`, `Local`, `NoField`, `LinkSpent`, `Memory`.
+    fn get(&self, object: u16, place: u8, label: u32) -> Result<u64>;
+
+    /// Begins the next cycle, and returns its number.
+    ///
+    /// # Errors
+    ///
+    /// `NotDirector`, `CycleRunning`, `CyclesSpent`, `LinkSpent`, `Memory`.
+    fn begin(&self) -> Result<u64>;
+
+    /// Shades the references in the places of a grey object, which is returned.
+    ///
+    /// # Errors
+    ///
+    /// `NothingToDo`, `LinkSpent`, `Memory`.
+    fn scan(&self) -> Result<Ref>;
+
+    /// Passes the token on, or decides at node 0 whether marking has ended.
+    ///
+    /// # Errors
+    ///
+    /// `NothingToDo`, `LinkSpent`, `Memory`.
+    fn pass(&self) -> Result<Passed>;
+
+    /// Looks at the next `count` used slots, and frees the objects there that aren't marked.
+    ///
+    /// # Errors
+    ///
+    /// `NothingToDo`, `LinkSpent`, `Memory`.
+    fn sweep(&self, count: u32) -> Result<Freed>;
+
+    /// Receives the message from the node `from` that was early and is the next one now.
+    ///
+    /// # Errors
+    ///
+    /// `NoNode`, `NothingToDo`, `Memory`. After `WrongNode` and `LinkSpent` that message is lost;
+    /// its sender may offer it again.
+    fn next(&self, from: u8) -> Result<()>;
+
+    /// Gives the node an event as a value.
+    ///
+    /// # Errors
+    ///
+    /// Those of the event.
+    fn act(&self, event: Event) -> Result<Answer>;
+
+    /// The node in numbers.
+    ///
+    /// # Errors
+    ///
+    /// None today.
+    fn state(&self) -> Result<State>;
+
+    /// The links between the node and the node `peer`.
+    ///
+    /// # Errors
+    ///
+    /// `NoNode`.
+    fn link(&self, peer: u8) -> Result<Link>;
+
+    /// The reference in a register, if any.
+    ///
+    /// # Errors
+    ///
+    /// `NoRegister`.
+    fn register(&self, register: u16) -> Result<Option<Ref>>;
+
+    /// Whether an event has changed the node since it was last saved.
+    ///
+    /// # Errors
+    ///
+    /// None today.
+    fn unsaved(&self) -> Result<bool>;
+
+    /// The number of bytes that the node's image has now.
+    ///
+    /// # Errors
+    ///
+    /// `ImageTooLarge`, `Memory`.
+    fn image_size(&self) -> Result<usize>;
+}
+
+// Implements `Events` by the functions of the C library.
+macro_rules! events {
+    ($type:ty {
+        $alloc:ident $copy:ident $drop:ident $load:ident $store:ident $clear:ident $word:ident
+        $set_word:ident $give:ident $accept:ident $put:ident $get:ident $begin:ident $scan:ident
+        $pass:ident $sweep:ident $next:ident $act:ident $state:ident $link:ident $register:ident
+        $unsaved:ident $image_size:ident $image:ident
+    }) => {
+        impl $type {
+            // Asks the library, and returns its answer.
+            fn answer(
+                &self,
+                call: impl FnOnce(*mut ffi::Handle, *mut ffi::RawAnswer) -> c_int,
+            ) -> Result<ffi::RawAnswer> {
+                let mut answer = ffi::RawAnswer::default();
+                checked(call(self.at.get(), &mut answer))?;
+                Ok(answer)
+            }
+
+            /// Takes the node's image.
+            ///
+            /// # Errors
+            ///
+            /// `ImageTooLarge`, `Memory`.
+            pub fn image(&self) -> Result<Image> {
+                let (mut needed, mut mark) = (self.image_size()?, 0);
+                let mut bytes = filled(needed)?;
+                // SAFETY: the buffer has the length that is passed.
+                checked(unsafe {
+                    ffi::$image(
+                        self.at.get(),
+                        bytes.as_mut_ptr(),
+                        bytes.len(),
+                        &mut needed,
+                        &mut mark,
+                    )
+                })?;
+                bytes.truncate(needed);
+                Ok(Image { bytes, mark })
+            }
+        }
+
+        // SAFETY of all calls: the handle is this value's own, one thread at a time uses it since
+        // the type isn't `Sync`, and what the call writes to is a variable of the caller.
+        impl Events for $type {
+            fn alloc(&self, register: u16, places: u8) -> Result<Ref> {
+                self.answer(|at, answer| unsafe { ffi::$alloc(at, register, places, answer) })
+                    .map(|it| it.object())
+            }
+
+            fn copy(&self, register: u16, source: u16) -> Result<()> {
+                self.answer(|at, answer| unsafe { ffi::$copy(at, register, source, answer) })
+                    .map(drop)
+            }
+
+            fn drop_register(&self, register: u16) -> Result<()> {
+                self.answer(|at, answer| unsafe { ffi::$drop(at, register, answer) })
+                    .map(drop)
+            }
+
+            fn load(&self, register: u16, object: u16, place: u8) -> Result<Option<Ref>> {
+                self.answer(|at, answer| unsafe { ffi::$load(at, register, object, place, answer) })
+                    .map(|it| Ref::from_raw(it.reference))
+            }
+
+            fn store(&self, object: u16, place: u8, register: u16) -> Result<()> {
+                self.answer(|at, answer| unsafe {
+                    ffi::$store(at, object, place, register, answer)
+                })
+                .map(drop)
+            }
+
+            fn clear(&self, object: u16, place: u8) -> Result<()> {
+                self.answer(|at, answer| unsafe { ffi::$clear(at, object, place, answer) })
+                    .map(drop)
+            }
+
+            fn word(&self, object: u16) -> Result<u64> {
+                self.answer(|at, answer| unsafe { ffi::$word(at, object, answer) })
+                    .map(|it| it.number)
+            }
+
+            fn set_word(&self, object: u16, word: u64) -> Result<()> {
+                self.answer(|at, answer| unsafe { ffi::$set_word(at, object, word, answer) })
+                    .map(drop)
+            }
+
+            fn give(&self, to: u8, label: u32, register: u16) -> Result<u64> {
+                self.answer(|at, answer| unsafe { ffi::$give(at, to, label, register, answer) })
+                    .map(|it| it.number)
+            }
+
+            fn accept(&self, register: u16) -> Result<Letter> {
+                self.answer(|at, answer| unsafe { ffi::$accept(at, register, answer) })
+                    .map(|it| it.letter())
+            }
+
+            fn put(&self, object: u16, place: u8, register: u16) -> Result<u64> {
+                self.answer(|at, answer| unsafe { ffi::$put(at, object, place, register, answer) })
+                    .map(|it| it.number)
+            }
+
+            fn get(&self, object: u16, place: u8, label: u32) -> Result<u64> {
+                self.answer(|at, answer| unsafe { ffi::$get(at, object, place, label, answer) })
+                    .map(|it| it.number)
+            }
+
+            fn begin(&self) -> Result<u64> {
+                self.answer(|at, answer| unsafe { ffi::$begin(at, answer) })
+                    .map(|it| it.number)
+            }
+
+            fn scan(&self) -> Result<Ref> {
+                self.answer(|at, answer| unsafe { ffi::$scan(at, answer) })
+                    .map(|it| it.object())
+            }
+
+            fn pass(&self) -> Result<Passed> {
+                self.answer(|at, answer| unsafe { ffi::$pass(at, answer) })
+                    .map(|it| it.passed())
+            }
+
+            fn sweep(&self, count: u32) -> Result<Freed> {
+                self.answer(|at, answer| unsafe { ffi::$sweep(at, count, answer) })
+                    .map(|it| it.freed())
+            }
+
+            fn next(&self, from: u8) -> Result<()> {
+                self.answer(|at, answer| unsafe { ffi::$next(at, from, answer) })
+                    .map(drop)
+            }
+
+            fn act(&self, event: Event) -> Result<Answer> {
+                let event = event.to_raw();
+                self.answer(|at, answer| unsafe { ffi::$act(at, &event, answer) })
+                    .map(|it| Answer::from_raw(&it))
+            }
+
+            fn state(&self) -> Result<State> {
+                let mut state = ffi::RawState::default();
+                checked(unsafe { ffi::$state(self.at.get(), &mut state) })?;
+                Ok(State::from_raw(&state))
+            }
+
+            fn link(&self, peer: u8) -> Result<Link> {
+                let mut link = ffi::RawLink::default();
+                checked(unsafe { ffi::$link(self.at.get(), peer, &mut link) })?;
+                Ok(Link::from_raw(&link))
+            }
+
+            fn register(&self, register: u16) -> Result<Option<Ref>> {
+                let mut reference = ffi::RawRef::default();
+                let status = unsafe { ffi::$register(self.at.get(), register, &mut reference) };
+                Ok(found(status)?.then(|| Ref::from_raw(reference)).flatten())
+            }
+
+            fn unsaved(&self) -> Result<bool> {
+                let mut flag = 0;
+                checked(unsafe { ffi::$unsaved(self.at.get(), &mut flag) })?;
+                Ok(flag != 0)
+            }
+
+            fn image_size(&self) -> Result<usize> {
+                let mut size = 0;
+                checked(unsafe { ffi::$image_size(self.at.get(), &mut size) })?;
+                Ok(size)
+            }
+        }
+    };
+}
+
+pub(crate) use events;

@@ -1,0 +1,208 @@
+//! The functions of the C library, as `include/markring.h` declares them.
+
+use core::ffi::{c_int, c_void};
+use core::ptr;
+
+/// A handle: one pointer that the library owns, null if the handle is empty.
+#[repr(C)]
+pub(crate) struct Handle {
+    at: *mut c_void,
+}
+
+impl Handle {
+    pub(crate) const fn empty() -> Self {
+        Handle {
+            at: ptr::null_mut(),
+        }
+    }
+}
+
+#[repr(C)]
+#[derive(Clone, Copy, Default)]
+pub(crate) struct RawRef {
+    pub(crate) node: u8,
+    pub(crate) slot: u32,
+    pub(crate) generation: u64,
+}
+
+#[repr(C)]
+#[derive(Clone, Copy, Default)]
+pub(crate) struct RawAnswer {
+    pub(crate) kind: u8,
+    pub(crate) node: u8,
+    pub(crate) colour: u8,
+    pub(crate) done: u8,
+    pub(crate) label: u32,
+    pub(crate) count: u32,
+    pub(crate) number: u64,
+    pub(crate) sum: i64,
+    pub(crate) reference: RawRef,
+}
+
+#[repr(C)]
+#[derive(Clone, Copy, Default)]
+pub(crate) struct RawEvent {
+    pub(crate) kind: u8,
+    pub(crate) node: u8,
+    pub(crate) place: u8,
+    pub(crate) reg: u16,
+    pub(crate) source: u16,
+    pub(crate) object: u16,
+    pub(crate) label: u32,
+    pub(crate) count: u32,
+    pub(crate) word: u64,
+}
+
+#[repr(C)]
+#[derive(Clone, Copy, Default)]
+pub(crate) struct RawState {
+    pub(crate) nodes: u8,
+    pub(crate) own: u8,
+    pub(crate) colour: u8,
+    pub(crate) has_token: u8,
+    pub(crate) registers: u16,
+    pub(crate) slots: u32,
+    pub(crate) live: u32,
+    pub(crate) cycle: u64,
+    pub(crate) ended: u64,
+    pub(crate) swept: u64,
+    pub(crate) earlier: i64,
+    pub(crate) recent: i64,
+    pub(crate) grey: u64,
+    pub(crate) letters: u64,
+}
+
+#[repr(C)]
+#[derive(Clone, Copy, Default)]
+pub(crate) struct RawLink {
+    pub(crate) appended: u64,
+    pub(crate) released: u64,
+    pub(crate) acknowledged: u64,
+    pub(crate) received: u64,
+    pub(crate) received_saved: u64,
+}
+
+type Place = *mut Handle;
+type Reply = *mut RawAnswer;
+
+extern "C" {
+    pub(crate) fn markring_node_new(
+        node: Place,
+        nodes: u8,
+        registers: u16,
+        slots: u32,
+        own: u8,
+        limit: u64,
+    ) -> c_int;
+    pub(crate) fn markring_node_free(node: Place) -> c_int;
+    pub(crate) fn markring_node_take(
+        node: Place,
+        bytes: *const u8,
+        length: usize,
+        answer: Reply,
+    ) -> c_int;
+    pub(crate) fn markring_node_frame_at(
+        node: Place,
+        to: u8,
+        place: u8,
+        buffer: *mut u8,
+        length: usize,
+        needed: *mut usize,
+    ) -> c_int;
+    pub(crate) fn markring_node_ack_for(
+        node: Place,
+        from: u8,
+        buffer: *mut u8,
+        length: usize,
+        needed: *mut usize,
+    ) -> c_int;
+    pub(crate) fn markring_node_frames(
+        node: Place,
+        to: u8,
+        after: u64,
+        buffer: *mut u8,
+        length: usize,
+        count: *mut usize,
+        needed: *mut usize,
+    ) -> c_int;
+    pub(crate) fn markring_node_kept(node: Place, mark: u64) -> c_int;
+    pub(crate) fn markring_node_from_image(
+        node: Place,
+        bytes: *const u8,
+        length: usize,
+        limit: u64,
+    ) -> c_int;
+    pub(crate) fn markring_node_waiting(node: Place, from: u8, number: *mut u64) -> c_int;
+}
+
+#[cfg(feature = "spaces")]
+extern "C" {
+    pub(crate) fn markring_space_new(
+        space: Place,
+        nodes: u8,
+        registers: u16,
+        slots: u32,
+        watches: u8,
+    ) -> c_int;
+    pub(crate) fn markring_space_disk(
+        space: Place,
+        node: u8,
+        image: *const u8,
+        length: usize,
+    ) -> c_int;
+    pub(crate) fn markring_space_open(space: Place) -> c_int;
+    pub(crate) fn markring_space_cell(space: Place, node: u8, cell: Place) -> c_int;
+    pub(crate) fn markring_space_watch(space: Place, watch: Place) -> c_int;
+    pub(crate) fn markring_space_free(space: Place) -> c_int;
+
+    pub(crate) fn markring_cell_free(cell: Place) -> c_int;
+    pub(crate) fn markring_cell_receive(cell: Place, from: u8, answer: Reply) -> c_int;
+    pub(crate) fn markring_cell_send(cell: Place, to: u8, sent: *mut u8) -> c_int;
+    pub(crate) fn markring_cell_save(cell: Place, mark: u64) -> c_int;
+    pub(crate) fn markring_cell_reopen(cell: Place) -> c_int;
+    pub(crate) fn markring_cell_raise(cell: Place, cycle: *mut u64) -> c_int;
+
+    pub(crate) fn markring_watch_look(watch: Place, cycle: *mut u64) -> c_int;
+    pub(crate) fn markring_watch_free(watch: Place) -> c_int;
+}
+
+// Declares the functions that nodes and cells both have.
+macro_rules! both {
+    ($($node:ident $cell:ident ($($name:ident: $kind:ty),*);)*) => {
+        extern "C" {
+            $(
+                pub(crate) fn $node(node: Place, $($name: $kind),*) -> c_int;
+                #[cfg(feature = "spaces")]
+                pub(crate) fn $cell(cell: Place, $($name: $kind),*) -> c_int;
+            )*
+        }
+    };
+}
+
+both! {
+    markring_node_alloc markring_cell_alloc (reg: u16, places: u8, answer: Reply);
+    markring_node_copy markring_cell_copy (reg: u16, source: u16, answer: Reply);
+    markring_node_drop markring_cell_drop (reg: u16, answer: Reply);
+    markring_node_load markring_cell_load (reg: u16, object: u16, place: u8, answer: Reply);
+    markring_node_store markring_cell_store (object: u16, place: u8, reg: u16, answer: Reply);
+    markring_node_clear markring_cell_clear (object: u16, place: u8, answer: Reply);
+    markring_node_word markring_cell_word (object: u16, answer: Reply);
+    markring_node_set_word markring_cell_set_word (object: u16, word: u64, answer: Reply);
+    markring_node_give markring_cell_give (to: u8, label: u32, reg: u16, answer: Reply);
+    markring_node_accept markring_cell_accept (reg: u16, answer: Reply);
+    markring_node_put markring_cell_put (object: u16, place: u8, reg: u16, answer: Reply);
+    markring_node_get markring_cell_get (object: u16, place: u8, label: u32, answer: Reply);
+    markring_node_begin markring_cell_begin (answer: Reply);
+    markring_node_scan markring_cell_scan (answer: Reply);
+    markring_node_pass markring_cell_pass (answer: Reply);
+    markring_node_sweep markring_cell_sweep (count: u32, answer: Reply);
+    markring_node_next markring_cell_next (from: u8, answer: Reply);
+    markring_node_act markring_cell_act (event: *const RawEvent, answer: Reply);
+    markring_node_image_size markring_cell_image_size (size: *mut usize);
+    markring_node_image markring_cell_image
+        (buffer: *mut u8, length: usize, needed: *mut usize, mark: *mut u64);
+    markring_node_state markring_cell_state (state: *mut RawState);
+    markring_node_link markring_cell_link (peer: u8, link: *mut RawLink);
+    markring_node_register markring_cell_register (reg: u16, reference: *mut RawRef);
+    markring_node_unsaved markring_cell_unsaved (flag: *mut u8);
+}

@@ -1,0 +1,90 @@
+//! markring: a garbage-collected object heap over several nodes, with a machine-checked proof.
+//!
+//! A space has 2 to 64 nodes. Each node owns objects, and a program reaches them through the node's
+//! registers. References travel between nodes in messages. The collector also frees rings of objects
+//! over several nodes. `docs/RULES.md` of the repository has the rules.
+//!
+//! - [`Node`]: one node. The caller moves frames between nodes, over any network, and stores images.
+//! - [`Events`]: what a node does.
+//! - [`Roots`], [`Root`]: registers that are chosen and emptied automatically.
+//! - `Space`, `Cell`, `Watch`, with the feature `spaces`: the nodes of a space in threads of one
+//!   process, which move frames in shared memory. The library must export them.
+//!
+//! The crate needs `libmarkring.a` or `libmarkring.so`. Its build script looks for them in the
+//! folder that the variable `MARKRING_LIB_DIR` names. Without that variable, it has `tools/library`
+//! of the repository build them.
+//!
+//! # A ring over two nodes
+//!
+//! Two objects refer to each other. Once no program holds either, a cycle frees both:
+//!
+//! ```
+//! use markring::{Events, Node, Refusal, Result};
+//!
+//! // Does what the collector has to do at this node, saves it, and sends its frames to the other.
+//! fn turn(node: &Node, own: u8, peer: &Node) -> Result<()> {
+//!     let other = 1 - own;
+//!     while node.scan().is_ok() {}
+//!     for refusal in [node.pass().err(), node.sweep(16).err()].into_iter().flatten() {
+//!         assert_eq!(refusal, Refusal::NothingToDo);
+//!     }
+//!     let image = node.image()?;
+//!     node.kept(image.mark)?;
+//!     for frame in node.frames(other, 0)? {
+//!         peer.take(&frame.bytes)?;
+//!     }
+//!     node.take(&peer.ack_for(own)?)?;
+//!     Ok(())
+//! }
+//!
+//! # fn main() -> Result<()> {
+//! let nodes = [Node::new(2, 4, 16, 0)?, Node::new(2, 4, 16, 1)?];
+//! let both = || {
+//!     turn(&nodes[0], 0, &nodes[1])?;
+//!     turn(&nodes[1], 1, &nodes[0])
+//! };
+//! // Each node makes an object, and sends its reference to the other one.
+//! for own in [0, 1] {
+//!     nodes[own as usize].alloc(0, 1)?;
+//!     nodes[own as usize].give(1 - own, 7, 0)?;
+//! }
+//! both()?;
+//! // Each object gets a reference to the other one, and the programs drop theirs.
+//! for node in &nodes {
+//!     node.accept(1)?;
+//!     node.store(0, 0, 1)?;
+//!     node.drop_register(0)?;
+//!     node.drop_register(1)?;
+//! }
+//! // A cycle frees both.
+//! nodes[0].begin()?;
+//! while nodes.iter().any(|node| node.state().unwrap().live > 0) {
+//!     both()?;
+//! }
+//! # Ok(())
+//! # }
+//! ```
+#![no_std]
+
+extern crate alloc;
+#[cfg(feature = "std")]
+extern crate std;
+
+mod events;
+mod ffi;
+mod node;
+mod refusal;
+mod root;
+#[cfg(feature = "spaces")]
+mod space;
+mod value;
+
+pub use events::Events;
+pub use node::Node;
+pub use refusal::{Refusal, Result};
+pub use root::{Accepted, Root, Roots};
+#[cfg(feature = "spaces")]
+pub use space::{Cell, Space, Watch};
+pub use value::{
+    Answer, Colour, Event, Frame, Freed, Image, Letter, Link, Passed, Ref, State, Taken,
+};

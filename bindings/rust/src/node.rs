@@ -1,0 +1,269 @@
+//! Nodes: the caller moves frames between them and stores their images.
+
+use crate::events::events;
+use crate::ffi;
+use crate::refusal::{checked, found};
+use crate::{Answer, Event, Events, Frame, Freed, Image, Letter, Link, Passed, Ref, Refusal};
+use crate::{Result, State, Taken};
+use alloc::vec::Vec;
+use core::cell::UnsafeCell;
+use core::ffi::c_int;
+use core::fmt;
+
+// The greatest sizes of a frame, and of a window of frames with their lengths and numbers.
+const FRAME: usize = 48;
+const WINDOW: usize = 1_856;
+// Before each frame of a window: its length, and its number.
+const LENGTH: usize = 2;
+const NUMBER: usize = 8;
+
+// This many zeros, unless memory is refused.
+pub(crate) fn filled(length: usize) -> Result<Vec<u8>> {
+    let mut bytes = Vec::new();
+    bytes
+        .try_reserve_exact(length)
+        .map_err(|_| Refusal::Memory)?;
+    bytes.resize(length, 0);
+    Ok(bytes)
+}
+
+/// One node of a space, for a caller that moves its frames and stores its images.
+///
+/// A frame may be lost, repeated and delayed: send the released ones again and again until they are
+/// acknowledged. What a node sent is released once an image that holds it is kept.
+///
+/// A value of this type may move to another thread, but two threads can't use it at the same time:
+///
+/// ```compile_fail
+/// fn is_shared<T: Sync>() {}
+/// is_shared::<markring::Node>();
+/// ```
+///
+/// A letter from one node to another:
+///
+/// ```
+/// use markring::{Events, Node, Taken};
+///
+/// # fn main() -> markring::Result<()> {
+/// let zero = Node::new(2, 4, 16, 0)?;
+/// let one = Node::new(2, 4, 16, 1)?;
+///
+/// // Node 0 makes an object, and sends its reference to node 1.
+/// let object = zero.alloc(0, 1)?;
+/// zero.give(1, 7, 0)?;
+///
+/// // What isn't saved doesn't leave a node.
+/// assert!(zero.frames(1, 0)?.is_empty());
+/// let image = zero.image()?;
+/// // (Here the bytes of the image are stored.)
+/// zero.kept(image.mark)?;
+///
+/// for frame in zero.frames(1, 0)? {
+///     assert_eq!(one.take(&frame.bytes)?, Taken::Received);
+/// }
+/// let letter = one.accept(0)?;
+/// assert_eq!((letter.from, letter.label), (0, 7));
+/// assert_eq!(letter.reference, Some(object));
+/// # Ok(())
+/// # }
+/// ```
+pub struct Node {
+    at: UnsafeCell<ffi::Handle>,
+}
+
+// SAFETY: the library allows a handle to move between threads.
+unsafe impl Send for Node {}
+
+events! {
+    Node {
+        markring_node_alloc markring_node_copy markring_node_drop markring_node_load
+        markring_node_store markring_node_clear markring_node_word markring_node_set_word
+        markring_node_give markring_node_accept markring_node_put markring_node_get
+        markring_node_begin markring_node_scan markring_node_pass markring_node_sweep
+        markring_node_next markring_node_act markring_node_state markring_node_link
+        markring_node_register markring_node_unsaved markring_node_image_size markring_node_image
+    }
+}
+
+impl Node {
+    /// Makes a new node: node `own` of a space of `nodes`, each with this many registers and slots.
+    ///
+    /// # Errors
+    ///
+    /// `BadArgument` if `nodes` isn't 2 to 64, or `registers` 1 to 256, or `slots` 1 to 1,048,576;
+    /// `NoNode` if `own` isn't below `nodes`; `Memory`.
+    pub fn new(nodes: u8, registers: u16, slots: u32, own: u8) -> Result<Self> {
+        Node::with_limit(nodes, registers, slots, own, 0)
+    }
+
+    /// Makes a new node that refuses Give, Put and Get with `Congested` while this many of its
+    /// messages to the receiver, or more, aren't acknowledged. 0 is no limit.
+    ///
+    /// # Errors
+    ///
+    /// As for [`Node::new`].
+    pub fn with_limit(nodes: u8, registers: u16, slots: u32, own: u8, limit: u64) -> Result<Self> {
+        Node::made(|at| unsafe { ffi::markring_node_new(at, nodes, registers, slots, own, limit) })
+    }
+
+    /// Makes the node of an image. All that it sent and received counts as saved. `limit` is as for
+    /// [`Node::with_limit`].
+    ///
+    /// # Errors
+    ///
+    /// `BadImage`, `Memory`.
+    pub fn from_image(bytes: &[u8], limit: u64) -> Result<Self> {
+        Node::made(|at| unsafe {
+            ffi::markring_node_from_image(at, bytes.as_ptr(), bytes.len(), limit)
+        })
+    }
+
+    fn made(make: impl FnOnce(*mut ffi::Handle) -> c_int) -> Result<Self> {
+        let at = UnsafeCell::new(ffi::Handle::empty());
+        checked(make(at.get()))?;
+        Ok(Node { at })
+    }
+
+    /// Gives the node a frame from another node: a message, or an acknowledgement. After
+    /// [`Taken::Early`], call [`Events::next`] once the messages before it have been received.
+    ///
+    /// # Errors
+    ///
+    /// `BadFrame`, `WrongNode`, `OutOfOrder`, `LinkSpent`, `AckBeyond`, `Memory`.
+    pub fn take(&self, bytes: &[u8]) -> Result<Taken> {
+        self.answer(|at, answer| unsafe {
+            ffi::markring_node_take(at, bytes.as_ptr(), bytes.len(), answer)
+        })
+        .map(|it| it.taken())
+    }
+
+    /// The frame of the released message at this place of the window to the node `to`, if there is
+    /// one. Place 0 has the message after the last one that `to` has acknowledged.
+    ///
+    /// # Errors
+    ///
+    /// `BadArgument` if the place isn't below 32, `NoNode`, `Memory`.
+    pub fn frame_at(&self, to: u8, place: u8) -> Result<Option<Vec<u8>>> {
+        let (mut bytes, mut needed) = (filled(FRAME)?, 0);
+        // SAFETY: the buffer has the length that is passed.
+        let found = found(unsafe {
+            ffi::markring_node_frame_at(
+                self.at.get(),
+                to,
+                place,
+                bytes.as_mut_ptr(),
+                bytes.len(),
+                &mut needed,
+            )
+        })?;
+        bytes.truncate(needed);
+        Ok(found.then_some(bytes))
+    }
+
+    /// The frames in the window to the node `to` whose numbers are above `after`, in the order of
+    /// their numbers.
+    ///
+    /// # Errors
+    ///
+    /// `NoNode`, `Memory`.
+    pub fn frames(&self, to: u8, after: u64) -> Result<Vec<Frame>> {
+        let mut buffer = [0; WINDOW];
+        let (mut count, mut needed) = (0, 0);
+        // SAFETY: the buffer has the length that is passed.
+        let found = found(unsafe {
+            ffi::markring_node_frames(
+                self.at.get(),
+                to,
+                after,
+                buffer.as_mut_ptr(),
+                buffer.len(),
+                &mut count,
+                &mut needed,
+            )
+        })?;
+        if !found {
+            return Ok(Vec::new());
+        }
+        let mut rest = &buffer[..needed];
+        let mut frames = Vec::new();
+        frames
+            .try_reserve_exact(count)
+            .map_err(|_| Refusal::Memory)?;
+        for _ in 0..count {
+            let (length, number) = (number_of(rest, LENGTH), number_of(&rest[LENGTH..], NUMBER));
+            let frame = &rest[LENGTH + NUMBER..][..length as usize];
+            let mut bytes = filled(frame.len())?;
+            bytes.copy_from_slice(frame);
+            frames.push(Frame { number, bytes });
+            rest = &rest[LENGTH + NUMBER + frame.len()..];
+        }
+        Ok(frames)
+    }
+
+    /// The acknowledgement to the node `from` of all its messages up to the last one that a saved
+    /// state has received, as a frame.
+    ///
+    /// # Errors
+    ///
+    /// `NoNode`, `Memory`.
+    pub fn ack_for(&self, from: u8) -> Result<Vec<u8>> {
+        let (mut bytes, mut needed) = (filled(FRAME)?, 0);
+        // SAFETY: the buffer has the length that is passed.
+        checked(unsafe {
+            ffi::markring_node_ack_for(
+                self.at.get(),
+                from,
+                bytes.as_mut_ptr(),
+                bytes.len(),
+                &mut needed,
+            )
+        })?;
+        bytes.truncate(needed);
+        Ok(bytes)
+    }
+
+    /// Says that the image with this mark is stored. What that image holds counts as saved: the
+    /// messages in it are released, and what it received is acknowledged. Events after the image
+    /// stay unsaved until a later image is kept.
+    ///
+    /// # Errors
+    ///
+    /// `WrongMark` if it isn't the mark of the last image.
+    pub fn kept(&self, mark: u64) -> Result<()> {
+        checked(unsafe { ffi::markring_node_kept(self.at.get(), mark) })
+    }
+
+    /// The number of the message from the node `from` that was early and is the next one now, if
+    /// there is one. [`Events::next`] receives it.
+    ///
+    /// # Errors
+    ///
+    /// `NoNode` if `from` isn't another node of the space.
+    pub fn waiting(&self, from: u8) -> Result<Option<u64>> {
+        let mut number = 0;
+        let found = found(unsafe { ffi::markring_node_waiting(self.at.get(), from, &mut number) })?;
+        Ok(found.then_some(number))
+    }
+}
+
+// A big-endian number of this many bytes.
+fn number_of(bytes: &[u8], length: usize) -> u64 {
+    bytes[..length]
+        .iter()
+        .fold(0, |number, byte| number << 8 | u64::from(*byte))
+}
+
+impl Drop for Node {
+    fn drop(&mut self) {
+        // SAFETY: the handle is full until here, and not used after.
+        unsafe { ffi::markring_node_free(self.at.get()) };
+    }
+}
+
+impl fmt::Debug for Node {
+    fn fmt(&self, f: &mut fmt::Formatter<'_>) -> fmt::Result {
+        f.debug_struct("Node")
+            .field("state", &self.state())
+            .finish()
+    }
+}

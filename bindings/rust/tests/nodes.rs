@@ -1,0 +1,286 @@
+//! Events, frames and images of nodes. What is expected comes from docs/RULES.md and
+//! docs/FORMATS.md of the repository.
+
+use markring::{Answer, Colour, Event, Events, Frame, Freed, Letter, Link, Node, Passed, Ref};
+use markring::{Refusal, Result, Taken};
+
+fn reference(node: u8, slot: u32, generation: u64) -> Ref {
+    Ref {
+        node,
+        slot,
+        generation,
+    }
+}
+
+fn pair() -> Result<(Node, Node)> {
+    Ok((Node::new(2, 4, 16, 0)?, Node::new(2, 4, 16, 1)?))
+}
+
+// Saves the node, and sends all its frames to the other one.
+fn deliver(from: &Node, own: u8, to: &Node) -> Result<Vec<Taken>> {
+    let image = from.image()?;
+    from.kept(image.mark)?;
+    let frames = from.frames(1 - own, 0)?;
+    let taken = frames.iter().map(|frame| to.take(&frame.bytes)).collect();
+    from.take(&to.ack_for(own)?)?;
+    taken
+}
+
+#[test]
+fn events_answer_as_the_rules_say() -> Result<()> {
+    let (zero, _one) = pair()?;
+    assert_eq!(zero.alloc(0, 2)?, reference(0, 0, 1));
+    assert_eq!(zero.alloc(1, 0)?, reference(0, 1, 1));
+    assert_eq!(zero.word(0)?, 0);
+    zero.set_word(0, u64::MAX)?;
+    assert_eq!(zero.word(0)?, u64::MAX);
+    zero.store(0, 1, 1)?;
+    assert_eq!(zero.load(2, 0, 1)?, Some(reference(0, 1, 1)));
+    assert_eq!(zero.load(2, 0, 0)?, None);
+    assert_eq!(zero.register(2)?, None);
+    zero.copy(3, 0)?;
+    assert_eq!(zero.register(3)?, Some(reference(0, 0, 1)));
+    zero.clear(3, 1)?;
+    assert_eq!(zero.load(2, 0, 1)?, None);
+    zero.drop_register(3)?;
+    assert_eq!(zero.give(1, 9, 1)?, 1);
+    assert_eq!(zero.give(1, 10, 3)?, 2);
+    let state = zero.state()?;
+    assert_eq!((state.nodes, state.own, state.registers), (2, 0, 4));
+    assert_eq!((state.slots, state.live, state.recent), (16, 2, 2));
+    assert!(zero.unsaved()?);
+    Ok(())
+}
+
+#[test]
+fn refusals_come_in_the_order_of_the_tests() -> Result<()> {
+    let (zero, _one) = pair()?;
+    assert_eq!(zero.alloc(4, 9), Err(Refusal::NoRegister));
+    assert_eq!(zero.alloc(0, 9), Err(Refusal::TooManyFields));
+    assert_eq!(zero.copy(0, 1), Err(Refusal::EmptyRegister));
+    assert_eq!(zero.drop_register(0), Err(Refusal::EmptyRegister));
+    assert_eq!(zero.give(2, 0, 4), Err(Refusal::NoNode));
+    assert_eq!(zero.give(0, 0, 4), Err(Refusal::SelfSend));
+    assert_eq!(zero.give(1, 0, 4), Err(Refusal::NoRegister));
+    assert_eq!(zero.accept(0), Err(Refusal::NoLetter));
+    zero.alloc(0, 1)?;
+    assert_eq!(zero.load(1, 0, 1), Err(Refusal::NoField));
+    assert_eq!(zero.put(0, 0, 0), Err(Refusal::Local));
+    assert_eq!(zero.get(1, 0, 0), Err(Refusal::EmptyRegister));
+    assert_eq!(zero.scan(), Err(Refusal::NothingToDo));
+    assert_eq!(zero.pass(), Err(Refusal::NothingToDo));
+    assert_eq!(zero.sweep(1), Err(Refusal::NothingToDo));
+    assert_eq!(zero.next(2), Err(Refusal::NoNode));
+    assert_eq!(zero.next(1), Err(Refusal::NothingToDo));
+    assert_eq!(zero.begin(), Ok(1));
+    assert_eq!(zero.begin(), Err(Refusal::CycleRunning));
+    assert_eq!(zero.link(0), Err(Refusal::NoNode));
+    assert_eq!(zero.waiting(2), Err(Refusal::NoNode));
+    assert_eq!(zero.frame_at(1, 32), Err(Refusal::BadArgument));
+    Ok(())
+}
+
+#[test]
+fn sizes_are_tested() {
+    let new = |nodes, registers, slots, own| Node::new(nodes, registers, slots, own).err();
+    assert_eq!(new(1, 1, 1, 0), Some(Refusal::BadArgument));
+    assert_eq!(new(65, 1, 1, 0), Some(Refusal::BadArgument));
+    assert_eq!(new(2, 0, 1, 0), Some(Refusal::BadArgument));
+    assert_eq!(new(2, 257, 1, 0), Some(Refusal::BadArgument));
+    assert_eq!(new(2, 1, 0, 0), Some(Refusal::BadArgument));
+    assert_eq!(new(2, 1, 1_048_577, 0), Some(Refusal::BadArgument));
+    assert_eq!(new(2, 1, 1, 2), Some(Refusal::NoNode));
+    assert_eq!(new(64, 256, 1_048_576, 63), None);
+}
+
+#[test]
+fn events_as_values_answer_the_same() -> Result<()> {
+    let (zero, one) = pair()?;
+    let object = reference(0, 0, 1);
+    #[rustfmt::skip]
+    let expected = [
+        (Event::Alloc { register: 0, places: 2 }, Answer::New(object)),
+        (Event::Copy { register: 1, source: 0 }, Answer::Done),
+        (Event::Store { object: 0, place: 0, register: 1 }, Answer::Done),
+        (Event::Load { register: 2, object: 1, place: 0 }, Answer::Value(Some(object))),
+        (Event::Clear { object: 2, place: 0 }, Answer::Done),
+        (Event::Load { register: 2, object: 1, place: 0 }, Answer::Value(None)),
+        (Event::SetWord { object: 0, word: 77 }, Answer::Done),
+        (Event::Word { object: 1 }, Answer::Word(77)),
+        (Event::Drop { register: 1 }, Answer::Done),
+        (Event::Give { to: 1, label: 3, register: 0 }, Answer::Sent(1)),
+    ];
+    for (event, answer) in expected {
+        assert_eq!(zero.act(event)?, answer);
+    }
+    assert_eq!(deliver(&zero, 0, &one)?, [Taken::Received]);
+    let letter = Letter {
+        from: 0,
+        label: 3,
+        reference: Some(object),
+    };
+    #[rustfmt::skip]
+    let expected = [
+        (Event::Accept { register: 0 }, Answer::Letter(letter)),
+        (Event::Put { object: 0, place: 1, register: 0 }, Answer::Sent(1)),
+        (Event::Get { object: 0, place: 1, label: 4 }, Answer::Sent(2)),
+    ];
+    for (event, answer) in expected {
+        assert_eq!(one.act(event)?, answer);
+    }
+    assert_eq!(one.act(Event::Begin), Err(Refusal::NotDirector));
+    Ok(())
+}
+
+#[test]
+fn a_cycle_frees_what_no_program_reaches() -> Result<()> {
+    let (zero, one) = pair()?;
+    zero.alloc(0, 0)?;
+    zero.drop_register(0)?;
+    one.alloc(0, 0)?;
+    assert_eq!(zero.act(Event::Begin)?, Answer::Begun(1));
+    assert_eq!(deliver(&zero, 0, &one)?, [Taken::Received, Taken::Received]);
+    // Joining shades the register's object.
+    assert_eq!(one.pass(), Err(Refusal::NothingToDo));
+    assert_eq!(one.scan()?, reference(1, 0, 1));
+    let black = Passed::On {
+        colour: Colour::Black,
+        sum: 0,
+    };
+    assert_eq!(one.pass()?, black);
+    deliver(&one, 1, &zero)?;
+    assert_eq!(zero.pass()?, Passed::Again);
+    deliver(&zero, 0, &one)?;
+    let white = Passed::On {
+        colour: Colour::White,
+        sum: 0,
+    };
+    assert_eq!(one.pass()?, white);
+    deliver(&one, 1, &zero)?;
+    assert_eq!(zero.pass()?, Passed::Ended(1));
+    let freed = Freed {
+        count: 1,
+        done: true,
+    };
+    assert_eq!(zero.sweep(16)?, freed);
+    deliver(&zero, 0, &one)?;
+    let freed = Freed {
+        count: 0,
+        done: true,
+    };
+    assert_eq!(one.sweep(16)?, freed);
+    deliver(&one, 1, &zero)?;
+    assert_eq!(zero.begin()?, 2);
+    Ok(())
+}
+
+#[test]
+fn early_frames_wait_for_their_turn() -> Result<()> {
+    let (zero, one) = pair()?;
+    for label in 0..3 {
+        zero.give(1, label, 0)?;
+    }
+    let image = zero.image()?;
+    zero.kept(image.mark)?;
+    let frames = zero.frames(1, 0)?;
+    assert_eq!(one.take(&frames[1].bytes)?, Taken::Early);
+    assert_eq!(one.waiting(0)?, None);
+    assert_eq!(one.take(&frames[0].bytes)?, Taken::Received);
+    assert_eq!(one.take(&frames[0].bytes)?, Taken::Repeat);
+    assert_eq!(one.waiting(0)?, Some(2));
+    one.next(0)?;
+    assert_eq!(one.accept(0)?.label, 0);
+    assert_eq!(one.accept(0)?.label, 1);
+    assert_eq!(zero.frames(1, 2)?.len(), 1);
+    assert_eq!(zero.frame_at(1, 2)?.as_ref(), Some(&frames[2].bytes));
+    assert_eq!(zero.frame_at(1, 3)?, None);
+    assert_eq!(one.take(&frames[2].bytes[1..]), Err(Refusal::BadFrame));
+    assert_eq!(zero.take(&frames[2].bytes), Err(Refusal::WrongNode));
+    Ok(())
+}
+
+#[test]
+fn frames_are_spelled_as_the_formats_say() -> Result<()> {
+    let (zero, _one) = pair()?;
+    zero.alloc(0, 0)?;
+    zero.give(1, 7, 0)?;
+    let image = zero.image()?;
+    zero.kept(image.mark)?;
+    // Give with label 7 and reference 0.0.1, from 0 to 1, number 1, stamp 0.
+    let bytes = [
+        vec![0x45, 0, 1],
+        vec![0, 0, 0, 0, 0, 0, 0, 1],
+        vec![0; 8],
+        vec![4, 0, 0, 0, 7, 1, 0, 0, 0, 0, 0],
+        vec![0, 0, 0, 0, 0, 0, 0, 1],
+    ];
+    let bytes = bytes.concat();
+    assert_eq!(zero.frames(1, 0)?, [Frame { number: 1, bytes }]);
+    assert_eq!(zero.ack_for(1)?, [0x42, 0, 1, 0, 0, 0, 0, 0, 0, 0, 0]);
+    Ok(())
+}
+
+#[test]
+fn kept_releases_what_the_image_holds() -> Result<()> {
+    let (zero, one) = pair()?;
+    zero.give(1, 1, 0)?;
+    let image = zero.image()?;
+    zero.give(1, 2, 0)?;
+    assert_eq!(zero.kept(image.mark + 1), Err(Refusal::WrongMark));
+    zero.kept(image.mark)?;
+    assert!(zero.unsaved()?);
+    let link = Link {
+        appended: 2,
+        released: 1,
+        ..Link::default()
+    };
+    assert_eq!(zero.link(1)?, link);
+    assert_eq!(zero.frames(1, 0)?.len(), 1);
+    let later = zero.image()?;
+    assert_eq!(zero.kept(image.mark), Err(Refusal::WrongMark));
+    zero.kept(later.mark)?;
+    assert!(!zero.unsaved()?);
+    assert_eq!(zero.frames(1, 0)?.len(), 2);
+
+    // A crash: the node continues from the first image, which holds one letter.
+    let again = Node::from_image(&image.bytes, 0)?;
+    assert_eq!(again.link(1)?.appended, 1);
+    for frame in again.frames(1, 0)? {
+        assert_eq!(one.take(&frame.bytes)?, Taken::Received);
+    }
+    assert_eq!(
+        Node::from_image(&image.bytes[1..], 0).err(),
+        Some(Refusal::BadImage)
+    );
+    Ok(())
+}
+
+#[test]
+fn a_limit_bounds_what_is_not_acknowledged() -> Result<()> {
+    let zero = Node::with_limit(2, 4, 16, 0, 2)?;
+    let one = Node::new(2, 4, 16, 1)?;
+    zero.give(1, 1, 0)?;
+    zero.give(1, 2, 0)?;
+    assert_eq!(zero.give(1, 3, 9), Err(Refusal::Congested));
+    deliver(&zero, 0, &one)?;
+    assert_eq!(zero.give(1, 3, 0), Err(Refusal::Congested));
+    let image = one.image()?;
+    one.kept(image.mark)?;
+    zero.take(&one.ack_for(0)?)?;
+    assert_eq!(zero.give(1, 3, 0)?, 3);
+    Ok(())
+}
+
+#[test]
+fn a_node_moves_to_another_thread() -> Result<()> {
+    let node = Node::new(2, 4, 16, 0)?;
+    node.alloc(0, 0)?;
+    let node = std::thread::spawn(move || {
+        node.set_word(0, 3).unwrap();
+        node
+    })
+    .join()
+    .unwrap();
+    assert_eq!(node.word(0)?, 3);
+    Ok(())
+}

@@ -1,0 +1,83 @@
+//! Roots: registers that are emptied automatically.
+
+use markring::{Events, Node, Refusal, Result, Roots};
+
+#[test]
+fn a_dropped_root_empties_its_register() -> Result<()> {
+    let node = Node::new(2, 8, 16, 0)?;
+    let roots = Roots::new(&node, 2..5);
+    {
+        let object = roots.alloc(1)?;
+        assert_eq!(object.register(), 2);
+        assert_eq!(node.register(2)?, Some(object.reference()));
+        let second = object.duplicate()?;
+        assert_eq!(second.reference(), object.reference());
+        assert_eq!(roots.free(), 1);
+        second.store(0, &object)?;
+        let third = object.load(0)?.expect("the place was filled");
+        assert_eq!(third.reference(), object.reference());
+        assert_eq!(object.load(0).unwrap_err(), Refusal::NoRegister);
+        drop(third);
+        object.clear(0)?;
+        assert!(object.load(0)?.is_none());
+    }
+    assert_eq!(roots.free(), 3);
+    for register in 0..8 {
+        assert_eq!(node.register(register)?, None);
+    }
+    Ok(())
+}
+
+#[test]
+fn what_is_refused_takes_no_register() -> Result<()> {
+    let node = Node::new(2, 4, 1, 0)?;
+    let roots = Roots::new(&node, 0..4);
+    assert_eq!(roots.alloc(9).unwrap_err(), Refusal::TooManyFields);
+    let _object = roots.alloc(0)?;
+    assert_eq!(roots.alloc(0).unwrap_err(), Refusal::ArenaFull);
+    assert!(roots.accept()?.is_none());
+    assert_eq!(roots.give_nothing(0, 1), Err(Refusal::SelfSend));
+    assert_eq!(roots.free(), 3);
+    Ok(())
+}
+
+#[test]
+fn roots_reach_objects_of_other_nodes() -> Result<()> {
+    let nodes = [Node::new(2, 4, 16, 0)?, Node::new(2, 4, 16, 1)?];
+    let flush = |from: usize, to: usize| -> Result<()> {
+        let image = nodes[from].image()?;
+        nodes[from].kept(image.mark)?;
+        for frame in nodes[from].frames(to as u8, 0)? {
+            nodes[to].take(&frame.bytes)?;
+        }
+        Ok(())
+    };
+    let here = Roots::new(&nodes[0], 0..4);
+    let there = Roots::new(&nodes[1], 0..4);
+    let object = here.alloc(2)?;
+    object.set_word(5)?;
+    object.give(1, 3)?;
+    flush(0, 1)?;
+    let letter = there.accept()?.expect("a letter was sent");
+    assert_eq!((letter.from, letter.label), (0, 3));
+    let far = letter.root.expect("the letter has a reference");
+    assert_eq!(far.reference(), object.reference());
+    assert_eq!(far.word(), Err(Refusal::Remote));
+    let mine = there.alloc(0)?;
+    far.put(0, Some(&mine))?;
+    far.put(1, Some(&mine))?;
+    far.put(1, None)?;
+    far.get(0, 8)?;
+    flush(1, 0)?;
+    let stored = object.load(0)?.expect("node 1 put a reference there");
+    assert_eq!(stored.reference(), mine.reference());
+    assert!(object.load(1)?.is_none());
+    flush(0, 1)?;
+    let answer = there.accept()?.expect("the answer to the Get");
+    assert_eq!(answer.label, 8);
+    assert_eq!(
+        answer.root.map(|root| root.reference()),
+        Some(mine.reference())
+    );
+    Ok(())
+}

@@ -1,0 +1,150 @@
+//! Nodes in threads, with cycles of the collector while they work.
+
+use markring::{Cell, Events, Refusal, Result, Roots, Space, Taken, Watch};
+use std::sync::atomic::{AtomicBool, AtomicU8, Ordering};
+use std::thread;
+
+const NODES: u8 = 3;
+const ROUNDS: u32 = 200;
+
+// One round of what a thread does with its cell besides its program. Returns whether there was
+// anything to do.
+fn turn(cell: &Cell, own: u8) -> Result<bool> {
+    let mut busy = false;
+    for from in (0..NODES).filter(|it| *it != own) {
+        busy |= matches!(cell.receive(from)?, Some(Taken::Received | Taken::Early));
+    }
+    busy |= cell.scan().is_ok() | cell.pass().is_ok() | cell.sweep(64).is_ok();
+    if cell.unsaved()? {
+        let image = cell.image()?;
+        cell.save(image.mark)?;
+        busy = true;
+    }
+    for to in (0..NODES).filter(|it| *it != own) {
+        cell.send(to)?;
+    }
+    if own == 0 {
+        cell.raise()?;
+    }
+    Ok(busy)
+}
+
+// Passes a letter around the ring of nodes, with a new object in it each time.
+fn program(cell: &Cell, own: u8, left: &AtomicU8, quit: &AtomicBool) -> Result<()> {
+    let roots = Roots::new(cell, 0..8);
+    let next = (own + 1) % NODES;
+    if own == 0 {
+        roots.alloc(1)?.give(next, 1)?;
+    }
+    let mut rounds = 0;
+    while !quit.load(Ordering::SeqCst) {
+        if !turn(cell, own)? {
+            thread::yield_now();
+        }
+        if own == 0 {
+            match cell.begin() {
+                Ok(_) | Err(Refusal::CycleRunning) => {}
+                Err(refusal) => return Err(refusal),
+            }
+        }
+        let Some(letter) = roots.accept()? else {
+            continue;
+        };
+        assert_eq!(u32::from(letter.from), (u32::from(own) + 2) % 3);
+        rounds += 1;
+        assert_eq!(letter.label, rounds);
+        if rounds == ROUNDS {
+            left.fetch_sub(1, Ordering::SeqCst);
+        }
+        if own == 0 && rounds == ROUNDS {
+            continue;
+        }
+        let object = roots.alloc(1)?;
+        if let Some(old) = &letter.root {
+            object.store(0, old)?;
+        }
+        object.give(next, letter.label + u32::from(own == 0))?;
+    }
+    Ok(())
+}
+
+// Works until the nodes have no objects left.
+fn clean(cells: &[Cell]) -> Result<()> {
+    while cells.iter().any(|cell| cell.state().unwrap().live > 0) {
+        for (own, cell) in (0..).zip(cells) {
+            turn(cell, own)?;
+        }
+        let _running = cells[0].begin();
+    }
+    Ok(())
+}
+
+fn open() -> Result<(Vec<Cell>, Watch)> {
+    let space = Space::new(NODES, 8, 4_096, 1)?;
+    space.open()?;
+    assert_eq!(space.open(), Err(Refusal::InUse));
+    let watch = space.watch()?.expect("the space has a watch");
+    assert!(space.watch()?.is_none());
+    let cells = space.cells()?;
+    assert!(space.cell(0)?.is_none());
+    assert_eq!(space.cell(NODES).err(), Some(Refusal::NoNode));
+    Ok((cells, watch))
+}
+
+#[test]
+fn letters_go_around_while_cycles_run() -> Result<()> {
+    let (cells, watch) = open()?;
+    let (left, quit) = (AtomicU8::new(NODES), AtomicBool::new(false));
+    let cells: Vec<Cell> = thread::scope(|scope| {
+        let threads: Vec<_> = (0..)
+            .zip(cells)
+            .map(|(own, cell): (u8, Cell)| {
+                let (left, quit) = (&left, &quit);
+                scope.spawn(move || {
+                    program(&cell, own, left, quit).unwrap();
+                    cell
+                })
+            })
+            .collect();
+        while left.load(Ordering::SeqCst) > 0 {
+            thread::yield_now();
+        }
+        quit.store(true, Ordering::SeqCst);
+        threads.into_iter().map(|it| it.join().unwrap()).collect()
+    });
+    clean(&cells)?;
+    assert!(watch.look()? > 0);
+    Ok(())
+}
+
+#[test]
+fn a_space_continues_from_its_images() -> Result<()> {
+    let (cells, _watch) = open()?;
+    cells[0].alloc(3, 1)?;
+    cells[0].set_word(3, 42)?;
+    let mut images = Vec::new();
+    for cell in &cells {
+        let image = cell.image()?;
+        cell.save(image.mark)?;
+        images.push(image);
+    }
+    // What isn't saved is lost.
+    cells[0].set_word(3, 43)?;
+    assert_eq!(cells[0].save(images[0].mark), Err(Refusal::WrongMark));
+    cells[0].reopen()?;
+    assert_eq!(cells[0].word(3)?, 42);
+
+    let space = Space::new(NODES, 8, 4_096, 0)?;
+    for (node, image) in (0..).zip(&images) {
+        space.disk(node, &image.bytes)?;
+    }
+    space.disk(1, &images[2].bytes)?;
+    assert_eq!(space.open(), Err(Refusal::WrongDisks));
+    space.disk(1, &images[1].bytes[1..])?;
+    assert_eq!(space.open(), Err(Refusal::BadImage));
+    space.disk(1, &images[1].bytes)?;
+    space.open()?;
+    let cell = space.cell(0)?.expect("the space is open");
+    assert_eq!(cell.word(3)?, 42);
+    Ok(())
+}

@@ -1,0 +1,568 @@
+// Bad input: empty and freed handles, arguments out of range, damaged images and frames, images of
+// other nodes. Each call returns the right status, and changes nothing.
+//
+//     hostile SEED IMAGES
+#include "check.h"
+
+// Bytes that no call writes.
+static uint8_t buffer[4096], clean[4096];
+
+static void blot_buffer(void)
+{
+    memset(buffer, 0xA5, sizeof buffer);
+    memset(clean, 0xA5, sizeof clean);
+}
+
+// All calls of an empty handle, with pointers to one buffer, which isn't written to.
+#define NONE(call) \
+    do { \
+        IS(MARKRING_NO_HANDLE, (call)); \
+        HOLDS(memcmp(buffer, clean, sizeof buffer) == 0); \
+        HOLDS(at->at == NULL); \
+    } while (0)
+
+#define TO(type) ((type *)(void *)(buffer + 1024))
+
+#define NONE_OF_BOTH(type) \
+    NONE(markring_##type##_free(at)); \
+    NONE(markring_##type##_alloc(at, 0, 0, answer)); \
+    NONE(markring_##type##_copy(at, 0, 0, answer)); \
+    NONE(markring_##type##_drop(at, 0, answer)); \
+    NONE(markring_##type##_load(at, 0, 0, 0, answer)); \
+    NONE(markring_##type##_store(at, 0, 0, 0, answer)); \
+    NONE(markring_##type##_clear(at, 0, 0, answer)); \
+    NONE(markring_##type##_word(at, 0, answer)); \
+    NONE(markring_##type##_set_word(at, 0, 0, answer)); \
+    NONE(markring_##type##_give(at, 1, 0, 0, answer)); \
+    NONE(markring_##type##_accept(at, 0, answer)); \
+    NONE(markring_##type##_put(at, 0, 0, 0, answer)); \
+    NONE(markring_##type##_get(at, 0, 0, 0, answer)); \
+    NONE(markring_##type##_begin(at, answer)); \
+    NONE(markring_##type##_scan(at, answer)); \
+    NONE(markring_##type##_pass(at, answer)); \
+    NONE(markring_##type##_sweep(at, 1, answer)); \
+    NONE(markring_##type##_next(at, 1, answer)); \
+    NONE(markring_##type##_act(at, &event, answer)); \
+    NONE(markring_##type##_image_size(at, TO(size_t))); \
+    NONE(markring_##type##_image(at, buffer, 512, TO(size_t), TO(uint64_t) + 1)); \
+    NONE(markring_##type##_state(at, TO(markring_state))); \
+    NONE(markring_##type##_link(at, 1, TO(markring_link))); \
+    NONE(markring_##type##_register(at, 0, TO(markring_ref))); \
+    NONE(markring_##type##_unsaved(at, buffer))
+
+static void no_node(markring_node *at)
+{
+    markring_answer *answer = TO(markring_answer);
+    markring_event event = {0};
+    event.kind = MARKRING_EVENT_BEGIN;
+    blot_buffer();
+    NONE_OF_BOTH(node);
+    NONE(markring_node_take(at, clean, 11, answer));
+    NONE(markring_node_frame_at(at, 1, 0, buffer, 512, TO(size_t)));
+    NONE(markring_node_ack_for(at, 1, buffer, 512, TO(size_t)));
+    NONE(markring_node_frames(at, 1, 0, buffer, 512, TO(size_t), TO(size_t) + 1));
+    NONE(markring_node_kept(at, 1));
+    NONE(markring_node_waiting(at, 1, TO(uint64_t)));
+}
+
+#ifdef MARKRING_WITH_SPACES
+
+static void no_cell(markring_cell *at)
+{
+    markring_answer *answer = TO(markring_answer);
+    markring_event event = {0};
+    event.kind = MARKRING_EVENT_BEGIN;
+    blot_buffer();
+    NONE_OF_BOTH(cell);
+    NONE(markring_cell_receive(at, 1, answer));
+    NONE(markring_cell_send(at, 1, buffer));
+    NONE(markring_cell_save(at, 1));
+    NONE(markring_cell_reopen(at));
+    NONE(markring_cell_raise(at, TO(uint64_t)));
+}
+
+static void no_watch(markring_watch *at)
+{
+    blot_buffer();
+    NONE(markring_watch_look(at, TO(uint64_t)));
+    NONE(markring_watch_free(at));
+}
+
+static void no_space(markring_space *at)
+{
+    markring_cell cell = {0};
+    markring_watch watch = {0};
+    blot_buffer();
+    NONE(markring_space_disk(at, 0, clean, 8));
+    NONE(markring_space_open(at));
+    NONE(markring_space_cell(at, 0, &cell));
+    NONE(markring_space_watch(at, &watch));
+    NONE(markring_space_free(at));
+    HOLDS(cell.at == NULL && watch.at == NULL);
+}
+
+static void empty_spaces(void)
+{
+    markring_space space = {0};
+    markring_cell cell = {0};
+    markring_watch watch = {0};
+    for (int twice = 0; twice < 2; twice++) {
+        no_space(&space);
+        no_cell(&cell);
+        no_watch(&watch);
+        OK(markring_space_new(&space, 2, 1, 1, 1));
+        OK(markring_space_open(&space));
+        OK(markring_space_cell(&space, 0, &cell));
+        OK(markring_space_watch(&space, &watch));
+        OK(markring_space_free(&space));
+        OK(markring_cell_free(&cell));
+        OK(markring_watch_free(&watch));
+        HOLDS(space.at == NULL && cell.at == NULL && watch.at == NULL);
+    }
+}
+
+// A space with the sizes of a node, which are tested in the same way.
+static void space_of(uint8_t nodes, uint16_t registers, uint32_t slots, int status)
+{
+    markring_space space = {0};
+    IS(status, markring_space_new(&space, nodes, registers, slots, 0));
+    HOLDS((space.at != NULL) == (status == MARKRING_OK));
+    if (space.at != NULL) {
+        IS(MARKRING_IN_USE, markring_space_new(&space, 1, 1, 1, 0));
+        OK(markring_space_free(&space));
+    }
+}
+
+#else
+
+static void empty_spaces(void)
+{
+}
+
+static void space_of(uint8_t nodes, uint16_t registers, uint32_t slots, int status)
+{
+    (void)nodes, (void)registers, (void)slots, (void)status;
+}
+
+#endif
+
+// Never filled, and freed.
+static void empty_handles(void)
+{
+    markring_node node = {0};
+    for (int twice = 0; twice < 2; twice++) {
+        no_node(&node);
+        OK(markring_node_new(&node, 2, 1, 1, 0, 0));
+        OK(markring_node_free(&node));
+        HOLDS(node.at == NULL);
+    }
+}
+
+// Sizes of nodes and spaces, in the order of the tests, and handles that are full.
+static void sizes(void)
+{
+    static const struct {
+        uint8_t nodes;
+        uint16_t registers;
+        uint32_t slots;
+        uint8_t own;
+        int status;
+    } CASES[] = {
+        {0, 1, 1, 0, MARKRING_BAD_ARGUMENT},
+        {1, 1, 1, 0, MARKRING_BAD_ARGUMENT},
+        {65, 1, 1, 0, MARKRING_BAD_ARGUMENT},
+        {255, 1, 1, 0, MARKRING_BAD_ARGUMENT},
+        {2, 0, 1, 0, MARKRING_BAD_ARGUMENT},
+        {2, 257, 1, 0, MARKRING_BAD_ARGUMENT},
+        {2, 65535, 1, 0, MARKRING_BAD_ARGUMENT},
+        {2, 1, 0, 0, MARKRING_BAD_ARGUMENT},
+        {2, 1, 1048577, 0, MARKRING_BAD_ARGUMENT},
+        {2, 1, UINT32_MAX, 0, MARKRING_BAD_ARGUMENT},
+        {2, 1, 0, 9, MARKRING_BAD_ARGUMENT},
+        {2, 1, 1, 2, MARKRING_NO_NODE},
+        {64, 256, 1048576, 64, MARKRING_NO_NODE},
+        {64, 256, 1048576, 255, MARKRING_NO_NODE},
+        {64, 256, 1048576, 63, MARKRING_OK},
+        {2, 1, 1, 1, MARKRING_OK},
+    };
+    for (size_t i = 0; i < sizeof CASES / sizeof *CASES; i++) {
+        markring_node node = {0};
+        IS(CASES[i].status, markring_node_new(&node, CASES[i].nodes, CASES[i].registers,
+            CASES[i].slots, CASES[i].own, 0));
+        HOLDS((node.at != NULL) == (CASES[i].status == MARKRING_OK));
+        int status = CASES[i].status == MARKRING_NO_NODE ? MARKRING_OK : CASES[i].status;
+        space_of(CASES[i].nodes, CASES[i].registers, CASES[i].slots, status);
+        if (node.at != NULL) {
+            void *before = node.at;
+            IS(MARKRING_IN_USE, markring_node_new(&node, 1, 1, 1, 0, 0));
+            IS(MARKRING_IN_USE, markring_node_from_image(&node, clean, 3, 0));
+            HOLDS(node.at == before);
+            OK(markring_node_free(&node));
+        }
+    }
+}
+
+// A frame, which is given to the node.
+static void give_frame(markring_node *node, const char *hexadecimal)
+{
+    bytes frame = {0};
+    unsigned byte;
+    markring_answer answer;
+    for (; sscanf(hexadecimal, "%2X", &byte) == 1; hexadecimal += 2) {
+        add_number(&frame, byte, 1);
+    }
+    OK(markring_node_take(node, frame.at, frame.length, &answer));
+    EQUAL(MARKRING_ANSWER_RECEIVED, answer.kind);
+    drop_bytes(&frame);
+}
+
+// Node 1 of three in cycle 1, with objects, a grey one, letters, and messages to both others.
+static void make_busy(markring_node *node)
+{
+    markring_answer answer;
+    OK(markring_node_new(node, 3, 4, 8, 1, 0));
+    OK(markring_node_alloc(node, 0, 8, &answer));
+    OK(markring_node_alloc(node, 1, 2, &answer));
+    OK(markring_node_store(node, 0, 3, 1, &answer));
+    OK(markring_node_set_word(node, 1, UINT64_C(0x0123456789ABCDEF), &answer));
+    OK(markring_node_give(node, 0, 7, 1, &answer));
+    OK(markring_node_give(node, 2, 8, 3, &answer));
+    // Letters of node 0: with the reference 2.5.9, and without one. Then a Begin of cycle 1.
+    give_frame(node, "450001" "0000000000000001" "0000000000000000" "04" "00000007"
+        "01" "02" "00000005" "0000000000000009");
+    give_frame(node, "450001" "0000000000000002" "0000000000000000" "04" "00000008" "00");
+    give_frame(node, "450001" "0000000000000003" "0000000000000001" "01");
+    OK(markring_node_accept(node, 2, &answer));
+    OK(markring_node_put(node, 2, 0, 1, &answer));
+    OK(markring_node_get(node, 2, 1, 5, &answer));
+    OK(markring_node_scan(node, &answer));
+}
+
+// Every event with every number out of range and at its edges.
+static void events(void)
+{
+    static const uint16_t REGISTERS[] = {0, 1, 2, 3, 4, 255, 256, 65535};
+    static const uint8_t PLACES[] = {0, 1, 2, 7, 8, 9, 255};
+    static const uint8_t NODES[] = {0, 1, 2, 3, 63, 64, 255};
+    markring_node node = {0};
+    markring_event event;
+    markring_answer answer;
+    make_busy(&node);
+    bytes before = shown(&node);
+    for (int kind = 0; kind < 256; kind++) {
+        if (kind >= MARKRING_EVENT_ALLOC && kind <= MARKRING_EVENT_NEXT) {
+            continue;
+        }
+        memset(&event, 0, sizeof event);
+        event.kind = (uint8_t)kind;
+        blot(&answer);
+        IS(MARKRING_BAD_ARGUMENT, markring_node_act(&node, &event, &answer));
+        HOLDS(is_blotted(&answer));
+    }
+    for (int i = 0; i < 17 * 8 * 8 * 7 * 7; i++) {
+        int draw = i / 17;
+        memset(&event, 0, sizeof event);
+        event.kind = (uint8_t)(i % 17 + 1);
+        event.reg = REGISTERS[draw % 8];
+        event.source = event.object = REGISTERS[draw / 8 % 8];
+        event.place = PLACES[draw / 64 % 7];
+        event.node = NODES[draw / 448 % 7];
+        event.label = event.count = UINT32_MAX;
+        event.word = UINT64_MAX;
+        blot(&answer);
+        int status = markring_node_act(&node, &event, &answer);
+        HOLDS(status >= MARKRING_OK && status <= MARKRING_NOTHING_TO_DO && status != MARKRING_MEMORY);
+        // A register, a node or a place out of range is refused.
+        int uses_reg = strchr("\1\2\3\4\5\11\12\13", event.kind) != NULL;
+        int uses_object = strchr("\2\4\5\6\7\10\13\14", event.kind) != NULL;
+        int uses_place = strchr("\4\5\6\13\14", event.kind) != NULL;
+        int uses_node = event.kind == MARKRING_EVENT_GIVE || event.kind == MARKRING_EVENT_NEXT;
+        if ((uses_reg && event.reg >= 4) || (uses_object && event.object >= 4)) {
+            HOLDS(status == MARKRING_NO_REGISTER || status == MARKRING_NO_NODE
+                || status == MARKRING_SELF_SEND);
+        }
+        HOLDS(!(uses_place && event.place >= 8) || status != MARKRING_OK);
+        HOLDS(!(event.kind == MARKRING_EVENT_ALLOC && event.place > 8) || status != MARKRING_OK);
+        if (uses_node && event.node >= 3) {
+            EQUAL(MARKRING_NO_NODE, (uint64_t)status);
+        }
+        if (status == MARKRING_OK) {
+            // Back to the node as it was.
+            OK(markring_node_free(&node));
+            make_busy(&node);
+        } else {
+            HOLDS(is_blotted(&answer));
+            if (i % 64 == 0) {
+                bytes after = shown(&node);
+                HOLDS(same_bytes(&before, &after));
+                drop_bytes(&after);
+            }
+        }
+    }
+    OK(markring_node_free(&node));
+    drop_bytes(&before);
+}
+
+// Changes some bytes, cuts some off, puts some in, or exchanges two parts.
+static void damage(uint64_t *seed, bytes *it)
+{
+    for (uint32_t times = 1 + below(seed, 3); times > 0; times--) {
+        size_t at = below(seed, (uint32_t)it->length);
+        switch (below(seed, 6)) {
+        case 0: it->at[at] ^= (uint8_t)(1 << below(seed, 8)); break;
+        case 1: it->at[at] = (uint8_t)draw(seed); break;
+        case 2: it->at[at] = below(seed, 2) != 0 ? 0xFF : 0; break;
+        case 3: it->length = at + 1; break;
+        case 4: {
+            uint8_t byte = (uint8_t)draw(seed);
+            add(it, &byte, 1);
+            memmove(it->at + at + 1, it->at + at, it->length - at - 1);
+            it->at[at] = byte;
+            break;
+        }
+        default: {
+            size_t other = below(seed, (uint32_t)it->length);
+            size_t length = it->length - (at > other ? at : other);
+            length = length > 8 ? 8 : length;
+            memmove(it->at + at, it->at + other, length);
+        }
+        }
+    }
+}
+
+static bytes copy_of(const bytes *it)
+{
+    bytes copy = {0};
+    add(&copy, it->at, it->length);
+    return copy;
+}
+
+// Damaged images: each is an image of version 2, whose node has that image, or is refused.
+static void images(uint64_t seed, unsigned long count)
+{
+    markring_node busy = {0}, node = {0};
+    unsigned long read = 0;
+    make_busy(&busy);
+    bytes image = image_of(&busy);
+    for (unsigned long i = 0; i < count; i++) {
+        bytes given = copy_of(&image);
+        damage(&seed, &given);
+        int status = markring_node_from_image(&node, given.at, given.length, i % 3);
+        HOLDS(status == MARKRING_OK || status == MARKRING_BAD_IMAGE);
+        HOLDS((node.at != NULL) == (status == MARKRING_OK));
+        if (status == MARKRING_OK) {
+            markring_event event = {0};
+            markring_answer answer;
+            bytes again = image_of(&node);
+            read++;
+            HOLDS(same_bytes(&given, &again));
+            drop_bytes(&again);
+            // Whatever the node is, it takes any event.
+            for (int events = 0; events < 40; events++) {
+                event.kind = (uint8_t)(1 + below(&seed, 17));
+                event.node = (uint8_t)below(&seed, 4);
+                event.place = (uint8_t)below(&seed, 9);
+                event.reg = (uint16_t)below(&seed, 5);
+                event.source = event.object = (uint16_t)below(&seed, 5);
+                event.count = below(&seed, 9);
+                status = markring_node_act(&node, &event, &answer);
+                HOLDS(status >= MARKRING_OK && status != MARKRING_MEMORY);
+                HOLDS(status <= MARKRING_WRONG_NODE || status == MARKRING_CONGESTED);
+            }
+            OK(markring_node_free(&node));
+        }
+        drop_bytes(&given);
+    }
+    HOLDS(read > 0 && read < count);
+    OK(markring_node_free(&busy));
+    drop_bytes(&image);
+}
+
+// Damaged frames: each is refused, or the node changes as a frame makes it. After a refusal nothing
+// has changed.
+static void frames(uint64_t seed, unsigned long count)
+{
+    static const int STATUSES[] = {MARKRING_OK, MARKRING_BAD_FRAME, MARKRING_WRONG_NODE,
+        MARKRING_OUT_OF_ORDER, MARKRING_ACK_BEYOND};
+    unsigned long seen[5] = {0};
+    markring_node node = {0};
+    make_busy(&node);
+    save(&node);
+    bytes before = shown(&node);
+    for (unsigned long i = 0; i < count; i++) {
+        // The node's next message from node 0, with any body, or an acknowledgement.
+        bytes frame = {0};
+        markring_answer answer;
+        add_number(&frame, 0x450001, 3);
+        add_number(&frame, 4, 8);
+        add_number(&frame, 1, 8);
+        add_number(&frame, 1 + i % 8, 1);
+        switch (1 + i % 8) {
+        case 2: add_number(&frame, draw(&seed) & 1, 1); add_number(&frame, draw(&seed), 8); break;
+        case 3: add_number(&frame, 1, 1); add_number(&frame, 0, 4); add_number(&frame, 1, 8); break;
+        case 4: add_number(&frame, draw(&seed), 4); add_number(&frame, 0, 1); break;
+        case 5:
+        case 6:
+            add_number(&frame, 1, 1);
+            add_number(&frame, 0, 4);
+            add_number(&frame, 1, 8);
+            add_number(&frame, below(&seed, 8), 1);
+            add_number(&frame, 0, 1 + i % 8 == 5 ? 1 : 4);
+            break;
+        default: break;
+        }
+        if (i % 5 == 0) {
+            frame.length = 0;
+            add_number(&frame, 0x420001, 3);
+            add_number(&frame, below(&seed, 4), 8);
+        }
+        if (i % 3 != 0) {
+            damage(&seed, &frame);
+        }
+        blot(&answer);
+        int status = markring_node_take(&node, frame.at, frame.length, &answer);
+        int known = 0;
+        for (int k = 0; k < 5; k++) {
+            known += status == STATUSES[k];
+            seen[k] += status == STATUSES[k];
+        }
+        EQUAL(1, (uint64_t)known);
+        if (status == MARKRING_OK) {
+            OK(markring_node_free(&node));
+            make_busy(&node);
+            save(&node);
+        } else {
+            HOLDS(is_blotted(&answer));
+            bytes after = shown(&node);
+            HOLDS(same_bytes(&before, &after));
+            drop_bytes(&after);
+        }
+        drop_bytes(&frame);
+    }
+    for (int k = 0; k < 5; k++) {
+        HOLDS(seen[k] > 0);
+    }
+    OK(markring_node_free(&node));
+    drop_bytes(&before);
+}
+
+#ifdef MARKRING_WITH_SPACES
+
+// Spaces on images of other nodes, of other shapes, and damaged ones. A space that isn't opened
+// keeps its images, and opens once the wrong one is replaced.
+static void disks(uint64_t seed, unsigned long count)
+{
+    bytes good[2], other = {0};
+    markring_node node = {0};
+    markring_space space = {0};
+    markring_cell cell = {0};
+    markring_watch watch = {0};
+    for (uint8_t own_number = 0; own_number < 2; own_number++) {
+        OK(markring_node_new(&node, 2, 3, 5, own_number, 0));
+        good[own_number] = image_of(&node);
+        OK(markring_node_free(&node));
+    }
+    OK(markring_space_new(&space, 2, 3, 5, 1));
+    IS(MARKRING_NOTHING, markring_space_cell(&space, 0, &cell));
+    IS(MARKRING_NO_NODE, markring_space_cell(&space, 2, &cell));
+    IS(MARKRING_NOTHING, markring_space_watch(&space, &watch));
+    IS(MARKRING_NO_NODE, markring_space_disk(&space, 2, good[0].at, good[0].length));
+    OK(markring_space_disk(&space, 0, good[0].at, good[0].length));
+    // Node 0's image for node 1, and then images of spaces of other shapes.
+    OK(markring_space_disk(&space, 1, good[0].at, good[0].length));
+    IS(MARKRING_WRONG_DISKS, markring_space_open(&space));
+    static const struct {
+        uint8_t nodes;
+        uint16_t registers;
+        uint32_t slots;
+    } SHAPES[] = {{3, 3, 5}, {2, 2, 5}, {2, 4, 5}, {2, 3, 4}, {2, 3, 6}};
+    for (size_t i = 0; i < sizeof SHAPES / sizeof *SHAPES; i++) {
+        OK(markring_node_new(&node, SHAPES[i].nodes, SHAPES[i].registers, SHAPES[i].slots, 1, 0));
+        other = image_of(&node);
+        OK(markring_space_disk(&space, 1, other.at, other.length));
+        IS(MARKRING_WRONG_DISKS, markring_space_open(&space));
+        IS(MARKRING_NOTHING, markring_space_cell(&space, 0, &cell));
+        OK(markring_node_free(&node));
+        drop_bytes(&other);
+    }
+    OK(markring_space_disk(&space, 1, clean, 0));
+    IS(MARKRING_BAD_IMAGE, markring_space_open(&space));
+    for (unsigned long i = 0; i < count; i++) {
+        bytes given = copy_of(&good[1]);
+        markring_space another = {0};
+        damage(&seed, &given);
+        OK(markring_space_new(&another, 2, 3, 5, 0));
+        OK(markring_space_disk(&another, 0, good[0].at, good[0].length));
+        OK(markring_space_disk(&another, 1, given.at, given.length));
+        int status = markring_space_open(&another);
+        int expected = markring_node_from_image(&node, given.at, given.length, 0);
+        HOLDS(status == MARKRING_OK || status == MARKRING_BAD_IMAGE
+            || status == MARKRING_WRONG_DISKS);
+        HOLDS((expected == MARKRING_BAD_IMAGE) == (status == MARKRING_BAD_IMAGE));
+        if (expected == MARKRING_OK) {
+            OK(markring_node_free(&node));
+        }
+        OK(markring_space_free(&another));
+        drop_bytes(&given);
+    }
+    OK(markring_space_disk(&space, 1, good[1].at, good[1].length));
+    OK(markring_space_open(&space));
+    IS(MARKRING_IN_USE, markring_space_open(&space));
+    IS(MARKRING_IN_USE, markring_space_disk(&space, 1, good[1].at, good[1].length));
+    OK(markring_space_cell(&space, 1, &cell));
+    IS(MARKRING_IN_USE, markring_space_cell(&space, 0, &cell));
+    OK(markring_space_watch(&space, &watch));
+    IS(MARKRING_IN_USE, markring_space_watch(&space, &watch));
+    markring_cell second = {0};
+    IS(MARKRING_NOTHING, markring_space_cell(&space, 1, &second));
+    // Without a node 0 that anyone runs, node 1 works alone.
+    OK(markring_space_free(&space));
+    markring_answer answer;
+    uint8_t sent = 7;
+    uint64_t cycle = 77;
+    OK(markring_cell_alloc(&cell, 0, 0, &answer));
+    blot(&answer);
+    IS(MARKRING_NO_NODE, markring_cell_receive(&cell, 1, &answer));
+    IS(MARKRING_NO_NODE, markring_cell_receive(&cell, 2, &answer));
+    IS(MARKRING_NOTHING, markring_cell_receive(&cell, 0, &answer));
+    HOLDS(is_blotted(&answer));
+    IS(MARKRING_NO_NODE, markring_cell_send(&cell, 1, &sent));
+    EQUAL(7, sent);
+    OK(markring_cell_send(&cell, 0, &sent));
+    EQUAL(1, sent);
+    OK(markring_cell_send(&cell, 0, &sent));
+    EQUAL(0, sent);
+    IS(MARKRING_NOT_DIRECTOR, markring_cell_raise(&cell, &cycle));
+    EQUAL(77, cycle);
+    OK(markring_watch_look(&watch, &cycle));
+    EQUAL(0, cycle);
+    IS(MARKRING_WRONG_MARK, markring_cell_save(&cell, 0));
+    IS(MARKRING_WRONG_MARK, markring_cell_save(&cell, 1));
+    OK(markring_cell_free(&cell));
+    OK(markring_watch_free(&watch));
+    drop_bytes(&good[0]);
+    drop_bytes(&good[1]);
+}
+
+#else
+
+static void disks(uint64_t seed, unsigned long count)
+{
+    (void)seed, (void)count;
+}
+
+#endif
+
+int main(int length, char **given)
+{
+    uint64_t seed = length > 1 ? strtoull(given[1], NULL, 10) : 1;
+    unsigned long count = length > 2 ? strtoul(given[2], NULL, 10) : 2000;
+    empty_handles();
+    empty_spaces();
+    sizes();
+    events();
+    images(seed, count);
+    frames(seed, count);
+    disks(seed, count);
+    return report();
+}

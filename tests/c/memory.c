@@ -1,0 +1,458 @@
+// Refuses each allocation in turn. A call that is refused with MARKRING_MEMORY changed nothing, and
+// the same call again succeeds; the end is the same as with ample memory. A call that takes no memory
+// by its comment in the header allocates nothing.
+//
+// The linker replaces the allocator: -Wl,--wrap=malloc,--wrap=calloc,--wrap=realloc
+#include "check.h"
+
+void *__real_malloc(size_t size);
+void *__real_calloc(size_t count, size_t size);
+void *__real_realloc(void *old, size_t size);
+void *__wrap_malloc(size_t size);
+void *__wrap_calloc(size_t count, size_t size);
+void *__wrap_realloc(void *old, size_t size);
+
+// Requests are counted and refused only within calls of the library.
+static int within;
+static unsigned long requests, refused_one;
+
+static int refuses(void)
+{
+    return within && ++requests == refused_one;
+}
+
+void *__wrap_malloc(size_t size)
+{
+    return refuses() ? NULL : __real_malloc(size);
+}
+
+void *__wrap_calloc(size_t count, size_t size)
+{
+    return refuses() ? NULL : __real_calloc(count, size);
+}
+
+void *__wrap_realloc(void *old, size_t size)
+{
+    return refuses() ? NULL : __real_realloc(old, size);
+}
+
+// What a call may not change when memory is refused: nodes or cells, and the answer.
+static markring_node nodes[2];
+static markring_answer answer;
+static unsigned long refusals;
+
+#ifdef MARKRING_WITH_SPACES
+
+static markring_cell cells[2];
+
+static bytes cell_shown(markring_cell *cell)
+{
+    bytes all = {0};
+    size_t size = 0;
+    markring_state state;
+    OK(markring_cell_image_size(cell, &size));
+    add_number(&all, size, 8);
+    OK(markring_cell_state(cell, &state));
+    add_number(&all, state.live, 8);
+    add_number(&all, state.cycle, 8);
+    add_number(&all, state.grey, 8);
+    add_number(&all, state.letters, 8);
+    for (uint8_t peer = 0; peer < state.nodes; peer++) {
+        markring_link link;
+        if (markring_cell_link(cell, peer, &link) == MARKRING_OK) {
+            add_number(&all, link.appended, 8);
+            add_number(&all, link.released, 8);
+            add_number(&all, link.received, 8);
+            add_number(&all, link.received_saved, 8);
+        }
+    }
+    for (uint16_t reg = 0; reg < state.registers; reg++) {
+        markring_ref reference = {0};
+        (void)markring_cell_register(cell, reg, &reference);
+        add_number(&all, reference.slot, 4);
+        add_number(&all, reference.generation, 8);
+    }
+    return all;
+}
+
+static void add_cell(bytes *all, int own_number)
+{
+    if (cells[own_number].at != NULL) {
+        bytes one = cell_shown(&cells[own_number]);
+        add(all, one.at, one.length);
+        drop_bytes(&one);
+    }
+}
+
+#else
+
+static void add_cell(bytes *all, int own_number)
+{
+    (void)all, (void)own_number;
+}
+
+#endif
+
+static bytes all_shown(void)
+{
+    bytes all = {0};
+    for (int i = 0; i < 2; i++) {
+        if (nodes[i].at != NULL) {
+            // The images are those of copies, so that marks stay as they are.
+            markring_link link;
+            markring_state state;
+            OK(markring_node_state(&nodes[i], &state));
+            OK(markring_node_link(&nodes[i], (uint8_t)(1 - i), &link));
+            add_number(&all, state.live, 8);
+            add_number(&all, state.cycle, 8);
+            add_number(&all, state.grey, 8);
+            add_number(&all, state.letters, 8);
+            add_number(&all, (uint64_t)state.earlier, 8);
+            add_number(&all, (uint64_t)state.recent, 8);
+            add_number(&all, link.appended, 8);
+            add_number(&all, link.released, 8);
+            add_number(&all, link.received, 8);
+            size_t size = 0;
+            OK(markring_node_image_size(&nodes[i], &size));
+            add_number(&all, size, 8);
+            for (uint16_t reg = 0; reg < state.registers; reg++) {
+                markring_ref reference = {0};
+                (void)markring_node_register(&nodes[i], reg, &reference);
+                add_number(&all, reference.slot, 4);
+                add_number(&all, reference.generation, 8);
+            }
+        }
+        add_cell(&all, i);
+    }
+    return all;
+}
+
+// The disk of a cell is in memory: if that can't grow, it fails.
+static int is_refusal(int status)
+{
+    return status == MARKRING_MEMORY || status == MARKRING_DISK;
+}
+
+// Makes a call, and makes it again if memory was refused to it. `spares` says that it may not have
+// been refused.
+#define MAKE(status, spares, call) \
+    do { \
+        bytes before = all_shown(); \
+        unsigned long requested = requests; \
+        blot(&answer); \
+        within = 1; \
+        int outcome = (call); \
+        within = 0; \
+        if (is_refusal(outcome)) { \
+            bytes after = all_shown(); \
+            HOLDS(!(spares)); \
+            HOLDS(is_blotted(&answer)); \
+            HOLDS(same_bytes(&before, &after)); \
+            drop_bytes(&after); \
+            refusals++; \
+            within = 1; \
+            outcome = (call); \
+            within = 0; \
+        } else { \
+            HOLDS(!(spares) || requests == requested); \
+        } \
+        IS((status), outcome); \
+        drop_bytes(&before); \
+    } while (0)
+
+// May be refused memory; takes none.
+#define MAY(call) MAKE(MARKRING_OK, 0, call)
+#define SPARES(call) MAKE(MARKRING_OK, 1, call)
+
+static uint8_t image[1 << 14], frame[48], window[1856];
+static size_t needed, count, size;
+static uint64_t mark, number;
+static uint8_t flag;
+static markring_state state;
+static markring_link link_;
+static markring_ref reference;
+
+static void save_and_send(int from)
+{
+    uint8_t to = (uint8_t)(1 - from);
+    MAY(markring_node_image_size(&nodes[from], &size));
+    MAY(markring_node_image(&nodes[from], image, sizeof image, &needed, &mark));
+    SPARES(markring_node_kept(&nodes[from], mark));
+    for (uint8_t place = 0;; place++) {
+        markring_link link;
+        OK(markring_node_link(&nodes[from], to, &link));
+        if (place >= link.released - link.acknowledged) {
+            break;
+        }
+        SPARES(markring_node_frame_at(&nodes[from], to, place, frame, sizeof frame, &needed));
+        MAY(markring_node_take(&nodes[to], frame, needed, &answer));
+    }
+    MAY(markring_node_image(&nodes[to], image, sizeof image, &needed, &mark));
+    SPARES(markring_node_kept(&nodes[to], mark));
+    SPARES(markring_node_ack_for(&nodes[to], (uint8_t)from, frame, sizeof frame, &needed));
+    MAY(markring_node_take(&nodes[from], frame, needed, &answer));
+}
+
+// A scenario over nodes: objects, letters, a put and a get, early messages, a cycle, an image.
+static bytes over_nodes(void)
+{
+    markring_node *zero = &nodes[0], *one = &nodes[1];
+    MAY(markring_node_new(zero, 2, 4, 64, 0, 0));
+    MAY(markring_node_new(one, 2, 4, 64, 1, 0));
+    for (int i = 0; i < 20; i++) {
+        MAY(markring_node_alloc(zero, 0, (uint8_t)(i % 9), &answer));
+        MAY(markring_node_give(zero, 1, (uint32_t)i, 0, &answer));
+    }
+    MAY(markring_node_alloc(zero, 1, 8, &answer));
+    SPARES(markring_node_copy(zero, 2, 1, &answer));
+    SPARES(markring_node_store(zero, 1, 0, 0, &answer));
+    MAY(markring_node_load(zero, 2, 1, 0, &answer));
+    SPARES(markring_node_clear(zero, 1, 7, &answer));
+    SPARES(markring_node_set_word(zero, 1, 9, &answer));
+    SPARES(markring_node_word(zero, 1, &answer));
+    SPARES(markring_node_drop(zero, 2, &answer));
+    SPARES(markring_node_state(zero, &state));
+    SPARES(markring_node_link(zero, 1, &link_));
+    SPARES(markring_node_register(zero, 0, &reference));
+    SPARES(markring_node_unsaved(zero, &flag));
+    // The frames come from the last one to the first, and then again.
+    MAY(markring_node_image(zero, image, sizeof image, &needed, &mark));
+    SPARES(markring_node_kept(zero, mark));
+    SPARES(markring_node_frames(zero, 1, 0, window, sizeof window, &count, &needed));
+    for (uint8_t place = 20; place-- > 0;) {
+        SPARES(markring_node_frame_at(zero, 1, place, frame, sizeof frame, &needed));
+        MAY(markring_node_take(one, frame, needed, &answer));
+    }
+    while (markring_node_waiting(one, 0, &number) == MARKRING_OK) {
+        MAY(markring_node_next(one, 0, &answer));
+    }
+    MAKE(MARKRING_NOTHING, 1, markring_node_waiting(one, 0, &number));
+    MAKE(MARKRING_NOTHING_TO_DO, 1, markring_node_next(one, 0, &answer));
+    for (int i = 0; i < 20; i++) {
+        SPARES(markring_node_accept(one, (uint16_t)(i % 4), &answer));
+    }
+    MAY(markring_node_alloc(one, 3, 1, &answer));
+    MAY(markring_node_put(one, 0, 0, 3, &answer));
+    MAY(markring_node_get(one, 1, 0, 5, &answer));
+    save_and_send(1);
+    save_and_send(0);
+    SPARES(markring_node_accept(one, 0, &answer));
+    SPARES(markring_node_drop(zero, 1, &answer));
+    MAY(markring_node_begin(zero, &answer));
+    for (int round = 0; round < 4; round++) {
+        for (int i = 0; i < 2; i++) {
+            OK(markring_node_state(&nodes[i], &state));
+            while (state.grey > 0) {
+                MAY(markring_node_scan(&nodes[i], &answer));
+                OK(markring_node_state(&nodes[i], &state));
+            }
+            if (state.has_token) {
+                MAY(markring_node_pass(&nodes[i], &answer));
+            }
+            OK(markring_node_state(&nodes[i], &state));
+            if (state.swept < state.ended) {
+                MAY(markring_node_sweep(&nodes[i], 0, &answer));
+                MAY(markring_node_sweep(&nodes[i], 100, &answer));
+            }
+            save_and_send(i);
+        }
+    }
+    OK(markring_node_state(zero, &state));
+    EQUAL(1, state.swept);
+    MAY(markring_node_image(zero, image, sizeof image, &needed, &mark));
+    SPARES(markring_node_free(zero));
+    MAY(markring_node_from_image(zero, image, needed, 0));
+    bytes all = image_of(zero), rest = image_of(one);
+    add(&all, rest.at, rest.length);
+    drop_bytes(&rest);
+    SPARES(markring_node_free(zero));
+    SPARES(markring_node_free(one));
+    return all;
+}
+
+#ifdef MARKRING_WITH_SPACES
+
+// Saves a cell. No memory is refused to the save itself, see `saves`.
+static void save_cell(int own_number)
+{
+    MAY(markring_cell_image_size(&cells[own_number], &size));
+    MAY(markring_cell_image(&cells[own_number], image, sizeof image, &needed, &mark));
+    OK(markring_cell_save(&cells[own_number], mark));
+}
+
+// Sends from one cell to the other until nothing is left.
+static void flush(int from)
+{
+    uint8_t sender = (uint8_t)from, receiver = (uint8_t)(1 - from);
+    markring_link sent, received;
+    do {
+        MAY(markring_cell_send(&cells[from], receiver, &flag));
+        MAY(markring_cell_receive(&cells[1 - from], sender, &answer));
+        OK(markring_cell_link(&cells[from], receiver, &sent));
+        OK(markring_cell_link(&cells[1 - from], sender, &received));
+    } while (sent.released != received.received);
+}
+
+// Nothing can be done with a closed cell except reopening and reading it.
+static void expect_closed(markring_cell *cell)
+{
+    blot(&answer);
+    IS(MARKRING_CLOSED, markring_cell_word(cell, 0, &answer));
+    IS(MARKRING_CLOSED, markring_cell_alloc(cell, 99, 99, &answer));
+    IS(MARKRING_CLOSED, markring_cell_receive(cell, 1, &answer));
+    HOLDS(is_blotted(&answer));
+    IS(MARKRING_CLOSED, markring_cell_send(cell, 1, &flag));
+    IS(MARKRING_CLOSED, markring_cell_raise(cell, &number));
+    OK(markring_cell_state(cell, &state));
+}
+
+// A reopening that is refused memory closes the cell, until another one succeeds.
+static void reopen(markring_cell *cell)
+{
+    within = 1;
+    int status = markring_cell_reopen(cell);
+    within = 0;
+    if (is_refusal(status)) {
+        refusals++;
+        expect_closed(cell);
+        status = markring_cell_reopen(cell);
+    }
+    IS(MARKRING_OK, status);
+}
+
+// A scenario over cells, in one thread.
+static bytes over_cells(void)
+{
+    markring_space space = {0};
+    markring_watch watch = {0};
+    bytes images[2] = {{0}, {0}};
+    MAY(markring_space_new(&space, 2, 4, 64, 1));
+    MAY(markring_space_open(&space));
+    SPARES(markring_space_cell(&space, 0, &cells[0]));
+    SPARES(markring_space_cell(&space, 1, &cells[1]));
+    SPARES(markring_space_watch(&space, &watch));
+    SPARES(markring_space_free(&space));
+    for (int i = 0; i < 10; i++) {
+        MAY(markring_cell_alloc(&cells[0], 0, 2, &answer));
+        MAY(markring_cell_give(&cells[0], 1, (uint32_t)i, 0, &answer));
+    }
+    save_cell(0);
+    flush(0);
+    for (int i = 0; i < 10; i++) {
+        SPARES(markring_cell_accept(&cells[1], (uint16_t)(i % 4), &answer));
+    }
+    SPARES(markring_cell_unsaved(&cells[1], &flag));
+    save_cell(1);
+    MAY(markring_cell_begin(&cells[0], &answer));
+    save_cell(0);
+    flush(0);
+    SPARES(markring_cell_raise(&cells[0], &number));
+    SPARES(markring_watch_look(&watch, &number));
+    MAY(markring_cell_set_word(&cells[0], 0, 5, &answer));
+    reopen(&cells[0]);
+    MAY(markring_cell_word(&cells[0], 0, &answer));
+    EQUAL(0, answer.number);
+    for (int i = 0; i < 2; i++) {
+        MAY(markring_cell_image(&cells[i], image, sizeof image, &needed, &mark));
+        add(&images[i], image, needed);
+        SPARES(markring_cell_free(&cells[i]));
+    }
+    SPARES(markring_watch_free(&watch));
+    MAY(markring_space_new(&space, 2, 4, 64, 0));
+    MAY(markring_space_disk(&space, 0, images[0].at, images[0].length));
+    MAY(markring_space_disk(&space, 1, images[1].at, images[1].length));
+    MAY(markring_space_open(&space));
+    SPARES(markring_space_cell(&space, 1, &cells[1]));
+    SPARES(markring_space_free(&space));
+    MAY(markring_cell_image(&cells[1], image, sizeof image, &needed, &mark));
+    bytes all = {0};
+    add(&all, image, needed);
+    HOLDS(same_bytes(&all, &images[1]));
+    SPARES(markring_cell_free(&cells[1]));
+    drop_bytes(&images[0]);
+    drop_bytes(&images[1]);
+    return all;
+}
+
+// Saves a cell with a new object, and refuses an allocation of the save. After MEMORY the mark is
+// still good. After DISK the cell is closed, and a reopening finds the old node or the new one.
+// Returns whether the save made that allocation.
+static int save_without(unsigned long one)
+{
+    markring_space space = {0};
+    markring_cell *cell = &cells[0];
+    OK(markring_space_new(&space, 2, 2, 4, 0));
+    OK(markring_space_open(&space));
+    OK(markring_space_cell(&space, 0, cell));
+    OK(markring_space_free(&space));
+    OK(markring_cell_alloc(cell, 0, 1, &answer));
+    OK(markring_cell_image(cell, image, sizeof image, &needed, &mark));
+    requests = 0;
+    refused_one = one;
+    within = 1;
+    int status = markring_cell_save(cell, mark);
+    within = 0;
+    int reached = requests >= one;
+    HOLDS(is_refusal(status) == reached);
+    if (status == MARKRING_MEMORY) {
+        OK(markring_cell_unsaved(cell, &flag));
+        EQUAL(1, flag);
+        status = markring_cell_save(cell, mark);
+    }
+    if (status == MARKRING_DISK) {
+        expect_closed(cell);
+        IS(MARKRING_CLOSED, markring_cell_save(cell, mark));
+        OK(markring_cell_reopen(cell));
+        OK(markring_cell_state(cell, &state));
+        HOLDS(state.live <= 1);
+        if (state.live == 0) {
+            OK(markring_cell_alloc(cell, 0, 1, &answer));
+        }
+        OK(markring_cell_image(cell, image, sizeof image, &needed, &mark));
+        status = markring_cell_save(cell, mark);
+    }
+    IS(MARKRING_OK, status);
+    OK(markring_cell_unsaved(cell, &flag));
+    EQUAL(0, flag);
+    OK(markring_cell_free(cell));
+    return reached;
+}
+
+static void saves(void)
+{
+    unsigned long one = 1;
+    while (save_without(one)) {
+        one++;
+    }
+    printf("%lu allocations of a save refused\n", one - 1);
+}
+
+#endif
+
+static void refuse_each(bytes (*scenario)(void))
+{
+    refused_one = requests = refusals = 0;
+    bytes expected = scenario();
+    unsigned long total = requests;
+    HOLDS(total > 0);
+    for (unsigned long one = 1; one <= total; one++) {
+        refused_one = one;
+        requests = refusals = 0;
+        bytes all = scenario();
+        HOLDS(same_bytes(&expected, &all));
+        EQUAL(1, refusals);
+        drop_bytes(&all);
+    }
+    printf("%lu allocations refused\n", total);
+    drop_bytes(&expected);
+}
+
+int main(void)
+{
+    refuse_each(over_nodes);
+#ifdef MARKRING_WITH_SPACES
+    refuse_each(over_cells);
+    saves();
+#endif
+    return report();
+}

@@ -1,0 +1,645 @@
+// Programs of random events on all nodes of a space, over a net that loses, repeats and reorders
+// frames, with cycles of the collector, and with crashes after which a node continues from its last
+// stored image. Every answer is compared with a space without a collector (docs/RULES.md), which is
+// written here from the rules. At checkpoints the garbage has to go: each node has exactly the
+// objects that the model reaches.
+//
+//     random SEEDS STEPS
+#include "check.h"
+
+// ROUNDS bounds what must end by itself.
+enum { MOST = 4, REGISTERS = 5, SLOTS = 48, PLACES = 8, IMAGE = 1 << 17, NET = 64, ROUNDS = 1000 };
+
+// ## The model
+
+typedef struct object {
+    markring_ref name;
+    uint64_t word;
+    uint8_t places;
+    markring_ref at[PLACES];
+} object;
+
+// A Give (tag 4), a Put (5) or a Get (6), as in frames.
+typedef struct message {
+    uint8_t tag, place;
+    uint32_t label;
+    markring_ref about, reference;
+} message;
+
+typedef struct letter {
+    uint8_t from;
+    uint32_t label;
+    markring_ref reference;
+} letter;
+
+// A program's part of a node: what it would be if nothing were ever freed. Rows are in `bytes`.
+typedef struct model {
+    markring_ref registers[REGISTERS];
+    bytes objects, letters;
+    // Letters accepted of those that came, in bytes.
+    size_t accepted;
+    // Messages of programs for each node, and how many of each node were received.
+    bytes sent[MOST];
+    size_t received[MOST];
+} model;
+
+static const markring_ref NOTHING;
+
+static object *find(model *it, markring_ref name)
+{
+    object *all = (object *)(void *)it->objects.at;
+    for (size_t i = it->objects.length / sizeof *all; i-- > 0;) {
+        if (same_ref(all[i].name, name)) {
+            return &all[i];
+        }
+    }
+    return NULL;
+}
+
+static void copy_model(model *to, const model *from)
+{
+    model copy = *from;
+    bytes *rows[2 + MOST] = {&copy.objects, &copy.letters};
+    bytes *old[2 + MOST] = {&to->objects, &to->letters};
+    for (int i = 0; i < MOST; i++) {
+        rows[2 + i] = &copy.sent[i];
+        old[2 + i] = &to->sent[i];
+    }
+    for (int i = 0; i < 2 + MOST; i++) {
+        bytes fresh = {0};
+        add(&fresh, rows[i]->at, rows[i]->length);
+        drop_bytes(old[i]);
+        *rows[i] = fresh;
+    }
+    *to = copy;
+}
+
+static void drop_model(model *it)
+{
+    drop_bytes(&it->objects);
+    drop_bytes(&it->letters);
+    for (int i = 0; i < MOST; i++) {
+        drop_bytes(&it->sent[i]);
+    }
+    memset(it, 0, sizeof *it);
+}
+
+// ## The space
+
+typedef struct site {
+    markring_node node;
+    model now, stored;
+    uint8_t *image;
+    size_t length;
+    // The mark of an image that is stored and not kept yet, or 0.
+    uint64_t mark;
+} site;
+
+typedef struct packet {
+    uint8_t from, to, length;
+    uint8_t frame[48];
+} packet;
+
+static site sites[MOST];
+static uint8_t nodes;
+static uint64_t seed, limit;
+static packet net[NET];
+static int in_net;
+// The tags of the messages from one node to another, by their numbers.
+static bytes tags[MOST][MOST];
+static unsigned long crashes, cycles, answers, lost;
+
+static message *sent_by(model *it, uint8_t to, size_t index)
+{
+    HOLDS(index < it->sent[to].length / sizeof(message));
+    return (message *)(void *)it->sent[to].at + index;
+}
+
+// What the model's test of own place says, or 0 and the object.
+static int own_place(uint8_t own_number, uint16_t reg, uint8_t place, object **it)
+{
+    model *now = &sites[own_number].now;
+    if (reg >= REGISTERS) {
+        return MARKRING_NO_REGISTER;
+    }
+    if (!markring_ref_is_some(now->registers[reg])) {
+        return MARKRING_EMPTY_REGISTER;
+    }
+    if (now->registers[reg].node != own_number) {
+        return MARKRING_REMOTE;
+    }
+    // Whatever a register refers to is live.
+    *it = find(now, now->registers[reg]);
+    HOLDS(*it != NULL);
+    return *it == NULL || place >= (*it)->places ? MARKRING_NO_FIELD : MARKRING_OK;
+}
+
+static int far_place(uint8_t own_number, uint16_t reg, uint8_t place)
+{
+    markring_ref it = sites[own_number].now.registers[reg];
+    if (!markring_ref_is_some(it)) {
+        return MARKRING_EMPTY_REGISTER;
+    }
+    return it.node == own_number ? MARKRING_LOCAL : place >= 8 ? MARKRING_NO_FIELD : MARKRING_OK;
+}
+
+static int is_congested(uint8_t own_number, uint8_t to)
+{
+    markring_link link;
+    if (limit == 0 || markring_node_link(&sites[own_number].node, to, &link) != MARKRING_OK) {
+        return 0;
+    }
+    return link.appended - link.acknowledged >= limit;
+}
+
+static void send_in_model(uint8_t own_number, uint8_t to, message it)
+{
+    add(&sites[own_number].now.sent[to], &it, sizeof it);
+}
+
+// The answer has this kind and this reference.
+static void expect(const markring_answer *answer, int kind, markring_ref reference)
+{
+    EQUAL((uint64_t)kind, answer->kind);
+    HOLDS(same_ref(answer->reference, reference));
+}
+
+static void expect_sent(uint8_t own_number, uint8_t to, const markring_answer *answer)
+{
+    markring_link link;
+    OK(markring_node_link(&sites[own_number].node, to, &link));
+    expect(answer, MARKRING_ANSWER_SENT, NOTHING);
+    EQUAL(link.appended, answer->number);
+}
+
+static void alloc(uint8_t own_number, uint16_t reg, uint8_t places)
+{
+    markring_answer answer;
+    model *now = &sites[own_number].now;
+    int status = markring_node_alloc(&sites[own_number].node, reg, places, &answer);
+    if (reg >= REGISTERS) {
+        IS(MARKRING_NO_REGISTER, status);
+    } else if (places > 8) {
+        IS(MARKRING_TOO_MANY_FIELDS, status);
+    } else if (status != MARKRING_ARENA_FULL && OK(status)) {
+        object it = {0};
+        it.name = answer.reference;
+        it.places = places;
+        EQUAL(MARKRING_ANSWER_NEW, answer.kind);
+        HOLDS(it.name.node == own_number && it.name.slot < SLOTS && it.name.generation > 0);
+        HOLDS(find(now, it.name) == NULL);
+        add(&now->objects, &it, sizeof it);
+        now->registers[reg] = it.name;
+    }
+}
+
+static void accept(uint8_t own_number, uint16_t reg)
+{
+    markring_answer answer;
+    model *now = &sites[own_number].now;
+    int status = markring_node_accept(&sites[own_number].node, reg, &answer);
+    if (now->accepted == now->letters.length) {
+        IS(MARKRING_NO_LETTER, status);
+    } else if (OK(status)) {
+        letter *it = (letter *)(void *)(now->letters.at + now->accepted);
+        now->accepted += sizeof *it;
+        expect(&answer, MARKRING_ANSWER_LETTER, it->reference);
+        HOLDS(answer.node == it->from && answer.label == it->label);
+        now->registers[reg] = it->reference;
+    }
+}
+
+static void give(uint8_t own_number, uint8_t to, uint16_t reg)
+{
+    markring_answer answer;
+    message it = {4, 0, (uint32_t)draw(&seed), NOTHING, NOTHING};
+    int congested = is_congested(own_number, to);
+    int status = markring_node_give(&sites[own_number].node, to, it.label, reg, &answer);
+    if (congested) {
+        IS(MARKRING_CONGESTED, status);
+    } else if (to == own_number || to >= nodes) {
+        IS(to >= nodes ? MARKRING_NO_NODE : MARKRING_SELF_SEND, status);
+    } else if (OK(status)) {
+        it.reference = sites[own_number].now.registers[reg];
+        send_in_model(own_number, to, it);
+        expect_sent(own_number, to, &answer);
+    }
+}
+
+static void put_or_get(uint8_t own_number, uint16_t object, uint8_t place, uint16_t reg, int is_put)
+{
+    markring_answer answer;
+    model *now = &sites[own_number].now;
+    markring_node *node = &sites[own_number].node;
+    uint8_t to = now->registers[object].node;
+    int congested = markring_ref_is_some(now->registers[object]) && is_congested(own_number, to);
+    int expected = congested ? MARKRING_CONGESTED : far_place(own_number, object, place);
+    message it = {is_put ? 5 : 6, place, (uint32_t)draw(&seed), now->registers[object], NOTHING};
+    int status = is_put ? markring_node_put(node, object, place, reg, &answer)
+                        : markring_node_get(node, object, place, it.label, &answer);
+    if (IS(expected, status) && status == MARKRING_OK) {
+        it.reference = is_put ? now->registers[reg] : NOTHING;
+        send_in_model(own_number, to, it);
+        expect_sent(own_number, to, &answer);
+    }
+}
+
+static void read_and_write(uint8_t own_number, uint16_t object_reg, uint8_t place, uint16_t reg)
+{
+    markring_answer answer;
+    model *now = &sites[own_number].now;
+    markring_node *node = &sites[own_number].node;
+    object *it = NULL;
+    uint64_t word = draw(&seed);
+    int is_empty = !markring_ref_is_some(now->registers[reg]);
+    int expected = own_place(own_number, object_reg, place, &it);
+    int without_place = own_place(own_number, object_reg, 0, &it);
+    without_place = it != NULL ? MARKRING_OK : without_place;
+    switch (below(&seed, 5)) {
+    case 0:
+        if (IS(expected, markring_node_load(node, reg, object_reg, place, &answer))
+            && expected == MARKRING_OK) {
+            expect(&answer, MARKRING_ANSWER_VALUE, it->at[place]);
+            now->registers[reg] = it->at[place];
+        }
+        break;
+    case 1:
+        expected = is_empty ? MARKRING_EMPTY_REGISTER : expected;
+        if (IS(expected, markring_node_store(node, object_reg, place, reg, &answer))
+            && expected == MARKRING_OK) {
+            expect(&answer, MARKRING_ANSWER_DONE, NOTHING);
+            it->at[place] = now->registers[reg];
+        }
+        break;
+    case 2:
+        if (IS(expected, markring_node_clear(node, object_reg, place, &answer))
+            && expected == MARKRING_OK) {
+            it->at[place] = NOTHING;
+        }
+        break;
+    case 3:
+        if (IS(without_place, markring_node_word(node, object_reg, &answer)) && it != NULL) {
+            expect(&answer, MARKRING_ANSWER_WORD, NOTHING);
+            EQUAL(it->word, answer.number);
+        }
+        break;
+    default:
+        if (IS(without_place, markring_node_set_word(node, object_reg, word, &answer))
+            && it != NULL) {
+            it->word = word;
+        }
+    }
+}
+
+static void copy_or_drop(uint8_t own_number, uint16_t reg, uint16_t source, int is_copy)
+{
+    markring_answer answer;
+    markring_ref *registers = sites[own_number].now.registers;
+    markring_node *node = &sites[own_number].node;
+    int is_empty = !markring_ref_is_some(registers[is_copy ? source : reg]);
+    int status = is_copy ? markring_node_copy(node, reg, source, &answer)
+                         : markring_node_drop(node, reg, &answer);
+    if (IS(is_empty ? MARKRING_EMPTY_REGISTER : MARKRING_OK, status) && !is_empty) {
+        registers[reg] = is_copy ? registers[source] : NOTHING;
+    }
+}
+
+static void program(uint8_t own_number)
+{
+    uint16_t reg = (uint16_t)below(&seed, REGISTERS), other = (uint16_t)below(&seed, REGISTERS);
+    uint8_t place = (uint8_t)below(&seed, 3);
+    answers++;
+    switch (below(&seed, 12)) {
+    case 0:
+    case 1: alloc(own_number, (uint16_t)(reg + below(&seed, 8) / 7), (uint8_t)below(&seed, 10)); break;
+    case 2: copy_or_drop(own_number, reg, other, 1); break;
+    case 3: copy_or_drop(own_number, reg, other, 0); break;
+    case 4:
+    case 5: accept(own_number, reg); break;
+    case 6:
+    case 7: give(own_number, (uint8_t)below(&seed, nodes + below(&seed, 2)), reg); break;
+    case 8: put_or_get(own_number, reg, place, other, 1); break;
+    case 9: put_or_get(own_number, reg, place, other, 0); break;
+    default: read_and_write(own_number, reg, place, other);
+    }
+}
+
+// ## The net
+
+// The model receives the message with this number, if it is one of a program.
+static void receive_in_model(uint8_t from, uint8_t to, uint64_t number)
+{
+    HOLDS(number <= tags[from][to].length);
+    uint8_t tag = tags[from][to].at[number - 1];
+    if (tag < 4 || tag > 6) {
+        return;
+    }
+    model *now = &sites[to].now;
+    message it = *sent_by(&sites[from].now, to, now->received[from]++);
+    EQUAL(it.tag, tag);
+    object *about = tag == 4 ? NULL : find(now, it.about);
+    markring_ref *place = about != NULL && it.place < about->places ? &about->at[it.place] : NULL;
+    if (tag == 4) {
+        letter came = {from, it.label, it.reference};
+        add(&now->letters, &came, sizeof came);
+    } else if (tag == 5 && place != NULL) {
+        *place = it.reference;
+    } else if (tag == 6) {
+        message answer = {4, 0, it.label, NOTHING, place != NULL ? *place : NOTHING};
+        send_in_model(to, from, answer);
+    }
+}
+
+static void take(const packet *it)
+{
+    markring_answer answer;
+    markring_node *node = &sites[it->to].node;
+    markring_link link;
+    uint64_t number;
+    if (!OK(markring_node_link(node, it->from, &link))
+        || !OK(markring_node_take(node, it->frame, it->length, &answer))) {
+        return;
+    }
+    if (answer.kind == MARKRING_ANSWER_RECEIVED) {
+        receive_in_model(it->from, it->to, link.received + 1);
+    }
+    while (markring_node_waiting(node, it->from, &number) == MARKRING_OK) {
+        OK(markring_node_next(node, it->from, &answer));
+        receive_in_model(it->from, it->to, number);
+    }
+}
+
+// A node offers a frame of its window, or an acknowledgement, to the net.
+static void offer(uint8_t from, uint8_t to, uint8_t place)
+{
+    packet it = {from, to, 0, {0}};
+    size_t needed = 0;
+    markring_link link;
+    OK(markring_node_link(&sites[from].node, to, &link));
+    int status = place < 32 ? markring_node_frame_at(&sites[from].node, to, place, it.frame,
+                                  sizeof it.frame, &needed)
+                            : markring_node_ack_for(&sites[from].node, to, it.frame,
+                                  sizeof it.frame, &needed);
+    int is_there = place >= 32 || place < link.released - link.acknowledged;
+    if (!IS(is_there ? MARKRING_OK : MARKRING_NOTHING, status) || !is_there) {
+        return;
+    }
+    it.length = (uint8_t)needed;
+    if (place < 32) {
+        // The number is in the bytes 3 to 10, the tag in byte 19.
+        uint64_t number = link.acknowledged + place + 1;
+        EQUAL(number & 0xFF, it.frame[10]);
+        while (tags[from][to].length < number) {
+            add_number(&tags[from][to], 0, 1);
+        }
+        tags[from][to].at[number - 1] = it.frame[19];
+    }
+    // A full net loses the packet that makes room.
+    int at = in_net < NET ? in_net++ : (int)below(&seed, NET);
+    net[at] = it;
+}
+
+static void deliver_one(void)
+{
+    if (in_net == 0) {
+        return;
+    }
+    int at = (int)below(&seed, (uint32_t)in_net);
+    packet it = net[at];
+    uint32_t fate = below(&seed, 8);
+    // Of eight packets one stays and comes again, and one is lost.
+    if (fate != 0) {
+        net[at] = net[--in_net];
+    }
+    if (fate == 1) {
+        lost++;
+    } else {
+        take(&it);
+    }
+}
+
+// ## Collecting, saving, crashing
+
+static void collect(uint8_t own_number)
+{
+    markring_answer answer;
+    markring_node *node = &sites[own_number].node;
+    int status = MARKRING_OK;
+    switch (below(&seed, 5)) {
+    case 0:
+        status = markring_node_begin(node, &answer);
+        cycles += status == MARKRING_OK;
+        HOLDS(own_number == 0 ? status == MARKRING_OK || status == MARKRING_CYCLE_RUNNING
+                              : status == MARKRING_NOT_DIRECTOR);
+        return;
+    case 1:
+    case 2: status = markring_node_scan(node, &answer); break;
+    case 3: status = markring_node_pass(node, &answer); break;
+    default: status = markring_node_sweep(node, 1 + below(&seed, 20), &answer);
+    }
+    HOLDS(status == MARKRING_OK || status == MARKRING_NOTHING_TO_DO);
+}
+
+// Takes an image, which is stored; or says that the stored one is kept.
+static void store(uint8_t own_number)
+{
+    site *it = &sites[own_number];
+    if (it->mark != 0) {
+        OK(markring_node_kept(&it->node, it->mark));
+        it->mark = 0;
+        return;
+    }
+    OK(markring_node_image(&it->node, it->image, IMAGE, &it->length, &it->mark));
+    copy_model(&it->stored, &it->now);
+}
+
+static void crash(uint8_t own_number)
+{
+    site *it = &sites[own_number];
+    OK(markring_node_free(&it->node));
+    OK(markring_node_from_image(&it->node, it->image, it->length, limit));
+    copy_model(&it->now, &it->stored);
+    it->mark = 0;
+    crashes++;
+}
+
+static void step(void)
+{
+    uint8_t own_number = (uint8_t)below(&seed, nodes), other = (uint8_t)below(&seed, nodes - 1u);
+    other = (uint8_t)(other + (other >= own_number));
+    uint32_t kind = below(&seed, 1000);
+    if (kind < 350) {
+        program(own_number);
+    } else if (kind < 600) {
+        deliver_one();
+    } else if (kind < 800) {
+        offer(own_number, other, (uint8_t)below(&seed, below(&seed, 2) != 0 ? 4 : 40));
+    } else if (kind < 900) {
+        collect(own_number);
+    } else if (kind < 997) {
+        store(own_number);
+    } else {
+        crash(own_number);
+    }
+}
+
+// ## Checkpoints
+
+// Saves all nodes, and moves all frames in order, until nothing is in flight.
+static void settle(void)
+{
+    int moved = 1;
+    in_net = 0;
+    for (int rounds = 0; moved && failed == 0 && HOLDS(rounds < ROUNDS); rounds++) {
+        moved = 0;
+        for (uint8_t from = 0; from < nodes; from++) {
+            sites[from].mark = 0;
+            store(from);
+            store(from);
+        }
+        for (uint8_t from = 0; from < nodes; from++) {
+            for (uint8_t to = 0; to < nodes; to++) {
+                markring_link link, back;
+                if (to == from) {
+                    continue;
+                }
+                OK(markring_node_link(&sites[from].node, to, &link));
+                OK(markring_node_link(&sites[to].node, from, &back));
+                moved |= link.appended != back.received || link.acknowledged != link.appended;
+                for (uint8_t place = 0; place < 32 && place < link.released - link.acknowledged;
+                     place++) {
+                    offer(from, to, place);
+                    take(&net[--in_net]);
+                }
+                offer(from, to, 32);
+                take(&net[--in_net]);
+            }
+        }
+    }
+}
+
+static void finish_cycle(void)
+{
+    markring_answer answer;
+    markring_state state;
+    for (int rounds = 0; failed == 0 && HOLDS(rounds < ROUNDS); rounds++) {
+        settle();
+        int status = markring_node_begin(&sites[0].node, &answer);
+        if (status == MARKRING_OK) {
+            cycles++;
+            break;
+        }
+        IS(MARKRING_CYCLE_RUNNING, status);
+        for (uint8_t node = 0; node < nodes; node++) {
+            while (markring_node_scan(&sites[node].node, &answer) == MARKRING_OK) {
+            }
+            (void)markring_node_pass(&sites[node].node, &answer);
+            (void)markring_node_sweep(&sites[node].node, SLOTS, &answer);
+        }
+    }
+    OK(markring_node_state(&sites[0].node, &state));
+    EQUAL(state.cycle, state.ended + 1);
+}
+
+static unsigned reach(markring_ref it, bytes *seen)
+{
+    markring_ref *all = (markring_ref *)(void *)seen->at;
+    if (!markring_ref_is_some(it)) {
+        return 0;
+    }
+    for (size_t i = 0; i < seen->length / sizeof it; i++) {
+        if (same_ref(all[i], it)) {
+            return 0;
+        }
+    }
+    add(seen, &it, sizeof it);
+    object *found = find(&sites[it.node].now, it);
+    HOLDS(found != NULL);
+    for (int place = 0; found != NULL && place < found->places; place++) {
+        (void)reach(found->at[place], seen);
+    }
+    return 1;
+}
+
+// Nothing is in flight. What the model reaches from registers and letters is there, and after three
+// cycles nothing else is.
+static void checkpoint(void)
+{
+    bytes seen = {0};
+    uint64_t objects[MOST] = {0};
+    for (int times = 0; times < 3; times++) {
+        finish_cycle();
+    }
+    settle();
+    for (uint8_t node = 0; node < nodes; node++) {
+        model *now = &sites[node].now;
+        for (int reg = 0; reg < REGISTERS; reg++) {
+            markring_ref held = NOTHING;
+            int status = markring_node_register(&sites[node].node, (uint16_t)reg, &held);
+            HOLDS(status == MARKRING_OK || status == MARKRING_NOTHING);
+            HOLDS(same_ref(held, now->registers[reg]));
+            (void)reach(now->registers[reg], &seen);
+        }
+        for (size_t at = now->accepted; at < now->letters.length; at += sizeof(letter)) {
+            (void)reach(((letter *)(void *)(now->letters.at + at))->reference, &seen);
+        }
+    }
+    for (size_t i = 0; i < seen.length / sizeof(markring_ref); i++) {
+        objects[((markring_ref *)(void *)seen.at)[i].node]++;
+    }
+    for (uint8_t node = 0; node < nodes; node++) {
+        markring_state state;
+        OK(markring_node_state(&sites[node].node, &state));
+        EQUAL(objects[node], state.live);
+        EQUAL((sites[node].now.letters.length - sites[node].now.accepted) / sizeof(letter),
+            state.letters);
+    }
+    drop_bytes(&seen);
+}
+
+static void run(unsigned long steps)
+{
+    nodes = (uint8_t)(2 + below(&seed, MOST - 1));
+    limit = below(&seed, 2) != 0 ? 6 + below(&seed, 40) : 0;
+    for (uint8_t node = 0; node < nodes; node++) {
+        OK(markring_node_new(&sites[node].node, nodes, REGISTERS, SLOTS, node, limit));
+        sites[node].image = (uint8_t *)own(malloc(IMAGE));
+        store(node);
+        store(node);
+    }
+    // After a failure the model isn't the nodes' any more.
+    for (unsigned long i = 1; i <= steps && failed == 0; i++) {
+        step();
+        if (i % (steps / 3 + 1) == 0 || i == steps) {
+            checkpoint();
+        }
+    }
+    in_net = 0;
+    for (uint8_t node = 0; node < nodes; node++) {
+        OK(markring_node_free(&sites[node].node));
+        drop_model(&sites[node].now);
+        drop_model(&sites[node].stored);
+        free(sites[node].image);
+        for (uint8_t to = 0; to < nodes; to++) {
+            drop_bytes(&tags[node][to]);
+        }
+    }
+    memset(sites, 0, sizeof sites);
+}
+
+int main(int length, char **given)
+{
+    unsigned long seeds = length > 1 ? strtoul(given[1], NULL, 10) : 40;
+    unsigned long steps = length > 2 ? strtoul(given[2], NULL, 10) : 4000;
+    for (unsigned long i = 1; i <= seeds && failed == 0; i++) {
+        seed = i * UINT64_C(0x9E3779B97F4A7C15) | 1;
+        run(steps);
+        if (failed != 0) {
+            printf("seed %lu failed\n", i);
+        }
+    }
+    HOLDS(crashes > 0 && cycles > 0 && lost > 0);
+    printf("%lu events of programs, %lu crashes, %lu cycles, %lu frames lost\n", answers, crashes,
+        cycles, lost);
+    return report();
+}
