@@ -1,0 +1,115 @@
+//! A cell with its wire, for one thread of the caller's. The caller stores the cell's images, and a
+//! mark says that the image which it stored is that of the node which is saved.
+ghost use Rattle.std.specs.Prelude.{◌≡◌, IsTrue, false};
+ghost use Rattle.std.specs.Arc.{arc_value};
+ghost use Rattle.model.specs.Steps.{is_own};
+ghost use Rattle.wire.specs.Readers.{IsSeatOf};
+ghost use Rattle.spaces.specs.Cells.{CellActs, Received, Saved, Sent};
+
+use cell::Cell;
+use disk::MemoryDisk;
+use handles::Fault;
+use model::{Answer, Event};
+use node::{Core, Node};
+use std::alloc::Global;
+use std::snapshot::Snapshot;
+use std::sync::Arc;
+use wire::{Inbound, Outbound, Wire};
+
+/// A cell with its wire.
+#[derive(Drop)]
+pub struct SeatedCell {
+    cell: Cell<MemoryDisk>,
+    wire: Arc<Wire>,
+    // The mark of the last image, which is the number of images.
+    mark: u64,
+    // Whether that image is the one of the node as it is now.
+    is_fresh: bool,
+    // The core of which that image was taken.
+    imaged: Snapshot<Core>,
+    ghost sits: { IsSeatOf (arc_value wire) cell.seat },
+    ghost fresh: { IsTrue is_fresh → imaged.value ≡ cell.node.core },
+}
+
+impl SeatedCell {
+    /// A cell of which no image was taken, whose seat belongs to the wire.
+    pub(crate) fn new(cell: Cell<MemoryDisk>, wire: Arc<Wire>) -> SeatedCell
+        requires { IsSeatOf (arc_value wire) cell.seat }
+        ensures cell { result.cell ≡ cell }
+        ensures wire { result.wire ≡ wire }
+        ensures mark { (result.mark ≡ 0) × (result.is_fresh ≡ false) }
+    {
+        let imaged = Snapshot::of(cell.node().core());
+        SeatedCell {
+            cell,
+            wire,
+            mark: 0,
+            is_fresh: false,
+            imaged,
+        }
+    }
+
+    /// Gives the node an event of its own; see [`Cell::act`]. An answered event makes the mark of
+    /// the last image useless.
+    #[inline(always)]
+    pub fn act(&mut self, event: Event) -> Result<Answer, Fault>
+        requires own { is_own event ≡ true }
+        ensures { CellActs event self.old self.new result }
+    {
+        let answer = self.cell.act(&self.wire, event)?;
+        self.is_fresh = false;
+        Ok(answer)
+    }
+
+    /// Receives from another node; see [`Cell::pump_in`]. Fails with `Nothing` if there was neither
+    /// a message nor a frame.
+    pub fn receive(&mut self, from: u8) -> Result<Answer, Fault>
+        ensures { Received from self.old self.new result }
+    {
+        match self.cell.pump_in(&self.wire, from)? {
+            Inbound::Empty => Err(Fault::Nothing),
+            Inbound::Event(answer) => {
+                self.is_fresh = false;
+                Ok(answer)
+            }
+        }
+    }
+
+    /// Sends to another node, and returns whether the mailbox was empty; see [`Cell::pump_out`].
+    pub fn send(&mut self, to: u8) -> Result<bool, Fault>
+        ensures { Sent to self.old self.new result }
+    {
+        match self.cell.pump_out(&self.wire, to)? {
+            Outbound::Sent => Ok(true),
+            Outbound::Full => Ok(false),
+        }
+    }
+
+    /// Saves the cell, whose image of this mark the caller stored; see [`Cell::save`]. Fails with
+    /// `WrongMark` before that if this isn't the mark of the last image, or if something happened
+    /// since.
+    pub fn save(&mut self, mark: u64) -> Result<(), Fault>
+        ensures { Saved mark self.old self.new result }
+    {
+        if !self.is_fresh || mark != self.mark {
+            return Err(Fault::WrongMark);
+        }
+        self.cell.save(&self.wire)?;
+        self.is_fresh = false;
+        Ok(())
+    }
+
+    /// Whether an event happened since the last save or reopening.
+    pub fn is_unsaved(&self) -> bool
+        ensures { result ≡ self.now.cell.unsaved }
+    {
+        self.cell.unsaved()
+    }
+
+    /// The node.
+    pub fn node(&self) -> &Node
+        ensures { result.now ≡ self.now.cell.node }
+    {
+        self.cell.node()
+    }
+}
