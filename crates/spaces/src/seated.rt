@@ -4,7 +4,6 @@ ghost use Rattle.std.specs.Prelude.{◌≡◌, IsTrue, false};
 ghost use Rattle.std.specs.Arc.{arc_value};
 ghost use Rattle.model.specs.Steps.{is_own};
 ghost use Rattle.wire.specs.Readers.{IsSeatOf};
-ghost use Rattle.spaces.specs.Cells.{CellActs, Received, Saved, Sent};
 
 use cell::Cell;
 use disk::MemoryDisk;
@@ -32,6 +31,8 @@ pub struct SeatedCell {
 }
 
 impl SeatedCell {
+    ghost use Rattle.spaces.specs.Cells.{CellActs, Received, Saved, Sent};
+
     /// A cell of which no image was taken, whose seat belongs to the wire.
     pub(crate) fn new(cell: Cell<MemoryDisk>, wire: Arc<Wire>) -> SeatedCell
         requires { IsSeatOf (arc_value wire) cell.seat }
