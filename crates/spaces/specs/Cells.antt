@@ -125,7 +125,7 @@ pub record SavedAs (old new : SeatedCell) (r : Result (Unit {0}) Refusal) : Type
     is_open = true;
     trace = new.cell.trace;
   })
-  pub known : OnOk r (known new.cell.seat ≡ events.saved_by (known old.cell.seat))
+  pub knows : OnOk r (known new.cell.seat ≡ events.saved_by (known old.cell.seat))
   pub entered : OnOk r (events.Entered (step.Save (known old.cell.seat).me)
       (known old.cell.seat) (known new.cell.seat))
   pub same : IsSame old.cell.seat new.cell.seat

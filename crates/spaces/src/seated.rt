@@ -1,6 +1,6 @@
 //! A cell with its wire, for one thread of the caller's. The caller stores the cell's images, and a
 //! mark says that the image which it stored is that of the node which is saved.
-ghost use Rattle.std.specs.Prelude.{◌≡◌, IsTrue, false};
+ghost use Rattle.std.specs.Prelude.{◌≡◌, IsTrue, false, true};
 ghost use Rattle.std.specs.Arc.{arc_value};
 ghost use Rattle.model.specs.Steps.{is_own};
 ghost use Rattle.wire.specs.Readers.{IsSeatOf};
