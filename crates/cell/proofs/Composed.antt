@@ -101,12 +101,12 @@ InTurnIn w =
     → (e ≡ LinkSpent)
     ⊎ ((e ≡ OutOfOrder) × (got_from (node_at w.current to).local from + WINDOW < number))
 
-in-turn : (w : World) (log : List Step) → IsReached w → InTurnIn (run w log)
+pub in-turn : (w : World) (log : List Step) → IsReached w → InTurnIn (run w log)
 in-turn w log r =
     subst InTurnIn (onward w log r)
     (deliveries.refused-beyond r.shape r.limits (r.steps ++ log))
 
-received : (s : NodeState) (d : Data) (e : Refusal) → act s (event.Data d) ≡ Err e
+pub received : (s : NodeState) (d : Data) (e : Refusal) → act s (event.Data d) ≡ Err e
     → receive s d.from d.to d.number d.stamp d.body ≡ Err e
 unfolding act receive
 received s d e refused = refused

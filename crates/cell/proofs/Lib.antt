@@ -11,6 +11,7 @@ pub mod Refusing
 pub mod NewCells
 pub mod Sent
 pub mod Composed
+pub mod Dues
 pub mod Places
 pub mod OnShelves
 pub mod Causes

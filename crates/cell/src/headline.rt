@@ -7,6 +7,7 @@ ghost use Rattle.cell.specs.Laws.{
   BlankIsNew,
   IsReached,
   LeftIsOpened,
+  NextIsTakenIn,
   NoneRefusedInTurn,
   SweepsFreeNoneReachable,
 };
@@ -33,4 +34,7 @@ pub fn laws()
     // early that the node has no place for it, if a message that it makes the node send would need
     // a number above the greatest, or if memory runs out.
     ensures in_turn { NoneRefusedInTurn }
+    // No message that was kept until its turn is refused, unless a message that it makes the node
+    // send would need a number above the greatest, or memory runs out.
+    ensures next { NextIsTakenIn }
 {}

@@ -11,7 +11,9 @@ use Rattle.wire.specs.Views.{Role, dealer, node, Pair, Known, ticks, pair_at}
 use Rattle.wire.specs.Rule.{nodes_of, ended_of, AreEvents, NodeOk, SeatOk, Holds}
 use Rattle.wire.specs.Plays.{Happens, Enters, ticked}
 use Rattle.wire.proofs.Events.{count, width, net-push, ended-push, are-push, events-push_same, events-push_other, IsLocal, happens-local}
+use Rattle.wire.proofs.Boxes.{set-at}
 use Rattle.wire.proofs.Stays.{Standing, noted, node-of, none-more}
+use Rattle.wire.proofs.Supplying.{led}
 
 counted : (l r : ℕ) → r ≡ l % 2 ^ 64 → (r + 1) % 2 ^ 64 ≡ (l + 1) % 2 ^ 64
 counted l r is = omega arith
@@ -140,12 +142,16 @@ module _ {S : Type 0} (bytes : S → List ℕ) (opening : World) where
       (ticked e q (step slots (n * n) 1 0 none) me)
   at-count slots id me e q role event s h wide at small =
       let here : Standing bytes opening =
-      record { state = s; holds = h; id = id; view = me.0; at = at } in (
-        ticks e q me.0,
+      record { state = s; holds = h; id = id; view = me.0; at = at } in
+      let w : Known = ticks e q me.0 in
+      let kept = ticked-on here role e q event ((slice_index s.words (n * n) + 1) % 2 ^ 64) refl in
+      let after : Standing bytes opening =
+      record { state = _; holds = kept; id = id; view = w; at = set-at s.views id w me.0 at } in (
+        w,
         keeps,
         tt,
-        ticked-on here role e q event ((slice_index s.words (n * n) + 1) % 2 ^ 64) refl,
-        (refl, refl, enters here role e q event),
+        kept,
+        (refl, refl, enters here role e q event, (kept.log, led bytes opening after role)),
       )
 
   pub ticks_allowed : {slots c : ℕ} (id : ℕ) (me : Sat) (e : Step) (q : Pair) → c ≡ n * n

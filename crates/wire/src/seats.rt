@@ -2,7 +2,7 @@
 //! Such a mailbox can't be dropped, so none stays locked by mistake.
 ghost use Rattle.std.specs.Prelude.{◌≡◌, ◌+◌, ◌*◌, ◌≤◌, length, vec_capacity};
 ghost use Rattle.ids.specs.declared.limits.TheConstants.{GREATEST_NODES};
-ghost use Rattle.wire.specs.Plays.{WasEnded};
+ghost use Rattle.wire.specs.Plays.{IsSupplied, WasEnded};
 ghost use Rattle.wire.specs.Rule.{nodes_of};
 ghost use Rattle.wire.specs.Seated.{Sits, IsWatching};
 
@@ -48,6 +48,7 @@ pub struct NodeSeat {
     // It has room for all of them: one to each node, and one from each.
     pub(crate) held: Vec<usize>,
     ghost sits: { Sits (λ v. v.items) node nodes held.items seat.me },
+    ghost supplied: { IsSupplied seat.me.0 },
     ghost room: { 2 * nodes ≤ vec_capacity held },
 }
 
