@@ -12,6 +12,7 @@ use Rattle.wire.specs.Rule.{nodes_of, ended_of, AreEvents, NodeOk, SeatOk, Holds
 use Rattle.wire.specs.Plays.{Happens, Enters, ticked}
 use Rattle.wire.proofs.Events.{count, width, net-push, ended-push, are-push, events-push_same, events-push_other, IsLocal, happens-local}
 use Rattle.wire.proofs.Boxes.{set-at}
+use Rattle.wire.proofs.Lists.{continues-both}
 use Rattle.wire.proofs.Stays.{Standing, noted, node-of, none-more}
 use Rattle.wire.proofs.Supplying.{led}
 
@@ -113,6 +114,7 @@ module _ {S : Type 0} (bytes : S → List ℕ) (opening : World) where
               ap (λ (w : World). pair_at w i) now ∙ local.others i (apart role),
               events-push_other i h.log e (λ same. apart role (sym same ∙ local.node)),
             );
+            more = (e ∷ [], refl);
           };
           wide = length-set s.words (n * n) x;
           boxes = λ m below. get_or-set_other s.words (n * n) m x 0 (omega arith);
@@ -134,6 +136,8 @@ module _ {S : Type 0} (bytes : S → List ℕ) (opening : World) where
               (subst (λ (z : ℕ). NodeOk opening (h.log ++ e ∷ []) z h.mail id (ticks e q v))
               (sym board) mine);
           no_dealer = λ d. (let never : ◌≡◌ {A = Role} node dealer = sym role ∙ d in absurd cc);
+          seen = continues-both v.seen h.log (h.log ++ e ∷ []) (h.learned id v p.at)
+              (e ∷ [], refl);
         })
 
   at-count : (slots id : ℕ) (me : Sat) (e : Step) (q : Pair) → me.0.role ≡ node

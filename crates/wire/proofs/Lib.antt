@@ -6,6 +6,8 @@ pub mod InOrder
 pub mod Visits
 pub mod Stays
 pub mod Supplying
+pub mod Noted
+pub mod Between
 pub mod Moves
 pub mod MailSteps
 pub mod MailPlays

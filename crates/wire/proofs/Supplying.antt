@@ -1,6 +1,6 @@
 -- The list of events in the rule leads to what each node's seat knows. So some list still does after
 -- each step of the seat.
-use Rattle.std.proofs.Common.{◌≡◌, ℕ, List, [], Some, None, Option, refl, sym, ap, ◌∙◌, subst, slice_get}
+use Rattle.std.proofs.Common.{◌≡◌, ℕ, List, [], Some, None, Option, refl, sym, ap, ◌∙◌, subst}
 use Rattle.std.proofs.Math.Logic.{∥∥₁_map}
 use Rattle.msg.specs.Grammar.{Plain}
 use Rattle.model.specs.declared.step.Step.{Step}
@@ -24,7 +24,8 @@ led bytes opening p role =
     }
 
 pub still-supplied : {v : Known} {visits : List Visit} {filling : List ℕ}
-    {emptying : List (ℕ × Plain)} {sent : List Plain} {number shown : ℕ} → IsSupplied v
+    {emptying : List (ℕ × Plain)} {sent : List Plain} {number shown : ℕ} {seen : List Step}
+    → IsSupplied v
     → IsSupplied (record v {
       visits = visits;
       filling = filling;
@@ -32,6 +33,7 @@ pub still-supplied : {v : Known} {visits : List Visit} {filling : List ℕ}
       sent = sent;
       number = number;
       shown = shown;
+      seen = seen;
     })
 still-supplied h =
     ∥∥₁_map h (λ l. (

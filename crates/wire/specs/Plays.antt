@@ -11,9 +11,9 @@ use Rattle.model.specs.declared.step.Outcome.TheVariants as outcome
 use Rattle.model.specs.State.{NodeState, got_from, sent_to}
 use Rattle.model.specs.Steps.{act, receive, is_own}
 use Rattle.model.specs.World.{World, run, is_eventful, numbered, IsInNet}
-use Rattle.wire.specs.Views.{Pair, Known, pair_at, notes, claims, takes_in, posts, clears, ticks, raises, marks}
-use Rattle.wire.specs.Lists.{has, found}
-use Rattle.wire.specs.Rule.{AreEvents, events_of, ended_of, sender, receiver, Spells}
+use Rattle.wire.specs.Views.{Pair, Known, pair_at, notes, claims, takes_in, posts, clears, ticks, raises, marks, learns}
+use Rattle.wire.specs.Lists.{has, found, Continues}
+use Rattle.wire.specs.Rule.{IsOpening, AreEvents, events_of, ended_of, sender, receiver, Spells}
 
 -- ---- What a caller owes
 
@@ -96,6 +96,15 @@ HasLed v = (log : List model.Step) × LeadsTo v log
 abbrev pub IsSupplied : Known → Type 0
 IsSupplied v = ∥ HasLed v ∥₁
 
+-- The seat learned a list of events that leads to what it knows, and that begins with the list
+-- `seen`.
+pub record Learns (seen : List model.Step) (v w : Known) : Type 0 where
+  pub log : List model.Step
+  pub known : w ≡ learns log v
+  pub opens : IsOpening v.opening
+  pub leads : LeadsTo v log
+  pub continues : Continues seen log
+
 -- node 0's saved state had counted this cycle as ended
 abbrev pub HasEnded : World → ℕ → Type 0
 HasEnded opening number =
@@ -161,3 +170,6 @@ module _ {S : Type 0} where
   looked st m r m' =
       (m'.0 ≡ marks r m.0) × (m'.1 ≡ m.1) × (m.0.number ≤ r) × (r ≤ GREATEST_CYCLE)
       × HasEnded m.0.opening r
+
+  abbrev pub learned : Step S → Me S Known → ℕ → Me S Known → Type 0
+  learned st m r m' = Learns m.0.seen m.0 m'.0 × (m'.1 ≡ m.1)

@@ -1,6 +1,6 @@
 //! What threads hold of a wire: seats, watches, and mailboxes that they are filling or emptying.
 //! Such a mailbox can't be dropped, so none stays locked by mistake.
-ghost use Rattle.std.specs.Prelude.{◌≡◌, ◌+◌, ◌*◌, ◌≤◌, length, vec_capacity};
+ghost use Rattle.std.specs.Prelude.{◌≡◌, ◌+◌, ◌*◌, ◌≤◌, [], length, vec_capacity};
 ghost use Rattle.ids.specs.declared.limits.TheConstants.{GREATEST_NODES};
 ghost use Rattle.wire.specs.Plays.{IsSupplied, WasEnded};
 ghost use Rattle.wire.specs.Rule.{nodes_of};
@@ -93,6 +93,13 @@ pub struct Claim {
 pub struct Taken {
     pub(crate) from: u8,
     pub(crate) of: Snapshot<Seat<Vec<u8>, View>>,
+}
+
+/// A beginning of the history of a wire's events, which a seat had learned, for another seat to
+/// learn; see [`Wire::learn`]. It has no bytes, and can't be dropped.
+pub struct Note {
+    pub(crate) seat: Seat<Vec<u8>, View>,
+    ghost empty: { seat.me.1 ≡ [] },
 }
 
 /// A cycle that was raised on a wire's board, for a [`Watch`] to hear of. Node 0's saved state had
