@@ -94,10 +94,9 @@ waiting-due v n from d h supplied there =
     }
 
 -- nothing else is
-pub none-due : (v : Known) (p : LocalState) (e : Event) (from : ℕ) (d : Data)
-    → e ≡ event.Next from → e ≡ event.Data d → IsDue v p d
-none-due v p e from d next is =
-    let never : event.Next from ≡ event.Data d = sym next ∙ is in absurd cc
+pub none-due : (v : Known) (p : LocalState) (from : ℕ) (d : Data)
+    → event.Next from ≡ event.Data d → IsDue v p d
+none-due v p from d never = absurd cc
 
 -- any event except `Next` is the same to the core
 pub same-met : (es : Rings) (own : ℕ) (e : Event) → ((from : ℕ) → e ≡ event.Next from → ⊥)

@@ -5,5 +5,6 @@ pub mod Cells
 pub mod Sending
 pub mod Pumping
 pub mod Names
+pub mod Moments
 pub mod Laws
 pub mod Opened

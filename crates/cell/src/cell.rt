@@ -6,6 +6,7 @@ ghost use Rattle.disk.specs.Areas.{Areas};
 ghost use Rattle.cell.specs.Disks.{OpensTo, OpensToEither};
 
 mod acting;
+mod learning;
 mod pumping;
 mod saving;
 

@@ -128,7 +128,7 @@ none-long : (xs : List Step) → length xs ≡ 0 → xs ≡ []
 none-long [] long = refl
 none-long (x ∷ xs) long = absurd (omega (arith, long))
 
--- a list and a longer one with the same events of a node: there is none of the node between them
+-- a list and a longer one with the same events of a node: between them is no event of the node
 none-between : (i : ℕ) (first more last : List Step)
     → events_of i ((first ++ more) ++ last) ≡ events_of i first → events_of i more ≡ []
 none-between i first more last same =

@@ -17,13 +17,14 @@ returns-in_default c =
       step = same.1;
       may = own-may (known desk.seat) c.args.event desk.own
           (sym desk.at.own ∙ desk.seat.sits.me_is) c.requires.own;
-      due = λ from d. none-due (known desk.seat) desk.node.core.local c.args.event from d;
+      due = λ from d next is.
+          none-due (known desk.seat) desk.node.core.local from d (sym next ∙ is);
     }
 
 pub returns-in_default-waiting-clause-due : goal.returns-in_default-waiting-clause-due
-returns-in_default-waiting-clause-due c =
+returns-in_default-waiting-clause-due c = λ from d next is.
     let desk = c.args.self.now in
-    none-due (known desk.seat) desk.node.core.local c.args.event
+    none-due (known desk.seat) desk.node.core.local c.in-Next.from d is
 
 pub returns-clause-due : goal.returns-clause-due
 returns-clause-due c = λ from d next is.
