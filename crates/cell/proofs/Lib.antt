@@ -12,6 +12,7 @@ pub mod NewCells
 pub mod Sent
 pub mod Composed
 pub mod Dues
+pub mod Dropping
 pub mod Surveying
 pub mod Places
 pub mod OnShelves
