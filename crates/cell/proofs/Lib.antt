@@ -10,6 +10,8 @@ pub mod Opening
 pub mod Refusing
 pub mod NewCells
 pub mod Sent
+pub mod Alike
+pub mod AlikeRuns
 pub mod Composed
 pub mod Dues
 pub mod Dropping
@@ -20,3 +22,8 @@ pub mod Causes
 pub mod Ready
 pub mod Blank
 pub mod Left
+pub mod Reaches
+pub mod AlikeCuts
+pub mod Applied
+pub mod Composed
+pub mod OneAge

@@ -6,5 +6,8 @@ pub mod Sending
 pub mod Pumping
 pub mod Names
 pub mod Moments
+pub mod Reached
 pub mod Laws
+pub mod Ages
+pub mod Theorems
 pub mod Opened

@@ -102,13 +102,14 @@ fn open_files<R: Files<File = File>>(
     Ok((select, a, b))
 }
 
-/// Creates a folder, and those above it, if they are missing. Each is synced into the one above it.
+/// Creates a folder, and those above it, if they are missing, and makes their names survive a
+/// crash.
 fn make_folder<R: Files<File = File>>(rt: &R, alloc: Global, folder: Path<'_>) -> io::Result<()> {
     let mut absent = absent_folders(rt, alloc, folder)?;
     while let Some(path) = absent.pop() {
-        make_below(rt, path)?;
+        create(rt, path)?;
     }
-    Ok(())
+    sync_names(rt, folder)
 }
 
 /// The folder and those above it that are missing, the lowest first.
@@ -137,13 +138,25 @@ fn is_absent<R: Files<File = File>>(rt: &R, folder: Path<'_>) -> io::Result<bool
     Ok(!folder.as_str().is_empty() && !folder.try_exists(rt)?)
 }
 
-/// Creates a folder if it is missing, and syncs it into the one above it.
-fn make_below<R: Files<File = File>>(rt: &R, folder: Path<'_>) -> io::Result<()> {
-    create(rt, folder)?;
-    match folder.parent() {
-        Some(above) => sync_folder(rt, above),
-        None => Ok(()),
+/// Syncs the names of a folder and of those above it, also if they were there: whoever created them
+/// may have been killed before its sync. It stops below a folder that this process may not open,
+/// but the folder above the first one has to be synced.
+fn sync_names<R: Files<File = File>>(rt: &R, folder: Path<'_>) -> io::Result<()> {
+    let Some(mut above) = folder.parent() else {
+        return Ok(());
+    };
+    sync_folder(rt, above)?;
+    for _ in 0..folder.as_str().len() {
+        let Some(next) = above.parent() else {
+            break;
+        };
+        let Ok(opened) = open_to_sync(rt, next) else {
+            break;
+        };
+        opened.sync_all()?;
+        above = next;
     }
+    Ok(())
 }
 
 /// Creates a folder if it is missing.
@@ -191,12 +204,17 @@ fn lock(file: &File) -> io::Result<()> {
 
 /// Makes the names in a folder survive a crash.
 fn sync_folder<R: Files<File = File>>(rt: &R, folder: Path<'_>) -> io::Result<()> {
+    open_to_sync(rt, folder)?.sync_all()
+}
+
+/// Opens a folder; the empty path is the current one.
+fn open_to_sync<R: Files<File = File>>(rt: &R, folder: Path<'_>) -> io::Result<File> {
     let path = if folder.as_str().is_empty() {
         Path::new(".")
     } else {
         folder
     };
-    File::open(rt, path)?.sync_all()
+    File::open(rt, path)
 }
 
 /// Reads the three files whole into an empty disk. Their content counts as unsynced.

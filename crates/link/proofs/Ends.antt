@@ -1,17 +1,18 @@
 -- The view of `Links` after its ends were changed.
 use Rattle.std.proofs.Common.{◌≡◌, ℕ, zero, suc, ◌+◌, ◌<◌, ◌≤◌, Vec, Global, List, [], ◌∷◌, ◌++◌, length, map, take, drop, replicate, get_or, set, refl, sym, ap, ◌∙◌, subst, arith}
+use Rattle.std.specs.Prelude.{min, max}
 use Rattle.std.specs.Vec.{with_items}
 use Rattle.std.proofs.lemmas.List.{append-nil, length-map, map-set, get_or_read, take_all, drop_all, with_items_is}
 use Rattle.std.proofs.Math.ListN.{get_or-map}
 use Rattle.ids.specs.declared.limits.TheConstants.{GREATEST_NUMBER}
-use Rattle.model.specs.View.{Link, no_link, used, all_kept}
+use Rattle.model.specs.View.{Link, no_link, used, all_kept, kept_to}
 use Rattle.model.proofs.Lookups.{map-set_same}
 use Rattle.link.specs.declared.links.Ends.{Ends}
 use Rattle.link.specs.Receivers.{taken_next}
 use Rattle.link.specs.Senders.{IsLink}
-use Rattle.link.specs.Links.{LinksView, IsLinks, new_links, link_at, got_at, taken_next_from, kept_links}
-use Rattle.link.specs.Ends.{sender_of, taken_of, saved_of, view_of, new_ends, kept_ends}
-use Rattle.link.proofs.EveryLink.{links-set, links-taken}
+use Rattle.link.specs.Links.{LinksView, IsLinks, new_links, link_at, got_at, ack_at, taken_next_from, kept_links, kept_peer}
+use Rattle.link.specs.Ends.{sender_of, taken_of, saved_of, view_of, new_ends, kept_ends, kept_ends_to}
+use Rattle.link.proofs.EveryLink.{links-set, links-taken, links-kept_peer}
 
 -- `e` was read at the place `i` of the ends of links with the view `v`, and belongs to this node
 pub record IsRead (es : List Ends) (v : LinksView) (i node : ℕ) (e : Ends) : Type 0 where
@@ -51,6 +52,14 @@ taken_read {es = es} {v = v} {i = i} r =
     ∙ sym (get_or-map taken_of es i new_ends)
     ∙ ap (λ (w : LinksView). got_at w i) r.view
     ∙ ap (got_at v) r.place
+
+saved_read : {es : List Ends} {v : LinksView} {i node : ℕ} {e : Ends} →
+    IsRead es v i node e → e.receiver.saved ≡ ack_at v node
+saved_read {es = es} {v = v} {i = i} r =
+    ap saved_of (ends_read r)
+    ∙ sym (get_or-map saved_of es i new_ends)
+    ∙ ap (λ (w : LinksView). ack_at w i) r.view
+    ∙ ap (ack_at v) r.place
 
 -- a sender was written back
 sender_written : {es : List Ends} {v : LinksView} {i node : ℕ} {e : Ends} →
@@ -98,6 +107,31 @@ pub sound_taken : {es : List Ends} {v : LinksView} {i node : ℕ} {e : Ends} →
     IsLinks (view_of (set es i (record { sender = e.sender; receiver = taken_next e.receiver })))
 sound_taken {v = v} {node = node} r old room =
     subst IsLinks (sym (receiver_taken r)) (links-taken v node (subst IsLinks r.view old) room)
+
+-- one node's ends count as saved up to these numbers
+pub ends_kept_to : {es : List Ends} {v : LinksView} {i node : ℕ} {e : Ends} →
+    (sent received : ℕ) → IsRead es v i node e →
+    view_of (set es i (kept_ends_to sent received e)) ≡ kept_peer v node sent received
+ends_kept_to {es = es} {v = v} {i = i} {node = node} {e = e} sent received r =
+    let x : Ends = kept_ends_to sent received e in
+    let taken = map-set_same taken_of es i x new_ends (ap taken_of (ends_read r)) in
+    let now = λ (w : LinksView) (k : ℕ) (l : Link) (acked got : ℕ). record w {
+      links = set w.links k (kept_to sent l);
+      acks = set w.acks k (max acked (min received got));
+    } in
+    rw (map-set sender_of es i x, taken, map-set saved_of es i x)
+    (ap (λ (w : LinksView). now w i e.sender e.receiver.saved e.receiver.taken) r.view
+    ∙ ap (λ (k : ℕ). now v k e.sender e.receiver.saved e.receiver.taken) r.place
+    ∙ ap (λ (l : Link). now v node l e.receiver.saved e.receiver.taken) (sender_read r)
+    ∙ ap (λ (k : ℕ). now v node (link_at v node) k e.receiver.taken) (saved_read r)
+    ∙ ap (λ (k : ℕ). now v node (link_at v node) (ack_at v node) k) (taken_read r))
+
+pub sound_kept_to : {es : List Ends} {v : LinksView} {i node : ℕ} {e : Ends} →
+    (sent received : ℕ) → IsRead es v i node e → IsLinks (view_of es) →
+    IsLinks (view_of (set es i (kept_ends_to sent received e)))
+sound_kept_to {v = v} {node = node} sent received r old =
+    subst IsLinks (sym (ends_kept_to sent received r))
+    (links-kept_peer v node sent received (subst IsLinks r.view old))
 
 ends_kept : (es : List Ends) → view_of (map kept_ends es) ≡ kept_links (view_of es)
 ends_kept [] = refl

@@ -1,14 +1,16 @@
 -- Each change of the links of a node preserves what holds of all of them.
 use Rattle.std.proofs.Common.{◌≡◌, ℕ, zero, suc, List, [], ◌∷◌, refl, ap, ◌+◌, ◌<◌, ◌≤◌, ◌^◌, get_or, set, sym, ◌∙◌, subst, le_refl, arith}
+use Rattle.std.specs.Prelude.{min, max}
 use Rattle.std.proofs.lemmas.List.{length-set, length-map, length-replicate}
 use Rattle.std.proofs.Math.ListN.{get_or-map}
+use Rattle.std.proofs.Math.Nat.{max-le, min-le_right}
 use Rattle.ids.specs.declared.limits.TheConstants.{GREATEST_NUMBER}
 use Rattle.msg.specs.declared.body.Message.{Message}
-use Rattle.model.specs.View.{Link, no_link, used, append_to, retracted, all_kept}
+use Rattle.model.specs.View.{Link, no_link, used, append_to, retracted, all_kept, kept_to}
 use Rattle.model.proofs.Lookups.{at_set, at_set_if, get_or-replicate_any}
 use Rattle.link.specs.Senders.{IsLink}
-use Rattle.link.specs.Links.{LinksView, IsLinks, new_links, got_at, ack_at, appended_to, retracted_to, taken_next_from, kept_links}
-use Rattle.link.proofs.OneLink.{link-none, link-kept, retracted-appended}
+use Rattle.link.specs.Links.{LinksView, IsLinks, new_links, got_at, ack_at, appended_to, retracted_to, taken_next_from, kept_links, kept_peer}
+use Rattle.link.proofs.OneLink.{link-none, link-kept, link-kept_to, retracted-appended}
 
 pub links-new : (width : ℕ) → width < 2 ^ 8 → IsLinks (new_links width)
 links-new width few =
@@ -67,6 +69,25 @@ links-kept v old =
           (link-kept _ (old.links i));
       numbers = old.numbers;
       acks = λ i. le_refl _;
+    }
+
+pub links-kept_peer : (v : LinksView) (peer sent received : ℕ) → IsLinks v
+    → IsLinks (kept_peer v peer sent received)
+links-kept_peer v peer sent received old =
+    let l : Link = kept_to sent (get_or v.links peer no_link) in
+    let acked : ℕ = max (ack_at v peer) (min received (got_at v peer)) in
+    let within : acked ≤ got_at v peer = max-le (old.acks peer) (min-le_right received _) in
+    let same = length-set v.links peer l in
+    record {
+      width = omega (arith, same, old.width);
+      received = omega (arith, same, old.received);
+      acked = omega (arith, same, length-set v.acks peer acked, old.acked);
+      links = λ i. at_set IsLink v.links peer i l no_link
+          (link-kept_to _ sent (old.links peer)) (old.links i);
+      numbers = old.numbers;
+      acks = λ i. at_set_if (λ (k : ℕ). k ≤ got_at v i) v.acks peer i acked 0
+          (λ (here : peer ≡ i). subst (λ (j : ℕ). acked ≤ got_at v j) here within)
+          (old.acks i);
     }
 
 -- the message that was appended last is retracted

@@ -1,11 +1,12 @@
 -- Changes of one link.
 use Rattle.std.proofs.Common.{◌≡◌, ℕ, ◌+◌, ◌-◌, ◌<◌, ◌≤◌, List, [], ◌∷◌, ◌++◌, length, Ok, ap, ◌∙◌, arith, length-append, length-drop}
+use Rattle.std.specs.Prelude.{min, max}
 use Rattle.std.proofs.lemmas.Bool.{lt-ltb, cond-true}
 use Rattle.std.proofs.lemmas.Bool.Decides.{nat_tests}
 use Rattle.std.proofs.lemmas.List.{take_at}
-use Rattle.std.proofs.Math.Nat.{min-le_left, min-le_right}
+use Rattle.std.proofs.Math.Nat.{le-max_left, max-le, min-le_left, min-le_right}
 use Rattle.msg.specs.declared.body.Message.{Message}
-use Rattle.model.specs.View.{Link, no_link, used, appended, retracted, trimmed, all_kept}
+use Rattle.model.specs.View.{Link, no_link, used, appended, retracted, trimmed, all_kept, kept_to}
 use Rattle.link.specs.declared.receiver.Offer.TheVariants.{Next}
 use Rattle.link.specs.Receivers.{offered}
 use Rattle.link.specs.Senders.{IsLink}
@@ -35,6 +36,15 @@ link-none = record { base = omega arith; kept = omega arith; used = omega arith 
 
 pub link-kept : (l : Link) → IsLink l → IsLink (all_kept l)
 link-kept l h = record { base = omega (arith, h.base, h.kept); kept = omega arith; used = h.used }
+
+pub link-kept_to : (l : Link) (number : ℕ) → IsLink l → IsLink (kept_to number l)
+link-kept_to l number h =
+    let more : l.kept ≤ max l.kept (min number (used l)) = le-max_left _ _ in
+    record {
+      base = omega (arith, h.base, more);
+      kept = max-le h.kept (min-le_right number (used l));
+      used = h.used;
+    }
 
 -- a message that is the next one has the next number
 pub offered-next : (taken number : ℕ) → offered taken number ≡ Ok Next → number ≡ taken + 1

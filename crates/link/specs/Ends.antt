@@ -1,8 +1,8 @@
 -- How the ends in `Links` are seen as its view.
 use Rattle.std.specs.Prelude.{ℕ, List, map}
 use Rattle.link.specs.declared.links.Ends.{Ends}
-use Rattle.model.specs.View.{Link, no_link, all_kept}
-use Rattle.link.specs.Receivers.{new_received, all_saved}
+use Rattle.model.specs.View.{Link, no_link, all_kept, kept_to}
+use Rattle.link.specs.Receivers.{new_received, all_saved, saved_to}
 use Rattle.link.specs.Links.{LinksView}
 
 abbrev pub sender_of : Ends → Link
@@ -22,3 +22,7 @@ new_ends = record { sender = no_link; receiver = new_received }
 
 abbrev pub kept_ends : Ends → Ends
 kept_ends e = record { sender = all_kept e.sender; receiver = all_saved e.receiver }
+
+abbrev pub kept_ends_to : ℕ → ℕ → Ends → Ends
+kept_ends_to sent received e =
+    record { sender = kept_to sent e.sender; receiver = saved_to received e.receiver }

@@ -1,9 +1,9 @@
 -- The view of `Links` that contracts use.
-use Rattle.std.specs.Prelude.{◌≡◌, ℕ, zero, suc, ◌+◌, ◌<◌, ◌≤◌, ◌^◌, ◌==◌, Bool, cond, List, [], ◌∷◌, ◌++◌, length, map, replicate, slice_index_or, slice_set}
+use Rattle.std.specs.Prelude.{◌≡◌, ℕ, zero, suc, min, max, ◌+◌, ◌<◌, ◌≤◌, ◌^◌, ◌==◌, Bool, cond, List, [], ◌∷◌, ◌++◌, length, map, replicate, slice_index_or, slice_set}
 use Rattle.ids.specs.declared.limits.TheConstants.{GREATEST_NUMBER}
 use Rattle.msg.specs.declared.body.Message.{Message}
 use Rattle.model.specs.Steps.{fits}
-use Rattle.model.specs.View.{Link, no_link, used, append_to, retracted, trimmed, all_kept}
+use Rattle.model.specs.View.{Link, no_link, used, append_to, retracted, trimmed, all_kept, kept_to}
 use Rattle.link.specs.Senders.{IsLink}
 
 -- For each node: what is kept of the messages to it, the number of the last message received from
@@ -66,6 +66,13 @@ taken_next_from v from = record v { got = slice_set v.got from (got_at v from + 
 -- all messages count as saved, and everything received may be acknowledged
 abbrev pub kept_links : LinksView → LinksView
 kept_links v = record v { links = map all_kept v.links; acks = v.got }
+
+-- what was sent to a node and received from it counts as saved up to these numbers
+abbrev pub kept_peer : LinksView → ℕ → ℕ → ℕ → LinksView
+kept_peer v peer sent received = record v {
+  links = slice_set v.links peer (kept_to sent (link_at v peer));
+  acks = slice_set v.acks peer (max (ack_at v peer) (min received (got_at v peer)));
+}
 
 -- the three lists have the same length, and each link and each number is well-formed
 pub record IsLinks (v : LinksView) : Type 0 where

@@ -1,5 +1,5 @@
 -- The view of a `Receiver` that contracts use.
-use Rattle.std.specs.Prelude.{ℕ, ◌+◌, ◌≤◌, nat_le, cond, Result, Ok, Err}
+use Rattle.std.specs.Prelude.{ℕ, min, max, ◌+◌, ◌≤◌, nat_le, cond, Result, Ok, Err}
 use Rattle.ids.specs.declared.limits.TheConstants.{GREATEST_NUMBER, WINDOW}
 use Rattle.ids.specs.declared.refusal.Refusal.{Refusal}
 use Rattle.ids.specs.declared.refusal.Refusal.TheVariants.{OutOfOrder}
@@ -33,3 +33,7 @@ taken_next r = record r { taken = r.taken + 1 }
 
 abbrev pub all_saved : Received → Received
 all_saved r = record r { saved = r.taken }
+
+-- what was received up to this number counts as saved
+abbrev pub saved_to : ℕ → Received → Received
+saved_to number r = record r { saved = max r.saved (min number r.taken) }

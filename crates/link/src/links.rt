@@ -7,8 +7,8 @@ ghost use Rattle.model.specs.Steps.{fits};
 ghost use Rattle.model.specs.View.{used, append_to, message_of, released_at};
 ghost use Rattle.link.specs.Receivers.{offered};
 ghost use Rattle.msg.specs.declared.body.Message.{Message};
-ghost use Rattle.link.specs.Links.{LinksView, IsLinks, new_links, link_at, got_at, ack_at, fits_to, appended_to, for_other, fits_others, announced_below, announced, retracted_to, trimmed_to, taken_next_from, kept_links};
-ghost use Rattle.link.specs.Ends.{new_ends, kept_ends};
+ghost use Rattle.link.specs.Links.{LinksView, IsLinks, new_links, link_at, got_at, ack_at, fits_to, appended_to, for_other, fits_others, announced_below, announced, retracted_to, trimmed_to, taken_next_from, kept_links, kept_peer};
+ghost use Rattle.link.specs.Ends.{new_ends, kept_ends, kept_ends_to};
 ghost use Rattle.link.specs.Parts.{IsNumbered, ends_given};
 
 use crate::parts::LinkParts;
@@ -58,6 +58,13 @@ impl Ends {
     {
         self.sender.kept();
         self.receiver.kept();
+    }
+
+    fn kept_to(&mut self, sent: u64, received: u64)
+        ensures { self.new ≡ kept_ends_to sent received self.old }
+    {
+        self.sender.kept_to(sent);
+        self.receiver.kept_to(received);
     }
 }
 
@@ -329,5 +336,17 @@ impl Links {
         for ends in self.by_node.iter_mut() {
             ends.kept();
         }
+    }
+
+    /// Marks the messages to the node `peer` up to the number `sent`, and those received from it up
+    /// to the number `received`, as held by a saved state. To be called after a save of an earlier
+    /// state, with that state's numbers. A number above the last one counts as that one; one that
+    /// counts as saved already changes nothing. It allocates nothing.
+    pub fn kept_to(&mut self, peer: u8, sent: u64, received: u64)
+        requires { peer < length self.old.links }
+        ensures done { self.new ≡ kept_peer self.old peer sent received }
+        ensures sound { IsLinks self.new }
+    {
+        self.by_node[usize::from(peer)].kept_to(sent, received);
     }
 }

@@ -2,7 +2,7 @@
 //! suffice, since messages are received strictly in order.
 ghost use Rattle.std.specs.Prelude.{◌≡◌, ◌+◌, ◌<◌, ◌≤◌, ◌↔◌, IsSome, IfSome};
 ghost use Rattle.ids.specs.declared.limits.TheConstants.{GREATEST_NUMBER};
-ghost use Rattle.link.specs.Receivers.{IsReceived, new_received, offered, taken_next, all_saved};
+ghost use Rattle.link.specs.Receivers.{IsReceived, new_received, offered, taken_next, all_saved, saved_to};
 ghost use Rattle.link.specs.Parts.{received};
 
 use ids::{GREATEST_NUMBER, Refusal, WINDOW};
@@ -110,5 +110,13 @@ impl Receiver {
         ensures { self.new ≡ all_saved self.old }
     {
         self.saved = self.taken;
+    }
+
+    /// Marks what was received up to this number as held by a saved state. A number above the last
+    /// one received counts as that one; one below what is saved already changes nothing.
+    pub fn kept_to(&mut self, number: u64)
+        ensures { self.new ≡ saved_to number self.old }
+    {
+        self.saved = self.saved.max(number.min(self.taken));
     }
 }

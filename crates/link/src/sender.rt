@@ -3,7 +3,7 @@
 ghost use Rattle.std.specs.Prelude.{◌≡◌, ◌≢◌, ◌<◌, ◌≤◌, ◌+◌, ◌↔◌, length, IsSome, IfSome, IfOk, IfErr, OnOk, OnErr};
 ghost use Rattle.ids.specs.declared.limits.TheConstants.{GREATEST_NUMBER};
 ghost use Rattle.ids.specs.declared.refusal.Refusal.TheVariants.{AckBeyond, LinkSpent, Memory};
-ghost use Rattle.model.specs.View.{used, appended, retracted, trimmed, all_kept, message_of, released_at, no_link};
+ghost use Rattle.model.specs.View.{used, appended, retracted, trimmed, all_kept, kept_to, message_of, released_at, no_link};
 ghost use Rattle.link.specs.Senders.{IsLink};
 ghost use Rattle.link.specs.Parts.{sent};
 
@@ -148,6 +148,14 @@ impl Sender {
         ensures { self.new ≡ all_kept self.old }
     {
         self.kept = self.used();
+    }
+
+    /// Marks the messages up to this number as held by a saved state, which releases them. A number
+    /// above the last one counts as that one; one below what is released already changes nothing.
+    pub fn kept_to(&mut self, number: u64)
+        ensures { self.new ≡ kept_to number self.old }
+    {
+        self.kept = self.kept.max(number.min(self.used()));
     }
 
     /// The message with this number, released or not. `None` if none was appended under that

@@ -159,6 +159,21 @@ module _ (own cycle : ℕ) (links : List Link) (got : List ℕ) (old : AreTimely
               (old.stamps i k);
         }
 
+    -- the messages of one link are as before
+    pub timely-same : (peer : ℕ) (l : Link) → peer ≢ own
+        → l.unacknowledged ≡ (get_or links peer no_link).unacknowledged
+        → AreTimely own cycle (set links peer l) got
+    timely-same peer l other same = record {
+      unused = get_or-set_other links peer own l no_link (λ e. other (sym e)) ∙ old.unused;
+      unheard = old.unheard;
+      stamps = λ i k.
+          at_set (λ (z : Link). (get_or z.unacknowledged k no_message).stamp ≤ cycle) links
+          peer i l no_link
+          (subst (λ (xs : List Message). (get_or xs k no_message).stamp ≤ cycle) (sym same)
+          (old.stamps peer k))
+          (old.stamps i k);
+    }
+
     pub timely-kept : AreTimely own cycle (map all_kept links) got
     timely-kept = record {
       unused = get_or-map all_kept links own no_link ∙ ap all_kept old.unused;

@@ -1,6 +1,6 @@
 -- A node as the code keeps it, and the state that it shows. Of the messages that it sent, it keeps
 -- only those that aren't acknowledged.
-use Rattle.std.specs.Prelude.{◌≡◌, ◌≢◌, ℕ, min, ◌+◌, ◌-◌, ◌≤◌, Bool, cond, nat_lt, nat_le, not, ◌==◌, ◌&&◌, List, [], ◌∷◌, ◌++◌, length, map, take, drop, replicate, Option, Some, None, Result, Ok, Err, OnErr, slice_index_or, slice_get, slice_set}
+use Rattle.std.specs.Prelude.{◌≡◌, ◌≢◌, ℕ, min, max, ◌+◌, ◌-◌, ◌≤◌, Bool, cond, nat_lt, nat_le, not, ◌==◌, ◌&&◌, List, [], ◌∷◌, ◌++◌, length, map, take, drop, replicate, Option, Some, None, Result, Ok, Err, OnErr, slice_index_or, slice_get, slice_set}
 use Rattle.ids.specs.Limits.{Shaped}
 use Rattle.ids.specs.declared.limits.TheConstants.{WINDOW}
 use Rattle.ids.specs.declared.refusal.Refusal.{Refusal}
@@ -108,6 +108,10 @@ all_kept l = record l { kept = used l }
 abbrev pub kept_view : NodeView → NodeView
 kept_view n = record n { links = map all_kept n.links; acks = n.local.got }
 
+-- the messages up to this number count as saved
+abbrev pub kept_to : ℕ → Link → Link
+kept_to number l = record l { kept = max l.kept (min number (used l)) }
+
 -- a new node
 abbrev pub new_view : Shaped → ℕ → NodeView
 new_view shape own = record {
@@ -119,6 +123,17 @@ new_view shape own = record {
 -- another node of the shape
 abbrev pub is_other : LocalState → ℕ → Bool
 is_other p i = nat_lt i p.shape.nodes && not (i == p.own)
+
+-- What was sent to another node, and received from it, counts as saved up to these numbers.
+abbrev pub kept_with : ℕ → ℕ → ℕ → NodeView → NodeView
+kept_with peer sent received n =
+    cond (is_other n.local peer)
+    (record n {
+      links = slice_set n.links peer (kept_to sent (link_to n peer));
+      acks = slice_set n.acks peer
+          (max (slice_index_or n.acks peer 0) (min received (got_from n.local peer)));
+    })
+    n
 
 -- the message of this number, while the node still keeps it
 abbrev pub message_of : Link → ℕ → Option Message

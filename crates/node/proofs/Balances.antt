@@ -41,6 +41,17 @@ pub balance-kept : (r : Ring) (links : List Link) (got : List ℕ) →
 balance-kept r links got h =
     balance-same r links (map all_kept links) got (sum_by-same used all_kept links (λ l. refl)) h
 
+-- one link changes, but not how many messages were appended on it
+pub balance-set : (r : Ring) (links : List Link) (got : List ℕ) (to : ℕ) (l : Link) →
+    IsBalanced r links got → to < length links → used l ≡ used (get_or links to no_link) →
+    IsBalanced r (set links to l) got
+balance-set r links got to l h inside same =
+    let sums : sum_by used (set links to l) + used (get_or links to no_link)
+    ≡ sum_by used links + used l =
+    sum_by-set used links to l no_link inside in
+    let e : sum_by used (set links to l) ≡ sum_by used links = omega (arith, sums, same) in
+    balance-same r links (set links to l) got e h
+
 pub balance-trimmed : (r : Ring) (links : List Link) (got : List ℕ) (from number : ℕ) →
     IsBalanced r links got → from < length links →
     IsBalanced r (set links from (trimmed (get_or links from no_link) number)) got

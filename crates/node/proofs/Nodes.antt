@@ -12,20 +12,20 @@ use Rattle.control.specs.Phases.{IsPhases}
 use Rattle.model.specs.Counting.{balance_of, counted_up, stamped}
 use Rattle.model.specs.State.{Heap, Ring, new_phases}
 use Rattle.model.specs.Steps.{is_addressed}
-use Rattle.model.specs.View.{Link, NodeView, no_link, trimmed, all_kept, new_view}
+use Rattle.model.specs.View.{Link, NodeView, no_link, trimmed, all_kept, kept_to, new_view, is_other}
 use Rattle.model.specs.References.{HoldsOnly, IsWithin, IsSendable, no_message}
 use Rattle.model.specs.WellFormed.{IsOther, IsStocked, IsHeld}
 use Rattle.model.proofs.Lookups.{at_set, get_or-replicate_any}
-use Rattle.model.proofs.Asking.{asked-none, reports-new, timely-new, timely-trimmed, timely-kept}
+use Rattle.model.proofs.Asking.{asked-none, reports-new, timely-new, timely-trimmed, timely-same, timely-kept}
 use Rattle.model.proofs.Balances.{up-token}
 use Rattle.model.proofs.References.{holds-new_heap}
 use Rattle.model.proofs.Stocks.{stocked-new}
-use Rattle.link.specs.Links.{LinksView, IsLinks, appended_to, trimmed_to, kept_links, new_links}
+use Rattle.link.specs.Links.{LinksView, IsLinks, appended_to, trimmed_to, kept_links, kept_peer, new_links}
 use Rattle.safra.specs.Balances.{IsBounded}
 use Rattle.safra.proofs.Bounds.{bounded_new, bounded_up}
 use Rattle.node.specs.Invariant.{AreLinked, IsBalanced, IsNode, links_of, number_sum}
 use Rattle.node.proofs.Appended.{linked-appended, numbers-appended, one-may}
-use Rattle.node.proofs.Balances.{balance-kept, balance-trimmed}
+use Rattle.node.proofs.Balances.{balance-kept, balance-set, balance-trimmed}
 
 -- only the heap changed, and it has no fewer slots
 pub node-heap : (n : NodeView) (h : Heap) → IsNode n → HoldsOnly (IsWithin n.local.shape) h
@@ -115,6 +115,22 @@ module _ (n : NodeView) (old : IsNode n) where
         from number other;
   }
 
+  linked-kept_peer : (peer sent received : ℕ) → peer ≢ n.local.own
+      → IsLinks (kept_peer (links_of n) peer sent received)
+      → AreLinked n.local.shape n.local.own n.local.phases.cycle
+      (kept_peer (links_of n) peer sent received)
+  linked-kept_peer peer sent received other links =
+      let l : Link = kept_to sent (get_or n.links peer no_link) in
+      record {
+        width = length-set n.links peer l ∙ old.links.width;
+        links = links;
+        messages = λ i k.
+            at_set (λ (z : Link). IsSendable n.local.shape (get_or z.unacknowledged k no_message))
+            n.links peer i l no_link (old.links.messages peer k) (old.links.messages i k);
+        timely = timely-same n.local.own n.local.phases.cycle n.links n.local.got
+            old.links.timely peer l other refl;
+      }
+
   linked-kept : IsLinks (kept_links (links_of n))
       → AreLinked n.local.shape n.local.own n.local.phases.cycle (kept_links (links_of n))
   linked-kept links = record {
@@ -165,6 +181,16 @@ node-kept n old w =
     (linked-kept n old)
     (balance-kept n.local.ring n.links n.local.got old.balance)
 
+pub node-kept_with : (n : NodeView) (peer sent received : ℕ) {l : LinksView} → IsNode n
+    → IsOther n.local.shape n.local.own peer
+    → Rewires (kept_peer (links_of n) peer sent received) n.local.ring l n.local.ring
+    → IsNode (rewired n l n.local.ring)
+node-kept_with n peer sent received old there w =
+    let inside : peer < length n.links = omega (arith, there.0, old.links.width) in
+    node-rewired n (kept_peer (links_of n) peer sent received) n.local.ring old w refl
+    (linked-kept_peer n old peer sent received there.1)
+    (balance-set n.local.ring n.links n.local.got peer _ old.balance inside refl)
+
 phases-new : (nodes : ℕ) → IsPhases (new_phases nodes)
 phases-new nodes = record {
   swept = omega arith;
@@ -201,10 +227,14 @@ node-new shape own s within links = record {
   balance = bounded_new (number_sum (replicate shape.nodes no_link) (replicate shape.nodes 0));
 }
 
+pub other-from : (n : NodeView) (i : ℕ) → is_other n.local i ≡ true
+    → IsOther n.local.shape n.local.own i
+other-from n i h =
+    let parts = and_parts (nat_lt i n.local.shape.nodes) (not (i == n.local.own)) h in
+    (ltb-true _ _ parts.0, eqb-false i n.local.own (not-true (i == n.local.own) parts.1))
+
 -- a frame that is addressed to the node comes from another node of the shape
 pub addressed-from : (n : NodeView) (from to : ℕ) → is_addressed n.local from to ≡ true
     → IsOther n.local.shape n.local.own from
 addressed-from n from to h =
-    let parts = and_parts (nat_lt from n.local.shape.nodes) (not (from == n.local.own))
-    (and_parts (to == n.local.own) _ h).1 in
-    (ltb-true _ _ parts.0, eqb-false from n.local.own (not-true (from == n.local.own) parts.1))
+    other-from n from (and_parts (to == n.local.own) _ h).1

@@ -12,7 +12,7 @@ use Rattle.model.specs.declared.step.Step.{Step}
 use Rattle.model.specs.declared.step.Step.TheVariants as step
 use Rattle.model.specs.State.{LocalState, got_from}
 use Rattle.model.specs.Steps.{is_memory_free, is_shading}
-use Rattle.model.specs.View.{NodeView, Performed, new_view, kept_view, view_act}
+use Rattle.model.specs.View.{NodeView, Performed, new_view, kept_view, kept_with, view_act}
 use Rattle.link.specs.Early.{no_early, place_at, placed, shifted, emptied}
 
 -- for each node of the space the places of its next messages, each empty or with a frame
@@ -37,6 +37,11 @@ new_whole shape own = alone (new_view shape own)
 -- all messages count as saved
 abbrev pub kept_whole : WholeNode → WholeNode
 kept_whole n = record n { core = kept_view n.core }
+
+-- what was sent to a node and received from it counts as saved up to these numbers
+abbrev pub kept_whole_with : ℕ → ℕ → ℕ → WholeNode → WholeNode
+kept_whole_with peer sent received n =
+    record n { core = kept_with peer sent received n.core }
 
 abbrev pub ring_of : Rings → ℕ → List (Option Data)
 ring_of es from = slice_index_or es from no_early

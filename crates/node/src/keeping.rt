@@ -20,6 +20,7 @@ ghost use Rattle.node.specs.Keeping.{
   early_after,
   emptied_at,
   kept_whole,
+  kept_whole_with,
   met,
   new_whole,
   placed_at,
@@ -184,6 +185,14 @@ impl Node {
         ensures { self.new ≡ kept_whole self.old }
     {
         self.core.kept();
+    }
+
+    /// Marks as held by a saved state what was sent to the node `peer` and received from it, up to
+    /// these numbers; see [`Core::kept_to`].
+    pub fn kept_to(&mut self, peer: u8, sent: u64, received: u64)
+        ensures { self.new ≡ kept_whole_with peer sent received self.old }
+    {
+        self.core.kept_to(peer, sent, received);
     }
 
     /// The part of the node that is saved.

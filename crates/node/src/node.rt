@@ -3,7 +3,7 @@
 ghost use Rattle.std.specs.Prelude.{◌≡◌, ◌≢◌, ◌<◌, ◌≤◌, IsTrue, IfOk, IfErr};
 ghost use Rattle.ids.specs.declared.refusal.Refusal.TheVariants.{Memory, NoNode};
 ghost use Rattle.model.specs.Steps.{is_addressed, is_memory_free, is_shading};
-ghost use Rattle.model.specs.View.{is_other, Performed, view_act, new_view, kept_view};
+ghost use Rattle.model.specs.View.{is_other, Performed, view_act, new_view, kept_view, kept_with};
 
 mod asking;
 mod collecting;
@@ -153,6 +153,19 @@ impl Core {
         ensures { self.new ≡ kept_view self.old }
     {
         self.links.kept();
+    }
+
+    /// Marks as held by a saved state what was sent to the node `peer` up to the number `sent`, and
+    /// what was received from it up to the number `received`. Call it for each peer after the save
+    /// of an earlier state, with that state's numbers ([`Core::links`]). A number above the last
+    /// one counts as that one, and one that counts as saved already changes nothing. Nothing
+    /// changes either if `peer` is no other node of the space. It allocates nothing.
+    pub fn kept_to(&mut self, peer: u8, sent: u64, received: u64)
+        ensures { self.new ≡ kept_with peer sent received self.old }
+    {
+        if self.is_other(peer) {
+            self.links.kept_to(peer, sent, received);
+        }
     }
 
     /// The node in numbers. The contract also states what holds of every node and of its slots, and
