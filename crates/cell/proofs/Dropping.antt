@@ -1,5 +1,5 @@
 -- A node drops no more of its messages than frames acknowledge that its seat took.
-use Rattle.std.proofs.Common.{◌≡◌, ◌⊎◌, ◌+◌, ◌-◌, ◌<◌, ◌≤◌, ℕ, Bool, true, false, IfOk, IfErr, IsTrue, List, [], ◌∷◌, ◌++◌, append-nil, length, map, min, set, get_or, Option, None, Some, Result, Ok, Err, OnErr, slice_get, inl, inr, ⊎_elim, refl, sym, ap, ◌∙◌, subst, arith, le_refl, le_trans}
+use Rattle.std.proofs.Common.{◌≡◌, ◌⊎◌, ◌+◌, ◌-◌, ◌≤◌, ℕ, Bool, true, false, IfOk, IfErr, List, [], ◌∷◌, ◌++◌, append-nil, length, map, min, set, get_or, Option, None, Some, Result, Ok, Err, OnErr, slice_get, inl, inr, ⊎_elim, refl, sym, ap, ◌∙◌, subst, arith, le_refl, le_trans}
 use Rattle.std.proofs.Math.ListN.{get_or-map}
 use Rattle.std.proofs.Math.Logic.{∥∥₁_map}
 use Rattle.std.proofs.lemmas.Bool.{cases_Bool, cases_lt, cond_both}
@@ -16,7 +16,7 @@ use Rattle.model.specs.declared.event.Answer.{Answer}
 use Rattle.model.specs.declared.event.Event.{Event}
 use Rattle.model.specs.declared.event.Event.TheVariants as event
 use Rattle.model.specs.declared.step.Step.{Step}
-use Rattle.model.specs.Steps.{ack_of, is_own, is_shading}
+use Rattle.model.specs.Steps.{ack_of, is_own}
 use Rattle.model.specs.View.{Link, NodeView, Performs, all_kept, append_to, appended, base_of, kept_view, let_go, link_to, no_link, trimmed, view_act}
 use Rattle.model.proofs.Leaving.{act-leaves}
 use Rattle.model.proofs.Lookups.{at_set_if, map-set_same}

@@ -12,8 +12,10 @@ use Rattle.model.specs.World.{run}
 use Rattle.wire.specs.Plays.{Arrives}
 use Rattle.wire.specs.Views.{Known, Pair}
 use Rattle.cell.specs.Events.{IsDue}
-use Rattle.cell.specs.Laws.{IsReached, NextIsTakenIn}
+use Rattle.cell.specs.Laws.{NextIsTakenIn}
+use Rattle.cell.specs.Reached.{IsReached}
 use Rattle.cell.proofs.Composed.{in-turn, received}
+use Rattle.cell.proofs.Reaches.{stays-reached}
 
 due-taken : (v : Known) (p : LocalState) (d : Data) (e : Refusal) → IsReached v.opening
     → p ≡ v.pair.current.local → IsDue v p d → Arrives v (plain_data d)
@@ -29,7 +31,7 @@ due-taken v p d e reached shows due arrives refused =
     ⊎_elim
     (λ spent. spent)
     (λ beyond. absurd (omega (arith, got, beyond.1)))
-    (in-turn v.opening arrives.log reached d.from d.to d.number d.stamp d.body e arrives.net
+    (in-turn (run v.opening arrives.log) (stays-reached v.opening arrives.log reached) d.from d.to d.number d.stamp d.body e arrives.net
     (ap (λ (s : NodeState). receive s d.from d.to d.number d.stamp d.body) here ∙ refused))
 
 pub next-taken-in : NextIsTakenIn

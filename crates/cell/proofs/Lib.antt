@@ -12,7 +12,6 @@ pub mod NewCells
 pub mod Sent
 pub mod Alike
 pub mod AlikeRuns
-pub mod Composed
 pub mod Dues
 pub mod Dropping
 pub mod Surveying
@@ -27,3 +26,5 @@ pub mod AlikeCuts
 pub mod Applied
 pub mod Composed
 pub mod OneAge
+pub mod Together
+pub mod Closed

@@ -10,4 +10,5 @@ pub mod Reached
 pub mod Laws
 pub mod Ages
 pub mod Theorems
+pub mod Closing
 pub mod Opened

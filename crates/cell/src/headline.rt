@@ -2,6 +2,7 @@
 //! world in which their wire was made.
 ghost use Rattle.ids.specs.Limits.{IsShape, Shaped};
 ghost use Rattle.model.specs.World.{new_world, World};
+ghost use Rattle.cell.specs.Closing.{CellsAgree, CellsHaveNamed, ClosedIsLeft, ClosedIsReached};
 ghost use Rattle.cell.specs.Laws.{
   restarted,
   BlankIsNew,
@@ -22,6 +23,8 @@ ghost use Rattle.cell.specs.Theorems.{
   ReopenedIsReached,
   StaysReached,
 };
+
+use disk::Disk;
 
 /// The theorems about runs, stated for cells. Their premises are what [`act`](crate::Cell::act) and
 /// [`pump_in`](crate::Cell::pump_in) ensure, whatever other threads do in the meantime. They apply
@@ -89,4 +92,23 @@ pub fn laws()
     // If an opening of disks that a space left isn't refused because of ages, a run reaches the
     // world in which it begins.
     ensures reopened { ReopenedIsReached }
+{}
+
+/// The theorems about cells at one moment, as [`survey`](crate::survey) leaves them. They apply if a
+/// run reaches the world in which their wire was made.
+///
+/// The function does nothing; its contract states the theorems.
+pub fn laws_at_once<D: Disk>()
+    // If the node of one of the cells counts the marking of a cycle as ended, it has ended at the
+    // nodes of all of them.
+    ensures agreement { CellsAgree D.may_leave }
+    // If a register of the node of one of the cells refers to an object of another one's node, that
+    // node has the object.
+    ensures live { CellsHaveNamed D.may_leave }
+    // The nodes that are read from the disks of all cells of a space, which were open, are those
+    // that the space left in the world of that moment.
+    ensures left { ClosedIsLeft D.may_leave }
+    // A run reaches the world in which these nodes begin, and each of them still has what isn't
+    // acknowledged, if that held of the nodes with which the cells were made.
+    ensures closed { ClosedIsReached D.may_leave }
 {}

@@ -53,7 +53,7 @@ mod tracing;
 pub use cell::Cell;
 pub use fault::Unopened;
 pub use finding::find;
-pub use headline::laws;
+pub use headline::{laws, laws_at_once};
 pub use joining::{join, open};
 pub use moments::survey;
 pub use shared::{Naming, Shared, SharedOn, Unnamed};

@@ -36,7 +36,7 @@ pub fn survey<D: Disk>(wire: &Wire, cells: &mut [Cell<D>])
         learn_from(wire, cells, at, last);
         last = at;
     }
-    for at in 0..cells.len() {
-        learn_from(wire, cells, at, last);
+    for place in 0..cells.len() {
+        learn_from(wire, cells, place, last);
     }
 }

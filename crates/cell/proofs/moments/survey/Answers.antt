@@ -16,24 +16,25 @@ loop-at-preserved g c =
     first-next c.args.wire.now c.args.cells.now _ _ _ _ c.loop-at.invariant (omega arith)
     c.learn_from.ensures
 
-pub loop-at-2-init : goal.loop-at-2-init
-loop-at-2-init g c =
+pub loop-place-init : goal.loop-place-init
+loop-place-init g c =
     second-begins c.args.wire.now c.args.cells.now _ _ _ c.loop-at.invariant (omega arith)
 
-pub learn_from-requires-in-loop-at-2-clause-wire : goal.learn_from-requires-in-loop-at-2-clause-wire
-learn_from-requires-in-loop-at-2-clause-wire g c = c.loop-at-2.invariant.seats
+pub learn_from-requires-in-loop-place-clause-wire : goal.learn_from-requires-in-loop-place-clause-wire
+learn_from-requires-in-loop-place-clause-wire g c = c.loop-place.invariant.seats
 
-pub learn_from-requires-in-loop-at-2-clause-from : goal.learn_from-requires-in-loop-at-2-clause-from
-learn_from-requires-in-loop-at-2-clause-from g c = c.loop-at-2.invariant.inside (omega arith)
+pub learn_from-requires-in-loop-place-clause-from : goal.learn_from-requires-in-loop-place-clause-from
+learn_from-requires-in-loop-place-clause-from g c =
+    (let last = c.loop-place.invariant.inside (omega arith) in omega (arith, last))
 
-pub loop-at-2-preserved : goal.loop-at-2-preserved
-loop-at-2-preserved g c =
-    second-next c.args.wire.now c.args.cells.now _ _ _ _ c.loop-at-2.invariant (omega arith)
-    c.learn_from-in-loop-at-2.ensures
+pub loop-place-preserved : goal.loop-place-preserved
+loop-place-preserved g c =
+    second-next c.args.wire.now c.args.cells.now _ _ _ _ c.loop-place.invariant (omega arith)
+    c.learn_from-in-loop-place.ensures
 
 pub returns-clause-at_once : goal.returns-clause-at_once
 returns-clause-at_once g c =
-    second-ends c.args.wire.now c.args.cells.now _ _ _ c.loop-at-2.invariant (omega arith)
+    second-ends c.args.wire.now c.args.cells.now _ _ _ c.loop-place.invariant (omega arith)
 
 pub returns-clause-learned : goal.returns-clause-learned
-returns-clause-learned g c = c.loop-at-2.invariant.learned
+returns-clause-learned g c = c.loop-place.invariant.learned
