@@ -9,7 +9,7 @@ ghost use Rattle.cell.specs.Cells.{CellView, IsKept};
 ghost use Rattle.cell.specs.Closing.{AreOfOneMoment};
 ghost use Rattle.cell.specs.Moments.{EachCell, HaveLearned};
 ghost use Rattle.cell.specs.Names.{name_of, IsNamed, seat_name};
-ghost use Rattle.supervisor.specs.Closing.{AreBack, AreLast, IsBack, IsRow};
+ghost use Rattle.supervisor.specs.Closing.{IsBack, IsRow};
 
 use cell::{Cell, Naming, SharedOn, survey};
 use disk::Disk;
@@ -26,7 +26,7 @@ pub struct Closed<D: Disk> {
     pub disks: Vec<D>,
     // The wire of the space.
     pub(crate) of: Snapshot<Arc<Wire>>,
-    ghost once: { AreOfOneMoment D.may_leave (opened_with (arc_value of.value)) disks.items },
+    ghost once: { ∥ AreOfOneMoment D.may_leave (opened_with (arc_value of.value)) disks.items ∥₁ },
 }
 
 // The cells that threads shared, in order. Fails with `Closed` if something still uses one of them.
@@ -79,8 +79,27 @@ fn take_disks<D: Disk + Drop>(alloc: Global, mut cells: Vec<Cell<D>>) -> Result<
     Ok(disks)
 }
 
-/// The disks of a space whose cells no thread uses any more. Fails with `Closed` if a cell is closed,
-/// or if something still uses one; with `Memory` if an allocation fails. All disks are then dropped.
+// The disks of the cells of a wire, which no thread uses any more, at one moment.
+fn take_at_once<D: Disk + Drop, W: Naming>(
+    alloc: Global,
+    wire: &Wire,
+    shared: Vec<Arc<SharedOn<D, W>>>,
+) -> Result<Vec<D>, Refusal>
+    requires named { W.wire ≡ Some (name_of wire.now) }
+    requires count { vec_len shared ≡ nodes_of (opened_with wire.now) }
+    ensures { IfOk result (λ v. AreOfOneMoment D.may_leave (opened_with wire.now) v.items) }
+{
+    let mut cells = take_cells(alloc, shared)?;
+    if !are_last(cells.as_slice()) {
+        return Err(Refusal::Closed);
+    }
+    survey(wire, cells.as_mut_slice());
+    take_disks(alloc, cells)
+}
+
+/// The disks of a space whose cells no thread uses any more. Fails with `Closed` if a cell is
+/// closed, or if something still uses one; with `Memory` if an allocation fails. All disks are then
+/// dropped.
 pub(crate) fn close_cells<D: Disk + Drop, W: Naming>(
     alloc: Global,
     wire: &Arc<Wire>,
@@ -88,14 +107,11 @@ pub(crate) fn close_cells<D: Disk + Drop, W: Naming>(
 ) -> Result<Closed<D>, Refusal>
     requires named { W.wire ≡ Some (name_of (arc_value wire.now)) }
     requires count { vec_len shared ≡ nodes_of (opened_with (arc_value wire.now)) }
-    ensures { IfOk result (λ c. arc_value c.of.value ≡ arc_value wire.now) }
+    ensures wire { IfOk result (λ c. arc_value c.of.value ≡ arc_value wire.now) }
+    ensures once { IfOk result (λ c.
+        AreOfOneMoment D.may_leave (opened_with (arc_value wire.now)) c.disks.items) }
 {
-    let mut cells = take_cells(alloc, shared)?;
-    if !are_last(cells.as_slice()) {
-        return Err(Refusal::Closed);
-    }
-    survey(wire, cells.as_mut_slice());
-    let disks = take_disks(alloc, cells)?;
+    let disks = take_at_once(alloc, wire, shared)?;
     Ok(Closed {
         disks,
         of: Snapshot::of(wire),

@@ -7,7 +7,7 @@ mod closing;
 mod space;
 mod team;
 
-pub use settings::{Config, OpenFault};
 pub use closing::Closed;
+pub use settings::{Config, OpenFault};
 pub use space::{Opened, Space, SpaceOn};
 pub use team::{Plan, Team};

@@ -163,7 +163,7 @@ impl<D: Disk + Drop> SpaceOn<D, Unnamed> {
             → IfOk result (λ s. IsReached (opened_with (arc_value s.wire))) }
     {
         let opened = Opened::open(alloc, config, disks)?;
-        match opened.share() {
+        match opened.share::<Unnamed>() {
             Ok(space) => Ok(space),
             Err(refusal) => Err(OpenFault::Refused(refusal)),
         }
@@ -265,6 +265,8 @@ impl<D: Disk + Drop, W: Naming> SpaceOn<D, W> {
         ensures count { vec_len result.0 ≡ worker_count self.team }
         ensures sorted { IsNonDecreasingBy (λ r. r.node) result.0.items }
         ensures wire { IfOk result.1 (λ c. arc_value c.of.value ≡ arc_value self.wire) }
+        ensures once { IfOk result.1 (λ c. AreOfOneMoment D.may_leave
+            (opened_with (arc_value self.wire)) c.disks.items) }
     {
         let SpaceOn {
             alloc,
@@ -281,7 +283,7 @@ impl<D: Disk + Drop, W: Naming> SpaceOn<D, W> {
     }
 }
 
-impl<D: Disk + Send + Drop + 'static, W: Naming + 'static> SpaceOn<D, W> {
+impl<D: Disk + Send + Drop + 'static, W: Naming + Send + 'static> SpaceOn<D, W> {
     /// Starts a worker for each node. The workers ask the gate at each point of their turns. A
     /// space is started once.
     ///
