@@ -107,7 +107,7 @@ InTurnIn w =
     → (e ≡ LinkSpent)
     ⊎ ((e ≡ OutOfOrder) × (got_from (node_at w.current to).local from + WINDOW < number))
 
-in-turn : (w : World) → IsReached w → InTurnIn w
+pub in-turn : (w : World) → IsReached w → InTurnIn w
 in-turn w reached from to number stamp body e there refused =
     let end : World = end_of reached in
     let x : Message = record { stamp = stamp; body = body } in
@@ -121,7 +121,7 @@ in-turn w reached from to number stamp body e there refused =
     (deliveries.refused-beyond reached.shape reached.limits reached.steps from to number y.stamp
     y.body e found.1 (other-refusal (acknowledged end to) _ _ e like refused))
 
-received : (s : NodeState) (d : Data) (e : Refusal) → act s (event.Data d) ≡ Err e
+pub received : (s : NodeState) (d : Data) (e : Refusal) → act s (event.Data d) ≡ Err e
     → receive s d.from d.to d.number d.stamp d.body ≡ Err e
 unfolding act receive
 received s d e refused = refused

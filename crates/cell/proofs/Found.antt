@@ -63,7 +63,7 @@ found-happens true v = (refl, refl)
 found-happens false v = (refl, refl)
 
 -- nodes with equal images, each of which was read from an image, are the same
-same-nodes : (m n : NodeView) → is_same_image m n ≡ true → HasImage m → ∥ HasImage n ∥₁ → m ≡ n
+pub same-nodes : (m n : NodeView) → is_same_image m n ≡ true → HasImage m → ∥ HasImage n ∥₁ → m ≡ n
 same-nodes m n same first second =
     let bytes : image_of m ≡ image_of n = (bytes_eq-Decides (image_of m) (image_of n)).0 same in
     ∥∥₁_elim second (hlevel props) (λ read. image_of_same m n first read bytes)

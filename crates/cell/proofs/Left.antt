@@ -108,13 +108,23 @@ left-is : (shape : Shaped) (k width : ℕ) (s : NodeState) (c : Areas) (n : Node
 left-is shape k width s c n left found =
     ∥∥₁_elim left.opens (hlevel props) (λ opens. same-found n left.node c found opens)
 
+-- the node that is read is the one that was left
+left-found : (shape : Shaped) (k width : ℕ) (s : NodeState) (c : Areas) (whole : WholeNode)
+    → IsLeft k width s c → IsReadFrom shape k c whole → OpensTo whole.core c
+left-found shape k width s c whole left read =
+    core-found whole c (read.held (λ empty. ∥∥₁_elim left.opens (hlevel props)
+    (λ opens. not-blank left.node c opens empty)))
+
+pub left-node : (shape : Shaped) (k width : ℕ) (s : NodeState) (c : Areas) (whole : WholeNode)
+    (left : IsLeft k width s c) → IsReadFrom shape k c whole → whole.core ≡ left.node
+left-node shape k width s c whole left read =
+    left-is shape k width s c whole.core left (left-found shape k width s c whole left read)
+
 pub left-stands : (shape : Shaped) (k width : ℕ) (s : NodeState) (c : Areas) (whole : WholeNode)
     → IsLeft k width s c → IsReadFrom shape k c whole → IsSavedAs whole.core s
 left-stands shape k width s c whole left read =
     let n : NodeView = whole.core in
-    let found : OpensTo n c =
-    core-found whole c (read.held (λ empty. ∥∥₁_elim left.opens (hlevel props)
-    (λ opens. not-blank left.node c opens empty))) in
+    let found : OpensTo n c = left-found shape k width s c whole left read in
     let is = left-is shape k width s c n left found in
     let stands = stands-read k width s n
     (ap (λ (m : NodeView). m.local.own) is ∙ left.saved.own)

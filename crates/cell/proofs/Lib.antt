@@ -12,6 +12,9 @@ pub mod NewCells
 pub mod Sent
 pub mod Alike
 pub mod AlikeRuns
+pub mod Dues
+pub mod Dropping
+pub mod Surveying
 pub mod Places
 pub mod OnShelves
 pub mod Causes
@@ -23,3 +26,5 @@ pub mod AlikeCuts
 pub mod Applied
 pub mod Composed
 pub mod OneAge
+pub mod Together
+pub mod Closed

@@ -1,5 +1,5 @@
 -- Which node a cell's disk opens to.
-use Rattle.std.proofs.Common.{◌≡◌, Bool, IsTrue, true, false, ◌≤◌, List, ℕ, Option, Some, refl, sym, ap, ◌∙◌, subst, inl, inr, ⊎_elim}
+use Rattle.std.proofs.Common.{◌≡◌, Bool, IsTrue, true, false, ◌≤◌, List, ℕ, Option, Some, refl, sym, ap, ◌∙◌, subst, subst₂, inl, inr, ⊎_elim}
 use Rattle.std.proofs.Math.Logic.{∥∥₁_elim, ∥∥₁_map}
 use Rattle.std.proofs.Props.{props}
 use Rattle.std.proofs.lemmas.Slice.Eq.{bytes_eq-Decides}
@@ -90,6 +90,21 @@ pub stays-open : {ready : Bool} (was saved n : NodeView) (seen : Areas) (may_lea
 stays-open was saved n seen may_leave same only opens =
     let still = open-stays was saved seen same opens in
     (λ _. still, ((λ x may. settled-left saved n seen x (only x may) still), tt))
+
+-- what a cell guarantees, open or closed, if node and disk stay the same
+pub stays-left : {ready : Bool} {was saved m n : NodeView} (seen : Areas) (may_leave : Areas → Type 0)
+    → saved ≡ was → n ≡ m → (IsTrue ready → ∥ OpensTo was seen ∥₁)
+    → ((x : Areas) → may_leave x → ∥ OpensToEither was m x ∥₁)
+    → (IsTrue ready → ∥ OpensTo saved seen ∥₁)
+    × (((x : Areas) → may_leave x → ∥ OpensToEither saved n x ∥₁) × Unit {0})
+stays-left seen may_leave same still opens left = (
+  λ ready. subst (λ (v : NodeView). ∥ OpensTo v seen ∥₁) (sym same) (opens ready),
+  (
+    λ x may. subst₂ (λ (v w : NodeView). ∥ OpensToEither v w x ∥₁) (sym same) (sym still)
+        (left x may),
+    tt,
+  ),
+)
 
 -- what a cell guarantees whose disk in memory was given a plan of failures
 pub told-to-fail : (ready was : Bool) (saved n : NodeView) (old new : State) → new ≡ old

@@ -40,8 +40,13 @@ module _ (D : RattleType) (g : disk.Ghosts D.Denot) where
       let inside = Inside.the_type D g in
       view_send _ _ _ _ _
       (recorded_send (Struct (shape inside)) inside.D inside.to inside.to_one
-      (struct_send (shape inside)
-      (search sendable, (desk-send, (Shelf.the_field_send D g s, (Trace.the_send, tt))))))
+      (struct_send (shape inside) (
+        search sendable,
+        (
+          desk-send,
+          (Shelf.the_field_send D g s, (Trace.the_send, (search (crosses, sendable), tt))),
+        ),
+      )))
 
   module _ (W : RattleType) (w : naming.Ghosts W.Denot) where
     held-send : IsSend D → IsSend (Held.the_row D W g w)

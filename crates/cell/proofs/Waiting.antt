@@ -1,23 +1,26 @@
 -- A message that waits for its turn: its frame was taken, and which event it is.
-use Rattle.std.proofs.Common.{◌≡◌, ℕ, zero, suc, ◌<◌, true, List, [], ◌∷◌, ◌++◌, length, Option, Some, None, is_some, Result, refl, sym, ◌∙◌, subst, arith}
-use Rattle.std.proofs.Math.Logic.{∥∥₁_map}
+use Rattle.std.proofs.Common.{◌≡◌, ℕ, zero, suc, ◌+◌, ◌<◌, ap, true, List, [], ◌∷◌, ◌++◌, length, Option, Some, None, is_some, Result, refl, sym, ◌∙◌, subst, arith}
+use Rattle.std.proofs.Math.Logic.{∥∥₁_elim, ∥∥₁_map}
+use Rattle.std.proofs.Props.{props}
 use Rattle.ids.specs.declared.limits.TheConstants.{WINDOW}
 use Rattle.ids.specs.declared.refusal.Refusal.{Refusal}
+use Rattle.msg.specs.Frames.{plain_data}
 use Rattle.msg.specs.Grammar.{Plain}
 use Rattle.msg.specs.declared.frame.Data.{Data}
 use Rattle.model.specs.declared.event.Event.{Event}
 use Rattle.model.specs.declared.event.Event.TheVariants as event
 use Rattle.model.specs.declared.event.Answer.{Answer}
 use Rattle.model.specs.declared.step.Step.TheVariants as step
-use Rattle.model.specs.State.{LocalState}
+use Rattle.model.specs.State.{LocalState, got_from}
 use Rattle.model.specs.Steps.{is_own}
 use Rattle.model.proofs.Lookups.{get_or-replicate_any}
 use Rattle.laws.proofs.Lookups.{slice_get-append}
 use Rattle.node.specs.Keeping.{AreKeptIn, Rings, WholeNode, early_after, met, no_rings, own_step, waiting}
 use Rattle.node.proofs.Kept.{after-all, of-none}
+use Rattle.wire.specs.Plays.{IsSupplied}
 use Rattle.wire.specs.Views.{Known}
 use Rattle.cell.specs.Desks.{AreTaken, IsTaken}
-use Rattle.cell.specs.Events.{MayAct}
+use Rattle.cell.specs.Events.{IsDue, MayAct}
 use Rattle.cell.proofs.Quiet.{data-may}
 
 -- ---- What is kept was taken
@@ -68,6 +71,32 @@ waiting-may v n from d h there =
     subst (λ (i : ℕ). MayAct v (event.Data d) (step.Deliver i v.me d.number)) at.sender
     (data-may v d (h.taken.each from 0 d there) (at.receiver ∙ h.own)
     (subst (λ (i : ℕ). i < v.nodes) (sym at.sender) inside))
+
+-- the waiting message is due
+pub waiting-due : (v : Known) (n : WholeNode) (from : ℕ) (d : Data) → SitsAt v n → IsSupplied v
+    → waiting n.early from ≡ Some d → IsDue v n.core.local d
+waiting-due v n from d h supplied there =
+    let at = h.kept.named from 0 d there in
+    record {
+      arrives = ∥∥₁_elim (h.taken.each from 0 d there) (hlevel props) (λ taken.
+          ∥∥₁_map supplied (λ l. record {
+            log = l.0;
+            events = l.1.events;
+            net = l.1.net taken.0 (plain_data d) taken.1;
+            pair = l.1.pair;
+            own = l.1.own;
+          }));
+      receiver = at.receiver ∙ h.own;
+      turn = at.number
+          ∙ ap (λ (k : ℕ). got_from n.core.local k + 1 + 0) (sym at.sender)
+          ∙ (let z : got_from n.core.local d.from + 1 + 0 ≡ got_from n.core.local d.from + 1 =
+          omega arith in z);
+    }
+
+-- nothing else is
+pub none-due : (v : Known) (p : LocalState) (from : ℕ) (d : Data)
+    → event.Next from ≡ event.Data d → IsDue v p d
+none-due v p from d never = absurd cc
 
 -- any event except `Next` is the same to the core
 pub same-met : (es : Rings) (own : ℕ) (e : Event) → ((from : ℕ) → e ≡ event.Next from → ⊥)

@@ -8,7 +8,7 @@ use Rattle.trace.specs.declared.trace.Line.{Line}
 use Rattle.disk.specs.Areas.{Areas}
 use Rattle.wire.specs.Readers.{known, seat_node, IsSame}
 use Rattle.wire.specs.declared.seats.NodeSeat.{NodeSeat}
-use Rattle.cell.specs.Desks.{AreTaken, IsSavedNode, IsUnsaved, StandsAt}
+use Rattle.cell.specs.Desks.{HasDropped, AreTaken, IsSavedNode, IsUnsaved, StandsAt}
 use Rattle.cell.specs.Disks.{HoldsSaved, OpensToEither}
 use Rattle.cell.specs.Events.{IsMarked}
 
@@ -17,6 +17,8 @@ pub record CellView (D : Type 0) : Type 0 where
   pub node : WholeNode
   -- the last saved node
   pub saved : NodeView
+  -- the node with which the cell was made
+  pub first : NodeView
   pub seat : NodeSeat
   -- for each node: the place, in the window to it, of the frame that is sent next
   pub places : List ℕ
@@ -32,6 +34,7 @@ abbrev pub new_cell : {D : Type 0} → WholeNode → NodeSeat → D → CellView
 new_cell node seat disk = record {
   node = node;
   saved = node.core;
+  first = node.core;
   seat = seat;
   places = replicate GREATEST_NODES 0;
   unsaved = false;
@@ -46,7 +49,7 @@ IsNew c = c ≡ new_cell c.node c.seat c.disk
 -- What each cell guarantees between two calls. The node shows the current state that its seat's
 -- events lead to, and the last saved node shows the saved state. While the cell is open, the disk
 -- opens to the last saved node, even after a crash. In any case it opens to that node or to the
--- current one.
+-- current one. Since the cell was made, neither node dropped a message that no frame acknowledges.
 pub record IsKept {D : Type 0} (may_leave : D → Areas → Type 0) (c : CellView D) : Type 0 where
   pub stands : StandsAt (seat_node c.seat) c.seat.nodes (known c.seat).pair c.node.core
   pub was : IsSavedNode (seat_node c.seat) c.seat.nodes (known c.seat).pair.saved c.saved
@@ -54,6 +57,8 @@ pub record IsKept {D : Type 0} (may_leave : D → Areas → Type 0) (c : CellVie
   pub taken : AreTaken (known c.seat).taken c.node.early
   pub while_open : IsTrue c.is_open → HoldsSaved (may_leave c.disk) c.saved
   pub left : (x : Areas) → may_leave c.disk x → ∥ OpensToEither c.saved c.node.core x ∥₁
+  pub dropped : HasDropped c.first (known c.seat) c.node.core
+  pub saved_dropped : HasDropped c.first (known c.seat) c.saved
 
 -- What a call that gives the node an event or a frame leaves unchanged. The seat is the same, and
 -- the mark says whether an event happened. The saved node, the disk and the places in the windows

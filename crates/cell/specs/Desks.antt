@@ -1,13 +1,13 @@
 -- What holds of a node and its seat between two calls.
-use Rattle.std.specs.Prelude.{◌≡◌, ℕ, Bool, false, List, Some, length, slice_get, take}
+use Rattle.std.specs.Prelude.{◌≡◌, ◌⊎◌, ◌≤◌, ℕ, Bool, false, List, Some, length, slice_get, take}
 use Rattle.msg.specs.Frames.{plain_data}
-use Rattle.msg.specs.Grammar.{Plain}
+use Rattle.msg.specs.Grammar.{Plain, ack_frame}
 use Rattle.msg.specs.declared.frame.Data.{Data}
 use Rattle.model.specs.State.{NodeState, sent_to}
 use Rattle.model.specs.View.{NodeView, Shows, link_to}
 use Rattle.image.specs.Nodes.{HasImage}
 use Rattle.node.specs.Keeping.{OfAll, Rings}
-use Rattle.wire.specs.Views.{Pair}
+use Rattle.wire.specs.Views.{Known, Pair}
 use Rattle.wire.specs.Readers.{known, seat_node}
 use Rattle.wire.specs.declared.seats.NodeSeat.{NodeSeat}
 
@@ -49,6 +49,17 @@ IsTaken taken d = ∥ ((k : ℕ) × (slice_get taken k ≡ Some (plain_data d)))
 -- each message that a node keeps is one whose frame its seat took
 pub record AreTaken (taken : List Plain) (es : Rings) : Type 0 where
   pub each : OfAll (λ from d. IsTaken taken d) es
+
+-- The node dropped no more messages to node `to` than the first number, or than a frame acknowledges
+-- that its seat took.
+abbrev pub IsDropped : ℕ → Known → ℕ → ℕ → Type 0
+IsDropped first v to base =
+    ∥ ((base ≤ first) ⊎ ((k : ℕ) × (number : ℕ)
+    × (slice_get v.taken k ≡ Some (ack_frame to v.me number)) × (base ≤ number))) ∥₁
+
+-- The same for each other node; the first numbers are those of the node as its cell was made.
+pub record HasDropped (first : NodeView) (v : Known) (n : NodeView) : Type 0 where
+  pub each : (to : ℕ) → IsDropped (link_to first to).base v to (link_to n to).base
 
 -- the node is in the state that its own seat knows, with everything saved
 pub record IsAtSeat (n : NodeView) (s : NodeSeat) : Type 0 where

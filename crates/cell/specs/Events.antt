@@ -1,8 +1,10 @@
 -- What a call does to a node, and to what its seat knows.
-use Rattle.std.specs.Prelude.{◌≡◌, ◌≢◌, ℕ, Bool, true, false, cond, Result, Ok, Err, IfOk, OnErr}
+use Rattle.std.specs.Prelude.{◌≡◌, ◌≢◌, ℕ, ◌+◌, Bool, true, false, cond, Result, Ok, Err, IfOk, OnErr}
 use Rattle.ids.specs.declared.refusal.Refusal.{Refusal}
+use Rattle.msg.specs.Frames.{plain_data}
 use Rattle.msg.specs.Grammar.{Plain}
 use Rattle.msg.specs.declared.frame.Ack.{Ack}
+use Rattle.msg.specs.declared.frame.Data.{Data}
 use Rattle.msg.specs.declared.frame.Frame.{Frame}
 use Rattle.msg.specs.declared.frame.Frame.TheVariants as frame
 use Rattle.model.specs.declared.event.Event.{Event}
@@ -12,13 +14,13 @@ use Rattle.model.specs.declared.event.Answer.TheVariants as answer
 use Rattle.model.specs.declared.step.Step.{Step}
 use Rattle.model.specs.declared.step.Step.TheVariants as step
 use Rattle.model.specs.declared.step.Outcome.TheVariants as outcome
-use Rattle.model.specs.State.{NodeState}
+use Rattle.model.specs.State.{LocalState, NodeState, got_from}
 use Rattle.model.specs.Steps.{act, is_shading}
 use Rattle.model.specs.View.{NodeView, Follows, Performs, view_act}
 use Rattle.model.specs.World.{is_eventful}
 use Rattle.node.specs.Keeping.{WholeNode, early_after}
 use Rattle.wire.specs.Views.{Known, Pair, ticks, clears, takes_in}
-use Rattle.wire.specs.Plays.{Enters, Happens, IsEventful}
+use Rattle.wire.specs.Plays.{Arrives, Enters, Happens, IsEventful}
 use Rattle.trace.specs.declared.call.Outcome as trace
 use Rattle.trace.specs.declared.call.Outcome.TheVariants as traced
 
@@ -68,6 +70,13 @@ pub record Acted (e : Event) (s : Step) (result : Result Answer Refusal) (old ne
   pub known : w ≡ known_after e s result v
   pub entered : IfOk result (λ a. is_counted a ≡ true → Entered s v w)
 
+-- The message is the next one from its sender. Some list of events leads to what the seat knows and
+-- has released the message, so it may be delivered to the seat's node.
+pub record IsDue (v : Known) (p : LocalState) (d : Data) : Type 0 where
+  pub arrives : ∥ Arrives v (plain_data d) ∥₁
+  pub receiver : d.to ≡ v.me
+  pub turn : d.number ≡ got_from p d.from + 1
+
 -- The same for a node with the messages that it keeps until their turn; `met` is what the event was
 -- to its core. `Next` of a waiting message receives that message, or refuses it.
 pub record Given (e met : Event) (s : Step) (result : Result Answer Refusal) (old new : WholeNode)
@@ -75,6 +84,8 @@ pub record Given (e met : Event) (s : Step) (result : Result Answer Refusal) (ol
   pub acted : Acted met s result old.core new.core v w
   pub early : new.early ≡ early_after old.core.local old.early e result
   pub turn : met ≢ e → IfOk result (λ a. a ≡ answer.Received)
+  pub due : (from : ℕ) (d : Data) → e ≡ event.Next from → met ≡ event.Data d
+      → IsDue v old.core.local d
 
 -- the same for an acknowledgement, which is not an event
 pub record Acknowledged (a : Ack) (result : Result Answer Refusal) (old new : WholeNode)

@@ -107,3 +107,11 @@ NoneRefusedInTurn =
     (d : Data) (e : Refusal) (old : WholeNode) (v : Known) → IsReached v.opening
     → Shows old.core v.pair.current → HasRefused d e old v → e ≢ Memory
     → (e ≡ LinkSpent) ⊎ ((e ≡ OutOfOrder) × (got_from old.core.local d.from + WINDOW < d.number))
+
+-- A cell refuses a message that it kept until its turn in two cases only: a message that it makes
+-- the node send would need a number above the greatest, or memory runs out.
+abbrev pub NextIsTakenIn : Type 0
+NextIsTakenIn =
+    (from : ℕ) (d : Data) (s : Step) (e : Refusal) (old new : WholeNode) (v w : Known)
+    → IsReached v.opening → Shows old.core v.pair.current
+    → Given (event.Next from) (event.Data d) s (Err e) old new v w → e ≢ Memory → e ≡ LinkSpent

@@ -5,8 +5,10 @@ pub mod Cells
 pub mod Sending
 pub mod Pumping
 pub mod Names
+pub mod Moments
 pub mod Reached
 pub mod Laws
 pub mod Ages
 pub mod Theorems
+pub mod Closing
 pub mod Opened

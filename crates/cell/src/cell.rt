@@ -3,16 +3,21 @@
 //! saved node.
 ghost use Rattle.std.specs.Prelude.{◌≡◌, IsTrue};
 ghost use Rattle.disk.specs.Areas.{Areas};
+ghost use Rattle.wire.specs.Readers.{known};
+ghost use Rattle.cell.specs.Desks.{HasDropped};
 ghost use Rattle.cell.specs.Disks.{OpensTo, OpensToEither};
 
 mod acting;
+mod learning;
 mod pumping;
 mod saving;
 
 use crate::desk::Desk;
 use disk::{Disk, Shelf};
+use node::Core;
 use std::alloc::Global;
 use std::marker::Model;
+use std::snapshot::Snapshot;
 use trace::Trace;
 
 /// A node at its seat on a wire, the shelf that it is saved on, and a trace of its last calls.
@@ -36,6 +41,10 @@ pub struct Cell<D: Disk> {
     desk: Desk,
     shelf: Shelf<D>,
     trace: Trace,
+    // The node with which the cell was made.
+    first: Snapshot<Core>,
+    ghost dropped: { HasDropped first.value (known desk.seat) desk.node.core },
+    ghost saved_dropped: { HasDropped first.value (known desk.seat) desk.saved.value },
     ghost while_open: { IsTrue shelf.ready → ∥ OpensTo desk.saved.value (D.seen shelf.disk) ∥₁ },
     ghost left: { (c : Areas) → D.may_leave shelf.disk c
         → ∥ OpensToEither desk.saved.value desk.node.core c ∥₁ },
@@ -49,6 +58,7 @@ impl<D: Disk + Drop> Drop for Cell<D> {
             desk: _,
             shelf: _,
             trace: _,
+            first: _,
         } = self;
     }
 }
@@ -61,6 +71,7 @@ impl<D: Disk> Model for Cell<D> {
     ghost view = { λ c. record {
       node = c.desk.node;
       saved = c.desk.saved.value;
+      first = c.first.value;
       seat = c.desk.seat;
       places = c.desk.places;
       unsaved = c.desk.is_unsaved;

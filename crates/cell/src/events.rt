@@ -1,6 +1,6 @@
 //! Events of the node at a desk. An event that counts enters the history in the same call. What
 //! changes nothing, such as a repeat or the reading of a word, doesn't enter it.
-ghost use Rattle.std.specs.Prelude.{◌≡◌, ◌≢◌, true, IfErr, IsTrue};
+ghost use Rattle.std.specs.Prelude.{◌≡◌, ◌≢◌, ℕ, true, IfErr, IsTrue};
 ghost use Rattle.ids.specs.declared.refusal.Refusal.TheVariants.{Memory};
 ghost use Rattle.model.specs.Steps.{is_memory_free, is_own};
 ghost use Rattle.model.specs.declared.event.Event.TheVariants as events;
@@ -8,7 +8,7 @@ ghost use Rattle.msg.specs.declared.frame.Data.{Data};
 ghost use Rattle.node.specs.Keeping.{met, own_step};
 ghost use Rattle.wire.specs.Readers.{known, IsSeatOf, IsSame};
 ghost use Rattle.cell.specs.Desks.{IsTaken};
-ghost use Rattle.cell.specs.Events.{is_counted, unsaved_after, Acknowledged, Given, MayAct};
+ghost use Rattle.cell.specs.Events.{is_counted, unsaved_after, Acknowledged, Given, IsDue, MayAct};
 
 use crate::desk::Desk;
 use crate::entering::enter;
@@ -47,6 +47,8 @@ impl Desk {
         ensures event { result.0 ≡ met self.now.node.early event }
         ensures step { result.1 ≡ own_step self.now.node.early self.now.own event }
         ensures may { MayAct (known self.now.seat) result.0 result.1 }
+        ensures due { (from : ℕ) (d : Data) → event ≡ events.Next from → result.0 ≡ events.Data d
+            → IsDue (known self.now.seat) self.now.node.core.local d }
     {
         let own = Step::Act(self.own, event);
         let Event::Next { from } = event else {
@@ -95,6 +97,8 @@ impl Desk {
         requires taken { (d : Data) → event ≡ events.Data d
             → IsTaken (known self.old.seat).taken d }
         requires may { MayAct (known self.old.seat) meant.now step }
+        requires due { (from : ℕ) (d : Data) → event ≡ events.Next from
+            → meant.now ≡ events.Data d → IsDue (known self.old.seat) self.old.node.core.local d }
         ensures given { Given event meant.now step result
             self.old.node self.new.node (known self.old.seat) (known self.new.seat) }
         ensures memory_free { IsTrue (is_memory_free self.old.node.core.local meant.now)

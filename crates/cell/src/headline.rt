@@ -2,10 +2,12 @@
 //! world in which their wire was made.
 ghost use Rattle.ids.specs.Limits.{IsShape, Shaped};
 ghost use Rattle.model.specs.World.{new_world, World};
+ghost use Rattle.cell.specs.Closing.{CellsAgree, CellsHaveNamed, ClosedIsLeft, ClosedIsReached};
 ghost use Rattle.cell.specs.Laws.{
   restarted,
   BlankIsNew,
   LeftIsOpened,
+  NextIsTakenIn,
   NoneRefusedInTurn,
   SweepsFreeNoneReachable,
 };
@@ -21,6 +23,8 @@ ghost use Rattle.cell.specs.Theorems.{
   ReopenedIsReached,
   StaysReached,
 };
+
+use disk::Disk;
 
 /// The theorems about runs, stated for cells. Their premises are what [`act`](crate::Cell::act) and
 /// [`pump_in`](crate::Cell::pump_in) ensure, whatever other threads do in the meantime. They apply
@@ -52,6 +56,9 @@ pub fn laws()
     // early that the node has no place for it, if a message that it makes the node send would need
     // a number above the greatest, or if memory runs out.
     ensures in_turn { NoneRefusedInTurn }
+    // No message that was kept until its turn is refused, unless a message that it makes the node
+    // send would need a number above the greatest, or memory runs out.
+    ensures next { NextIsTakenIn }
     // On disks that are blank, or on which a first opening that was cut off has left new nodes,
     // cells begin in a world that a run reaches.
     ensures fresh { FreshIsReached }
@@ -85,4 +92,23 @@ pub fn laws()
     // If an opening of disks that a space left isn't refused because of ages, a run reaches the
     // world in which it begins.
     ensures reopened { ReopenedIsReached }
+{}
+
+/// The theorems about cells at one moment, as [`survey`](crate::survey) leaves them. They apply if a
+/// run reaches the world in which their wire was made.
+///
+/// The function does nothing; its contract states the theorems.
+pub fn laws_at_once<D: Disk>()
+    // If the node of one of the cells counts the marking of a cycle as ended, it has ended at the
+    // nodes of all of them.
+    ensures agreement { CellsAgree D.may_leave }
+    // If a register of the node of one of the cells refers to an object of another one's node, that
+    // node has the object.
+    ensures live { CellsHaveNamed D.may_leave }
+    // The nodes that are read from the disks of all cells of a space, which were open, are those
+    // that the space left in the world of that moment.
+    ensures left { ClosedIsLeft D.may_leave }
+    // A run reaches the world in which these nodes begin, and each of them still has what isn't
+    // acknowledged, if that held of the nodes with which the cells were made.
+    ensures closed { ClosedIsReached D.may_leave }
 {}

@@ -3,9 +3,12 @@
 ghost use Rattle.std.specs.Prelude.{◌≡◌, ◌≢◌, true, All, IfErr, IfOk, IsErrOf, length, map, vec_len};
 ghost use Rattle.ids.specs.declared.refusal.Refusal.TheVariants.{Memory};
 ghost use Rattle.model.specs.World.{World};
-ghost use Rattle.wire.specs.Readers.{AreOpened, IsMade};
+ghost use Rattle.wire.specs.Readers.{AreOpened, IsMade, opened_with};
+ghost use Rattle.wire.specs.Rule.{nodes_of};
 ghost use Rattle.cell.specs.Ages.{AreApart, AreOfOneAge, AreRead, IfAges};
 ghost use Rattle.cell.specs.Cells.{IsNew};
+ghost use Rattle.cell.specs.Closing.{AreOfOneMoment};
+ghost use Rattle.cell.specs.Reached.{IsReached};
 ghost use Rattle.cell.specs.Disks.{OpensToNode};
 ghost use Rattle.cell.specs.Opened.{
   cores,
@@ -111,6 +114,9 @@ pub fn open<D: Disk + Drop>(
     ensures count { IfOk result (λ r. vec_len r.1 ≡ shape.nodes) }
     ensures all { IfOk result (λ r. length r.1.items ≡ length disks.items) }
     ensures one_age { IfOk result (λ r. AreOfOneAge (map (λ c. c.node) r.1.items)) }
+    ensures closed { (opening : World) → IsReached opening → nodes_of opening ≡ shape.nodes
+        → AreOfOneMoment D.may_leave opening disks.items
+        → IfOk result (λ r. IsReached (opened_with r.0)) }
     ensures new { IfOk result (λ r. All IsNew r.1.items) }
     ensures made { IfOk result (λ r. IsMade
         (world_of (cores (map (λ c. c.node) r.1.items))) watches r.0

@@ -4,7 +4,8 @@ ghost use Rattle.std.specs.Prelude.{◌≡◌, ◌≢◌, ◌⊎◌, true, IfErr
 ghost use Rattle.std.specs.Arc.{arc_value};
 ghost use Rattle.ids.specs.declared.refusal.Refusal.TheVariants as refusal;
 ghost use Rattle.model.specs.Steps.{is_own};
-ghost use Rattle.wire.specs.Readers.{IsSeatOf};
+ghost use Rattle.wire.specs.Readers.{known, IsSeatOf};
+ghost use Rattle.wire.specs.Rule.{nodes_of};
 ghost use Rattle.cell.specs.Names.{name_of, raised_on, seat_name, IsNamed};
 
 use crate::cell::Cell;
@@ -137,6 +138,20 @@ impl<D: Disk, W: Naming> SharedOn<D, W> {
                 name: PhantomData,
             }),
         }
+    }
+
+    /// Gives the cell back, as the last call left it. If a wire is named, the seat is one of it.
+    pub fn into_cell(self) -> Cell<D>
+        ensures name { IsNamed W.wire (seat_name result.seat) }
+        ensures width { result.seat.nodes ≡ nodes_of (known result.seat).opening }
+    {
+        let SharedOn { held } = self;
+        let Held {
+            cell,
+            wire: _,
+            name: _,
+        } = held.into_inner();
+        cell
     }
 
     /// Gives the node an event of its own; see [`Cell::act`].

@@ -131,6 +131,19 @@ impl<D: Disk> Shelf<D> {
         self.ready
     }
 
+    /// The disk, as the shelf leaves it.
+    pub fn into_disk(self) -> D
+        ensures { result ≡ self.disk }
+    {
+        let Shelf {
+            alloc: _,
+            disk,
+            in_b: _,
+            ready: _,
+        } = self;
+        disk
+    }
+
     /// Saves the first value on a disk on which nothing was ever created; see [`is_blank`].
     ///
     /// A crash during the call leaves an empty selector or the value; after `Ok` it leaves the

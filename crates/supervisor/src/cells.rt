@@ -3,14 +3,19 @@
 ghost use Rattle.std.specs.Prelude.{◌≡◌, ◌≢◌, IfErr, IfOk, IsErrOf, map, vec_len};
 ghost use Rattle.std.specs.Arc.{arc_value};
 ghost use Rattle.ids.specs.declared.refusal.Refusal.TheVariants.{Memory};
-ghost use Rattle.wire.specs.Readers.{IsSeatOf};
+ghost use Rattle.model.specs.World.{World};
+ghost use Rattle.wire.specs.Readers.{IsSeatOf, opened_with};
+ghost use Rattle.wire.specs.Rule.{nodes_of};
 ghost use Rattle.cell.specs.Ages.{AreApart, AreOfOneAge, AreRead};
+ghost use Rattle.cell.specs.Closing.{AreOfOneMoment};
+ghost use Rattle.cell.specs.Names.{name_of, IsNamed};
+ghost use Rattle.cell.specs.Reached.{IsReached};
 ghost use Rattle.cell.specs.Opened.{HasPlace, HoldsAnother, IsCause};
 ghost use Rattle.settings.specs.declared.fault.OpenFault.TheVariants as fault;
 ghost use Rattle.supervisor.specs.Opened.{AreSeats, AreWatches, IfAges, IfRefused};
 ghost use Rattle.supervisor.specs.declared.cells.TheConstants.{WATCHES};
 
-use cell::{Cell, Shared, Unopened};
+use cell::{Cell, Naming, SharedOn, Unopened};
 use disk::Disk;
 use ids::{Refusal, Shape};
 use settings::OpenFault;
@@ -22,15 +27,16 @@ use wire::{Watch, Wire};
 pub const WATCHES: u8 = 16;
 
 // A cell with its wire, as threads share it.
-fn share<D: Disk + Drop>(
+fn share<D: Disk + Drop, W: Naming>(
     alloc: Global,
     wire: &Arc<Wire>,
     cell: Cell<D>,
-) -> Result<Arc<Shared<D>>, Refusal>
-    requires { IsSeatOf (arc_value wire.now) cell.seat }
+) -> Result<Arc<SharedOn<D, W>>, Refusal>
+    requires seat { IsSeatOf (arc_value wire.now) cell.seat }
+    requires name { IsNamed W.wire (name_of (arc_value wire.now)) }
     ensures { IfErr result (λ e. e ≡ Memory) }
 {
-    let shared = Shared::new(cell, same_wire(wire)?);
+    let shared = SharedOn::new(cell, same_wire(wire)?);
     Ok(Arc::new(alloc, shared)?)
 }
 
@@ -46,12 +52,13 @@ fn same_wire(wire: &Arc<Wire>) -> Result<Arc<Wire>, Refusal>
 }
 
 // The cells of a wire, in order, as threads share them.
-fn share_all<D: Disk + Drop>(
+fn share_all<D: Disk + Drop, W: Naming>(
     alloc: Global,
     wire: &Arc<Wire>,
     mut cells: Vec<Cell<D>>,
-) -> Result<Vec<Arc<Shared<D>>>, Refusal>
-    requires { AreSeats (arc_value wire.now) (map (λ c. c.seat) cells.items) }
+) -> Result<Vec<Arc<SharedOn<D, W>>>, Refusal>
+    requires name { IsNamed W.wire (name_of (arc_value wire.now)) }
+    requires seats { AreSeats (arc_value wire.now) (map (λ c. c.seat) cells.items) }
     ensures count { IfOk result (λ v. vec_len v ≡ vec_len cells) }
     ensures refused { IfErr result (λ e. e ≡ Memory) }
 {
@@ -64,7 +71,7 @@ fn share_all<D: Disk + Drop>(
 }
 
 // The cells of a space on these disks, the wire between them, and the wire's watches.
-fn open_alone<D: Disk + Drop>(
+pub(crate) fn open_alone<D: Disk + Drop>(
     alloc: Global,
     shape: Shape,
     disks: Vec<D>,
@@ -81,6 +88,10 @@ fn open_alone<D: Disk + Drop>(
     ensures seats { IfOk result (λ r. AreSeats r.0 (map (λ c. c.seat) r.1.items)) }
     ensures watches { IfOk result (λ r. AreWatches r.0 r.2.items) }
     ensures watch_count { IfOk result (λ r. vec_len r.2 ≡ WATCHES) }
+    ensures width { IfOk result (λ r. nodes_of (opened_with r.0) ≡ shape.nodes) }
+    ensures closed { (opening : World) → IsReached opening → nodes_of opening ≡ shape.nodes
+        → AreOfOneMoment D.may_leave opening disks.items
+        → IfOk result (λ r. IsReached (opened_with r.0)) }
 {
     match cell::open(alloc, shape, disks, WATCHES) {
         Ok(opened) => Ok(opened),
@@ -90,39 +101,14 @@ fn open_alone<D: Disk + Drop>(
     }
 }
 
-/// The wire of a space on these disks, its cells in order, as threads share them, and the wire's
-/// watches. Fails as [`cell::open`] does; all disks are then dropped.
-pub(crate) fn open_cells<D: Disk + Drop>(
-    alloc: Global,
-    shape: Shape,
-    disks: Vec<D>,
-) -> Result<(Arc<Wire>, Vec<Arc<Shared<D>>>, Vec<Watch>), OpenFault>
-    ensures disks { vec_len disks ≢ shape.nodes → IsErrOf result fault.Disks }
-    ensures other { IsErrOf result fault.Disks → vec_len disks ≡ shape.nodes →
-        HasPlace (λ k d. HoldsAnother shape k (D.seen d)) disks.items }
-    ensures cause { IfErr result (IfRefused (λ r.
-        HasPlace (λ k d. IsCause D.seen D.moment D.faults shape k d r) disks.items)) }
-    ensures ages { IfErr result (IfAges (λ sender receiver.
-        AreRead D.seen shape disks.items (λ ns. AreApart ns sender receiver))) }
-    ensures one_age { IfOk result (λ _. AreRead D.seen shape disks.items AreOfOneAge) }
-    ensures count { IfOk result (λ r. vec_len r.1 ≡ shape.nodes) }
-    ensures watches { IfOk result (λ r. AreWatches (arc_value r.0) r.2.items) }
-    ensures watch_count { IfOk result (λ r. vec_len r.2 ≡ WATCHES) }
-{
-    let (wire, cells, watches) = open_alone(alloc, shape, disks)?;
-    match share_on(alloc, wire, cells) {
-        Ok((wire, cells)) => Ok((wire, cells, watches)),
-        Err(refusal) => Err(OpenFault::Refused(refusal)),
-    }
-}
-
 // The same wire and cells, as threads share them.
-fn share_on<D: Disk + Drop>(
+pub(crate) fn share_on<D: Disk + Drop, W: Naming>(
     alloc: Global,
     wire: Wire,
     cells: Vec<Cell<D>>,
-) -> Result<(Arc<Wire>, Vec<Arc<Shared<D>>>), Refusal>
-    requires { AreSeats wire (map (λ c. c.seat) cells.items) }
+) -> Result<(Arc<Wire>, Vec<Arc<SharedOn<D, W>>>), Refusal>
+    requires name { IsNamed W.wire (name_of wire) }
+    requires seats { AreSeats wire (map (λ c. c.seat) cells.items) }
     ensures wire { IfOk result (λ r. arc_value r.0 ≡ wire) }
     ensures count { IfOk result (λ r. vec_len r.1 ≡ vec_len cells) }
     ensures refused { IfErr result (λ e. e ≡ Memory) }

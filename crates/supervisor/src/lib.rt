@@ -3,9 +3,11 @@
 #![tactic(auto)]
 
 mod cells;
+mod closing;
 mod space;
 mod team;
 
+pub use closing::Closed;
 pub use settings::{Config, OpenFault};
-pub use space::Space;
+pub use space::{Opened, Space, SpaceOn};
 pub use team::{Plan, Team};

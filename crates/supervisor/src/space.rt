@@ -7,16 +7,23 @@ ghost use Rattle.std.specs.Arc.{arc_value};
 ghost use Rattle.std.specs.List.Sorted.{IsNonDecreasingBy};
 ghost use Rattle.ids.specs.declared.refusal.Refusal.TheVariants as refusal;
 ghost use Rattle.wire.specs.Plays.{HasEnded, WasEnded};
-ghost use Rattle.wire.specs.Readers.{heard, loaded, watch_opening, IsSameWatch, IsWatchOf};
+ghost use Rattle.model.specs.World.{World};
+ghost use Rattle.wire.specs.Readers.{heard, loaded, opened_with, watch_opening, IsSameWatch};
+ghost use Rattle.wire.specs.Readers.{IsWatchOf};
+ghost use Rattle.wire.specs.Rule.{nodes_of};
 ghost use Rattle.cell.specs.Ages.{AreApart, AreOfOneAge, AreRead};
+ghost use Rattle.cell.specs.Closing.{AreOfOneMoment};
+ghost use Rattle.cell.specs.Names.{name_of, IsNamed};
 ghost use Rattle.cell.specs.Opened.{HasPlace, HoldsAnother, IsCause};
+ghost use Rattle.cell.specs.Reached.{IsReached};
 ghost use Rattle.settings.specs.declared.fault.OpenFault.TheVariants as fault;
-ghost use Rattle.supervisor.specs.Opened.{worker_count, AreWatches, IfAges, IfRefused};
+ghost use Rattle.supervisor.specs.Opened.{worker_count, AreSeats, AreWatches, IfAges, IfRefused};
 ghost use Rattle.supervisor.specs.declared.cells.TheConstants.{WATCHES};
 
-use crate::cells::open_cells;
+use crate::cells::{open_alone, share_on};
+use crate::closing::{Closed, close_cells};
 use crate::team::{Plan, Team};
-use cell::Shared;
+use cell::{Cell, Naming, SharedOn, Unnamed};
 use disk::Disk;
 use ids::{Cycle, Refusal};
 use model::{Answer, Event};
@@ -27,24 +34,109 @@ use std::thread::Threads;
 use wire::{Watch, Wire};
 use workers::{Gate, Report};
 
-/// A space whose nodes are on disks, and its workers once they are started. When it is dropped, it
-/// asks the workers to stop; [`Space::close`] also waits until they have ended.
+/// A space on its disks, before threads share its cells.
+///
+/// [`share`](Opened::share) gives it to its threads. A caller that names the wire in proofs can close
+/// the space with [`SpaceOn::close_at_once`].
 #[derive(Drop)]
-pub struct Space<D: Disk> {
+pub struct Opened<D: Disk> {
+    alloc: Global,
+    plan: Plan,
+    wire: Wire,
+    cells: Vec<Cell<D>>,
+    watches: Vec<Watch>,
+    ghost each: { vec_len cells ≡ plan.nodes },
+    ghost wide: { nodes_of (opened_with wire) ≡ plan.nodes },
+    ghost seats: { AreSeats wire (map (λ c. c.seat) cells.items) },
+    ghost of: { AreWatches wire watches.items },
+}
+
+impl<D: Disk + Drop> Opened<D> {
+    /// Opens a space of this configuration on these disks, as [`Space::open`] does, and fails as it
+    /// does.
+    pub fn open(alloc: Global, config: &Config, disks: Vec<D>) -> Result<Opened<D>, OpenFault>
+        ensures disks { vec_len disks ≢ config.now.shape.nodes → IsErrOf result fault.Disks }
+        ensures other { IsErrOf result fault.Disks → vec_len disks ≡ config.now.shape.nodes →
+            HasPlace (λ k d. HoldsAnother config.now.shape k (D.seen d)) disks.items }
+        ensures cause { IfErr result (IfRefused (λ r. HasPlace
+            (λ k d. IsCause D.seen D.moment D.faults config.now.shape k d r) disks.items)) }
+        ensures ages { IfErr result (IfAges (λ sender receiver. AreRead D.seen config.now.shape
+            disks.items (λ ns. AreApart ns sender receiver))) }
+        ensures one_age { IfOk result (λ _.
+            AreRead D.seen config.now.shape disks.items AreOfOneAge) }
+        ensures nodes { IfOk result (λ s. s.plan.nodes ≡ config.now.shape.nodes) }
+        ensures turns { IfOk result (λ s. s.plan.turns ≡ config.now.turns) }
+        ensures watches { IfOk result (λ s. vec_len s.watches ≡ WATCHES) }
+        ensures closed { (opening : World) → IsReached opening
+            → nodes_of opening ≡ config.now.shape.nodes
+            → AreOfOneMoment D.may_leave opening disks.items
+            → IfOk result (λ s. IsReached (opened_with s.wire)) }
+    {
+        let shape = config.shape;
+        let (wire, cells, watches) = open_alone(alloc, shape, disks)?;
+        Ok(Opened {
+            alloc,
+            plan: Plan {
+                nodes: shape.nodes(),
+                turns: config.turns,
+            },
+            wire,
+            cells,
+            watches,
+        })
+    }
+
+    /// Lets threads share the cells. Fails with `Memory` if allocation failed.
+    pub fn share<W: Naming>(self) -> Result<SpaceOn<D, W>, Refusal>
+        requires { IsNamed W.wire (name_of self.wire) }
+        ensures wire { IfOk result (λ s. arc_value s.wire ≡ self.wire) }
+        ensures plan { IfOk result (λ s. s.plan ≡ self.plan) }
+        ensures fresh { IfOk result (λ s. is_some s.team ≡ false) }
+        ensures watches { IfOk result (λ s. s.watches ≡ self.watches) }
+        ensures refused { IfErr result (λ e. e ≡ refusal.Memory) }
+    {
+        let Opened {
+            alloc,
+            plan,
+            wire,
+            cells,
+            watches,
+        } = self;
+        let (wire, cells) = share_on(alloc, wire, cells)?;
+        Ok(SpaceOn {
+            alloc,
+            plan,
+            wire,
+            cells,
+            watches,
+            team: None,
+        })
+    }
+}
+
+/// A space whose nodes are on disks, and its workers once they are started. When it is dropped, it
+/// asks the workers to stop; [`SpaceOn::close`] also waits until they have ended.
+#[derive(Drop)]
+pub struct SpaceOn<D: Disk, W: Naming> {
     alloc: Global,
     plan: Plan,
     wire: Arc<Wire>,
-    cells: Vec<Arc<Shared<D>>>,
+    cells: Vec<Arc<SharedOn<D, W>>>,
     watches: Vec<Watch>,
     team: Option<Team>,
     ghost each: { vec_len cells ≡ plan.nodes },
+    ghost wide: { nodes_of (opened_with (arc_value wire)) ≡ plan.nodes },
     ghost of: { AreWatches (arc_value wire) watches.items },
 }
 
-impl<D: Disk + Drop> Space<D> {
+/// A space whose wire has no name in proofs.
+pub type Space<D> = SpaceOn<D, Unnamed>;
+
+impl<D: Disk + Drop> SpaceOn<D, Unnamed> {
     /// Opens a space of this configuration on these disks, the first for node 0. If nothing was
     /// ever created on a disk, its node is new; otherwise it continues from its last saved state.
-    /// Disks that hold nodes have to be those of one space that was closed or stopped earlier.
+    /// Disks that hold nodes have to be those of one space that was closed or stopped earlier. If
+    /// they are of one moment ([`Closed`]), a run reaches the world in which the space begins.
     ///
     /// `Disks` if the number of disks isn't the number of nodes, or if a disk holds a node of
     /// another shape or number. `Ages` exactly if all nodes are found and two of them can't be the
@@ -65,22 +157,20 @@ impl<D: Disk + Drop> Space<D> {
         ensures turns { IfOk result (λ s. s.plan.turns ≡ config.now.turns) }
         ensures fresh { IfOk result (λ s. is_some s.team ≡ false) }
         ensures watches { IfOk result (λ s. vec_len s.watches ≡ WATCHES) }
+        ensures closed { (opening : World) → IsReached opening
+            → nodes_of opening ≡ config.now.shape.nodes
+            → AreOfOneMoment D.may_leave opening disks.items
+            → IfOk result (λ s. IsReached (opened_with (arc_value s.wire))) }
     {
-        let shape = config.shape;
-        let (wire, cells, watches) = open_cells(alloc, shape, disks)?;
-        Ok(Space {
-            alloc,
-            plan: Plan {
-                nodes: shape.nodes(),
-                turns: config.turns,
-            },
-            wire,
-            cells,
-            watches,
-            team: None,
-        })
+        let opened = Opened::open(alloc, config, disks)?;
+        match opened.share::<Unnamed>() {
+            Ok(space) => Ok(space),
+            Err(refusal) => Err(OpenFault::Refused(refusal)),
+        }
     }
+}
 
+impl<D: Disk + Drop, W: Naming> SpaceOn<D, W> {
     /// Begins a collection cycle: an event of node 0, which fails as [`Event::Begin`] does.
     pub fn begin<R: Wait>(&self, rt: &R) -> Result<Answer, Refusal> {
         match self.program(0) {
@@ -104,7 +194,7 @@ impl<D: Disk + Drop> Space<D> {
     }
 
     /// What a node's program calls, if there is a node of that number.
-    pub fn program(&self, node: u8) -> Option<&Shared<D>>
+    pub fn program(&self, node: u8) -> Option<&SharedOn<D, W>>
         ensures found { IsSome result ↔ (node < self.now.plan.nodes) }
         ensures cell { IfSome result (λ s.
             slice_get (map arc_value self.now.cells.items) node ≡ Some s.now) }
@@ -158,15 +248,42 @@ impl<D: Disk + Drop> Space<D> {
         ensures count { vec_len result ≡ worker_count self.team }
         ensures sorted { IsNonDecreasingBy (λ r. r.node) result.items }
     {
-        let Space { alloc, team, .. } = self;
+        let SpaceOn { alloc, team, .. } = self;
         match team {
             Some(team) => team.close(rt),
             None => Vec::new(alloc),
         }
     }
+
+    /// Stops the workers and waits until they have ended, as [`close`](SpaceOn::close) does. Then it
+    /// takes back the cells, and returns their disks as they are at one moment, beside the reports.
+    ///
+    /// There are no disks (`Closed`) if a cell is closed, because a disk failed, or if something
+    /// still uses one of the cells; nor (`Memory`) if allocation failed. All disks are then dropped.
+    pub fn close_at_once<R: Threads>(self, rt: &R) -> (Vec<Report>, Result<Closed<D>, Refusal>)
+        requires { W.wire ≡ Some (name_of (arc_value self.wire)) }
+        ensures count { vec_len result.0 ≡ worker_count self.team }
+        ensures sorted { IsNonDecreasingBy (λ r. r.node) result.0.items }
+        ensures wire { IfOk result.1 (λ c. arc_value c.of.value ≡ arc_value self.wire) }
+        ensures once { IfOk result.1 (λ c. AreOfOneMoment D.may_leave
+            (opened_with (arc_value self.wire)) c.disks.items) }
+    {
+        let SpaceOn {
+            alloc,
+            wire,
+            cells,
+            team,
+            ..
+        } = self;
+        let reports = match team {
+            Some(team) => team.close(rt),
+            None => Vec::new(alloc),
+        };
+        (reports, close_cells(alloc, &wire, cells))
+    }
 }
 
-impl<D: Disk + Send + Drop + 'static> Space<D> {
+impl<D: Disk + Send + Drop + 'static, W: Naming + Send + 'static> SpaceOn<D, W> {
     /// Starts a worker for each node. The workers ask the gate at each point of their turns. A
     /// space is started once.
     ///

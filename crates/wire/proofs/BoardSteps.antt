@@ -74,6 +74,7 @@ module _ {S : Type 0} (bytes : S → List ℕ) (opening : World) where
                 shows = λ at_first. same ∙ ap (λ (z : ℕ). max z k) (ok.shows first);
               });
           no_dealer = λ d. (let never : ◌≡◌ {A = Role} node dealer = sym role ∙ d in absurd cc);
+          seen = h.learned id v at;
         }),
         (
           refl,
@@ -121,6 +122,7 @@ module _ {S : Type 0} (bytes : S → List ℕ) (opening : World) where
                   (record { opening_is = ok.opening_is; loaded = le_refl r });
               no_dealer = λ d.
                   (let never : ◌≡◌ {A = Role} watch dealer = sym role ∙ d in absurd cc);
+              seen = h.learned id v at;
             })),
         (
           refl,

@@ -11,7 +11,10 @@ use Rattle.wire.specs.Views.{Role, dealer, node, Pair, Known, ticks, pair_at}
 use Rattle.wire.specs.Rule.{nodes_of, ended_of, AreEvents, NodeOk, SeatOk, Holds}
 use Rattle.wire.specs.Plays.{Happens, Enters, ticked}
 use Rattle.wire.proofs.Events.{count, width, net-push, ended-push, are-push, events-push_same, events-push_other, IsLocal, happens-local}
+use Rattle.wire.proofs.Boxes.{set-at}
+use Rattle.wire.proofs.Lists.{continues-both}
 use Rattle.wire.proofs.Stays.{Standing, noted, node-of, none-more}
+use Rattle.wire.proofs.Supplying.{led}
 
 counted : (l r : ℕ) → r ≡ l % 2 ^ 64 → (r + 1) % 2 ^ 64 ≡ (l + 1) % 2 ^ 64
 counted l r is = omega arith
@@ -111,6 +114,7 @@ module _ {S : Type 0} (bytes : S → List ℕ) (opening : World) where
               ap (λ (w : World). pair_at w i) now ∙ local.others i (apart role),
               events-push_other i h.log e (λ same. apart role (sym same ∙ local.node)),
             );
+            more = (e ∷ [], refl);
           };
           wide = length-set s.words (n * n) x;
           boxes = λ m below. get_or-set_other s.words (n * n) m x 0 (omega arith);
@@ -132,6 +136,8 @@ module _ {S : Type 0} (bytes : S → List ℕ) (opening : World) where
               (subst (λ (z : ℕ). NodeOk opening (h.log ++ e ∷ []) z h.mail id (ticks e q v))
               (sym board) mine);
           no_dealer = λ d. (let never : ◌≡◌ {A = Role} node dealer = sym role ∙ d in absurd cc);
+          seen = continues-both v.seen h.log (h.log ++ e ∷ []) (h.learned id v p.at)
+              (e ∷ [], refl);
         })
 
   at-count : (slots id : ℕ) (me : Sat) (e : Step) (q : Pair) → me.0.role ≡ node
@@ -140,12 +146,16 @@ module _ {S : Type 0} (bytes : S → List ℕ) (opening : World) where
       (ticked e q (step slots (n * n) 1 0 none) me)
   at-count slots id me e q role event s h wide at small =
       let here : Standing bytes opening =
-      record { state = s; holds = h; id = id; view = me.0; at = at } in (
-        ticks e q me.0,
+      record { state = s; holds = h; id = id; view = me.0; at = at } in
+      let w : Known = ticks e q me.0 in
+      let kept = ticked-on here role e q event ((slice_index s.words (n * n) + 1) % 2 ^ 64) refl in
+      let after : Standing bytes opening =
+      record { state = _; holds = kept; id = id; view = w; at = set-at s.views id w me.0 at } in (
+        w,
         keeps,
         tt,
-        ticked-on here role e q event ((slice_index s.words (n * n) + 1) % 2 ^ 64) refl,
-        (refl, refl, enters here role e q event),
+        kept,
+        (refl, refl, enters here role e q event, (kept.log, led bytes opening after role)),
       )
 
   pub ticks_allowed : {slots c : ℕ} (id : ℕ) (me : Sat) (e : Step) (q : Pair) → c ≡ n * n

@@ -5,13 +5,15 @@ use mathlib.Core.Option.{some, some-injective, some-ne-none}
 use lib.ListN.{get_elem?}
 use Rattle.atomic_table.specs.Table.{State, Splits}
 use Rattle.atomic_table.specs.Table as table
-use Rattle.atomic_table.proofs.Lists.{at_set, set_else, at_longer, some_there}
+use Rattle.atomic_table.proofs.Lists.{at_set, set_else, set_again, at_longer, at_snoc, some_there}
 use Rattle.ids.specs.declared.limits.TheConstants.{GREATEST_CYCLE}
 use Rattle.msg.specs.Grammar.{Plain}
 use Rattle.model.specs.World.{World, run}
-use Rattle.wire.specs.Views.{Role, dealer, node, watch, Visit, Known, pair_at, dealing, dealer_after, next_node, next_watch}
+use Rattle.wire.specs.Views.{Role, dealer, node, watch, Visit, Known, pair_at, dealing, dealer_after, next_node, next_watch, note_of}
+use Rattle.wire.specs.Lists.{Continues}
+use Rattle.wire.specs.Rule.{nodes_of, ended_of, IsOpening, Box, Mail, empty, full, filling_by, emptying_by, Content, DealerOk, WatchOk, HasSeat, SeatOk, Holds}
+use Rattle.wire.proofs.Stays.{node-of}
 use Rattle.wire.proofs.Visits.{filter-none}
-use Rattle.wire.specs.Rule.{nodes_of, ended_of, IsOpening, Box, Mail, empty, full, filling_by, emptying_by, Content, DealerOk, SeatOk, Holds}
 
 at-end : {A : Type 0} (l : List A) (a b : A) (j : ℕ) → get_elem? (l ++ a ∷ []) j ≡ some b
     → (get_elem? l j ≡ some b) ⊎ ((j ≡ length l) × (a ≡ b))
@@ -42,6 +44,21 @@ module _ {S : Type 0} (bytes : S → List ℕ) (opening : World) where
           (Seats s.views left right id) h.mail (length (set s.views id left)) right right.role
       pub alone : right.role ≡ node → (k : ℕ) (u : Known) → get_elem? s.views k ≡ some u
           → u.role ≡ node → u.me ≢ right.me
+      pub left_seen : Continues left.seen h.log
+      pub right_seen : Continues right.seen h.log
+
+  -- which seats there are after a deal
+  among : (s : State S Known) (id : ℕ) (left right : Known) (k : ℕ) (u : Known)
+      → get_elem? (Seats s.views left right id) k ≡ some u
+      → ((k ≡ id) × (left ≡ u)) ⊎ ((get_elem? s.views k ≡ some u) ⊎ (right ≡ u))
+  among s id left right k u e =
+      ⊎_elim
+      (λ a. ⊎_elim
+      (λ (is : (k ≡ id) × (left ≡ u)). inl is)
+      (λ (is : (k ≢ id) × (get_elem? s.views k ≡ some u)). inr (inl is.1))
+      (at_set s.views id k left u a))
+      (λ (is : (k ≡ length (set s.views id left)) × (right ≡ u)). inr (inr is.1))
+      (at-end (set s.views id left) right u k e)
 
   dealer-of : (s : State S Known) (h : Holds bytes opening s) (id : ℕ) (v : Known)
       → get_elem? s.views id ≡ some v → v.role ≡ dealer
@@ -166,21 +183,16 @@ module _ {S : Type 0} (bytes : S → List ℕ) (opening : World) where
           record { shows = b.shows; content = content-kept m (h.mail.boxes m) b.content }
           );
       each_seat = seats-kept;
+      learned = λ j u e. ⊎_elim
+          (λ (is : (j ≡ id) × (left ≡ u)).
+          subst (λ (x : Known). Continues x.seen h.log) is.1 t.left_seen)
+          (λ other. ⊎_elim
+          (λ (a : get_elem? s.views j ≡ some u). h.learned j u a)
+          (λ (is : right ≡ u). subst (λ (x : Known). Continues x.seen h.log) is t.right_seen)
+          other)
+          (among s id left right j u e);
       one = λ j k x u. one-kept j k;
     }
-
-  -- which seats there are after a deal
-  among : (s : State S Known) (id : ℕ) (left right : Known) (k : ℕ) (u : Known)
-      → get_elem? (Seats s.views left right id) k ≡ some u
-      → ((k ≡ id) × (left ≡ u)) ⊎ ((get_elem? s.views k ≡ some u) ⊎ (right ≡ u))
-  among s id left right k u e =
-      ⊎_elim
-      (λ a. ⊎_elim
-      (λ (is : (k ≡ id) × (left ≡ u)). inl is)
-      (λ (is : (k ≢ id) × (get_elem? s.views k ≡ some u)). inr (inl is.1))
-      (at_set s.views id k left u a))
-      (λ (is : (k ≡ length (set s.views id left)) × (right ≡ u)). inr (inr is.1))
-      (at-end (set s.views id left) right u k e)
 
   clash : {A : Type 0} {r : Role} → r ≡ dealer → r ≡ node → A
   clash d e = let never : ◌≡◌ {A = Role} dealer node = sym d ∙ e in absurd cc
@@ -246,46 +258,124 @@ module _ {S : Type 0} (bytes : S → List ℕ) (opening : World) where
           shows = ok.unseen;
         };
         alone = λ r k u a ru same. (let before : u.me < v.me = ok.earlier k u a ru in omega arith);
+        left_seen = h.learned id v at;
+        right_seen = (h.log, refl);
       })
+
+  -- ---- One more seat that may only be read
+
+  module _ (s : State S Known) (h : Holds bytes opening s) (w : Known) (is : w.role ≡ watch)
+      (ok : WatchOk opening (slice_index s.words (n * n + 1)) w)
+      (seen : Continues w.seen h.log) where
+    abbrev more : List Known
+    more = s.views ++ w ∷ []
+
+    -- a seat of another role is one from before
+    before : {r : Role} (k : ℕ) (u : Known) → get_elem? (s.views ++ w ∷ []) k ≡ some u → u.role ≡ r
+        → r ≢ watch → get_elem? s.views k ≡ some u
+    before k u e role other =
+        ⊎_elim
+        (λ was. was)
+        (λ (last : w ≡ u).
+        absurd (other (sym role ∙ ap (λ (x : Known). x.role) (sym last) ∙ is)))
+        (at_snoc s.views w u k e)
+
+    no-watch : node ≢ watch
+    no-watch e = let never : ◌≡◌ {A = Role} node watch = e in absurd cc
+
+    dealer-watch : dealer ≢ watch
+    dealer-watch e = let never : ◌≡◌ {A = Role} dealer watch = e in absurd cc
+
+    still-has : {i : ℕ} → HasSeat s.views i → HasSeat (s.views ++ w ∷ []) i
+    still-has seat =
+        (seat.0, seat.1, at_longer s.views (w ∷ []) seat.0 seat.1 seat.2, seat.3, seat.4)
+
+    content-still : (m : ℕ) (b : Box) → Content bytes n (run opening h.log) s.homes s.views m b
+        → Content bytes n (run opening h.log) s.homes (s.views ++ w ∷ []) m b
+    content-still m empty c = c
+    content-still m (full f) c = c
+    content-still m (filling_by j) c =
+        (c.0, at_longer s.views (w ∷ []) j c.0 c.1, c.2, c.3, c.4)
+    content-still m (emptying_by j f) c =
+        (c.0, at_longer s.views (w ∷ []) j c.0 c.1, c.2, c.3, c.4)
+
+    seat-still : (j : ℕ) (u : Known) (r : Role)
+        → SeatOk opening h.log (slice_index s.words (n * n + 1)) s.views h.mail j u r
+        → SeatOk opening h.log (slice_index s.words (n * n + 1)) (s.views ++ w ∷ []) h.mail j u r
+    seat-still j u dealer good = record {
+      nodes_is = good.nodes_is;
+      opening_is = good.opening_is;
+      earlier = λ k x e r. good.earlier k x (before k x e r no-watch) r;
+      alone = λ k x e r. good.alone k x (before k x e r dealer-watch) r;
+      still = good.still;
+      unsent = good.unsent;
+      untaken = good.untaken;
+      unseen = good.unseen;
+    }
+    seat-still j u node good = good
+    seat-still j u watch good = good
+
+    watched : Holds bytes opening
+        (record { words = s.words; homes = s.homes; views = s.views ++ w ∷ [] })
+    watched = record {
+      log = h.log;
+      mail = h.mail;
+      in_order = h.in_order;
+      visits = h.visits;
+      visitors = λ m below k x e. still-has (h.visitors m below k x e);
+      opens = h.opens;
+      wide = h.wide;
+      slots = h.slots;
+      events = h.events;
+      count = h.count;
+      board = h.board;
+      fits = h.fits;
+      each_box = λ m below. (
+          let b = h.each_box m below in
+          record { shows = b.shows; content = content-still m (h.mail.boxes m) b.content }
+          );
+      each_seat = λ j u e. ⊎_elim
+          (λ was. seat-still j u u.role (h.each_seat j u was))
+          (λ (last : w ≡ u).
+          subst (λ (x : Known). SeatOk opening h.log (slice_index s.words (n * n + 1))
+          (s.views ++ w ∷ []) h.mail j x x.role) last
+          (subst (SeatOk opening h.log (slice_index s.words (n * n + 1)) (s.views ++ w ∷ []) h.mail
+          j w) (sym is) ok))
+          (at_snoc s.views w u j e);
+      learned = λ j u e. ⊎_elim
+          (λ was. h.learned j u was)
+          (λ (last : w ≡ u). subst (λ (x : Known). Continues x.seen h.log) last seen)
+          (at_snoc s.views w u j e);
+      one = λ j k x u ex eu rx ru.
+          h.one j k x u (before j x ex rx no-watch) (before k u eu ru no-watch) rx ru;
+    }
+
+  watch-after : (s : State S Known) (h : Holds bytes opening s) (id : ℕ) (v w : Known)
+      → get_elem? s.views id ≡ some v → w.role ≡ watch
+      → WatchOk opening (slice_index s.words (n * n + 1)) w → Continues w.seen h.log
+      → Holds bytes opening
+      (record { words = s.words; homes = s.homes; views = Seats s.views v w id })
+  watch-after s h id v w at is ok seen =
+      subst
+      (λ (vs : List Known). Holds bytes opening
+      (record { words = s.words; homes = s.homes; views = vs ++ w ∷ [] }))
+      (sym (set_again s.views id v at)) (watched s h w is ok seen)
 
   pub watch_splits : (id : ℕ) (v : Known) → v.role ≡ dealer
       → Splits (Holds bytes opening) id v v (next_watch v)
   watch_splits id v role s h at =
       let ok = dealer-of s h id v at role in
-      dealt s h id v v (next_watch v) (record {
-        at = at;
-        was = role;
-        role = role;
-        no_dealer = λ e. (let never : ◌≡◌ {A = Role} watch dealer = e in absurd cc);
-        left_ok = record {
-          nodes_is = ok.nodes_is;
-          opening_is = ok.opening_is;
-          earlier = λ k u e r. ⊎_elim
-              (λ (is : (k ≡ id) × (v ≡ u)). clash (sym (ap (λ (x : Known). x.role) is.1) ∙ role) r)
-              (λ other. ⊎_elim
-              (λ (a : get_elem? s.views k ≡ some u). ok.earlier k u a r)
-              (λ (is : next_watch v ≡ u).
-              (let never : ◌≡◌ {A = Role} watch node = ap (λ (x : Known). x.role) is ∙ r in
-              absurd cc))
-              other)
-              (among s id v (next_watch v) k u e);
-          alone = λ k u e r. ⊎_elim
-              (λ (is : (k ≡ id) × (v ≡ u)). is.0)
-              (λ other. ⊎_elim
-              (λ (a : get_elem? s.views k ≡ some u). ok.alone k u a r)
-              (λ (is : next_watch v ≡ u).
-              (let never : ◌≡◌ {A = Role} watch dealer = ap (λ (x : Known). x.role) is ∙ r in
-              absurd cc))
-              other)
-              (among s id v (next_watch v) k u e);
-          still = ok.still;
-          unsent = ok.unsent;
-          untaken = ok.untaken;
-          unseen = ok.unseen;
-        };
-        right_ok = record { opening_is = ok.opening_is; loaded = zero-le };
-        alone = λ r. (let never : ◌≡◌ {A = Role} watch node = r in absurd cc);
-      })
+      watch-after s h id v (next_watch v) at refl
+      (record { opening_is = ok.opening_is; loaded = zero-le }) (h.log, refl)
+
+  -- a node's seat makes a note
+  pub note_splits : (id : ℕ) (v : Known) → v.role ≡ node
+      → Splits (Holds bytes opening) id v v (note_of v)
+  note_splits id v role s h at =
+      let ok = node-of bytes opening
+      (record { state = s; holds = h; id = id; view = v; at = at }) role in
+      watch-after s h id v (note_of v) at refl
+      (record { opening_is = ok.opening_is; loaded = zero-le }) (h.learned id v at)
 
   first-at : (v u : Known) (j : ℕ) → get_elem? (v ∷ []) j ≡ some u → (j ≡ 0) × (v ≡ u)
   first-at v u zero e = (refl, some-injective v u e)
@@ -339,6 +429,8 @@ module _ {S : Type 0} (bytes : S → List ℕ) (opening : World) where
               unseen = λ _. zeros (n * n + 1);
             })
             );
+        learned = λ j u e.
+            subst (λ (x : Known). Continues x.seen []) (first-at v u j e).1 ([], refl);
         one = λ j k x u ex eu rx ru me.
             clash refl (ap (λ (y : Known). y.role) (first-at v x j ex).1 ∙ rx);
       }

@@ -16,7 +16,7 @@ use Rattle.model.specs.declared.step.Outcome.TheVariants as outcome
 use Rattle.model.specs.State.{NodeState, no_node, node_at}
 use Rattle.model.specs.Steps.{act, receive, is_own}
 use Rattle.model.specs.World.{World, KeepsSent, released, moved, delivery, take_step, world_after, outcome_of, happens, run, is_eventful, is_event, IsInNet}
-use Rattle.model.proofs.Runs.{run-push}
+use Rattle.model.proofs.Runs.{run-append, run-push}
 use Rattle.laws.proofs.Onward.{Compares, Behind, run-behind, run-saved}
 use Rattle.laws.proofs.KeepsSent.{sent-onward, run-count}
 use Rattle.laws.proofs.Cuts.{run-keeps-sent}
@@ -68,13 +68,17 @@ module _ (w : World) (log : List Step) (opens : IsOpening w) where
   pub count : length (run w log).current ≡ nodes_of w
   count = run-count w log
 
-  -- a frame in the net is still there after one more step
-  pub net-push : (s : Step) (f : Plain) → IsInNet (run w log) f → IsInNet (run w (log ++ s ∷ [])) f
-  net-push s f there =
-      subst (λ (v : World). IsInNet v f) (sym (run-push w log s))
-      (net-onward (run w log) (s ∷ []) f
+  -- a frame in the net is still there after more steps
+  pub net-more : (more : List Step) (f : Plain) → IsInNet (run w log) f
+      → IsInNet (run w (log ++ more)) f
+  net-more more f there =
+      subst (λ (v : World). IsInNet v f) (sym (run-append w log more))
+      (net-onward (run w log) more f
       (run-behind sent-onward w log (behind sent-onward.order w opens))
       (run-behind heard-onward w log (behind heard-onward.order w opens)) there)
+
+  pub net-push : (s : Step) (f : Plain) → IsInNet (run w log) f → IsInNet (run w (log ++ s ∷ [])) f
+  net-push s f there = net-more (s ∷ []) f there
 
   pub ended-push : (s : Step) → ended_of (run w log) ≤ ended_of (run w (log ++ s ∷ []))
   ended-push s =

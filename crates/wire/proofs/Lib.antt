@@ -5,6 +5,9 @@ pub mod Boxes
 pub mod InOrder
 pub mod Visits
 pub mod Stays
+pub mod Supplying
+pub mod Noted
+pub mod Between
 pub mod Moves
 pub mod MailSteps
 pub mod MailPlays

@@ -1,10 +1,10 @@
--- Look-ups in the sets of mailboxes, after one was added or removed.
-use Rattle.std.proofs.Common.{◌≡◌, ◌≢◌, ℕ, ◌==◌, cond, eq-eqb, ne_eqb, true, false, List, [], ◌∷◌, Some, None, refl, sym, ap, ◌∙◌}
+-- Look-ups in the sets of mailboxes, after one was added or removed. Lists that begin with others.
+use Rattle.std.proofs.Common.{◌≡◌, ◌≢◌, ℕ, ◌==◌, cond, eq-eqb, ne_eqb, true, false, List, [], ◌∷◌, ◌++◌, append-nil, append_assoc, Some, None, refl, sym, ap, ◌∙◌}
 use Rattle.std.proofs.lemmas.Bool.{cond-true, cond-false}
 use native.Mathlib.Decide.{ℕ_discrete}
 use mathlib.Core.Logic.{dite}
 use Rattle.msg.specs.Grammar.{Plain}
-use Rattle.wire.specs.Lists.{has, without, found, cleared}
+use Rattle.wire.specs.Lists.{has, without, found, cleared, Continues}
 
 pub has-here : (m : ℕ) (xs : List ℕ) → has m (m ∷ xs) ≡ true
 has-here m xs = cond-true _ _ _ (eq-eqb m m refl)
@@ -55,3 +55,13 @@ found-stays m k (x ∷ xs) apart =
     ∙ sym (cond-false _ _ _ (ne_eqb x.0 k (λ f. apart (sym f ∙ e)))))
     (λ n. ap (found k) (cond-false _ _ _ (ne_eqb x.0 m n))
     ∙ ap (cond (x.0 == k) (Some x.1)) (found-stays m k xs apart))
+
+pub continues-itself : {A : Type 0} (xs : List A) → Continues xs xs
+continues-itself xs = ([], sym (append-nil xs))
+
+pub continues-both : {A : Type 0} (xs ys zs : List A) → Continues xs ys → Continues ys zs
+    → Continues xs zs
+continues-both {A} xs ys zs first next = (
+  first.0 ++ next.0,
+  next.1 ∙ ap (λ (l : List A). l ++ next.0) first.1 ∙ append_assoc xs first.0 next.0,
+)

@@ -11,7 +11,9 @@ use Rattle.wire.specs.Views.{node, Known, notes, claims, takes_in, posts, clears
 use Rattle.wire.specs.Rule.{nodes_of, AreEvents, Holds}
 use Rattle.wire.specs.Plays.{Owns, claimed, took, posted, emptied}
 use Rattle.wire.specs.Views.{pair_at}
+use Rattle.wire.proofs.Boxes.{set-at}
 use Rattle.wire.proofs.Stays.{Standing, node-of}
+use Rattle.wire.proofs.Supplying.{led}
 use Rattle.wire.proofs.MailSteps.{missed, claim-hit, take-hit, post-done, clear-done}
 
 module _ {S : Type 0} (bytes : S → List ℕ) (opening : World) where
@@ -70,8 +72,11 @@ module _ {S : Type 0} (bytes : S → List ℕ) (opening : World) where
       let mine = node-of bytes opening here role in
       exchanged r 1 2 (Goes s m id me told)
       (λ hit.
-      let c = take-hit bytes opening here role m below me_is hit me.1 in (
-        takes_in m place c.0 me.0,
+      let c = take-hit bytes opening here role m below me_is hit me.1 in
+      let w : Known = takes_in m place c.0 me.0 in
+      let after : Standing bytes opening =
+      record { state = _; holds = c.3; id = id; view = w; at = set-at s.views id w me.0 at } in (
+        w,
         takes m c.1,
         c.2,
         c.3,
@@ -91,6 +96,7 @@ module _ {S : Type 0} (bytes : S → List ℕ) (opening : World) where
                 own = mine.events_are;
               },
               (c.1, refl, c.5, c.4),
+              (c.3.log, led bytes opening after role),
             ),
           )),
           (λ miss. absurd (miss hit)),

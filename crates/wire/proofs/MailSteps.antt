@@ -137,6 +137,7 @@ module _ {S : Type 0} (bytes : S → List ℕ) (opening : World) where
                 shows = ok.shows;
               });
           no_dealer = λ d. (let never : ◌≡◌ {A = Role} node dealer = sym role ∙ d in absurd cc);
+          seen = h.learned id v p.at;
         }))
 
     pub claim-hit : (m : ℕ) → m < n * n → v.me ≡ m / n → get_or s.words m 0 ≡ 0 → (c : List (ℕ × S))

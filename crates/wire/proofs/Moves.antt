@@ -8,8 +8,9 @@ use native.Mathlib.Decide.{ℕ_discrete}
 use Rattle.atomic_table.proofs.Lists.{set_else}
 use Rattle.ids.specs.declared.limits.TheConstants.{GREATEST_CYCLE}
 use Rattle.msg.specs.Grammar.{Plain}
+use Rattle.model.specs.declared.step.Step.{Step}
 use Rattle.model.specs.World.{World, run, IsInNet}
-use Rattle.wire.specs.Lists.{has, found}
+use Rattle.wire.specs.Lists.{has, found, Continues}
 use Rattle.wire.specs.Views.{Role, dealer, node, Known, visits_with, pair_at}
 use Rattle.wire.specs.Rule.{nodes_of, ended_of, events_of, Box, Mail, filling_by, emptying_by, face, lying, in_box, Content, BoxOk, NodeOk, SeatOk, Holds}
 use Rattle.wire.proofs.Boxes.{put, at_put, put-here, put-other, holder}
@@ -201,4 +202,6 @@ module _ {S : Type 0} (bytes : S → List ℕ) (opening : World) where
               (subst (λ (z : ℕ). NodeOk opening p.holds.log z then p.id w) (sym board)
               moved-node);
           no_dealer = λ d. (let never : ◌≡◌ {A = Role} node dealer = sym t.role ∙ d in absurd cc);
+          seen = subst (λ (l : List Step). Continues l p.holds.log) (sym t.seat.seen)
+              (p.holds.learned p.id p.view p.at);
         })

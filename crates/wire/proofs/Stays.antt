@@ -12,11 +12,12 @@ use Rattle.ids.specs.declared.limits.TheConstants.{GREATEST_CYCLE}
 use Rattle.msg.specs.Grammar.{Plain}
 use Rattle.model.specs.declared.step.Step.{Step}
 use Rattle.model.specs.World.{World, run, IsInNet}
-use Rattle.wire.specs.Lists.{has, found}
+use Rattle.wire.specs.Lists.{has, found, Continues}
 use Rattle.wire.specs.Views.{Role, dealer, node, watch, Visit, Known, visit, visits_with, pair_at}
 use Rattle.wire.specs.Rule.{nodes_of, ended_of, events_of, AreEvents, Box, Mail, empty, full, filling_by, emptying_by, face, lying, by_node, on_box, AreVisits, Content, BoxOk, NodeOk, DealerOk, HasSeat, AreTaken, SeatOk, Holds}
 use Rattle.laws.proofs.Lookups.{slice_get-push}
 use Rattle.wire.proofs.Boxes.{put, at_put, holder, set-at}
+use Rattle.wire.proofs.Lists.{continues-both, continues-itself}
 use Rattle.wire.proofs.Visits.{filter-here, filter-else, visits-push}
 
 -- both views are equal in what the other seats read of a seat
@@ -32,6 +33,7 @@ pub record IsSeat (v w : Known) : Type 0 where
   pub pair : w.pair ≡ v.pair
   pub events : w.events ≡ v.events
   pub shown : w.shown ≡ v.shown
+  pub seen : w.seen ≡ v.seen
 
 pub still-seat : {v : Known} {visits : List Visit} {filling : List ℕ}
     {emptying : List (ℕ × Plain)} {taken sent : List Plain}
@@ -49,6 +51,7 @@ still-seat = record {
   pair = refl;
   events = refl;
   shown = refl;
+  seen = refl;
 }
 
 -- both views are equal in what a mailbox reads of a seat
@@ -62,14 +65,20 @@ Homes S = List (maybe.Option S)
 -- ---- A seat, and its step
 
 -- What a list of events and a longer one have in common: everything released, and the other nodes.
+-- The longer one begins with the other.
 pub record Extends (opening : World) (log log' : List Step) (v : Known) : Type 0 where
   pub net : (f : Plain) → IsInNet (run opening log) f → IsInNet (run opening log') f
   pub others : (i : ℕ) → (v.role ≡ node → i ≢ v.me)
       → (pair_at (run opening log') i ≡ pair_at (run opening log) i)
       × (events_of i log' ≡ events_of i log)
+  pub more : Continues log log'
 
 pub same-log : (opening : World) (log : List Step) (v : Known) → Extends opening log log v
-same-log opening log v = record { net = λ f h. h; others = λ i apart. (refl, refl) }
+same-log opening log v = record {
+  net = λ f h. h;
+  others = λ i apart. (refl, refl);
+  more = continues-itself log;
+}
 
 -- What the step of a seat leaves unchanged: the mailboxes of other nodes, and the board unless the
 -- seat is node 0's.
@@ -205,6 +214,7 @@ module _ {S : Type 0} (bytes : S → List ℕ) (opening : World) where
     pub mine : SeatOk opening log (slice_index words (n * n + 1)) (after p w) mail p.id
         w w.role
     pub no_dealer : p.view.role ≢ dealer
+    pub seen : Continues w.seen log
 
   module _ (p : Standing bytes opening) (w : Known) (words : List ℕ)
       (homes : Homes S) (t : Turn p w words homes) where
@@ -264,6 +274,13 @@ module _ {S : Type 0} (bytes : S → List ℕ) (opening : World) where
           (λ k. (sym is.0 k, is.1 k)) t.mine)
           (λ (is : (j ≢ p.id) × (get_elem? p.state.views j ≡ some u)).
           theirs-stay j u is.0 is.1 u.role refl (p.holds.each_seat j u is.1))
+          (at_set p.state.views p.id j w u e);
+      learned = λ j u e.
+          ⊎_elim
+          (λ (is : (j ≡ p.id) × (w ≡ u)).
+          subst (λ (x : Known). Continues x.seen t.log) is.1 t.seen)
+          (λ (is : (j ≢ p.id) × (get_elem? p.state.views j ≡ some u)).
+          continues-both u.seen p.holds.log t.log (p.holds.learned j u is.1) t.extends.more)
           (at_set p.state.views p.id j w u e);
       one = one-stays p w t.alike p.holds.one;
     }
@@ -466,6 +483,7 @@ module _ {S : Type 0} (bytes : S → List ℕ) (opening : World) where
     pub mine : SeatOk opening log (slice_index words (n * n + 1)) (after p w)
         (record p.holds.mail { visits = visits.all }) p.id w w.role
     pub no_dealer : p.view.role ≢ dealer
+    pub seen : Continues w.seen log
 
   pub noted : (p : Standing bytes opening) (w : Known) (log : List Step)
       (words : List ℕ) → Note p w log words
@@ -503,4 +521,5 @@ module _ {S : Type 0} (bytes : S → List ℕ) (opening : World) where
         theirs = λ j apart m held. refl;
         mine = t.mine;
         no_dealer = t.no_dealer;
+        seen = t.seen;
       })

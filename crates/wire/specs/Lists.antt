@@ -1,5 +1,6 @@
 -- Small sets of mailboxes, by number: those that a seat is filling, and those that it is emptying.
-use Rattle.std.specs.Prelude.{ℕ, Bool, true, false, cond, ◌==◌, List, [], ◌∷◌, Option, Some, None}
+-- Lists that begin with others.
+use Rattle.std.specs.Prelude.{◌≡◌, ℕ, Bool, true, false, cond, ◌==◌, List, [], ◌∷◌, ◌++◌, Option, Some, None}
 use Rattle.msg.specs.Grammar.{Plain}
 
 abbrev pub has : ℕ → List ℕ → Bool
@@ -23,3 +24,7 @@ cleared m (x ∷ xs) = cond (x.0 == m) (cleared m xs) (x ∷ cleared m xs)
 abbrev pub once : List ℕ → Bool
 once [] = true
 once (x ∷ xs) = cond (has x xs) false (once xs)
+
+-- the second list begins with the first
+abbrev pub Continues : {A : Type 0} → List A → List A → Type 0
+Continues {A} xs ys = (more : List A) × (ys ≡ xs ++ more)

@@ -11,9 +11,9 @@ use Rattle.model.specs.declared.step.Outcome.TheVariants as outcome
 use Rattle.model.specs.State.{NodeState, got_from, sent_to}
 use Rattle.model.specs.Steps.{act, receive, is_own}
 use Rattle.model.specs.World.{World, run, is_eventful, numbered, IsInNet}
-use Rattle.wire.specs.Views.{Pair, Known, pair_at, notes, claims, takes_in, posts, clears, ticks, raises, marks}
-use Rattle.wire.specs.Lists.{has, found}
-use Rattle.wire.specs.Rule.{AreEvents, events_of, ended_of, sender, receiver, Spells}
+use Rattle.wire.specs.Views.{Pair, Known, pair_at, notes, claims, takes_in, posts, clears, ticks, raises, marks, learns}
+use Rattle.wire.specs.Lists.{has, found, Continues}
+use Rattle.wire.specs.Rule.{IsOpening, AreEvents, events_of, ended_of, sender, receiver, Spells}
 
 -- ---- What a caller owes
 
@@ -82,6 +82,29 @@ pub record Arrives (v : Known) (f : Plain) : Type 0 where
   pub pair : pair_at (run v.opening log) v.me ≡ v.pair
   pub own : v.events ≡ events_of v.me log
 
+-- The list of events leads to what the seat knows of its node, and each frame that the seat took is
+-- released after it.
+pub record LeadsTo (v : Known) (log : List model.Step) : Type 0 where
+  pub events : AreEvents v.opening log
+  pub pair : pair_at (run v.opening log) v.me ≡ v.pair
+  pub own : v.events ≡ events_of v.me log
+  pub net : (k : ℕ) (f : Plain) → slice_get v.taken k ≡ Some f → IsInNet (run v.opening log) f
+
+abbrev pub HasLed : Known → Type 0
+HasLed v = (log : List model.Step) × LeadsTo v log
+
+abbrev pub IsSupplied : Known → Type 0
+IsSupplied v = ∥ HasLed v ∥₁
+
+-- The seat learned a list of events that leads to what it knows, and that begins with the list
+-- `seen`.
+pub record Learns (seen : List model.Step) (v w : Known) : Type 0 where
+  pub log : List model.Step
+  pub known : w ≡ learns log v
+  pub opens : IsOpening v.opening
+  pub leads : LeadsTo v log
+  pub continues : Continues seen log
+
 -- node 0's saved state had counted this cycle as ended
 abbrev pub HasEnded : World → ℕ → Type 0
 HasEnded opening number =
@@ -115,6 +138,7 @@ module _ {S : Type 0} where
       ((place : ℕ) × (m'.0 ≡ takes_in st.word place f m.0)) × (sender f ≡ st.word / m.0.nodes)
       × (receiver f ≡ m.0.me) × Arrives m.0 f
       × ((x : S) × (m'.1 ≡ (st.word, x) ∷ m.1) × Spells f (bytes x) × IsFresh st.word m.0)
+      × HasLed m'.0
 
   abbrev pub took : (S → List ℕ) → Step S → Me S Known → ℕ → Me S Known → Type 0
   took bytes st m r m' = (r ≡ 1 → (f : Plain) × Took bytes st m m' f) × (r ≢ 1 → Noted st m r m')
@@ -135,7 +159,8 @@ module _ {S : Type 0} where
       × (has st.word m.0.filling ≡ false)
 
   abbrev pub ticked : model.Step → Pair → Step S → Me S Known → ℕ → Me S Known → Type 0
-  ticked e q st m r m' = (m'.0 ≡ ticks e q m.0) × (m'.1 ≡ m.1) × Enters e m.0 r m'.0
+  ticked e q st m r m' =
+      (m'.0 ≡ ticks e q m.0) × (m'.1 ≡ m.1) × Enters e m.0 r m'.0 × HasLed m'.0
 
   abbrev pub raised : Step S → Me S Known → ℕ → Me S Known → Type 0
   raised st m r m' =
@@ -145,3 +170,6 @@ module _ {S : Type 0} where
   looked st m r m' =
       (m'.0 ≡ marks r m.0) × (m'.1 ≡ m.1) × (m.0.number ≤ r) × (r ≤ GREATEST_CYCLE)
       × HasEnded m.0.opening r
+
+  abbrev pub learned : Step S → Me S Known → ℕ → Me S Known → Type 0
+  learned st m r m' = Learns m.0.seen m.0 m'.0 × (m'.1 ≡ m.1)

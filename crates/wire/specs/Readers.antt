@@ -3,6 +3,7 @@ use Rattle.std.specs.Prelude.{◌≡◌, ℕ, ◌+◌, ◌*◌, List, length, So
 use Rattle.std.specs.Global.{Global}
 use Rattle.atomic_table.specs.declared.shared.Seat.{Seat}
 use Rattle.ids.specs.Limits.{Shaped}
+use Rattle.model.specs.declared.step.Step.{Step}
 use Rattle.model.specs.State.{NodeState, node_at, sent_to}
 use Rattle.model.specs.View.{NodeView, Shows, link_to}
 use Rattle.model.specs.World.{World}
@@ -14,6 +15,7 @@ use Rattle.wire.specs.declared.seats.Watch.{Watch}
 use Rattle.wire.specs.declared.seats.Claim.{Claim}
 use Rattle.wire.specs.declared.seats.Taken.{Taken}
 use Rattle.wire.specs.declared.seats.Raised.{Raised}
+use Rattle.wire.specs.declared.seats.Note.{Note}
 
 -- ---- A wire
 
@@ -77,6 +79,13 @@ raised_opening r = r.of.value.me.0.opening
 abbrev pub IsRaisedOf : Wire → Raised → Type 0
 IsRaisedOf w r =
     (r.of.value.table_id ≡ w.table.shared.table_id) × (raised_opening r ≡ opened_with w)
+
+-- the list of events that the note's seat had learned
+abbrev pub note_seen : Note → List Step
+note_seen n = n.seat.me.0.seen
+
+abbrev pub IsNoteOf : Wire → Note → Type 0
+IsNoteOf w n = n.seat.table_id ≡ w.table.shared.table_id
 
 -- ---- A watch
 

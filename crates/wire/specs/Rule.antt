@@ -14,7 +14,7 @@ use Rattle.model.specs.declared.step.Step.TheVariants as step
 use Rattle.model.specs.State.{node_at}
 use Rattle.model.specs.World.{World, happens, is_event, run, IsInNet}
 use Rattle.wire.specs.Views.{Role, dealer, node, watch, Visit, Known, pair_at}
-use Rattle.wire.specs.Lists.{has, found}
+use Rattle.wire.specs.Lists.{has, found, Continues}
 
 abbrev pub nodes_of : World → ℕ
 nodes_of w = length w.current
@@ -218,6 +218,8 @@ pub record Holds {S : Type 0} (bytes : S → List ℕ) (opening : World)
   pub each_seat : (j : ℕ) (v : Known) → get_elem? s.views j ≡ some v
       → SeatOk opening log (slice_index s.words (nodes_of opening * nodes_of opening + 1)) s.views
       mail j v v.role
+  -- the list that a seat learned last is a beginning of this one
+  pub learned : (j : ℕ) (v : Known) → get_elem? s.views j ≡ some v → Continues v.seen log
   -- a node has one seat
   pub one : (j k : ℕ) (v u : Known) → get_elem? s.views j ≡ some v → get_elem? s.views k ≡ some u
       → v.role ≡ node → u.role ≡ node → v.me ≡ u.me → j ≡ k

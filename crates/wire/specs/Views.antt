@@ -52,6 +52,8 @@ pub record Known : Type 0 where
   pub number : ℕ
   -- the greatest number that it raised
   pub shown : ℕ
+  -- the list of events that it learned last, with which the history of the space begins
+  pub seen : List Step
 
 abbrev pub pair_at : World → ℕ → Pair
 pair_at w i = record { current = node_at w.current i; saved = node_at w.saved i }
@@ -83,6 +85,7 @@ fresh role me nodes opening pair = record {
   visits = [];
   number = 0;
   shown = 0;
+  seen = [];
 }
 
 abbrev pub dealer_of : World → ℕ → Known
@@ -151,6 +154,14 @@ raises number v = record v { number = number; shown = max v.shown number }
 -- a number was loaded
 abbrev pub marks : ℕ → Known → Known
 marks number v = record v { number = number }
+
+-- the seat learned that the history begins with this list of events
+abbrev pub learns : List Step → Known → Known
+learns log v = record v { seen = log }
+
+-- a note of what the seat learned last, which is a seat that may only be read
+abbrev pub note_of : Known → Known
+note_of v = learns v.seen (fresh watch 0 v.nodes v.opening no_pair)
 
 -- ---- Dealing
 

@@ -17,6 +17,8 @@
 //! tick   adds 1 to the count        one event of the seat's node
 //! raise  sets board to the greater  a cycle that node 0's saved state counts as ended
 //! look   reads the board            the greater of what is read and what the watch heard
+//! note   reads a word               changes nothing
+//! learn  reads two words            a list of events, for proofs only
 //! ```
 //!
 //! The slots that a seat holds have an order, and only the first one can be written or returned.
@@ -27,6 +29,7 @@
 mod board;
 mod dealing;
 mod history;
+mod learning;
 mod mailboxes;
 mod plays;
 mod pumped;
@@ -35,5 +38,5 @@ mod truth;
 mod views;
 
 pub use pumped::{Inbound, Outbound};
-pub use seats::{Claim, NodeSeat, Raised, Taken, Watch, Wire};
+pub use seats::{Claim, NodeSeat, Note, Raised, Taken, Watch, Wire};
 pub use truth::laws;

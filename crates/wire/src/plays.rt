@@ -1,7 +1,7 @@
 //! The rule of the table that a wire is, and the kinds of steps on it. Each kind is proved to keep
 //! the rule, so no code can break it.
 use crate::views::{Opening, View};
-use atomic_table::{Play, Split, TableRule};
+use atomic_table::{Join, Play, Split, TableRule};
 use std::marker::Brand;
 
 // What holds between any two steps.
@@ -113,4 +113,50 @@ impl Split<View> for NextWatch {
     ghost left = { λ v. v };
 
     ghost right = { next_watch };
+}
+
+pub struct Learns;
+
+impl Play<Vec<u8>, View> for Learns {
+    ghost use Rattle.wire.specs.Plays.{learned};
+
+    ghost then = { learned };
+}
+
+// A seat makes a note of what it learned last.
+pub struct Notes;
+
+impl Split<View> for Notes {
+    ghost use Rattle.wire.specs.Views.{note_of};
+
+    ghost left = { λ v. v };
+
+    ghost right = { note_of };
+}
+
+// What a note knows, and still knows when it is spent.
+pub trait Noting {
+    ghost use Rattle.wire.specs.Views.{Known};
+
+    ghost view: { Known };
+}
+
+impl Noting for Brand {
+    ghost use Rattle.std.specs.Prelude.{[]};
+    ghost use Rattle.wire.specs.Views.{dealing};
+
+    ghost view = { dealing (record { current = []; saved = [] }) };
+}
+
+// A seat has learned what a note says.
+pub struct Heeds<N: Noting> {
+    of: std::marker::PhantomData<N>,
+}
+
+impl<N: Noting> Join<View> for Heeds<N> {
+    ghost use Rattle.wire.specs.Views.{learns};
+
+    ghost both = { λ v w. learns w.seen v };
+
+    ghost spent = { N.view };
 }

@@ -1,8 +1,8 @@
 //! What threads hold of a wire: seats, watches, and mailboxes that they are filling or emptying.
 //! Such a mailbox can't be dropped, so none stays locked by mistake.
-ghost use Rattle.std.specs.Prelude.{◌≡◌, ◌+◌, ◌*◌, ◌≤◌, length, vec_capacity};
+ghost use Rattle.std.specs.Prelude.{◌≡◌, ◌+◌, ◌*◌, ◌≤◌, [], length, vec_capacity};
 ghost use Rattle.ids.specs.declared.limits.TheConstants.{GREATEST_NODES};
-ghost use Rattle.wire.specs.Plays.{WasEnded};
+ghost use Rattle.wire.specs.Plays.{IsSupplied, WasEnded};
 ghost use Rattle.wire.specs.Rule.{nodes_of};
 ghost use Rattle.wire.specs.Seated.{Sits, IsWatching};
 
@@ -48,6 +48,7 @@ pub struct NodeSeat {
     // It has room for all of them: one to each node, and one from each.
     pub(crate) held: Vec<usize>,
     ghost sits: { Sits (λ v. v.items) node nodes held.items seat.me },
+    ghost supplied: { IsSupplied seat.me.0 },
     ghost room: { 2 * nodes ≤ vec_capacity held },
 }
 
@@ -92,6 +93,13 @@ pub struct Claim {
 pub struct Taken {
     pub(crate) from: u8,
     pub(crate) of: Snapshot<Seat<Vec<u8>, View>>,
+}
+
+/// A beginning of the history of a wire's events, which a seat had learned, for another seat to
+/// learn; see [`Wire::learn`]. It has no bytes, and can't be dropped.
+pub struct Note {
+    pub(crate) seat: Seat<Vec<u8>, View>,
+    ghost empty: { seat.me.1 ≡ [] },
 }
 
 /// A cycle that was raised on a wire's board, for a [`Watch`] to hear of. Node 0's saved state had

@@ -46,6 +46,7 @@ use ids::Refusal;
 use model::{Answer, Event};
 use node::Node;
 use std::alloc::Global;
+use std::snapshot::Snapshot;
 use trace::{Call, Outcome, Trace};
 use wire::{NodeSeat, Raised, Wire};
 
@@ -68,11 +69,13 @@ impl<D: Disk> Cell<D> {
         ensures refused { IfErr result (λ e. e ≡ Memory) }
     {
         let trace = Trace::new(alloc)?;
+        let first = Snapshot::of(node.core());
         Ok(Cell {
             alloc,
             desk: Desk::new(node, seat),
             shelf,
             trace,
+            first,
         })
     }
 

@@ -32,6 +32,7 @@ ghost use Rattle.disk.specs.Crashes.{Grew, Only};
 ghost use Rattle.disk.specs.Memory.{filled_by_crash, held_by, IsFaultless, left_by};
 ghost use Rattle.disk.specs.Plan.{fails_from, fails_once};
 ghost use Rattle.wire.specs.Readers.{known, IsSame, IsSeatOf};
+ghost use Rattle.cell.specs.Cells.{IsKept};
 ghost use Rattle.cell.specs.Disks.{is_same_image, HoldsSaved, OpensToNode};
 ghost use Rattle.cell.specs.Events.{
   done_outcome,
@@ -161,6 +162,33 @@ impl<D: Disk> Cell<D> {
                 Err(refusal)
             }
         }
+    }
+}
+
+impl<D: Disk> Cell<D> {
+    /// Whether the cell is open.
+    pub fn is_open(&self) -> bool
+        ensures { result ≡ self.now.is_open }
+    {
+        self.shelf.is_ready()
+    }
+
+    /// The disk, as the cell leaves it; node and seat are dropped. The contract states everything
+    /// that a cell guarantees between two calls.
+    pub fn into_disk(self) -> D
+        ensures disk { result ≡ self.disk }
+        ensures kept { IsKept D.may_leave self }
+    {
+        // Called for its contract.
+        let _node = self.node();
+        let Cell {
+            alloc: _,
+            desk: _,
+            shelf,
+            trace: _,
+            first: _,
+        } = self;
+        shelf.into_disk()
     }
 }
 

@@ -2,6 +2,7 @@ use Rattle.cell.proofs.Blank.{blank-new}
 use Rattle.cell.proofs.AlikeCuts.{alike-reach}
 use Rattle.cell.proofs.Applied.{balances-add-up, nodes-agree, old-garbage-goes, reach-is-live}
 use Rattle.cell.proofs.Composed.{none-refused-in-turn, sweeps-free-none-reachable}
+use Rattle.cell.proofs.Dues.{next-taken-in}
 use Rattle.cell.proofs.Left.{left-opened, restarted-reached}
 use Rattle.cell.proofs.OneAge.{begin-of-one-age, left-is-of-one-age, reopened-is-reached}
 use Rattle.cell.proofs.Reaches.{alike-go-on, fresh-reached, new-reached, stays-reached, world-of-reached}
@@ -15,6 +16,9 @@ returns-clause-frees_none_reachable c = sweeps-free-none-reachable
 
 pub returns-clause-in_turn : goal.returns-clause-in_turn
 returns-clause-in_turn c = none-refused-in-turn
+
+pub returns-clause-next : goal.returns-clause-next
+returns-clause-next c = next-taken-in
 
 pub returns-clause-restarted : goal.returns-clause-restarted
 returns-clause-restarted c = restarted-reached

@@ -4,7 +4,9 @@ use Rattle.std.proofs.lemmas.Result.{err_from_is_err_and}
 use Rattle.node.specs.Keeping.{WholeNode}
 use Rattle.image.proofs.Spelled.{kept_is}
 use Rattle.cell.specs.Opened.{AreBeside, IsReadFrom}
+use Rattle.cell.specs.Reached.{IsReached}
 use Rattle.cell.proofs.Causes.{same-error}
+use Rattle.cell.proofs.Closed.{opened-again}
 use Rattle.cell.proofs.OnShelves.{found-kept}
 use Rattle.cell.proofs.Ready.{opened}
 use Rattle.cell.proofs.joining.open.Goals as goal
@@ -44,3 +46,11 @@ pub returns-in_err-nodes-clause-cause : goal.returns-in_err-nodes-clause-cause
 returns-in_err-nodes-clause-cause g c =
     let p = err_from_is_err_and c.from_residual.result c.from_residual.ensures.1 in
     rw (p.1, p.2) c.in_err-nodes.ensures.cause
+
+pub returns-in-Ok-clause-closed : goal.returns-in-Ok-clause-closed
+returns-in-Ok-clause-closed g c = λ opening reached width once.
+    let nodes = c.in_ok-nodes.nodes.items in
+    subst IsReached (sym c.in-Ok.ensures.made.opening)
+    (opened-again g.D.Disk.seen g.D.Disk.may_leave g.met.D.Disk.reads_left c.args.shape opening
+    c.args.disks.items nodes reached width once c.in_ok-nodes.ensures.count
+    c.in_ok-nodes.ensures.read c.in_ok-nodes.ensures.one_age).0

@@ -3,8 +3,8 @@ use Rattle.std.specs.Arc.{arc_value}
 use Rattle.supervisor.proofs.Seats.{first-seat, later-seats}
 use Rattle.supervisor.proofs.cells.share_all.Goals as goal
 
-pub share-requires : goal.share-requires
-share-requires g c =
+pub share-requires-clause-seat : goal.share-requires-clause-seat
+share-requires-clause-seat g c =
     let some : 0 < length c.loop.cells.items = omega arith in
     first-seat (λ y. y.seat) (arc_value c.args.wire.now) _ c.remove-cell.result
     c.loop.invariant.seats some c.remove-cell.ensures.value

@@ -1,4 +1,6 @@
 use Rattle.std.proofs.Common.{◌≡◌, true, false, ap, sym, ◌∙◌, subst, Bool}
+use Rattle.wire.specs.Readers.{known}
+use Rattle.cell.proofs.Dropping.{dropped-as, given-dropped, given-took, own-none}
 use Rattle.cell.proofs.Opening.{stays-open}
 use Rattle.model.specs.Steps.{is_shading}
 use Rattle.node.specs.Keeping.{met}
@@ -12,9 +14,21 @@ invariant_of-self-inside-2 g c =
     let cell = c.self.inside in
     let desk = c.act-answered.new.self in
     let ready : cell.shelf.ready ≡ true = sym c.is_ready.ensures ∙ c.if-not-is_ready.false in
-    stays-open cell.desk.saved.value desk.saved.value desk.node.core
-    (g.D.Disk.seen cell.shelf.disk) (g.D.Disk.may_leave cell.shelf.disk)
-    c.act-answered.ensures.saved (cell.shelf.settled ready).0 (cell.while_open ready)
+    let v = known cell.desk.seat in
+    let w = known desk.seat in
+    let given = c.act-answered.ensures.given in
+    let first = cell.first.value in (
+      given-dropped first _ _ _ _ cell.desk.node desk.node v w given
+          (own-none cell.desk.node.early c.args.event c.requires.own) cell.dropped,
+      (
+        dropped-as first v w cell.desk.saved.value desk.saved.value
+            (given-took _ _ _ _ cell.desk.node desk.node v w given) c.act-answered.ensures.saved
+            cell.saved_dropped,
+        stays-open cell.desk.saved.value desk.saved.value desk.node.core
+            (g.D.Disk.seen cell.shelf.disk) (g.D.Disk.may_leave cell.shelf.disk)
+            c.act-answered.ensures.saved (cell.shelf.settled ready).0 (cell.while_open ready),
+      ),
+    )
 
 pub returns-clause-closed : goal.returns-clause-closed
 returns-clause-closed g c =
@@ -35,6 +49,7 @@ returns-clause-goes_on g c =
     let new : CellView g.row.D.Denot = record {
       node = desk.node;
       saved = desk.saved.value;
+      first = c.self.inside.first.value;
       seat = desk.seat;
       places = desk.places;
       unsaved = desk.is_unsaved;

@@ -1,3 +1,6 @@
+use Rattle.std.proofs.Common.{◌≡◌, ◌∙◌, ap, sym}
+use Rattle.wire.specs.Readers.{known}
+use Rattle.cell.proofs.Dropping.{dropped-same}
 use Rattle.cell.proofs.Opening.{core-found, image-found, stays-open}
 use Rattle.cell.proofs.cell.Cell.new.Goals as goal
 
@@ -13,6 +16,14 @@ pub invariant_of-result : goal.invariant_of-result
 invariant_of-result g c =
     let seen = g.D.Disk.seen c.args.shelf.disk in
     let desk = c.new-2.result in
-    stays-open c.args.node.core desk.saved.value desk.node.core seen
-    (g.D.Disk.may_leave c.args.shelf.disk) c.new-2.ensures.saved
-    (c.args.shelf.settled c.requires.ready).0 ∣ core-found c.args.node seen c.requires.disk ∣₁
+    let first = c.of-first.result.value in
+    let is : c.args.node.core ≡ first = sym (c.of-first.ensures ∙ c.core.ensures.value) in (
+      dropped-same first desk.node.core (known desk.seat)
+          (ap (λ n. n.core) c.new-2.ensures.node ∙ is),
+      (
+        dropped-same first desk.saved.value (known desk.seat) (c.new-2.ensures.saved ∙ is),
+        stays-open c.args.node.core desk.saved.value desk.node.core seen
+            (g.D.Disk.may_leave c.args.shelf.disk) c.new-2.ensures.saved
+            (c.args.shelf.settled c.requires.ready).0 ∣ core-found c.args.node seen c.requires.disk ∣₁,
+      ),
+    )

@@ -27,4 +27,6 @@ returns-clause-kept g c =
           open-holds desk.saved.value (g.D.Disk.seen cell.shelf.disk)
           (g.D.Disk.may_leave cell.shelf.disk) (cell.shelf.settled ready).0 (cell.while_open ready);
       left = cell.left;
+      dropped = cell.dropped;
+      saved_dropped = cell.saved_dropped;
     }

@@ -4,6 +4,7 @@ use Rattle.cell.specs.Cells.{CellView}
 use Rattle.wire.specs.Readers.{known, outbox}
 use Rattle.cell.specs.Pumping.{is_out}
 use Rattle.cell.specs.Sending.{frame_due, places_after, IsSent}
+use Rattle.cell.proofs.Dropping.{dropped-as, send-took}
 use Rattle.cell.proofs.Opening.{stays-open}
 use Rattle.cell.proofs.cell.Cell.pump_out.Goals as goal
 use Rattle.cell.proofs.cell.Cell.pump_out.Goals.{then-is_sent, else-is_sent}
@@ -13,9 +14,21 @@ invariant_of-self-inside g c =
     let cell = c.self.inside in
     let desk = c.send.new.self in
     let ready : cell.shelf.ready ≡ true = sym c.is_ready.ensures ∙ c.if-not-is_ready.false in
-    stays-open cell.desk.saved.value desk.saved.value desk.node.core
-    (g.D.Disk.seen cell.shelf.disk) (g.D.Disk.may_leave cell.shelf.disk) c.send.ensures.saved
-    (cell.shelf.settled ready).0 (cell.while_open ready)
+    let said = c.send.ensures in
+    let v = known cell.desk.seat in
+    let w = known desk.seat in
+    let took = send-took _ _ _ _ c.send.result cell.desk.seat desk.seat said.sent said.refused in
+    let first = cell.first.value in (
+      dropped-as first v w cell.desk.node.core desk.node.core took (ap (λ n. n.core) said.node)
+          cell.dropped,
+      (
+        dropped-as first v w cell.desk.saved.value desk.saved.value took said.saved
+            cell.saved_dropped,
+        stays-open cell.desk.saved.value desk.saved.value desk.node.core
+            (g.D.Disk.seen cell.shelf.disk) (g.D.Disk.may_leave cell.shelf.disk) said.saved
+            (cell.shelf.settled ready).0 (cell.while_open ready),
+      ),
+    )
 
 pub returns-clause-stays : goal.returns-clause-stays
 returns-clause-stays g c =
@@ -25,6 +38,7 @@ returns-clause-stays g c =
     let new : CellView g.row.D.Denot = record {
       node = desk.node;
       saved = desk.saved.value;
+      first = c.self.inside.first.value;
       seat = desk.seat;
       places = desk.places;
       unsaved = desk.is_unsaved;
@@ -45,6 +59,7 @@ returns-in_err-is_sent-clause-stays g c =
     let new : CellView g.row.D.Denot = record {
       node = desk.node;
       saved = desk.saved.value;
+      first = c.self.inside.first.value;
       seat = desk.seat;
       places = desk.places;
       unsaved = desk.is_unsaved;
@@ -66,6 +81,7 @@ returns-in_err-is_sent-clause-refused g c =
     let new : CellView g.row.D.Denot = record {
       node = desk.node;
       saved = desk.saved.value;
+      first = c.self.inside.first.value;
       seat = desk.seat;
       places = desk.places;
       unsaved = desk.is_unsaved;
@@ -79,6 +95,7 @@ returns-in_err-is_sent-clause-refused g c =
     (λ i. record {
       node = said.node i;
       saved = said.saved i;
+      first = c.self.inside.first.value;
       seat = same.1 i;
       places = same.2 i;
       unsaved = said.unsaved i;

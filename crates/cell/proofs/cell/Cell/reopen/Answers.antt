@@ -1,6 +1,6 @@
-use Rattle.std.proofs.Common.{◌≡◌, ◌⊎◌, Bool, IsTrue, inl, inr, ⊎_elim, false, refl, sym, ap, ◌∙◌, subst, [], ◌∷◌, ◌++◌}
+use Rattle.std.proofs.Common.{◌≡◌, ◌⊎◌, Bool, IsTrue, inl, inr, ⊎_elim, true, false, replicate, refl, sym, ap, ◌∙◌, subst, [], ◌∷◌, ◌++◌}
 use Rattle.circular_buffer.specs.Buffer.{keep_last}
-use Rattle.ids.specs.declared.limits.TheConstants.{TRACE_EVENTS}
+use Rattle.ids.specs.declared.limits.TheConstants.{GREATEST_NODES, TRACE_EVENTS}
 use Rattle.node.specs.Keeping.{WholeNode}
 use Rattle.trace.specs.declared.call.Call.TheVariants as call
 use Rattle.trace.specs.declared.call.Outcome.TheVariants as outcome
@@ -8,6 +8,8 @@ use Rattle.wire.specs.Readers.{known, IsSame}
 use Rattle.cell.specs.Cells.{CellView}
 use Rattle.cell.specs.Disks.{HoldsSaved, OpensTo, OpensToNode, is_same_image}
 use Rattle.cell.specs.Events.{found_step, reopened_by, restarted_by, Entered}
+use Rattle.cell.specs.Desks.{HasDropped}
+use Rattle.cell.proofs.Dropping.{dropped-found, took-same}
 use Rattle.cell.proofs.Opening.{core-found, image-found, never-bad, open-holds, saved-found, stays-open, which-found}
 use Rattle.cell.proofs.cell.Cell.reopen.Goals as goal
 
@@ -44,10 +46,27 @@ invariant_of-self-inside g c =
     let desk = c.reopen-in-Ok.new.self in
     let seen = g.D.Disk.seen shelf.disk in
     let found = c.in-Ok.found in
-    stays-open found.core desk.saved.value desk.node.core seen (g.D.Disk.may_leave shelf.disk)
-    c.reopen-in-Ok.ensures.saved (shelf.settled c.in-Ok.ensures.ready).0
-    ∣ subst (OpensTo found.core) (sym c.reopen.ensures.quiet.same)
-    (core-found found (g.D.Disk.seen c.self.inside.shelf.disk) c.in-Ok.ensures.opened) ∣₁
+    let cell = c.self.inside in
+    let was_seen = g.D.Disk.seen cell.shelf.disk in
+    let said = c.reopen-in-Ok.ensures in
+    let there = core-found found was_seen c.in-Ok.ensures.opened in
+    let v = known cell.desk.seat in
+    let w = known desk.seat in
+    let took = took-same v w (ap (λ u. u.me) said.known) (ap (λ u. u.taken) said.known) in
+    let first = cell.first.value in
+    let kept = dropped-found first v w cell.desk.node.core cell.desk.saved.value found.core took
+    (image-found found.core was_seen there) cell.desk.was.image
+    (which-found cell.desk.saved.value cell.desk.node.core found.core was_seen there
+    (cell.left was_seen (g.met.D.Disk.reads_left cell.shelf.disk)))
+    cell.dropped cell.saved_dropped in (
+      subst (HasDropped first w) (sym (ap (λ (n : WholeNode). n.core) said.node)) kept,
+      (
+        subst (HasDropped first w) (sym said.saved) kept,
+        stays-open found.core desk.saved.value desk.node.core seen
+            (g.D.Disk.may_leave shelf.disk) said.saved (shelf.settled c.in-Ok.ensures.ready).0
+            ∣ subst (OpensTo found.core) (sym c.reopen.ensures.quiet.same) there ∣₁,
+      ),
+    )
 
 pub returns-in-Ok-clause-restarted : goal.returns-in-Ok-clause-restarted
 returns-in-Ok-clause-restarted g c =
@@ -94,6 +113,7 @@ returns-in-Ok-clause-done g c =
     let new : CellView g.row.D.Denot = record {
       node = desk.node;
       saved = desk.saved.value;
+      first = c.self.inside.first.value;
       seat = desk.seat;
       places = desk.places;
       unsaved = desk.is_unsaved;
@@ -101,12 +121,22 @@ returns-in-Ok-clause-done g c =
       is_open = c.reopen.new.self.ready;
       trace = c.push.new.self;
     } in
-    λ i. record new {
+    subst (λ (v : CellView g.row.D.Denot). new ≡ record v {
+      node = desk.node;
+      saved = desk.node.core;
+      seat = desk.seat;
+      places = replicate GREATEST_NODES 0;
+      unsaved = false;
+      disk = c.reopen.new.self.disk;
+      is_open = true;
+      trace = c.push.new.self;
+    }) c.self.view_is
+    (λ i. record new {
       saved = (said.saved ∙ sym (ap (λ (n : WholeNode). n.core) said.node)) i;
       places = said.places i;
       unsaved = said.unsaved i;
       is_open = c.in-Ok.ensures.ready i;
-    }
+    })
 
 pub returns-in-Ok-clause-opened : goal.returns-in-Ok-clause-opened
 returns-in-Ok-clause-opened g c =
@@ -145,6 +175,7 @@ returns-in-Err-clause-refused g c =
     let new : CellView g.row.D.Denot = record {
       node = desk.node;
       saved = desk.saved.value;
+      first = c.self.inside.first.value;
       seat = desk.seat;
       places = desk.places;
       unsaved = desk.is_unsaved;

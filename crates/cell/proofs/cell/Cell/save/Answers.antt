@@ -8,6 +8,9 @@ use Rattle.image.specs.Images.{image_of}
 use Rattle.disk.specs.Areas.{Areas}
 use Rattle.cell.specs.Cells.{CellView}
 use Rattle.cell.specs.Disks.{OpensTo, OpensToEither}
+use Rattle.wire.specs.Readers.{known}
+use Rattle.cell.specs.Desks.{HasDropped}
+use Rattle.cell.proofs.Dropping.{dropped-kept, took-same}
 use Rattle.cell.proofs.Opening.{failed-left, stays-open}
 use Rattle.cell.proofs.cell.Cell.save.Goals as goal
 
@@ -50,7 +53,7 @@ invariant_of-self-inside-in-Err g c =
     (⊎_elim (λ is. unchanged (λ d. (let never = sym is ∙ d in absurd cc)))
     (⊎_elim (λ is. unchanged (λ d. (let never = sym is ∙ d in absurd cc))) failed))
     said.others in
-    (kept.0, (kept.1, tt))
+    (cell.dropped, (cell.saved_dropped, (kept.0, (kept.1, tt))))
 
 pub invariant_of-self-inside-in-Ok : goal.invariant_of-self-inside-in-Ok
 invariant_of-self-inside-in-Ok g c =
@@ -58,9 +61,20 @@ invariant_of-self-inside-in-Ok g c =
     let shelf = c.save.new.self in
     let desk = c.save-in-Ok.new.self in
     let said = c.in-Ok.ensures in
-    stays-open (kept_view n) desk.saved.value desk.node.core (g.D.Disk.seen shelf.disk)
-    (g.D.Disk.may_leave shelf.disk) c.save-in-Ok.ensures.saved (shelf.settled said.ready).0
-    ∣ (image_of n, said.saved, said.readable.0) ∣₁
+    let now = c.save-in-Ok.ensures in
+    let v = known c.self.inside.desk.seat in
+    let w = known desk.seat in
+    let took = took-same v w (ap (λ u. u.me) now.known) (ap (λ u. u.taken) now.known) in
+    let first = c.self.inside.first.value in
+    let kept = dropped-kept first v w n took c.self.inside.dropped in (
+      subst (HasDropped first w) (sym (ap (λ m. m.core) now.node)) kept,
+      (
+        subst (HasDropped first w) (sym now.saved) kept,
+        stays-open (kept_view n) desk.saved.value desk.node.core (g.D.Disk.seen shelf.disk)
+            (g.D.Disk.may_leave shelf.disk) now.saved (shelf.settled said.ready).0
+            ∣ (image_of n, said.saved, said.readable.0) ∣₁,
+      ),
+    )
 
 pub returns-in-Ok-clause-done : goal.returns-in-Ok-clause-done
 returns-in-Ok-clause-done g c =
@@ -70,6 +84,7 @@ returns-in-Ok-clause-done g c =
     let new : CellView g.row.D.Denot = record {
       node = desk.node;
       saved = desk.saved.value;
+      first = c.self.inside.first.value;
       seat = desk.seat;
       places = desk.places;
       unsaved = desk.is_unsaved;

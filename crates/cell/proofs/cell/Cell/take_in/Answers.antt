@@ -1,8 +1,8 @@
-use Rattle.std.proofs.Common.{◌≡◌, ◌<◌, ℕ, Bool, true, [], ◌∷◌, ◌++◌, length, slice_get, Some, sym, ap, ◌∙◌, subst}
+use Rattle.std.proofs.Common.{◌≡◌, ◌<◌, ℕ, Bool, true, [], ◌∷◌, ◌++◌, sym, ap, ◌∙◌, subst}
+use Rattle.cell.proofs.Dropping.{TookMore, at-last, dropped-as, handled-dropped, handled-took, took-again, took-same}
 use Rattle.cell.proofs.Opening.{stays-open}
 use Rattle.circular_buffer.specs.Buffer.{keep_last}
 use Rattle.ids.specs.declared.limits.TheConstants.{TRACE_EVENTS}
-use Rattle.laws.proofs.Lookups.{slice_get-last}
 use Rattle.msg.specs.Frames.{plain}
 use Rattle.model.specs.Steps.{is_memory_free}
 use Rattle.model.specs.View.{is_other}
@@ -23,29 +23,59 @@ invariant_of-self-inside g c =
     let cell = c.self.inside in
     let desk = c.take.new.self in
     let ready : cell.shelf.ready ≡ true = ap (λ v. v.is_open) c.self.view_is ∙ c.requires.ready in
-    stays-open cell.desk.saved.value desk.saved.value desk.node.core
-    (g.D.Disk.seen cell.shelf.disk) (g.D.Disk.may_leave cell.shelf.disk) c.take.ensures.saved
-    (cell.shelf.settled ready).0 (cell.while_open ready)
+    let said = c.take.ensures in
+    let v = known cell.desk.seat in
+    let w = known desk.seat in
+    let missed = c.in_err-frame.ensures.taken.3 in
+    let took = took-same v w (ap (λ u. u.me) missed) (ap (λ u. u.taken) missed) in
+    let first = cell.first.value in (
+      dropped-as first v w cell.desk.node.core desk.node.core took (ap (λ n. n.core) said.node)
+          cell.dropped,
+      (
+        dropped-as first v w cell.desk.saved.value desk.saved.value took said.saved
+            cell.saved_dropped,
+        stays-open cell.desk.saved.value desk.saved.value desk.node.core
+            (g.D.Disk.seen cell.shelf.disk) (g.D.Disk.may_leave cell.shelf.disk) said.saved
+            (cell.shelf.settled ready).0 (cell.while_open ready),
+      ),
+    )
 
 pub invariant_of-self-inside-2 : goal.invariant_of-self-inside-2
 invariant_of-self-inside-2 g c =
     let cell = c.self.inside in
     let desk = c.handle-answered.new.self in
     let ready : cell.shelf.ready ≡ true = ap (λ v. v.is_open) c.self.view_is ∙ c.requires.ready in
-    stays-open cell.desk.saved.value desk.saved.value desk.node.core
-    (g.D.Disk.seen cell.shelf.disk) (g.D.Disk.may_leave cell.shelf.disk)
-    (c.handle-answered.ensures.saved ∙ c.take.ensures.saved) (cell.shelf.settled ready).0
-    (cell.while_open ready)
+    let took = c.take.ensures in
+    let said = c.handle-answered.ensures in
+    let u = known cell.desk.seat in
+    let v = known c.take.new.self.seat in
+    let w = known desk.seat in
+    let f = plain c.in_ok-frame.frame in
+    let told = c.in_ok-frame.ensures.taken in
+    let more : TookMore u v = record {
+      me = ap (λ (x : Known). x.me) told.3.2;
+      taken = (f ∷ [], ap (λ (x : Known). x.taken) told.3.2);
+    } in
+    let first = cell.first.value in (
+      handled-dropped first c.in_ok-frame.frame c.handle-answered.result c.take.new.self.node
+          desk.node v w said.handled (at-last u v f more.taken.1) (told.1 ∙ sym more.me)
+          (dropped-as first u v cell.desk.node.core c.take.new.self.node.core more
+          (ap (λ n. n.core) took.node) cell.dropped),
+      (
+        dropped-as first u w cell.desk.saved.value desk.saved.value
+            (took-again u v w more (handled-took c.in_ok-frame.frame c.handle-answered.result
+            c.take.new.self.node desk.node v w said.handled))
+            (said.saved ∙ took.saved) cell.saved_dropped,
+        stays-open cell.desk.saved.value desk.saved.value desk.node.core
+            (g.D.Disk.seen cell.shelf.disk) (g.D.Disk.may_leave cell.shelf.disk)
+            (said.saved ∙ took.saved) (cell.shelf.settled ready).0 (cell.while_open ready),
+      ),
+    )
 
 pub handle-answered-requires-clause-taken : goal.handle-answered-requires-clause-taken
 handle-answered-requires-clause-taken g c =
-    let taken = (known c.self.inside.desk.seat).taken in
-    let f = plain c.in_ok-frame.frame in
-    ∣ (
-      length taken,
-      subst (λ (v : Known). slice_get v.taken (length taken) ≡ Some f)
-          (sym c.in_ok-frame.ensures.taken.3.2) (slice_get-last taken f),
-    ) ∣₁
+    at-last (known c.self.inside.desk.seat) (known c.take.new.self.seat)
+    (plain c.in_ok-frame.frame) (ap (λ (v : Known). v.taken) c.in_ok-frame.ensures.taken.3.2)
 
 pub returns-clause-took : goal.returns-clause-took
 returns-clause-took g c =
@@ -108,6 +138,7 @@ returns-clause-goes_on g c =
     let new : CellView g.row.D.Denot = record {
       node = desk.node;
       saved = desk.saved.value;
+      first = c.self.inside.first.value;
       seat = desk.seat;
       places = desk.places;
       unsaved = desk.is_unsaved;

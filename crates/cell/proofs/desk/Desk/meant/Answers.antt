@@ -1,11 +1,11 @@
-use Rattle.std.proofs.Common.{ℕ, refl, sym, ◌∙◌, subst}
+use Rattle.std.proofs.Common.{◌≡◌, ℕ, refl, sym, ◌∙◌, subst}
 use Rattle.model.specs.declared.event.Event.{Event}
 use Rattle.model.specs.declared.event.Event.TheVariants as event
 use Rattle.model.specs.declared.step.Step.TheVariants as step
 use Rattle.wire.specs.Readers.{known}
-use Rattle.cell.specs.Events.{MayAct}
+use Rattle.cell.specs.Events.{IsDue, MayAct}
 use Rattle.cell.proofs.Quiet.{own-may}
-use Rattle.cell.proofs.Waiting.{same-met, waiting-may}
+use Rattle.cell.proofs.Waiting.{none-due, same-met, waiting-due, waiting-may}
 use Rattle.cell.proofs.desk.Desk.meant.Goals as goal
 
 pub returns-in_default : goal.returns-in_default
@@ -17,7 +17,29 @@ returns-in_default c =
       step = same.1;
       may = own-may (known desk.seat) c.args.event desk.own
           (sym desk.at.own ∙ desk.seat.sits.me_is) c.requires.own;
+      due = λ from d next is.
+          none-due (known desk.seat) desk.node.core.local from d (sym next ∙ is);
     }
+
+pub returns-in_default-waiting-clause-due : goal.returns-in_default-waiting-clause-due
+returns-in_default-waiting-clause-due c = λ from d next is.
+    let desk = c.args.self.now in
+    none-due (known desk.seat) desk.node.core.local c.in-Next.from d is
+
+pub returns-clause-due : goal.returns-clause-due
+returns-clause-due c = λ from d next is.
+    let desk = c.args.self.now in
+    let me = sym desk.at.own ∙ desk.seat.sits.me_is in
+    let same : c.in-Some.frame ≡ d = cc in
+    subst (IsDue (known desk.seat) desk.node.core.local) same
+    (waiting-due (known desk.seat) desk.node c.in-Next.from c.in-Some.frame
+    record {
+      own = desk.stands.own ∙ me;
+      nodes = desk.stands.nodes ∙ sym desk.at.nodes ∙ desk.seat.sits.nodes_is;
+      kept = c.in-Some.ensures.kept;
+      taken = desk.taken;
+    }
+    desk.seat.supplied (sym c.in-Some.ensures.value))
 
 pub returns-in_default-waiting-clause-may : goal.returns-in_default-waiting-clause-may
 returns-in_default-waiting-clause-may c =

@@ -127,6 +127,7 @@ returns-then-is_counted_answer-clause-given c =
       };
       early = c.in_ok-answer.ensures.early;
       turn = c.in_ok-answer.ensures.turn;
+      due = λ from d next is. c.requires.due from d next (c.requires.met ∙ is);
     }
 
 pub returns-else-is_counted_answer-clause-given : goal.returns-else-is_counted_answer-clause-given
@@ -150,6 +151,7 @@ returns-else-is_counted_answer-clause-given c =
       };
       early = c.in_ok-answer.ensures.early;
       turn = c.in_ok-answer.ensures.turn;
+      due = λ from d next is. c.requires.due from d next (c.requires.met ∙ is);
     }
 
 pub returns-then-is_counted_answer-clause-unsaved

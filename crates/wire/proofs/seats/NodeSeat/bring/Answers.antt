@@ -1,4 +1,5 @@
 use Rattle.std.proofs.Common.{rules, ◌<◌, ℕ, List, ◌∷◌, drop, sym, ap, ◌∙◌, subst, subst₂}
+use Rattle.wire.specs.Plays.{IsSupplied}
 use Rattle.wire.specs.Seated.{Sits}
 use Rattle.wire.proofs.Sitting.{before, nearer-held, headed, sits-turned, in-front}
 use Rattle.wire.proofs.seats.NodeSeat.bring.Goals as goal
@@ -8,6 +9,7 @@ invariant_of-self c = record {
   sits = subst₂ (Sits (λ v. v.items) c.loop-self.self.node c.loop-self.self.nodes)
       (sym c.rotate_left.ensures.items) (sym c.turn.ensures.2)
       (sits-turned c.loop-self.self.sits);
+  supplied = subst (λ m. IsSupplied m.0) (sym c.turn.ensures.2) c.loop-self.self.supplied;
   room = search rules;
 }
 

@@ -1,8 +1,10 @@
-use Rattle.std.proofs.Common.{rules, ◌≡◌, ◌+◌, ◌*◌, ◌<◌, refl, sym, ◌∙◌, subst₂, arith, length, vec_len}
+use Rattle.std.proofs.Common.{rules, ◌≡◌, ◌+◌, ◌*◌, ◌<◌, refl, sym, ◌∙◌, subst, subst₂, arith, length, vec_len}
 use Rattle.wire.proofs.Numbers.{box-of, in-words, own-from, a-node}
+use Rattle.wire.specs.Plays.{IsSupplied}
 use Rattle.wire.specs.Seated.{Sits}
 use Rattle.wire.proofs.Sitting.{fresh-minds, sits-claimed}
 use Rattle.wire.proofs.Room.{room-for}
+use Rattle.wire.proofs.Supplying.{still-supplied}
 use Rattle.wire.proofs.MailPlays.{claims_allowed}
 use Rattle.wire.proofs.seats.Wire.claim.Goals as goal
 
@@ -46,5 +48,11 @@ invariant_of-seat-2 c =
       sits = subst₂ (Sits (λ v. v.items) s.node s.nodes) (sym c.hold.ensures.items)
           (λ i. (sym told.2 i, sym told.3 i))
           (sits-claimed at told.0 told.1 s.sits told.4 (own-from s.node to s.nodes at box));
+      supplied = subst IsSupplied (sym told.2) (still-supplied s.supplied);
       room = search rules;
     }
+
+pub invariant_of-seat-clause-supplied : goal.invariant_of-seat-clause-supplied
+invariant_of-seat-clause-supplied c =
+    let told = c.compare_exchange-found.ensures.2.1 c.if-found-ne-EMPTY.true in
+    subst IsSupplied (sym told.1) (still-supplied c.args.seat.now.supplied)

@@ -3,9 +3,11 @@ use lib.ListN.{get_elem?}
 use Rattle.atomic_table.specs.Table.{rest}
 use Rattle.wire.specs.Lists.{has, found}
 use Rattle.wire.specs.Views.{Known, clears}
+use Rattle.wire.specs.Plays.{IsSupplied}
 use Rattle.wire.specs.Seated.{Sits}
 use Rattle.wire.proofs.Numbers.{box-of, in-words, a-node}
 use Rattle.wire.proofs.Sitting.{sits-cleared}
+use Rattle.wire.proofs.Supplying.{still-supplied}
 use Rattle.wire.proofs.MailPlays.{clears_allowed}
 use Rattle.wire.proofs.seats.Wire.clear.Goals as goal
 
@@ -52,6 +54,8 @@ invariant_of-seat c =
           ))
           (sits-cleared at told.0.0 front.0 sits
           (sym (ap (λ m. has at m.0.filling) now.3) ∙ told.2));
+      supplied = subst IsSupplied (sym told.0.1)
+          (still-supplied (subst (λ m. IsSupplied m.0) (sym now.3) b.supplied));
       room = search rules;
     }
 

@@ -2,10 +2,11 @@ use Rattle.std.proofs.Common.{rules, ◌≡◌, ℕ, ◌+◌, ◌*◌, ◌<◌, 
 use Rattle.atomic_table.specs.Table.{rest}
 use Rattle.wire.specs.Lists.{has, found}
 use Rattle.wire.specs.Views.{Known, posts}
-use Rattle.wire.specs.Plays.{Owns}
+use Rattle.wire.specs.Plays.{IsSupplied, Owns}
 use Rattle.wire.specs.Seated.{Sits}
 use Rattle.wire.proofs.Numbers.{box-of, in-words, a-node}
 use Rattle.wire.proofs.Sitting.{sits-posted}
+use Rattle.wire.proofs.Supplying.{still-supplied}
 use Rattle.wire.proofs.MailPlays.{posts_allowed}
 use Rattle.wire.proofs.seats.Wire.post.Goals as goal
 
@@ -54,5 +55,7 @@ invariant_of-seat c =
           ))
           (sits-posted at told.1.0.0 told.0 front.0 sits
           (sym (ap (λ m. found at m.0.emptying) now.3) ∙ told.1.2));
+      supplied = subst IsSupplied (sym told.1.0.1)
+          (still-supplied (subst (λ m. IsSupplied m.0) (sym now.3) b.supplied));
       room = search rules;
     }

@@ -1,6 +1,8 @@
 use Rattle.std.proofs.Common.{ℕ, ◌*◌, ◌+◌, ◌<◌, sym, ap, ◌∙◌, subst, arith, leb-true}
+use Rattle.wire.specs.Plays.{IsSupplied}
 use Rattle.wire.proofs.Numbers.{a-node}
 use Rattle.wire.proofs.BoardSteps.{raises_allowed}
+use Rattle.wire.proofs.Supplying.{still-supplied}
 use Rattle.wire.proofs.seats.Wire.raise.Goals as goal
 
 pub fetch_max-requires : goal.fetch_max-requires
@@ -15,3 +17,7 @@ fetch_max-requires c =
           (sym s.sits.me_is ∙ c.requires.first) c.requires.ended
           (leb-true c.args.cycle.number _ c.args.cycle.fits),
     )
+
+pub invariant_of-seat-clause-supplied : goal.invariant_of-seat-clause-supplied
+invariant_of-seat-clause-supplied c =
+    subst IsSupplied (sym c.fetch_max.ensures.2.0) (still-supplied c.args.seat.now.supplied)

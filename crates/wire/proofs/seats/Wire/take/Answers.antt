@@ -1,9 +1,11 @@
-use Rattle.std.proofs.Common.{rules, ◌≡◌, ℕ, ◌+◌, ◌*◌, ◌/◌, ◌<◌, refl, sym, ap, ◌∙◌, subst₂, arith, length, vec_len}
+use Rattle.std.proofs.Common.{rules, ◌≡◌, ℕ, ◌+◌, ◌*◌, ◌/◌, ◌<◌, refl, sym, ap, ◌∙◌, subst, subst₂, arith, length, vec_len}
 use Rattle.wire.specs.Views.{takes_in}
+use Rattle.wire.specs.Plays.{IsSupplied}
 use Rattle.wire.specs.Seated.{Sits}
 use Rattle.wire.proofs.Numbers.{box-of, in-words, own-to, a-node}
 use Rattle.wire.proofs.Sitting.{fresh-minds, sits-took}
 use Rattle.wire.proofs.Room.{room-for}
+use Rattle.wire.proofs.Supplying.{still-supplied}
 use Rattle.wire.proofs.MailPlays.{takes_allowed}
 use Rattle.wire.proofs.seats.Wire.take.Goals as goal
 
@@ -48,6 +50,7 @@ invariant_of-seat-2 c =
           (λ i. (sym told.1.0.1 i, sym told.1.4.1 i))
           (sits-took at told.1.0.0 told.1.4.0 told.0 s.sits told.1.4.3
           (own-to from s.node s.nodes at box) told.1.4.2.1);
+      supplied = ∣ told.1.5 ∣₁;
       room = search rules;
     }
 
@@ -79,3 +82,8 @@ returns-clause-taken c =
         ),
       ),
     )
+
+pub invariant_of-seat-clause-supplied : goal.invariant_of-seat-clause-supplied
+invariant_of-seat-clause-supplied c =
+    let told = c.compare_exchange-found.ensures.2.1 c.if-found-ne-FULL.true in
+    subst IsSupplied (sym told.1) (still-supplied c.args.seat.now.supplied)

@@ -3,6 +3,11 @@ use Rattle.cell.proofs.cell.saving.Cell+MemoryDisk.fail_from.Goals as goal
 
 pub invariant_of-self-inside : goal.invariant_of-self-inside
 invariant_of-self-inside c =
-    let cell = c.self.inside in
-    told-to-fail _ _ cell.desk.saved.value cell.desk.node.core _ _ c.fail_from.ensures.state
-    c.fail_from.ensures.ready cell.while_open cell.left
+    let cell = c.self.inside in (
+      cell.dropped,
+      (
+        cell.saved_dropped,
+        told-to-fail _ _ cell.desk.saved.value cell.desk.node.core _ _ c.fail_from.ensures.state
+            c.fail_from.ensures.ready cell.while_open cell.left,
+      ),
+    )

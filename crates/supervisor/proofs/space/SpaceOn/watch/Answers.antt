@@ -1,12 +1,13 @@
 use Rattle.std.specs.Arc.{arc_value}
 use Rattle.supervisor.proofs.Watches.{handed-of, left-of}
-use Rattle.supervisor.proofs.space.Space.watch.Goals as goal
+use Rattle.supervisor.proofs.space.SpaceOn.watch.Goals as goal
 
 pub invariant_of-self : goal.invariant_of-self
 invariant_of-self g c =
     let space = c.args.self.now in
     record {
       each = space.each;
+      wide = space.wide;
       of = left-of (arc_value space.wire) _ _ c.pop.result space.of c.pop.ensures.items;
     }
 

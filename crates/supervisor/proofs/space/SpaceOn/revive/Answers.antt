@@ -1,12 +1,11 @@
 use denote.Exit.{no}
 use denote.Param.Send.{arg_send, param_send, sendable}
-use Rattle.cell.specs.contracts.shared.Unnamed.{the_row}
 use Rattle.cell.proofs.Sent.{shared-send, shared-sync}
-use Rattle.supervisor.proofs.space.Space.revive.Goals as goal
+use Rattle.supervisor.proofs.space.SpaceOn.revive.Goals as goal
 
 pub begin-requires-send-S : goal.begin-requires-send-S
 begin-requires-send-S g c κs within =
-    param_send _ _ (arg_send _ no _ (shared-send _ _ the_row _ c.type_bounds.send-D))
+    param_send _ _ (arg_send _ no _ (shared-send _ _ g.row.W _ c.type_bounds.send-D))
 
 pub begin-requires-sync-S : goal.begin-requires-sync-S
 begin-requires-sync-S g c κs within =

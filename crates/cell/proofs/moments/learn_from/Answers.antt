@@ -1,0 +1,35 @@
+use Rattle.std.proofs.Common.{ℕ, ◌<◌, List, get_or, length-set, refl, set, sym, subst}
+use Rattle.std.proofs.lemmas.Option.{slice_get-get_or}
+use Rattle.model.specs.declared.step.Step.{Step}
+use Rattle.wire.specs.Plays.{Learns}
+use Rattle.wire.specs.Readers.{known}
+use Rattle.cell.proofs.Surveying.{noted-seats, turned}
+use Rattle.cell.proofs.moments.learn_from.Goals as goal
+
+pub learn-requires-clause-wire : goal.learn-requires-clause-wire
+learn-requires-clause-wire g c =
+    let xs = c.args.cells.now in
+    noted-seats c.args.wire.now xs xs c.args.from c.args.at
+    (get_or xs c.args.from c.index-cells-from.result) c.note-note.new.self c.index-cells-at.result
+    c.requires.wire (slice_get-get_or xs c.args.from c.index-cells-from.result c.requires.from)
+    c.note-note.ensures.learned c.requires.at
+
+pub returns : goal.returns
+returns g c =
+    let xs = c.args.cells.now in
+    let b = get_or xs c.args.from c.index-cells-from.result in
+    let ys = set xs c.args.from c.note-note.new.self in
+    let x = get_or ys c.args.at c.index-cells-at.result in
+    turned xs _ c.args.at c.args.from b c.note-note.new.self x c.learn.new.self
+    (record {
+      there = slice_get-get_or xs c.args.from c.index-cells-from.result c.requires.from;
+      noted = c.note-note.ensures.learned;
+      same = c.note-note.ensures.known;
+      then = slice_get-get_or ys c.args.at c.index-cells-at.result
+          (subst (λ (n : ℕ). c.args.at < n)
+          (sym (length-set xs c.args.from c.note-note.new.self)) c.requires.at);
+      learned = c.learn.ensures.learned;
+      leads = subst (λ (l : List Step). Learns l (known x.seat) (known c.learn.new.self.seat))
+          c.note-note.ensures.seen c.learn.ensures.leads;
+    })
+    refl

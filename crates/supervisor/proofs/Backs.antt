@@ -1,0 +1,111 @@
+-- Cells that threads have given back are those of one wire, and their disks are of one moment.
+use Rattle.std.proofs.Common.{◌≡◌, ◌<◌, ◌+◌, ℕ, IfOk, Result, Ok, Err, List, drop, get_or, length, map, Option, Some, slice_get, refl, sym, ap, ◌∙◌, subst, arith}
+use Rattle.std.proofs.lemmas.Option.{get_or_from_slice_get, slice_get_read, slice_get_within}
+use mathlib.Core.Logic.{dite}
+use native.Mathlib.Decide.{ℕ_discrete}
+use Rattle.model.proofs.Lookups.{slice_get-drop}
+use Rattle.disk.specs.Areas.{Areas}
+use Rattle.wire.specs.Readers.{known, opened_with, seat_node, IsSeatOf}
+use Rattle.wire.specs.Rule.{nodes_of}
+use Rattle.wire.specs.declared.seats.Wire.{Wire}
+use Rattle.cell.specs.Cells.{CellView, IsKept}
+use Rattle.cell.specs.Closing.{AreOfOneMoment, IsLast}
+use Rattle.cell.specs.Moments.{AreAtOnce, EachCell, HaveLearned}
+use Rattle.cell.specs.Names.{IsNamed, Name, name_of, seat_name}
+use Rattle.cell.proofs.Places.{some_at}
+use Rattle.supervisor.specs.Closing.{IsBack, IsRow}
+
+module _ {D : Type 0} (wire : Wire) (name : Option Name) (named : name ≡ Some (name_of wire)) where
+  back-seat : (k : ℕ) (c : CellView D) → IsBack name k c → IsSeatOf wire c.seat
+  back-seat k c h =
+      let is : seat_name c.seat ≡ name_of wire = h.name (name_of wire) named in
+      let opening : (known c.seat).opening ≡ opened_with wire = ap (λ (n : Name). n.opening) is in (
+        ap (λ (n : Name). n.table) is,
+        h.width ∙ ap nodes_of opening ∙ wire.opening,
+        opening,
+      )
+
+  pub back-seats : (cells : List (CellView D)) → EachCell (IsBack name) cells
+      → EachCell (λ k c. IsSeatOf wire c.seat) cells
+  back-seats cells back k c there = back-seat k c (back k c there)
+
+  module _ (may_leave : D → Areas → Type 0) (old new : List (CellView D))
+      (back : EachCell (IsBack name) old) (rows : EachCell IsRow old)
+      (count : length old ≡ nodes_of (opened_with wire)) (learned : HaveLearned old new)
+      (kept : EachCell (λ k c. IsKept may_leave c) new) where
+    last-cell : EachCell (IsLast may_leave (opened_with wire) (nodes_of (opened_with wire))) new
+    last-cell k d there =
+        let inside = slice_get_within new k d there in
+        let was = some_at old k
+        (let long = learned.count in omega (arith, inside, long)) in
+        let c = was.0 in
+        let h = learned.each k c d was.1 there in
+        let seat = back-seat k c (back k c was.1) in
+        let row = rows k c was.1 in
+        let number : seat_node d.seat ≡ k = h.same.2 ∙ row.number in
+        record {
+          of = record {
+            kept = kept k d there;
+            began = h.same.4 ∙ seat.2;
+            inside = subst (λ (i : ℕ). i < nodes_of (opened_with wire)) (sym number)
+                (let long = learned.count in omega (arith, inside, long, count));
+          };
+          number = number;
+          ready = ap (λ (v : CellView D). v.is_open) h.stays ∙ row.ready;
+          width = h.same.3 ∙ seat.1 ∙ sym wire.opening;
+        }
+
+    pub of-one-moment : (disks : List D) → map (λ c. c.disk) new ≡ disks
+        → AreAtOnce (opened_with wire) new → AreOfOneMoment may_leave (opened_with wire) disks
+    of-one-moment disks same once = record {
+      cells = new;
+      same = same;
+      count = learned.count ∙ count;
+      each = last-cell;
+      once = once;
+    }
+
+-- ---- One cell after another
+
+module _ {D : Type 0} where
+  -- the first of the cells that are left is in the place of that number
+  first-left : (all left : List (CellView D)) (number : ℕ) (c : CellView D)
+      → left ≡ drop number all → 0 < length left → c ≡ get_or left 0 c
+      → slice_get all number ≡ Some c
+  first-left all left number c is some first =
+      ap (slice_get all) (let same : number ≡ number + 0 = omega arith in same)
+      ∙ sym (slice_get-drop all number 0)
+      ∙ ap (λ (l : List (CellView D)). slice_get l 0) (sym is)
+      ∙ slice_get_read left (length left) 0 c refl some first
+
+  pub kept-next : (P : CellView D → Type 0) (all left : List (CellView D)) (number : ℕ)
+      (c : CellView D) → left ≡ drop number all → 0 < length left → c ≡ get_or left 0 c → P c
+      → EachCell (λ k d. k < number → P d) all → EachCell (λ k d. k < number + 1 → P d) all
+  kept-next P all left number c is some first kept each k d there below =
+      dite (ℕ_discrete k number)
+      (λ same.
+      let here = first-left all left number c is some first in
+      let both : ◌≡◌ {A = Option (CellView D)} (Some c) (Some d) =
+      sym here ∙ subst (λ (j : ℕ). slice_get all j ≡ Some d) same there in
+      let one : c ≡ d = cc in
+      subst P one kept)
+      (λ apart. each k d there (let before : k < number = omega (arith, below, apart) in before))
+
+  -- one more place of a list, by its number
+  pub each-next : (P : ℕ → CellView D → Type 0) (all : List (CellView D)) (place : ℕ)
+      (first : CellView D) → first ≡ get_or all place first → P place first
+      → EachCell (λ k d. k < place → P k d) all → EachCell (λ k d. k < place + 1 → P k d) all
+  each-next P all place first here now each k d there below =
+      dite (ℕ_discrete k place)
+      (λ same.
+      let is : first ≡ d =
+      here ∙ get_or_from_slice_get all place d first
+      (subst (λ (j : ℕ). slice_get all j ≡ Some d) same there) in
+      subst (λ (j : ℕ). P j d) (sym same) (subst (P place) is now))
+      (λ apart. each k d there (let before : k < place = omega (arith, below, apart) in before))
+
+-- what holds of a result if one thing and another hold of it
+pub both-ok : {V E : Type 0} (P Q R : V → Type 0) (r : Result V E) → ((v : V) → P v → Q v → R v)
+    → IfOk r P → IfOk r Q → IfOk r R
+both-ok P Q R (Ok v) are first second = are v first second
+both-ok P Q R (Err e) are first second = tt

@@ -1,0 +1,7 @@
+use Rattle.std.proofs.Common.{◌≡◌, ◌<◌, ℕ, Some, slice_get}
+use Rattle.cell.specs.Moments.{EachCell}
+use Rattle.supervisor.specs.Closing.{IsRow}
+use Rattle.supervisor.proofs.closing.are_last.Given as goal
+
+abbrev pub invariant-loop-place : goal.invariant-loop-place
+invariant-loop-place g l = EachCell (λ k c. k < l.place → IsRow k c) l.cells
