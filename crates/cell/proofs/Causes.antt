@@ -11,13 +11,14 @@ use Rattle.node.specs.Keeping.{WholeNode, new_whole}
 use Rattle.cell.specs.Disks.{OpensToNode}
 use Rattle.cell.specs.Opened.{HasPlace, HoldsNone, IfRefused, IsCause, IsTooLarge}
 use Rattle.cell.specs.declared.fault.Unopened.{Unopened}
-use Rattle.cell.specs.declared.fault.Unopened.TheVariants.{Disks, Refused}
+use Rattle.cell.specs.declared.fault.Unopened.TheVariants.{Ages, Disks, Refused}
 use Rattle.cell.proofs.OnShelves.{first-there}
 
 -- a cause for one node is a cause for the list
 pub cause-there : {P Q : Refusal → Type 0} (e : Unopened) → ((r : Refusal) → P r → Q r)
     → IfRefused P e → IfRefused Q e
 cause-there Disks more is = tt
+cause-there (Ages sender receiver) more is = tt
 cause-there (Refused r) more is = λ other. more r (is other)
 
 -- the same refusal, of another call

@@ -1,6 +1,5 @@
 -- The theorems on lists of steps, applied to what cells do.
-use Rattle.std.proofs.Common.{◌≡◌, ◌⊎◌, ℕ, ◌+◌, ◌<◌, Bool, true, false, List, [], ◌++◌, map, length, Ok, Err, refl, sym, ap, ◌∙◌, subst}
-use Rattle.ids.specs.Limits.{IsShape, Shaped}
+use Rattle.std.proofs.Common.{◌≡◌, ◌⊎◌, ℕ, ◌+◌, ◌<◌, Bool, true, false, List, map, length, Ok, Err, refl, sym, ap, ◌∙◌, subst}
 use Rattle.ids.specs.declared.limits.TheConstants.{WINDOW}
 use Rattle.ids.specs.declared.names.Ref.{Ref}
 use Rattle.ids.specs.declared.refusal.Refusal.{Refusal}
@@ -8,35 +7,30 @@ use Rattle.ids.specs.declared.refusal.Refusal.TheVariants.{LinkSpent, OutOfOrder
 use Rattle.msg.specs.Frames.{plain, plain_data}
 use Rattle.msg.specs.Grammar.{data_frame}
 use Rattle.msg.specs.declared.body.Body.{Body}
+use Rattle.msg.specs.declared.body.Message.{Message}
 use Rattle.msg.specs.declared.frame.Data.{Data}
 use Rattle.msg.specs.declared.frame.Frame.{Frame}
 use Rattle.msg.specs.declared.frame.Frame.TheVariants as frame
 use Rattle.model.specs.declared.event.Event.TheVariants as event
 use Rattle.model.specs.declared.event.Answer.{Answer}
-use Rattle.model.specs.declared.step.Step.{Step}
 use Rattle.model.specs.State.{LocalState, NodeState, Object, Occupied, got_from, node_at, slot_at}
 use Rattle.model.specs.Steps.{act, made, receive}
 use Rattle.model.specs.Collecting.{swept_slots}
-use Rattle.model.specs.World.{World, new_world, run, IsInNet}
+use Rattle.model.specs.World.{World, acknowledged, run, IsInNet}
 use Rattle.model.specs.Cuts.{cut, Reachable}
-use Rattle.model.proofs.Runs.{run-append}
 use Rattle.laws.proofs.StepFacts.{act-ok}
 use Rattle.laws.proofs.Live as laws
 use Rattle.laws.proofs.Deliveries as deliveries
 use Rattle.wire.specs.Rule.{receiver}
 use Rattle.wire.specs.Views.{Pair}
 use Rattle.cell.specs.Events.{is_counted, emptied, Handled}
-use Rattle.cell.specs.Laws.{IsReached, NoneRefusedInTurn, SweepsFreeNoneReachable}
-
--- if a list of events starts from a world that a run reaches, a run reaches its end too
-onward : (w : World) (log : List Step) (r : IsReached w)
-    → run (new_world r.shape) (r.steps ++ log) ≡ run w log
-onward w log r =
-    run-append (new_world r.shape) r.steps log ∙ ap (λ (x : World). run x log) (sym r.by)
-
-pub new-reached : (shape : Shaped) → IsShape shape → IsReached (new_world shape)
-new-reached shape limits =
-    record { shape = shape; limits = limits; steps = []; by = refl }
+use Rattle.cell.specs.Laws.{NoneRefusedInTurn, SweepsFreeNoneReachable}
+use Rattle.cell.specs.Reached.{IsReached}
+use Rattle.cell.proofs.Alike.{act-like, other-answer, other-refusal}
+use Rattle.cell.proofs.AlikeCuts.{reached-too}
+use Rattle.cell.proofs.AlikeRuns.{also-released, given-like}
+use Rattle.cell.proofs.Applied.{cuts-end}
+use Rattle.cell.proofs.Reaches.{end_of, heard-end, stays-reached}
 
 -- ---- Sweeps
 
@@ -50,10 +44,21 @@ SweptIn w =
     × (slot_at (node_at w.current i).local.heap r.slot ≡ Occupied r.generation o)
     × (slot_at s.local.heap r.slot ≡ Occupied r.generation o)
 
-swept-in : (w : World) (log : List Step) → IsReached w → SweptIn (run w log)
-swept-in w log r =
-    subst SweptIn (onward w log r)
-    (laws.sweeps-free-none-reachable r.shape r.limits (r.steps ++ log))
+swept-in : (w : World) → IsReached w → SweptIn w
+swept-in w reached choice i count s a r current answered reach own =
+    let end : World = end_of reached in
+    let like = reached.by.current.each i in
+    let given =
+    act-like (acknowledged end i) (node_at w.current i) (node_at end.current i) (event.Sweep count)
+    like in
+    let other = other-answer (acknowledged end i) _ _ s a given answered in
+    let kept =
+    laws.sweeps-free-none-reachable reached.shape reached.limits reached.steps choice i count
+    other.0 a r current other.1 (reached-too (cuts-end w choice reached) reach) own in (
+      kept.0,
+      ap (λ (p : LocalState). slot_at p.heap r.slot) like.local ∙ kept.1,
+      ap (λ (p : LocalState). slot_at p.heap r.slot) other.2.local ∙ kept.2,
+    )
 
 sweep-answer : (p : LocalState) (counts : List ℕ) (count : ℕ)
     → is_counted (made p counts (event.Sweep count)).answer ≡ true
@@ -82,7 +87,8 @@ sweeps-free-none-reachable count old new v w reached shows swept =
       e.before,
       e.after,
       λ choice r current reach own.
-          (let kept = swept-in v.opening e.log reached choice v.me count s a r current
+          (let now = stays-reached v.opening e.log reached in
+          let kept = swept-in (run v.opening e.log) now choice v.me count s a r current
           (ap (λ (t : NodeState). act t (event.Sweep count)) here ∙ answered) reach own in (
             kept.0,
             ap (λ (p : LocalState). slot_at p.heap r.slot)
@@ -101,10 +107,19 @@ InTurnIn w =
     → (e ≡ LinkSpent)
     ⊎ ((e ≡ OutOfOrder) × (got_from (node_at w.current to).local from + WINDOW < number))
 
-in-turn : (w : World) (log : List Step) → IsReached w → InTurnIn (run w log)
-in-turn w log r =
-    subst InTurnIn (onward w log r)
-    (deliveries.refused-beyond r.shape r.limits (r.steps ++ log))
+in-turn : (w : World) → IsReached w → InTurnIn w
+in-turn w reached from to number stamp body e there refused =
+    let end : World = end_of reached in
+    let x : Message = record { stamp = stamp; body = body } in
+    let found = also-released w end from to number x reached.by there in
+    let y : Message = found.0 in
+    let like =
+    given-like w end from to number x y reached.by (heard-end reached) there found.1 in
+    subst
+    (λ (k : ℕ). (e ≡ LinkSpent) ⊎ ((e ≡ OutOfOrder) × (k + WINDOW < number)))
+    (sym (ap (λ (p : LocalState). got_from p from) (reached.by.current.each to).local))
+    (deliveries.refused-beyond reached.shape reached.limits reached.steps from to number y.stamp
+    y.body e found.1 (other-refusal (acknowledged end to) _ _ e like refused))
 
 received : (s : NodeState) (d : Data) (e : Refusal) → act s (event.Data d) ≡ Err e
     → receive s d.from d.to d.number d.stamp d.body ≡ Err e
@@ -132,5 +147,6 @@ none-refused-in-turn d e old v reached shows refusing plenty =
     (λ (k : ℕ). (e ≡ LinkSpent) ⊎ ((e ≡ OutOfOrder) × (k + WINDOW < d.number)))
     (ap (λ (s : NodeState). got_from s.local d.from) here
     ∙ ap (λ (p : LocalState). got_from p d.from) (sym shows.local))
-    (in-turn v.opening took.arrives.log reached d.from d.to d.number d.stamp d.body e net
+    (in-turn (run v.opening took.arrives.log) (stays-reached v.opening took.arrives.log reached)
+    d.from d.to d.number d.stamp d.body e net
     (ap (λ (s : NodeState). receive s d.from d.to d.number d.stamp d.body) here ∙ refused))

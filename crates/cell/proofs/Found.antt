@@ -18,7 +18,7 @@ use Rattle.cell.specs.Events.{both_states, found_pair, found_step}
 use Rattle.cell.proofs.Standing.{behind-itself}
 
 -- how many messages were ever sent to a node
-used-is : (l : Link) (sent : List _) → ShowsSent l sent → used l ≡ length sent
+pub used-is : (l : Link) (sent : List _) → ShowsSent l sent → used l ≡ length sent
 used-is l sent h = omega (arith, ap length h.unacknowledged, length-drop l.base sent, h.within)
 
 -- a node that shows a state still does once it is saved

@@ -21,8 +21,9 @@ use Rattle.disk.specs.Areas.{Areas}
 use Rattle.disk.specs.Shelf.{image_at, side}
 use Rattle.wire.specs.Readers.{IsSavedAs}
 use Rattle.cell.specs.Disks.{OpensTo}
-use Rattle.cell.specs.Laws.{restarted, IsLeft, IsReached, LeftIsOpened}
+use Rattle.cell.specs.Laws.{restarted, IsLeft, LeftIsOpened}
 use Rattle.cell.specs.Opened.{IsReadFrom}
+use Rattle.cell.specs.Reached.{AreAlike, IsReached}
 use Rattle.node.specs.Keeping.{WholeNode}
 use Rattle.cell.proofs.Found.{stands-read}
 use Rattle.cell.proofs.Opening.{core-found, image-found, same-found}
@@ -79,17 +80,18 @@ run-restarts before (x ∷ xs) (y ∷ ys) same =
 
 pub restarted-reached : (w : World) → IsReached w → IsReached (restarted w)
 restarted-reached w r =
-    let width : length w.saved ≡ length w.current =
-    subst (λ (x : World). length x.saved ≡ length x.current) (sym r.by)
+    let end : World = run (new_world r.shape) r.steps in
+    let width : length end.saved ≡ length end.current =
     (run-keeps-sent (new_world r.shape) r.steps (new-keeps-sent r.shape)).width in
-    let all = restarts 0 (length w.current) in
+    let all = restarts 0 (length end.current) in
     record {
       shape = r.shape;
       limits = r.limits;
       steps = r.steps ++ all;
-      by = sym (run-append (new_world r.shape) r.steps all
-          ∙ ap (λ (x : World). run x all) (sym r.by)
-          ∙ run-restarts [] w.current w.saved (sym width));
+      by = subst (AreAlike (restarted w))
+          (sym (run-append (new_world r.shape) r.steps all
+          ∙ run-restarts [] end.current end.saved (sym width)))
+          (record { current = r.by.saved; saved = r.by.saved });
     }
 
 -- ---- What is read from what was left
@@ -106,7 +108,7 @@ left-is : (shape : Shaped) (k width : ℕ) (s : NodeState) (c : Areas) (n : Node
 left-is shape k width s c n left found =
     ∥∥₁_elim left.opens (hlevel props) (λ opens. same-found n left.node c found opens)
 
-left-stands : (shape : Shaped) (k width : ℕ) (s : NodeState) (c : Areas) (whole : WholeNode)
+pub left-stands : (shape : Shaped) (k width : ℕ) (s : NodeState) (c : Areas) (whole : WholeNode)
     → IsLeft k width s c → IsReadFrom shape k c whole → IsSavedAs whole.core s
 left-stands shape k width s c whole left read =
     let n : NodeView = whole.core in

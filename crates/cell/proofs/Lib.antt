@@ -10,10 +10,16 @@ pub mod Opening
 pub mod Refusing
 pub mod NewCells
 pub mod Sent
-pub mod Composed
+pub mod Alike
+pub mod AlikeRuns
 pub mod Places
 pub mod OnShelves
 pub mod Causes
 pub mod Ready
 pub mod Blank
 pub mod Left
+pub mod Reaches
+pub mod AlikeCuts
+pub mod Applied
+pub mod Composed
+pub mod OneAge

@@ -10,6 +10,7 @@ use Rattle.model.specs.State.{NodeState, no_node, node_at, sent_to}
 use Rattle.model.specs.World.{World}
 use Rattle.model.specs.View.{Link, NodeView, Shows, ShowsSent, all_kept, kept_view, link_to, no_link, used}
 use Rattle.model.proofs.Lookups.{slice_get-drop}
+use Rattle.disk.specs.Areas.{Areas}
 use Rattle.node.specs.Keeping.{WholeNode}
 use Rattle.wire.specs.Views.{Known, Pair, pair_at}
 use Rattle.wire.specs.Readers.{known, opened_with, AreOpened, IsMade, IsSavedAs, IsSeated}
@@ -17,14 +18,15 @@ use Rattle.wire.specs.declared.seats.Wire.{Wire}
 use Rattle.wire.specs.declared.seats.NodeSeat.{NodeSeat}
 use Rattle.wire.specs.declared.seats.Watch.{Watch}
 use Rattle.wire.proofs.NewWires.{there}
+use Rattle.cell.specs.Ages.{AreOfOneAge, AreRead}
 use Rattle.cell.specs.Cells.{CellView, IsNew, new_cell}
 use Rattle.cell.specs.Desks.{IsAtSeat}
-use Rattle.cell.specs.Opened.{AreFound, AreReady, IsNodeOf, IsReady, cores, no_message, sent_of, state_of, world_of}
+use Rattle.cell.specs.Opened.{AreBeside, AreFound, AreReady, IsNodeOf, IsReadFrom, IsReady, cores, no_message, sent_of, state_of, world_of}
 use Rattle.cell.proofs.Places.{mapped-from, mapped-there}
 
 -- ---- The states of nodes whose messages are all saved
 
-many-sent : (l : Link) → length (sent_of l) ≡ used l
+pub many-sent : (l : Link) → length (sent_of l) ≡ used l
 many-sent l =
     length-append (replicate l.base no_message) l.unacknowledged
     ∙ ap (λ (i : ℕ). i + length l.unacknowledged) (length-replicate l.base no_message)
@@ -37,10 +39,10 @@ shown-sent l = record {
       ∙ ap (λ (i : ℕ). drop i (sent_of l)) (length-replicate l.base no_message);
 }
 
-sent-at : (n : NodeView) (j : ℕ) → sent_to (state_of n) j ≡ sent_of (link_to n j)
+pub sent-at : (n : NodeView) (j : ℕ) → sent_to (state_of n) j ≡ sent_of (link_to n j)
 sent-at n j = get_or-mapped sent_of n.links j no_link
 
-shown : (n : NodeView) → Shows n (state_of n)
+pub shown : (n : NodeView) → Shows n (state_of n)
 shown n = record {
   local = refl;
   width = sym (length-map n.links sent_of);
@@ -59,7 +61,7 @@ saved-as n h = record {
   acks = ap (λ (v : NodeView). v.acks) (sym h);
 }
 
-state-at : (nodes : List NodeView) (k : ℕ) (n : NodeView) → slice_get nodes k ≡ Some n
+pub state-at : (nodes : List NodeView) (k : ℕ) (n : NodeView) → slice_get nodes k ≡ Some n
     → node_at (world_of nodes).current k ≡ state_of n
 state-at nodes k n there =
     get_or-map state_of nodes k n no_node (slice_get_within nodes k n there)
@@ -186,3 +188,15 @@ shifted f done left all now last first rest were is same front some after =
 pub made-new : {D : Type 0} (c : CellView D) (n : WholeNode) (seat : NodeSeat) (disk : D)
     → c ≡ new_cell n seat disk → IsNew c
 made-new c n seat disk made = made ∙ sym (ap (λ v. new_cell v.node v.seat v.disk) made)
+
+-- the nodes of cells that were opened from these disks
+pub opened-read : {D : Type 0} (seen : D → Areas) (shape : Shaped) (disks : List D)
+    (cells : List (CellView D)) → length cells ≡ length disks
+    → AreBeside (λ k d n. IsReadFrom shape k (seen d) n) disks (map (λ c. c.node) cells)
+    → AreOfOneAge (map (λ c. c.node) cells) → AreRead seen shape disks AreOfOneAge
+opened-read seen shape disks cells count read ages = record {
+  nodes = map (λ c. c.node) cells;
+  count = length-map cells (λ c. c.node) ∙ count;
+  read = read;
+  are = ages;
+}

@@ -1,8 +1,9 @@
 -- What the theorems on lists of steps say about cells. The premises are what a cell's calls ensure,
 -- that the node shows the seat's state (as each cell guarantees), and that a run reaches the world
--- in which the wire was made. In that world the nodes were new, or as a run had saved them.
+-- in which the wire was made, except perhaps for messages that are acknowledged (`IsReached`). In
+-- that world the nodes were new, or as a run had saved them.
 use Rattle.std.specs.Prelude.{◌≡◌, ◌≢◌, ◌⊎◌, ℕ, ◌+◌, ◌<◌, Bool, false, List, [], ◌∷◌, ◌++◌, length, slice_get, Some, Ok, Err}
-use Rattle.ids.specs.Limits.{Shaped, IsShape}
+use Rattle.ids.specs.Limits.{Shaped}
 use Rattle.ids.specs.declared.names.Ref.{Ref}
 use Rattle.ids.specs.declared.limits.TheConstants.{WINDOW}
 use Rattle.ids.specs.declared.refusal.Refusal.{Refusal}
@@ -28,13 +29,7 @@ use Rattle.cell.specs.Disks.{OpensTo}
 use Rattle.cell.specs.Events.{Given}
 use Rattle.cell.specs.Opened.{cores, world_of, IsReadFrom}
 use Rattle.cell.specs.Pumping.{TookIn}
-
--- a run of a space of this shape reaches the world
-pub record IsReached (w : World) : Type 0 where
-  pub shape : Shaped
-  pub limits : IsShape shape
-  pub steps : List Step
-  pub by : w ≡ run (new_world shape) steps
+use Rattle.cell.specs.Reached.{IsReached}
 
 -- all nodes restart from their saved states
 abbrev pub restarted : World → World

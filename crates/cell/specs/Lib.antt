@@ -5,5 +5,8 @@ pub mod Cells
 pub mod Sending
 pub mod Pumping
 pub mod Names
+pub mod Reached
 pub mod Laws
+pub mod Ages
+pub mod Theorems
 pub mod Opened

@@ -17,7 +17,7 @@ use Rattle.image.specs.Wholes.{whole_image}
 use Rattle.cell.specs.Desks.{IsAtSeat}
 use Rattle.cell.specs.Disks.{OpensTo, OpensToNode}
 use Rattle.cell.specs.declared.fault.Unopened.{Unopened}
-use Rattle.cell.specs.declared.fault.Unopened.TheVariants.{Disks, Refused}
+use Rattle.cell.specs.declared.fault.Unopened.TheVariants.{Ages, Disks, Refused}
 
 -- the cores of nodes, which are what is saved
 abbrev pub cores : List WholeNode → List NodeView
@@ -59,9 +59,10 @@ IsCause seen moment faults shape own disk BadImage = HoldsNone (seen disk)
 IsCause seen moment faults shape own disk ImageTooLarge = IsTooLarge shape own (seen disk)
 IsCause seen moment faults shape own disk e = ⊥
 
--- what holds of a refusal other than `Memory`; `Disks` isn't a refusal
+-- what holds of a refusal other than `Memory`; `Disks` and `Ages` aren't refusals
 abbrev pub IfRefused : (Refusal → Type 0) → Unopened → Type 0
 IfRefused P Disks = Unit {0}
+IfRefused P (Ages sender receiver) = Unit {0}
 IfRefused P (Refused e) = e ≢ Memory → P e
 
 -- a place of a list at which a property holds

@@ -1,5 +1,5 @@
-//! Why the cells of a space could not be opened: the disks don't belong to the space, or a call
-//! failed. The first cause that is found ends the opening.
+//! Why the cells of a space could not be opened: the disks don't belong to the space or to each
+//! other, or a call failed. The first cause that is found ends the opening.
 use ids::Refusal;
 
 /// Why the cells of a space could not be opened.
@@ -8,6 +8,14 @@ pub enum Unopened {
     /// The number of disks is not the number of nodes, or a disk holds a node of another space or
     /// with another number.
     Disks,
+    /// The disks of these two nodes are not of one moment. The receiver has received more messages
+    /// than the sender has sent to it, or the sender has dropped messages that the receiver lacks.
+    Ages {
+        /// The number of the node that sent the messages.
+        sender: u8,
+        /// The number of the node that they are for.
+        receiver: u8,
+    },
     /// A node, its disk or the wire failed with this refusal.
     Refused(Refusal),
 }

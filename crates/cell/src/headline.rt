@@ -5,15 +5,34 @@ ghost use Rattle.model.specs.World.{new_world, World};
 ghost use Rattle.cell.specs.Laws.{
   restarted,
   BlankIsNew,
-  IsReached,
   LeftIsOpened,
   NoneRefusedInTurn,
   SweepsFreeNoneReachable,
+};
+ghost use Rattle.cell.specs.Reached.{AlikeGoOn, AlikeReach, IsReached, WorldOfIsReached};
+ghost use Rattle.cell.specs.Theorems.{
+  BalancesAddUp,
+  BeginOfOneAge,
+  FreshIsReached,
+  LeftIsOfOneAge,
+  NodesAgree,
+  OldGarbageGoes,
+  ReachIsLive,
+  ReopenedIsReached,
+  StaysReached,
 };
 
 /// The theorems about runs, stated for cells. Their premises are what [`act`](crate::Cell::act) and
 /// [`pump_in`](crate::Cell::pump_in) ensure, whatever other threads do in the meantime. They apply
 /// if the wire was made for nodes as a run leaves them, new or saved.
+///
+/// No disk keeps messages that were acknowledged. So a run reaches a world here if it reaches one
+/// that differs from it at most in such messages. Nothing else depends on them (`alike`,
+/// `alike_reach`).
+///
+/// Of a cell of [`open`](crate::open), its wire begins in the world of the nodes that were found. A
+/// run reaches that world if all disks were new (`fresh`), or if a space left them (`reopened`).
+/// What its events lead to is then reached too (`onward`).
 ///
 /// The function does nothing; its contract states the theorems.
 pub fn laws()
@@ -33,4 +52,37 @@ pub fn laws()
     // early that the node has no place for it, if a message that it makes the node send would need
     // a number above the greatest, or if memory runs out.
     ensures in_turn { NoneRefusedInTurn }
+    // On disks that are blank, or on which a first opening that was cut off has left new nodes,
+    // cells begin in a world that a run reaches.
+    ensures fresh { FreshIsReached }
+    // If a run reaches a world, it reaches each world that any steps lead to from there.
+    ensures onward { StaysReached }
+    // If a run reaches a world whose states the nodes have, with everything saved, then a run
+    // reaches the world of these nodes. Each of them still has what isn't acknowledged.
+    ensures opened { WorldOfIsReached }
+    // Two worlds that differ at most in acknowledged messages have the same events, and differ no
+    // more after them.
+    ensures alike { AlikeGoOn }
+    // The same is reachable in every cut of both.
+    ensures alike_reach { AlikeReach }
+    // What is reachable in a cut of a reached world is live in it.
+    ensures live { ReachIsLive }
+    // In such a cut, the balances add up to the number of messages in flight that node 0's cycle
+    // counts.
+    ensures balances { BalancesAddUp }
+    // In such a cut, if a node counts a cycle's marking as ended, it has ended, and node 0 and each
+    // node in a later cycle count it so too.
+    ensures agreement { NodesAgree }
+    // What was saved and reachable in no cut before a cycle began is gone once its node has swept
+    // that cycle.
+    ensures old_garbage { OldGarbageGoes }
+    // Nodes in which a reached world begins are of one age. So no opening of new disks is refused
+    // because of ages.
+    ensures one_age { BeginOfOneAge }
+    // Nor is one of the disks that a space left, even by a crash, if each node still has what
+    // isn't acknowledged.
+    ensures left_of_one_age { LeftIsOfOneAge }
+    // If an opening of disks that a space left isn't refused because of ages, a run reaches the
+    // world in which it begins.
+    ensures reopened { ReopenedIsReached }
 {}

@@ -1,9 +1,10 @@
 //! Makes the cells of nodes that are on shelves, and the wire between them. The caller names the
 //! world whose states the nodes are in; the theorems hold if a run reaches it.
-ghost use Rattle.std.specs.Prelude.{◌≡◌, ◌≢◌, true, All, IfErr, IfOk, IsErrOf, map, vec_len};
+ghost use Rattle.std.specs.Prelude.{◌≡◌, ◌≢◌, true, All, IfErr, IfOk, IsErrOf, length, map, vec_len};
 ghost use Rattle.ids.specs.declared.refusal.Refusal.TheVariants.{Memory};
 ghost use Rattle.model.specs.World.{World};
 ghost use Rattle.wire.specs.Readers.{AreOpened, IsMade};
+ghost use Rattle.cell.specs.Ages.{AreApart, AreOfOneAge, AreRead, IfAges};
 ghost use Rattle.cell.specs.Cells.{IsNew};
 ghost use Rattle.cell.specs.Disks.{OpensToNode};
 ghost use Rattle.cell.specs.Opened.{
@@ -103,9 +104,13 @@ pub fn open<D: Disk + Drop>(
         HasPlace (λ k d. HoldsAnother shape k (D.seen d)) disks.items }
     ensures cause { IfErr result (IfRefused (λ r.
         HasPlace (λ k d. IsCause D.seen D.moment D.faults shape k d r) disks.items)) }
+    ensures ages { IfErr result (IfAges (λ sender receiver.
+        AreRead D.seen shape disks.items (λ ns. AreApart ns sender receiver))) }
     ensures read { IfOk result (λ r. AreBeside (λ k d n. IsReadFrom shape k (D.seen d) n)
         disks.items (map (λ c. c.node) r.1.items)) }
     ensures count { IfOk result (λ r. vec_len r.1 ≡ shape.nodes) }
+    ensures all { IfOk result (λ r. length r.1.items ≡ length disks.items) }
+    ensures one_age { IfOk result (λ r. AreOfOneAge (map (λ c. c.node) r.1.items)) }
     ensures new { IfOk result (λ r. All IsNew r.1.items) }
     ensures made { IfOk result (λ r. IsMade
         (world_of (cores (map (λ c. c.node) r.1.items))) watches r.0

@@ -34,6 +34,7 @@
 //! back what another node was told.
 #![tactic(auto)]
 
+mod ages;
 mod cell;
 mod desk;
 mod disks;

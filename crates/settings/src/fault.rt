@@ -12,6 +12,15 @@ pub enum OpenFault {
     /// number.
     #[error("disks refused")]
     Disks,
+    /// The disks of these two nodes aren't of one moment. The receiver has received more messages
+    /// than the sender has sent to it, or the sender has dropped messages that the receiver lacks.
+    #[error("disks of nodes {sender} and {receiver} refused")]
+    Ages {
+        /// The number of the node that sent the messages.
+        sender: u8,
+        /// The number of the node that they are for.
+        receiver: u8,
+    },
     /// There was no memory for the text, or a node, its disk or the wire failed with this refusal.
     #[error("refused {0}")]
     Refused(Refusal),

@@ -7,7 +7,7 @@ use Rattle.wire.specs.declared.seats.NodeSeat.{NodeSeat}
 use Rattle.wire.specs.declared.seats.Wire.{Wire}
 use Rattle.wire.specs.declared.seats.Watch.{Watch}
 use Rattle.settings.specs.declared.fault.OpenFault.{OpenFault}
-use Rattle.settings.specs.declared.fault.OpenFault.TheVariants.{Config, Disks, Refused}
+use Rattle.settings.specs.declared.fault.OpenFault.TheVariants.{Ages, Config, Disks, Refused}
 use Rattle.supervisor.specs.declared.team.Team.{Team}
 
 -- watches of this wire
@@ -27,4 +27,10 @@ worker_count (Some t) = vec_len t.workers + vec_len t.reports
 abbrev pub IfRefused : (Refusal → Type 0) → OpenFault → Type 0
 IfRefused P Config = ⊥
 IfRefused P Disks = Unit {0}
+IfRefused P (Ages sender receiver) = Unit {0}
 IfRefused P (Refused e) = e ≢ Memory → P e
+
+-- what holds of two nodes that are named as not of one age
+abbrev pub IfAges : (ℕ → ℕ → Type 0) → OpenFault → Type 0
+IfAges P (Ages sender receiver) = P sender receiver
+IfAges P e = Unit {0}

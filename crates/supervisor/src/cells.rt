@@ -4,9 +4,10 @@ ghost use Rattle.std.specs.Prelude.{◌≡◌, ◌≢◌, IfErr, IfOk, IsErrOf, 
 ghost use Rattle.std.specs.Arc.{arc_value};
 ghost use Rattle.ids.specs.declared.refusal.Refusal.TheVariants.{Memory};
 ghost use Rattle.wire.specs.Readers.{IsSeatOf};
+ghost use Rattle.cell.specs.Ages.{AreApart, AreOfOneAge, AreRead};
 ghost use Rattle.cell.specs.Opened.{HasPlace, HoldsAnother, IsCause};
 ghost use Rattle.settings.specs.declared.fault.OpenFault.TheVariants as fault;
-ghost use Rattle.supervisor.specs.Opened.{AreSeats, AreWatches, IfRefused};
+ghost use Rattle.supervisor.specs.Opened.{AreSeats, AreWatches, IfAges, IfRefused};
 ghost use Rattle.supervisor.specs.declared.cells.TheConstants.{WATCHES};
 
 use cell::{Cell, Shared, Unopened};
@@ -73,6 +74,9 @@ fn open_alone<D: Disk + Drop>(
         HasPlace (λ k d. HoldsAnother shape k (D.seen d)) disks.items }
     ensures cause { IfErr result (IfRefused (λ r.
         HasPlace (λ k d. IsCause D.seen D.moment D.faults shape k d r) disks.items)) }
+    ensures ages { IfErr result (IfAges (λ sender receiver.
+        AreRead D.seen shape disks.items (λ ns. AreApart ns sender receiver))) }
+    ensures one_age { IfOk result (λ _. AreRead D.seen shape disks.items AreOfOneAge) }
     ensures count { IfOk result (λ r. vec_len r.1 ≡ shape.nodes) }
     ensures seats { IfOk result (λ r. AreSeats r.0 (map (λ c. c.seat) r.1.items)) }
     ensures watches { IfOk result (λ r. AreWatches r.0 r.2.items) }
@@ -81,6 +85,7 @@ fn open_alone<D: Disk + Drop>(
     match cell::open(alloc, shape, disks, WATCHES) {
         Ok(opened) => Ok(opened),
         Err(Unopened::Disks) => Err(OpenFault::Disks),
+        Err(Unopened::Ages { sender, receiver }) => Err(OpenFault::Ages { sender, receiver }),
         Err(Unopened::Refused(refusal)) => Err(OpenFault::Refused(refusal)),
     }
 }
@@ -97,6 +102,9 @@ pub(crate) fn open_cells<D: Disk + Drop>(
         HasPlace (λ k d. HoldsAnother shape k (D.seen d)) disks.items }
     ensures cause { IfErr result (IfRefused (λ r.
         HasPlace (λ k d. IsCause D.seen D.moment D.faults shape k d r) disks.items)) }
+    ensures ages { IfErr result (IfAges (λ sender receiver.
+        AreRead D.seen shape disks.items (λ ns. AreApart ns sender receiver))) }
+    ensures one_age { IfOk result (λ _. AreRead D.seen shape disks.items AreOfOneAge) }
     ensures count { IfOk result (λ r. vec_len r.1 ≡ shape.nodes) }
     ensures watches { IfOk result (λ r. AreWatches (arc_value r.0) r.2.items) }
     ensures watch_count { IfOk result (λ r. vec_len r.2 ≡ WATCHES) }

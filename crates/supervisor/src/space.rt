@@ -8,9 +8,10 @@ ghost use Rattle.std.specs.List.Sorted.{IsNonDecreasingBy};
 ghost use Rattle.ids.specs.declared.refusal.Refusal.TheVariants as refusal;
 ghost use Rattle.wire.specs.Plays.{HasEnded, WasEnded};
 ghost use Rattle.wire.specs.Readers.{heard, loaded, watch_opening, IsSameWatch, IsWatchOf};
+ghost use Rattle.cell.specs.Ages.{AreApart, AreOfOneAge, AreRead};
 ghost use Rattle.cell.specs.Opened.{HasPlace, HoldsAnother, IsCause};
 ghost use Rattle.settings.specs.declared.fault.OpenFault.TheVariants as fault;
-ghost use Rattle.supervisor.specs.Opened.{worker_count, AreWatches, IfRefused};
+ghost use Rattle.supervisor.specs.Opened.{worker_count, AreWatches, IfAges, IfRefused};
 ghost use Rattle.supervisor.specs.declared.cells.TheConstants.{WATCHES};
 
 use crate::cells::open_cells;
@@ -46,15 +47,20 @@ impl<D: Disk + Drop> Space<D> {
     /// Disks that hold nodes have to be those of one space that was closed or stopped earlier.
     ///
     /// `Disks` if the number of disks isn't the number of nodes, or if a disk holds a node of
-    /// another shape or number. `Refused` with `BadImage`, `ImageTooLarge` or `Disk` for the causes
-    /// that [`cell::find`] lists, and with `Memory` if allocation failed; with nothing else. Never
-    /// `Config`. After an error all disks are dropped.
+    /// another shape or number. `Ages` exactly if all nodes are found and two of them can't be the
+    /// saved states of one moment. `Refused` with `BadImage`, `ImageTooLarge` or `Disk` for the
+    /// causes that [`cell::find`] lists, and with `Memory` if allocation failed; with nothing else.
+    /// Never `Config`. After an error all disks are dropped.
     pub fn open(alloc: Global, config: &Config, disks: Vec<D>) -> Result<Space<D>, OpenFault>
         ensures disks { vec_len disks ≢ config.now.shape.nodes → IsErrOf result fault.Disks }
         ensures other { IsErrOf result fault.Disks → vec_len disks ≡ config.now.shape.nodes →
             HasPlace (λ k d. HoldsAnother config.now.shape k (D.seen d)) disks.items }
         ensures cause { IfErr result (IfRefused (λ r. HasPlace
             (λ k d. IsCause D.seen D.moment D.faults config.now.shape k d r) disks.items)) }
+        ensures ages { IfErr result (IfAges (λ sender receiver. AreRead D.seen config.now.shape
+            disks.items (λ ns. AreApart ns sender receiver))) }
+        ensures one_age { IfOk result (λ _.
+            AreRead D.seen config.now.shape disks.items AreOfOneAge) }
         ensures nodes { IfOk result (λ s. s.plan.nodes ≡ config.now.shape.nodes) }
         ensures turns { IfOk result (λ s. s.plan.turns ≡ config.now.turns) }
         ensures fresh { IfOk result (λ s. is_some s.team ≡ false) }

@@ -96,6 +96,7 @@ pub(crate) fn open_cells(
         }
         Err(Unopened::Refused(refusal)) => Err(refusal),
         Err(Unopened::Disks) => Err(Refusal::NoNode),
+        Err(Unopened::Ages { .. }) => Err(Refusal::NoNode),
     }
 }
 

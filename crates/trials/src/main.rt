@@ -132,7 +132,7 @@ where
     match subject {
         "node" => take_all(Nodes::new(alloc), lines, out),
         "disk" => take_all(Disks::new(alloc), lines, out),
-        "opening" => openings::run(alloc, lines, out),
+        "opening" => openings::run(rt, alloc, lines, out),
         "files" => files::run(rt, lines, out),
         "wire" => mailboxes::run(alloc, lines, out),
         "arena" => arenas::run(alloc, lines, out),

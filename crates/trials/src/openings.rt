@@ -1,40 +1,133 @@
-//! Opens spaces on disks in memory, which a case can make fail and crash. No worker is started.
+//! Opens spaces on disks in memory. A case can make a disk fail and crash, and replace it with an
+//! older copy. No worker is started: each command that gives a node something opens the space,
+//! saves the node and drops the space.
+ghost use Rattle.std.specs.Prelude.{◌≡◌, true};
+ghost use Rattle.model.specs.Steps.{is_own};
+
 use crate::spaces::config_of;
 use cases::crashes::{change, put_crashes};
-use cases::{Lent, Line, Out, Size, Stop, blank_disks, number, verb};
-use disk::MemoryDisk;
+use cases::{Lent, Line, Out, Size, Stop, blank_disks, event_of, number, read, verb};
+use disk::{Disk, MemoryDisk};
 use ids::Refusal;
+use model::{Answer, Event};
 use std::alloc::Global;
+use std::sync::Wait;
 use supervisor::{OpenFault, Space};
+use wire::Inbound;
+
+// The disks of a space, and the copies that the case has kept.
+#[derive(Drop)]
+struct Openings<'a, R> {
+    rt: &'a R,
+    alloc: Global,
+    disks: Vec<MemoryDisk>,
+    copies: Vec<MemoryDisk>,
+}
 
 /// A case for the disks of spaces.
-pub(crate) fn run(alloc: Global, lines: &[Line<'_>], out: &mut Out) -> Result<(), Stop> {
-    let mut disks = Vec::new(alloc);
+pub(crate) fn run<R: Wait>(
+    rt: &R,
+    alloc: Global,
+    lines: &[Line<'_>],
+    out: &mut Out,
+) -> Result<(), Stop> {
+    let mut openings = Openings {
+        rt,
+        alloc,
+        disks: Vec::new(alloc),
+        copies: Vec::new(alloc),
+    };
     for line in lines {
-        take(alloc, &mut disks, out.at(line), out)?;
+        openings.take(out.at(line), out)?;
     }
     Ok(())
 }
 
-fn take(
-    alloc: Global,
-    held: &mut Vec<MemoryDisk>,
-    words: &[&str],
-    out: &mut Out,
-) -> Result<(), Stop> {
-    match verb(words) {
-        "fresh" => {
-            *held = blank_disks(alloc, number(words, 1)?)?;
-            out.text("ok");
+impl<R: Wait> Openings<'_, R> {
+    fn take(&mut self, words: &[&str], out: &mut Out) -> Result<(), Stop> {
+        match verb(words) {
+            "fresh" => {
+                self.disks = blank_disks(self.alloc, number(words, 1)?)?;
+                out.text("ok");
+            }
+            "open" => self.open(out),
+            "act" => return self.act(words, out),
+            "carry" => return self.carry(words, out),
+            "keep" => return self.keep(number(words, 1)?, out),
+            "restore" => return self.restore(number(words, 1)?, number(words, 2)?, out),
+            "crashes" => {
+                let node = number(words, 1)?;
+                put_crashes(self.alloc, disk_of(&mut self.disks, node)?, node, out);
+            }
+            _ => change(disk_of(&mut self.disks, number(words, 1)?)?, words, out)?,
         }
-        "open" => open(alloc, held, out),
-        "crashes" => {
-            let node = number(words, 1)?;
-            put_crashes(alloc, disk_of(held, node)?, node, out);
-        }
-        _ => change(disk_of(held, number(words, 1)?)?, words, out)?,
+        Ok(())
     }
-    Ok(())
+
+    // Opens a space on the disks, and drops it.
+    fn open(&mut self, out: &mut Out) {
+        match opened(self.alloc, &mut self.disks) {
+            Ok(space) => {
+                drop(space);
+                out.text("ok");
+            }
+            Err(fault) => out.show(&fault),
+        }
+    }
+
+    // Opens a space, and gives a node an event and saves it.
+    fn act(&mut self, words: &[&str], out: &mut Out) -> Result<(), Stop> {
+        let [_, node, words @ ..] = words else {
+            return Err(Stop::Unknown);
+        };
+        let node = read(node)?;
+        let event = event_of(self.alloc, words)?;
+        match opened(self.alloc, &mut self.disks) {
+            Ok(space) => out.answer(act_on(self.rt, &space, node, event)),
+            Err(fault) => out.show(&fault),
+        }
+        Ok(())
+    }
+
+    // Opens a space, in which a node sends another one some frames, and saves the receiver.
+    fn carry(&mut self, words: &[&str], out: &mut Out) -> Result<(), Stop> {
+        let from = number(words, 1)?;
+        let to = number(words, 2)?;
+        let count = number(words, 3)?;
+        match opened(self.alloc, &mut self.disks) {
+            Ok(space) => out.answer(carry_on(self.rt, &space, from, to, count)),
+            Err(fault) => out.show(&fault),
+        }
+        Ok(())
+    }
+
+    // Copies the disk of a node; the number of the copy.
+    fn keep(&mut self, node: u8, out: &mut Out) -> Result<(), Stop> {
+        match disk_of(&mut self.disks, node)?.after_crash(0) {
+            Ok(copy) => {
+                let place = self.copies.len();
+                self.copies.push(copy)?;
+                out.show(&place);
+            }
+            Err(refusal) => out.refused(refusal),
+        }
+        Ok(())
+    }
+
+    // Replaces the disk of a node with a copy that was kept.
+    fn restore(&mut self, node: u8, place: usize, out: &mut Out) -> Result<(), Stop> {
+        let Some(copy) = self.copies.get(place) else {
+            return Err(Stop::Unknown);
+        };
+        match copy.after_crash(0) {
+            Ok(disk) => {
+                *disk_of(&mut self.disks, node)? = disk;
+                out.text("ok");
+            }
+            Err(refusal) => out.refused(refusal),
+        }
+        Ok(())
+    }
 }
 
 fn disk_of(held: &mut [MemoryDisk], node: u8) -> Result<&mut MemoryDisk, Stop> {
@@ -44,15 +137,11 @@ fn disk_of(held: &mut [MemoryDisk], node: u8) -> Result<&mut MemoryDisk, Stop> {
     }
 }
 
-// The result of opening a space on the disks. The space is dropped immediately.
-fn open(alloc: Global, held: &mut [MemoryDisk], out: &mut Out) {
-    match opened(alloc, held) {
-        Ok(()) => out.text("ok"),
-        Err(fault) => out.show(&fault),
-    }
-}
-
-fn opened(alloc: Global, held: &mut [MemoryDisk]) -> Result<(), OpenFault> {
+// A space on these disks.
+fn opened<'a>(
+    alloc: Global,
+    held: &'a mut [MemoryDisk],
+) -> Result<Space<Lent<'a, MemoryDisk>>, OpenFault> {
     let size = Size {
         nodes: u8::try_from(held.len()).unwrap_or(u8::MAX),
         ..Size::pair(1)
@@ -65,7 +154,45 @@ fn opened(alloc: Global, held: &mut [MemoryDisk]) -> Result<(), OpenFault> {
             return Err(OpenFault::Refused(Refusal::Memory));
         }
     }
-    let space = Space::open(alloc, &config, lent)?;
-    drop(space);
-    Ok(())
+    Space::open(alloc, &config, lent)
+}
+
+// A node's answer to an event, once the node is saved.
+fn act_on<R: Wait, D: Disk + Drop>(
+    rt: &R,
+    space: &Space<D>,
+    node: u8,
+    event: Event,
+) -> Result<Answer, Refusal>
+    requires { is_own event ≡ true }
+{
+    let Some(program) = space.program(node) else {
+        return Err(Refusal::NoNode);
+    };
+    let answer = program.act(rt, event)?;
+    program.save(rt)?;
+    Ok(answer)
+}
+
+// The last frame that a node receives of some that another one sends, once the receiver is saved.
+fn carry_on<R: Wait, D: Disk + Drop>(
+    rt: &R,
+    space: &Space<D>,
+    from: u8,
+    to: u8,
+    count: u8,
+) -> Result<Inbound, Refusal> {
+    let Some(sender) = space.program(from) else {
+        return Err(Refusal::NoNode);
+    };
+    let Some(receiver) = space.program(to) else {
+        return Err(Refusal::NoNode);
+    };
+    let mut last = Inbound::Empty;
+    for _ in 0..count {
+        sender.pump_out(rt, to)?;
+        last = receiver.pump_in(rt, from)?;
+    }
+    receiver.save(rt)?;
+    Ok(last)
 }

@@ -1,6 +1,10 @@
 use Rattle.cell.proofs.Blank.{blank-new}
-use Rattle.cell.proofs.Composed.{new-reached, none-refused-in-turn, sweeps-free-none-reachable}
+use Rattle.cell.proofs.AlikeCuts.{alike-reach}
+use Rattle.cell.proofs.Applied.{balances-add-up, nodes-agree, old-garbage-goes, reach-is-live}
+use Rattle.cell.proofs.Composed.{none-refused-in-turn, sweeps-free-none-reachable}
 use Rattle.cell.proofs.Left.{left-opened, restarted-reached}
+use Rattle.cell.proofs.OneAge.{begin-of-one-age, left-is-of-one-age, reopened-is-reached}
+use Rattle.cell.proofs.Reaches.{alike-go-on, fresh-reached, new-reached, stays-reached, world-of-reached}
 use Rattle.cell.proofs.headline.laws.Goals as goal
 
 pub returns-clause-new : goal.returns-clause-new
@@ -20,3 +24,39 @@ returns-clause-left c = left-opened
 
 pub returns-clause-blank : goal.returns-clause-blank
 returns-clause-blank c = blank-new
+
+pub returns-clause-fresh : goal.returns-clause-fresh
+returns-clause-fresh c = fresh-reached
+
+pub returns-clause-onward : goal.returns-clause-onward
+returns-clause-onward c = stays-reached
+
+pub returns-clause-opened : goal.returns-clause-opened
+returns-clause-opened c = world-of-reached
+
+pub returns-clause-alike : goal.returns-clause-alike
+returns-clause-alike c = alike-go-on
+
+pub returns-clause-alike_reach : goal.returns-clause-alike_reach
+returns-clause-alike_reach c = alike-reach
+
+pub returns-clause-live : goal.returns-clause-live
+returns-clause-live c = reach-is-live
+
+pub returns-clause-balances : goal.returns-clause-balances
+returns-clause-balances c = balances-add-up
+
+pub returns-clause-agreement : goal.returns-clause-agreement
+returns-clause-agreement c = nodes-agree
+
+pub returns-clause-old_garbage : goal.returns-clause-old_garbage
+returns-clause-old_garbage c = old-garbage-goes
+
+pub returns-clause-one_age : goal.returns-clause-one_age
+returns-clause-one_age c = begin-of-one-age
+
+pub returns-clause-left_of_one_age : goal.returns-clause-left_of_one_age
+returns-clause-left_of_one_age c = left-is-of-one-age
+
+pub returns-clause-reopened : goal.returns-clause-reopened
+returns-clause-reopened c = reopened-is-reached

@@ -1,4 +1,5 @@
-use Rattle.std.proofs.Common.{List, subst, sym}
+use Rattle.std.proofs.Common.{◌∙◌, List, ap, length, subst, sym}
+use Rattle.std.proofs.lemmas.List.{length-map}
 use Rattle.std.proofs.lemmas.Result.{err_from_is_err_and}
 use Rattle.node.specs.Keeping.{WholeNode}
 use Rattle.image.proofs.Spelled.{kept_is}
@@ -23,6 +24,11 @@ returns-in-Ok-clause-read g c =
     subst (λ (l : List WholeNode).
     AreBeside (λ k d n. IsReadFrom c.args.shape k (g.D.Disk.seen d) n) c.args.disks.items l)
     (sym c.in-Ok.ensures.nodes) c.in_ok-nodes.ensures.read
+
+pub returns-in-Ok-clause-all : goal.returns-in-Ok-clause-all
+returns-in-Ok-clause-all g c =
+    sym (length-map _ (λ v. v.node)) ∙ ap length c.in-Ok.ensures.nodes
+    ∙ c.in_ok-nodes.ensures.all
 
 pub returns-in_err-nodes-clause-disks : goal.returns-in_err-nodes-clause-disks
 returns-in_err-nodes-clause-disks g c =

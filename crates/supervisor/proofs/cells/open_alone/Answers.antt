@@ -1,4 +1,9 @@
+use Rattle.cell.proofs.Ready.{opened-read}
 use Rattle.supervisor.proofs.cells.open_alone.Goals as goal
 
 pub returns-in-Ok-clause-seats : goal.returns-in-Ok-clause-seats
 returns-in-Ok-clause-seats g c = λ k s there. (c.in-Ok.ensures.made.each_seat k s there).of
+
+pub returns-in-Ok-clause-one_age : goal.returns-in-Ok-clause-one_age
+returns-in-Ok-clause-one_age g c =
+    opened-read _ _ _ _ c.in-Ok.ensures.all c.in-Ok.ensures.read c.in-Ok.ensures.one_age

@@ -1,7 +1,7 @@
 use Rattle.std.proofs.Common.{◌≡◌, ◌+◌, vec_len, true, length, drop}
 use Rattle.cell.specs.Disks.{OpensToNode}
 use Rattle.cell.specs.Opened.{AreBeside, AreFound, IsReadFrom}
-use Rattle.cell.proofs.finding.find.Given as goal
+use Rattle.cell.proofs.finding.read_all.Given as goal
 
 abbrev pub invariant-loop-number : goal.invariant-loop-number
 invariant-loop-number g l = record {

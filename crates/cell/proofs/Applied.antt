@@ -1,0 +1,87 @@
+-- The theorems on runs, applied to worlds that a run reaches, except perhaps for acknowledged
+-- messages.
+use Rattle.std.proofs.Common.{◌≡◌, ◌≤◌, ◌<◌, ℕ, pos, Bool, length, sym, ap, ◌∙◌, subst}
+use Rattle.ids.specs.declared.names.Ref.{Ref}
+use Rattle.model.specs.State.{LocalState, slot_at}
+use Rattle.model.specs.World.{World, new_world, run}
+use Rattle.model.specs.Cuts.{Cut, cut}
+use Rattle.model.specs.Agreement.{balance, flow, is_counted, number_of, total, EndsAlike, OldGarbage}
+use Rattle.laws.proofs.KeepsSent.{run-count}
+use Rattle.laws.proofs.Live as laws
+use Rattle.laws.proofs.Net.{heard-onward}
+use Rattle.laws.proofs.OldGarbage as garbage
+use Rattle.laws.proofs.Onward.{run-behind}
+use Rattle.wire.proofs.NewWires.{new-width}
+use Rattle.cell.specs.Reached.{AreAlike, IsReached}
+use Rattle.cell.specs.Theorems.{BalancesAddUp, NodesAgree, OldGarbageGoes, ReachIsLive}
+use Rattle.cell.proofs.AlikeCuts.{CutsAlike, cuts-alike, cuts-sym, ends-too, live-too, reached-too}
+use Rattle.cell.proofs.AlikeRuns.{run-like}
+use Rattle.cell.proofs.Reaches.{end_of, heard-end}
+
+pub cuts-end : (w : World) (choice : ℕ → Bool) (r : IsReached w)
+    → CutsAlike (cut w choice) (cut (end_of r) choice)
+cuts-end w choice r = cuts-alike w (end_of r) choice r.by (heard-end r)
+
+pub node-count : (w : World) (r : IsReached w) → length w.current ≡ r.shape.nodes
+node-count w r =
+    r.by.current.width ∙ run-count (new_world r.shape) r.steps ∙ new-width r.shape
+
+pub reach-is-live : ReachIsLive
+reach-is-live w choice r reached reach =
+    let cuts = cuts-end w choice reached in
+    live-too r (cuts-sym cuts)
+    (laws.reach-is-live reached.shape reached.limits reached.steps choice r
+    (reached-too cuts reach))
+
+-- both sides of the sum
+balances-same : {c d : Cut} (n m : ℕ) → n ≡ m → CutsAlike c d
+    → total m (λ i. balance (d 0).local.phases.cycle (d i).local)
+    ≡ flow m (is_counted (d 0).local.phases.cycle) d
+    → total n (λ i. balance (c 0).local.phases.cycle (c i).local)
+    ≡ flow n (is_counted (c 0).local.phases.cycle) c
+balances-same n m count h same =
+    (λ k. total (count k) (λ i. balance (h.locals 0 k).phases.cycle (h.locals i k)))
+    ∙ same
+    ∙ sym (λ k.
+    total (count k) (λ from. total (count k) (λ to.
+    pos (number_of (is_counted (h.locals 0 k).phases.cycle) (h.flights from to k)))))
+
+pub balances-add-up : BalancesAddUp
+balances-add-up w choice reached =
+    balances-same (length w.current) reached.shape.nodes (node-count w reached)
+    (cuts-end w choice reached)
+    (laws.balances-add-up reached.shape reached.limits reached.steps choice)
+
+pub nodes-agree : NodesAgree
+nodes-agree w choice i cycle reached inside ended =
+    let cuts = cuts-end w choice reached in
+    let count = node-count w reached in
+    ends-too (length w.current) cycle (cuts-sym cuts)
+    (subst (λ (n : ℕ). EndsAlike n cycle (cut (end_of reached) choice)) (sym count)
+    (laws.nodes-agree reached.shape reached.limits reached.steps choice i cycle
+    (subst (λ (n : ℕ). i < n) count inside)
+    (subst (λ (p : LocalState). cycle ≤ p.phases.ended) (cuts.locals i) ended)))
+
+old-too : (w v : World) (r : Ref) → AreAlike w v
+    → ((choice : ℕ → Bool) → CutsAlike (cut w choice) (cut v choice)) → OldGarbage w r
+    → OldGarbage v r
+old-too w v r h cuts old = record {
+  object = old.object;
+  saved = sym (ap (λ (p : LocalState). slot_at p.heap r.slot) (h.saved.each r.node).local)
+      ∙ old.saved;
+  unreachable = λ choice reach.
+      old.unreachable choice (reached-too (cuts-sym (cuts choice)) reach);
+}
+
+pub old-garbage-goes : OldGarbageGoes
+old-garbage-goes w later choice cycle r reached before old swept live =
+    let end : World = end_of reached in
+    let heard = heard-end reached in
+    let cuts : CutsAlike (cut (run w later) choice) (cut (run end later) choice) =
+    cuts-alike (run w later) (run end later) choice (run-like w end later reached.by heard)
+    (run-behind heard-onward end later heard) in
+    garbage.old-garbage-goes reached.shape reached.limits reached.steps later choice cycle r
+    (subst (λ (p : LocalState). p.phases.cycle < cycle) (reached.by.current.each 0).local before)
+    (old-too w end r reached.by (λ c. cuts-end w c reached) old)
+    (subst (λ (p : LocalState). cycle ≤ p.phases.swept) (cuts.locals r.node) swept)
+    (live-too r cuts live)

@@ -1,0 +1,87 @@
+-- The theorems on runs, of each world that a run reaches, except perhaps for messages that are
+-- acknowledged. So they hold of spaces that were opened from used disks.
+use Rattle.std.specs.Prelude.{◌≡◌, ◌⊎◌, ℕ, ◌<◌, ◌≤◌, Bool, List, [], Some, length, slice_get}
+use Rattle.ids.specs.Limits.{Shaped, IsShape}
+use Rattle.ids.specs.declared.names.Ref.{Ref}
+use Rattle.model.specs.declared.step.Step.{Step}
+use Rattle.model.specs.State.{new_node, node_at}
+use Rattle.model.specs.World.{World, run}
+use Rattle.model.specs.Cuts.{cut, IsLive, Reachable}
+use Rattle.model.specs.Agreement.{balance, flow, is_counted, total, EndsAlike, OldGarbage}
+use Rattle.disk.specs.Areas.{Areas}
+use Rattle.node.specs.Keeping.{WholeNode}
+use Rattle.cell.specs.Ages.{AreOfOneAge}
+use Rattle.cell.specs.Laws.{restarted, IsLeft}
+use Rattle.cell.specs.Opened.{IsReadFrom}
+use Rattle.cell.specs.Reached.{AreHeld, BeginReached, IsReached}
+
+-- Each disk is blank, or a cell left a new node on it. So it may be if a first opening was cut off.
+abbrev pub FreshIsReached : Type 0
+FreshIsReached =
+    (shape : Shaped) (nodes : List WholeNode) → IsShape shape → length nodes ≡ shape.nodes
+    → ((k : ℕ) (n : WholeNode) → slice_get nodes k ≡ Some n → (c : Areas)
+    × ((c.select ≡ []) ⊎ IsLeft k shape.nodes (new_node shape k) c) × IsReadFrom shape k c n)
+    → BeginReached nodes
+
+-- Whatever happens in a world that a run reaches, a run reaches the world afterwards.
+abbrev pub StaysReached : Type 0
+StaysReached = (w : World) (steps : List Step) → IsReached w → IsReached (run w steps)
+
+-- What is reachable in some cut is live in it.
+abbrev pub ReachIsLive : Type 0
+ReachIsLive =
+    (w : World) (choice : ℕ → Bool) (r : Ref) → IsReached w → Reachable (cut w choice) r
+    → IsLive (cut w choice) r
+
+-- The balances of the nodes add up to the number of messages in flight that node 0's cycle counts.
+abbrev pub BalancesAddUp : Type 0
+BalancesAddUp =
+    (w : World) (choice : ℕ → Bool) → IsReached w
+    → total (length w.current)
+    (λ i. balance (cut w choice 0).local.phases.cycle (cut w choice i).local)
+    ≡ flow (length w.current) (is_counted (cut w choice 0).local.phases.cycle) (cut w choice)
+
+-- If a node counts the marking of a cycle as ended, it has ended, and so do node 0 and each node in
+-- a later cycle.
+abbrev pub NodesAgree : Type 0
+NodesAgree =
+    (w : World) (choice : ℕ → Bool) (i cycle : ℕ) → IsReached w → i < length w.current
+    → cycle ≤ (cut w choice i).local.phases.ended
+    → EndsAlike (length w.current) cycle (cut w choice)
+
+-- What was garbage in every cut before a cycle began is gone once its owner has swept that cycle.
+abbrev pub OldGarbageGoes : Type 0
+OldGarbageGoes =
+    (w : World) (later : List Step) (choice : ℕ → Bool) (cycle : ℕ) (r : Ref) → IsReached w
+    → (node_at w.current 0).local.phases.cycle < cycle → OldGarbage w r
+    → cycle ≤ (cut (run w later) choice r.node).local.phases.swept
+    → IsLive (cut (run w later) choice) r → ⊥
+
+-- ---- Disks of one age
+
+-- The nodes are read from what the cells of a space left on its disks, which a run reached in this
+-- world.
+pub record AreLeft (shape : Shaped) (w : World) (nodes : List WholeNode) : Type 0 where
+  pub reached : IsReached w
+  pub width : length w.saved ≡ shape.nodes
+  pub count : length nodes ≡ shape.nodes
+  pub each : (k : ℕ) (n : WholeNode) → slice_get nodes k ≡ Some n → (c : Areas)
+      × IsLeft k shape.nodes (node_at w.saved k) c × IsReadFrom shape k c n
+
+-- Nodes in which a space may begin are of one age. So no opening that has found them is refused
+-- because of their ages: not of the disks of a first opening, nor of those of a space that a crash
+-- has stopped.
+abbrev pub BeginOfOneAge : Type 0
+BeginOfOneAge = (nodes : List WholeNode) → BeginReached nodes → AreOfOneAge nodes
+
+abbrev pub LeftIsOfOneAge : Type 0
+LeftIsOfOneAge =
+    (shape : Shaped) (w : World) (nodes : List WholeNode) → AreLeft shape w nodes
+    → AreHeld nodes (restarted w) → AreOfOneAge nodes
+
+-- An opening that isn't refused has tested that no node dropped a message that another one lacks.
+-- So if a space left the disks, a run reaches the world in which they are opened again.
+abbrev pub ReopenedIsReached : Type 0
+ReopenedIsReached =
+    (shape : Shaped) (w : World) (nodes : List WholeNode) → AreLeft shape w nodes
+    → AreOfOneAge nodes → BeginReached nodes
