@@ -1,5 +1,5 @@
-// binary-trees of the Benchmarks Game on four heaps: node 0 of a space of two (MARKRING), malloc and
-// free (MALLOC), and Boehm's collector (BOEHM). bench/library compiles it for each.
+// binary-trees of the Benchmarks Game on three heaps: node 0 of a space of two (MARKRING), malloc
+// and free (MALLOC), and Boehm's collector (BOEHM). bench/library compiles it for each.
 //
 //     trees DEPTH
 //
@@ -19,8 +19,8 @@ enum { LEAST = 4, MOST = 20 };
 
 enum { SLOTS = 1048576, REGISTERS = 64, SWEPT = 1048576 };
 
-// The register of the long-lived tree, and the first of the others. A tree takes a register for each
-// level.
+// The register of the long-lived tree, and the first of the others. A tree takes a register for
+// each level.
 enum { LONG_LIVED = 0, FIRST = 1 };
 
 static markring_node nodes[2];

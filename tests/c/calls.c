@@ -66,8 +66,8 @@ static unsigned long seen[MARKRING_ANSWER_EARLY + 1], refusals[25];
 static markring_event draw_event(uint64_t *seed)
 {
     // More of those that fill registers than of those that empty them.
-    static const uint8_t KINDS[] = {1, 1, 1, 1, 2, 3, 4, 4, 5, 5, 6, 7, 8, 9, 9, 10, 10, 11, 12, 13, 14,
-        14, 14, 15, 15, 16, 16, 17};
+    static const uint8_t KINDS[] = {1, 1, 1, 1, 2, 3, 4, 4, 5, 5, 6, 7, 8, 9, 9, 10, 10, 11, 12, 13,
+        14, 14, 14, 15, 15, 16, 16, 17};
     markring_event event = {0};
     event.kind = KINDS[below(seed, sizeof KINDS)];
     event.node = (uint8_t)below(seed, 3);
@@ -182,7 +182,8 @@ static void save_cell(markring_cell *cell)
 }
 
 // Sends and receives once, and returns what the sender and the receiver know of the link.
-static void send_once(int i, uint8_t from, uint8_t to, markring_link *sender, markring_link *receiver)
+static void send_once(int i, uint8_t from, uint8_t to, markring_link *sender,
+    markring_link *receiver)
 {
     uint8_t sent;
     markring_answer answer;
@@ -344,9 +345,9 @@ static void compare(void)
 static void look_at_texts(void)
 {
     static const char *const NAMES[] = {"OK", "Memory", "ArenaFull", "NoRegister", "EmptyRegister",
-        "Remote", "Local", "NoNode", "NoLetter", "NoField", "TooManyFields", "SelfSend", "LinkSpent",
-        "CyclesSpent", "NotDirector", "CycleRunning", "NothingToDo", "OutOfOrder", "AckBeyond",
-        "BadFrame", "WrongNode", "BadImage", "ImageTooLarge", "Disk", "Closed"};
+        "Remote", "Local", "NoNode", "NoLetter", "NoField", "TooManyFields", "SelfSend",
+        "LinkSpent", "CyclesSpent", "NotDirector", "CycleRunning", "NothingToDo", "OutOfOrder",
+        "AckBeyond", "BadFrame", "WrongNode", "BadImage", "ImageTooLarge", "Disk", "Closed"};
     for (int i = 0; i < 25; i++) {
         HOLDS(strcmp(NAMES[i], markring_status_text(i)) == 0);
     }

@@ -30,8 +30,8 @@ __attribute__((unused)) static int check_status(int expected, int status, const 
     const char *file, int line)
 {
     if (!check(status == expected, text, file, line) && failed <= SHOWN) {
-        printf("  expected %d %s, but got %d %s\n", expected, markring_status_text(expected), status,
-            markring_status_text(status));
+        printf("  expected %d %s, but got %d %s\n", expected, markring_status_text(expected),
+            status, markring_status_text(status));
     }
     return status == expected;
 }
@@ -165,8 +165,8 @@ __attribute__((unused)) static void save(markring_node *node)
     }
 }
 
-// All that the node shows, in a row of bytes: its image, what it knows of its links, the frames that
-// it offers, and what waits. The image's mark changes.
+// All that the node shows, in a row of bytes: its image, what it knows of its links, the frames
+// that it offers, and what waits. The image's mark changes.
 __attribute__((unused)) static bytes shown(markring_node *node)
 {
     bytes all = image_of(node);

@@ -1,5 +1,5 @@
-// Frames and images of nodes: what is released and when, marks, buffers, the window, early messages,
-// and the limit of a link. What is expected comes from docs/RULES.md and docs/FORMATS.md.
+// Frames and images of nodes: what is released and when, marks, buffers, the window, early
+// messages, and the limit of a link. What is expected comes from docs/RULES.md and docs/FORMATS.md.
 #include "check.h"
 
 static markring_node zero, one;

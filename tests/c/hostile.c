@@ -271,7 +271,8 @@ static void events(void)
         event.word = UINT64_MAX;
         blot(&answer);
         int status = markring_node_act(&node, &event, &answer);
-        HOLDS(status >= MARKRING_OK && status <= MARKRING_NOTHING_TO_DO && status != MARKRING_MEMORY);
+        HOLDS(status >= MARKRING_OK && status <= MARKRING_NOTHING_TO_DO);
+        HOLDS(status != MARKRING_MEMORY);
         // A register, a node or a place out of range is refused.
         int uses_reg = strchr("\1\2\3\4\5\11\12\13", event.kind) != NULL;
         int uses_object = strchr("\2\4\5\6\7\10\13\14", event.kind) != NULL;

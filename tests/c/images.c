@@ -24,8 +24,8 @@ typedef struct image {
 
 static const markring_ref FAR = {2, 1, 1};
 
-// Node 1 of three while it marks in cycle 2, with an object in slot 0 that is grey, a free slot, and
-// an object in slot 2 of the cycle before. It has a message for each other node.
+// Node 1 of three while it marks in cycle 2, with an object in slot 0 that is grey, a free slot,
+// and an object in slot 2 of the cycle before. It has a message for each other node.
 static image busy(void)
 {
     image it;

@@ -1,6 +1,6 @@
 // Refuses each allocation in turn. A call that is refused with MARKRING_MEMORY changed nothing, and
-// the same call again succeeds; the end is the same as with ample memory. A call that takes no memory
-// by its comment in the header allocates nothing.
+// the same call again succeeds; the end is the same as with ample memory. A call that takes no
+// memory by its comment in the header allocates nothing.
 //
 // The linker replaces the allocator: -Wl,--wrap=malloc,--wrap=calloc,--wrap=realloc
 #include "check.h"

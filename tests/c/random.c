@@ -311,7 +311,9 @@ static void program(uint8_t own_number)
     answers++;
     switch (below(&seed, 12)) {
     case 0:
-    case 1: alloc(own_number, (uint16_t)(reg + below(&seed, 8) / 7), (uint8_t)below(&seed, 10)); break;
+    case 1:
+        alloc(own_number, (uint16_t)(reg + below(&seed, 8) / 7), (uint8_t)below(&seed, 10));
+        break;
     case 2: copy_or_drop(own_number, reg, other, 1); break;
     case 3: copy_or_drop(own_number, reg, other, 0); break;
     case 4:

@@ -8,7 +8,8 @@
 enum { NODES = 64, WORDS = 16, LINE = 1 << 18 };
 
 // A word of a line that is an event, its kind, and its numbers in order: r for `reg`, s for
-// `source`, o for `object`, p for `place`, n for `node`, l for `label`, c for `count`, w for `word`.
+// `source`, o for `object`, p for `place`, n for `node`, l for `label`, c for `count`, w for
+// `word`.
 static const struct {
     const char *word;
     uint8_t kind;
@@ -140,7 +141,8 @@ static void print_answer(const markring_answer *it)
         print_ref(it->reference);
         break;
     case MARKRING_ANSWER_PASSED:
-        printf("passed %" PRId64 " %s\n", it->sum, it->colour == MARKRING_BLACK ? "black" : "white");
+        printf("passed %" PRId64 " %s\n", it->sum,
+            it->colour == MARKRING_BLACK ? "black" : "white");
         break;
     case MARKRING_ANSWER_PROBE_AGAIN: puts("probe again"); break;
     case MARKRING_ANSWER_ENDED: printf("ended %" PRIu64 "\n", it->number); break;

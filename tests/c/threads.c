@@ -220,8 +220,8 @@ static void open_space(int has_images, markring_watch *watch)
     OK(markring_space_free(&space));
 }
 
-// Runs the threads until all letters have come, or until a time that ends in a crash. Meanwhile this
-// thread looks at the watch.
+// Runs the threads until all letters have come, or until a time that ends in a crash. Meanwhile
+// this thread looks at the watch.
 static void run_threads(int crashes, uint64_t *seed, markring_watch *watch)
 {
     pthread_t threads[MOST];

@@ -1,10 +1,11 @@
 //! markring: a garbage-collected object heap over several nodes, with a machine-checked proof.
 //!
 //! A space has 2 to 64 nodes. Each node owns objects, and a program reaches them through the node's
-//! registers. References travel between nodes in messages. The collector also frees rings of objects
-//! over several nodes. `docs/RULES.md` of the repository has the rules.
+//! registers. References travel between nodes in messages. The collector also frees rings of
+//! objects over several nodes. `docs/RULES.md` of the repository has the rules.
 //!
-//! - [`Node`]: one node. The caller moves frames between nodes, over any network, and stores images.
+//! - [`Node`]: one node. The caller moves frames between nodes, over any network, and stores
+//!   images.
 //! - [`Events`]: what a node does.
 //! - [`Roots`], [`Root`]: registers that are chosen and emptied automatically.
 //! - `Space`, `Cell`, `Watch`, with the feature `spaces`: the nodes of a space in threads of one

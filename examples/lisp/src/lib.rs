@@ -1,9 +1,9 @@
 //! A small Lisp whose heap is a space: an interpreter runs on each node, in a thread of its own.
 //!
 //! Each value is an object, except `()`, which is nothing. An object's word has a tag and a payload
-//! of 28 bits. A pair has two places, a closure three: parameters, body and environment. All that an
-//! interpreter works on is in registers ([`Root`]), so the registers are its stack: an evaluation
-//! that nests too deeply fails with `NoRegister`.
+//! of 28 bits. A pair has two places, a closure three: parameters, body and environment. All that
+//! an interpreter works on is in registers ([`Root`]), so the registers are its stack: an
+//! evaluation that nests too deeply fails with `NoRegister`.
 //!
 //! `(send NODE VALUE)` sends a reference, and `(receive)` waits for one. A pair of another node is
 //! read by a Get and written by a Put, as if it were the node's own.
