@@ -31,7 +31,8 @@ due-taken v p d e reached shows due arrives refused =
     ⊎_elim
     (λ spent. spent)
     (λ beyond. absurd (omega (arith, got, beyond.1)))
-    (in-turn (run v.opening arrives.log) (stays-reached v.opening arrives.log reached) d.from d.to d.number d.stamp d.body e arrives.net
+    (in-turn (run v.opening arrives.log) (stays-reached v.opening arrives.log reached) d.from d.to
+    d.number d.stamp d.body e arrives.net
     (ap (λ (s : NodeState). receive s d.from d.to d.number d.stamp d.body) here ∙ refused))
 
 pub next-taken-in : NextIsTakenIn

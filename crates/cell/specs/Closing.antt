@@ -24,8 +24,8 @@ pub record IsCellOf {D : Type 0} (may_leave : D → Areas → Type 0) (opening :
 
 -- ---- What holds at one moment
 
--- The marking of the cycle has ended at the node. It has joined the cycle, has no grey object in it,
--- and counts its marking as ended if it is in a later one.
+-- The marking of the cycle has ended at the node. It has joined the cycle, has no grey object in
+-- it, and counts its marking as ended if it is in a later one.
 pub record IsOver (cycle : ℕ) (p : LocalState) : Type 0 where
   pub joined : cycle ≤ p.phases.cycle
   pub calm : p.phases.cycle ≡ cycle → p.heap.grey ≡ []
@@ -40,8 +40,8 @@ CellsAgree {D} may_leave =
     → AreAtOnce opening cells → slice_get cells i ≡ Some c → slice_get cells j ≡ Some d
     → cycle ≤ c.node.core.local.phases.ended → IsOver cycle d.node.core.local
 
--- If a register of the node of one of the cells refers to an object of another one's node, that node
--- has the object.
+-- If a register of the node of one of the cells refers to an object of another one's node, that
+-- node has the object.
 abbrev pub CellsHaveNamed : {D : Type 0} → (D → Areas → Type 0) → Type 0
 CellsHaveNamed {D} may_leave =
     (opening : World) (cells : List (CellView D)) (i j register : ℕ) (r : Ref) (c d : CellView D)
@@ -60,7 +60,7 @@ pub record IsLast {D : Type 0} (may_leave : D → Areas → Type 0) (opening : W
   pub ready : IsTrue c.is_open
   pub width : c.seat.nodes ≡ nodes
 
--- The disks of a space of which a wire began in this world, in order, as its open cells left them at
+-- The disks of a space whose wire began in this world, in order, as its open cells left them at
 -- one moment.
 pub record AreOfOneMoment {D : Type 0} (may_leave : D → Areas → Type 0) (opening : World)
     (disks : List D) : Type 0 where
@@ -78,8 +78,8 @@ AreReadAgain {D} may_leave shape cells nodes =
     → slice_get nodes k ≡ Some n
     → (x : Areas) × may_leave c.disk x × IsReadFrom shape k x n
 
--- the cells of all nodes of a space, in order, at one moment, and the nodes that are read from their
--- disks
+-- the cells of all nodes of a space, in order, at one moment, and the nodes that are read from
+-- their disks
 pub record AreClosed {D : Type 0} (may_leave : D → Areas → Type 0) (shape : Shaped) (opening : World)
     (cells : List (CellView D)) (nodes : List WholeNode) : Type 0 where
   pub reached : IsReached opening

@@ -50,8 +50,8 @@ IsTaken taken d = ∥ ((k : ℕ) × (slice_get taken k ≡ Some (plain_data d)))
 pub record AreTaken (taken : List Plain) (es : Rings) : Type 0 where
   pub each : OfAll (λ from d. IsTaken taken d) es
 
--- The node dropped no more messages to node `to` than the first number, or than a frame acknowledges
--- that its seat took.
+-- The node dropped no more messages to node `to` than the first number, or than a frame
+-- acknowledges that its seat took.
 abbrev pub IsDropped : ℕ → Known → ℕ → ℕ → Type 0
 IsDropped first v to base =
     ∥ ((base ≤ first) ⊎ ((k : ℕ) × (number : ℕ)

@@ -94,8 +94,8 @@ pub fn laws()
     ensures reopened { ReopenedIsReached }
 {}
 
-/// The theorems about cells at one moment, as [`survey`](crate::survey) leaves them. They apply if a
-/// run reaches the world in which their wire was made.
+/// The theorems about cells at one moment, as [`survey`](crate::survey) leaves them. They apply if
+/// a run reaches the world in which their wire was made.
 ///
 /// The function does nothing; its contract states the theorems.
 pub fn laws_at_once<D: Disk>()

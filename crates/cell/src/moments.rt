@@ -1,6 +1,6 @@
-//! What cells know, taken together at one moment. Each cell learns a list of events in one round, and
-//! each again in a second one. So the list that the last cell learned in the first round lies between
-//! the two lists of every cell, and no event of a cell's node is between those.
+//! What cells know, taken together at one moment. Each cell learns a list of events in one round,
+//! and each again in a second one. So the list that the last cell learned in the first round lies
+//! between the two lists of every cell, and no event of a cell's node is between those.
 ghost use Rattle.std.specs.Prelude.{◌≡◌, ◌<◌, length};
 ghost use Rattle.wire.specs.Readers.{opened_with, IsSeatOf};
 ghost use Rattle.cell.specs.Moments.{AreAtOnce, EachCell, HaveLearned, LearnedFrom};
@@ -20,10 +20,10 @@ fn learn_from<D: Disk>(wire: &Wire, cells: &mut [Cell<D>], at: usize, from: usiz
     cells[at].learn(wire, note);
 }
 
-/// Brings cells of one wire, all or some, to know of one moment: one list of events leads to what all
-/// of them know, whatever other threads do meanwhile. So the theorems on the world at the end of a
-/// list apply to these cells together ([`laws_at_once`](crate::laws_at_once)). Nothing else changes,
-/// open or closed.
+/// Brings cells of one wire, all or some, to know of one moment: one list of events leads to what
+/// all of them know, whatever other threads do meanwhile. So the theorems on the world at the end
+/// of a list apply to these cells together ([`laws_at_once`](crate::laws_at_once)). Nothing else
+/// changes, open or closed.
 ///
 /// For each cell it takes six loads of words of the wire. It allocates nothing.
 pub fn survey<D: Disk>(wire: &Wire, cells: &mut [Cell<D>])

@@ -11,7 +11,7 @@ use Rattle.wire.specs.declared.seats.Wire.{Wire}
 use Rattle.cell.specs.Cells.{CellView, IsKept}
 use Rattle.cell.specs.Closing.{AreOfOneMoment, IsLast}
 use Rattle.cell.specs.Moments.{AreAtOnce, EachCell, HaveLearned}
-use Rattle.cell.specs.Names.{IsNamed, Name, name_of, seat_name}
+use Rattle.cell.specs.Names.{Name, name_of, seat_name}
 use Rattle.cell.proofs.Places.{some_at}
 use Rattle.supervisor.specs.Closing.{IsBack, IsRow}
 

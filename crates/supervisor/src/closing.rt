@@ -1,5 +1,5 @@
-//! What a space leaves: its cells, once no thread uses them any more, and their disks as they are at
-//! one moment.
+//! What a space leaves: its cells, once no thread uses them any more, and their disks as they are
+//! at one moment.
 ghost use Rattle.std.specs.Prelude.{◌≡◌, ◌≢◌, ◌<◌, ℕ, false, IfErr, IfOk, IsTrue, Some, length, map, vec_len};
 ghost use Rattle.std.specs.Arc.{arc_value};
 ghost use Rattle.ids.specs.declared.refusal.Refusal.TheVariants.{Closed as ClosedRefusal, Memory};
@@ -19,8 +19,8 @@ use std::snapshot::Snapshot;
 use std::sync::Arc;
 use wire::Wire;
 
-/// The disks of a space, in order, as its nodes left them at one moment: one list of events leads to
-/// what all of them hold. A space that is opened on them continues from that moment.
+/// The disks of a space, in order, as its nodes left them at one moment: one list of events leads
+/// to what all of them hold. A space that is opened on them continues from that moment.
 #[derive(Drop)]
 pub struct Closed<D: Disk> {
     pub disks: Vec<D>,

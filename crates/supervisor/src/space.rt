@@ -36,8 +36,8 @@ use workers::{Gate, Report};
 
 /// A space on its disks, before threads share its cells.
 ///
-/// [`share`](Opened::share) gives it to its threads. A caller that names the wire in proofs can close
-/// the space with [`SpaceOn::close_at_once`].
+/// [`share`](Opened::share) gives it to its threads. A caller that names the wire in proofs can
+/// close the space with [`SpaceOn::close_at_once`].
 #[derive(Drop)]
 pub struct Opened<D: Disk> {
     alloc: Global,
@@ -255,11 +255,13 @@ impl<D: Disk + Drop, W: Naming> SpaceOn<D, W> {
         }
     }
 
-    /// Stops the workers and waits until they have ended, as [`close`](SpaceOn::close) does. Then it
-    /// takes back the cells, and returns their disks as they are at one moment, beside the reports.
+    /// Stops the workers and waits until they have ended, as [`close`](SpaceOn::close) does. Then
+    /// it takes back the cells, and returns their disks as they are at one moment, beside the
+    /// reports.
     ///
     /// There are no disks (`Closed`) if a cell is closed, because a disk failed, or if something
-    /// still uses one of the cells; nor (`Memory`) if allocation failed. All disks are then dropped.
+    /// still uses one of the cells; nor (`Memory`) if allocation failed. All disks are then
+    /// dropped.
     pub fn close_at_once<R: Threads>(self, rt: &R) -> (Vec<Report>, Result<Closed<D>, Refusal>)
         requires { W.wire ≡ Some (name_of (arc_value self.wire)) }
         ensures count { vec_len result.0 ≡ worker_count self.team }

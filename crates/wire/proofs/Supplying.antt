@@ -1,5 +1,5 @@
--- The list of events in the rule leads to what each node's seat knows. So some list still does after
--- each step of the seat.
+-- The list of events in the rule leads to what each node's seat knows. So some list still does
+-- after each step of the seat.
 use Rattle.std.proofs.Common.{◌≡◌, ℕ, List, [], Some, None, Option, refl, sym, ap, ◌∙◌, subst}
 use Rattle.std.proofs.Math.Logic.{∥∥₁_map}
 use Rattle.msg.specs.Grammar.{Plain}

@@ -1,4 +1,4 @@
-use Rattle.std.proofs.Common.{◌≡◌, ◌<◌, ℕ, Some, slice_get}
+use Rattle.std.proofs.Common.{◌<◌}
 use Rattle.cell.specs.Moments.{EachCell}
 use Rattle.supervisor.specs.Closing.{IsRow}
 use Rattle.supervisor.proofs.closing.are_last.Given as goal

@@ -1,4 +1,4 @@
-use Rattle.std.proofs.Common.{◌∷◌, ◌++◌, ◌≡◌, [], arith, length, subst, sym}
+use Rattle.std.proofs.Common.{◌≡◌, arith, length, subst, sym}
 use Rattle.wire.proofs.Rows.{each-push}
 use Rattle.cell.specs.Moments.{EachCell}
 use Rattle.supervisor.specs.Closing.{IsBack}

@@ -1,4 +1,4 @@
-use Rattle.std.proofs.Common.{◌≡◌, ◌∙◌, ap, subst, sym}
+use Rattle.std.proofs.Common.{◌∙◌, ap, subst, sym}
 use Rattle.wire.specs.Readers.{opened_with}
 use Rattle.wire.specs.Rule.{nodes_of}
 use Rattle.wire.specs.declared.seats.Wire.{Wire}
