@@ -16,8 +16,8 @@ ghost use Rattle.world.specs.Answered.{AnswersAreUnseen};
 /// nodes go on from: everything that is reachable in such a choice of states is live (`live`).
 ///
 /// No node counts the marking of a cycle as ended before it has ended, nor before node 0 does. A
-/// node that hasn't been told yet may count it later. Marking has ended when every node has joined the
-/// cycle, no node in it has a grey object, and no message that the cycle counts is in flight
+/// node that hasn't been told yet may count it later. Marking has ended when every node has joined
+/// the cycle, no node in it has a grey object, and no message that the cycle counts is in flight
 /// (`agreement`). The nodes' balances add up to the number of these messages (`balances`). Anything
 /// saved that was already garbage before a cycle began has been freed once that cycle has been
 /// swept, rings of objects across nodes included (`old_garbage`).

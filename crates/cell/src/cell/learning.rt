@@ -1,5 +1,5 @@
-//! What a cell's seat learns of the history, whether the cell is open or closed. Nothing else of the
-//! cell changes.
+//! What a cell's seat learns of the history, whether the cell is open or closed. Nothing else of
+//! the cell changes.
 ghost use Rattle.std.specs.Prelude.{◌≡◌};
 ghost use Rattle.wire.specs.Plays.{Learns};
 ghost use Rattle.wire.specs.Readers.{known, note_seen, IsNoteOf, IsSeatOf};
