@@ -3,8 +3,8 @@
 //
 //     trees DEPTH
 //
-// The space has no disk: images are taken, and count as stored. A collection cycle runs whenever
-// node 0 has no slot left.
+// The space ends with its process, so nodes are released, without images. A collection cycle runs
+// whenever node 0 has no slot left.
 #define _POSIX_C_SOURCE 200809L
 #include <inttypes.h>
 #include <stdint.h>
@@ -24,8 +24,6 @@ enum { SLOTS = 1048576, REGISTERS = 64, SWEPT = 1048576 };
 enum { LONG_LIVED = 0, FIRST = 1 };
 
 static markring_node nodes[2];
-static uint8_t *image;
-static size_t room;
 static unsigned long cycles;
 
 static void must(int status, const char *call)
@@ -37,29 +35,6 @@ static void must(int status, const char *call)
 }
 
 #define MUST(call) must((call), #call)
-
-static void save(int node)
-{
-    size_t needed = 0;
-    uint64_t mark = 0;
-    uint8_t flag = 0;
-    MUST(markring_node_unsaved(&nodes[node], &flag));
-    if (!flag) {
-        return;
-    }
-    int status = markring_node_image(&nodes[node], image, room, &needed, &mark);
-    if (status == MARKRING_SHORT_BUFFER) {
-        free(image);
-        room = needed + needed / 8;
-        image = malloc(room);
-        if (image == NULL) {
-            exit(1);
-        }
-        status = markring_node_image(&nodes[node], image, room, &needed, &mark);
-    }
-    must(status, "markring_node_image");
-    MUST(markring_node_kept(&nodes[node], mark));
-}
 
 static void send(uint8_t from, uint8_t to)
 {
@@ -92,7 +67,7 @@ static void collect(void)
     markring_answer answer;
     int status;
     while ((status = markring_node_begin(&nodes[0], &answer)) == MARKRING_CYCLE_RUNNING) {
-        save(1);
+        MUST(markring_node_release(&nodes[1]));
         send(1, 0);
     }
     must(status, "markring_node_begin");
@@ -103,7 +78,7 @@ static void collect(void)
             }
             (void)markring_node_pass(&nodes[node], &answer);
             (void)markring_node_sweep(&nodes[node], SWEPT, &answer);
-            save(node);
+            MUST(markring_node_release(&nodes[node]));
             send(node, (uint8_t)(1 - node));
         }
     } while (!is_swept());
@@ -142,10 +117,11 @@ static uint64_t check(uint16_t reg)
     return sum;
 }
 
-static void drop_from(uint16_t reg)
+// Drops the registers that a tree took, from the given one on, with one more for its check.
+static void drop_from(uint16_t reg, int depth)
 {
     markring_answer answer;
-    for (; reg < REGISTERS; reg++) {
+    for (uint16_t end = reg + depth + 2; reg < end; reg++) {
         (void)markring_node_drop(&nodes[0], reg, &answer);
     }
 }
@@ -161,14 +137,14 @@ static uint64_t make_and_check(int depth)
 {
     make(FIRST, depth);
     uint64_t sum = check(FIRST);
-    drop_from(FIRST);
+    drop_from(FIRST, depth);
     return sum;
 }
 
 static void make_long_lived(int depth)
 {
     make(LONG_LIVED, depth);
-    drop_from(LONG_LIVED + 1);
+    drop_from(LONG_LIVED + 1, depth);
 }
 
 static uint64_t check_long_lived(void)
@@ -181,7 +157,6 @@ static void end(void)
     fprintf(stderr, "%lu cycles\n", cycles);
     MUST(markring_node_free(&nodes[0]));
     MUST(markring_node_free(&nodes[1]));
-    free(image);
 }
 
 #else

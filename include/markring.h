@@ -445,6 +445,12 @@ int markring_node_image(markring_node *node, uint8_t *buffer, size_t length, siz
 // MARKRING_WRONG_MARK: it isn't the mark of the last image, or there was no image.
 int markring_node_kept(markring_node *node, uint64_t mark);
 
+// Counts everything as saved, though no image is stored. For a space that ends with its process,
+// and so for a heap that needs no disk: it takes no time for what the node holds. After it, open
+// the node only from an image that was taken later; an older one would bring back objects that
+// other nodes have freed, and lose others. It takes no memory.
+int markring_node_release(markring_node *node);
+
 // Makes the node of an image. All that it sent and received counts as saved. `limit` is as for
 // markring_node_new; no image holds it.
 // MARKRING_IN_USE: the handle isn't empty. MARKRING_BAD_IMAGE.
@@ -466,9 +472,9 @@ int markring_node_link(markring_node *node, uint8_t peer, markring_link *link);
 // MARKRING_NO_REGISTER. MARKRING_NOTHING: the register is empty.
 int markring_node_register(markring_node *node, uint16_t reg, markring_ref *reference);
 
-// `*flag` is 1 if an event has changed the node since the image that was kept last, or, if none was
-// kept, since the handle was filled; else 0. An acknowledgement, a repeat and an early message
-// change nothing in this sense.
+// `*flag` is 1 if an event has changed the node since the image that was kept last, or since the
+// last markring_node_release, or, if there was neither, since the handle was filled; else 0. An
+// acknowledgement, a repeat and an early message change nothing in this sense.
 int markring_node_unsaved(markring_node *node, uint8_t *flag);
 
 // The number of the message from the node `from` that was early and is the next one now, which

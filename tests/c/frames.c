@@ -156,6 +156,41 @@ static void marks(void)
     end();
 }
 
+// Without an image everything is released, and an older image's mark changes nothing afterwards.
+static void releases(void)
+{
+    uint8_t bytes[512], buffer[48];
+    size_t length = 0, needed = 0;
+    uint64_t mark = 0;
+    markring_link link;
+    begin(0);
+    OK(markring_node_release(&zero));
+    expect_link(0, 0, 0);
+    give(1);
+    OK(markring_node_image(&zero, bytes, sizeof bytes, &length, &mark));
+    give(2);
+    expect_link(2, 0, 0);
+    OK(markring_node_release(&zero));
+    expect_link(2, 2, 0);
+    expect_unsaved(&zero, 0);
+    expect_frame(0, 1, 1);
+    expect_frame(1, 2, 2);
+    // The older image takes nothing back.
+    OK(markring_node_kept(&zero, mark));
+    expect_link(2, 2, 0);
+    expect_unsaved(&zero, 0);
+    IS(MARKRING_WRONG_MARK, markring_node_kept(&zero, mark + 1));
+    take(1, 1, MARKRING_ANSWER_RECEIVED);
+    expect_unsaved(&one, 1);
+    OK(markring_node_release(&one));
+    expect_unsaved(&one, 0);
+    OK(markring_node_link(&one, 0, &link));
+    EQUAL(1, link.received_saved);
+    OK(markring_node_ack_for(&one, 0, buffer, sizeof buffer, &needed));
+    HOLDS(needed == 11 && memcmp(buffer, "\x42\1\0\0\0\0\0\0\0\0\1", 11) == 0);
+    end();
+}
+
 // What changes a node, and what doesn't.
 static void unsaved(void)
 {
@@ -408,6 +443,7 @@ static void new_images(void)
 int main(void)
 {
     marks();
+    releases();
     unsaved();
     window();
     buffers();

@@ -62,6 +62,7 @@ static void no_node(markring_node *at)
     NONE(markring_node_ack_for(at, 1, buffer, 512, TO(size_t)));
     NONE(markring_node_frames(at, 1, 0, buffer, 512, TO(size_t), TO(size_t) + 1));
     NONE(markring_node_kept(at, 1));
+    NONE(markring_node_release(at));
     NONE(markring_node_waiting(at, 1, TO(uint64_t)));
 }
 

@@ -187,8 +187,7 @@ static void save_and_send(int from)
         SPARES(markring_node_frame_at(&nodes[from], to, place, frame, sizeof frame, &needed));
         MAY(markring_node_take(&nodes[to], frame, needed, &answer));
     }
-    MAY(markring_node_image(&nodes[to], image, sizeof image, &needed, &mark));
-    SPARES(markring_node_kept(&nodes[to], mark));
+    SPARES(markring_node_release(&nodes[to]));
     SPARES(markring_node_ack_for(&nodes[to], (uint8_t)from, frame, sizeof frame, &needed));
     MAY(markring_node_take(&nodes[from], frame, needed, &answer));
 }

@@ -105,6 +105,7 @@ FUNCTIONS = {
         "ack_for": (U8, c_char_p, SIZE, TO_SIZE),
         "frames": (U8, U64, c_char_p, SIZE, TO_SIZE, TO_SIZE),
         "kept": (U64,),
+        "release": (),
         "from_image": (c_char_p, SIZE, U64),
         "waiting": (U8, TO_NUMBER),
     },

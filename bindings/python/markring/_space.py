@@ -330,6 +330,13 @@ class Node(_Events):
         """Says that the image with this mark is stored. What that image holds counts as saved."""
         self._call("kept", mark)
 
+    def release(self) -> None:
+        """Counts everything as saved, though no image is stored: for a space that ends with its process.
+
+        After it, open the node only from an image that was taken later.
+        """
+        self._call("release")
+
     def waiting(self, sender: int) -> Optional[int]:
         """The number of the message from the sender that was early and is the next one now, if there is one."""
         number = ctypes.c_uint64()

@@ -116,6 +116,13 @@ class Nodes(unittest.TestCase):
         with Node.from_image(image.data) as again:
             self.assertEqual(again.link(1), Link(1, 1, 0, 0, 0))
 
+    def test_a_release_needs_no_image(self) -> None:
+        self.zero.give(1, 1, 0)
+        self.assertEqual(self.zero.frames(1), [])
+        self.zero.release()
+        self.assertFalse(self.zero.unsaved())
+        self.assertEqual(self.zero.link(1), Link(1, 1, 0, 0, 0))
+
     def test_a_limit_bounds_what_is_not_acknowledged(self) -> None:
         with Node(2, 4, 16, 0, limit=1) as node:
             node.give(1, 1, 0)

@@ -126,6 +126,7 @@ extern "C" {
         needed: *mut usize,
     ) -> c_int;
     pub(crate) fn markring_node_kept(node: Place, mark: u64) -> c_int;
+    pub(crate) fn markring_node_release(node: Place) -> c_int;
     pub(crate) fn markring_node_from_image(
         node: Place,
         bytes: *const u8,

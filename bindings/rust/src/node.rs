@@ -233,6 +233,14 @@ impl Node {
         checked(unsafe { ffi::markring_node_kept(self.at.get(), mark) })
     }
 
+    /// Counts everything as saved, though no image is stored. For a space that ends with its
+    /// process, and so for a heap that needs no disk. After it, open the node only from an image
+    /// that was taken later: an older one would bring back objects that other nodes have freed,
+    /// and lose others.
+    pub fn release(&self) -> Result<()> {
+        checked(unsafe { ffi::markring_node_release(self.at.get()) })
+    }
+
     /// The number of the message from the node `from` that was early and is the next one now, if
     /// there is one. [`Events::next`] receives it.
     ///

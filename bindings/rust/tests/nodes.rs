@@ -256,6 +256,22 @@ fn kept_releases_what_the_image_holds() -> Result<()> {
 }
 
 #[test]
+fn a_release_needs_no_image() -> Result<()> {
+    let (zero, one) = pair()?;
+    zero.give(1, 1, 0)?;
+    assert_eq!(zero.frames(1, 0)?, []);
+    zero.release()?;
+    assert!(!zero.unsaved()?);
+    for frame in zero.frames(1, 0)? {
+        assert_eq!(one.take(&frame.bytes)?, Taken::Received);
+    }
+    assert_eq!(one.link(0)?.received_saved, 0);
+    one.release()?;
+    assert_eq!(one.link(0)?.received_saved, 1);
+    Ok(())
+}
+
+#[test]
 fn a_limit_bounds_what_is_not_acknowledged() -> Result<()> {
     let zero = Node::with_limit(2, 4, 16, 0, 2)?;
     let one = Node::new(2, 4, 16, 1)?;

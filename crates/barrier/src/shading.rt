@@ -56,7 +56,11 @@ pub fn shade_all(
     ensures width { length links.new.links ≡ length links.old.links }
     ensures sound { OnOk result (IsLinks links.new) }
 {
-    let references = while_marking(cycle, ended, references);
+    // (Called for its contract, which says that links are sound.)
+    links.width();
+    if ended == cycle {
+        return Ok(());
+    }
     heap.make_room(references.len(), 0)?;
     let before = ask(asked, links, own, cycle, references)?;
     heap.shade(own, cycle, references);

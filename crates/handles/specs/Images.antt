@@ -5,7 +5,7 @@ use Rattle.ids.specs.declared.limits.TheConstants.{GREATEST_IMAGE}
 use Rattle.ids.specs.declared.refusal.Refusal.TheVariants.{ImageTooLarge, Memory}
 use Rattle.model.specs.State.{got_from}
 use Rattle.model.specs.View.{NodeView, link_to, used}
-use Rattle.node.specs.Keeping.{WholeNode, kept_whole_with}
+use Rattle.node.specs.Keeping.{WholeNode, kept_whole, kept_whole_with}
 use Rattle.image.specs.Images.{image_of}
 use Rattle.handles.specs.Bytes.{Wrote}
 use Rattle.handles.specs.declared.fault.Fault.{Fault}
@@ -79,6 +79,17 @@ abbrev pub Kept : ℕ → LoneNode → LoneNode → Result (Unit {0}) Fault → 
 Kept mark old new r =
     (new ≡ after_kept old.counts (mark == old.mark) old)
     × (r ≡ kept_result old.counts (mark == old.mark))
+
+-- Everything counts as saved, without an image.
+abbrev pub released : LoneNode → LoneNode
+released n = record n {
+  node = kept_whole n.node;
+  is_changed = false;
+  is_unsaved = false;
+}
+
+abbrev pub Released : LoneNode → LoneNode → Result (Unit {0}) Fault → Type 0
+Released old new r = (new ≡ released old) × (r ≡ Ok tt)
 
 -- ---- The same for what a handle holds
 

@@ -28,7 +28,8 @@ pub struct LoneNode {
     // links; none if there was no image.
     mark: u64,
     counts: Option<Vec<Counts>>,
-    // Whether an event changed the node since the last image, and since the last one that was kept.
+    // Whether an event changed the node since the last image, and since the last one that was kept;
+    // in both cases, since the last release if that came later.
     is_changed: bool,
     is_unsaved: bool,
 }

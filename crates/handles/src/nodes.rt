@@ -8,7 +8,7 @@ ghost use Rattle.node.specs.Summaries.{summary_of};
 ghost use Rattle.handles.specs.Faults.{Filled, Freed, Through, empty, read};
 ghost use Rattle.handles.specs.Bytes.{WroteIf};
 ghost use Rattle.handles.specs.Frames.{HandlePacks, ack_bytes, frame_bytes};
-ghost use Rattle.handles.specs.Images.{HandleImaged, Kept, SizedSame};
+ghost use Rattle.handles.specs.Images.{HandleImaged, Kept, Released, SizedSame};
 ghost use Rattle.handles.specs.Lone.{Made, NodeActs, Read, TookIn};
 ghost use Rattle.handles.specs.Reads.{link_of, register_of, waiting_number};
 
@@ -320,5 +320,16 @@ impl NodeHandle {
         let kept = node.kept(mark);
         self.put(alloc, node);
         kept
+    }
+    /// Counts everything as saved, without an image; see [`LoneNode::release`].
+    pub fn release(&mut self, alloc: Global) -> Result<(), Fault>
+        ensures { Through Released self.old.held self.new.held result }
+    {
+        let Some(mut node) = self.take(alloc) else {
+            return Err(Fault::NoHandle);
+        };
+        node.release();
+        self.put(alloc, node);
+        Ok(())
     }
 }

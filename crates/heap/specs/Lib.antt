@@ -1,4 +1,5 @@
 pub mod Heap
 pub mod Parts
+pub mod Places
 pub mod Stored
 pub mod Tests

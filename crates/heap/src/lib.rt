@@ -5,6 +5,7 @@
 
 mod heap;
 mod object;
+mod places;
 
 pub use arena::{FreeSlots, Slot, Slots};
 pub use heap::{Heap, HeapParts};

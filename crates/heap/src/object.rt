@@ -9,6 +9,7 @@ ghost use Rattle.model.specs.Checks.{guarded};
 ghost use Rattle.model.specs.Heaps.{new_object};
 ghost use Rattle.model.specs.Shading.{with_mark};
 
+use crate::places::Places;
 use ids::{GREATEST_PLACES, Ref, Refusal};
 use std::alloc::Global;
 use std::marker::Model;
@@ -18,20 +19,21 @@ use std::marker::Model;
 #[derive(Drop)]
 pub struct Object {
     word: u64,
-    places: Vec<Option<Ref>>,
+    places: Places,
     mark: u64,
 }
 
 impl Model for Object {
     ghost use Rattle.model.specs.State.{Object};
+    ghost use Rattle.heap.specs.Places.{held_in};
 
     ghost Value = { Object };
 
-    ghost view = { λ o. record { word = o.word; places = o.places.items; mark = o.mark } };
+    ghost view = { λ o. record { word = o.word; places = held_in o.places; mark = o.mark } };
 
     ghost use Rattle.std.specs.Prelude.{◌≤◌, length};
 
-    ghost invariant = { λ o. length o.places.items ≤ 8 };
+    ghost invariant = { λ o. length (held_in o.places) ≤ 8 };
 }
 
 impl Object {
@@ -45,7 +47,11 @@ impl Object {
         if places.len() > usize::from(GREATEST_PLACES) {
             return None;
         }
-        Some(Object { word, places, mark })
+        Some(Object {
+            word,
+            places: Places::of(places),
+            mark,
+        })
     }
 
     /// Makes a new object with this many empty places, marked by this cycle.
@@ -56,7 +62,7 @@ impl Object {
     {
         Ok(Object {
             word: 0,
-            places: vec![in alloc; None; places as usize]?,
+            places: Places::empty(alloc, places)?,
             mark: cycle,
         })
     }
@@ -66,7 +72,7 @@ impl Object {
         ensures value { result.now ≡ self.now.places }
         ensures few { length self.now.places ≤ GREATEST_PLACES }
     {
-        &self.places
+        self.places.as_slice()
     }
 
     /// The cycle that marked it.
@@ -114,7 +120,7 @@ impl Object {
         ensures { result ≡ guarded ((nat_lt place (length self.now.places), NoField) ∷ [])
             (slice_index_or self.now.places place None) }
     {
-        match self.places.get(place as usize) {
+        match self.places.as_slice().get(place as usize) {
             Some(reference) => Ok(*reference),
             None => Err(Refusal::NoField),
         }
@@ -129,12 +135,10 @@ impl Object {
         ensures answer { result
             ≡ guarded ((nat_lt place (length self.old.places), NoField) ∷ []) tt }
     {
-        match self.places.get_mut(place as usize) {
-            Some(held) => {
-                *held = value;
-                Ok(())
-            }
-            None => Err(Refusal::NoField),
+        if self.places.set(place, value) {
+            Ok(())
+        } else {
+            Err(Refusal::NoField)
         }
     }
 }

@@ -7,7 +7,7 @@ ghost use Rattle.handles.specs.Lone.{Made, Read, TookIn};
 ghost use Rattle.handles.specs.Bytes.{WroteIf};
 ghost use Rattle.handles.specs.Faults.{Filled, Freed, Through};
 ghost use Rattle.handles.specs.Frames.{HandlePacks, ack_bytes, frame_bytes};
-ghost use Rattle.handles.specs.Images.{HandleImaged, Kept, SizedSame};
+ghost use Rattle.handles.specs.Images.{HandleImaged, Kept, Released, SizedSame};
 ghost use Rattle.handles.specs.Reads.{link_of, register_of, waiting_number};
 ghost use Rattle.markring_c.specs.Calls.{Answered, Finished, Finishes, NodeActed, Numbered};
 
@@ -263,4 +263,12 @@ pub extern "C" fn markring_node_kept(alloc: Global, node: &mut NodeHandle, mark:
     ensures { Finished (Through (Kept mark)) node.old.held node.new.held result }
 {
     status(node.kept(alloc, mark))
+}
+
+/// Counts everything as saved, without an image.
+#[unsafe(no_mangle)]
+pub extern "C" fn markring_node_release(alloc: Global, node: &mut NodeHandle) -> i32
+    ensures { Finished (Through Released) node.old.held node.new.held result }
+{
+    status(node.release(alloc))
 }

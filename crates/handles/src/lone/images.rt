@@ -1,7 +1,7 @@
 //! Images of a node, and what counts as saved once one is stored.
 ghost use Rattle.std.specs.Prelude.{◌≡◌, IfErr, IfOk};
 ghost use Rattle.ids.specs.declared.refusal.Refusal.TheVariants.{Memory};
-ghost use Rattle.handles.specs.Images.{Imaged, Kept, Sized, counts_of, keeps};
+ghost use Rattle.handles.specs.Images.{Imaged, Kept, Sized, counts_of, keeps, released};
 
 use super::LoneNode;
 use crate::bytes::put;
@@ -88,5 +88,14 @@ impl LoneNode {
         keep(&mut self.node, counts);
         self.is_unsaved = self.is_changed;
         Ok(())
+    }
+    /// Counts everything as saved, though no image is stored. After it the node may only be opened
+    /// from an image that was taken later. It takes no memory.
+    pub fn release(&mut self)
+        ensures { self.new ≡ released self.old }
+    {
+        self.node.kept();
+        self.is_changed = false;
+        self.is_unsaved = false;
     }
 }

@@ -13,6 +13,7 @@ use ids::Refusal;
 use model::Answer;
 
 impl Core {
+    #[inline(always)]
     #[tactic(auto, unfolding(model::specs::View::view_act, model::specs::Steps::allocated, model::specs::Heaps::heap_alloc))]
     pub(crate) fn allocate(&mut self, register: u16, places: u8) -> Result<Answer, Refusal>
         ensures { Performed false result self.old self.new
@@ -43,6 +44,7 @@ impl Core {
         Ok(Answer::Done)
     }
 
+    #[inline(always)]
     pub(crate) fn load(&mut self, register: u16, object: u16, place: u8) -> Result<Answer, Refusal>
         ensures { Performed true result self.old self.new
             (view_act self.old (event.Load register object place)) }
