@@ -119,7 +119,9 @@ enum markring_status {
     // As many messages on the link as the node's limit allows aren't acknowledged.
     MARKRING_CONGESTED = 107,
     // There is no such frame, message, cell or the like. This is no error.
-    MARKRING_NOTHING = 108
+    MARKRING_NOTHING = 108,
+    // The images of two nodes aren't of one moment.
+    MARKRING_AGES = 109
 };
 
 // The handles. Initialise them with {0}.
@@ -484,11 +486,6 @@ int markring_node_waiting(markring_node *node, uint8_t from, uint64_t *number);
 
 // # Spaces
 //
-// THE LIBRARY DOESN'T EXPORT THE CALLS BELOW YET: those of spaces, cells and watches. Their
-// declarations are here for who builds on them; they are visible if MARKRING_WITH_SPACES is
-// defined.
-#ifdef MARKRING_WITH_SPACES
-
 // A space makes cells and watches, which then go to threads of the caller's. A cell is a node with
 // its place on the wire between the nodes. The space is used by one thread at a time. It may be
 // freed once the cells and watches that are used have been moved out.
@@ -511,7 +508,9 @@ int markring_space_disk(markring_space *space, uint8_t node, const uint8_t *imag
 // may be repeated.
 // MARKRING_IN_USE: the space is open. MARKRING_WRONG_DISKS: an image is that of another node, or of
 // a space of another shape. MARKRING_BAD_IMAGE: the bytes given for a node are no image.
-// MARKRING_DISK.
+// MARKRING_AGES: two images can't be of one moment: one node has received what the other one hasn't
+// sent yet, or lacks what the other one has dropped. MARKRING_DISK: the cell of a node can't get
+// the memory that it saves to.
 int markring_space_open(markring_space *space);
 
 // Moves the cell of a node into an empty handle. It takes no memory.
@@ -614,9 +613,9 @@ int markring_cell_image(markring_cell *cell, uint8_t *buffer, size_t length, siz
     uint64_t *mark);
 
 // Saves the cell, whose image with this mark is stored. The mark is then used up.
-// MARKRING_WRONG_MARK: it isn't the mark of the last image, or the cell was given an event, a frame
-// or a reopening since, or was saved. MARKRING_CLOSED. MARKRING_IMAGE_TOO_LARGE. MARKRING_DISK: the
-// cell is closed now.
+// MARKRING_CLOSED. MARKRING_WRONG_MARK: it isn't the mark of the last image, or an event or a frame
+// was answered since, or the cell was saved or reopened. MARKRING_IMAGE_TOO_LARGE. MARKRING_DISK:
+// the cell is closed now.
 int markring_cell_save(markring_cell *cell, uint64_t mark);
 
 // Goes back to the cell as it was last saved, and opens it. What wasn't saved is lost. After
@@ -655,8 +654,6 @@ int markring_watch_look(markring_watch *watch, uint64_t *cycle);
 
 // Frees the watch, and leaves the handle empty. It takes no memory.
 int markring_watch_free(markring_watch *watch);
-
-#endif
 
 #ifdef __cplusplus
 }
@@ -796,6 +793,7 @@ static inline const char *markring_status_text(int status)
     case MARKRING_WRONG_MARK: return "WrongMark";
     case MARKRING_CONGESTED: return "Congested";
     case MARKRING_NOTHING: return "Nothing";
+    case MARKRING_AGES: return "Ages";
     default: return "unknown";
     }
 }

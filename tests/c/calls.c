@@ -54,13 +54,9 @@ CALLS(node)
 
 // Two spaces of nodes and two of cells: the first of each is given `act`.
 static markring_node nodes[2][2];
-#ifdef MARKRING_WITH_SPACES
 CALLS(cell)
 static markring_cell cells[2][2];
 enum { WAYS = 4 };
-#else
-enum { WAYS = 2 };
-#endif
 static unsigned long seen[MARKRING_ANSWER_EARLY + 1], refusals[25];
 
 static markring_event draw_event(uint64_t *seed)
@@ -153,10 +149,8 @@ static void give_event(uint8_t own_number, const markring_event *event)
     }
     statuses[0] = markring_node_act(&nodes[0][own_number], event, &answers[0]);
     statuses[1] = call_node(&nodes[1][own_number], event, &answers[1]);
-#ifdef MARKRING_WITH_SPACES
     statuses[2] = markring_cell_act(&cells[0][own_number], event, &answers[2]);
     statuses[3] = call_cell(&cells[1][own_number], event, &answers[3]);
-#endif
     for (int i = 0; i < WAYS; i++) {
         EQUAL((uint64_t)statuses[0], (uint64_t)statuses[i]);
         if (statuses[0] == MARKRING_OK) {
@@ -169,8 +163,6 @@ static void give_event(uint8_t own_number, const markring_event *event)
         }
     }
 }
-
-#ifdef MARKRING_WITH_SPACES
 
 static void save_cell(markring_cell *cell)
 {
@@ -251,40 +243,6 @@ static void free_cells(int i)
     OK(markring_cell_free(&cells[i][1]));
 }
 
-#else
-
-static void save_cells(uint8_t own_number)
-{
-    (void)own_number;
-}
-
-static void move_between_cells(int i, uint8_t from, uint8_t to)
-{
-    (void)i, (void)from, (void)to;
-}
-
-static void acknowledge_between_cells(int i, uint8_t from, uint8_t to)
-{
-    (void)i, (void)from, (void)to;
-}
-
-static void compare_cells(uint8_t own_number)
-{
-    (void)own_number;
-}
-
-static void open_cells(int i)
-{
-    (void)i;
-}
-
-static void free_cells(int i)
-{
-    (void)i;
-}
-
-#endif
-
 // Moves all released frames of a node to the other node, in all spaces.
 static void move(uint8_t from, uint8_t to)
 {
@@ -351,7 +309,7 @@ static void look_at_texts(void)
     for (int i = 0; i < 25; i++) {
         HOLDS(strcmp(NAMES[i], markring_status_text(i)) == 0);
     }
-    for (int i = MARKRING_NO_HANDLE; i <= MARKRING_NOTHING; i++) {
+    for (int i = MARKRING_NO_HANDLE; i <= MARKRING_AGES; i++) {
         HOLDS(strcmp("unknown", markring_status_text(i)) != 0);
     }
     HOLDS(strcmp("unknown", markring_status_text(25)) == 0);

@@ -66,8 +66,6 @@ static void no_node(markring_node *at)
     NONE(markring_node_waiting(at, 1, TO(uint64_t)));
 }
 
-#ifdef MARKRING_WITH_SPACES
-
 static void no_cell(markring_cell *at)
 {
     markring_answer *answer = TO(markring_answer);
@@ -133,19 +131,6 @@ static void space_of(uint8_t nodes, uint16_t registers, uint32_t slots, int stat
         OK(markring_space_free(&space));
     }
 }
-
-#else
-
-static void empty_spaces(void)
-{
-}
-
-static void space_of(uint8_t nodes, uint16_t registers, uint32_t slots, int status)
-{
-    (void)nodes, (void)registers, (void)slots, (void)status;
-}
-
-#endif
 
 // Never filled, and freed.
 static void empty_handles(void)
@@ -448,8 +433,6 @@ static void frames(uint64_t seed, unsigned long count)
     drop_bytes(&before);
 }
 
-#ifdef MARKRING_WITH_SPACES
-
 // Spaces on images of other nodes, of other shapes, and damaged ones. A space that isn't opened
 // keeps its images, and opens once the wrong one is replaced.
 static void disks(uint64_t seed, unsigned long count)
@@ -499,7 +482,7 @@ static void disks(uint64_t seed, unsigned long count)
         int status = markring_space_open(&another);
         int expected = markring_node_from_image(&node, given.at, given.length, 0);
         HOLDS(status == MARKRING_OK || status == MARKRING_BAD_IMAGE
-            || status == MARKRING_WRONG_DISKS);
+            || status == MARKRING_WRONG_DISKS || status == MARKRING_AGES);
         HOLDS((expected == MARKRING_BAD_IMAGE) == (status == MARKRING_BAD_IMAGE));
         if (expected == MARKRING_OK) {
             OK(markring_node_free(&node));
@@ -545,15 +528,6 @@ static void disks(uint64_t seed, unsigned long count)
     drop_bytes(&good[0]);
     drop_bytes(&good[1]);
 }
-
-#else
-
-static void disks(uint64_t seed, unsigned long count)
-{
-    (void)seed, (void)count;
-}
-
-#endif
 
 int main(int length, char **given)
 {

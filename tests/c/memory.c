@@ -41,8 +41,6 @@ static markring_node nodes[2];
 static markring_answer answer;
 static unsigned long refusals;
 
-#ifdef MARKRING_WITH_SPACES
-
 static markring_cell cells[2];
 
 static bytes cell_shown(markring_cell *cell)
@@ -83,15 +81,6 @@ static void add_cell(bytes *all, int own_number)
         drop_bytes(&one);
     }
 }
-
-#else
-
-static void add_cell(bytes *all, int own_number)
-{
-    (void)all, (void)own_number;
-}
-
-#endif
 
 static bytes all_shown(void)
 {
@@ -269,14 +258,33 @@ static bytes over_nodes(void)
     return all;
 }
 
-#ifdef MARKRING_WITH_SPACES
-
 // Saves a cell. No memory is refused to the save itself, see `saves`.
 static void save_cell(int own_number)
 {
     MAY(markring_cell_image_size(&cells[own_number], &size));
     MAY(markring_cell_image(&cells[own_number], image, sizeof image, &needed, &mark));
     OK(markring_cell_save(&cells[own_number], mark));
+}
+
+// Receives what was sent. If memory is refused, the frame is lost, and its sender offers it again.
+static void receive(int to, uint8_t from)
+{
+    bytes before = all_shown();
+    blot(&answer);
+    within = 1;
+    int status = markring_cell_receive(&cells[to], from, &answer);
+    within = 0;
+    if (is_refusal(status)) {
+        bytes after = all_shown();
+        HOLDS(is_blotted(&answer));
+        HOLDS(same_bytes(&before, &after));
+        drop_bytes(&after);
+        refusals++;
+        status = MARKRING_OK;
+        IS(MARKRING_NOTHING, markring_cell_receive(&cells[to], from, &answer));
+    }
+    IS(MARKRING_OK, status);
+    drop_bytes(&before);
 }
 
 // Sends from one cell to the other until nothing is left.
@@ -286,7 +294,7 @@ static void flush(int from)
     markring_link sent, received;
     do {
         MAY(markring_cell_send(&cells[from], receiver, &flag));
-        MAY(markring_cell_receive(&cells[1 - from], sender, &answer));
+        receive(1 - from, sender);
         OK(markring_cell_link(&cells[from], receiver, &sent));
         OK(markring_cell_link(&cells[1 - from], sender, &received));
     } while (sent.released != received.received);
@@ -426,8 +434,6 @@ static void saves(void)
     printf("%lu allocations of a save refused\n", one - 1);
 }
 
-#endif
-
 static void refuse_each(bytes (*scenario)(void))
 {
     refused_one = requests = refusals = 0;
@@ -449,9 +455,7 @@ static void refuse_each(bytes (*scenario)(void))
 int main(void)
 {
     refuse_each(over_nodes);
-#ifdef MARKRING_WITH_SPACES
     refuse_each(over_cells);
     saves();
-#endif
     return report();
 }

@@ -154,9 +154,6 @@ def load() -> None:
     numbers = (U8, U16, U32, U64, SIZE)
     for kind, functions in FUNCTIONS.items():
         CALLS[kind], WIDTHS[kind] = {}, {}
-        if kind != "node" and not hasattr(library, f"markring_{kind}_free"):
-            # A library without spaces, cells and watches.
-            continue
         for name, words in functions.items():
             call = getattr(library, f"markring_{kind}_{name}")
             call.argtypes, call.restype = (AT, *words), c_int

@@ -117,8 +117,6 @@ class _Handle:
 
     def __init__(self) -> None:
         self._at = c.Handle()
-        if not c.CALLS[self._kind]:
-            raise NotImplementedError("this library exports no spaces")
 
     def _status(self, name: str, *words: Any) -> int:
         # Otherwise ctypes would cut off what a number has too much.
@@ -344,10 +342,7 @@ class Node(_Events):
 
 
 class Space(_Handle):
-    """A space whose nodes are in threads of one process. It makes cells and watches, which then go to threads.
-
-    `NotImplementedError` is raised if the library exports no spaces.
-    """
+    """A space whose nodes are in threads of one process. It makes cells and watches, which then go to threads."""
 
     _kind = "space"
 

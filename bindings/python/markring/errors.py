@@ -198,6 +198,12 @@ class Congested(Refusal):
     status, text = 107, "the link is congested"
 
 
+class Ages(Refusal):
+    """The images of two nodes aren't of one moment."""
+
+    status, text = 109, "the images of two nodes aren't of one moment"
+
+
 OK = 0
 NOTHING = 108
 CLASSES: dict[int, type[Refusal]] = {it.status: it for it in Refusal.__subclasses__()}

@@ -25,15 +25,6 @@ def turn(cell: Cell, own: int) -> None:
     time.sleep(0)
 
 
-def has_spaces() -> bool:
-    try:
-        Space(2, 1, 1).close()
-    except NotImplementedError:
-        return False
-    return True
-
-
-@unittest.skipUnless(has_spaces(), "the library exports no spaces")
 class Spaces(unittest.TestCase):
     def test_letters_cross_while_cycles_run(self) -> None:
         with Space(2, 4, 64, watches=1) as space:

@@ -8,8 +8,8 @@
 //!   images.
 //! - [`Events`]: what a node does.
 //! - [`Roots`], [`Root`]: registers that are chosen and emptied automatically.
-//! - `Space`, `Cell`, `Watch`, with the feature `spaces`: the nodes of a space in threads of one
-//!   process, which move frames in shared memory. The library must export them.
+//! - [`Space`], [`Cell`], [`Watch`], with the feature `spaces`: the nodes of a space in threads of
+//!   one process, which move frames in shared memory.
 //!
 //! The crate needs `libmarkring.a` or `libmarkring.so`. Its build script looks for them in the
 //! folder that the variable `MARKRING_LIB_DIR` names. Without that variable, it has `tools/library`

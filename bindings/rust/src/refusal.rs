@@ -111,6 +111,8 @@ refusals! {
     WrongMark = 106, "the mark isn't that of the last image";
     /// As many messages on the link as the node's limit allows aren't acknowledged.
     Congested = 107, "the link is congested";
+    /// The images of two nodes aren't of one moment.
+    Ages = 109, "the images of two nodes aren't of one moment";
 }
 
 impl Refusal {

@@ -70,7 +70,7 @@ impl Space {
     /// # Errors
     ///
     /// `InUse` if the space is open; `WrongDisks` if an image is of another node or of a space of
-    /// another shape; `BadImage`; `Disk`; `Memory`.
+    /// another shape; `Ages` if two images can't be of one moment; `BadImage`; `Disk`; `Memory`.
     pub fn open(&self) -> Result<()> {
         checked(unsafe { ffi::markring_space_open(self.at.get()) })
     }

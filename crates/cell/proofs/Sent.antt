@@ -35,7 +35,7 @@ desk-send =
     )
 
 module _ (D : RattleType) (g : disk.Ghosts D.Denot) where
-  cell-send : IsSend D → IsSend (Cell.the_field D g).row
+  pub cell-send : IsSend D → IsSend (Cell.the_field D g).row
   cell-send s =
       let inside = Inside.the_type D g in
       view_send _ _ _ _ _

@@ -1,3 +1,4 @@
+pub mod Sent
 pub mod Times
 pub mod Torn
 pub mod Records

@@ -1,14 +1,16 @@
 //! A disk in memory, which can be made to fail and to crash. It keeps what an area held at the last
 //! sync only while a crash may bring that back.
-ghost use Rattle.std.specs.Prelude.{◌≡◌, ◌≤◌, ◌↔◌, length, IfOk, IfErr, IsErr, IsErrOf, OnOk};
+ghost use Rattle.std.specs.Prelude.{◌≡◌, ◌≤◌, ◌↔◌, [], ◌∷◌, length, IfOk, IfErr, IsErr, IsErrOf, OnOk};
 ghost use Rattle.std.specs.Prelude.{IsTrue, OnErr, ⊤};
 ghost use Rattle.disk.specs.Areas.{Areas, Changes, Holds, Reads, Torn, part, pasted};
 ghost use Rattle.disk.specs.Crashes.{Elapses, Follows, HasCause, Only, Reaches};
 ghost use Rattle.disk.specs.Record.{areas_of, at_risk, leaves, moments, left_since, IsThen};
 ghost use Rattle.disk.specs.Record.{reads_left, counts_now, only_now};
+ghost use Rattle.disk.specs.Shelf.{record_of};
 ghost use Rattle.disk.specs.Plan.{AsPlanned, fails_from, fails_once, is_due};
 
 use crate::plan::{Plan, falters};
+use crate::save::record;
 use crate::state::{Contents, Past, State, start, tick};
 use crate::{Area, Disk, DiskFault};
 use ids::Refusal;
@@ -50,6 +52,23 @@ impl MemoryDisk {
         ensures faultless { IsFaultless result }
     {
         MemoryDisk::holding(alloc, Contents::new(alloc))
+    }
+
+    /// A disk that holds this image on its shelf, and a crash leaves it so. Fails with `Memory` if
+    /// an allocation fails.
+    pub fn of_image(alloc: Global, image: &[u8]) -> Result<MemoryDisk, Refusal>
+        ensures held { IfOk result (λ d.
+            held_by d ≡ record { select = 0 ∷ []; a = record_of image.now; b = [] }) }
+        ensures durable { IfOk result (λ d. Only (held_by d) (left_by d)) }
+        ensures faultless { IfOk result IsFaultless }
+        ensures memory { IfErr result (λ e. e ≡ Refusal.Memory) }
+    {
+        let contents = Contents {
+            select: Vec::from_slice(alloc, &[0])?,
+            a: record(alloc, image)?,
+            b: Vec::new(alloc),
+        };
+        Ok(MemoryDisk::holding(alloc, contents))
     }
 
     // A disk that holds this, all of it synced.

@@ -32,6 +32,13 @@ pub enum Fault {
     Congested,
     /// There is no such frame, message, cell or the like.
     Nothing,
+    /// The images of these two nodes are not of one moment.
+    Ages {
+        /// The number of the node that sent some messages.
+        sender: u8,
+        /// The number of the node that they are for.
+        receiver: u8,
+    },
 }
 
 impl Fault {
@@ -49,6 +56,7 @@ impl Fault {
             Fault::WrongMark => 106,
             Fault::Congested => 107,
             Fault::Nothing => 108,
+            Fault::Ages { .. } => 109,
         }
     }
 }

@@ -1,6 +1,7 @@
 //! Answers, events and numbers of nodes as structs of plain numbers, which is how C sees them. The
 //! header `include/markring.h` has the same structs.
-ghost use Rattle.std.specs.Prelude.{◌≡◌};
+ghost use Rattle.std.specs.Prelude.{◌≡◌, IfSome, true};
+ghost use Rattle.model.specs.Steps.{is_own};
 ghost use Rattle.handles.specs.Fields.{answer_fields, colour_number, event_of, freed_fields};
 ghost use Rattle.handles.specs.Fields.{letter_fields, no_answer, optional_fields};
 ghost use Rattle.handles.specs.Fields.{reference_fields, state_fields, token_fields};
@@ -226,7 +227,8 @@ impl CAnswer {
 impl CEvent {
     /// The event that the fields describe. None if it isn't the kind of an event.
     pub fn event(&self) -> Option<Event>
-        ensures { result ≡ event_of self.now }
+        ensures value { result ≡ event_of self.now }
+        ensures own { IfSome result (λ e. is_own e ≡ true) }
     {
         let CEvent {
             kind,

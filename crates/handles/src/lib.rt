@@ -17,7 +17,9 @@ mod lone;
 mod nodes;
 mod packing;
 
+pub use bytes::put;
 pub use fault::{Fault, OK};
 pub use fields::{CAnswer, CEvent, CLink, CRef, CState};
 pub use lone::LoneNode;
+pub use lone::reading::{link_of, register_of};
 pub use nodes::NodeHandle;

@@ -6,7 +6,7 @@ ghost use Rattle.handles.specs.Lone.{lone, receiver_of, unacknowledged};
 
 mod frames;
 mod images;
-mod reading;
+pub(crate) mod reading;
 
 use crate::fault::Fault;
 use ids::{NodeId, Ref, Refusal, Shape};

@@ -1,15 +1,17 @@
 -- What the exports do: they call the method of a handle, return the status of its result, and write
 -- what the result holds.
-use Rattle.std.specs.Prelude.{◌≡◌, ℕ, ℤ, Option, Some, None, Result}
+use Rattle.std.specs.Prelude.{◌≡◌, ℕ, ℤ, Bool, Option, Some, None, Result}
 use Rattle.model.specs.declared.event.Answer.{Answer}
 use Rattle.model.specs.declared.event.Event.{Event}
 use Rattle.handles.specs.Faults.{Through, status, status_of, written}
-use Rattle.handles.specs.Fields.{answer_fields}
+use Rattle.handles.specs.Fields.{answer_fields, bit}
 use Rattle.handles.specs.Lone.{NodeActs}
 use Rattle.handles.specs.declared.fault.Fault.{Fault}
 use Rattle.handles.specs.declared.fault.Fault.TheVariants as fault
 use Rattle.handles.specs.declared.fields.CAnswer.{CAnswer}
 use Rattle.handles.specs.declared.lone.LoneNode.{LoneNode}
+use Rattle.spaces.specs.Cells.{CellActs}
+use Rattle.spaces.specs.declared.seated.SeatedCell.{SeatedCell}
 
 -- The call did this with some result, which was written to the answer.
 pub record Answered {X : Type 0} (Does : Option X → Option X → Result Answer Fault → Type 0)
@@ -39,6 +41,13 @@ pub record Numbered (Does : Result ℕ Fault → Type 0) (s : ℤ) (before after
   pub status : s ≡ status result
   pub number : after ≡ written (λ x. x) result before
 
+-- The call did this with some result, which was written as 1 or 0.
+pub record Flagged (Does : Result Bool Fault → Type 0) (s : ℤ) (before after : ℕ) : Type 0 where
+  pub result : Result Bool Fault
+  pub does : Does result
+  pub status : s ≡ status result
+  pub flag : after ≡ written bit result before
+
 abbrev pub NodeCalled : Event → Option LoneNode → Option LoneNode → ℤ → CAnswer → CAnswer → Type 0
 NodeCalled e = Answered (Through (NodeActs e))
 
@@ -47,4 +56,15 @@ abbrev pub NodeActed : Option Event → Option LoneNode → Option LoneNode → 
     → Type 0
 NodeActed (Some e) old new s before after = NodeCalled e old new s before after
 NodeActed None old new s before after =
+    (new ≡ old) × (s ≡ status_of fault.BadArgument) × (after ≡ before)
+
+-- the same for a cell
+abbrev pub CellCalled : Event → Option SeatedCell → Option SeatedCell → ℤ → CAnswer → CAnswer
+    → Type 0
+CellCalled e = Answered (Through (CellActs e))
+
+abbrev pub CellActed : Option Event → Option SeatedCell → Option SeatedCell → ℤ → CAnswer
+    → CAnswer → Type 0
+CellActed (Some e) old new s before after = CellCalled e old new s before after
+CellActed None old new s before after =
     (new ≡ old) × (s ≡ status_of fault.BadArgument) × (after ≡ before)

@@ -5,6 +5,9 @@
 //! A `Global` takes no bytes, so C passes nothing for it.
 #![tactic(auto)]
 
+mod cell_events;
+mod cells;
 mod node_events;
 mod nodes;
+mod space;
 mod written;

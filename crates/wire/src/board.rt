@@ -69,6 +69,15 @@ impl Wire {
     }
 }
 
+impl Raised {
+    /// The cycle that was raised.
+    pub fn cycle(&self) -> Cycle
+        ensures { result.number ≡ raised_cycle self.now }
+    {
+        self.cycle
+    }
+}
+
 impl Watch {
     /// Informs the watch of a cycle that was raised on its wire. The watch keeps the latest cycle
     /// that it has heard of.

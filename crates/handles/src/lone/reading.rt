@@ -24,7 +24,7 @@ pub(crate) fn other_node(core: &Core, node: u8) -> Result<(), Fault>
 
 /// The reference in a register. Fails with `NoRegister`, and with `Nothing` if the register is
 /// empty.
-pub(crate) fn register_of(core: &Core, register: u16) -> Result<Ref, Fault>
+pub fn register_of(core: &Core, register: u16) -> Result<Ref, Fault>
     ensures { result ≡ register_of core.now.local register }
 {
     match core.heap().registers().get(usize::from(register)) {
@@ -35,7 +35,7 @@ pub(crate) fn register_of(core: &Core, register: u16) -> Result<Ref, Fault>
 }
 
 /// What the node knows of the links between it and another node. Fails with `NoNode`.
-pub(crate) fn link_of(core: &Core, peer: u8) -> Result<CLink, Fault>
+pub fn link_of(core: &Core, peer: u8) -> Result<CLink, Fault>
     ensures { result ≡ link_of core.now peer }
 {
     other_node(core, peer)?;

@@ -1,0 +1,201 @@
+//! Cells, except for the events of their nodes one by one.
+ghost use Rattle.std.specs.Prelude.{◌≡◌, Ok};
+ghost use Rattle.node.specs.Summaries.{summary_of};
+ghost use Rattle.handles.specs.Faults.{Freed, Through, read, status, written};
+ghost use Rattle.handles.specs.Fields.{bit, event_of, reference_fields, state_fields};
+ghost use Rattle.handles.specs.Reads.{link_of, register_of};
+ghost use Rattle.spaces.specs.Cells.{HandleImaged, Raised, Received, Reopened, Saved, Sent};
+ghost use Rattle.spaces.specs.Cells.{SizedSame};
+ghost use Rattle.markring_c.specs.Calls.{Answered, CellActed, Finished, Flagged, Numbered};
+
+use crate::written::{answered, status, written};
+use handles::{CAnswer, CEvent, CLink, CRef, CState, Fault, OK};
+use spaces::CellHandle;
+use std::alloc::Global;
+
+/// Frees the cell.
+#[unsafe(no_mangle)]
+pub extern "C" fn markring_cell_free(alloc: Global, cell: &mut CellHandle) -> i32
+    ensures { Finished Freed cell.old.held cell.new.held result }
+{
+    status(cell.free(alloc))
+}
+
+/// Gives the cell's node the event that the fields describe.
+#[unsafe(no_mangle)]
+pub extern "C" fn markring_cell_act(
+    alloc: Global,
+    cell: &mut CellHandle,
+    event: &CEvent,
+    answer: &mut CAnswer,
+) -> i32
+    ensures { CellActed (event_of event.now) cell.old.held cell.new.held result answer.old
+        answer.new }
+{
+    match event.event() {
+        Some(it) => answered(cell.act(alloc, it), answer),
+        None => Fault::BadArgument.status(),
+    }
+}
+
+/// Receives from another node.
+#[unsafe(no_mangle)]
+pub extern "C" fn markring_cell_receive(
+    alloc: Global,
+    cell: &mut CellHandle,
+    from: u8,
+    answer: &mut CAnswer,
+) -> i32
+    ensures { Answered (Through (Received from)) cell.old.held cell.new.held result answer.old
+        answer.new }
+{
+    answered(cell.receive(alloc, from), answer)
+}
+
+/// Sends to another node.
+#[unsafe(no_mangle)]
+pub extern "C" fn markring_cell_send(
+    alloc: Global,
+    cell: &mut CellHandle,
+    to: u8,
+    sent: &mut u8,
+) -> i32
+    ensures { Flagged (Through (Sent to) cell.old.held cell.new.held) result sent.old sent.new }
+{
+    match cell.send(alloc, to) {
+        Ok(it) => {
+            *sent = u8::from(it);
+            OK
+        }
+        Err(fault) => fault.status(),
+    }
+}
+
+/// The number of bytes of the image of the cell's node.
+#[unsafe(no_mangle)]
+pub extern "C" fn markring_cell_image_size(
+    alloc: Global,
+    cell: &mut CellHandle,
+    size: &mut usize,
+) -> i32
+    ensures { Numbered (Through SizedSame cell.old.held cell.new.held) result size.old size.new }
+{
+    written(cell.image_size(alloc), size)
+}
+
+/// Writes the image of the cell's node.
+#[unsafe(no_mangle)]
+pub extern "C" fn markring_cell_image(
+    alloc: Global,
+    cell: &mut CellHandle,
+    buffer: &mut [u8],
+    needed: &mut usize,
+    mark: &mut u64,
+) -> i32
+    ensures { Numbered (λ r. HandleImaged cell.old.held cell.new.held r buffer.old buffer.new
+        needed.old needed.new) result mark.old mark.new }
+{
+    written(cell.image(alloc, buffer, needed), mark)
+}
+
+/// Saves the cell, whose image with this mark is stored.
+#[unsafe(no_mangle)]
+pub extern "C" fn markring_cell_save(alloc: Global, cell: &mut CellHandle, mark: u64) -> i32
+    ensures { Finished (Through (Saved mark)) cell.old.held cell.new.held result }
+{
+    status(cell.save(alloc, mark))
+}
+
+/// Goes back to the cell as it was last saved.
+#[unsafe(no_mangle)]
+pub extern "C" fn markring_cell_reopen(alloc: Global, cell: &mut CellHandle) -> i32
+    ensures { Finished (Through Reopened) cell.old.held cell.new.held result }
+{
+    status(cell.reopen(alloc))
+}
+
+/// Shows to the watches the last cycle that the saved node 0 knows to have ended.
+#[unsafe(no_mangle)]
+pub extern "C" fn markring_cell_raise(alloc: Global, cell: &mut CellHandle, cycle: &mut u64) -> i32
+    ensures { Numbered (Through Raised cell.old.held cell.new.held) result cycle.old cycle.new }
+{
+    written(cell.raise(alloc), cycle)
+}
+
+/// The cell's node in numbers.
+#[unsafe(no_mangle)]
+pub extern "C" fn markring_cell_state(
+    alloc: Global,
+    cell: &mut CellHandle,
+    state: &mut CState,
+) -> i32
+    ensures same { cell.new.held ≡ cell.old.held }
+    ensures status { result
+        ≡ status (read (λ c. Ok (summary_of c.cell.node.core.local)) cell.old.held) }
+    ensures value { state.new ≡ written state_fields
+        (read (λ c. Ok (summary_of c.cell.node.core.local)) cell.old.held) state.old }
+{
+    match cell.state(alloc) {
+        Ok(it) => {
+            *state = CState::of(it);
+            OK
+        }
+        Err(fault) => fault.status(),
+    }
+}
+
+/// The links between the cell's node and another one.
+#[unsafe(no_mangle)]
+pub extern "C" fn markring_cell_link(
+    alloc: Global,
+    cell: &mut CellHandle,
+    peer: u8,
+    link: &mut CLink,
+) -> i32
+    ensures same { cell.new.held ≡ cell.old.held }
+    ensures status { result ≡ status (read (λ c. link_of c.cell.node.core peer) cell.old.held) }
+    ensures value { link.new
+        ≡ written (λ x. x) (read (λ c. link_of c.cell.node.core peer) cell.old.held) link.old }
+{
+    written(cell.link(alloc, peer), link)
+}
+
+/// The reference in a register.
+#[unsafe(no_mangle)]
+pub extern "C" fn markring_cell_register(
+    alloc: Global,
+    cell: &mut CellHandle,
+    register: u16,
+    reference: &mut CRef,
+) -> i32
+    ensures same { cell.new.held ≡ cell.old.held }
+    ensures status { result
+        ≡ status (read (λ c. register_of c.cell.node.core.local register) cell.old.held) }
+    ensures value { reference.new ≡ written reference_fields
+        (read (λ c. register_of c.cell.node.core.local register) cell.old.held) reference.old }
+{
+    match cell.register(alloc, register) {
+        Ok(it) => {
+            *reference = CRef::of(it);
+            OK
+        }
+        Err(fault) => fault.status(),
+    }
+}
+
+/// Whether an event has changed the node since the last save or reopening.
+#[unsafe(no_mangle)]
+pub extern "C" fn markring_cell_unsaved(alloc: Global, cell: &mut CellHandle, flag: &mut u8) -> i32
+    ensures same { cell.new.held ≡ cell.old.held }
+    ensures status { result ≡ status (read (λ c. Ok c.cell.unsaved) cell.old.held) }
+    ensures value { flag.new
+        ≡ written bit (read (λ c. Ok c.cell.unsaved) cell.old.held) flag.old }
+{
+    match cell.is_unsaved(alloc) {
+        Ok(it) => {
+            *flag = u8::from(it);
+            OK
+        }
+        Err(fault) => fault.status(),
+    }
+}

@@ -1,0 +1,102 @@
+//! Spaces and watches.
+ghost use Rattle.handles.specs.Faults.{Filled, Freed, Through};
+ghost use Rattle.spaces.specs.Spaces.{Given, Made, Moved, Opens, TakesCell, TakesWatch};
+ghost use Rattle.spaces.specs.Watches.{Looks};
+ghost use Rattle.markring_c.specs.Calls.{Finished, Finishes, Numbered};
+
+use crate::written::{status, written};
+use spaces::{CellHandle, SpaceHandle, WatchHandle};
+use std::alloc::Global;
+
+/// Makes a space that isn't open yet.
+#[unsafe(no_mangle)]
+pub extern "C" fn markring_space_new(
+    alloc: Global,
+    space: &mut SpaceHandle,
+    nodes: u8,
+    registers: u16,
+    slots: u32,
+    watches: u8,
+) -> i32
+    ensures { Finished (Filled
+        (Made (record { nodes = nodes; registers = registers; slots = slots }) watches))
+        space.old.held space.new.held result }
+{
+    status(space.fill_new(alloc, nodes, registers, slots, watches))
+}
+
+/// Gives the space the image of a node.
+#[unsafe(no_mangle)]
+pub extern "C" fn markring_space_disk(
+    alloc: Global,
+    space: &mut SpaceHandle,
+    node: u8,
+    image: &[u8],
+) -> i32
+    ensures { Finished (Through (Given node image.now)) space.old.held space.new.held result }
+{
+    status(space.give(alloc, node, image))
+}
+
+/// Opens the space.
+#[unsafe(no_mangle)]
+pub extern "C" fn markring_space_open(alloc: Global, space: &mut SpaceHandle) -> i32
+    ensures { Finished (Through Opens) space.old.held space.new.held result }
+{
+    status(space.open(alloc))
+}
+
+/// Moves the cell of a node into an empty handle.
+#[unsafe(no_mangle)]
+pub extern "C" fn markring_space_cell(
+    alloc: Global,
+    space: &mut SpaceHandle,
+    node: u8,
+    cell: &mut CellHandle,
+) -> i32
+    ensures { Finishes (Moved (TakesCell node) space.old.held space.new.held cell.old.held
+        cell.new.held) result }
+{
+    status(space.cell(alloc, node, cell))
+}
+
+/// Moves a watch into an empty handle.
+#[unsafe(no_mangle)]
+pub extern "C" fn markring_space_watch(
+    alloc: Global,
+    space: &mut SpaceHandle,
+    watch: &mut WatchHandle,
+) -> i32
+    ensures { Finishes (Moved TakesWatch space.old.held space.new.held watch.old.held
+        watch.new.held) result }
+{
+    status(space.watch(alloc, watch))
+}
+
+/// Frees the space.
+#[unsafe(no_mangle)]
+pub extern "C" fn markring_space_free(alloc: Global, space: &mut SpaceHandle) -> i32
+    ensures { Finished Freed space.old.held space.new.held result }
+{
+    status(space.free(alloc))
+}
+
+/// The last cycle that node 0 has shown.
+#[unsafe(no_mangle)]
+pub extern "C" fn markring_watch_look(
+    alloc: Global,
+    watch: &mut WatchHandle,
+    cycle: &mut u64,
+) -> i32
+    ensures { Numbered (Through Looks watch.old.held watch.new.held) result cycle.old cycle.new }
+{
+    written(watch.look(alloc), cycle)
+}
+
+/// Frees the watch.
+#[unsafe(no_mangle)]
+pub extern "C" fn markring_watch_free(alloc: Global, watch: &mut WatchHandle) -> i32
+    ensures { Finished Freed watch.old.held watch.new.held result }
+{
+    status(watch.free(alloc))
+}

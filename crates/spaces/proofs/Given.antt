@@ -1,0 +1,195 @@
+-- Spaces that are opened on images: what the disks of these images have, and what follows of the
+-- cells.
+use Rattle.std.proofs.Common.{◌≡◌, ◌≢◌, ℕ, ◌≤◌, ◌+◌, zero, suc, List, [], ◌++◌, Some, None, length, map, drop, refl, sym, ap, ◌∙◌, subst}
+use Rattle.std.specs.Prelude.{slice_get}
+use Rattle.std.proofs.lemmas.List.{append-nil, length-map}
+use Rattle.ids.specs.Limits.{Shaped}
+use Rattle.ids.specs.declared.limits.TheConstants.{GREATEST_IMAGE}
+use Rattle.ids.specs.declared.refusal.Refusal.{Refusal}
+use Rattle.ids.specs.declared.refusal.Refusal.TheVariants as refusal
+use Rattle.node.specs.Keeping.{WholeNode}
+use Rattle.image.specs.Nodes.{IsImageOf}
+use Rattle.image.specs.Wholes.{IsWholeOf}
+use Rattle.disk.specs.Areas.{Areas}
+use Rattle.disk.specs.Memory.{held_by}
+use Rattle.disk.specs.Shelf.{record_of, recorded}
+use Rattle.disk.specs.declared.memory.MemoryDisk.{MemoryDisk}
+use Rattle.disk.proofs.Records.{recorded_holds}
+use Rattle.cell.specs.Ages.{AreApart, AreRead, IfAges}
+use Rattle.cell.specs.Opened.{AreBeside, HasPlace, HoldsAnother, HoldsNone, IfRefused, IsCause, IsReadFrom}
+use Rattle.cell.specs.declared.fault.Unopened.{Unopened}
+use Rattle.cell.specs.declared.fault.Unopened.TheVariants as unopened
+use Rattle.cell.specs.Opened as cells
+use Rattle.cell.proofs.Places.{mapped-from, mapped-there}
+use Rattle.handles.specs.declared.fault.Fault.TheVariants as fault
+use Rattle.spaces.specs.Opening.{AreOfTwoAges, Begins, EachOf, HoldsNoImage, HoldsOther, Image, IsShort, IsTooLarge, IsWhy, areas_in, fault_of}
+
+some-is : {A : Type 0} (x y : A) → Some x ≡ Some y → x ≡ y
+some-is x y e = cc
+
+drop-none : {A : Type 0} (n : ℕ) → drop {A = A} n [] ≡ []
+drop-none zero = refl
+drop-none (suc n) = refl
+
+-- a disk that was made of an image opens to it
+opens : (image : List ℕ) → length image ≤ GREATEST_IMAGE
+    → recorded (record_of image) ≡ Some image
+opens image short =
+    let bytes = record_of image in
+    recorded_holds image [] bytes short
+    (sym (ap (λ (l : List ℕ). bytes ++ l) (drop-none (0 + length bytes)) ∙ append-nil bytes))
+
+-- the images and the disks that were made of them
+pub record AreDisksOf (images : List Image) (disks : List MemoryDisk) : Type 0 where
+  pub held : map held_by disks ≡ map areas_in images
+  pub short : EachOf IsShort images
+
+pub disk-at : {images : List Image} {disks : List MemoryDisk} → AreDisksOf images disks → (k : ℕ)
+    (i : Image) → slice_get images k ≡ Some i
+    → (d : MemoryDisk) × (slice_get disks k ≡ Some d) × (areas_in i ≡ held_by d)
+disk-at {images = images} {disks = disks} are k i there =
+    mapped-from held_by disks k (areas_in i)
+    (subst (λ (l : List Areas). slice_get l k ≡ Some (areas_in i)) (sym are.held)
+    (mapped-there areas_in images k i there))
+
+pub image-at : {images : List Image} {disks : List MemoryDisk} → AreDisksOf images disks → (k : ℕ)
+    (d : MemoryDisk) → slice_get disks k ≡ Some d
+    → (i : Image) × (slice_get images k ≡ Some i) × (held_by d ≡ areas_in i)
+image-at {images = images} {disks = disks} are k d there =
+    mapped-from areas_in images k (held_by d)
+    (subst (λ (l : List Areas). slice_get l k ≡ Some (held_by d)) are.held
+    (mapped-there held_by disks k d there))
+
+pub same-count : {images : List Image} {disks : List MemoryDisk} → AreDisksOf images disks
+    → length disks ≡ length images
+same-count {images = images} {disks = disks} are =
+    sym (length-map disks held_by) ∙ ap length are.held ∙ length-map images areas_in
+
+-- ---- The nodes
+
+begins : (shape : Shaped) (k : ℕ) (i : Image) (n : WholeNode) → IsShort i
+    → IsReadFrom shape k (areas_in i) n → Begins shape k i n
+begins shape k None n short read = read.blank refl
+begins shape k (Some v) n short read =
+    let found = read.held (λ e. absurd cc) in
+    let same : found.0 ≡ v.items = some-is _ _ (sym found.1 ∙ opens v.items short) in
+    subst (λ (l : List ℕ). IsWholeOf l n) same found.2
+
+pub all-begin : (shape : Shaped) (images : List Image) (disks : List MemoryDisk)
+    (nodes : List WholeNode) → AreDisksOf images disks
+    → AreBeside (λ k d n. IsReadFrom shape k (held_by d) n) disks nodes
+    → AreBeside (λ k i n. Begins shape k i n) images nodes
+all-begin shape images disks nodes are read = λ k i n at_image at_node.
+    let of = disk-at are k i at_image in
+    begins shape k i n (are.short k i at_image)
+    (subst (λ (c : Areas). IsReadFrom shape k c n) (sym of.2) (read k of.0 n of.1 at_node))
+
+pub two-ages : (shape : Shaped) (images : List Image) (disks : List MemoryDisk)
+    (sender receiver : ℕ) → AreDisksOf images disks
+    → AreRead held_by shape disks (λ ns. AreApart ns sender receiver)
+    → AreOfTwoAges shape images sender receiver
+two-ages shape images disks sender receiver are h = record {
+  nodes = h.nodes;
+  count = h.count ∙ same-count are;
+  read = all-begin shape images disks h.nodes are h.read;
+  apart = h.are;
+}
+
+-- ---- What is wrong with an image
+
+other-in : (shape : Shaped) (k : ℕ) (i : Image) → IsShort i → HoldsAnother shape k (areas_in i)
+    → HoldsOther shape k i
+other-in shape k None short h = let none = h.opens.1 in absurd cc
+other-in shape k (Some v) short h =
+    let same : h.opens.0 ≡ v.items = some-is _ _ (sym h.opens.1 ∙ opens v.items short) in
+    (h.node, subst (λ (l : List ℕ). IsImageOf l h.node) same h.opens.2, h.is_other)
+
+none-in : (i : Image) → HoldsNone (areas_in i) → HoldsNoImage i
+none-in None h = h.written refl
+none-in (Some v) h = λ n fits whole. h.none n (v.items, opens v.items fits, whole)
+
+large-in : (shape : Shaped) (k : ℕ) (i : Image) → cells.IsTooLarge shape k (areas_in i)
+    → IsTooLarge shape k i
+large-in shape k None h = h.large
+large-in shape k (Some v) h = let blank = h.blank in absurd cc
+
+long-in : (i : Image) → (IsShort i → ⊥) → HoldsNoImage i
+long-in None long = long tt
+long-in (Some v) long = λ n fits whole. long fits
+
+-- what a property of a disk means for the image
+moved : {P : ℕ → MemoryDisk → Type 0} {Q : ℕ → Image → Type 0} {images : List Image}
+    {disks : List MemoryDisk} → AreDisksOf images disks
+    → ((k : ℕ) (d : MemoryDisk) (i : Image) → IsShort i → held_by d ≡ areas_in i → P k d → Q k i)
+    → HasPlace P disks → HasPlace Q images
+moved are f h =
+    let of = image-at are h.place h.value h.there in
+    record {
+      place = h.place;
+      value = of.0;
+      there = of.1;
+      is = f h.place h.value of.0 (are.short h.place of.0 of.1) of.2 h.is;
+    }
+
+pub wrong-disks : (shape : Shaped) (images : List Image) (disks : List MemoryDisk)
+    → AreDisksOf images disks → HasPlace (λ k d. HoldsAnother shape k (held_by d)) disks
+    → HasPlace (λ k i. HoldsOther shape k i) images
+wrong-disks shape images disks are =
+    moved are (λ k d i short is h.
+    other-in shape k i short (subst (λ (c : Areas). HoldsAnother shape k c) is h))
+
+pub too-long : (images : List Image) → HasPlace (λ k i. IsShort i → ⊥) images
+    → HasPlace (λ k i. HoldsNoImage i) images
+too-long images h = record {
+  place = h.place;
+  value = h.value;
+  there = h.there;
+  is = long-in h.value h.is;
+}
+
+module _ (moment faults : MemoryDisk → ℕ) (shape : Shaped) (images : List Image)
+    (disks : List MemoryDisk) (are : AreDisksOf images disks) where
+  abbrev pub Cause : Refusal → Type 0
+  Cause e = HasPlace (λ k d. IsCause held_by moment faults shape k d e) disks
+
+  pub why-refused : (e : Refusal) → (e ≢ refusal.Memory → Cause e)
+      → IsWhy shape images (fault.Refused e)
+  why-refused refusal.Memory h = tt
+  why-refused refusal.Disk h = tt
+  why-refused refusal.BadImage h =
+      moved are (λ k d i short is x. none-in i (subst HoldsNone is x)) (h (λ e. absurd cc))
+  why-refused refusal.ImageTooLarge h =
+      moved are (λ k d i short is x.
+      large-in shape k i (subst (λ (c : Areas). cells.IsTooLarge shape k c) is x))
+      (h (λ e. absurd cc))
+  why-refused refusal.ArenaFull h = (h (λ e. absurd cc)).is
+  why-refused refusal.NoRegister h = (h (λ e. absurd cc)).is
+  why-refused refusal.EmptyRegister h = (h (λ e. absurd cc)).is
+  why-refused refusal.Remote h = (h (λ e. absurd cc)).is
+  why-refused refusal.Local h = (h (λ e. absurd cc)).is
+  why-refused refusal.NoNode h = (h (λ e. absurd cc)).is
+  why-refused refusal.NoLetter h = (h (λ e. absurd cc)).is
+  why-refused refusal.NoField h = (h (λ e. absurd cc)).is
+  why-refused refusal.TooManyFields h = (h (λ e. absurd cc)).is
+  why-refused refusal.SelfSend h = (h (λ e. absurd cc)).is
+  why-refused refusal.LinkSpent h = (h (λ e. absurd cc)).is
+  why-refused refusal.CyclesSpent h = (h (λ e. absurd cc)).is
+  why-refused refusal.NotDirector h = (h (λ e. absurd cc)).is
+  why-refused refusal.CycleRunning h = (h (λ e. absurd cc)).is
+  why-refused refusal.NothingToDo h = (h (λ e. absurd cc)).is
+  why-refused refusal.OutOfOrder h = (h (λ e. absurd cc)).is
+  why-refused refusal.AckBeyond h = (h (λ e. absurd cc)).is
+  why-refused refusal.BadFrame h = (h (λ e. absurd cc)).is
+  why-refused refusal.WrongNode h = (h (λ e. absurd cc)).is
+  why-refused refusal.Closed h = (h (λ e. absurd cc)).is
+
+  pub why : (e : Unopened)
+      → (e ≡ unopened.Disks → HasPlace (λ k d. HoldsAnother shape k (held_by d)) disks)
+      → IfRefused Cause e
+      → IfAges (λ sender receiver.
+      AreRead held_by shape disks (λ ns. AreApart ns sender receiver)) e
+      → IsWhy shape images (fault_of e)
+  why unopened.Disks other cause ages = wrong-disks shape images disks are (other refl)
+  why (unopened.Ages sender receiver) other cause ages =
+      two-ages shape images disks sender receiver are ages
+  why (unopened.Refused e) other cause ages = why-refused e cause

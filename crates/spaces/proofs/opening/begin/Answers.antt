@@ -1,0 +1,29 @@
+use Rattle.std.proofs.Common.{◌∙◌, Err, ap, subst, sym}
+use Rattle.spaces.specs.Opening.{IsWhy}
+use Rattle.spaces.proofs.Given.{AreDisksOf, all-begin, same-count, why}
+use Rattle.spaces.proofs.opening.begin.Goals as goal
+
+pub returns-in-Ok-clause-begun : goal.returns-in-Ok-clause-begun
+returns-in-Ok-clause-begun c =
+    let h = c.in-Ok.ensures in
+    let given = c.in_ok-disks.ensures in
+    let are : AreDisksOf c.args.images.now c.in_ok-disks.disks.items =
+    record { held = given.held; short = given.short } in
+    record {
+      count = h.all ∙ same-count are ∙ c.requires;
+      read = all-begin c.args.shape c.args.images.now c.in_ok-disks.disks.items _ are h.read;
+      one_age = h.one_age;
+      new = h.new;
+      made = h.made;
+    }
+
+pub returns-in-Err-clause-refused : goal.returns-in-Err-clause-refused
+returns-in-Err-clause-refused c =
+    let h = c.in-Err.ensures in
+    let disks = c.in_ok-disks.disks in
+    let given = c.in_ok-disks.ensures in
+    let are : AreDisksOf c.args.images.now c.in_ok-disks.disks.items =
+    record { held = given.held; short = given.short } in
+    subst (IsWhy c.args.shape c.args.images.now) (sym c.fault_of.ensures)
+    (why _ _ c.args.shape c.args.images.now disks.items are c.in-Err.unopened
+    (λ is. h.other (ap Err is) (disks.ok.0 ∙ same-count are ∙ c.requires)) h.cause h.ages)

@@ -1,0 +1,4 @@
+pub mod Cells
+pub mod Opening
+pub mod Spaces
+pub mod Watches
