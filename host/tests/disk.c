@@ -15,19 +15,22 @@ static uint32_t below_number(uint64_t *seed, uint32_t limit)
     return (uint32_t)((*seed * UINT64_C(2685821657736338717) >> 32) * limit >> 32);
 }
 
-static void *need(void *block)
+// Memory of the disk's own. A test that refuses memory to a host wraps malloc and realloc, but not
+// this call.
+static void *resized(void *block, size_t size)
 {
-    if (block == NULL) {
+    void *fresh = reallocarray(block, 1, size);
+    if (fresh == NULL) {
         fputs("the test itself ran out of memory\n", stderr);
         exit(2);
     }
-    return block;
+    return fresh;
 }
 
 static void extend(uint8_t **bytes, size_t *length, size_t to)
 {
     if (to > *length) {
-        *bytes = need(realloc(*bytes, to));
+        *bytes = resized(*bytes, to);
         memset(*bytes + *length, 0, to - *length);
         *length = to;
     }
@@ -83,7 +86,7 @@ static void settle_pending(disk *it, disk_file *file)
 static void read_again(disk_file *file)
 {
     free(file->seen);
-    file->seen = need(malloc(file->durable_length + 1));
+    file->seen = resized(NULL, file->durable_length + 1);
     if (file->durable_length > 0) {
         memcpy(file->seen, file->durable, file->durable_length);
     }
@@ -216,7 +219,7 @@ static int64_t write_at(
         settle_pending(it, to);
     }
     if (count > 0) {
-        disk_write write = {offset, count, need(malloc(count))};
+        disk_write write = {offset, count, resized(NULL, count)};
         memcpy(write.bytes, bytes, count);
         apply(&to->seen, &to->seen_length, &write);
         to->pending[to->pending_count++] = write;
@@ -306,8 +309,8 @@ void disk_copy(disk *to, const disk *from)
     for (int i = 0; i < DISK_FILES; i++) {
         disk_file *file = &to->files[i];
         const disk_file *old = &from->files[i];
-        file->seen = need(malloc(old->seen_length + 1));
-        file->durable = need(malloc(old->durable_length + 1));
+        file->seen = resized(NULL, old->seen_length + 1);
+        file->durable = resized(NULL, old->durable_length + 1);
         if (old->seen_length > 0) {
             memcpy(file->seen, old->seen, old->seen_length);
         }
@@ -315,7 +318,7 @@ void disk_copy(disk *to, const disk *from)
             memcpy(file->durable, old->durable, old->durable_length);
         }
         for (int k = 0; k < old->pending_count; k++) {
-            file->pending[k].bytes = need(malloc(old->pending[k].length));
+            file->pending[k].bytes = resized(NULL, old->pending[k].length);
             memcpy(file->pending[k].bytes, old->pending[k].bytes, old->pending[k].length);
         }
     }
