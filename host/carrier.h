@@ -15,7 +15,7 @@ typedef struct carrier_options {
 // What is called from threads of libnats, as long as the connection exists.
 typedef struct carrier_events {
     void (*connected)(void *context); // for the first time, or again
-    void (*closed)(void *context); // for ever: the server refuses the user, for example
+    void (*closed)(void *context);    // for ever: the server refuses the user, for example
     void *context;
 } carrier_events;
 

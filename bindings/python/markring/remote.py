@@ -88,6 +88,12 @@ class Confused(Failure):
     status, text = 7, "the node's answer doesn't fit the request"
 
 
+class Closed(Failure):
+    """The space or the program was closed."""
+
+    status, text = -1, "the space or the program was closed"
+
+
 _FAILURES = {it.status: it for it in Failure.__subclasses__()}
 
 
@@ -312,6 +318,11 @@ class Space:
         words = [it.encode() if it is not None else None for it in (url, ca, certificate, key, credentials)]
         _check(_LIBRARY.markring_remote_connect(byref(self._at), byref(RawOptions(*words)), name.encode()))
 
+    def _handle(self) -> c_void_p:
+        if not self._at:
+            raise Closed()
+        return self._at
+
     def program(self, node: int, number: int, timeout: float = SECONDS) -> Program:
         """Begins to speak for a program of a node."""
         return Program(self, node, number, timeout)
@@ -321,7 +332,7 @@ class Space:
         text = ctypes.create_string_buffer(TEXT)
         with self._lock:
             _check(
-                _LIBRARY.markring_remote_ask(self._at, node, word.encode(), text, len(text), _milliseconds(timeout))
+                _LIBRARY.markring_remote_ask(self._handle(), node, word.encode(), text, len(text), _milliseconds(timeout))
             )
         return json.loads(text.value)
 
@@ -356,7 +367,7 @@ class Program:
         with space._lock:
             _check(
                 _LIBRARY.markring_remote_open(
-                    byref(self._at), space._at, node, number, _milliseconds(timeout), byref(facts)
+                    byref(self._at), space._handle(), node, number, _milliseconds(timeout), byref(facts)
                 )
             )
         self.facts = Facts(*(getattr(facts, it) for it in Facts._fields))
@@ -364,7 +375,8 @@ class Program:
     def last(self) -> list[Result]:
         """The results of the program's last request that was performed before it was opened."""
         raw, count = (RawResult * EVENTS)(), c_size_t()
-        _check(_LIBRARY.markring_remote_last(self._at, raw, EVENTS, byref(count)))
+        with self._space._lock:
+            _check(_LIBRARY.markring_remote_last(self._handle(), raw, EVENTS, byref(count)))
         return _results(raw, count.value)
 
     def perform(self, events: list[Event], timeout: Optional[float] = None) -> list[Result]:
@@ -378,7 +390,7 @@ class Program:
         raw_results = (RawResult * EVENTS)()
         with self._space._lock:
             status = _LIBRARY.markring_remote_perform(
-                self._at, given, len(events), raw_results, self._wait(timeout)
+                self._handle(), given, len(events), raw_results, self._wait(timeout)
             )
         if status not in (BadRequest.status, Unfinished.status):
             self._count = len(events)
@@ -389,7 +401,7 @@ class Program:
         """Asks again for the answer to the request that had none. It is performed once."""
         raw = (RawResult * EVENTS)()
         with self._space._lock:
-            _check(_LIBRARY.markring_remote_finish(self._at, raw, self._wait(timeout)))
+            _check(_LIBRARY.markring_remote_finish(self._handle(), raw, self._wait(timeout)))
         return _results(raw, self._count)
 
     def registers(self, numbers: list[int], timeout: Optional[float] = None) -> list[Optional[Ref]]:
@@ -397,11 +409,17 @@ class Program:
         raw = (RawResult * EVENTS)()
         given = (c_uint16 * len(numbers))(*numbers)
         with self._space._lock:
-            _check(_LIBRARY.markring_remote_read(self._at, given, len(numbers), raw, self._wait(timeout)))
+            _check(_LIBRARY.markring_remote_read(self._handle(), given, len(numbers), raw, self._wait(timeout)))
         for it in raw[: len(numbers)]:
             if it.status != errors.NOTHING:
                 errors.check(it.status)
         return [_reference(it.answer.reference) if it.status == 0 else None for it in raw[: len(numbers)]]
+
+    def _handle(self) -> c_void_p:
+        self._space._handle()
+        if not self._at:
+            raise Closed()
+        return self._at
 
     def _wait(self, timeout: Optional[float]) -> int:
         return _milliseconds(self.timeout if timeout is None else timeout)
