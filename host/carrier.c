@@ -53,7 +53,7 @@ static natsStatus set_times(natsOptions *to)
     return status;
 }
 
-natsStatus carrier_connect(natsConnection **it, const carrier_options *options, const char *name,
+static natsStatus try_once(natsConnection **it, const carrier_options *options, const char *name,
     bool patient, const carrier_events *events)
 {
     natsOptions *all = NULL;
@@ -72,4 +72,13 @@ natsStatus carrier_connect(natsConnection **it, const carrier_options *options, 
     status = status == NATS_OK ? natsConnection_Connect(it, all) : status;
     natsOptions_Destroy(all);
     return status == NATS_NOT_YET_CONNECTED ? NATS_OK : status;
+}
+
+natsStatus carrier_connect(natsConnection **it, const carrier_options *options, const char *name,
+    const carrier_events *events)
+{
+    natsStatus status = try_once(it, options, name, false, events);
+    bool is_away = status == NATS_NO_SERVER || status == NATS_TIMEOUT || status == NATS_IO_ERROR
+        || status == NATS_CONNECTION_CLOSED || status == NATS_CONNECTION_DISCONNECTED;
+    return is_away ? try_once(it, options, name, true, events) : status;
 }

@@ -19,9 +19,10 @@ typedef struct carrier_events {
     void *context;
 } carrier_events;
 
-// Connects, and connects again for ever when the connection is lost. With `patient`, a server that
-// can't be reached yet is tried again and again, too. `events` may be NULL.
+// Connects, and connects again for ever when the connection is lost. A server that can't be reached
+// yet is tried again and again, in another thread; one that refuses the user is a failure. `events`
+// may be NULL.
 natsStatus carrier_connect(natsConnection **it, const carrier_options *options, const char *name,
-    bool patient, const carrier_events *events);
+    const carrier_events *events);
 
 #endif

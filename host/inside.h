@@ -42,6 +42,10 @@ typedef struct program {
     uint64_t due; // the image that holds the last request
     bool waits;   // somebody waits for the answer
     char reply[HOST_REPLY];
+    // Somebody waits for a letter, with a request of this head.
+    bool awaits_letter;
+    request_head waiting;
+    char letter_reply[HOST_REPLY];
 } program;
 
 // An answer that waits for a save.

@@ -48,7 +48,8 @@ typedef enum request_kind {
     // A process begins to speak for a program. The number is the next round.
     REQUEST_OPEN = 1,
     REQUEST_PERFORM = 2, // Events, in order, up to the first one that is refused.
-    REQUEST_READ = 3     // What registers hold.
+    REQUEST_READ = 3,    // What registers hold.
+    REQUEST_WAIT = 4     // Answered once a letter waits at the node.
 } request_kind;
 
 typedef struct request_head {

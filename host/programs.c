@@ -208,6 +208,14 @@ static void read_registers(host *it, const request_head *request, reader *from, 
     hold_answer(it, due_image(it), reply, bytes, to.length);
 }
 
+// Each program has one such request at a time; a later one takes its place.
+static void await_letter(host *it, const request_head *request, const char *reply)
+{
+    program *at = &it->programs[request->program];
+    at->waiting = *request;
+    at->awaits_letter = copy_reply(at->letter_reply, reply);
+}
+
 void host_request(host *it, uint64_t now, const uint8_t *bytes, size_t length, const char *reply)
 {
     request_head head;
@@ -228,11 +236,37 @@ void host_request(host *it, uint64_t now, const uint8_t *bytes, size_t length, c
     case REQUEST_OPEN: open_program(it, &head, reply); break;
     case REQUEST_PERFORM: perform_once(it, &head, &from, reply); break;
     case REQUEST_READ: read_registers(it, &head, &from, reply); break;
+    case REQUEST_WAIT: await_letter(it, &head, reply); break;
     default: refuse(it, &head, VERDICT_MALFORMED, reply);
     }
 }
 
 // ## Answers
+
+// Says how many letters wait, to programs that wait for one.
+static void announce_letters(host *it)
+{
+    markring_state state;
+    if (markring_node_state(&it->node, &state) != MARKRING_OK || state.letters == 0) {
+        return;
+    }
+    for (uint8_t i = 0; i < PROGRAMS; i++) {
+        program *at = &it->programs[i];
+        uint8_t bytes[ANSWER_HEAD + RESULT_BYTES];
+        writer to = writer_of(bytes, sizeof bytes);
+        markring_result letters = {MARKRING_OK, {.number = state.letters}};
+        answer_head head;
+        if (!at->awaits_letter) {
+            continue;
+        }
+        fill_head(it, &at->waiting, &head);
+        head.count = 1;
+        write_answer_head(&to, &head);
+        write_result(&to, &letters);
+        hold_answer(it, due_image(it), at->letter_reply, bytes, to.length);
+        at->awaits_letter = false;
+    }
+}
 
 static void answer_held(host *it)
 {
@@ -253,6 +287,7 @@ static void answer_held(host *it)
 
 void answer_programs(host *it)
 {
+    announce_letters(it);
     answer_held(it);
     for (uint8_t i = 0; i < PROGRAMS; i++) {
         uint8_t bytes[ANSWER_BYTES];

@@ -109,6 +109,10 @@ int markring_remote_finish(markring_remote *program, markring_result *results, i
 int markring_remote_read(markring_remote *program, const uint16_t *registers, size_t count,
     markring_result *results, int64_t timeout);
 
+// Waits until a letter waits at the node, and writes how many do. Another program of the node may
+// accept them first. After MARKRING_REMOTE_TIMEOUT nothing has changed.
+int markring_remote_wait(markring_remote *program, uint64_t *letters, int64_t timeout);
+
 // Says a word of the operator to a node: `status`, `begin` (at node 0) or `stop`. The answer is
 // text in JSON, with a final zero. After MARKRING_REMOTE_TIMEOUT the node may have done it.
 // MARKRING_REMOTE_BAD_ARGUMENT: the answer is longer than `room`.

@@ -5,19 +5,9 @@
 import sys
 import time
 
-from markring import errors, remote
+from markring import remote
 
 NODES = 4
-
-
-def accept(program: remote.Program, register: int) -> None:
-    """Accepts the next letter, which may still be on its way."""
-    while True:
-        try:
-            program.accept(register)
-            return
-        except errors.NoLetter:
-            time.sleep(0.01)
 
 
 def objects(operator: remote.Space) -> list[int]:
@@ -30,9 +20,10 @@ with remote.Space(sys.argv[1], "ring") as space, remote.Space(sys.argv[2], "ring
     for node, program in enumerate(programs):
         program.alloc(0, places=1)
         program.give(to=(node - 1) % NODES, label=1, register=0)
-    # Each puts what came into the place of its object, and drops both.
+    # Each puts what comes into the place of its object, and drops both.
     for program in programs:
-        accept(program, 1)
+        program.wait()
+        program.accept(1)
         program.store(object=0, place=0, register=1)
         program.drop(0)
         program.drop(1)

@@ -277,6 +277,7 @@ def _load() -> ctypes.CDLL:
         "perform": (at, POINTER(RawEvent), c_size_t, results, c_int64),
         "finish": (at, results, c_int64),
         "read": (at, numbers, c_size_t, results, c_int64),
+        "wait": (at, POINTER(c_uint64), c_int64),
         "ask": (at, c_uint8, c_char_p, c_char_p, c_size_t, c_int64),
     }
     for name, words in calls.items():
@@ -414,6 +415,13 @@ class Program:
             if it.status != errors.NOTHING:
                 errors.check(it.status)
         return [_reference(it.answer.reference) if it.status == 0 else None for it in raw[: len(numbers)]]
+
+    def wait(self, timeout: Optional[float] = None) -> int:
+        """Waits until a letter waits at the node, and returns how many do. Another program may accept them first."""
+        letters = c_uint64()
+        with self._space._lock:
+            _check(_LIBRARY.markring_remote_wait(self._handle(), byref(letters), self._wait(timeout)))
+        return letters.value
 
     def _handle(self) -> c_void_p:
         self._space._handle()
