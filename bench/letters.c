@@ -125,8 +125,8 @@ static void reply(natsConnection *connection, natsSubscription *from, natsMsg *i
 {
     (void)from;
     (void)closure;
-    natsConnection_Publish(connection, natsMsg_GetReply(it), natsMsg_GetData(it),
-        natsMsg_GetDataLength(it));
+    natsConnection_Publish(
+        connection, natsMsg_GetReply(it), natsMsg_GetData(it), natsMsg_GetDataLength(it));
     natsMsg_Destroy(it);
 }
 
@@ -151,7 +151,8 @@ static void request_and_reply(const char *url, size_t count)
     for (size_t i = 0; i < count; i++) {
         char data[64] = {0};
         natsMsg *answer = NULL;
-        must(natsConnection_Request(&answer, client, "echo", data, sizeof data, TIMEOUT), "request");
+        must(
+            natsConnection_Request(&answer, client, "echo", data, sizeof data, TIMEOUT), "request");
         natsMsg_Destroy(answer);
     }
     printf("%f\n", seconds() - began);
@@ -178,7 +179,8 @@ int main(int count, char **given)
     if (count < 4) {
         return 2;
     }
-    size_t first = strtoul(given[3], NULL, 10), second = count > 4 ? strtoul(given[4], NULL, 10) : 0;
+    size_t first = strtoul(given[3], NULL, 10),
+           second = count > 4 ? strtoul(given[4], NULL, 10) : 0;
     if (strcmp(given[2], "one-way") == 0) {
         one_way(given[1], first, second);
     } else if (strcmp(given[2], "round") == 0) {

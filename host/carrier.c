@@ -16,10 +16,22 @@ static void on_closed(natsConnection *connection, void *closure)
     events->closed(events->context);
 }
 
+static void on_error(
+    natsConnection *connection, natsSubscription *subscription, natsStatus error, void *closure)
+{
+    const carrier_events *events = closure;
+    (void)connection;
+    (void)subscription;
+    if (error == NATS_NOT_PERMITTED) {
+        events->forbidden(events->context);
+    }
+}
+
 static natsStatus set_events(natsOptions *to, const carrier_events *events)
 {
     natsStatus status = natsOptions_SetReconnectedCB(to, on_connected, (void *)events);
-    return status == NATS_OK ? natsOptions_SetClosedCB(to, on_closed, (void *)events) : status;
+    status = status == NATS_OK ? natsOptions_SetClosedCB(to, on_closed, (void *)events) : status;
+    return status == NATS_OK ? natsOptions_SetErrorHandler(to, on_error, (void *)events) : status;
 }
 
 static natsStatus set_secrets(natsOptions *to, const carrier_options *from)
