@@ -21,10 +21,6 @@ def free_port() -> int:
         return it.getsockname()[1]
 
 
-def server_program() -> str:
-    return "nats-server"
-
-
 class Server:
     """A NATS server on a loopback port, with the accounts of a space."""
 
@@ -42,7 +38,7 @@ class Server:
 
     def start(self) -> None:
         with self.log.open("a") as log:
-            self.process = subprocess.Popen([server_program(), "-c", str(self.config)], stdout=log, stderr=log)
+            self.process = subprocess.Popen(["nats-server", "-c", str(self.config)], stdout=log, stderr=log)
         for _ in range(200):
             with socket.socket() as it:
                 if it.connect_ex(("127.0.0.1", self.port)) == 0:
@@ -65,9 +61,11 @@ class Server:
 
 
 class Cluster:
-    """The nodes of a space, each in a process of its own. It is a context manager: at its end all processes are gone."""
+    """The nodes of a space, each in a process of its own; at the end of `with`, all processes are gone."""
 
-    def __init__(self, program: str, nodes: int, registers: int, slots: int, limit: int = 16384, run: tuple = ()) -> None:
+    def __init__(
+        self, program: str, nodes: int, registers: int, slots: int, limit: int = 16384, run: tuple = ()
+    ) -> None:
         self.program, self.nodes, self.registers, self.slots = program, nodes, registers, slots
         self.limit, self.run_words = limit, list(run)
         self.place = tempfile.TemporaryDirectory(prefix="markring-")
@@ -105,7 +103,8 @@ class Cluster:
         return (self.folder / f"{node}.log").read_text()
 
     def start(self, node: int, folder: Path = None) -> subprocess.Popen:
-        words = [self.program, "run", str(folder or self.node_folder(node)), self.server.url(f"node{node}"), *self.run_words]
+        place, url = str(folder or self.node_folder(node)), self.server.url(f"node{node}")
+        words = [self.program, "run", place, url, *self.run_words]
         with (self.folder / f"{node}.log").open("a") as log:
             it = subprocess.Popen(words, stdout=log, stderr=log, env=os.environ)
         if folder is None:

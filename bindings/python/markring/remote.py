@@ -10,8 +10,8 @@ performs them once, whatever is lost or crashes. An answer comes once all that i
 back. docs/PROCESSES.md has more.
 
 The client is the file that the variable MARKRING_REMOTE_LIBRARY names. Without that variable it is
-`libmarkring-remote.so`, in the package, beside it, or in a folder in which the system looks for libraries. Each space has
-a lock, so any thread may use it; calls wait without the interpreter's lock. Times are in seconds.
+`libmarkring-remote.so`, in the package, beside it, or in a folder in which the system looks for libraries. Each space
+has a lock, so any thread may use it; calls wait without the interpreter's lock. Times are in seconds.
 """
 from __future__ import annotations
 
@@ -329,12 +329,12 @@ class Space:
         return Program(self, node, number, timeout)
 
     def ask(self, node: int, word: str, timeout: float = SECONDS) -> Any:
-        """Says a word of the operator to a node: `status`, `begin` or `stop`. After TimedOut the node may have done it."""
+        """Says a word of the operator to a node: `status`, `begin` or `stop`. After TimedOut the node may have done
+        it."""
         text = ctypes.create_string_buffer(TEXT)
         with self._lock:
-            _check(
-                _LIBRARY.markring_remote_ask(self._handle(), node, word.encode(), text, len(text), _milliseconds(timeout))
-            )
+            at, wait = self._handle(), _milliseconds(timeout)
+            _check(_LIBRARY.markring_remote_ask(at, node, word.encode(), text, len(text), wait))
         return json.loads(text.value)
 
     def close(self) -> None:
@@ -410,11 +410,9 @@ class Program:
         raw = (RawResult * EVENTS)()
         given = (c_uint16 * len(numbers))(*numbers)
         with self._space._lock:
-            _check(_LIBRARY.markring_remote_read(self._handle(), given, len(numbers), raw, self._wait(timeout)))
-        for it in raw[: len(numbers)]:
-            if it.status != errors.NOTHING:
-                errors.check(it.status)
-        return [_reference(it.answer.reference) if it.status == 0 else None for it in raw[: len(numbers)]]
+            at, count = self._handle(), len(numbers)
+            _check(_LIBRARY.markring_remote_read(at, given, count, raw, self._wait(timeout)))
+        return [_reference(it.answer.reference) if errors.found(it.status) else None for it in raw[:count]]
 
     def wait(self, timeout: Optional[float] = None) -> int:
         """Waits until a letter waits at the node, and returns how many do. Another program may accept them first."""
