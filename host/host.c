@@ -49,16 +49,16 @@ void hold_answer(host *it, uint64_t due, const char *reply, const uint8_t *bytes
     it->held_count++;
 }
 
-bool is_full(host *it, size_t limit)
+bool is_full(host *it)
 {
-    if (it->size <= limit) {
+    if (it->size <= it->options.image_most) {
         return false;
     }
     size_t size = 0;
     if (markring_node_image_size(&it->node, &size) == MARKRING_OK) {
         it->size = size;
     }
-    return it->size > limit;
+    return it->size > it->options.image_most;
 }
 
 void note_change(host *it)
@@ -124,6 +124,12 @@ int host_open(host **opened, const store_value *value, uint64_t number, uint64_t
         return MARKRING_MEMORY;
     }
     it->options = *options;
+    if (options->letters_most == 0) {
+        it->options.letters_most = LETTERS_MOST;
+    }
+    if (options->image_most == 0) {
+        it->options.image_most = IMAGE_MOST;
+    }
     it->calls = *calls;
     it->last = &it->first;
     it->nonce = nonce;

@@ -25,7 +25,11 @@ enum {
     HOST_NAME = 32, // of a space, at most; letters, digits, '-' and '_'
     // Packets and requests that one turn should take.
     HOST_TAKES = 512,
-    HOST_REASON = 320
+    HOST_REASON = 320,
+    // An image has at most 67,108,864 bytes. It has at most 19 for a letter; what is left above
+    // both limits is for the collector.
+    LETTERS_MOST = 800000,
+    IMAGE_MOST = 41943040
 };
 
 typedef enum host_end {
@@ -59,6 +63,11 @@ typedef struct host_options {
     // Node 0 begins a cycle when there are twice as many objects as after the last one, and at
     // least this many; 0 for never.
     uint32_t cycle_objects;
+    // While this many letters wait, the node takes no messages; 0 for LETTERS_MOST.
+    uint64_t letters_most;
+    // While the node's image has more bytes, events of programs that make it grow are refused; 0
+    // for IMAGE_MOST.
+    size_t image_most;
 } host_options;
 
 typedef struct host_calls {
@@ -80,8 +89,7 @@ typedef struct host_counts {
     uint64_t foreign, malformed;
     // Packets of earlier processes, and frames that came again or were sent again.
     uint64_t outdated, repeats, resends;
-    // Frames that were not taken because the node is nearly full; what was dropped for lack of
-    // memory.
+    // Frames that weren't taken because too many letters wait; what was dropped for lack of memory.
     uint64_t full, dropped;
 } host_counts;
 

@@ -14,10 +14,6 @@ enum {
     // Steps of the collector in one turn.
     SCANS = 256,
     SWEEPS = 4096,
-    // Above these sizes of an image, a node takes no events that make it grow, and no messages. The
-    // rest, up to 67,108,864 bytes, is for the collector.
-    FULL_FOR_PROGRAMS = 50331648,
-    FULL_FOR_MESSAGES = 56623104,
     // What one event or one message adds to an image, at most.
     GROWTH = 320,
     HELD_ANSWERS = 1024
@@ -95,8 +91,8 @@ uint64_t due_image(const host *it);
 // Keeps an answer until the image `due` is stored. It is lost if there is no memory.
 void hold_answer(host *it, uint64_t due, const char *reply, const uint8_t *bytes, size_t length);
 
-// Whether an image of the node may be larger than this. The node may be measured.
-bool is_full(host *it, size_t limit);
+// Whether the image of the node is so large that programs may not let it grow.
+bool is_full(host *it);
 
 // An event that was Ok has changed the node.
 void note_change(host *it);

@@ -102,7 +102,7 @@ static int perform_event(host *it, const markring_event *event, markring_answer 
     if (!is_of_program(event->kind)) {
         return MARKRING_BAD_ARGUMENT;
     }
-    if (grows(event->kind) && is_full(it, FULL_FOR_PROGRAMS)) {
+    if (grows(event->kind) && is_full(it)) {
         return MARKRING_IMAGE_TOO_LARGE;
     }
     int status = markring_node_act(&it->node, event, answer);

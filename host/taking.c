@@ -90,6 +90,14 @@ static void note_taken(host *it, uint8_t from, int status, const markring_answer
     }
 }
 
+// Then programs have to accept letters before the node takes any message.
+static bool has_too_many_letters(host *it)
+{
+    markring_state state;
+    return markring_node_state(&it->node, &state) == MARKRING_OK
+        && state.letters >= it->options.letters_most;
+}
+
 static void take_frame(host *it, uint8_t from, const uint8_t *frame, size_t length)
 {
     markring_answer answer;
@@ -97,7 +105,7 @@ static void take_frame(host *it, uint8_t from, const uint8_t *frame, size_t leng
         it->counts.malformed++;
         return;
     }
-    if (frame[0] == DATA_FRAME && is_full(it, FULL_FOR_MESSAGES)) {
+    if (frame[0] == DATA_FRAME && has_too_many_letters(it)) {
         it->counts.full++;
         return;
     }

@@ -240,6 +240,7 @@ static uint64_t now, limit;
 static bool is_calm; // no faults
 static packet net[NET];
 static int in_net;
+static unsigned long full, tight;
 static unsigned long crashes, powers, cycles, answered, lost, requests, checkpoints, mixed,
     failed_saves, failed_calls;
 
@@ -370,7 +371,7 @@ static void expect_end(station *at)
     stop(at, false);
 }
 
-static const host_options OPTIONS = {0, 40};
+static host_options options;
 
 static int start(station *at)
 {
@@ -382,7 +383,7 @@ static int start(station *at)
     int opened = MARKRING_MEMORY;
     if (status == STORE_OK) {
         opened =
-            host_open(&at->host, &value, at->store.number, random_nonce(), &OPTIONS, &events, now);
+            host_open(&at->host, &value, at->store.number, random_nonce(), &options, &events, now);
         HOLDS(opened == MARKRING_OK || opened == MARKRING_MEMORY);
     } else if (!at->disk.dead) {
         HOLDS(status == STORE_MEMORY || status == STORE_FAILED || status == STORE_UNKNOWN);
@@ -546,7 +547,7 @@ static void plan(part *it)
         add_event(it, (markring_event){.kind = MARKRING_EVENT_COPY, .reg = reg, .source = other});
     } else if (kind < 45) {
         add_event(it, (markring_event){.kind = MARKRING_EVENT_DROP, .reg = reg});
-    } else if (it->number == 0 && kind < 60) {
+    } else if (it->number == 0 && kind < (options.image_most > 0 ? 46 : 60)) {
         add_event(it, (markring_event){.kind = MARKRING_EVENT_ACCEPT, .reg = reg});
     } else if (it->number == 0 && kind < 75) {
         plan_gives(it, reg);
@@ -620,6 +621,12 @@ static void check_done(part *it, const markring_event *event, const markring_ans
 // Whether the model says that an event is refused like this.
 static bool is_right_refusal(const part *it, const markring_event *event, int status)
 {
+    bool is_tight = options.image_most > 0;
+    if (is_tight && status == MARKRING_IMAGE_TOO_LARGE && event->kind != MARKRING_EVENT_ACCEPT
+        && event->kind != MARKRING_EVENT_DROP) {
+        tight++;
+        return true;
+    }
     uint32_t held = it->registers[event->reg], id = it->registers[event->object];
     bool far_event = event->kind == MARKRING_EVENT_PUT || event->kind == MARKRING_EVENT_GET;
     switch (event->kind) {
@@ -691,6 +698,13 @@ static void take_answer(part *it, const packet *came)
     }
 }
 
+static uint64_t letters_at(uint8_t node)
+{
+    markring_state state = {0};
+    HOLDS(markring_node_state(host_node(stations[node].host), &state) == MARKRING_OK);
+    return state.letters;
+}
+
 static void work(part *it)
 {
     if (!is_calm && below(1500) == 0) {
@@ -706,6 +720,13 @@ static void work(part *it)
         }
     } else if (!is_calm && below(3) == 0) {
         plan(it);
+        ask(it);
+    } else if (is_calm && it->number == 0 && options.image_most > 0
+        && stations[it->node].host != NULL && letters_at(it->node) > 0) {
+        // A node with too many letters takes no messages until its program accepts some.
+        it->count = 0;
+        add_event(it, (markring_event){.kind = MARKRING_EVENT_ACCEPT, .reg = 4});
+        it->asks = true;
         ask(it);
     }
 }
@@ -726,7 +747,11 @@ static void deliver(const packet *it)
     snprintf(reply, sizeof reply, "p%d", it->from);
     arm(to);
     if (it->kind == 0) {
+        uint64_t before = host_counted(to->host)->full;
         host_packet(to->host, now, it->from, it->bytes, it->length);
+        full += host_counted(to->host)->full - before;
+        // A window and what was early may come beyond the limit.
+        HOLDS(options.letters_most == 0 || letters_at(it->to) <= options.letters_most + 64);
     } else {
         host_request(to->host, now, it->bytes, it->length, reply);
     }
@@ -903,13 +928,6 @@ static bool ask_and_settle(part *it, markring_event event)
     it->asks = true;
     ask(it);
     return settle();
-}
-
-static uint64_t letters_at(uint8_t node)
-{
-    markring_state state = {0};
-    HOLDS(markring_node_state(host_node(stations[node].host), &state) == MARKRING_OK);
-    return state.letters;
 }
 
 // Programs accept all letters, and drop what is in them.
@@ -1118,6 +1136,11 @@ static void run(unsigned long steps)
 {
     nodes = (uint8_t)(2 + below(MOST - 1));
     limit = below(2) == 0 ? 0 : 8 + below(60);
+    options = (host_options){0, 40, 0, 0};
+    if (below(3) == 0) {
+        options.letters_most = 5 + below(60);
+        options.image_most = 1500 + below(6000);
+    }
     now = 1000;
     is_calm = false;
     (void)new_object(0, (markring_ref){0, 0, 0});
@@ -1157,11 +1180,13 @@ int main(int count, char **given)
     }
     printf("%lu seeds: %lu requests, %lu answers, %lu crashes, %lu of them with the machine, %lu "
            "failed saves, %lu failed calls, %lu refused allocations, %lu packets lost, %lu cycles "
-           "asked for, %lu checkpoints, %lu folders mixed up\n",
+           "asked for, %lu checkpoints, %lu folders mixed up, %lu frames not taken, %lu events "
+           "refused by full nodes\n",
         run_seed - first, requests, answered, crashes, powers, failed_saves, failed_calls, refused,
-        lost, cycles, checkpoints, mixed);
+        lost, cycles, checkpoints, mixed, full, tight);
     bool all = failures == 0
-        && (seeds < 40 || (crashes && powers && failed_saves && refused && mixed && lost));
+        && (seeds < 40
+            || (crashes && powers && failed_saves && refused && mixed && lost && full && tight));
     printf("%lu passed, %d failed\n", run_seed - first - (failures != 0), !all);
     free(objects);
     free(letters);
