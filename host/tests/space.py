@@ -1,4 +1,5 @@
 """A space over processes, for tests: a NATS server with accounts, the nodes, and their folders."""
+import copy
 import os
 import re
 import signal
@@ -35,6 +36,22 @@ class Server:
         self.log = folder / "server.log"
         self.process = None
         self.start()
+
+    def twin(self, folder: Path) -> "Server":
+        """A second server, with which this one forms a cluster. This one starts again for that."""
+        other = copy.copy(self)
+        other.port, other.config, other.log = free_port(), folder / "twin.conf", folder / "twin.log"
+        routes = free_port(), free_port()
+        text = self.config.read_text()
+        other.config.write_text(text.replace(str(self.port), str(other.port)))
+        for it, own, to in ((self, *routes), (other, *reversed(routes))):
+            with it.config.open("a") as config:
+                config.write(f'cluster {{ name: "test", listen: "127.0.0.1:{own}", ')
+                config.write(f'routes: ["nats-route://127.0.0.1:{to}"] }}\n')
+        self.kill()
+        self.start()
+        other.start()
+        return other
 
     def start(self) -> None:
         with self.log.open("a") as log:
