@@ -222,7 +222,8 @@ typedef struct part {
     markring_event events[OPERATIONS];
     uint16_t count;
     uint32_t registers[REGISTERS];
-    uint64_t round; // the number of the next opening
+    uint64_t round;          // the number of the next opening
+    uint64_t reads, reading; // the last reading or waiting, and the one that waits for its answer
 } part;
 
 typedef struct packet {
@@ -240,7 +241,7 @@ static uint64_t now, limit;
 static bool is_calm; // no faults
 static packet net[NET];
 static int in_net;
-static unsigned long full, tight;
+static unsigned long full, tight, readings;
 static unsigned long crashes, powers, cycles, answered, lost, requests, checkpoints, mixed,
     failed_saves, failed_calls;
 
@@ -449,6 +450,23 @@ static void send_request(part *it, uint8_t kind, uint64_t number)
     for (uint16_t i = 0; i < count; i++) {
         write_event(&to, &it->events[i]);
     }
+    it->asked_at = now;
+    put_in_net(1, (uint8_t)(10 * it->node + it->number), it->node, bytes, to.length);
+}
+
+// Asks what all registers hold, or waits for a letter.
+static void read_something(part *it)
+{
+    uint8_t bytes[REQUEST_HEAD + 2 * REGISTERS];
+    writer to = writer_of(bytes, sizeof bytes);
+    bool waits = below(3) == 0;
+    request_head head = {waits ? REQUEST_WAIT : REQUEST_READ, it->number, it->session, ++it->reads,
+        waits ? 0 : REGISTERS};
+    write_request_head(&to, &head);
+    for (uint16_t reg = 0; reg < head.count; reg++) {
+        write_number(&to, reg, 2);
+    }
+    it->reading = it->reads;
     it->asked_at = now;
     put_in_net(1, (uint8_t)(10 * it->node + it->number), it->node, bytes, to.length);
 }
@@ -666,6 +684,26 @@ static void check_results(part *it, reader *from, uint16_t count)
     answered++;
 }
 
+// No request is under way, so the registers are as the model says.
+static void check_reading(part *it, const answer_head *head, reader *from)
+{
+    for (uint16_t reg = 0; reg < head->count; reg++) {
+        markring_result found;
+        read_result(from, &found);
+        if (head->kind == REQUEST_WAIT) {
+            HOLDS(found.status == MARKRING_OK && found.answer.number > 0);
+        } else if ((reg >= 5) == it->number) {
+            uint32_t id = it->registers[reg];
+            HOLDS(found.status == (id == 0 ? MARKRING_NOTHING : MARKRING_OK)
+                && same(found.answer.reference, name_of(id)));
+        }
+    }
+    HOLDS(
+        from->ok && from->left == 0 && head->count == (head->kind == REQUEST_WAIT ? 1 : REGISTERS));
+    it->reading = 0;
+    readings++;
+}
+
 static void take_answer(part *it, const packet *came)
 {
     answer_head head;
@@ -690,6 +728,10 @@ static void take_answer(part *it, const packet *came)
         } else if (below(2) == 0) {
             // It wasn't done. The program thinks of something else.
             it->asks = false;
+        }
+    } else if (head.kind == REQUEST_READ || head.kind == REQUEST_WAIT) {
+        if (it->opened && head.number == it->reading) {
+            check_reading(it, &head, &from);
         }
     } else if (it->opened && it->asks && head.number == it->last + 1) {
         if (HOLDS(head.verdict == VERDICT_DONE)) {
@@ -718,6 +760,10 @@ static void work(part *it)
         if (now >= it->asked_at + 300) {
             ask(it);
         }
+    } else if (it->reading > 0) {
+        it->reading = is_calm || now >= it->asked_at + 100 ? 0 : it->reading;
+    } else if (!is_calm && below(10) == 0) {
+        read_something(it);
     } else if (!is_calm && below(3) == 0) {
         plan(it);
         ask(it);
@@ -1181,12 +1227,13 @@ int main(int count, char **given)
     printf("%lu seeds: %lu requests, %lu answers, %lu crashes, %lu of them with the machine, %lu "
            "failed saves, %lu failed calls, %lu refused allocations, %lu packets lost, %lu cycles "
            "asked for, %lu checkpoints, %lu folders mixed up, %lu frames not taken, %lu events "
-           "refused by full nodes\n",
+           "refused by full nodes, %lu readings\n",
         run_seed - first, requests, answered, crashes, powers, failed_saves, failed_calls, refused,
-        lost, cycles, checkpoints, mixed, full, tight);
+        lost, cycles, checkpoints, mixed, full, tight, readings);
     bool all = failures == 0
         && (seeds < 40
-            || (crashes && powers && failed_saves && refused && mixed && lost && full && tight));
+            || (crashes && powers && failed_saves && refused && mixed && lost && full && tight
+                && readings));
     printf("%lu passed, %d failed\n", run_seed - first - (failures != 0), !all);
     free(objects);
     free(letters);
