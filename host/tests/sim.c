@@ -936,6 +936,11 @@ static void mix_up(uint8_t node)
 static bool is_quiet(void)
 {
     for (uint8_t node = 0; node < nodes; node++) {
+        uint8_t unsaved = 0;
+        host *it = stations[node].host;
+        // The host notices all changes that the library knows of.
+        HOLDS(it == NULL || it->changed || it->saving || it->kept == 0
+            || (markring_node_unsaved(&it->node, &unsaved) == MARKRING_OK && unsaved == 0));
         if (stations[node].host == NULL || stations[node].job != NULL
             || stations[node].host->changed || parts[node][0].asks || parts[node][1].asks
             || !parts[node][0].opened || !parts[node][1].opened) {
