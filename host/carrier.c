@@ -11,6 +11,14 @@ static void on_connected(natsConnection *connection, void *closure)
     events->connected(events->context);
 }
 
+// With a callback, libnats tries in another thread; without one the call would wait.
+static void on_first_connection(natsConnection *connection, void *closure)
+{
+    if (closure != NULL) {
+        on_connected(connection, closure);
+    }
+}
+
 static void on_closed(natsConnection *connection, void *closure)
 {
     const carrier_events *events = closure;
@@ -82,8 +90,8 @@ static natsStatus try_once(natsConnection **it, const carrier_options *options, 
         status = set_events(all, events);
     }
     if (status == NATS_OK && patient) {
-        status = natsOptions_SetRetryOnFailedConnect(
-            all, true, events != NULL ? on_connected : NULL, (void *)events);
+        status =
+            natsOptions_SetRetryOnFailedConnect(all, true, on_first_connection, (void *)events);
     }
     status = status == NATS_OK ? natsConnection_Connect(it, all) : status;
     natsOptions_Destroy(all);
