@@ -1,0 +1,499 @@
+"""Programs of nodes that run in processes of their own (markring-node), over NATS.
+
+    with remote.Space("nats://127.0.0.1:4222", "example") as space:
+        with space.program(node=0, number=0) as program:
+            program.alloc(0, places=1)
+            program.give(to=1, label=7, register=0)
+
+A node has up to 64 programs. A program sends its node requests, one after another, each with up to 256 events; the node
+performs them once, whatever is lost or crashes. An answer comes once all that it shows is stored, so nothing takes it
+back. docs/PROCESSES.md has more.
+
+The client is the file that the variable MARKRING_REMOTE_LIBRARY names. Without that variable it is
+`libmarkring-remote.so`, in the package, beside it, or in a folder in which the system looks for libraries. Each space
+has a lock, so any thread may use it; calls wait without the interpreter's lock. Times are in seconds.
+"""
+from __future__ import annotations
+
+import ctypes
+import json
+import os
+import threading
+from ctypes import POINTER, byref, c_char_p, c_int, c_int64, c_size_t, c_uint8, c_uint16, c_uint32, c_uint64, c_void_p
+from pathlib import Path
+from types import TracebackType
+from typing import Any, NamedTuple, Optional
+
+from . import errors
+from ._library import RawAnswer
+from ._space import Letter, Ref
+
+NAME = "libmarkring-remote.so"
+EVENTS = 256
+NOT_DONE = 150
+SECONDS = 10.0
+TEXT = 8192
+
+
+class Failure(Exception):
+    """A request got no answer, or none that fits."""
+
+    status, text = 0, "the request failed"
+
+    def __init__(self) -> None:
+        super().__init__(self.text)
+
+
+class OutOfMemory(Failure, MemoryError):
+    """An allocation failed in the client."""
+
+    status, text = 1, "an allocation failed"
+
+
+class TimedOut(Failure, TimeoutError):
+    """No answer came in time. After a request with events, nobody knows yet whether they were performed, or will be:
+    call `finish` until that succeeds."""
+
+    status, text = 2, "no answer came in time"
+
+
+class Superseded(Failure):
+    """Another process has opened this program of the node since."""
+
+    status, text = 3, "another process speaks for this program now"
+
+
+class BadRequest(Failure, ValueError):
+    """An argument is out of range."""
+
+    status, text = 4, "an argument is out of range"
+
+
+class Unfinished(Failure):
+    """A request isn't answered yet: call `finish` first."""
+
+    status, text = 5, "a request isn't answered yet"
+
+
+class NoCarrier(Failure, ConnectionError):
+    """The connection to the server can't be made."""
+
+    status, text = 6, "the connection to the server can't be made"
+
+
+class Confused(Failure):
+    """The node's answer doesn't fit the request: its folder is older than what this program was told, or it belongs to
+    another space."""
+
+    status, text = 7, "the node's answer doesn't fit the request"
+
+
+class Closed(Failure):
+    """The space or the program was closed."""
+
+    status, text = -1, "the space or the program was closed"
+
+
+_FAILURES = {it.status: it for it in Failure.__subclasses__()}
+
+
+class RawEvent(ctypes.Structure):
+    _fields_ = [
+        ("kind", c_uint8),
+        ("node", c_uint8),
+        ("place", c_uint8),
+        ("reg", c_uint16),
+        ("source", c_uint16),
+        ("object", c_uint16),
+        ("label", c_uint32),
+        ("count", c_uint32),
+        ("word", c_uint64),
+    ]
+
+
+class RawResult(ctypes.Structure):
+    _fields_ = [("status", c_int), ("answer", RawAnswer)]
+
+
+class RawFacts(ctypes.Structure):
+    _fields_ = [
+        ("nodes", c_uint8),
+        ("node", c_uint8),
+        ("registers", c_uint16),
+        ("slots", c_uint32),
+        ("last", c_uint64),
+    ]
+
+
+class RawOptions(ctypes.Structure):
+    _fields_ = [(it, c_char_p) for it in ("url", "ca", "certificate", "key", "credentials")]
+
+
+class Event(NamedTuple):
+    """An event of a request. The functions below make them; the fields that an event doesn't use are ignored."""
+
+    kind: int
+    node: int = 0
+    place: int = 0
+    register: int = 0
+    source: int = 0
+    object: int = 0
+    label: int = 0
+    word: int = 0
+
+
+def alloc(register: int, places: int) -> Event:
+    """Makes a new object with this many empty places. The register gets its reference."""
+    return Event(1, register=register, place=places)
+
+
+def copy(register: int, source: int) -> Event:
+    """The register gets the reference in `source`."""
+    return Event(2, register=register, source=source)
+
+
+def drop(register: int) -> Event:
+    """Empties the register."""
+    return Event(3, register=register)
+
+
+def load(register: int, object: int, place: int) -> Event:
+    """The register gets the content of the object's place."""
+    return Event(4, register=register, object=object, place=place)
+
+
+def store(object: int, place: int, register: int) -> Event:
+    """The object's place gets the register's reference."""
+    return Event(5, object=object, place=place, register=register)
+
+
+def clear(object: int, place: int) -> Event:
+    """Empties the object's place."""
+    return Event(6, object=object, place=place)
+
+
+def word(object: int) -> Event:
+    """Reads the object's word."""
+    return Event(7, object=object)
+
+
+def set_word(object: int, word: int) -> Event:
+    """The object gets the word."""
+    return Event(8, object=object, word=word)
+
+
+def give(to: int, label: int, register: int) -> Event:
+    """Sends a letter with the label and the register's content."""
+    return Event(9, node=to, label=label, register=register)
+
+
+def accept(register: int) -> Event:
+    """Removes the oldest letter that waits. The register gets its content."""
+    return Event(10, register=register)
+
+
+def put(object: int, place: int, register: int) -> Event:
+    """Asks the owner of another node's object to put the register's content into the object's place."""
+    return Event(11, object=object, place=place, register=register)
+
+
+def get(object: int, place: int, label: int) -> Event:
+    """Asks the owner of another node's object for the content of the object's place. It comes in a letter."""
+    return Event(12, object=object, place=place, label=label)
+
+
+class Result(NamedTuple):
+    """What became of one event. `status` is 0, the number of a refusal, or NOT_DONE if an event of the same request was
+    refused before it. `value` depends on the event: a reference or nothing (`alloc`, `load`), a number (`word`, `give`,
+    `put`, `get`), a letter (`accept`), or nothing."""
+
+    status: int
+    value: Any = None
+
+    def get(self) -> Any:
+        """The value. Raises the refusal if the event was refused."""
+        if self.status == NOT_DONE:
+            raise NotDone()
+        errors.check(self.status)
+        return self.value
+
+
+class NotDone(errors.Refusal):
+    """An event of the same request was refused before this one."""
+
+    status, text = NOT_DONE, "an earlier event of the request was refused"
+
+
+class Facts(NamedTuple):
+    """What a node says of itself and of a program. `last` is the number of the program's last request."""
+
+    nodes: int
+    node: int
+    registers: int
+    slots: int
+    last: int
+
+
+def _reference(raw: Any) -> Optional[Ref]:
+    return Ref(raw.node, raw.slot, raw.generation) if raw.generation else None
+
+
+def _value(answer: RawAnswer) -> Any:
+    if answer.kind in (1, 2):
+        return _reference(answer.reference)
+    if answer.kind in (3, 4):
+        return answer.number
+    if answer.kind == 5:
+        return Letter(answer.node, answer.label, _reference(answer.reference))
+    return None
+
+
+def _results(raw: Any, count: int) -> list[Result]:
+    return [Result(it.status, _value(it.answer) if it.status == 0 else None) for it in raw[:count]]
+
+
+def _path() -> str:
+    named = os.environ.get("MARKRING_REMOTE_LIBRARY")
+    if named:
+        return named
+    package = Path(__file__).resolve().parent
+    for folder in (package, package.parent):
+        if (folder / NAME).exists():
+            return str(folder / NAME)
+    return NAME
+
+
+def _load() -> ctypes.CDLL:
+    try:
+        library = ctypes.CDLL(_path())
+    except OSError as error:
+        raise ImportError(f"{error}; set MARKRING_REMOTE_LIBRARY to the path of {NAME}") from error
+    at, numbers, to_size = c_void_p, POINTER(c_uint16), POINTER(c_size_t)
+    results = POINTER(RawResult)
+    calls = {
+        "connect": (POINTER(at), POINTER(RawOptions), c_char_p),
+        "open": (POINTER(at), at, c_uint8, c_uint8, c_int64, POINTER(RawFacts)),
+        "last": (at, results, c_size_t, to_size),
+        "perform": (at, POINTER(RawEvent), c_size_t, results, c_int64),
+        "finish": (at, results, c_int64),
+        "read": (at, numbers, c_size_t, results, c_int64),
+        "wait": (at, POINTER(c_uint64), c_int64),
+        "ask": (at, c_uint8, c_char_p, c_char_p, c_size_t, c_int64),
+    }
+    for name, words in calls.items():
+        call = getattr(library, f"markring_remote_{name}")
+        call.argtypes, call.restype = words, c_int
+    for name in ("disconnect", "close"):
+        call = getattr(library, f"markring_remote_{name}")
+        call.argtypes, call.restype = (at,), None
+    return library
+
+
+_LIBRARY = _load()
+
+
+def _check(status: int) -> None:
+    if status:
+        raise _FAILURES.get(status, Failure)()
+
+
+def _milliseconds(seconds: float) -> int:
+    return max(0, int(seconds * 1000))
+
+
+class Space:
+    """A connection to the server of a space. A server that can't be reached is tried again and again."""
+
+    def __init__(
+        self,
+        url: str,
+        name: str,
+        ca: Optional[str] = None,
+        certificate: Optional[str] = None,
+        key: Optional[str] = None,
+        credentials: Optional[str] = None,
+    ) -> None:
+        self.name = name
+        self._lock = threading.Lock()
+        self._at = c_void_p()
+        words = [it.encode() if it is not None else None for it in (url, ca, certificate, key, credentials)]
+        _check(_LIBRARY.markring_remote_connect(byref(self._at), byref(RawOptions(*words)), name.encode()))
+
+    def _handle(self) -> c_void_p:
+        if not self._at:
+            raise Closed()
+        return self._at
+
+    def program(self, node: int, number: int, timeout: float = SECONDS) -> Program:
+        """Begins to speak for a program of a node."""
+        return Program(self, node, number, timeout)
+
+    def ask(self, node: int, word: str, timeout: float = SECONDS) -> Any:
+        """Says a word of the operator to a node: `status`, `begin` or `stop`. After TimedOut the node may have done
+        it."""
+        text = ctypes.create_string_buffer(TEXT)
+        with self._lock:
+            at, wait = self._handle(), _milliseconds(timeout)
+            _check(_LIBRARY.markring_remote_ask(at, node, word.encode(), text, len(text), wait))
+        return json.loads(text.value)
+
+    def close(self) -> None:
+        """Ends the connection. Close its programs first."""
+        with self._lock:
+            _LIBRARY.markring_remote_disconnect(self._at)
+            self._at = c_void_p()
+
+    def __enter__(self) -> Space:
+        return self
+
+    def __exit__(
+        self,
+        kind: Optional[type[BaseException]],
+        error: Optional[BaseException],
+        trace: Optional[TracebackType],
+    ) -> None:
+        self.close()
+
+
+class Program:
+    """A program of a node. From its opening on, the node refuses requests of an earlier process that spoke for it.
+
+    Each method of an event is a request with that event alone, which raises its refusal. `perform` takes many.
+    """
+
+    def __init__(self, space: Space, node: int, number: int, timeout: float = SECONDS) -> None:
+        self._space, self._at, self._count = space, c_void_p(), 0
+        self.timeout = timeout
+        facts = RawFacts()
+        with space._lock:
+            _check(
+                _LIBRARY.markring_remote_open(
+                    byref(self._at), space._handle(), node, number, _milliseconds(timeout), byref(facts)
+                )
+            )
+        self.facts = Facts(*(getattr(facts, it) for it in Facts._fields))
+
+    def last(self) -> list[Result]:
+        """The results of the program's last request that was performed before it was opened."""
+        raw, count = (RawResult * EVENTS)(), c_size_t()
+        with self._space._lock:
+            _check(_LIBRARY.markring_remote_last(self._handle(), raw, EVENTS, byref(count)))
+        return _results(raw, count.value)
+
+    def perform(self, events: list[Event], timeout: Optional[float] = None) -> list[Result]:
+        """Performs events, in order, up to the first one that is refused."""
+        if len(events) > EVENTS:
+            raise BadRequest()
+        given = (RawEvent * len(events))()
+        for raw, it in zip(given, events):
+            raw.kind, raw.node, raw.place, raw.reg = it.kind, it.node, it.place, it.register
+            raw.source, raw.object, raw.label, raw.word = it.source, it.object, it.label, it.word
+        raw_results = (RawResult * EVENTS)()
+        with self._space._lock:
+            status = _LIBRARY.markring_remote_perform(
+                self._handle(), given, len(events), raw_results, self._wait(timeout)
+            )
+        if status not in (BadRequest.status, Unfinished.status):
+            self._count = len(events)
+        _check(status)
+        return _results(raw_results, len(events))
+
+    def finish(self, timeout: Optional[float] = None) -> list[Result]:
+        """Asks again for the answer to the request that had none. It is performed once."""
+        raw = (RawResult * EVENTS)()
+        with self._space._lock:
+            _check(_LIBRARY.markring_remote_finish(self._handle(), raw, self._wait(timeout)))
+        return _results(raw, self._count)
+
+    def registers(self, numbers: list[int], timeout: Optional[float] = None) -> list[Optional[Ref]]:
+        """What registers hold."""
+        raw = (RawResult * EVENTS)()
+        given = (c_uint16 * len(numbers))(*numbers)
+        with self._space._lock:
+            at, count = self._handle(), len(numbers)
+            _check(_LIBRARY.markring_remote_read(at, given, count, raw, self._wait(timeout)))
+        return [_reference(it.answer.reference) if errors.found(it.status) else None for it in raw[:count]]
+
+    def wait(self, timeout: Optional[float] = None) -> int:
+        """Waits until a letter waits at the node, and returns how many do. Another program may accept them first."""
+        letters = c_uint64()
+        with self._space._lock:
+            _check(_LIBRARY.markring_remote_wait(self._handle(), byref(letters), self._wait(timeout)))
+        return letters.value
+
+    def _handle(self) -> c_void_p:
+        self._space._handle()
+        if not self._at:
+            raise Closed()
+        return self._at
+
+    def _wait(self, timeout: Optional[float]) -> int:
+        return _milliseconds(self.timeout if timeout is None else timeout)
+
+    def _one(self, event: Event) -> Any:
+        return self.perform([event])[0].get()
+
+    def alloc(self, register: int, places: int) -> Ref:
+        """Makes a new object with this many empty places. The register gets its reference."""
+        return self._one(alloc(register, places))
+
+    def copy(self, register: int, source: int) -> None:
+        """The register gets the reference in `source`."""
+        self._one(copy(register, source))
+
+    def drop(self, register: int) -> None:
+        """Empties the register."""
+        self._one(drop(register))
+
+    def load(self, register: int, object: int, place: int) -> Optional[Ref]:
+        """The register gets the content of the object's place, which is returned."""
+        return self._one(load(register, object, place))
+
+    def store(self, object: int, place: int, register: int) -> None:
+        """The object's place gets the register's reference."""
+        self._one(store(object, place, register))
+
+    def clear(self, object: int, place: int) -> None:
+        """Empties the object's place."""
+        self._one(clear(object, place))
+
+    def word(self, object: int) -> int:
+        """The object's word."""
+        return self._one(word(object))
+
+    def set_word(self, object: int, word: int) -> None:
+        """The object gets the word."""
+        self._one(set_word(object, word))
+
+    def give(self, to: int, label: int, register: int) -> int:
+        """Sends a letter with the label and the register's content. Returns the message's number."""
+        return self._one(give(to, label, register))
+
+    def accept(self, register: int) -> Letter:
+        """Removes the oldest letter that waits. The register gets its content."""
+        return self._one(accept(register))
+
+    def put(self, object: int, place: int, register: int) -> int:
+        """Asks the owner of another node's object to put the register's content into the object's place."""
+        return self._one(put(object, place, register))
+
+    def get(self, object: int, place: int, label: int) -> int:
+        """Asks the owner of another node's object for the content of the object's place. It comes in a letter."""
+        return self._one(get(object, place, label))
+
+    def close(self) -> None:
+        """Frees the program. The node isn't told."""
+        with self._space._lock:
+            _LIBRARY.markring_remote_close(self._at)
+            self._at = c_void_p()
+
+    def __enter__(self) -> Program:
+        return self
+
+    def __exit__(
+        self,
+        kind: Optional[type[BaseException]],
+        error: Optional[BaseException],
+        trace: Optional[TracebackType],
+    ) -> None:
+        self.close()

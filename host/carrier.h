@@ -1,0 +1,30 @@
+// A connection to a NATS server.
+#ifndef HOST_CARRIER_H
+#define HOST_CARRIER_H
+
+#include <nats/nats.h>
+
+// The address of the server, and how to show who one is. All but `url` may be NULL.
+typedef struct carrier_options {
+    const char *url; // with a user and a password, if the server needs them
+    const char *ca;  // a file of certificates that are trusted; TLS is used if it is given
+    const char *certificate, *key; // files of one's own certificate and its key
+    const char *credentials;       // a file of NATS credentials
+} carrier_options;
+
+// What is called from threads of libnats, as long as the connection exists.
+typedef struct carrier_events {
+    void (*connected)(void *context); // for the first time, or again
+    void (*closed)(void *context);    // for ever: the server refuses the user, for example
+    // The server doesn't let this user subscribe to something.
+    void (*forbidden)(void *context);
+    void *context;
+} carrier_events;
+
+// Connects, and connects again for ever when the connection is lost. A server that can't be reached
+// yet is tried again and again, in another thread; one that refuses the user is a failure. `events`
+// may be NULL.
+natsStatus carrier_connect(natsConnection **it, const carrier_options *options, const char *name,
+    const carrier_events *events);
+
+#endif

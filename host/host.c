@@ -1,0 +1,366 @@
+// Opening, turns and saves of a host.
+#include "inside.h"
+
+#include <stdarg.h>
+#include <stdio.h>
+#include <stdlib.h>
+
+void end_with(host *it, host_end end, const char *format, ...)
+{
+    if (it->end != HOST_RUNS) {
+        return;
+    }
+    va_list words;
+    va_start(words, format);
+    (void)vsnprintf(it->reason, sizeof it->reason, format, words);
+    va_end(words);
+    it->end = end;
+}
+
+uint64_t due_image(const host *it)
+{
+    return it->changed ? it->images + 1 : it->images;
+}
+
+bool copy_reply(char *to, const char *reply)
+{
+    size_t length = strlen(reply);
+    if (length >= HOST_REPLY) {
+        return false;
+    }
+    memcpy(to, reply, length + 1);
+    return true;
+}
+
+void hold_answer(host *it, uint64_t due, const char *reply, const uint8_t *bytes, size_t length)
+{
+    held *answer = it->held_count < HELD_ANSWERS ? malloc(sizeof *answer + length) : NULL;
+    if (answer == NULL || !copy_reply(answer->reply, reply)) {
+        it->counts.dropped++;
+        free(answer);
+        return;
+    }
+    answer->next = NULL;
+    answer->due = due;
+    answer->length = length;
+    memcpy(answer->bytes, bytes, length);
+    *it->last = answer;
+    it->last = &answer->next;
+    it->held_count++;
+}
+
+bool is_full(host *it)
+{
+    if (it->size <= it->options.image_most) {
+        return false;
+    }
+    size_t size = 0;
+    if (markring_node_image_size(&it->node, &size) == MARKRING_OK) {
+        it->size = size;
+    }
+    return it->size > it->options.image_most;
+}
+
+void note_change(host *it)
+{
+    it->changed = true;
+    it->size += GROWTH;
+}
+
+void host_changed(host *it)
+{
+    note_change(it);
+}
+
+// ## Opening
+
+int host_create(const host_shape *shape, store_value *value)
+{
+    host *it = calloc(1, sizeof *it);
+    if (it == NULL) {
+        return MARKRING_MEMORY;
+    }
+    it->shape = *shape;
+    size_t image = 0;
+    int status = markring_node_new(
+        &it->node, shape->nodes, shape->registers, shape->slots, shape->own, shape->limit);
+    if (status == MARKRING_OK) {
+        status = markring_node_image_size(&it->node, &image);
+    }
+    if (status == MARKRING_OK) {
+        value->length = saved_size(it, image);
+        value->room = STORE_HEAD + value->length + STORE_TAIL;
+        value->buffer = malloc(value->room);
+        status = value->buffer != NULL ? MARKRING_OK : MARKRING_MEMORY;
+    }
+    if (status == MARKRING_OK) {
+        writer to = writer_of(value->buffer + STORE_HEAD, value->length);
+        status = write_saved(it, &to, image) ? MARKRING_OK : MARKRING_MEMORY;
+        if (status != MARKRING_OK) {
+            free(value->buffer);
+        }
+    }
+    host_free(it);
+    return status;
+}
+
+// Nothing was sent by this process yet, and each node is told that it has begun.
+static void begin_links(host *it)
+{
+    for (uint8_t to = 0; to < it->shape.nodes; to++) {
+        markring_link link;
+        if (to != it->shape.own && markring_node_link(&it->node, to, &link) == MARKRING_OK) {
+            it->peers[to].saved = link.received_saved;
+            send_again(it, to);
+        }
+    }
+}
+
+int host_open(host **opened, const store_value *value, uint64_t number, uint64_t nonce,
+    const host_options *options, const host_calls *calls, uint64_t now)
+{
+    host *it = calloc(1, sizeof *it);
+    if (it == NULL) {
+        return MARKRING_MEMORY;
+    }
+    it->options = *options;
+    if (options->letters_most == 0) {
+        it->options.letters_most = LETTERS_MOST;
+    }
+    if (options->image_most == 0) {
+        it->options.image_most = IMAGE_MOST;
+    }
+    it->calls = *calls;
+    it->last = &it->first;
+    it->nonce = nonce;
+    it->stored = number;
+    it->run = number + 1;
+    it->cycle_at = now + options->cycle_every;
+    it->objects_after = UINT64_MAX;
+    // Each process begins with a save, whose number is its own.
+    it->changed = true;
+    it->has_work = true;
+    reader from = reader_of(value->buffer + STORE_HEAD, value->length);
+    int status = read_saved(it, &from);
+    if (status != MARKRING_OK) {
+        host_free(it);
+        return status;
+    }
+    begin_links(it);
+    *opened = it;
+    return MARKRING_OK;
+}
+
+void host_free(host *it)
+{
+    if (it == NULL) {
+        return;
+    }
+    while (it->first != NULL) {
+        held *next = it->first->next;
+        free(it->first);
+        it->first = next;
+    }
+    for (int i = 0; i < PROGRAMS; i++) {
+        free(it->programs[i].results);
+    }
+    free(it->value.buffer);
+    (void)markring_node_free(&it->node);
+    free(it);
+}
+
+// ## Saves
+
+// Room for a value of this length.
+static bool make_room(host *it, size_t length)
+{
+    size_t room = STORE_HEAD + length + STORE_TAIL;
+    if (it->value.room < room) {
+        uint8_t *buffer = realloc(it->value.buffer, room + room / 4);
+        if (buffer == NULL) {
+            return false;
+        }
+        it->value.buffer = buffer;
+        it->value.room = room + room / 4;
+    }
+    it->value.length = length;
+    return true;
+}
+
+// Takes an image, with what else lasts.
+static int take_image(host *it)
+{
+    size_t image = 0;
+    int status = markring_node_image_size(&it->node, &image);
+    if (status != MARKRING_OK) {
+        return status;
+    }
+    if (!make_room(it, saved_size(it, image))) {
+        return MARKRING_MEMORY;
+    }
+    writer to = writer_of(it->value.buffer + STORE_HEAD, it->value.length);
+    if (!write_saved(it, &to, image)) {
+        return MARKRING_MEMORY;
+    }
+    it->size = image;
+    return MARKRING_OK;
+}
+
+static void save(host *it, uint64_t now)
+{
+    if (!it->changed || it->saving || now < it->save_at) {
+        return;
+    }
+    int status = take_image(it);
+    if (status == MARKRING_IMAGE_TOO_LARGE) {
+        end_with(it, HOST_TOO_LARGE,
+            "the node's image exceeds 67,108,864 bytes, so nothing new can be saved; start it "
+            "again, and let programs drop references and accept letters first");
+        return;
+    }
+    if (status != MARKRING_OK) {
+        it->counts.failed_saves++;
+        it->save_at = now + RETRY;
+        return;
+    }
+    it->changed = false;
+    it->saving = true;
+    it->images++;
+    it->save_began = now;
+    it->calls.save(it->calls.context, &it->value);
+}
+
+// Acknowledgements are due for what this save holds for the first time.
+static void note_saved_links(host *it)
+{
+    for (uint8_t from = 0; from < it->shape.nodes; from++) {
+        markring_link link;
+        if (from != it->shape.own && markring_node_link(&it->node, from, &link) == MARKRING_OK
+            && it->peers[from].saved != link.received_saved) {
+            it->peers[from].saved = link.received_saved;
+            it->peers[from].due = true;
+        }
+    }
+}
+
+void host_saved(host *it, uint64_t now, store_status status, uint64_t number)
+{
+    if (it->end != HOST_RUNS || !it->saving) {
+        return;
+    }
+    it->saving = false;
+    if (status == STORE_FAILED) {
+        it->counts.failed_saves++;
+        it->changed = true;
+        it->save_at = now + RETRY;
+    } else if (status != STORE_OK) {
+        end_with(it, HOST_UNSURE,
+            "a sync of the saved node failed; when the disk is well, start it again");
+    } else if (markring_node_kept(&it->node, it->mark) != MARKRING_OK) {
+        end_with(it, HOST_BROKEN, "the library refused the mark of an image");
+    } else {
+        it->counts.saves++;
+        it->kept = it->images;
+        it->stored = number;
+        it->saved_at = now;
+        it->save_took = now - it->save_began;
+        note_saved_links(it);
+    }
+}
+
+// ## Turns
+
+// Whether all is saved and answered.
+static bool is_settled(const host *it)
+{
+    return !it->saving && !it->changed && it->kept > 0;
+}
+
+static void leave_if_settled(host *it)
+{
+    if (!it->stopping || !is_settled(it) || it->end != HOST_RUNS) {
+        return;
+    }
+    if (it->stop_reply[0] != 0) {
+        char text[64];
+        int length = snprintf(text, sizeof text, "{\"stopped\": %d, \"save\": %llu}", it->shape.own,
+            (unsigned long long)it->stored);
+        it->calls.answer(it->calls.context, it->stop_reply, (const uint8_t *)text, (size_t)length);
+    }
+    end_with(it, HOST_LEFT, "all is saved");
+}
+
+void host_turn(host *it, uint64_t now)
+{
+    if (it->end == HOST_RUNS && !it->stopping) {
+        collect(it, now);
+    }
+    if (it->end == HOST_RUNS) {
+        save(it, now);
+    }
+    // Before the first save, other nodes couldn't know this process from an earlier one.
+    if (it->end == HOST_RUNS && it->kept > 0) {
+        answer_programs(it);
+        send_packets(it, now);
+        leave_if_settled(it);
+    }
+}
+
+static uint64_t sooner(uint64_t wait, uint64_t now, uint64_t at)
+{
+    uint64_t until = at > now ? at - now : 0;
+    return until < wait ? until : wait;
+}
+
+uint64_t host_wait(host *it, uint64_t now)
+{
+    uint64_t wait = 3600000;
+    if (it->end != HOST_RUNS) {
+        return 0;
+    }
+    if (it->has_work && !it->stopping) {
+        wait = sooner(wait, now, it->work_at);
+    }
+    if (it->changed && !it->saving) {
+        wait = sooner(wait, now, it->save_at);
+    }
+    if (it->options.cycle_every > 0 && it->shape.own == 0 && !it->asked) {
+        wait = sooner(wait, now, it->cycle_at);
+    }
+    for (uint8_t to = 0; to < it->shape.nodes; to++) {
+        if (it->peers[to].resend_at != 0) {
+            wait = sooner(wait, now, it->peers[to].resend_at);
+        }
+    }
+    return wait;
+}
+
+void host_leave(host *it)
+{
+    it->stopping = true;
+}
+
+host_end host_ended(const host *it)
+{
+    return it->end;
+}
+
+const char *host_reason(const host *it)
+{
+    return it->reason;
+}
+
+const host_shape *host_is(const host *it)
+{
+    return &it->shape;
+}
+
+const host_counts *host_counted(const host *it)
+{
+    return &it->counts;
+}
+
+markring_node *host_node(host *it)
+{
+    return &it->node;
+}

@@ -1,0 +1,150 @@
+// One node of a space, run over any carrier of packets. The caller brings packets and requests, the
+// time, and a place to save; the host decides what is sent when, so that only what a stored image
+// holds leaves the node.
+//
+// The caller's loop is one turn after another:
+//
+//     host_packet, host_request, host_control     for all that came
+//     host_turn                                   collects, saves, answers, sends
+//     wait at most host_wait milliseconds
+//
+// `save` of the calls begins a save, which may go on in another thread while the loop runs; when it
+// is over, the loop calls host_saved. One thread at a time uses a host. Nothing here has a socket,
+// a thread or a clock: times are milliseconds of a clock of the caller that never goes back.
+//
+// Once host_end isn't HOST_RUNS, no call does anything any more.
+#ifndef HOST_HOST_H
+#define HOST_HOST_H
+
+#include "packets.h"
+#include "store.h"
+
+enum {
+    // A reply address is at most this long, with its final zero.
+    HOST_REPLY = 128,
+    HOST_NAME = 32, // of a space, at most; letters, digits, '-' and '_'
+    // Packets and requests that one turn should take.
+    HOST_TAKES = 512,
+    HOST_REASON = 320,
+    // An image has at most 67,108,864 bytes. It has at most 19 for a letter; what is left above
+    // both limits is for the collector.
+    LETTERS_MOST = 800000,
+    IMAGE_MOST = 41943040
+};
+
+typedef enum host_end {
+    HOST_RUNS = 0,
+    // It was asked to leave, and all is saved.
+    HOST_LEFT,
+    // The folder is older than what other nodes have seen of this node, or is used twice.
+    HOST_OLDER,
+    // A sync failed: nobody knows what is on the disk.
+    HOST_UNSURE,
+    // The node's image is too large to be saved.
+    HOST_TOO_LARGE,
+    // The library answered what it never answers.
+    HOST_BROKEN
+} host_end;
+
+// What a node is, from its creation on.
+typedef struct host_shape {
+    char name[HOST_NAME + 1]; // of the space
+    uint8_t space[SPACE_ID];  // random; the same for all nodes of a space
+    uint8_t own, nodes;
+    uint16_t registers;
+    uint32_t slots;
+    // How many messages of programs to one node may be unacknowledged; 0 for any number.
+    uint64_t limit;
+} host_shape;
+
+typedef struct host_options {
+    // Node 0 begins a cycle this many milliseconds after the last one; 0 for never.
+    uint64_t cycle_every;
+    // Node 0 begins a cycle when there are twice as many objects as after the last one, and at
+    // least this many; 0 for never.
+    uint32_t cycle_objects;
+    // While this many letters wait, the node takes no messages; 0 for LETTERS_MOST.
+    uint64_t letters_most;
+    // While the node's image has more bytes, events of programs that make it grow are refused; 0
+    // for IMAGE_MOST.
+    size_t image_most;
+} host_options;
+
+typedef struct host_calls {
+    void *context;
+    // Sends a packet to a node. It may be lost.
+    void (*send)(void *context, uint8_t to, const uint8_t *bytes, size_t length);
+    // Sends an answer to whoever asked. It may be lost.
+    void (*answer)(void *context, const char *reply, const uint8_t *bytes, size_t length);
+    // Begins to save the value. The caller may write to the room around it, but keeps the value
+    // until it calls host_saved, also from within this call.
+    void (*save)(void *context, store_value *value);
+} host_calls;
+
+// What a host has counted since it was opened.
+typedef struct host_counts {
+    uint64_t packets_in, packets_out, frames_in, frames_out, bytes_out, saves, failed_saves;
+    uint64_t requests, repeated_requests, refused_requests;
+    // Packets that aren't for this node or not of this space; frames that are malformed.
+    uint64_t foreign, malformed;
+    // Packets of earlier processes, and frames that came again or were sent again.
+    uint64_t outdated, repeats, resends;
+    // Frames that weren't taken because too many letters wait; what was dropped for lack of memory.
+    uint64_t full, dropped;
+} host_counts;
+
+typedef struct host host;
+
+// Makes a new node of a space, as the value to be saved first. The caller frees `value->buffer`.
+// Returns MARKRING_OK, or the refusal of markring_node_new, or MARKRING_MEMORY.
+int host_create(const host_shape *shape, store_value *value);
+
+// Opens the node of a value that was saved with this number. `nonce` is a random number, not 0.
+// Returns MARKRING_OK; MARKRING_MEMORY; or MARKRING_BAD_IMAGE if the value isn't that of a node.
+// The value isn't kept.
+int host_open(host **it, const store_value *value, uint64_t number, uint64_t nonce,
+    const host_options *options, const host_calls *calls, uint64_t now);
+
+// Frees the host. What isn't saved is lost.
+void host_free(host *it);
+
+// A packet came, from the node that the carrier names as its sender.
+void host_packet(host *it, uint64_t now, uint8_t from, const uint8_t *bytes, size_t length);
+
+// A request of a program came. The answer goes to `reply`, once all that it shows is stored.
+void host_request(host *it, uint64_t now, const uint8_t *bytes, size_t length, const char *reply);
+
+// A word of the operator came: `status`, `begin` or `stop`. The answer is JSON. That to `stop`
+// comes once all is saved; the others come at once, and show what may not be saved yet.
+void host_control(host *it, uint64_t now, const char *word, size_t length, const char *reply);
+
+// Collects, begins a save if one is due, answers programs and sends packets.
+void host_turn(host *it, uint64_t now);
+
+// The save that `save` began is over. `number` is that of the save, if it succeeded.
+void host_saved(host *it, uint64_t now, store_status status, uint64_t number);
+
+// How many milliseconds may pass before the next turn, if nothing comes.
+uint64_t host_wait(host *it, uint64_t now);
+
+// The carrier has a connection again after it had none: what isn't acknowledged is sent again.
+void host_connected(host *it, uint64_t now);
+
+// Asks the host to save all and to leave.
+void host_leave(host *it);
+
+host_end host_ended(const host *it);
+
+// Why the host has ended, in words for an operator.
+const char *host_reason(const host *it);
+
+const host_shape *host_is(const host *it);
+
+const host_counts *host_counted(const host *it);
+
+// The node, for programs that are linked to the host, and for tests. Call host_changed after an
+// event that was Ok.
+markring_node *host_node(host *it);
+void host_changed(host *it);
+
+#endif

@@ -1,0 +1,115 @@
+// What the parts of a host share.
+#ifndef HOST_INSIDE_H
+#define HOST_INSIDE_H
+
+#include "host.h"
+
+enum {
+    NODES = 64,
+    // Milliseconds: the first resending, the longest pause between two, and how soon a failed save
+    // or a refused allocation is tried again.
+    FIRST_PAUSE = 50,
+    LONGEST_PAUSE = 1600,
+    RETRY = 100,
+    // Steps of the collector in one turn.
+    SCANS = 256,
+    SWEEPS = 4096,
+    // What one event or one message adds to an image, at most.
+    GROWTH = 320,
+    HELD_ANSWERS = 1024
+};
+
+typedef struct peer {
+    process known;
+    uint64_t sent;         // the last message that was sent since the window was last sent again
+    uint64_t acknowledged; // as it was at the last turn
+    uint64_t saved;        // what was received and saved, at the last turn
+    uint64_t resend_at, pause; // 0: no timer runs
+    uint32_t live;
+    bool needs_cycle;
+    bool due; // a packet has to go, whether or not there are frames
+} peer;
+
+typedef struct program {
+    // `round`: how many processes have opened it. `number`: of its last request.
+    uint64_t session, round, number;
+    uint8_t *results; // those of the last request
+    uint16_t count;
+    uint64_t due; // the image that holds the last request
+    bool waits;   // somebody waits for the answer
+    char reply[HOST_REPLY];
+    // Somebody waits for a letter, with a request of this head.
+    bool awaits_letter;
+    request_head waiting;
+    char letter_reply[HOST_REPLY];
+} program;
+
+// An answer that waits for a save.
+typedef struct held {
+    struct held *next;
+    uint64_t due;
+    size_t length;
+    char reply[HOST_REPLY];
+    uint8_t bytes[];
+} held;
+
+struct host {
+    host_shape shape;
+    host_options options;
+    host_calls calls;
+    host_counts counts;
+    host_end end;
+    char reason[HOST_REASON];
+    markring_node node;
+    peer peers[NODES];
+    program programs[PROGRAMS];
+    held *first, **last;
+    size_t held_count;
+    uint64_t nonce, run, stored; // of this process: its number, its first save, its last one
+    // Images are numbered by this host. `images` were taken, and what the one numbered `kept`
+    // holds is stored.
+    uint64_t images, kept, mark;
+    bool changed, saving, stopping, has_work;
+    uint64_t save_at, work_at; // not before these times
+    store_value value;
+    size_t size;        // of the last image, with what may have been added since
+    uint32_t told_live; // as last told to node 0
+    bool needs_cycle;
+    uint64_t needed_in; // the cycle in which a program found the node full
+    bool asked;         // for a cycle
+    uint64_t cycle_at, objects_after, saved_at, save_took, save_began;
+    char stop_reply[HOST_REPLY];
+};
+
+// Ends the host, unless it has ended.
+void end_with(host *it, host_end end, const char *format, ...)
+    __attribute__((format(printf, 3, 4)));
+
+// The number of the image that holds all that has happened so far.
+uint64_t due_image(const host *it);
+
+// Keeps an answer until the image `due` is stored. It is lost if there is no memory.
+void hold_answer(host *it, uint64_t due, const char *reply, const uint8_t *bytes, size_t length);
+
+// Whether the image of the node is so large that programs may not let it grow.
+bool is_full(host *it);
+
+// An event that was Ok has changed the node.
+void note_change(host *it);
+
+bool copy_reply(char *to, const char *reply);
+
+void collect(host *it, uint64_t now);
+void send_packets(host *it, uint64_t now);
+// Sends the window to this node again, as soon as possible.
+void send_again(host *it, uint8_t to);
+void answer_programs(host *it);
+// All objects of the space, as far as node 0 knows.
+uint64_t count_objects(const host *it, uint32_t own_live);
+
+// The value that is saved: all of the host that lasts, and the image.
+size_t saved_size(const host *it, size_t image);
+bool write_saved(host *it, writer *to, size_t image);
+int read_saved(host *it, reader *from);
+
+#endif

@@ -1,0 +1,166 @@
+#include "packets.h"
+
+static const uint8_t PACKET[4] = {0x4D, 0x52, 0x50, 0x01};
+static const uint8_t REQUEST[4] = {0x4D, 0x52, 0x51, 0x01};
+static const uint8_t ANSWER[4] = {0x4D, 0x52, 0x41, 0x01};
+
+static bool begins_with(reader *from, const uint8_t *magic)
+{
+    const uint8_t *bytes = read_bytes(from, 4);
+    return bytes != NULL && memcmp(bytes, magic, 4) == 0;
+}
+
+void write_packet_head(writer *to, const packet_head *it)
+{
+    write_bytes(to, PACKET, sizeof PACKET);
+    write_bytes(to, it->space, SPACE_ID);
+    write_number(to, it->from, 1);
+    write_number(to, it->to, 1);
+    write_number(to, it->sender.nonce, 8);
+    write_number(to, it->sender.run, 8);
+    write_number(to, it->sender.saves, 8);
+    write_number(to, it->known_nonce, 8);
+    write_number(to, it->known_saves, 8);
+    write_number(to, it->live, 4);
+    write_number(to, it->needs_cycle, 1);
+    // Room for what a later version adds.
+    write_number(to, 0, 8);
+}
+
+bool read_packet_head(reader *from, packet_head *it)
+{
+    bool is_packet = begins_with(from, PACKET);
+    const uint8_t *space = read_bytes(from, SPACE_ID);
+    if (!is_packet || space == NULL) {
+        return false;
+    }
+    memcpy(it->space, space, SPACE_ID);
+    it->from = (uint8_t)read_number(from, 1);
+    it->to = (uint8_t)read_number(from, 1);
+    it->sender.nonce = read_number(from, 8);
+    it->sender.run = read_number(from, 8);
+    it->sender.saves = read_number(from, 8);
+    it->known_nonce = read_number(from, 8);
+    it->known_saves = read_number(from, 8);
+    it->live = (uint32_t)read_number(from, 4);
+    it->needs_cycle = (uint8_t)read_number(from, 1);
+    (void)read_bytes(from, 8);
+    return from->ok && it->sender.nonce != 0 && it->sender.run != 0
+        && it->sender.run <= it->sender.saves && it->needs_cycle <= 1;
+}
+
+void write_request_head(writer *to, const request_head *it)
+{
+    write_bytes(to, REQUEST, sizeof REQUEST);
+    write_number(to, it->kind, 1);
+    write_number(to, it->program, 1);
+    write_number(to, it->session, 8);
+    write_number(to, it->number, 8);
+    write_number(to, it->count, 2);
+}
+
+bool read_request_head(reader *from, request_head *it)
+{
+    bool is_request = begins_with(from, REQUEST);
+    it->kind = (uint8_t)read_number(from, 1);
+    it->program = (uint8_t)read_number(from, 1);
+    it->session = read_number(from, 8);
+    it->number = read_number(from, 8);
+    it->count = (uint16_t)read_number(from, 2);
+    return is_request && from->ok;
+}
+
+void write_event(writer *to, const markring_event *it)
+{
+    write_number(to, it->kind, 1);
+    write_number(to, it->node, 1);
+    write_number(to, it->place, 1);
+    write_number(to, it->reg, 2);
+    write_number(to, it->source, 2);
+    write_number(to, it->object, 2);
+    write_number(to, it->label, 4);
+    write_number(to, it->count, 4);
+    write_number(to, it->word, 8);
+}
+
+void read_event(reader *from, markring_event *it)
+{
+    memset(it, 0, sizeof *it);
+    it->kind = (uint8_t)read_number(from, 1);
+    it->node = (uint8_t)read_number(from, 1);
+    it->place = (uint8_t)read_number(from, 1);
+    it->reg = (uint16_t)read_number(from, 2);
+    it->source = (uint16_t)read_number(from, 2);
+    it->object = (uint16_t)read_number(from, 2);
+    it->label = (uint32_t)read_number(from, 4);
+    it->count = (uint32_t)read_number(from, 4);
+    it->word = read_number(from, 8);
+}
+
+void write_answer_head(writer *to, const answer_head *it)
+{
+    write_bytes(to, ANSWER, sizeof ANSWER);
+    write_number(to, it->kind, 1);
+    write_number(to, it->program, 1);
+    write_number(to, it->session, 8);
+    write_number(to, it->number, 8);
+    write_number(to, it->verdict, 1);
+    write_number(to, it->last, 8);
+    write_number(to, it->round, 8);
+    write_number(to, it->nodes, 1);
+    write_number(to, it->own, 1);
+    write_number(to, it->registers, 2);
+    write_number(to, it->slots, 4);
+    write_number(to, it->count, 2);
+}
+
+bool read_answer_head(reader *from, answer_head *it)
+{
+    bool is_answer = begins_with(from, ANSWER);
+    it->kind = (uint8_t)read_number(from, 1);
+    it->program = (uint8_t)read_number(from, 1);
+    it->session = read_number(from, 8);
+    it->number = read_number(from, 8);
+    it->verdict = (uint8_t)read_number(from, 1);
+    it->last = read_number(from, 8);
+    it->round = read_number(from, 8);
+    it->nodes = (uint8_t)read_number(from, 1);
+    it->own = (uint8_t)read_number(from, 1);
+    it->registers = (uint16_t)read_number(from, 2);
+    it->slots = (uint32_t)read_number(from, 4);
+    it->count = (uint16_t)read_number(from, 2);
+    return is_answer && from->ok;
+}
+
+void write_result(writer *to, const markring_result *it)
+{
+    write_number(to, (uint64_t)it->status, 2);
+    write_number(to, it->answer.kind, 1);
+    write_number(to, it->answer.node, 1);
+    write_number(to, it->answer.colour, 1);
+    write_number(to, it->answer.done, 1);
+    write_number(to, it->answer.label, 4);
+    write_number(to, it->answer.count, 4);
+    write_number(to, it->answer.number, 8);
+    write_number(to, (uint64_t)it->answer.sum, 8);
+    write_number(to, it->answer.reference.node, 1);
+    write_number(to, it->answer.reference.slot, 4);
+    write_number(to, it->answer.reference.generation, 8);
+}
+
+void read_result(reader *from, markring_result *it)
+{
+    memset(it, 0, sizeof *it);
+    it->status = (int)read_number(from, 2);
+    it->answer.kind = (uint8_t)read_number(from, 1);
+    it->answer.node = (uint8_t)read_number(from, 1);
+    it->answer.colour = (uint8_t)read_number(from, 1);
+    it->answer.done = (uint8_t)read_number(from, 1);
+    it->answer.label = (uint32_t)read_number(from, 4);
+    it->answer.count = (uint32_t)read_number(from, 4);
+    it->answer.number = read_number(from, 8);
+    it->answer.sum = (int64_t)read_number(from, 8);
+    it->answer.reference.node = (uint8_t)read_number(from, 1);
+    it->answer.reference.slot = (uint32_t)read_number(from, 4);
+    it->answer.reference.generation = read_number(from, 8);
+}

@@ -1,0 +1,97 @@
+// What travels between hosts, and between a host and its programs, as bytes. docs/PROCESSES.md
+// ("Bytes") has the tables. Each kind begins with four bytes that name it and its version.
+#ifndef HOST_PACKETS_H
+#define HOST_PACKETS_H
+
+#include "bytes.h"
+
+#include <markring_remote.h>
+
+enum {
+    // A window of frames is at most 1,856 bytes with lengths and numbers.
+    WINDOW_BYTES = 1856,
+    PACKET_HEAD = 67,
+    PACKET_BYTES = PACKET_HEAD + 2 + 11 + WINDOW_BYTES,
+    // Events in a request, and programs of a node.
+    REQUEST_EVENTS = MARKRING_REMOTE_EVENTS,
+    PROGRAMS = 64,
+    REQUEST_HEAD = 24,
+    EVENT_BYTES = 25,
+    ANSWER_HEAD = 49,
+    RESULT_BYTES = 43,
+    REQUEST_BYTES = REQUEST_HEAD + REQUEST_EVENTS * EVENT_BYTES,
+    ANSWER_BYTES = ANSWER_HEAD + REQUEST_EVENTS * RESULT_BYTES,
+    SPACE_ID = 8
+};
+
+// A process that runs a node: a random number, the number of the first save that it made, and that
+// of the last one. All are 0 if nothing is known.
+typedef struct process {
+    uint64_t nonce, run, saves;
+} process;
+
+// The head of a packet from one node to another. Frames follow, each after its length.
+typedef struct packet_head {
+    uint8_t space[SPACE_ID];
+    uint8_t from, to;
+    process sender;
+    // What the sender knows of the process that runs the receiver.
+    uint64_t known_nonce, known_saves;
+    uint32_t live;       // objects of the sender
+    uint8_t needs_cycle; // 1 if a program of the sender found its node full, else 0
+} packet_head;
+
+void write_packet_head(writer *to, const packet_head *it);
+bool read_packet_head(reader *from, packet_head *it);
+
+typedef enum request_kind {
+    // A process begins to speak for a program. The number is the next round.
+    REQUEST_OPEN = 1,
+    REQUEST_PERFORM = 2, // Events, in order, up to the first one that is refused.
+    REQUEST_READ = 3,    // What registers hold.
+    REQUEST_WAIT = 4     // Answered once a letter waits at the node.
+} request_kind;
+
+typedef struct request_head {
+    uint8_t kind, program;
+    uint64_t session, number;
+    uint16_t count;
+} request_head;
+
+void write_request_head(writer *to, const request_head *it);
+bool read_request_head(reader *from, request_head *it);
+
+void write_event(writer *to, const markring_event *it);
+void read_event(reader *from, markring_event *it);
+
+typedef enum verdict {
+    VERDICT_DONE = 0,
+    // Later requests of this program were performed; or it was opened since this process looked.
+    VERDICT_STALE = 1,
+    // An earlier request of this program is missing.
+    VERDICT_AHEAD = 2,
+    // Another process speaks for this program, or none has opened it.
+    VERDICT_SUPERSEDED = 3,
+    // The bytes aren't a request, or there is no such program.
+    VERDICT_MALFORMED = 4
+} verdict;
+
+typedef struct answer_head {
+    uint8_t kind, program;
+    uint64_t session, number; // as in the request
+    uint8_t verdict;
+    uint64_t last;  // the number of the program's last request that was performed
+    uint64_t round; // how many processes have opened the program
+    uint8_t nodes, own;
+    uint16_t registers;
+    uint32_t slots;
+    uint16_t count; // of results that follow
+} answer_head;
+
+void write_answer_head(writer *to, const answer_head *it);
+bool read_answer_head(reader *from, answer_head *it);
+
+void write_result(writer *to, const markring_result *it);
+void read_result(reader *from, markring_result *it);
+
+#endif

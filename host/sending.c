@@ -1,0 +1,236 @@
+// What goes to other nodes, and the steps of the collector.
+#include "inside.h"
+
+enum { ACKNOWLEDGEMENT = 11, LENGTH = 2, NUMBER = 8, LEAST_REPORT = 64 };
+
+void send_again(host *it, uint8_t to)
+{
+    markring_link link;
+    peer *at = &it->peers[to];
+    if (markring_node_link(&it->node, to, &link) == MARKRING_OK) {
+        at->sent = at->acknowledged = link.acknowledged;
+    }
+    at->pause = FIRST_PAUSE;
+    at->resend_at = 0;
+    at->due = true;
+}
+
+void host_connected(host *it, uint64_t now)
+{
+    (void)now;
+    for (uint8_t to = 0; to < it->shape.nodes; to++) {
+        if (to != it->shape.own) {
+            send_again(it, to);
+        }
+    }
+}
+
+static void write_head(host *it, uint8_t to, writer *packet)
+{
+    markring_state state = {0};
+    packet_head head = {{0}, it->shape.own, to, {it->nonce, it->run, it->stored},
+        it->peers[to].known.nonce, it->peers[to].known.saves, 0, it->needs_cycle};
+    memcpy(head.space, it->shape.space, SPACE_ID);
+    if (markring_node_state(&it->node, &state) == MARKRING_OK) {
+        head.live = state.live;
+        it->told_live = to == 0 ? state.live : it->told_live;
+    }
+    write_packet_head(packet, &head);
+}
+
+static void write_acknowledgement(host *it, uint8_t to, writer *packet)
+{
+    uint8_t frame[ACKNOWLEDGEMENT];
+    size_t needed = 0;
+    if (markring_node_ack_for(&it->node, to, frame, sizeof frame, &needed) == MARKRING_OK) {
+        write_number(packet, needed, LENGTH);
+        write_bytes(packet, frame, needed);
+    }
+}
+
+// Copies frames from a window, without their numbers. Returns the last number.
+static uint64_t write_frames(reader *window, size_t count, writer *packet)
+{
+    uint64_t number = 0;
+    for (size_t i = 0; i < count; i++) {
+        size_t length = read_number(window, LENGTH);
+        number = read_number(window, NUMBER);
+        const uint8_t *frame = read_bytes(window, length);
+        write_number(packet, length, LENGTH);
+        write_bytes(packet, frame, frame != NULL ? length : 0);
+    }
+    return number;
+}
+
+// Sends one packet: the acknowledgement if one is due, and the frames that weren't sent yet.
+static void send_packet(host *it, uint8_t to)
+{
+    uint8_t window[WINDOW_BYTES], bytes[PACKET_BYTES];
+    peer *at = &it->peers[to];
+    size_t count = 0, needed = 0;
+    int status =
+        markring_node_frames(&it->node, to, at->sent, window, sizeof window, &count, &needed);
+    if (status != MARKRING_OK && !at->due) {
+        return;
+    }
+    writer packet = writer_of(bytes, sizeof bytes);
+    write_head(it, to, &packet);
+    if (at->due) {
+        write_acknowledgement(it, to, &packet);
+    }
+    if (status == MARKRING_OK) {
+        reader frames = reader_of(window, sizeof window);
+        at->sent = write_frames(&frames, count, &packet);
+        it->counts.frames_out += count;
+    }
+    if (packet.ok) {
+        at->due = false;
+        it->counts.packets_out++;
+        it->counts.bytes_out += packet.length;
+        it->calls.send(it->calls.context, to, bytes, packet.length);
+    }
+}
+
+// Goes back to the window's begin if its time has come.
+static void run_timer(host *it, peer *at, const markring_link *link, uint64_t now)
+{
+    if (link->acknowledged != at->acknowledged) {
+        at->acknowledged = link->acknowledged;
+        at->pause = FIRST_PAUSE;
+        at->resend_at = 0;
+    }
+    if (at->sent < link->acknowledged) {
+        at->sent = link->acknowledged;
+    }
+    if (link->released == link->acknowledged) {
+        at->resend_at = 0;
+    } else if (at->resend_at != 0 && now >= at->resend_at) {
+        it->counts.resends++;
+        at->sent = link->acknowledged;
+        at->pause = 2 * at->pause < LONGEST_PAUSE ? 2 * at->pause : LONGEST_PAUSE;
+        at->resend_at = 0;
+    }
+}
+
+// Node 0 has to know roughly how many objects there are, and whether a node is full.
+static void report_to_director(host *it)
+{
+    markring_state state;
+    if (it->shape.own == 0 || markring_node_state(&it->node, &state) != MARKRING_OK) {
+        return;
+    }
+    uint32_t apart =
+        state.live > it->told_live ? state.live - it->told_live : it->told_live - state.live;
+    uint32_t least = it->told_live / 4 > LEAST_REPORT ? it->told_live / 4 : LEAST_REPORT;
+    if (apart > least) {
+        it->peers[0].due = true;
+    }
+    if (it->needs_cycle && state.cycle > it->needed_in) {
+        it->needs_cycle = false;
+        it->peers[0].due = true;
+    }
+}
+
+void send_packets(host *it, uint64_t now)
+{
+    report_to_director(it);
+    for (uint8_t to = 0; to < it->shape.nodes; to++) {
+        markring_link link;
+        if (to == it->shape.own || markring_node_link(&it->node, to, &link) != MARKRING_OK) {
+            continue;
+        }
+        peer *at = &it->peers[to];
+        run_timer(it, at, &link, now);
+        send_packet(it, to);
+        if (link.released != link.acknowledged && at->resend_at == 0) {
+            at->resend_at = now + at->pause;
+        }
+    }
+}
+
+// ## The collector
+
+uint64_t count_objects(const host *it, uint32_t own_live)
+{
+    uint64_t objects = own_live;
+    for (int node = 0; node < it->shape.nodes; node++) {
+        objects += it->peers[node].live;
+    }
+    return objects;
+}
+
+// Whether node 0 should begin a cycle by itself.
+static bool is_cycle_due(const host *it, uint64_t objects, uint64_t now)
+{
+    for (int node = 0; node < it->shape.nodes; node++) {
+        if (it->peers[node].needs_cycle) {
+            return true;
+        }
+    }
+    if (it->options.cycle_every > 0 && now >= it->cycle_at && objects > 0) {
+        return true;
+    }
+    uint64_t after = it->objects_after == UINT64_MAX ? 0 : it->objects_after;
+    return it->options.cycle_objects > 0 && objects >= it->options.cycle_objects
+        && objects >= 2 * after;
+}
+
+// Begins a cycle at node 0, if one is due. While another runs, it stays due.
+static void begin_if_due(host *it, uint64_t now)
+{
+    markring_answer answer;
+    markring_state state;
+    if (it->shape.own != 0 || markring_node_state(&it->node, &state) != MARKRING_OK) {
+        return;
+    }
+    uint64_t objects = count_objects(it, state.live);
+    if (state.swept == state.cycle && objects < it->objects_after) {
+        it->objects_after = objects;
+    }
+    it->asked = it->asked || is_cycle_due(it, objects, now);
+    if (it->options.cycle_every > 0 && now >= it->cycle_at) {
+        it->cycle_at = now + it->options.cycle_every;
+    }
+    if (it->asked && markring_node_begin(&it->node, &answer) == MARKRING_OK) {
+        note_change(it);
+        it->asked = false;
+        it->needs_cycle = false;
+        it->objects_after = objects;
+        it->cycle_at = now + it->options.cycle_every;
+        for (int node = 0; node < it->shape.nodes; node++) {
+            it->peers[node].needs_cycle = false;
+        }
+    }
+}
+
+// Scans. Returns the status of the last step.
+static int scan(host *it)
+{
+    markring_answer answer;
+    int status = MARKRING_OK;
+    for (int i = 0; i < SCANS && status == MARKRING_OK; i++) {
+        status = markring_node_scan(&it->node, &answer);
+        if (status == MARKRING_OK) {
+            note_change(it);
+        }
+    }
+    return status;
+}
+
+void collect(host *it, uint64_t now)
+{
+    markring_answer answer;
+    begin_if_due(it, now);
+    int scanned = scan(it), passed = markring_node_pass(&it->node, &answer);
+    if (passed == MARKRING_OK) {
+        note_change(it);
+    }
+    int swept = markring_node_sweep(&it->node, SWEEPS, &answer);
+    if (swept == MARKRING_OK) {
+        note_change(it);
+    }
+    bool refused =
+        scanned == MARKRING_MEMORY || passed == MARKRING_MEMORY || swept == MARKRING_MEMORY;
+    it->has_work = refused || scanned == MARKRING_OK || (swept == MARKRING_OK && !answer.done);
+    it->work_at = refused ? now + RETRY : now;
+}

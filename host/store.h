@@ -1,0 +1,100 @@
+// A folder in which one process keeps a value, which a save replaces as a whole. It has two files,
+// the slots `a` and `b`, and each save overwrites the one that doesn't count. The slot that counts
+// is the whole one with the higher number; whether a slot is whole is shown by a checksum of 64
+// bits. docs/PROCESSES.md ("The folder") has the bytes.
+//
+// Nothing here waits for another process, starts a thread or reads a clock. All system calls go
+// through a table, so a test can put its own file system in their place.
+#ifndef HOST_STORE_H
+#define HOST_STORE_H
+
+#include <stddef.h>
+#include <stdint.h>
+
+// Room that a save needs before the value and behind it.
+enum { STORE_HEAD = 20, STORE_TAIL = 8 };
+
+typedef enum store_status {
+    STORE_OK = 0,
+    // An allocation failed. Nothing has changed.
+    STORE_MEMORY,
+    // There is no such folder, or it has no slots.
+    STORE_ABSENT,
+    // The folder that would be created has a slot already.
+    STORE_EXISTS,
+    // Another process has the folder.
+    STORE_LOCKED,
+    // Neither slot is whole, or both have the same number.
+    STORE_DAMAGED,
+    // A call failed, and what counted still counts. The same may be tried again.
+    STORE_FAILED,
+    // A sync failed: nobody knows whether the new value or the old one is on the disk. The process
+    // has to end, since another sync could succeed without having written.
+    STORE_UNKNOWN
+} store_status;
+
+// The system calls. Each returns what it opened, how many bytes it moved, or 0; or a negative
+// errno.
+typedef struct store_calls {
+    void *context;
+    int (*make_folder)(void *context, const char *path);
+    int (*open_folder)(void *context, const char *path);
+    // Takes the lock of an open folder, without waiting. Its end is that of the process, or
+    // closing the folder.
+    int (*lock_folder)(void *context, int folder);
+    // Writes the names in the folder, and those of the folder and of all above it, to the disk.
+    int (*sync_names)(void *context, int folder);
+    // Opens a file in a folder, and makes it if `create` isn't 0.
+    int (*open_file)(void *context, int folder, const char *name, int create);
+    int64_t (*size)(void *context, int file);
+    int64_t (*read_at)(void *context, int file, uint8_t *bytes, size_t length, uint64_t offset);
+    int64_t (*write_at)(
+        void *context, int file, const uint8_t *bytes, size_t length, uint64_t offset);
+    int (*sync)(void *context, int file);
+    // Asks the system to read from the disk what is read next, and not from memory.
+    int (*forget)(void *context, int file);
+    void (*close)(void *context, int descriptor);
+} store_calls;
+
+// Those of the operating system.
+extern const store_calls STORE_SYSTEM;
+
+typedef struct store {
+    store_calls calls;
+    int folder;
+    int slots[2];
+    int counts;      // the slot that counts, 0 or 1
+    uint64_t number; // of the save that counts
+} store;
+
+// A value with room around it: it begins at `buffer + STORE_HEAD`. `room` counts the value and the
+// room around it.
+typedef struct store_value {
+    uint8_t *buffer;
+    size_t length, room;
+} store_value;
+
+// Makes the folder, unless it exists, and saves the first value in it. The folder is locked then,
+// and the number of the save is 1. After any other status the store is closed.
+// STORE_EXISTS; STORE_LOCKED; STORE_FAILED; STORE_UNKNOWN. After the last two the folder may have
+// slots that aren't whole: remove it, and create it again.
+store_status store_create(
+    store *it, const store_calls *calls, const char *path, store_value *value);
+
+// Locks the folder and reads what counts; the caller frees `value->buffer`. Both slots and their
+// names are synced first, and the slots are then read from the disk, so that no failure can take
+// back what was read. After any other status the store is closed and `value` is as it was.
+// STORE_ABSENT; STORE_LOCKED; STORE_DAMAGED; STORE_MEMORY; STORE_FAILED; STORE_UNKNOWN.
+store_status store_open(store *it, const store_calls *calls, const char *path, store_value *value);
+
+// Saves a value, with the next number. The bytes around the value are overwritten.
+// STORE_FAILED, STORE_UNKNOWN.
+store_status store_save(store *it, store_value *value);
+
+// Closes the folder, which another process may then lock.
+void store_close(store *it);
+
+// A status in words, for messages.
+const char *store_text(store_status status);
+
+#endif

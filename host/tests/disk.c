@@ -1,0 +1,335 @@
+#include "disk.h"
+
+#include <errno.h>
+#include <stdio.h>
+#include <stdlib.h>
+#include <string.h>
+
+enum { FOLDER = 100 };
+
+static uint32_t below_number(uint64_t *seed, uint32_t limit)
+{
+    *seed ^= *seed >> 12;
+    *seed ^= *seed << 25;
+    *seed ^= *seed >> 27;
+    return (uint32_t)((*seed * UINT64_C(2685821657736338717) >> 32) * limit >> 32);
+}
+
+// Memory of the disk's own. A test that refuses memory to a host wraps malloc and realloc, but not
+// this call.
+static void *resized(void *block, size_t size)
+{
+    void *fresh = reallocarray(block, 1, size);
+    if (fresh == NULL) {
+        fputs("the test itself ran out of memory\n", stderr);
+        exit(2);
+    }
+    return fresh;
+}
+
+static void extend(uint8_t **bytes, size_t *length, size_t to)
+{
+    if (to > *length) {
+        *bytes = resized(*bytes, to);
+        memset(*bytes + *length, 0, to - *length);
+        *length = to;
+    }
+}
+
+static void apply(uint8_t **bytes, size_t *length, const disk_write *it)
+{
+    extend(bytes, length, it->offset + it->length);
+    memcpy(*bytes + it->offset, it->bytes, it->length);
+}
+
+// One write gets to the disk in part: each sector is new, old or garbage.
+static void tear(disk *it, disk_file *file, const disk_write *write)
+{
+    for (size_t at = 0; at < write->length; at += SECTOR) {
+        size_t length = write->length - at < SECTOR ? write->length - at : SECTOR;
+        disk_write part = {write->offset + at, length, write->bytes + at};
+        uint32_t fate = below_number(it->seed, 8);
+        if (fate < 5) {
+            apply(&file->durable, &file->durable_length, &part);
+        } else if (fate == 5) {
+            uint8_t garbage[SECTOR];
+            memset(garbage, (int)below_number(it->seed, 256), sizeof garbage);
+            part.bytes = garbage;
+            apply(&file->durable, &file->durable_length, &part);
+        }
+    }
+}
+
+static void drop_pending(disk_file *file)
+{
+    for (int i = 0; i < file->pending_count; i++) {
+        free(file->pending[i].bytes);
+    }
+    file->pending_count = 0;
+}
+
+// What wasn't synced gets to the disk, or not, or in part.
+static void settle_pending(disk *it, disk_file *file)
+{
+    for (int i = 0; i < file->pending_count; i++) {
+        uint32_t fate = below_number(it->seed, 3);
+        if (fate == 0) {
+            apply(&file->durable, &file->durable_length, &file->pending[i]);
+        } else if (fate == 1) {
+            tear(it, file, &file->pending[i]);
+        }
+    }
+    drop_pending(file);
+}
+
+// What a process reads is what is on the disk, and what will be written there.
+static void read_again(disk_file *file)
+{
+    free(file->seen);
+    file->seen = resized(NULL, file->durable_length + 1);
+    if (file->durable_length > 0) {
+        memcpy(file->seen, file->durable, file->durable_length);
+    }
+    file->seen_length = file->durable_length;
+    for (int i = 0; i < file->pending_count; i++) {
+        apply(&file->seen, &file->seen_length, &file->pending[i]);
+    }
+}
+
+// ## Calls
+
+// Counts a call. Returns an error, or 0.
+static int enter(disk *it)
+{
+    it->calls++;
+    if (it->dies_in > 0 && --it->dies_in == 0) {
+        it->dead = true;
+    }
+    if (it->dead) {
+        return -EIO;
+    }
+    uint32_t fate = below_number(it->seed, 1000);
+    if (fate < it->failing) {
+        it->failed++;
+        return fate % 3 == 0 ? -EINTR : -EIO;
+    }
+    return 0;
+}
+
+static int make_folder(void *context, const char *path)
+{
+    disk *it = context;
+    int status = enter(it);
+    (void)path;
+    if (status == 0 && it->has_folder) {
+        status = -EEXIST;
+    }
+    it->has_folder = it->has_folder || status == 0;
+    return status;
+}
+
+static int open_folder(void *context, const char *path)
+{
+    disk *it = context;
+    int status = enter(it);
+    (void)path;
+    return status != 0 ? status : it->has_folder ? FOLDER : -ENOENT;
+}
+
+static int lock_folder(void *context, int folder)
+{
+    disk *it = context;
+    int status = enter(it);
+    (void)folder;
+    if (status == 0 && it->locked) {
+        status = -EWOULDBLOCK;
+    }
+    it->locked = it->locked || status == 0;
+    return status;
+}
+
+static int sync_names(void *context, int folder)
+{
+    disk *it = context;
+    int status = enter(it);
+    (void)folder;
+    if (status != 0) {
+        return -EIO;
+    }
+    it->folder_synced = true;
+    for (int i = 0; i < DISK_FILES; i++) {
+        it->files[i].name_synced = it->files[i].exists;
+    }
+    return 0;
+}
+
+static int open_file(void *context, int folder, const char *name, int create)
+{
+    disk *it = context;
+    int status = enter(it), at = name[0] - 'a';
+    (void)folder;
+    if (status == 0 && !it->files[at].exists) {
+        status = create ? 0 : -ENOENT;
+        it->files[at].exists = create != 0;
+    }
+    return status != 0 ? status : at;
+}
+
+static int64_t size(void *context, int file)
+{
+    disk *it = context;
+    int status = enter(it);
+    return status != 0 ? status : (int64_t)it->files[file].seen_length;
+}
+
+static int64_t read_at(void *context, int file, uint8_t *bytes, size_t length, uint64_t offset)
+{
+    disk *it = context;
+    disk_file *from = &it->files[file];
+    int status = enter(it);
+    if (status != 0) {
+        return status;
+    }
+    if (offset >= from->seen_length) {
+        return 0;
+    }
+    size_t count = from->seen_length - offset < length ? from->seen_length - offset : length;
+    if (count > 1 && below_number(it->seed, 10) == 0) {
+        count = 1 + below_number(it->seed, (uint32_t)count);
+    }
+    memcpy(bytes, from->seen + offset, count);
+    return (int64_t)count;
+}
+
+static int64_t write_at(
+    void *context, int file, const uint8_t *bytes, size_t length, uint64_t offset)
+{
+    disk *it = context;
+    disk_file *to = &it->files[file];
+    if (it->dead) {
+        return -EIO;
+    }
+    int status = enter(it);
+    // A call that fails, or during which the process dies, may have written a part.
+    bool fails = status != 0 || it->without_memory;
+    size_t count = fails                  ? below_number(it->seed, (uint32_t)length + 1)
+        : below_number(it->seed, 10) == 0 ? 1 + below_number(it->seed, (uint32_t)length)
+                                          : length;
+    if (to->pending_count == DISK_PENDING) {
+        settle_pending(it, to);
+    }
+    if (count > 0) {
+        disk_write write = {offset, count, resized(NULL, count)};
+        memcpy(write.bytes, bytes, count);
+        apply(&to->seen, &to->seen_length, &write);
+        to->pending[to->pending_count++] = write;
+    }
+    return status != 0 ? status : it->without_memory ? -ENOSPC : (int64_t)count;
+}
+
+static int sync_file(void *context, int file)
+{
+    disk *it = context;
+    disk_file *at = &it->files[file];
+    int status = enter(it);
+    if (status == -EINTR || (status != 0 && it->dead)) {
+        return status;
+    }
+    if (status != 0) {
+        // The system counts these writes as done, whatever became of them.
+        settle_pending(it, at);
+        return status;
+    }
+    for (int i = 0; i < at->pending_count; i++) {
+        apply(&at->durable, &at->durable_length, &at->pending[i]);
+    }
+    drop_pending(at);
+    return 0;
+}
+
+static int forget(void *context, int file)
+{
+    disk *it = context;
+    int status = enter(it);
+    if (status == 0) {
+        read_again(&it->files[file]);
+    }
+    return status;
+}
+
+static void close_descriptor(void *context, int descriptor)
+{
+    disk *it = context;
+    if (descriptor == FOLDER && !it->dead) {
+        it->locked = false;
+    }
+}
+
+store_calls disk_calls(disk *it)
+{
+    store_calls calls = {it, make_folder, open_folder, lock_folder, sync_names, open_file, size,
+        read_at, write_at, sync_file, forget, close_descriptor};
+    return calls;
+}
+
+// ## Crashes
+
+void disk_kill(disk *it)
+{
+    it->locked = false;
+    it->dead = false;
+    it->dies_in = 0;
+}
+
+void disk_power_off(disk *it)
+{
+    disk_kill(it);
+    it->has_folder = it->has_folder && (it->folder_synced || below_number(it->seed, 2) == 0);
+    for (int i = 0; i < DISK_FILES; i++) {
+        disk_file *file = &it->files[i];
+        settle_pending(it, file);
+        read_again(file);
+        bool stays = it->has_folder && (file->name_synced || below_number(it->seed, 2) == 0);
+        if (file->exists && !stays) {
+            free(file->seen);
+            free(file->durable);
+            memset(file, 0, sizeof *file);
+        }
+        file->name_synced = file->exists;
+    }
+    it->folder_synced = it->has_folder;
+}
+
+void disk_copy(disk *to, const disk *from)
+{
+    disk_free(to);
+    uint64_t *seed = from->seed;
+    *to = *from;
+    to->seed = seed;
+    for (int i = 0; i < DISK_FILES; i++) {
+        disk_file *file = &to->files[i];
+        const disk_file *old = &from->files[i];
+        file->seen = resized(NULL, old->seen_length + 1);
+        file->durable = resized(NULL, old->durable_length + 1);
+        if (old->seen_length > 0) {
+            memcpy(file->seen, old->seen, old->seen_length);
+        }
+        if (old->durable_length > 0) {
+            memcpy(file->durable, old->durable, old->durable_length);
+        }
+        for (int k = 0; k < old->pending_count; k++) {
+            file->pending[k].bytes = resized(NULL, old->pending[k].length);
+            memcpy(file->pending[k].bytes, old->pending[k].bytes, old->pending[k].length);
+        }
+    }
+}
+
+void disk_free(disk *it)
+{
+    for (int i = 0; i < DISK_FILES; i++) {
+        drop_pending(&it->files[i]);
+        free(it->files[i].seen);
+        free(it->files[i].durable);
+    }
+    memset(it->files, 0, sizeof it->files);
+}

@@ -1,0 +1,192 @@
+// Bytes of any kind, given to a host as packets, requests and words, and to an opening as a value:
+// valid ones with bytes changed, removed and added. Nothing but the compiler's checks of memory
+// says whether that went well, and that what is refused changes nothing.
+//
+//     fuzz ROUNDS
+#include "../inside.h"
+
+#include <stdio.h>
+#include <stdlib.h>
+
+enum { MOST = 8192, SENT = 256 };
+
+static uint64_t seed = 88172645463325252u;
+static uint8_t sent[SENT][PACKET_BYTES];
+static size_t lengths[SENT];
+static int sent_count;
+static store_value stored;
+static unsigned long passed, failed;
+
+static uint32_t below(uint32_t limit)
+{
+    seed ^= seed << 13;
+    seed ^= seed >> 7;
+    seed ^= seed << 17;
+    return (uint32_t)((seed >> 32) * limit >> 32);
+}
+
+static void on_send(void *context, uint8_t to, const uint8_t *bytes, size_t length)
+{
+    (void)context;
+    (void)to;
+    int at = sent_count < SENT ? sent_count++ : (int)below(SENT);
+    memcpy(sent[at], bytes, length);
+    lengths[at] = length;
+}
+
+static void on_answer(void *context, const char *reply, const uint8_t *bytes, size_t length)
+{
+    unsigned long *sum = context;
+    (void)reply;
+    for (size_t i = 0; i < length; i++) {
+        *sum += bytes[i];
+    }
+}
+
+static unsigned long answers;
+static host *hosts[2];
+
+// Keeps the last value, and says that it is stored.
+static void on_save(void *context, store_value *value)
+{
+    (void)context;
+    free(stored.buffer);
+    stored = *value;
+    stored.buffer = malloc(stored.room);
+    memcpy(stored.buffer, value->buffer, value->room);
+}
+
+static void turn(host *it, uint64_t now)
+{
+    host_turn(it, now);
+    host_saved(it, now, STORE_OK, now);
+}
+
+static host *open_host(uint8_t own)
+{
+    static const host_options options = {0, 0, 0, 0};
+    static const host_calls calls = {&answers, on_send, on_answer, on_save};
+    host_shape shape = {.name = "fuzz", .own = own, .nodes = 2, .registers = 8, .slots = 32};
+    store_value value = {NULL, 0, 0};
+    host *it = NULL;
+    if (host_create(&shape, &value) != MARKRING_OK
+        || host_open(&it, &value, 1, 100u + own, &options, &calls, 1) != MARKRING_OK) {
+        exit(2);
+    }
+    free(value.buffer);
+    return it;
+}
+
+// Changes, removes and adds some bytes. Returns the new length.
+static size_t damage(uint8_t *bytes, size_t length, size_t room)
+{
+    for (uint32_t times = below(4); times > 0 && length > 0; times--) {
+        size_t at = below((uint32_t)length);
+        switch (below(4)) {
+        case 0: bytes[at] = (uint8_t)below(256); break;
+        case 1: bytes[at] ^= (uint8_t)(1u << below(8)); break;
+        case 2: length = at; break;
+        default:
+            if (length < room) {
+                memmove(bytes + at + 1, bytes + at, length - at);
+                length++;
+            }
+        }
+    }
+    return length;
+}
+
+static void try_packet(host *it, uint64_t now)
+{
+    uint8_t *bytes = malloc(PACKET_BYTES + 8);
+    int from = (int)below((uint32_t)sent_count);
+    memcpy(bytes, sent[from], lengths[from]);
+    size_t length = damage(bytes, lengths[from], PACKET_BYTES);
+    // A block of exactly this length shows a read beyond it.
+    uint8_t *exact = malloc(length > 0 ? length : 1);
+    memcpy(exact, bytes, length);
+    host_packet(it, now, (uint8_t)below(3), exact, length);
+    free(exact);
+    free(bytes);
+}
+
+static void try_request(host *it, uint64_t now)
+{
+    uint8_t bytes[REQUEST_BYTES + 64];
+    uint16_t count = (uint16_t)below(6);
+    writer to = writer_of(bytes, sizeof bytes);
+    program *program = &it->programs[0];
+    uint8_t kind = (uint8_t)(1 + below(4));
+    request_head head = {kind, (uint8_t)(below(9) == 0 ? below(256) : 0),
+        below(2) ? program->session : 1 + below(3),
+        kind == REQUEST_OPEN ? program->round + 1 : program->number + below(3), count};
+    write_request_head(&to, &head);
+    for (uint16_t i = 0; i < count; i++) {
+        markring_event event = {(uint8_t)below(19), (uint8_t)below(3), (uint8_t)below(9),
+            (uint16_t)below(9), (uint16_t)below(9), (uint16_t)below(9), below(9), 1, below(9)};
+        write_event(&to, &event);
+    }
+    size_t length = below(3) == 0 ? damage(bytes, to.length, sizeof bytes) : to.length;
+    uint8_t *exact = malloc(length > 0 ? length : 1);
+    memcpy(exact, bytes, length);
+    host_request(it, now, exact, length, below(50) == 0 ? "" : "reply");
+    free(exact);
+}
+
+// An opening of a damaged value succeeds or is refused; without damage it succeeds.
+static void try_value(void)
+{
+    static const host_options options = {0, 0, 0, 0};
+    static const host_calls calls = {&answers, on_send, on_answer, on_save};
+    store_value value = stored;
+    host *it = NULL;
+    if (stored.buffer == NULL) {
+        return;
+    }
+    value.room = stored.room + 64;
+    value.buffer = malloc(value.room);
+    memcpy(value.buffer, stored.buffer, stored.room);
+    value.length = damage(value.buffer + STORE_HEAD, stored.length, stored.length + 32);
+    int status = host_open(&it, &value, 5, 7, &options, &calls, 1);
+    if (status == MARKRING_OK) {
+        host_free(it);
+    }
+    bool is_same = value.length == stored.length
+        && memcmp(value.buffer + STORE_HEAD, stored.buffer + STORE_HEAD, stored.length) == 0;
+    bool is_right = status == MARKRING_OK || (status == MARKRING_BAD_IMAGE && !is_same);
+    passed += is_right;
+    failed += !is_right;
+    free(value.buffer);
+}
+
+int main(int count, char **given)
+{
+    unsigned long rounds = count > 1 ? strtoul(given[1], NULL, 10) : 100000;
+    hosts[0] = open_host(0);
+    hosts[1] = open_host(1);
+    for (uint64_t now = 2; now < rounds + 2; now++) {
+        host *it = hosts[below(2)];
+        try_request(it, now);
+        if (sent_count > 0) {
+            try_packet(it, now);
+        }
+        turn(it, now);
+        try_value();
+        if (below(20) == 0) {
+            host_control(it, now, below(2) ? "status" : "begin", below(7), "reply");
+        }
+        for (uint8_t i = 0; i < 2; i++) {
+            // A forged packet may say that the folder is old. Then there is a new node.
+            if (host_ended(hosts[i]) != HOST_RUNS) {
+                failed += host_ended(hosts[i]) != HOST_OLDER;
+                host_free(hosts[i]);
+                hosts[i] = open_host(i);
+            }
+        }
+    }
+    host_free(hosts[0]);
+    host_free(hosts[1]);
+    free(stored.buffer);
+    printf("%lu passed, %lu failed\n", passed, failed);
+    return failed != 0 || passed == 0;
+}

@@ -1,0 +1,1246 @@
+// Several hosts in one thread, by seed, with their programs. The net loses, repeats and reorders
+// packets. Calls of the disks fail, and their writes are lost or torn. Processes and machines stop
+// at any call, allocations fail, and the clock jumps. Each answer is compared with a
+// model of the programs; at checkpoints, each node comes to have exactly the objects that the model
+// reaches.
+//
+//     sim SEEDS [FIRST [STEPS]]
+#include "../inside.h"
+#include "disk.h"
+
+#include <stdio.h>
+#include <stdlib.h>
+
+enum {
+    MOST = 4,  // nodes
+    PARTS = 2, // programs a node
+    REGISTERS = 8,
+    SLOTS = 96,
+    PLACES = 4,
+    LOCAL_PLACES = 2, // written by the owner's programs; the others by one program elsewhere
+    OPERATIONS = 48,  // of a request
+    NET = 512,
+    CHECKPOINTS = 3,
+    OLDEST = 3 // copies of disks, for mixing up
+};
+
+// ## Random numbers and checks
+
+static uint64_t seed;
+static unsigned long failures, run_seed;
+
+static uint32_t below(uint32_t limit)
+{
+    seed ^= seed >> 12;
+    seed ^= seed << 25;
+    seed ^= seed >> 27;
+    return (uint32_t)((seed * UINT64_C(2685821657736338717) >> 32) * limit >> 32);
+}
+
+static uint64_t random_nonce(void)
+{
+    return ((uint64_t)below(UINT32_MAX) << 32 | below(UINT32_MAX)) + 1;
+}
+
+static bool check(bool holds, const char *text, int line)
+{
+    if (!holds && failures++ == 0) {
+        printf("FAILED: seed %lu: sim.c:%d: %s\n", run_seed, line, text);
+    }
+    return holds;
+}
+
+#define HOLDS(condition) check((condition), #condition, __LINE__)
+
+static void *need(void *block)
+{
+    if (block == NULL) {
+        fputs("the test itself ran out of memory\n", stderr);
+        exit(2);
+    }
+    return block;
+}
+
+// ## Refused memory
+
+// While a host works, the allocation with this number is refused; 0 for none.
+static unsigned long refuse_in, refused;
+static bool in_host;
+
+void *__real_malloc(size_t size);
+void *__real_calloc(size_t count, size_t size);
+void *__real_realloc(void *block, size_t size);
+void *__wrap_malloc(size_t size);
+void *__wrap_calloc(size_t count, size_t size);
+void *__wrap_realloc(void *block, size_t size);
+
+static bool is_refused(void)
+{
+    if (!in_host || refuse_in == 0 || --refuse_in > 0) {
+        return false;
+    }
+    refused++;
+    return true;
+}
+
+void *__wrap_malloc(size_t size)
+{
+    return is_refused() ? NULL : __real_malloc(size);
+}
+
+void *__wrap_calloc(size_t count, size_t size)
+{
+    return is_refused() ? NULL : __real_calloc(count, size);
+}
+
+void *__wrap_realloc(void *block, size_t size)
+{
+    return is_refused() ? NULL : __real_realloc(block, size);
+}
+
+// ## The model
+
+typedef struct object {
+    markring_ref name;
+    uint8_t owner;
+    uint32_t content[PLACES]; // as last written by a request that was answered; 0 for nothing
+    // All that was ever written to a place, in order, beginning with nothing.
+    uint32_t *history[PLACES];
+    size_t lengths[PLACES], seen[PLACES];
+} object;
+
+typedef struct letter {
+    uint8_t from, to;
+    bool is_get, accepted, given; // `given`: the Give or Get was answered Ok
+    uint32_t content;             // of a Give: an object, or 0
+    uint32_t about;               // of a Get: the object, its place, and since when
+    uint8_t place;
+    size_t since;
+} letter;
+
+static object *objects;
+static uint32_t object_count, object_room;
+static letter *letters;
+static uint32_t letter_count, letter_room;
+static uint32_t last_label[MOST][MOST];
+
+static bool same(markring_ref a, markring_ref b)
+{
+    return a.generation == b.generation && a.slot == b.slot && a.node == b.node;
+}
+
+static markring_ref name_of(uint32_t id)
+{
+    markring_ref nothing = {0, 0, 0};
+    return id == 0 ? nothing : objects[id].name;
+}
+
+// The object with this name; 0 for nothing.
+static uint32_t object_named(markring_ref name)
+{
+    if (name.generation == 0) {
+        return 0;
+    }
+    for (uint32_t id = object_count; id-- > 1;) {
+        if (same(objects[id].name, name)) {
+            return id;
+        }
+    }
+    HOLDS(!"a reference to an object that was never made");
+    return 0;
+}
+
+static void remember(uint32_t id, uint8_t place, uint32_t content)
+{
+    object *it = &objects[id];
+    size_t length = it->lengths[place]++;
+    it->history[place] = need(realloc(it->history[place], (length + 1) * sizeof(uint32_t)));
+    it->history[place][length] = content;
+}
+
+static uint32_t new_object(uint8_t owner, markring_ref name)
+{
+    if (object_count == object_room) {
+        object_room = 2 * object_room + 64;
+        objects = need(realloc(objects, object_room * sizeof *objects));
+    }
+    HOLDS(object_count == 0 || object_count > 0);
+    object *it = &objects[object_count];
+    memset(it, 0, sizeof *it);
+    it->owner = owner;
+    it->name = name;
+    for (uint8_t place = 0; place < PLACES; place++) {
+        remember(object_count, place, 0);
+    }
+    return object_count++;
+}
+
+static uint32_t new_letter(letter it)
+{
+    if (letter_count == letter_room) {
+        letter_room = 2 * letter_room + 64;
+        letters = need(realloc(letters, letter_room * sizeof *letters));
+    }
+    letters[letter_count] = it;
+    return letter_count++;
+}
+
+// Whether the content was written to the place, not before this point of its history. The point
+// moves there.
+static bool was_written(uint32_t id, uint8_t place, uint32_t content, size_t *since)
+{
+    for (size_t at = *since; at < objects[id].lengths[place]; at++) {
+        if (objects[id].history[place][at] == content) {
+            *since = at;
+            return true;
+        }
+    }
+    return false;
+}
+
+// ## The space
+
+typedef struct station {
+    disk disk;
+    host *host;
+    store store;
+    store_value *job; // a save that is under way
+    uint64_t job_ends;
+    uint64_t starts_at; // if it has no host
+    bool touched;       // something came since the last turn
+    disk copy;
+    uint64_t copy_number;
+    bool has_copy;
+} station;
+
+// A program of a node, and the request that waits for its answer.
+typedef struct part {
+    uint8_t node, number;
+    uint64_t session, last;
+    bool opened, asks; // `asks`: a request waits for its answer
+    uint64_t asked_at;
+    markring_event events[OPERATIONS];
+    uint16_t count;
+    uint32_t registers[REGISTERS];
+    uint64_t round;          // the number of the next opening
+    uint64_t reads, reading; // the last reading or waiting, and the one that waits for its answer
+} part;
+
+typedef struct packet {
+    uint64_t at;
+    uint8_t kind, from,
+        to; // kind: 0 a packet, 1 a request, 2 an answer; a program is 10 * node + number
+    size_t length;
+    uint8_t *bytes;
+} packet;
+
+static station stations[MOST];
+static part parts[MOST][PARTS];
+static uint8_t nodes;
+static uint64_t now, limit;
+static bool is_calm; // no faults
+static packet net[NET];
+static int in_net;
+static unsigned long full, tight, readings;
+static unsigned long crashes, powers, cycles, answered, lost, requests, checkpoints, mixed,
+    failed_saves, failed_calls;
+
+static void drop_packet(int at)
+{
+    free(net[at].bytes);
+    net[at] = net[--in_net];
+}
+
+static void put_in_net(uint8_t kind, uint8_t from, uint8_t to, const uint8_t *bytes, size_t length)
+{
+    uint32_t copies = is_calm || below(20) > 0 ? 1 : 2;
+    bool was_in_host = in_host;
+    in_host = false;
+    for (uint32_t i = 0; i < copies; i++) {
+        if (!is_calm && below(12) == 0) {
+            lost++;
+            continue;
+        }
+        if (in_net == NET) {
+            drop_packet((int)below(NET));
+        }
+        uint64_t delay = is_calm ? 1
+            : below(10) == 0     ? below(below(10) == 0 ? 20000 : 900)
+                                 : below(8);
+        packet it = {now + delay, kind, from, to, length, need(malloc(length + 1))};
+        memcpy(it.bytes, bytes, length);
+        net[in_net++] = it;
+    }
+    in_host = was_in_host;
+}
+
+static station *station_of(void *context)
+{
+    return context;
+}
+
+static void on_send(void *context, uint8_t to, const uint8_t *bytes, size_t length)
+{
+    station *at = station_of(context);
+    if (!at->disk.dead) {
+        put_in_net(0, (uint8_t)(at - stations), to, bytes, length);
+    }
+}
+
+static void on_answer(void *context, const char *reply, const uint8_t *bytes, size_t length)
+{
+    station *at = station_of(context);
+    if (!at->disk.dead && reply[0] == 'p') {
+        put_in_net(
+            2, (uint8_t)(at - stations), (uint8_t)strtoul(reply + 1, NULL, 10), bytes, length);
+    }
+}
+
+static void on_save(void *context, store_value *value)
+{
+    station *at = station_of(context);
+    at->job = value;
+    at->job_ends = now + (below(3) == 0 ? below(60) : 0);
+}
+
+static uint64_t due_after(const station *at)
+{
+    bool was = in_host;
+    (void)was;
+    return host_wait(at->host, now);
+}
+
+// A process ends, and with it perhaps its machine.
+static void stop(station *at, bool power)
+{
+    host_free(at->host);
+    at->host = NULL;
+    at->job = NULL;
+    if (!at->disk.dead) {
+        store_close(&at->store);
+    }
+    if (power) {
+        disk_power_off(&at->disk);
+        powers++;
+    } else {
+        disk_kill(&at->disk);
+    }
+    at->starts_at = now + (is_calm ? 0 : below(below(4) == 0 ? 4000 : 100));
+    crashes++;
+}
+
+static void arm(station *at)
+{
+    bool wild = !is_calm && below(40) == 0;
+    at->disk.failing = wild ? 1 + below(200) : 0;
+    at->disk.without_memory = !is_calm && below(60) == 0;
+    at->disk.dies_in = !is_calm && below(400) == 0 ? 1 + below(6) : 0;
+    refuse_in = !is_calm && below(60) == 0 ? 1 + below(12) : 0;
+    in_host = true;
+}
+
+// What a call of a host left: it may have ended, or its process died in the call.
+static void disarm(station *at)
+{
+    in_host = false;
+    refuse_in = 0;
+    at->disk.failing = 0;
+    at->disk.without_memory = false;
+    if (at->disk.dead) {
+        stop(at, below(2) == 0);
+    } else {
+        at->disk.dies_in = 0;
+    }
+}
+
+// The node whose folder is an older copy, and whether its process has ended for that.
+static int mixed_node = -1;
+static bool mixed_found;
+
+static void expect_end(station *at)
+{
+    if (at->host == NULL || host_ended(at->host) == HOST_RUNS) {
+        return;
+    }
+    if (at - stations == mixed_node && host_ended(at->host) == HOST_OLDER) {
+        mixed_found = true;
+        return;
+    }
+    if (!HOLDS(host_ended(at->host) == HOST_UNSURE || host_ended(at->host) == HOST_LEFT)) {
+        printf("node %d: %s\n", (int)(at - stations), host_reason(at->host));
+    }
+    stop(at, false);
+}
+
+static host_options options;
+
+static int start(station *at)
+{
+    store_value value = {NULL, 0, 0};
+    store_calls calls = disk_calls(&at->disk);
+    host_calls events = {at, on_send, on_answer, on_save};
+    arm(at);
+    store_status status = store_open(&at->store, &calls, "folder", &value);
+    int opened = MARKRING_MEMORY;
+    if (status == STORE_OK) {
+        opened =
+            host_open(&at->host, &value, at->store.number, random_nonce(), &options, &events, now);
+        HOLDS(opened == MARKRING_OK || opened == MARKRING_MEMORY);
+    } else if (!at->disk.dead) {
+        HOLDS(status == STORE_MEMORY || status == STORE_FAILED || status == STORE_UNKNOWN);
+    }
+    free(value.buffer);
+    if (status == STORE_OK && opened != MARKRING_OK) {
+        store_close(&at->store);
+    }
+    at->starts_at = now + 50;
+    at->touched = true;
+    disarm(at);
+    return opened;
+}
+
+static void finish_save(station *at)
+{
+    store_value *job = at->job;
+    at->job = NULL;
+    arm(at);
+    store_status status = store_save(&at->store, job);
+    failed_saves += status != STORE_OK;
+    if (!at->disk.dead) {
+        host_saved(at->host, now, status, at->store.number);
+    }
+    at->touched = true;
+    disarm(at);
+    expect_end(at);
+}
+
+static void take_turn(station *at)
+{
+    if (at->host == NULL) {
+        if (now >= at->starts_at) {
+            (void)start(at);
+        }
+        return;
+    }
+    if (at->job != NULL && now >= at->job_ends) {
+        finish_save(at);
+    }
+    if (at->host == NULL || (!at->touched && due_after(at) > 0)) {
+        return;
+    }
+    at->touched = false;
+    arm(at);
+    host_turn(at->host, now);
+    disarm(at);
+    expect_end(at);
+    if (at->host != NULL && at->job != NULL && now >= at->job_ends) {
+        finish_save(at);
+    }
+}
+
+// ## Requests
+
+static void send_request(part *it, uint8_t kind, uint64_t number)
+{
+    uint8_t bytes[REQUEST_BYTES];
+    writer to = writer_of(bytes, sizeof bytes);
+    uint16_t count = kind == REQUEST_PERFORM ? it->count : 0;
+    request_head head = {kind, it->number, it->session, number, count};
+    write_request_head(&to, &head);
+    for (uint16_t i = 0; i < count; i++) {
+        write_event(&to, &it->events[i]);
+    }
+    it->asked_at = now;
+    put_in_net(1, (uint8_t)(10 * it->node + it->number), it->node, bytes, to.length);
+}
+
+// Asks what all registers hold, or waits for a letter.
+static void read_something(part *it)
+{
+    uint8_t bytes[REQUEST_HEAD + 2 * REGISTERS];
+    writer to = writer_of(bytes, sizeof bytes);
+    bool waits = below(3) == 0;
+    request_head head = {waits ? REQUEST_WAIT : REQUEST_READ, it->number, it->session, ++it->reads,
+        waits ? 0 : REGISTERS};
+    write_request_head(&to, &head);
+    for (uint16_t reg = 0; reg < head.count; reg++) {
+        write_number(&to, reg, 2);
+    }
+    it->reading = it->reads;
+    it->asked_at = now;
+    put_in_net(1, (uint8_t)(10 * it->node + it->number), it->node, bytes, to.length);
+}
+
+static void ask(part *it)
+{
+    send_request(
+        it, it->opened ? REQUEST_PERFORM : REQUEST_OPEN, it->opened ? it->last + 1 : it->round);
+}
+
+static void add_event(part *it, markring_event event)
+{
+    it->events[it->count++] = event;
+}
+
+static uint16_t random_register(const part *it)
+{
+    return (uint16_t)(it->number == 0 ? below(5) : 5 + below(REGISTERS - 5));
+}
+
+static void plan_gives(part *it, uint16_t reg)
+{
+    uint8_t to = (uint8_t)below(nodes - 1u);
+    uint32_t count = below(4) == 0 ? 1 + below(OPERATIONS - 1) : 1 + below(3);
+    to = (uint8_t)(to + (to >= it->node));
+    for (uint32_t i = 0; i < count; i++) {
+        letter given = {it->node, to, false, false, false, it->registers[reg], 0, 0, 0};
+        markring_event event = {.kind = MARKRING_EVENT_GIVE, .node = to, .reg = reg};
+        event.label = new_letter(given);
+        add_event(it, event);
+    }
+}
+
+static void plan_far(part *it, uint16_t reg, uint16_t value)
+{
+    uint32_t id = it->registers[reg];
+    uint8_t place = (uint8_t)(LOCAL_PLACES + below(PLACES - LOCAL_PLACES));
+    if ((objects[id].owner + 1) % nodes == it->node && below(2) == 0) {
+        markring_event event = {
+            .kind = MARKRING_EVENT_PUT, .object = reg, .place = place, .reg = value};
+        remember(id, place, it->registers[value]);
+        add_event(it, event);
+        return;
+    }
+    place = (uint8_t)below(PLACES);
+    letter got = {objects[id].owner, it->node, true, false, false, 0, id, place, 0};
+    markring_event event = {.kind = MARKRING_EVENT_GET, .object = reg, .place = place};
+    event.label = new_letter(got);
+    add_event(it, event);
+}
+
+static void plan_near(part *it, uint16_t reg, uint16_t value)
+{
+    uint8_t place = (uint8_t)below(LOCAL_PLACES);
+    uint32_t id = it->registers[reg];
+    markring_event event = {.object = reg, .reg = value, .place = place};
+    switch (below(4)) {
+    case 0:
+        event.kind = MARKRING_EVENT_LOAD;
+        event.place = (uint8_t)below(PLACES);
+        break;
+    case 1:
+        event.kind = MARKRING_EVENT_STORE;
+        if (it->registers[value] != 0) {
+            remember(id, place, it->registers[value]);
+        }
+        break;
+    case 2:
+        event.kind = MARKRING_EVENT_CLEAR;
+        remember(id, place, 0);
+        break;
+    default: event.kind = MARKRING_EVENT_WORD;
+    }
+    add_event(it, event);
+}
+
+static void plan_new(part *it, uint16_t reg)
+{
+    markring_event make = {.kind = MARKRING_EVENT_ALLOC, .reg = reg, .place = PLACES};
+    markring_event name = {.kind = MARKRING_EVENT_SET_WORD, .object = reg};
+    // The word is a number that no other object has: that of the request.
+    name.word = ((uint64_t)it->node << 56) | ((uint64_t)it->number << 48) | (it->last + 1);
+    add_event(it, make);
+    add_event(it, name);
+}
+
+// Thinks of the next request.
+static void plan(part *it)
+{
+    uint16_t reg = random_register(it), other = random_register(it);
+    uint32_t id = it->registers[reg], kind = below(100);
+    it->count = 0;
+    if (kind < 20) {
+        plan_new(it, reg);
+    } else if (kind < 30) {
+        add_event(it, (markring_event){.kind = MARKRING_EVENT_COPY, .reg = reg, .source = other});
+    } else if (kind < 45) {
+        add_event(it, (markring_event){.kind = MARKRING_EVENT_DROP, .reg = reg});
+    } else if (it->number == 0 && kind < (options.image_most > 0 ? 46 : 60)) {
+        add_event(it, (markring_event){.kind = MARKRING_EVENT_ACCEPT, .reg = reg});
+    } else if (it->number == 0 && kind < 75) {
+        plan_gives(it, reg);
+    } else if (id != 0 && objects[id].owner != it->node) {
+        plan_far(it, reg, other);
+    } else if (id != 0) {
+        plan_near(it, reg, other);
+    } else {
+        add_event(it, (markring_event){.kind = MARKRING_EVENT_LOAD, .object = reg, .reg = other});
+    }
+    it->asks = true;
+    requests++;
+}
+
+// ## Answers
+
+static void check_letter(part *it, const markring_event *event, const markring_answer *answer)
+{
+    if (!HOLDS(answer->label < letter_count)) {
+        return;
+    }
+    letter *came = &letters[answer->label];
+    uint32_t id = object_named(answer->reference);
+    HOLDS(came->to == it->node && came->from == answer->node && !came->accepted);
+    came->accepted = true;
+    if (came->is_get) {
+        HOLDS(was_written(came->about, came->place, id, &came->since));
+    } else {
+        // Letters of a link come in order.
+        HOLDS(id == came->content && last_label[came->from][came->to] < answer->label + 1);
+        last_label[came->from][came->to] = answer->label + 1;
+    }
+    it->registers[event->reg] = id;
+}
+
+static void check_load(part *it, const markring_event *event, const markring_answer *answer)
+{
+    uint32_t id = it->registers[event->object], found = object_named(answer->reference);
+    object *from = &objects[id];
+    if (event->place < LOCAL_PLACES) {
+        HOLDS(found == from->content[event->place]);
+    } else {
+        HOLDS(was_written(id, event->place, found, &from->seen[event->place]));
+    }
+    it->registers[event->reg] = found;
+}
+
+static uint64_t words[1 << 20];
+
+static void check_done(part *it, const markring_event *event, const markring_answer *answer)
+{
+    uint32_t id = it->registers[event->object];
+    switch (event->kind) {
+    case MARKRING_EVENT_ALLOC:
+        HOLDS(answer->reference.node == it->node);
+        it->registers[event->reg] = new_object(it->node, answer->reference);
+        break;
+    case MARKRING_EVENT_SET_WORD: words[id % (1 << 20)] = event->word; break;
+    case MARKRING_EVENT_WORD: HOLDS(answer->number == words[id % (1 << 20)]); break;
+    case MARKRING_EVENT_COPY: it->registers[event->reg] = it->registers[event->source]; break;
+    case MARKRING_EVENT_DROP: it->registers[event->reg] = 0; break;
+    case MARKRING_EVENT_LOAD: check_load(it, event, answer); break;
+    case MARKRING_EVENT_STORE: objects[id].content[event->place] = it->registers[event->reg]; break;
+    case MARKRING_EVENT_CLEAR: objects[id].content[event->place] = 0; break;
+    case MARKRING_EVENT_PUT: objects[id].content[event->place] = it->registers[event->reg]; break;
+    case MARKRING_EVENT_ACCEPT: check_letter(it, event, answer); break;
+    default: letters[event->label].given = true;
+    }
+}
+
+// Whether the model says that an event is refused like this.
+static bool is_right_refusal(const part *it, const markring_event *event, int status)
+{
+    bool is_tight = options.image_most > 0;
+    if (is_tight && status == MARKRING_IMAGE_TOO_LARGE && event->kind != MARKRING_EVENT_ACCEPT
+        && event->kind != MARKRING_EVENT_DROP) {
+        tight++;
+        return true;
+    }
+    uint32_t held = it->registers[event->reg], id = it->registers[event->object];
+    bool far_event = event->kind == MARKRING_EVENT_PUT || event->kind == MARKRING_EVENT_GET;
+    switch (event->kind) {
+    case MARKRING_EVENT_ALLOC: return status == MARKRING_ARENA_FULL;
+    case MARKRING_EVENT_COPY:
+        return status == MARKRING_EMPTY_REGISTER && it->registers[event->source] == 0;
+    case MARKRING_EVENT_DROP: return status == MARKRING_EMPTY_REGISTER && held == 0;
+    case MARKRING_EVENT_ACCEPT: return status == MARKRING_NO_LETTER;
+    case MARKRING_EVENT_GIVE: return status == MARKRING_CONGESTED && limit > 0;
+    case MARKRING_EVENT_STORE: return status == MARKRING_EMPTY_REGISTER && held == 0;
+    default:
+        return (status == MARKRING_EMPTY_REGISTER && id == 0)
+            || (status == MARKRING_CONGESTED && limit > 0 && far_event);
+    }
+}
+
+static void check_results(part *it, reader *from, uint16_t count)
+{
+    bool stopped = false;
+    HOLDS(count == it->count);
+    for (uint16_t i = 0; i < count && failures == 0; i++) {
+        markring_result found;
+        read_result(from, &found);
+        if (stopped) {
+            HOLDS(found.status == MARKRING_NOT_DONE);
+        } else if (found.status == MARKRING_OK) {
+            check_done(it, &it->events[i], &found.answer);
+        } else {
+            stopped = true;
+            HOLDS(found.status == MARKRING_MEMORY
+                || is_right_refusal(it, &it->events[i], found.status));
+        }
+    }
+    HOLDS(from->ok && from->left == 0);
+    it->asks = false;
+    it->last++;
+    answered++;
+}
+
+// No request is under way, so the registers are as the model says.
+static void check_reading(part *it, const answer_head *head, reader *from)
+{
+    for (uint16_t reg = 0; reg < head->count; reg++) {
+        markring_result found;
+        read_result(from, &found);
+        if (head->kind == REQUEST_WAIT) {
+            HOLDS(found.status == MARKRING_OK && found.answer.number > 0);
+        } else if ((reg >= 5) == it->number) {
+            uint32_t id = it->registers[reg];
+            HOLDS(found.status == (id == 0 ? MARKRING_NOTHING : MARKRING_OK)
+                && same(found.answer.reference, name_of(id)));
+        }
+    }
+    HOLDS(
+        from->ok && from->left == 0 && head->count == (head->kind == REQUEST_WAIT ? 1 : REGISTERS));
+    it->reading = 0;
+    readings++;
+}
+
+static void take_answer(part *it, const packet *came)
+{
+    answer_head head;
+    reader from = reader_of(came->bytes, came->length);
+    if (!HOLDS(read_answer_head(&from, &head)) || head.session != it->session) {
+        return;
+    }
+    HOLDS(head.own == it->node && head.nodes == nodes && head.registers == REGISTERS
+        && head.slots == SLOTS && head.program == it->number);
+    if (head.kind == REQUEST_OPEN) {
+        if (!it->opened && head.verdict == VERDICT_STALE && head.round >= it->round) {
+            it->round = head.round + 1;
+            ask(it);
+        }
+        if (it->opened || head.verdict != VERDICT_DONE) {
+            return;
+        }
+        it->opened = true;
+        HOLDS(head.last == it->last || (it->asks && head.last == it->last + 1));
+        if (head.last == it->last + 1) {
+            check_results(it, &from, head.count);
+        } else if (below(2) == 0) {
+            // It wasn't done. The program thinks of something else.
+            it->asks = false;
+        }
+    } else if (head.kind == REQUEST_READ || head.kind == REQUEST_WAIT) {
+        if (it->opened && head.number == it->reading) {
+            check_reading(it, &head, &from);
+        }
+    } else if (it->opened && it->asks && head.number == it->last + 1) {
+        if (HOLDS(head.verdict == VERDICT_DONE)) {
+            check_results(it, &from, head.count);
+        }
+    }
+}
+
+static uint64_t letters_at(uint8_t node)
+{
+    markring_state state = {0};
+    HOLDS(markring_node_state(host_node(stations[node].host), &state) == MARKRING_OK);
+    return state.letters;
+}
+
+static void work(part *it)
+{
+    if (!is_calm && below(1500) == 0) {
+        // The program's process ends, and another one speaks for it.
+        it->session = random_nonce();
+        it->opened = false;
+        ask(it);
+        return;
+    }
+    if (!it->opened || it->asks) {
+        if (now >= it->asked_at + 300) {
+            ask(it);
+        }
+    } else if (it->reading > 0) {
+        it->reading = is_calm || now >= it->asked_at + 100 ? 0 : it->reading;
+    } else if (!is_calm && below(10) == 0) {
+        read_something(it);
+    } else if (!is_calm && below(3) == 0) {
+        plan(it);
+        ask(it);
+    } else if (is_calm && it->number == 0 && options.image_most > 0
+        && stations[it->node].host != NULL && letters_at(it->node) > 0) {
+        // A node with too many letters takes no messages until its program accepts some.
+        it->count = 0;
+        add_event(it, (markring_event){.kind = MARKRING_EVENT_ACCEPT, .reg = 4});
+        it->asks = true;
+        ask(it);
+    }
+}
+
+// ## The net
+
+static void deliver(const packet *it)
+{
+    char reply[HOST_REPLY];
+    if (it->kind == 2) {
+        take_answer(&parts[it->to / 10][it->to % 10], it);
+        return;
+    }
+    station *to = &stations[it->to];
+    if (to->host == NULL) {
+        return;
+    }
+    snprintf(reply, sizeof reply, "p%d", it->from);
+    arm(to);
+    if (it->kind == 0) {
+        uint64_t before = host_counted(to->host)->full;
+        host_packet(to->host, now, it->from, it->bytes, it->length);
+        full += host_counted(to->host)->full - before;
+        // A window and what was early may come beyond the limit.
+        HOLDS(options.letters_most == 0 || letters_at(it->to) <= options.letters_most + 64);
+    } else {
+        host_request(to->host, now, it->bytes, it->length, reply);
+    }
+    to->touched = true;
+    disarm(to);
+    expect_end(to);
+}
+
+static void deliver_due(void)
+{
+    int left = in_net;
+    while (left-- > 0 && in_net > 0 && failures == 0) {
+        int at = (int)below((uint32_t)in_net);
+        if (net[at].at <= now) {
+            packet it = net[at];
+            net[at] = net[--in_net];
+            deliver(&it);
+            free(it.bytes);
+        }
+    }
+}
+
+// A frame that isn't of this space, or is damaged, changes nothing.
+static void forge(void)
+{
+    station *to = &stations[below(nodes)];
+    uint8_t bytes[200];
+    size_t length = below(sizeof bytes);
+    if (to->host == NULL) {
+        return;
+    }
+    for (size_t i = 0; i < length; i++) {
+        bytes[i] = (uint8_t)below(256);
+    }
+    if (length > 14 && below(2) == 0) {
+        // A packet of another space.
+        static const uint8_t magic[4] = {0x4D, 0x52, 0x50, 0x01};
+        memcpy(bytes, magic, sizeof magic);
+        bytes[12] = (uint8_t)((to - stations + 1) % nodes);
+        bytes[13] = (uint8_t)(to - stations);
+    }
+    uint64_t before = host_counted(to->host)->foreign;
+    host_packet(to->host, now, (uint8_t)((to - stations + 1) % nodes), bytes, length);
+    HOLDS(host_counted(to->host)->foreign == before + 1);
+}
+
+static void step(void)
+{
+    now += is_calm ? 1 : below(4) == 0 ? below(20) : below(2);
+    if (!is_calm && below(3000) == 0) {
+        now += below(3600000);
+    }
+    deliver_due();
+    for (uint8_t node = 0; node < nodes && failures == 0; node++) {
+        for (uint8_t i = 0; i < PARTS; i++) {
+            work(&parts[node][i]);
+        }
+        take_turn(&stations[node]);
+        if (stations[node].host != NULL && !is_calm && below(900) == 0) {
+            stop(&stations[node], below(2) == 0);
+        }
+    }
+    if (!is_calm && below(50) == 0) {
+        forge();
+    }
+    if (stations[0].host != NULL && below(400) == 0) {
+        host_control(stations[0].host, now, "begin", 5, "c");
+        stations[0].touched = true;
+    }
+}
+
+// ## Folders that are mixed up
+
+// Whether each other node knows a save of this node that is later than the copy's.
+static bool is_known(uint8_t node, uint64_t number)
+{
+    for (uint8_t other = 0; other < nodes; other++) {
+        host *it = stations[other].host;
+        if (other != node && (it == NULL || it->peers[node].known.saves <= number)) {
+            return false;
+        }
+    }
+    return true;
+}
+
+// Until the process has ended, a program could be told what no newer folder knows.
+static void drop_requests(uint8_t node)
+{
+    for (int at = in_net; at-- > 0;) {
+        if (net[at].kind == 1 && net[at].to == node) {
+            drop_packet(at);
+        }
+    }
+}
+
+// An older copy of a node's folder takes its place. Its process has to end, and to say why.
+static void mix_up(uint8_t node)
+{
+    station *at = &stations[node];
+    disk newest;
+    memset(&newest, 0, sizeof newest);
+    if (!at->has_copy || !is_known(node, at->copy_number + 1)) {
+        return;
+    }
+    if (at->host != NULL) {
+        stop(at, false);
+    }
+    disk_copy(&newest, &at->disk);
+    disk_copy(&at->disk, &at->copy);
+    disk_kill(&at->disk);
+    is_calm = true;
+    at->starts_at = now;
+    mixed_node = node;
+    mixed_found = false;
+    for (int i = 0; i < 4000 && !mixed_found && failures == 0; i++) {
+        now++;
+        drop_requests(node);
+        deliver_due();
+        for (uint8_t other = 0; other < nodes && !mixed_found; other++) {
+            take_turn(&stations[other]);
+        }
+    }
+    HOLDS(mixed_found);
+    mixed_node = -1;
+    is_calm = false;
+    mixed++;
+    stop(at, false);
+    disk_copy(&at->disk, &newest);
+    disk_kill(&at->disk);
+    disk_free(&newest);
+    at->has_copy = false;
+}
+
+// ## Checkpoints
+
+static bool is_quiet(void)
+{
+    for (uint8_t node = 0; node < nodes; node++) {
+        uint8_t unsaved = 0;
+        host *it = stations[node].host;
+        // The host notices all changes that the library knows of.
+        HOLDS(it == NULL || it->changed || it->saving || it->kept == 0
+            || (markring_node_unsaved(&it->node, &unsaved) == MARKRING_OK && unsaved == 0));
+        if (stations[node].host == NULL || stations[node].job != NULL
+            || stations[node].host->changed || parts[node][0].asks || parts[node][1].asks
+            || !parts[node][0].opened || !parts[node][1].opened) {
+            return false;
+        }
+        for (uint8_t to = 0; to < nodes; to++) {
+            markring_link link, back;
+            if (to == node || stations[to].host == NULL) {
+                continue;
+            }
+            if (markring_node_link(host_node(stations[node].host), to, &link) != MARKRING_OK
+                || markring_node_link(host_node(stations[to].host), node, &back) != MARKRING_OK
+                || link.acknowledged != link.appended || back.received != link.appended) {
+                return false;
+            }
+        }
+    }
+    return true;
+}
+
+static bool settle(void)
+{
+    for (int i = 0; i < 30000 && failures == 0; i++) {
+        step();
+        if (in_net == 0 && is_quiet()) {
+            return true;
+        }
+    }
+    return HOLDS(!"everything comes to rest");
+}
+
+static bool ask_and_settle(part *it, markring_event event)
+{
+    it->count = 0;
+    add_event(it, event);
+    it->asks = true;
+    ask(it);
+    return settle();
+}
+
+// Programs accept all letters, and drop what is in them.
+static void accept_all(void)
+{
+    for (uint8_t node = 0; node < nodes && failures == 0; node++) {
+        part *it = &parts[node][0];
+        while (failures == 0 && letters_at(node) > 0) {
+            uint16_t reg = 4;
+            if (!ask_and_settle(it, (markring_event){.kind = MARKRING_EVENT_ACCEPT, .reg = reg})) {
+                return;
+            }
+        }
+    }
+    for (uint32_t label = 0; label < letter_count; label++) {
+        if (letters[label].given != letters[label].accepted) {
+            HOLDS(letters[label].given == letters[label].accepted);
+            return;
+        }
+    }
+}
+
+static void reach(uint32_t id, uint8_t *seen, uint32_t *counts)
+{
+    if (id == 0 || seen[id]) {
+        return;
+    }
+    seen[id] = 1;
+    counts[objects[id].owner]++;
+    for (int place = 0; place < PLACES; place++) {
+        reach(objects[id].content[place], seen, counts);
+    }
+}
+
+static uint32_t live_at(uint8_t node)
+{
+    markring_state state = {0};
+    HOLDS(stations[node].host != NULL
+        && markring_node_state(host_node(stations[node].host), &state) == MARKRING_OK);
+    return state.live;
+}
+
+static void expect_objects(void)
+{
+    uint32_t counts[MOST] = {0};
+    uint8_t *seen = need(calloc(object_count + 1, 1));
+    for (uint8_t node = 0; node < nodes; node++) {
+        for (int reg = 0; reg < REGISTERS; reg++) {
+            markring_ref held = {0, 0, 0};
+            uint32_t id = parts[node][reg >= 5].registers[reg];
+            int status =
+                markring_node_register(host_node(stations[node].host), (uint16_t)reg, &held);
+            HOLDS(status == (id == 0 ? MARKRING_NOTHING : MARKRING_OK) && same(held, name_of(id)));
+            reach(id, seen, counts);
+        }
+    }
+    free(seen);
+    bool equal = false;
+    for (int i = 0; i < 5 && !equal && failures == 0; i++) {
+        host_control(stations[0].host, now, "begin", 5, "c");
+        stations[0].touched = true;
+        cycles++;
+        // The cycle is over once all is quiet again for a while.
+        for (int quiet = 0; quiet < 3 && failures == 0; quiet++) {
+            for (int k = 0; k < 100; k++) {
+                step();
+            }
+            settle();
+        }
+        equal = true;
+        for (uint8_t node = 0; node < nodes; node++) {
+            equal = equal && live_at(node) == counts[node];
+            HOLDS(live_at(node) >= counts[node]);
+        }
+    }
+    if (!HOLDS(equal)) {
+        for (uint8_t node = 0; node < nodes; node++) {
+            printf("node %d: %u objects, %u reachable\n", node, live_at(node), counts[node]);
+        }
+    }
+}
+
+static void checkpoint(void)
+{
+    is_calm = true;
+    if (settle()) {
+        accept_all();
+    }
+    if (failures == 0) {
+        expect_objects();
+    }
+    is_calm = false;
+    checkpoints++;
+}
+
+// Everything is dropped: nothing is left.
+static void drop_all(void)
+{
+    is_calm = true;
+    for (uint8_t node = 0; node < nodes && failures == 0; node++) {
+        for (uint16_t reg = 0; reg < REGISTERS && failures == 0; reg++) {
+            part *it = &parts[node][reg >= 5];
+            if (it->registers[reg] != 0) {
+                (void)ask_and_settle(it, (markring_event){.kind = MARKRING_EVENT_DROP, .reg = reg});
+            }
+        }
+    }
+    if (failures == 0) {
+        expect_objects();
+    }
+    for (uint8_t node = 0; node < nodes && failures == 0; node++) {
+        HOLDS(live_at(node) == 0);
+    }
+}
+
+// ## A run
+
+// A node is created; until that says that it is done, it may be broken off.
+static void create(uint8_t node)
+{
+    station *at = &stations[node];
+    host_shape shape;
+    memset(&shape, 0, sizeof shape);
+    memcpy(shape.name, "sim", 4);
+    memset(shape.space, 7, sizeof shape.space);
+    shape.own = node;
+    shape.nodes = nodes;
+    shape.registers = REGISTERS;
+    shape.slots = SLOTS;
+    shape.limit = limit;
+    at->disk.seed = &seed;
+    for (bool done = false; !done && failures == 0;) {
+        store_value value = {NULL, 0, 0};
+        store_calls calls = disk_calls(&at->disk);
+        if (!HOLDS(host_create(&shape, &value) == MARKRING_OK)) {
+            return;
+        }
+        at->disk.failing = below(4) == 0 ? 200 : 0;
+        at->disk.dies_in = below(4) == 0 ? 1 + below(9) : 0;
+        store_status status = store_create(&at->store, &calls, "folder", &value);
+        free(value.buffer);
+        done = status == STORE_OK && !at->disk.dead;
+        at->disk.failing = 0;
+        if (done) {
+            store_close(&at->store);
+        }
+        if (below(2) == 0) {
+            disk_power_off(&at->disk);
+        } else {
+            disk_kill(&at->disk);
+        }
+        if (!done) {
+            // The operator removes what there is.
+            disk_free(&at->disk);
+            at->disk.has_folder = false;
+        }
+    }
+}
+
+static void open_parts(void)
+{
+    for (uint8_t node = 0; node < nodes; node++) {
+        for (uint8_t number = 0; number < PARTS; number++) {
+            part *it = &parts[node][number];
+            memset(it, 0, sizeof *it);
+            it->node = node;
+            it->number = number;
+            it->session = random_nonce();
+            it->round = 1;
+            ask(it);
+        }
+    }
+}
+
+static void forget_all(void)
+{
+    for (uint8_t node = 0; node < nodes; node++) {
+        host_free(stations[node].host);
+        disk_free(&stations[node].disk);
+        disk_free(&stations[node].copy);
+    }
+    while (in_net > 0) {
+        drop_packet(0);
+    }
+    for (uint32_t id = 0; id < object_count; id++) {
+        for (int place = 0; place < PLACES; place++) {
+            free(objects[id].history[place]);
+        }
+    }
+    memset(stations, 0, sizeof stations);
+    memset(last_label, 0, sizeof last_label);
+    object_count = letter_count = 0;
+}
+
+static void keep_copy(uint8_t node)
+{
+    station *at = &stations[node];
+    if (at->host != NULL && at->job == NULL && at->host->kept > 0) {
+        disk_copy(&at->copy, &at->disk);
+        at->copy_number = at->store.number;
+        at->has_copy = true;
+    }
+}
+
+static void run(unsigned long steps)
+{
+    nodes = (uint8_t)(2 + below(MOST - 1));
+    limit = below(2) == 0 ? 0 : 8 + below(60);
+    options = (host_options){0, 40, 0, 0};
+    if (below(3) == 0) {
+        options.letters_most = 5 + below(60);
+        options.image_most = 1500 + below(6000);
+    }
+    now = 1000;
+    is_calm = false;
+    (void)new_object(0, (markring_ref){0, 0, 0});
+    for (uint8_t node = 0; node < nodes; node++) {
+        create(node);
+    }
+    open_parts();
+    for (unsigned long i = 1; i <= steps && failures == 0; i++) {
+        step();
+        if (below(300) == 0) {
+            keep_copy((uint8_t)below(nodes));
+        }
+        if (below(600) == 0) {
+            mix_up((uint8_t)below(nodes));
+        }
+        if (i % (steps / CHECKPOINTS + 1) == 0 || i == steps) {
+            checkpoint();
+        }
+    }
+    if (failures == 0) {
+        drop_all();
+    }
+    for (uint8_t node = 0; node < nodes; node++) {
+        failed_calls += stations[node].disk.failed;
+    }
+    forget_all();
+}
+
+int main(int count, char **given)
+{
+    unsigned long seeds = count > 1 ? strtoul(given[1], NULL, 10) : 40;
+    unsigned long first = count > 2 ? strtoul(given[2], NULL, 10) : 1;
+    unsigned long steps = count > 3 ? strtoul(given[3], NULL, 10) : 4000;
+    for (run_seed = first; run_seed < first + seeds && failures == 0; run_seed++) {
+        seed = run_seed * UINT64_C(0x9E3779B97F4A7C15) | 1;
+        run(steps);
+    }
+    printf("%lu seeds: %lu requests, %lu answers, %lu crashes, %lu of them with the machine, %lu "
+           "failed saves, %lu failed calls, %lu refused allocations, %lu packets lost, %lu cycles "
+           "asked for, %lu checkpoints, %lu folders mixed up, %lu frames not taken, %lu events "
+           "refused by full nodes, %lu readings\n",
+        run_seed - first, requests, answered, crashes, powers, failed_saves, failed_calls, refused,
+        lost, cycles, checkpoints, mixed, full, tight, readings);
+    bool all = failures == 0
+        && (seeds < 40
+            || (crashes && powers && failed_saves && refused && mixed && lost && full && tight
+                && readings));
+    printf("%lu passed, %d failed\n", run_seed - first - (failures != 0), !all);
+    free(objects);
+    free(letters);
+    return all ? 0 : 1;
+}
