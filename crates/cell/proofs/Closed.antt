@@ -1,12 +1,15 @@
 -- What a closed space left on its disks is the world in which the next one begins.
-use Rattle.std.proofs.Common.{◌≡◌, ◌≤◌, ℕ, List, Some, length, sym, ap, ◌∙◌, subst, ⊎_elim, slice_get, arith, le_trans}
+use Rattle.std.proofs.Common.{◌≡◌, ◌≤◌, ◌<◌, ℕ, All, List, Some, length, map, refl, sym, ap, ◌∙◌, subst, ⊎_elim, slice_get, arith, le_trans}
 use Rattle.std.proofs.Math.Logic.{∥∥₁_elim}
 use Rattle.std.proofs.Props.{props}
-use Rattle.std.proofs.lemmas.Option.{slice_get_within}
+use Rattle.std.proofs.lemmas.Bool.{cases_lt}
+use Rattle.std.proofs.lemmas.List.{length-map}
+use Rattle.std.proofs.lemmas.List.Elements.{All-get_or}
+use Rattle.std.proofs.lemmas.Option.{get_or_from_slice_get, slice_get_within}
 use Rattle.ids.specs.Limits.{Shaped}
-use Rattle.model.specs.State.{NodeState, node_at}
-use Rattle.model.specs.View.{NodeView, link_to}
-use Rattle.model.specs.World.{World, acknowledged, new_world, run}
+use Rattle.model.specs.State.{NodeState, got_from, node_at, sent_to}
+use Rattle.model.specs.View.{NodeView, Shows, link_to}
+use Rattle.model.specs.World.{World, acknowledged, new_world, release_count, run}
 use Rattle.laws.proofs.Cuts.{run-keeps-sent}
 use Rattle.laws.proofs.KeepsSent.{new-keeps-sent, run-count}
 use Rattle.laws.proofs.Net.{heard-onward}
@@ -16,18 +19,21 @@ use Rattle.node.specs.Keeping.{WholeNode}
 use Rattle.wire.specs.Readers.{known, seat_node}
 use Rattle.wire.specs.Rule.{nodes_of}
 use Rattle.wire.specs.Views.{Pair}
-use Rattle.cell.specs.Cells.{CellView}
-use Rattle.cell.specs.Ages.{AreOfOneAge}
-use Rattle.cell.specs.Closing.{AreClosed, AreOfOneMoment, BeganHeld, ClosedIsLeft, ClosedIsReached, IsLast}
+use Rattle.cell.specs.Ages.{AreApart, AreOfOneAge, AreRead, IfAges}
+use Rattle.cell.specs.Cells.{CellView, IsNew}
+use Rattle.cell.specs.Closing.{AreClosed, AreOfOneMoment, ClosedIsLeft, ClosedIsReached, HasBegun, HaveBegun, IsLast}
 use Rattle.cell.specs.Desks.{IsSavedNode}
 use Rattle.cell.specs.Laws.{restarted, IsLeft}
 use Rattle.cell.specs.Moments.{EachCell}
-use Rattle.cell.specs.Opened.{AreBeside, IsReadFrom}
+use Rattle.cell.specs.Opened.{AreBeside, IsReadFrom, cores, state_of, world_of}
 use Rattle.cell.specs.Reached.{AreHeld, BeginReached, IsReached}
 use Rattle.cell.specs.Theorems.{AreLeft}
+use Rattle.cell.specs.declared.fault.Unopened.{Unopened}
+use Rattle.cell.specs.declared.fault.Unopened.TheVariants.{Ages, Disks, Refused}
 use Rattle.cell.proofs.AlikeRuns.{heard-like}
+use Rattle.cell.proofs.Applied.{node-count}
 use Rattle.cell.proofs.Left.{left-node, left-opened, restarted-reached}
-use Rattle.cell.proofs.OneAge.{reopened-is-reached}
+use Rattle.cell.proofs.OneAge.{at-place, begin-of-one-age, none-sent-past}
 use Rattle.cell.proofs.Places.{mapped-there, some_at}
 use Rattle.cell.proofs.Reaches.{end_of, heard-end, stays-reached, world-of-reached}
 use Rattle.cell.proofs.Together.{pair-there}
@@ -107,54 +113,157 @@ module _ {D : Type 0} (may_leave : D → Areas → Type 0) (shape : Shaped) (ope
       (subst (λ (o : World). f.1 ≤ acknowledged (run o h.once.log) (known c.seat).me to)
       last.of.began net.3))))
 
-  pub are-held : BeganHeld opening cells → AreHeld nodes (restarted (run opening h.once.log))
+  -- the first node of the cell, by the number of the cell
+  first-held : (k to : ℕ) (c : CellView D) → slice_get cells k ≡ Some c → HasBegun c
+      → to < nodes_of opening → (link_to c.first to).base ≤ acknowledged opening k to
+  first-held k to c there begun inside =
+      let last = h.each k c there in
+      subst (λ (i : ℕ). (link_to c.first to).base ≤ acknowledged opening i to) last.number
+      (subst
+      (λ (o : World). (link_to c.first to).base ≤ acknowledged o (seat_node c.seat) to)
+      last.of.began
+      (begun to (subst (λ (o : World). to < nodes_of o) (sym last.of.began) inside)))
+
+  -- no message was dropped that was for a node that isn't there
+  none-held : (k to : ℕ) (c : CellView D) (s : NodeState) → k < shape.nodes → shape.nodes ≤ to
+      → s ≡ node_at (run opening h.once.log).saved k → Shows c.saved s
+      → (link_to c.saved to).base ≤ 0
+  none-held k to c s inside past is shows =
+      let w : World = run opening h.once.log in
+      let r = stays-reached opening h.once.log h.reached in
+      let count = node-count w r in
+      let wide : length w.current ≡ shape.nodes = run-count opening h.once.log ∙ h.width in
+      let none = none-sent-past w k to r (omega (arith, count, wide, inside))
+      (omega (arith, count, wide, past)) in
+      let within = (shows.links to).within in
+      let same : length (sent_to s to) ≡ release_count w k to =
+      ap (λ (t : NodeState). length (sent_to t to)) is in
+      omega (arith, within, same, none)
+
+  still-held : (k to : ℕ) (c : CellView D) (n : NodeView) → slice_get cells k ≡ Some c
+      → HasBegun c → k < shape.nodes → Shows c.saved (node_at (run opening h.once.log).saved k)
+      → (link_to c.saved to).base ≤ acknowledged (run opening h.once.log) k to
+  still-held k to c n there begun inside shows =
+      ⊎_elim
+      (λ below. was-held k to c there (first-held k to c there begun below))
+      (λ past.
+      let none = none-held k to c (node_at (run opening h.once.log).saved k) inside
+      (let width = h.width in omega (arith, width, past)) refl shows in
+      omega (arith, none))
+      (cases_lt to (nodes_of opening))
+
+  pub are-held : HaveBegun cells → AreHeld nodes (restarted (run opening h.once.log))
   unfolding cell-left
-  are-held began k to n there =
+  are-held begun k to n there =
       let c = cell-of k n there in
       let read = h.read k c.0 n c.1 there in
+      let left = cell-left k c.0 read.0 c.1 read.1 in
       let is : n.core ≡ c.0.saved =
-      left-node shape k shape.nodes (node_at (run opening h.once.log).saved k) read.0 n
-      (cell-left k c.0 read.0 c.1 read.1) read.2 in
+      left-node shape k shape.nodes (node_at (run opening h.once.log).saved k) read.0 n left
+      read.2 in
       subst (λ (m : NodeView). (link_to m to).base ≤ acknowledged (run opening h.once.log) k to)
-      (sym is) (was-held k to c.0 c.1 (began k c.0 c.1 to))
+      (sym is)
+      (still-held k to c.0 c.0.saved c.1 (begun k c.0 c.1)
+      (let inside = slice_get_within nodes k n there in
+      let found = h.found in omega (arith, inside, found))
+      left.saved.shows)
 
 pub closed-is-left : {D : Type 0} (may_leave : D → Areas → Type 0) → ClosedIsLeft may_leave
 closed-is-left may_leave shape opening cells nodes h =
     are-left may_leave shape opening cells nodes h
 
 pub closed-is-reached : {D : Type 0} (may_leave : D → Areas → Type 0) → ClosedIsReached may_leave
-closed-is-reached may_leave shape opening cells nodes h began =
+closed-is-reached may_leave shape opening cells nodes h begun =
     let left = are-left may_leave shape opening cells nodes h in
     let w : World = run opening h.once.log in
     world-of-reached shape (restarted w) nodes (restarted-reached w left.reached)
     (left-opened shape w nodes left.width left.count left.each)
-    (are-held may_leave shape opening cells nodes h began)
+    (are-held may_leave shape opening cells nodes h begun)
 
--- The nodes that an opening has found on such disks, and tested, begin in a world that a run
--- reaches.
-pub opened-again : {D : Type 0} (seen : D → Areas) (may_leave : D → Areas → Type 0)
+-- ---- Nodes that are read from such disks
+
+module _ {D : Type 0} (seen : D → Areas) (may_leave : D → Areas → Type 0)
+    (left : (d : D) → may_leave d (seen d)) (shape : Shaped) (opening : World) (disks : List D)
+    (nodes : List WholeNode) (reached : IsReached opening)
+    (width : nodes_of opening ≡ shape.nodes) (once : AreOfOneMoment may_leave opening disks)
+    (count : length nodes ≡ shape.nodes)
+    (read : AreBeside (λ k d n. IsReadFrom shape k (seen d) n) disks nodes) where
+  closed-again : AreClosed may_leave shape opening once.cells nodes
+  closed-again = record {
+    reached = reached;
+    width = width;
+    count = once.count ∙ width;
+    found = count;
+    each = subst (λ (n : ℕ). EachCell (IsLast may_leave opening n) once.cells) width once.each;
+    once = once.once;
+    read = λ k c n there found. (
+      seen c.disk,
+      left c.disk,
+      read k c.disk n
+          (ap (λ (l : List D). slice_get l k) (sym once.same)
+          ∙ mapped-there (λ (x : CellView D). x.disk) once.cells k c there)
+          found,
+    );
+  }
+
+  -- a run reaches the world in which they begin
+  pub opened-again : BeginReached nodes
+  opened-again =
+      closed-is-reached may_leave shape opening once.cells nodes closed-again once.begun
+
+-- they are of one age, so an opening never refuses them because of their ages
+pub never-apart : {D : Type 0} (seen : D → Areas) (may_leave : D → Areas → Type 0)
     → ((d : D) → may_leave d (seen d)) → (shape : Shaped) (opening : World) (disks : List D)
-    (nodes : List WholeNode) → IsReached opening → nodes_of opening ≡ shape.nodes
-    → AreOfOneMoment may_leave opening disks → length nodes ≡ shape.nodes
-    → AreBeside (λ k d n. IsReadFrom shape k (seen d) n) disks nodes → AreOfOneAge nodes
-    → BeginReached nodes
-opened-again {D = D} seen may_leave left shape opening disks nodes reached width once count read ages =
-    reopened-is-reached shape (run opening once.once.log) nodes
-    (are-left may_leave shape opening once.cells nodes
-    (record {
-      reached = reached;
-      width = width;
-      count = once.count ∙ width;
-      found = count;
-      each = subst (λ (n : ℕ). EachCell (IsLast may_leave opening n) once.cells) width once.each;
-      once = once.once;
-      read = λ k c n there found. (
-        seen c.disk,
-        left c.disk,
-        read k c.disk n
-            (ap (λ (l : List D). slice_get l k) (sym once.same)
-            ∙ mapped-there (λ (x : CellView D). x.disk) once.cells k c there)
-            found,
-      );
-    }))
-    ages
+    → IsReached opening → nodes_of opening ≡ shape.nodes
+    → AreOfOneMoment may_leave opening disks → (sender receiver : ℕ)
+    → AreRead seen shape disks (λ ns. AreApart ns sender receiver) → ⊥
+never-apart seen may_leave left shape opening disks reached width once sender receiver h =
+    let many : length disks ≡ shape.nodes =
+    ap length (sym once.same) ∙ length-map once.cells (λ c. c.disk) ∙ once.count ∙ width in
+    let begins = opened-again seen may_leave left shape opening disks h.nodes reached width once
+    (h.count ∙ many) h.read in
+    let ages = begin-of-one-age h.nodes begins in
+    h.are.apart
+    (ages.each sender receiver h.are.sender h.are.receiver h.are.first h.are.second)
+
+pub never-ages : {D : Type 0} (seen : D → Areas) (may_leave : D → Areas → Type 0)
+    → ((d : D) → may_leave d (seen d)) → (shape : Shaped) (opening : World) (disks : List D)
+    → IsReached opening → nodes_of opening ≡ shape.nodes
+    → AreOfOneMoment may_leave opening disks → (e : Unopened)
+    → IfAges (λ sender receiver. AreRead seen shape disks (λ ns. AreApart ns sender receiver)) e
+    → IfAges (λ sender receiver. ⊥) e
+never-ages seen may_leave left shape opening disks reached width once Disks h = tt
+never-ages seen may_leave left shape opening disks reached width once (Ages i j) h =
+    never-apart seen may_leave left shape opening disks reached width once i j h
+never-ages seen may_leave left shape opening disks reached width once (Refused r) h = tt
+
+-- ---- Cells that were just opened
+
+-- new cells on a wire of the world of their nodes, which were tested
+pub new-begun : {D : Type 0} (cells : List (CellView D)) → All IsNew cells
+    → AreOfOneAge (map (λ c. c.node) cells)
+    → EachCell (λ k c. ((known c.seat).opening ≡ world_of (cores (map (λ x. x.node) cells)))
+    × (seat_node c.seat ≡ k)) cells
+    → HaveBegun cells
+new-begun cells new ages at k c there to inside =
+    let nodes = map (λ x. x.node) cells in
+    let w : World = world_of (cores nodes) in
+    let is = at k c there in
+    let here = mapped-there (λ x. x.node) cells k c there in
+    let wide : nodes_of w ≡ length nodes =
+    length-map (cores nodes) state_of ∙ length-map nodes (λ m. m.core) in
+    let below : to < length nodes =
+    (let still : to < nodes_of w = subst (λ (o : World). to < nodes_of o) is.0 inside in
+    omega (arith, still, wide)) in
+    let m = some_at nodes to below in
+    let kept = (ages.each k to c.node m.0 here m.1).kept in
+    let got : acknowledged w k to ≡ got_from m.0.core.local k =
+    ap (λ (s : NodeState). got_from s.local k) (at-place nodes to m.0 m.1) in
+    let first : c.first ≡ c.node.core =
+    ap (λ (v : CellView _). v.first) (subst IsNew (get_or_from_slice_get cells k c c there)
+    (All-get_or IsNew cells k c (slice_get_within cells k c there) new)) in
+    subst (λ (o : World). (link_to c.first to).base ≤ acknowledged o (seat_node c.seat) to)
+    (sym is.0)
+    (subst (λ (i : ℕ). (link_to c.first to).base ≤ acknowledged w i to) (sym is.1)
+    (subst (λ (v : NodeView). (link_to v to).base ≤ acknowledged w k to) (sym first)
+    (omega (arith, kept, got))))

@@ -18,6 +18,7 @@ pub mod Surveying
 pub mod Places
 pub mod OnShelves
 pub mod Causes
+pub mod Looking
 pub mod Ready
 pub mod Blank
 pub mod Left

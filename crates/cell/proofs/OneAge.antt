@@ -33,7 +33,7 @@ acked-sent w from to r =
     omega (arith, acks, sent, fewer)
 
 -- no message was ever sent to a node that isn't there
-none-sent-past : (w : World) (k to : ℕ) (r : IsReached w) → k < r.shape.nodes
+pub none-sent-past : (w : World) (k to : ℕ) (r : IsReached w) → k < r.shape.nodes
     → r.shape.nodes ≤ to → release_count w k to ≡ 0
 none-sent-past w k to r inside past =
     let end : World = end_of r in
@@ -42,7 +42,7 @@ none-sent-past w k to r inside past =
     ∙ ap length (get_or_past (node_at end.saved k).sent to [] (omega (arith, width, past)))
 
 -- a node's state in the world of these nodes
-at-place : (nodes : List WholeNode) (k : ℕ) (n : WholeNode) → slice_get nodes k ≡ Some n
+pub at-place : (nodes : List WholeNode) (k : ℕ) (n : WholeNode) → slice_get nodes k ≡ Some n
     → node_at (world_of (cores nodes)).saved k ≡ state_of n.core
 at-place nodes k n there =
     state-at (cores nodes) k n.core (mapped-there (λ m. m.core) nodes k n there)

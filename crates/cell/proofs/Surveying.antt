@@ -21,12 +21,12 @@ use Rattle.cell.proofs.Seats.{same-again, still-of}
 
 -- ---- One cell after another
 
-same-there : {A : Type 0} (xs : List A) (k : ℕ) (x y : A) → slice_get xs k ≡ Some x
+pub same-there : {A : Type 0} (xs : List A) (k : ℕ) (x y : A) → slice_get xs k ≡ Some x
     → slice_get xs k ≡ Some y → x ≡ y
 same-there {A = A} xs k x y first second =
     let both : ◌≡◌ {A = Option A} (Some x) (Some y) = sym first ∙ second in cc
 
-set-from : {A : Type 0} (xs : List A) (i k : ℕ) (y x : A) → slice_get (set xs i y) k ≡ Some x
+pub set-from : {A : Type 0} (xs : List A) (i k : ℕ) (y x : A) → slice_get (set xs i y) k ≡ Some x
     → ((k ≡ i) × (y ≡ x)) ⊎ ((k ≢ i) × (slice_get xs k ≡ Some x))
 set-from [] i k y x e = absurd cc
 set-from (a ∷ xs) zero zero y x e = inl (refl, cc)

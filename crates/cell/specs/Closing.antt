@@ -60,6 +60,16 @@ pub record IsLast {D : Type 0} (may_leave : D → Areas → Type 0) (opening : W
   pub ready : IsTrue c.is_open
   pub width : c.seat.nodes ≡ nodes
 
+-- The node with which the cell was made had dropped only messages that were acknowledged when the
+-- wire was made.
+abbrev pub HasBegun : {D : Type 0} → CellView D → Type 0
+HasBegun c =
+    (to : ℕ) → to < nodes_of (known c.seat).opening
+    → (link_to c.first to).base ≤ acknowledged (known c.seat).opening (seat_node c.seat) to
+
+abbrev pub HaveBegun : {D : Type 0} → List (CellView D) → Type 0
+HaveBegun cells = EachCell (λ k c. HasBegun c) cells
+
 -- The disks of a space whose wire began in this world, in order, as its open cells left them at
 -- one moment.
 pub record AreOfOneMoment {D : Type 0} (may_leave : D → Areas → Type 0) (opening : World)
@@ -69,6 +79,7 @@ pub record AreOfOneMoment {D : Type 0} (may_leave : D → Areas → Type 0) (ope
   pub count : length cells ≡ nodes_of opening
   pub each : EachCell (IsLast may_leave opening (nodes_of opening)) cells
   pub once : AreAtOnce opening cells
+  pub begun : HaveBegun cells
 
 -- The nodes are read from what the disks of these cells have, even after a crash.
 abbrev pub AreReadAgain : {D : Type 0} → (D → Areas → Type 0) → Shaped → List (CellView D)
@@ -97,16 +108,10 @@ ClosedIsLeft {D} may_leave =
     → (closed : AreClosed may_leave shape opening cells nodes)
     → AreLeft shape (run opening closed.once.log) nodes
 
--- The node with which each cell was made had dropped only messages that were acknowledged when the
--- wire was made.
-abbrev pub BeganHeld : {D : Type 0} → World → List (CellView D) → Type 0
-BeganHeld opening cells =
-    EachCell (λ k c. (to : ℕ) → (link_to c.first to).base ≤ acknowledged opening k to) cells
-
--- If so, a run reaches the world of the nodes that are read, and each of them still has what isn't
--- acknowledged. So the same holds of the next space, and of any number of spaces one after another.
+-- If the first nodes had dropped only acknowledged messages, a run reaches the world of the nodes
+-- that are read, and each of them still has what isn't acknowledged. So the same holds of the next
+-- space, and of any number of spaces one after another.
 abbrev pub ClosedIsReached : {D : Type 0} → (D → Areas → Type 0) → Type 0
 ClosedIsReached {D} may_leave =
     (shape : Shaped) (opening : World) (cells : List (CellView D)) (nodes : List WholeNode)
-    → AreClosed may_leave shape opening cells nodes → BeganHeld opening cells
-    → BeginReached nodes
+    → AreClosed may_leave shape opening cells nodes → HaveBegun cells → BeginReached nodes

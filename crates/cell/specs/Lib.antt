@@ -12,3 +12,4 @@ pub mod Ages
 pub mod Theorems
 pub mod Closing
 pub mod Opened
+pub mod Looking

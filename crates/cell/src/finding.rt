@@ -3,22 +3,24 @@
 //!
 //! ```text
 //! the disk of node k                                  the node, or why there is none
-//! nothing was ever created on it                      a new node, which is created there first
+//! nothing was ever created on it                      a new node, which is created there
 //! it opens to node k of a space of this shape         that node as it was saved last
 //! it opens to another node, or of another shape       Disks
 //! something was created on it, and it opens to none   BadImage
 //! a call of the disk failed                           Disk
 //! ```
 //!
-//! The first failure ends the opening, and all disks are dropped. If the number of disks is wrong,
-//! the opening fails before any disk is read. Once all nodes are found, each two of them are
-//! compared: if they can't be the saved states of one moment, the opening fails with `Ages`.
+//! The first failure ends the opening. If the number of disks is wrong, the opening fails before
+//! any disk is read. All disks are read before anything is created. Each two of the nodes are
+//! compared: if they can't be the saved states of one moment, the opening fails with `Ages`. Only
+//! then are the new nodes created. So an opening that fails before that has written nothing.
 ghost use Rattle.std.specs.Prelude.{◌≡◌, ◌≢◌, ◌++◌, [], ◌∷◌, false, true, IfErr, IfOk, IsErrOf, IsTrue, OnOk};
 ghost use Rattle.std.specs.Prelude.{◌<◌, length, vec_len};
-ghost use Rattle.ids.specs.declared.refusal.Refusal.TheVariants.{Memory};
-ghost use Rattle.disk.specs.Areas.{Areas};
+ghost use Rattle.ids.specs.declared.refusal.Refusal.TheVariants.{BadImage, Memory};
+ghost use Rattle.disk.specs.Crashes.{Unmoved};
 ghost use Rattle.cell.specs.Ages.{AreApart, AreOfOneAge, AreRead, IfAges};
 ghost use Rattle.cell.specs.Disks.{OpensToNode};
+ghost use Rattle.cell.specs.Looking.{AreLookedAt, AreOn, AreUnmoved, HoldsNode, IsOfReading};
 ghost use Rattle.cell.specs.Opened.{AreBeside, AreFound, HasPlace, HoldsAnother, IfRefused};
 ghost use Rattle.cell.specs.Opened.{IsCause, IsNodeOf, IsReadFrom};
 ghost use Rattle.cell.specs.declared.fault.Unopened.TheVariants as fault;
@@ -26,38 +28,12 @@ ghost use Rattle.node.specs.Keeping.{new_whole};
 
 use crate::ages::first_apart;
 use crate::fault::Unopened;
-use disk::{Disk, Shelf, is_blank};
+use disk::{Disk, Selected, Shelf, is_blank, read_value};
 use ids::{NodeId, Refusal, Shape};
 use image::Images;
 use node::Node;
 use std::alloc::Global;
-
-// A new node, on a disk on which nothing was ever created.
-fn create_node<D: Disk + Drop>(
-    alloc: Global,
-    shape: Shape,
-    own: NodeId,
-    disk: D,
-) -> Result<(Node, Shelf<D>), Unopened>
-    requires number { own.number < shape.nodes }
-    requires blank { (c : Areas) → D.may_leave disk c → c.select ≡ [] }
-    ensures node { IfOk result (λ r. r.0 ≡ new_whole shape own.number) }
-    ensures ready { IfOk result (λ r. r.1.ready ≡ true) }
-    ensures opens { IfOk result (λ r. OpensToNode r.0 (D.seen r.1.disk)) }
-    ensures refused { IfErr result (λ e. e ≢ fault.Disks) }
-    ensures cause { IfErr result (IfRefused
-        (IsCause D.seen D.moment D.faults shape own.number disk)) }
-    ensures ages { IfErr result (IfAges (λ i j. ⊥)) }
-{
-    let node = match Node::new(alloc, shape, own) {
-        Ok(node) => node,
-        Err(refusal) => return Err(Unopened::Refused(refusal)),
-    };
-    match Shelf::create::<Images>(alloc, disk, &node) {
-        Ok(shelf) => Ok((node, shelf)),
-        Err((_disk, refusal)) => Err(Unopened::Refused(refusal)),
-    }
-}
+use std::mem;
 
 // Whether a node has this number and this shape.
 fn is_node_of(node: &Node, shape: Shape, own: NodeId) -> bool
@@ -82,90 +58,160 @@ fn keep<T: Drop>(values: &mut Vec<T>, value: T) -> Result<(), Unopened>
     }
 }
 
-// The node that a disk holds, if it has this number and this shape.
-fn read_node<D: Disk + Drop>(
+// The node that a disk holds, and the area that holds it, if the node has this number and this
+// shape.
+fn read_node<D: Disk>(
     alloc: Global,
     shape: Shape,
     own: NodeId,
-    disk: D,
-) -> Result<(Node, Shelf<D>), Unopened>
-    requires { (D.seen disk).select ≢ [] }
+    disk: &mut D,
+) -> Result<(Node, Option<Selected>), Unopened>
+    requires { (D.seen disk.old).select ≢ [] }
     ensures node { IfOk result (λ r. IsNodeOf shape own.number r.0.core) }
-    ensures ready { IfOk result (λ r. r.1.ready ≡ true) }
-    ensures opens { IfOk result (λ r. OpensToNode r.0 (D.seen r.1.disk)) }
-    ensures read { IfOk result (λ r. OpensToNode r.0 (D.seen disk)) }
-    ensures other { IsErrOf result fault.Disks → HoldsAnother shape own.number (D.seen disk) }
+    ensures holds { IfOk result (λ r. HoldsNode D.seen D.may_leave disk.new r.0 r.1) }
+    ensures read { IfOk result (λ r. OpensToNode r.0 (D.seen disk.old)) }
+    ensures quiet { Unmoved D.seen D.may_leave D.moment D.left_since disk.old disk.new }
+    ensures fine { OnOk result (D.faults disk.new ≡ D.faults disk.old) }
+    ensures other { IsErrOf result fault.Disks → HoldsAnother shape own.number (D.seen disk.old) }
     ensures cause { IfErr result (IfRefused
-        (IsCause D.seen D.moment D.faults shape own.number disk)) }
+        (IsCause D.seen D.moment D.faults shape own.number disk.old)) }
     ensures ages { IfErr result (IfAges (λ i j. ⊥)) }
 {
-    let (shelf, node) = match Shelf::open::<Images>(alloc, disk) {
+    let (selected, node) = match read_value::<D, Images>(alloc, disk) {
         Ok(found) => found,
         Err(refusal) => return Err(Unopened::Refused(refusal)),
     };
     if is_node_of(&node, shape, own) {
-        Ok((node, shelf))
+        Ok((node, Some(selected)))
     } else {
         Err(Unopened::Disks)
     }
 }
 
+// A new node. Nothing is created on its disk yet.
+fn new_node(alloc: Global, shape: Shape, own: NodeId) -> Result<(Node, Option<Selected>), Unopened>
+    requires { own.number < shape.nodes }
+    ensures node { IfOk result (λ r. r.0 ≡ new_whole shape own.number) }
+    ensures blank { IfOk result (λ r. r.1 ≡ None) }
+    ensures refused { IfErr result (λ e. e ≡ fault.Refused Memory) }
+{
+    match Node::new(alloc, shape, own) {
+        Ok(node) => Ok((node, None)),
+        Err(_) => Err(Unopened::Refused(Refusal::Memory)),
+    }
+}
+
 // The node of this number: a new one if nothing was ever created on the disk, else the one that the
-// disk holds.
-fn node_of<D: Disk + Drop>(
+// disk holds, with the area that holds it. It writes nothing.
+fn look_at<D: Disk>(
     alloc: Global,
     shape: Shape,
     own: NodeId,
-    mut disk: D,
-) -> Result<(Node, Shelf<D>), Unopened>
+    disk: &mut D,
+) -> Result<(Node, Option<Selected>), Unopened>
     requires { own.number < shape.nodes }
     ensures node { IfOk result (λ r. IsNodeOf shape own.number r.0.core) }
-    ensures ready { IfOk result (λ r. r.1.ready ≡ true) }
-    ensures opens { IfOk result (λ r. OpensToNode r.0 (D.seen r.1.disk)) }
-    ensures read { IfOk result (λ r. IsReadFrom shape own.number (D.seen disk) r.0) }
-    ensures other { IsErrOf result fault.Disks → HoldsAnother shape own.number (D.seen disk) }
+    ensures holds { IfOk result (λ r. HoldsNode D.seen D.may_leave disk.new r.0 r.1) }
+    ensures read { IfOk result (λ r. IsReadFrom shape own.number (D.seen disk.old) r.0) }
+    ensures quiet { Unmoved D.seen D.may_leave D.moment D.left_since disk.old disk.new }
+    ensures fine { OnOk result (D.faults disk.new ≡ D.faults disk.old) }
+    ensures other { IsErrOf result fault.Disks → HoldsAnother shape own.number (D.seen disk.old) }
     ensures cause { IfErr result (IfRefused
-        (IsCause D.seen D.moment D.faults shape own.number disk)) }
+        (IsCause D.seen D.moment D.faults shape own.number disk.old)) }
     ensures ages { IfErr result (IfAges (λ i j. ⊥)) }
 {
-    match is_blank(&mut disk) {
-        Ok(true) => create_node(alloc, shape, own, disk),
+    match is_blank(disk) {
+        Ok(true) => new_node(alloc, shape, own),
         Ok(false) => read_node(alloc, shape, own, disk),
         Err(_) => Err(Unopened::Refused(Refusal::Disk)),
     }
 }
 
-// The nodes of a space, in order, each on its shelf, of whatever ages.
-fn read_all<D: Disk + Drop>(
+// The nodes of a space, in order, of whatever ages, and the areas that hold them. Nothing is
+// written.
+fn look_at_all<D: Disk>(
+    alloc: Global,
+    shape: Shape,
+    disks: &mut [D],
+) -> Result<(Vec<Node>, Vec<Option<Selected>>), Unopened>
+    requires { length disks.old ≡ shape.nodes }
+    ensures untouched { AreUnmoved D.seen D.may_leave D.moment D.left_since disks.old disks.new }
+    ensures other { IsErrOf result fault.Disks →
+        HasPlace (λ k d. HoldsAnother shape k (D.seen d)) disks.old }
+    ensures cause { IfErr result (IfRefused (λ r.
+        HasPlace (λ k d. IsCause D.seen D.moment D.faults shape k d r) disks.old)) }
+    ensures ages { IfErr result (IfAges (λ i j. ⊥)) }
+    ensures found { IfOk result (λ r. AreLookedAt D.seen D.may_leave D.faults shape shape.nodes
+        disks.old disks.new r.0.items r.1.items) }
+{
+    let mut nodes = Vec::new(alloc);
+    let mut areas = Vec::new(alloc);
+    for number in 0..shape.nodes() {
+        let disk = &mut disks[usize::from(number)];
+        let (node, area) = look_at(alloc, shape, NodeId { number }, disk)?;
+        keep(&mut nodes, node)?;
+        keep(&mut areas, area)?;
+    }
+    Ok((nodes, areas))
+}
+
+// A new node's shelf, on a disk on which nothing was ever created.
+fn create<D: Disk + Drop>(alloc: Global, disk: D, node: &Node) -> Result<Shelf<D>, Refusal>
+    requires { HoldsNode D.seen D.may_leave disk node.now None }
+    ensures ready { IfOk result (λ s. s.ready ≡ true) }
+    ensures opens { IfOk result (λ s. OpensToNode node.now (D.seen s.disk)) }
+    ensures cause { IfErr result (λ r. r ≢ Memory → IsCause D.seen D.moment D.faults
+        node.now.core.local.shape node.now.core.local.own disk r) }
+    ensures not_bad { IfErr result (λ r. r ≢ BadImage) }
+{
+    match Shelf::create::<Images>(alloc, disk, node) {
+        Ok(shelf) => Ok(shelf),
+        Err((_disk, refusal)) => Err(refusal),
+    }
+}
+
+// The shelf of a node that was read from this disk. A new node is created on it.
+fn put_on<D: Disk + Drop>(
+    alloc: Global,
+    disk: D,
+    node: &Node,
+    area: Option<Selected>,
+) -> Result<Shelf<D>, Refusal>
+    requires { HoldsNode D.seen D.may_leave disk node.now area }
+    ensures ready { IfOk result (λ s. s.ready ≡ true) }
+    ensures opens { IfOk result (λ s. OpensToNode node.now (D.seen s.disk)) }
+    ensures cause { IfErr result (λ r. r ≢ Memory → IsCause D.seen D.moment D.faults
+        node.now.core.local.shape node.now.core.local.own disk r) }
+    ensures not_bad { IfErr result (λ r. r ≢ BadImage) }
+{
+    match area {
+        Some(selected) => Ok(Shelf::resume(alloc, disk, selected)),
+        None => create(alloc, disk, node),
+    }
+}
+
+// The shelves of nodes that were read from these disks, in order. New nodes are created on theirs.
+fn put_all_on<D: Disk + Drop>(
     alloc: Global,
     shape: Shape,
     mut disks: Vec<D>,
-) -> Result<(Vec<Node>, Vec<Shelf<D>>), Unopened>
-    ensures disks { vec_len disks ≢ shape.nodes → IsErrOf result fault.Disks }
-    ensures other { IsErrOf result fault.Disks → vec_len disks ≡ shape.nodes →
-        HasPlace (λ k d. HoldsAnother shape k (D.seen d)) disks.items }
-    ensures cause { IfErr result (IfRefused (λ r.
-        HasPlace (λ k d. IsCause D.seen D.moment D.faults shape k d r) disks.items)) }
-    ensures ages { IfErr result (IfAges (λ i j. ⊥)) }
-    ensures count { IfOk result (λ r. length r.0.items ≡ shape.nodes) }
-    ensures all { IfOk result (λ r. length r.0.items ≡ length disks.items) }
-    ensures found { IfOk result (λ r.
+    nodes: &[Node],
+    areas: &[Option<Selected>],
+) -> Result<Vec<Shelf<D>>, Refusal>
+    requires { AreOn D.seen D.may_leave shape disks.items nodes.now areas.now }
+    ensures found { IfOk result (λ v.
         AreFound (λ n s. (s.ready ≡ true) × OpensToNode n (D.seen s.disk))
-        shape r.0.items r.1.items) }
-    ensures read { IfOk result (λ r.
-        AreBeside (λ k d n. IsReadFrom shape k (D.seen d) n) disks.items r.0.items) }
+        shape nodes.now v.items) }
+    ensures cause { IfErr result (λ r. r ≢ Memory →
+        HasPlace (λ k d. IsCause D.seen D.moment D.faults shape k d r) disks.items) }
+    ensures not_bad { IfErr result (λ r. r ≢ BadImage) }
 {
-    if disks.len() != usize::from(shape.nodes()) {
-        return Err(Unopened::Disks);
-    }
-    let mut nodes = Vec::new(alloc);
     let mut shelves = Vec::new(alloc);
-    for number in 0..shape.nodes() {
-        let (node, shelf) = node_of(alloc, shape, NodeId { number }, disks.remove(0))?;
-        keep(&mut nodes, node)?;
-        keep(&mut shelves, shelf)?;
+    for place in 0..nodes.len() {
+        let disk = disks.remove(0);
+        shelves.push(put_on(alloc, disk, &nodes[place], areas[place])?)?;
     }
-    Ok((nodes, shelves))
+    Ok(shelves)
 }
 
 /// The nodes of a space, in order, each on its shelf: new ones for disks on which nothing was ever
@@ -184,31 +230,43 @@ fn read_all<D: Disk + Drop>(
 /// one moment. The first of them has sent fewer messages than the second has received from it, or
 /// has dropped some that the second lacks.
 ///
-/// There are no other causes. After a failure all disks are dropped.
+/// There are no other causes. All disks are read, and the nodes compared, before anything is
+/// created. So after `Disks`, `Ages` and `BadImage` the disks are still in the vector, and nothing
+/// was written on any of them. If it succeeds, the vector is empty.
 pub fn find<D: Disk + Drop>(
     alloc: Global,
     shape: Shape,
-    disks: Vec<D>,
+    disks: &mut Vec<D>,
 ) -> Result<(Vec<Node>, Vec<Shelf<D>>), Unopened>
-    ensures disks { vec_len disks ≢ shape.nodes → IsErrOf result fault.Disks }
-    ensures other { IsErrOf result fault.Disks → vec_len disks ≡ shape.nodes →
-        HasPlace (λ k d. HoldsAnother shape k (D.seen d)) disks.items }
+    ensures disks { vec_len disks.old ≢ shape.nodes → IsErrOf result fault.Disks }
+    ensures other { IsErrOf result fault.Disks → vec_len disks.old ≡ shape.nodes →
+        HasPlace (λ k d. HoldsAnother shape k (D.seen d)) disks.old.items }
     ensures cause { IfErr result (IfRefused (λ r.
-        HasPlace (λ k d. IsCause D.seen D.moment D.faults shape k d r) disks.items)) }
+        HasPlace (λ k d. IsCause D.seen D.moment D.faults shape k d r) disks.old.items)) }
     ensures ages { IfErr result (IfAges (λ sender receiver.
-        AreRead D.seen shape disks.items (λ ns. AreApart ns sender receiver))) }
+        AreRead D.seen shape disks.old.items (λ ns. AreApart ns sender receiver))) }
+    ensures untouched { IfErr result (λ e. IsOfReading e →
+        AreUnmoved D.seen D.may_leave D.moment D.left_since disks.old.items disks.new.items) }
+    ensures taken { OnOk result (disks.new.items ≡ []) }
     ensures count { IfOk result (λ r. length r.0.items ≡ shape.nodes) }
     ensures found { IfOk result (λ r.
         AreFound (λ n s. (s.ready ≡ true) × OpensToNode n (D.seen s.disk))
         shape r.0.items r.1.items) }
-    ensures read { IfOk result (λ r.
-        AreBeside (λ k d n. IsReadFrom shape k (D.seen d) n) disks.items r.0.items) }
-    ensures all { IfOk result (λ r. length r.0.items ≡ length disks.items) }
+    ensures read { IfOk result (λ r. AreBeside
+        (λ k d n. IsReadFrom shape k (D.seen d) n) disks.old.items r.0.items) }
+    ensures all { IfOk result (λ r. length r.0.items ≡ length disks.old.items) }
     ensures one_age { IfOk result (λ r. AreOfOneAge r.0.items) }
 {
-    let (nodes, shelves) = read_all(alloc, shape, disks)?;
-    match first_apart(nodes.as_slice(), shape.nodes()) {
-        Some((sender, receiver)) => Err(Unopened::Ages { sender, receiver }),
-        None => Ok((nodes, shelves)),
+    if disks.len() != usize::from(shape.nodes()) {
+        return Err(Unopened::Disks);
+    }
+    let (nodes, areas) = look_at_all(alloc, shape, disks.as_mut_slice())?;
+    if let Some((sender, receiver)) = first_apart(nodes.as_slice(), shape.nodes()) {
+        return Err(Unopened::Ages { sender, receiver });
+    }
+    let found = mem::replace(disks, Vec::new(alloc));
+    match put_all_on(alloc, shape, found, nodes.as_slice(), areas.as_slice()) {
+        Ok(shelves) => Ok((nodes, shelves)),
+        Err(refusal) => Err(Unopened::Refused(refusal)),
     }
 }

@@ -1,13 +1,13 @@
 //! Makes the cells of nodes that are on shelves, and the wire between them. The caller names the
 //! world whose states the nodes are in; the theorems hold if a run reaches it.
-ghost use Rattle.std.specs.Prelude.{◌≡◌, ◌≢◌, true, All, IfErr, IfOk, IsErrOf, length, map, vec_len};
+ghost use Rattle.std.specs.Prelude.{◌≡◌, ◌≢◌, true, All, IfErr, IfOk, IsErrOf, MatchResult, length, map, vec_len};
 ghost use Rattle.ids.specs.declared.refusal.Refusal.TheVariants.{Memory};
 ghost use Rattle.model.specs.World.{World};
 ghost use Rattle.wire.specs.Readers.{AreOpened, IsMade, opened_with};
 ghost use Rattle.wire.specs.Rule.{nodes_of};
 ghost use Rattle.cell.specs.Ages.{AreApart, AreOfOneAge, AreRead, IfAges};
 ghost use Rattle.cell.specs.Cells.{IsNew};
-ghost use Rattle.cell.specs.Closing.{AreOfOneMoment};
+ghost use Rattle.cell.specs.Closing.{AreOfOneMoment, HaveBegun};
 ghost use Rattle.cell.specs.Reached.{IsReached};
 ghost use Rattle.cell.specs.Disks.{OpensToNode};
 ghost use Rattle.cell.specs.Opened.{
@@ -95,11 +95,12 @@ pub fn join<D: Disk + Drop>(
 /// acknowledged before is unknown. A caller that knows more of that world uses [`find`] and
 /// [`join`].
 ///
-/// Fails as [`find`] and [`join`] do; all disks are then dropped.
+/// Fails as [`find`] and [`join`] do; all disks are then dropped. Before an error that [`find`]
+/// gives while it reads the disks, nothing was written on any of them.
 pub fn open<D: Disk + Drop>(
     alloc: Global,
     shape: Shape,
-    disks: Vec<D>,
+    mut disks: Vec<D>,
     watches: u8,
 ) -> Result<(Wire, Vec<Cell<D>>, Vec<Watch>), Unopened>
     ensures disks { vec_len disks ≢ shape.nodes → IsErrOf result fault.Disks }
@@ -116,13 +117,14 @@ pub fn open<D: Disk + Drop>(
     ensures one_age { IfOk result (λ r. AreOfOneAge (map (λ c. c.node) r.1.items)) }
     ensures closed { (opening : World) → IsReached opening → nodes_of opening ≡ shape.nodes
         → AreOfOneMoment D.may_leave opening disks.items
-        → IfOk result (λ r. IsReached (opened_with r.0)) }
+        → MatchResult result (λ r. IsReached (opened_with r.0)) (IfAges (λ _ _. ⊥)) }
+    ensures begun { IfOk result (λ r. HaveBegun r.1.items) }
     ensures new { IfOk result (λ r. All IsNew r.1.items) }
     ensures made { IfOk result (λ r. IsMade
         (world_of (cores (map (λ c. c.node) r.1.items))) watches r.0
         (map (λ c. c.seat) r.1.items) r.2.items) }
 {
-    let (nodes, shelves) = find(alloc, shape, disks)?;
+    let (nodes, shelves) = find(alloc, shape, &mut disks)?;
     match join(alloc, shape, nodes, shelves, watches) {
         Ok(opened) => Ok(opened),
         Err(refusal) => Err(Unopened::Refused(refusal)),

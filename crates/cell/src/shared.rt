@@ -1,11 +1,12 @@
 //! A cell that the threads of a program share. Each call locks the cell for its own duration, so
 //! what holds of a cell between two calls holds whenever the lock is free.
-ghost use Rattle.std.specs.Prelude.{◌≡◌, ◌≢◌, ◌⊎◌, true, IfErr, IfOk};
+ghost use Rattle.std.specs.Prelude.{◌≡◌, ◌≢◌, ◌⊎◌, true, IfErr, IfOk, IsTrue};
 ghost use Rattle.std.specs.Arc.{arc_value};
 ghost use Rattle.ids.specs.declared.refusal.Refusal.TheVariants as refusal;
 ghost use Rattle.model.specs.Steps.{is_own};
 ghost use Rattle.wire.specs.Readers.{known, IsSeatOf};
 ghost use Rattle.wire.specs.Rule.{nodes_of};
+ghost use Rattle.cell.specs.Closing.{HasBegun};
 ghost use Rattle.cell.specs.Names.{name_of, raised_on, seat_name, IsNamed};
 
 use crate::cell::Cell;
@@ -19,27 +20,35 @@ use wire::{Inbound, Outbound, Raised, Wire};
 use workers::Site;
 
 /// Names a wire in proofs, so that a watch of the same wire can use what was raised through a
-/// shared cell.
+/// shared cell, and so that cells which are given back are known to be of one wire.
 pub trait Naming {
-    ghost use Rattle.std.specs.Prelude.{Option};
+    ghost use Rattle.std.specs.Prelude.{Bool, Option};
     ghost use Rattle.cell.specs.Names.{Name};
 
     ghost wire: { Option Name };
+
+    /// If it is true, the node with which each cell was made had dropped only messages that were
+    /// acknowledged when the wire was made.
+    ghost begun: { Bool };
 }
 
 /// Names no wire.
 pub struct Unnamed;
 
 impl Naming for Unnamed {
-    ghost use Rattle.std.specs.Prelude.{None};
+    ghost use Rattle.std.specs.Prelude.{None, false};
 
     ghost wire = { None };
+
+    ghost begun = { false };
 }
 
 impl Naming for Brand {
-    ghost use Rattle.std.specs.Prelude.{None};
+    ghost use Rattle.std.specs.Prelude.{None, false};
 
     ghost wire = { None };
+
+    ghost begun = { false };
 }
 
 // A cell and its wire.
@@ -50,6 +59,7 @@ struct Held<D: Disk, W: Naming> {
     name: PhantomData<W>,
     ghost sits: { IsSeatOf (arc_value wire) cell.seat },
     ghost named: { IsNamed W.wire (seat_name cell.seat) },
+    ghost begun: { IsTrue W.begun → HasBegun cell },
 }
 
 /// A cell that threads share, with its wire. Each call locks the cell for its own duration. Between
@@ -130,6 +140,7 @@ impl<D: Disk, W: Naming> SharedOn<D, W> {
     pub fn new(cell: Cell<D>, wire: Arc<Wire>) -> SharedOn<D, W>
         requires seat { IsSeatOf (arc_value wire) cell.seat }
         requires name { IsNamed W.wire (name_of (arc_value wire)) }
+        requires begun { IsTrue W.begun → HasBegun cell }
     {
         SharedOn {
             held: Mutex::new(Held {
@@ -141,9 +152,12 @@ impl<D: Disk, W: Naming> SharedOn<D, W> {
     }
 
     /// Gives the cell back, as the last call left it. If a wire is named, the seat is one of it.
+    /// If that is named too, the cell was made with a node that had dropped only acknowledged
+    /// messages.
     pub fn into_cell(self) -> Cell<D>
         ensures name { IsNamed W.wire (seat_name result.seat) }
         ensures width { result.seat.nodes ≡ nodes_of (known result.seat).opening }
+        ensures begun { IsTrue W.begun → HasBegun result }
     {
         let SharedOn { held } = self;
         let Held {

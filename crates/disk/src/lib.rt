@@ -18,4 +18,4 @@ pub use device::{Area, Disk, DiskFault};
 pub use file::FileDisk;
 pub use memory::MemoryDisk;
 pub use persist::Persist;
-pub use shelf::{Shelf, is_blank};
+pub use shelf::{Selected, Shelf, is_blank, read_value};

@@ -107,6 +107,36 @@ where
     Ok((in_b, value))
 }
 
+/// The area of a disk that holds its value, as [`read_value`] found it.
+#[derive(Clone, Copy)]
+pub struct Selected {
+    in_b: bool,
+}
+
+/// Syncs a disk on which something was created, and returns the value that it holds, with the area
+/// that holds it. It writes nothing. [`Shelf::resume`] continues from there without reading again.
+///
+/// Fails as [`Shelf::open`] does. After `Ok` a crash leaves that value.
+pub fn read_value<D: Disk, P: Persist>(
+    alloc: Global,
+    disk: &mut D,
+) -> Result<(Selected, P::Value), Refusal>
+where
+    P::Value: Drop,
+    ensures value { IfOk result (λ r. IsReadAs P.reads (opened (D.seen disk.old)) r.1) }
+    ensures settled { IfOk result (λ r. IsSettled D.seen D.may_leave disk.new r.0.in_b) }
+    ensures bad { IfErr result (λ e. e ≡ Refusal.BadImage →
+        (value : P.Value) → IsReadAs P.reads (opened (D.seen disk.old)) value → ⊥) }
+    ensures memory { IfErr result (λ e. e ≡ Refusal.Memory → SelectsLength (D.seen disk.old)) }
+    ensures quiet { Unmoved D.seen D.may_leave D.moment D.left_since disk.old disk.new }
+    ensures cause { HasCause (D.faults disk.old) (D.faults disk.new) (IsErrOf result Refusal.Disk) }
+    ensures others { IfErr result (λ e. (e ≡ Refusal.Memory)
+        ⊎ ((e ≡ Refusal.BadImage) ⊎ (e ≡ Refusal.Disk))) }
+{
+    let (in_b, value) = recall::<D, P>(alloc, disk)?;
+    Ok((Selected { in_b }, value))
+}
+
 /// The image of a value, and what is written for it. Fails as [`Persist::to_bytes`] does, and with
 /// `Memory`.
 fn spelled<P: Persist>(alloc: Global, value: &P::Value) -> Result<(Vec<u8>, Vec<u8>), Refusal>
@@ -222,6 +252,20 @@ impl<D: Disk> Shelf<D> {
             ready: true,
         };
         Ok((shelf, value))
+    }
+
+    /// An open shelf on a disk that [`read_value`] read, and on which nothing was written since.
+    pub fn resume(alloc: Global, disk: D, selected: Selected) -> Shelf<D>
+        requires { IsSettled D.seen D.may_leave disk selected.in_b }
+        ensures disk { result.disk ≡ disk }
+        ensures ready { result.ready ≡ true }
+    {
+        Shelf {
+            alloc,
+            disk,
+            in_b: selected.in_b,
+            ready: true,
+        }
     }
 
     /// Opens the shelf again from its own disk: syncs it and returns the value that it holds. After

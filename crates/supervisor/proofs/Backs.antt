@@ -1,22 +1,61 @@
 -- Cells that threads have given back are those of one wire, and their disks are of one moment.
-use Rattle.std.proofs.Common.{◌≡◌, ◌<◌, ◌+◌, ℕ, IfOk, Result, Ok, Err, List, drop, get_or, length, map, Option, Some, slice_get, refl, sym, ap, ◌∙◌, subst, arith}
+use Rattle.std.proofs.Common.{◌≡◌, ◌<◌, ◌≤◌, ◌+◌, ℕ, Bool, IsTrue, IfErr, IfOk, Result, Ok, Err, List, drop, get_or, length, map, Option, Some, slice_get, refl, sym, ap, ◌∙◌, subst, arith}
 use Rattle.std.proofs.lemmas.Option.{get_or_from_slice_get, slice_get_read, slice_get_within}
 use mathlib.Core.Logic.{dite}
 use native.Mathlib.Decide.{ℕ_discrete}
 use Rattle.model.proofs.Lookups.{slice_get-drop}
 use Rattle.disk.specs.Areas.{Areas}
-use Rattle.wire.specs.Readers.{known, opened_with, seat_node, IsSeatOf}
+use Rattle.model.specs.View.{NodeView, link_to}
+use Rattle.model.specs.World.{World, acknowledged}
+use Rattle.wire.specs.Readers.{known, opened_with, seat_node, IsSame, IsSeatOf}
 use Rattle.wire.specs.Rule.{nodes_of}
 use Rattle.wire.specs.declared.seats.Wire.{Wire}
 use Rattle.cell.specs.Cells.{CellView, IsKept}
-use Rattle.cell.specs.Closing.{AreOfOneMoment, IsLast}
-use Rattle.cell.specs.Moments.{AreAtOnce, EachCell, HaveLearned}
-use Rattle.cell.specs.Names.{Name, name_of, seat_name}
+use Rattle.cell.specs.Closing.{AreOfOneMoment, HasBegun, HaveBegun, IsLast}
+use Rattle.cell.specs.Moments.{AreAtOnce, EachCell, HasLearned, HaveLearned}
+use Rattle.cell.specs.Names.{IsNamed, Name, name_of, seat_name}
 use Rattle.cell.proofs.Places.{some_at}
 use Rattle.supervisor.specs.Closing.{IsBack, IsRow}
 
-module _ {D : Type 0} (wire : Wire) (name : Option Name) (named : name ≡ Some (name_of wire)) where
-  back-seat : (k : ℕ) (c : CellView D) → IsBack name k c → IsSeatOf wire c.seat
+-- a cell that learned something was made with the same node, on the same wire
+still-begun : {D : Type 0} (c d : CellView D) → IsSame c.seat d.seat → d.first ≡ c.first
+    → HasBegun c → HasBegun d
+still-begun c d same first begun to inside =
+    subst (λ (o : World). (link_to d.first to).base ≤ acknowledged o (seat_node d.seat) to)
+    (sym same.4)
+    (subst
+    (λ (i : ℕ). (link_to d.first to).base ≤ acknowledged (known c.seat).opening i to)
+    (sym same.2)
+    (subst
+    (λ (v : NodeView).
+    (link_to v to).base ≤ acknowledged (known c.seat).opening (seat_node c.seat) to)
+    (sym first)
+    (begun to (subst (λ (o : World). to < nodes_of o) same.4 inside))))
+
+-- a cell that threads gave back, after it learned something
+still-back : {D : Type 0} (wire : Option Name) (is_begun : Bool) (k : ℕ) (c d : CellView D)
+    → HasLearned c d → IsBack wire is_begun k c → IsBack wire is_begun k d
+still-back wire is_begun k c d learned h =
+    let same = learned.same in
+    record {
+      name = subst (IsNamed wire)
+          (λ i. record { table = sym same.0 i; opening = sym same.4 i }) h.name;
+      width = same.3 ∙ h.width ∙ ap nodes_of (sym same.4);
+      begun = λ is.
+          still-begun c d same (ap (λ (v : CellView _). v.first) learned.stays) (h.begun is);
+    }
+
+pub all-back : {D : Type 0} (wire : Option Name) (is_begun : Bool) (old new : List (CellView D))
+    → HaveLearned old new → EachCell (IsBack wire is_begun) old
+    → EachCell (IsBack wire is_begun) new
+all-back wire is_begun old new learned back k d there =
+    let inside = slice_get_within new k d there in
+    let was = some_at old k (let long = learned.count in omega (arith, inside, long)) in
+    still-back wire is_begun k was.0 d (learned.each k was.0 d was.1 there) (back k was.0 was.1)
+
+module _ {D : Type 0} (wire : Wire) (name : Option Name) (named : name ≡ Some (name_of wire))
+    (is_begun : Bool) where
+  back-seat : (k : ℕ) (c : CellView D) → IsBack name is_begun k c → IsSeatOf wire c.seat
   back-seat k c h =
       let is : seat_name c.seat ≡ name_of wire = h.name (name_of wire) named in
       let opening : (known c.seat).opening ≡ opened_with wire = ap (λ (n : Name). n.opening) is in (
@@ -25,14 +64,23 @@ module _ {D : Type 0} (wire : Wire) (name : Option Name) (named : name ≡ Some 
         opening,
       )
 
-  pub back-seats : (cells : List (CellView D)) → EachCell (IsBack name) cells
+  pub back-seats : (cells : List (CellView D)) → EachCell (IsBack name is_begun) cells
       → EachCell (λ k c. IsSeatOf wire c.seat) cells
   back-seats cells back k c there = back-seat k c (back k c there)
 
   module _ (may_leave : D → Areas → Type 0) (old new : List (CellView D))
-      (back : EachCell (IsBack name) old) (rows : EachCell IsRow old)
+      (back : EachCell (IsBack name is_begun) old) (rows : EachCell IsRow old)
       (count : length old ≡ nodes_of (opened_with wire)) (learned : HaveLearned old new)
-      (kept : EachCell (λ k c. IsKept may_leave c) new) where
+      (kept : EachCell (λ k c. IsKept may_leave c) new) (begun : IsTrue is_begun) where
+    have-begun : HaveBegun new
+    have-begun k d there =
+        let inside = slice_get_within new k d there in
+        let was = some_at old k
+        (let long = learned.count in omega (arith, inside, long)) in
+        let h = learned.each k was.0 d was.1 there in
+        still-begun was.0 d h.same (ap (λ (v : CellView D). v.first) h.stays)
+        ((back k was.0 was.1).begun begun)
+
     last-cell : EachCell (IsLast may_leave (opened_with wire) (nodes_of (opened_with wire))) new
     last-cell k d there =
         let inside = slice_get_within new k d there in
@@ -63,6 +111,7 @@ module _ {D : Type 0} (wire : Wire) (name : Option Name) (named : name ≡ Some 
       count = learned.count ∙ count;
       each = last-cell;
       once = once;
+      begun = have-begun;
     }
 
 -- ---- One cell after another
@@ -109,3 +158,9 @@ pub both-ok : {V E : Type 0} (P Q R : V → Type 0) (r : Result V E) → ((v : V
     → IfOk r P → IfOk r Q → IfOk r R
 both-ok P Q R (Ok v) are first second = are v first second
 both-ok P Q R (Err e) are first second = tt
+
+-- what follows from what a clause says of an error
+pub err-then : {V U : Type 0} {P Q : U → Type 0} (r : Result V U) → IfErr r P
+    → ((u : U) → P u → Q u) → IfErr r Q
+err-then (Ok v) is then = tt
+err-then (Err u) is then = then u is

@@ -1,5 +1,5 @@
 -- The seats of cells that are passed on one after another.
-use Rattle.std.proofs.Common.{◌≡◌, ◌<◌, suc, List, [], ◌∷◌, drop, get_or, length, map, refl, subst, sym, arith}
+use Rattle.std.proofs.Common.{◌≡◌, ◌<◌, ◌∙◌, ℕ, suc, List, [], ◌∷◌, Some, ap, drop, get_or, length, map, refl, slice_get, subst, sym, arith}
 use Rattle.wire.specs.Readers.{IsSeatOf}
 use Rattle.wire.specs.declared.seats.NodeSeat.{NodeSeat}
 use Rattle.wire.specs.declared.seats.Wire.{Wire}
@@ -18,3 +18,18 @@ later-seats seat wire [] rest h is =
     subst (λ l. AreSeats wire (map seat l)) (sym is) h
 later-seats seat wire (x ∷ xs) rest h is =
     subst (λ l. AreSeats wire (map seat l)) (sym is) (λ k s there. h (suc k) s there)
+
+-- what holds of each of some things holds of the first, and of each of the others
+pub first-of : {C : Type 0} (P : C → Type 0) (cells : List C) (c : C)
+    → ((k : ℕ) (d : C) → slice_get cells k ≡ Some d → P d) → 0 < length cells
+    → c ≡ get_or cells 0 c → P c
+first-of P [] c h some is = absurd (omega arith)
+first-of P (x ∷ xs) c h some is = subst P (sym is) (h 0 x refl)
+
+pub later-of : {C : Type 0} (P : C → Type 0) (cells rest : List C)
+    → ((k : ℕ) (d : C) → slice_get cells k ≡ Some d → P d) → rest ≡ drop 1 cells
+    → (k : ℕ) (d : C) → slice_get rest k ≡ Some d → P d
+later-of P [] rest h is k d there =
+    h k d (ap (λ l. slice_get l k) (sym is) ∙ there)
+later-of P (x ∷ xs) rest h is k d there =
+    h (suc k) d (ap (λ l. slice_get l k) (sym is) ∙ there)

@@ -1,13 +1,13 @@
 //! The cells of a space, shared by its threads. Each is under a lock of its own, and all share one
 //! wire.
-ghost use Rattle.std.specs.Prelude.{◌≡◌, ◌≢◌, IfErr, IfOk, IsErrOf, map, vec_len};
+ghost use Rattle.std.specs.Prelude.{◌≡◌, ◌≢◌, IfErr, IfOk, IsErrOf, IsTrue, MatchResult, map, vec_len};
 ghost use Rattle.std.specs.Arc.{arc_value};
 ghost use Rattle.ids.specs.declared.refusal.Refusal.TheVariants.{Memory};
 ghost use Rattle.model.specs.World.{World};
 ghost use Rattle.wire.specs.Readers.{IsSeatOf, opened_with};
 ghost use Rattle.wire.specs.Rule.{nodes_of};
 ghost use Rattle.cell.specs.Ages.{AreApart, AreOfOneAge, AreRead};
-ghost use Rattle.cell.specs.Closing.{AreOfOneMoment};
+ghost use Rattle.cell.specs.Closing.{AreOfOneMoment, HasBegun, HaveBegun};
 ghost use Rattle.cell.specs.Names.{name_of, IsNamed};
 ghost use Rattle.cell.specs.Reached.{IsReached};
 ghost use Rattle.cell.specs.Opened.{HasPlace, HoldsAnother, IsCause};
@@ -34,6 +34,7 @@ fn share<D: Disk + Drop, W: Naming>(
 ) -> Result<Arc<SharedOn<D, W>>, Refusal>
     requires seat { IsSeatOf (arc_value wire.now) cell.seat }
     requires name { IsNamed W.wire (name_of (arc_value wire.now)) }
+    requires begun { IsTrue W.begun → HasBegun cell }
     ensures { IfErr result (λ e. e ≡ Memory) }
 {
     let shared = SharedOn::new(cell, same_wire(wire)?);
@@ -59,6 +60,7 @@ fn share_all<D: Disk + Drop, W: Naming>(
 ) -> Result<Vec<Arc<SharedOn<D, W>>>, Refusal>
     requires name { IsNamed W.wire (name_of (arc_value wire.now)) }
     requires seats { AreSeats (arc_value wire.now) (map (λ c. c.seat) cells.items) }
+    requires begun { HaveBegun cells.items }
     ensures count { IfOk result (λ v. vec_len v ≡ vec_len cells) }
     ensures refused { IfErr result (λ e. e ≡ Memory) }
 {
@@ -91,7 +93,8 @@ pub(crate) fn open_alone<D: Disk + Drop>(
     ensures width { IfOk result (λ r. nodes_of (opened_with r.0) ≡ shape.nodes) }
     ensures closed { (opening : World) → IsReached opening → nodes_of opening ≡ shape.nodes
         → AreOfOneMoment D.may_leave opening disks.items
-        → IfOk result (λ r. IsReached (opened_with r.0)) }
+        → MatchResult result (λ r. IsReached (opened_with r.0)) (IfAges (λ _ _. ⊥)) }
+    ensures begun { IfOk result (λ r. HaveBegun r.1.items) }
 {
     match cell::open(alloc, shape, disks, WATCHES) {
         Ok(opened) => Ok(opened),
@@ -109,6 +112,7 @@ pub(crate) fn share_on<D: Disk + Drop, W: Naming>(
 ) -> Result<(Arc<Wire>, Vec<Arc<SharedOn<D, W>>>), Refusal>
     requires name { IsNamed W.wire (name_of wire) }
     requires seats { AreSeats wire (map (λ c. c.seat) cells.items) }
+    requires begun { HaveBegun cells.items }
     ensures wire { IfOk result (λ r. arc_value r.0 ≡ wire) }
     ensures count { IfOk result (λ r. vec_len r.1 ≡ vec_len cells) }
     ensures refused { IfErr result (λ e. e ≡ Memory) }

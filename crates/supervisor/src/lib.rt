@@ -4,10 +4,12 @@
 
 mod cells;
 mod closing;
+mod serving;
 mod space;
 mod team;
 
-pub use closing::Closed;
+pub use closing::{CloseFault, Closed, Unclosed};
+pub use serving::{Program, Served};
 pub use settings::{Config, OpenFault};
 pub use space::{Opened, Space, SpaceOn};
 pub use team::{Plan, Team};

@@ -1,7 +1,7 @@
 //! A space of nodes on their disks, with its workers. Programs use each node through its cell,
 //! concurrently with the worker. When a space is dropped, it asks its workers to stop.
 ghost use Rattle.std.specs.Prelude.{◌≡◌, ◌≤◌, ◌<◌, ◌≢◌, ◌↔◌, ◌⊎◌, ◌+◌, false, true, Some, IfErr, IfNone};
-ghost use Rattle.std.specs.Prelude.{IfOk, IfSome, IsErrOf, IsSome, OnErr, OnOk, is_some, length, map};
+ghost use Rattle.std.specs.Prelude.{IfOk, IfSome, IsErrOf, IsSome, IsTrue, MatchResult, OnErr, OnOk, is_some, length, map};
 ghost use Rattle.std.specs.Prelude.{max, option_to_list, slice_get, vec_len};
 ghost use Rattle.std.specs.Arc.{arc_value};
 ghost use Rattle.std.specs.List.Sorted.{IsNonDecreasingBy};
@@ -12,16 +12,18 @@ ghost use Rattle.wire.specs.Readers.{heard, loaded, opened_with, watch_opening, 
 ghost use Rattle.wire.specs.Readers.{IsWatchOf};
 ghost use Rattle.wire.specs.Rule.{nodes_of};
 ghost use Rattle.cell.specs.Ages.{AreApart, AreOfOneAge, AreRead};
-ghost use Rattle.cell.specs.Closing.{AreOfOneMoment};
+ghost use Rattle.cell.specs.Closing.{AreOfOneMoment, HaveBegun};
 ghost use Rattle.cell.specs.Names.{name_of, IsNamed};
 ghost use Rattle.cell.specs.Opened.{HasPlace, HoldsAnother, IsCause};
 ghost use Rattle.cell.specs.Reached.{IsReached};
 ghost use Rattle.settings.specs.declared.fault.OpenFault.TheVariants as fault;
+ghost use Rattle.cell.specs.Moments.{EachCell};
+ghost use Rattle.supervisor.specs.Closing.{IsBack, IsWhy};
 ghost use Rattle.supervisor.specs.Opened.{worker_count, AreSeats, AreWatches, IfAges, IfRefused};
 ghost use Rattle.supervisor.specs.declared.cells.TheConstants.{WATCHES};
 
 use crate::cells::{open_alone, share_on};
-use crate::closing::{Closed, close_cells};
+use crate::closing::{Closed, Unclosed, close_cells};
 use crate::team::{Plan, Team};
 use cell::{Cell, Naming, SharedOn, Unnamed};
 use disk::Disk;
@@ -48,6 +50,7 @@ pub struct Opened<D: Disk> {
     ghost each: { vec_len cells ≡ plan.nodes },
     ghost wide: { nodes_of (opened_with wire) ≡ plan.nodes },
     ghost seats: { AreSeats wire (map (λ c. c.seat) cells.items) },
+    ghost begun: { HaveBegun cells.items },
     ghost of: { AreWatches wire watches.items },
 }
 
@@ -70,7 +73,7 @@ impl<D: Disk + Drop> Opened<D> {
         ensures closed { (opening : World) → IsReached opening
             → nodes_of opening ≡ config.now.shape.nodes
             → AreOfOneMoment D.may_leave opening disks.items
-            → IfOk result (λ s. IsReached (opened_with s.wire)) }
+            → MatchResult result (λ s. IsReached (opened_with s.wire)) (IfAges (λ _ _. ⊥)) }
     {
         let shape = config.shape;
         let (wire, cells, watches) = open_alone(alloc, shape, disks)?;
@@ -160,7 +163,8 @@ impl<D: Disk + Drop> SpaceOn<D, Unnamed> {
         ensures closed { (opening : World) → IsReached opening
             → nodes_of opening ≡ config.now.shape.nodes
             → AreOfOneMoment D.may_leave opening disks.items
-            → IfOk result (λ s. IsReached (opened_with (arc_value s.wire))) }
+            → MatchResult result (λ s. IsReached (opened_with (arc_value s.wire)))
+            (IfAges (λ _ _. ⊥)) }
     {
         let opened = Opened::open(alloc, config, disks)?;
         match opened.share::<Unnamed>() {
@@ -259,19 +263,26 @@ impl<D: Disk + Drop, W: Naming> SpaceOn<D, W> {
     /// it takes back the cells, and returns their disks as they are at one moment, beside the
     /// reports.
     ///
-    /// There are no disks (`Closed`) if a cell is closed, because a disk failed, or if something
-    /// still uses one of the cells; nor (`Memory`) if allocation failed. All disks are then
-    /// dropped.
-    pub fn close_at_once<R: Threads>(self, rt: &R) -> (Vec<Report>, Result<Closed<D>, Refusal>)
-        requires { W.wire ≡ Some (name_of (arc_value self.wire)) }
+    /// There are no disks if the cell of a node is closed, because its disk failed
+    /// ([`CloseFault`](crate::CloseFault): `Closed` with the first such node), if something still
+    /// uses a cell (`Used`), or if allocation failed (`Memory`). The cells that came back are then
+    /// in the error. If all came back and are open, and there is memory, there are disks.
+    ///
+    /// It needs a name for the wire in proofs. [`Opened::serve`] gives one to a program's space.
+    pub fn close_at_once<R: Threads>(self, rt: &R) -> (Vec<Report>, Result<Closed<D>, Unclosed<D>>)
+        requires named { W.wire ≡ Some (name_of (arc_value self.wire)) }
+        requires begun { IsTrue W.begun }
         ensures count { vec_len result.0 ≡ worker_count self.team }
         ensures sorted { IsNonDecreasingBy (λ r. r.node) result.0.items }
         ensures wire { IfOk result.1 (λ c. arc_value c.of.value ≡ arc_value self.wire) }
         ensures once { IfOk result.1 (λ c. AreOfOneMoment D.may_leave
             (opened_with (arc_value self.wire)) c.disks.items) }
+        ensures why { IfErr result.1 (λ u. IsWhy self.plan.nodes u.fault u.cells.items) }
+        ensures back { IfErr result.1 (λ u. EachCell (IsBack W.wire W.begun) u.cells.items) }
     {
         let SpaceOn {
             alloc,
+            plan,
             wire,
             cells,
             team,
@@ -281,7 +292,7 @@ impl<D: Disk + Drop, W: Naming> SpaceOn<D, W> {
             Some(team) => team.close(rt),
             None => Vec::new(alloc),
         };
-        (reports, close_cells(alloc, &wire, cells))
+        (reports, close_cells(alloc, plan.nodes, &wire, cells))
     }
 }
 

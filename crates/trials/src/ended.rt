@@ -4,7 +4,7 @@
 ghost use Rattle.std.specs.Prelude.{◌≡◌, IfSome, false, is_some, true};
 
 use crate::endings::{Ends, ending};
-use crate::player::{Player, REGISTERS, away, compare_all, dice_of};
+use crate::player::{Player, REGISTERS, away, clear_node, compare_all, dice_of};
 use crate::quiet::turn_all;
 use crate::spaces::{MANY, config_of};
 use cases::{Dice, Found, Out, Size, Stop, count_reached, disks_in, nodes_in, number, verb};
@@ -34,7 +34,10 @@ const SLOTS: u32 = 64;
 struct Plan {
     nodes: u8,
     millis: u64,
+    // What the random steps depend on.
     seed: u64,
+    // The number that names the folder of the disks.
+    folder: u64,
 }
 
 // A space whose workers end and are started again, and its programs.
@@ -121,7 +124,7 @@ fn opened<R: Files<File = File>>(rt: &R, alloc: Global, plan: Plan) -> Option<Sp
         turns: MANY,
     };
     let config = config_of(alloc, size).ok()?;
-    let disks = disks_in(rt, alloc, plan.seed, plan.nodes).ok()?;
+    let disks = disks_in(rt, alloc, plan.folder, plan.nodes).ok()?;
     match Space::open(alloc, &config, disks) {
         Ok(space) => Some(space),
         Err(_) => None,
@@ -211,12 +214,56 @@ where
     let space = opened(rt, alloc, plan)?;
     turn_all(rt, &space, plan.nodes);
     let taken = take_all(rt, &space, players);
-    turn_all(rt, &space, plan.nodes);
-    let cycle = begin(rt, &space);
-    turn_all(rt, &space, plan.nodes);
-    drop(space);
+    let cycle = run_cycle(rt, space, plan.nodes);
     taken.ok()?;
     cycle
+}
+
+// Takes turns until nothing is in flight, and then runs a cycle until it is swept; its number.
+fn run_cycle<R: Wait>(rt: &R, space: Space<FileDisk>, nodes: u8) -> Option<u64> {
+    turn_all(rt, &space, nodes);
+    let cycle = begin(rt, &space);
+    turn_all(rt, &space, nodes);
+    cycle
+}
+
+// The same for a space that other programs used, perhaps in a process that was killed: each node
+// accepts all letters, and drops some of what its registers hold.
+fn clear<R>(rt: &R, alloc: Global, plan: Plan) -> Option<u64>
+where
+    R: Files<File = File> + Wait,
+{
+    let space = opened(rt, alloc, plan)?;
+    turn_all(rt, &space, plan.nodes);
+    for node in 0..plan.nodes {
+        clear_node(rt, space.program(node)?);
+    }
+    run_cycle(rt, space, plan.nodes)
+}
+
+// What a space has after a cycle, which other programs used.
+fn left_in<R>(rt: &R, alloc: Global, plan: Plan) -> Option<Found>
+where
+    R: Files<File = File> + Wait,
+{
+    let mut found = Found::new();
+    let cycle = clear(rt, alloc, plan)?;
+    let nodes = nodes_in(rt, alloc, plan.folder, plan.nodes).ok()?;
+    let looked = count_reached(alloc, &nodes, cycle, &mut found);
+    drop(nodes);
+    looked.ok()?;
+    Some(found)
+}
+
+// Clears a space that other programs used, and plays in it.
+fn play_on<R>(rt: &R, alloc: Global, plan: Plan) -> Option<u64>
+where
+    R: Files<File = File> + Clock + Threads + Wait + Clone + Send + Sync + Drop + 'static,
+{
+    let _cycle = clear(rt, alloc, plan)?;
+    let (players, ends) = played(rt, alloc, plan)?;
+    drop(players);
+    Some(ends)
 }
 
 // The findings of a trial.
@@ -230,7 +277,7 @@ where
     let cycle = settle(rt, alloc, plan, &mut players)?;
     compare_all(&players, &mut found);
     drop(players);
-    let nodes = nodes_in(rt, alloc, plan.seed, plan.nodes).ok()?;
+    let nodes = nodes_in(rt, alloc, plan.folder, plan.nodes).ok()?;
     let looked = count_reached(alloc, &nodes, cycle, &mut found);
     drop(nodes);
     looked.ok()?;
@@ -242,18 +289,39 @@ pub(crate) fn take<R>(rt: &R, alloc: Global, words: &[&str], out: &mut Out) -> R
 where
     R: Files<File = File> + Clock + Threads + Wait + Clone + Send + Sync + Drop + 'static,
 {
-    let least = match verb(words) {
-        "run" => None,
-        "try" => Some(number(words, 4)?),
-        _ => return Err(Stop::Unknown),
-    };
+    let seed = number(words, 3)?;
     let plan = Plan {
         nodes: number(words, 1)?,
         millis: number(words, 2)?,
-        seed: number(words, 3)?,
+        seed,
+        folder: seed,
     };
-    put(found_in(rt, alloc, plan), least, out);
+    match verb(words) {
+        "run" => put(found_in(rt, alloc, plan), None, out),
+        "try" => put(found_in(rt, alloc, plan), Some(number(words, 4)?), out),
+        "on" => out.debug(&play_on(rt, alloc, with_folder(plan, words)?).is_some()),
+        "check" => put_left(left_in(rt, alloc, plan), out),
+        _ => return Err(Stop::Unknown),
+    }
     Ok(())
+}
+
+// The same plan, in the folder that the fifth word names.
+fn with_folder(plan: Plan, words: &[&str]) -> Result<Plan, Stop> {
+    let folder = number(words, 4)?;
+    Ok(Plan { folder, ..plan })
+}
+
+// Prints what a space has after a cycle: references to no object, objects that aren't reached,
+// messages that weren't received, nodes that haven't swept, and whether there is an object.
+fn put_left(found: Option<Found>, out: &mut Out) {
+    match found {
+        Some(found) => {
+            let wrong = (found.missing, found.left, found.waiting, found.unswept);
+            out.debug(&(wrong, found.kept > 0));
+        }
+        None => out.text("it could not be opened"),
+    }
 }
 
 // Prints whether all is right and whether the trial went far enough, or, if that isn't asked, all

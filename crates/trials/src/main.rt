@@ -9,6 +9,7 @@ mod gates;
 mod mailboxes;
 mod member;
 mod names;
+mod once;
 mod openings;
 mod player;
 mod program;

@@ -7,12 +7,14 @@ ghost use Rattle.model.specs.Steps.{is_own};
 use crate::spaces::config_of;
 use cases::crashes::{change, put_crashes};
 use cases::{Lent, Line, Out, Size, Stop, blank_disks, event_of, number, read, verb};
+use cell::Naming;
 use disk::{Disk, MemoryDisk};
 use ids::Refusal;
 use model::{Answer, Event};
 use std::alloc::Global;
 use std::sync::Wait;
-use supervisor::{OpenFault, Space};
+use std::thread::Threads;
+use supervisor::{CloseFault, Config, OpenFault, Opened, Program, Space, SpaceOn};
 use wire::Inbound;
 
 // The disks of a space, and the copies that the case has kept.
@@ -25,7 +27,7 @@ struct Openings<'a, R> {
 }
 
 /// A case for the disks of spaces.
-pub(crate) fn run<R: Wait>(
+pub(crate) fn run<R: Threads + Wait>(
     rt: &R,
     alloc: Global,
     lines: &[Line<'_>],
@@ -43,7 +45,7 @@ pub(crate) fn run<R: Wait>(
     Ok(())
 }
 
-impl<R: Wait> Openings<'_, R> {
+impl<R: Threads + Wait> Openings<'_, R> {
     fn take(&mut self, words: &[&str], out: &mut Out) -> Result<(), Stop> {
         match verb(words) {
             "fresh" => {
@@ -53,6 +55,7 @@ impl<R: Wait> Openings<'_, R> {
             "open" => self.open(out),
             "act" => return self.act(words, out),
             "carry" => return self.carry(words, out),
+            "once" => return self.once(words, out),
             "keep" => return self.keep(number(words, 1)?, out),
             "restore" => return self.restore(number(words, 1)?, number(words, 2)?, out),
             "crashes" => {
@@ -84,6 +87,27 @@ impl<R: Wait> Openings<'_, R> {
         let event = event_of(self.alloc, words)?;
         match opened(self.alloc, &mut self.disks) {
             Ok(space) => out.answer(act_on(self.rt, &space, node, event)),
+            Err(fault) => out.show(&fault),
+        }
+        Ok(())
+    }
+
+    // Opens a space, gives a node an event and saves it, and closes the space at once: the answer,
+    // and whether the disks were given out.
+    fn once(&mut self, words: &[&str], out: &mut Out) -> Result<(), Stop> {
+        let [_, node, words @ ..] = words else {
+            return Err(Stop::Unknown);
+        };
+        let mut acting = Acting {
+            node: read(node)?,
+            event: event_of(self.alloc, words)?,
+            answer: Err(Refusal::Memory),
+        };
+        match served(self.rt, self.alloc, &mut self.disks, &mut acting) {
+            Ok(closed) => {
+                out.answer(acting.answer);
+                out.debug(&closed);
+            }
             Err(fault) => out.show(&fault),
         }
         Ok(())
@@ -137,11 +161,11 @@ fn disk_of(held: &mut [MemoryDisk], node: u8) -> Result<&mut MemoryDisk, Stop> {
     }
 }
 
-// A space on these disks.
-fn opened<'a>(
+// The configuration of a space on these disks, and the disks as a space borrows them.
+fn lent<'a>(
     alloc: Global,
     held: &'a mut [MemoryDisk],
-) -> Result<Space<Lent<'a, MemoryDisk>>, OpenFault> {
+) -> Result<(Config, Vec<Lent<'a, MemoryDisk>>), OpenFault> {
     let size = Size {
         nodes: u8::try_from(held.len()).unwrap_or(u8::MAX),
         ..Size::pair(1)
@@ -154,13 +178,56 @@ fn opened<'a>(
             return Err(OpenFault::Refused(Refusal::Memory));
         }
     }
-    Space::open(alloc, &config, lent)
+    Ok((config, lent))
+}
+
+// A space on these disks.
+fn opened<'a>(
+    alloc: Global,
+    held: &'a mut [MemoryDisk],
+) -> Result<Space<Lent<'a, MemoryDisk>>, OpenFault> {
+    let (config, disks) = lent(alloc, held)?;
+    Space::open(alloc, &config, disks)
+}
+
+// A program that gives a node an event, and saves it.
+#[derive(Drop)]
+struct Acting {
+    node: u8,
+    event: Event,
+    answer: Result<Answer, Refusal>,
+    ghost own: { is_own event ≡ true },
+}
+
+impl<R: Wait, D: Disk + Drop> Program<R, D> for Acting {
+    fn run<W: Naming + Send + 'static>(&mut self, rt: &R, space: &mut SpaceOn<D, W>) {
+        self.answer = act_on(rt, space, self.node, self.event);
+    }
+}
+
+// Runs the program in a space on these disks, and closes the space at once. Whether it gave out its
+// disks.
+fn served<R: Threads + Wait>(
+    rt: &R,
+    alloc: Global,
+    held: &mut [MemoryDisk],
+    acting: &mut Acting,
+) -> Result<Result<(), CloseFault>, OpenFault> {
+    let (config, disks) = lent(alloc, held)?;
+    let space = Opened::open(alloc, &config, disks)?;
+    match space.serve(rt, acting) {
+        Ok(served) => match served.closed {
+            Ok(_closed) => Ok(Ok(())),
+            Err(unclosed) => Ok(Err(unclosed.fault)),
+        },
+        Err(refusal) => Err(OpenFault::Refused(refusal)),
+    }
 }
 
 // A node's answer to an event, once the node is saved.
-fn act_on<R: Wait, D: Disk + Drop>(
+fn act_on<R: Wait, D: Disk + Drop, W: Naming>(
     rt: &R,
-    space: &Space<D>,
+    space: &SpaceOn<D, W>,
     node: u8,
     event: Event,
 ) -> Result<Answer, Refusal>

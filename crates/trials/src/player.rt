@@ -72,6 +72,17 @@ fn word<R: Wait, S: Site>(rt: &R, cell: &S, object: u16) -> u64 {
     }
 }
 
+/// Accepts all letters at a node that other programs used, and drops what two registers hold.
+pub(crate) fn clear_node<R: Wait, S: Site>(rt: &R, cell: &S) {
+    for _ in 0..LETTERS {
+        if act(rt, cell, Event::Accept { register: OTHERS }).is_err() {
+            break;
+        }
+    }
+    let _ = act(rt, cell, Event::Drop { register: OTHERS });
+    let _ = act(rt, cell, Event::Drop { register: OTHERS + 1 });
+}
+
 // What is left after a restart: the letters below this label, and possibly one more.
 fn cut(letters: &mut Vec<Noted>, label: u64) {
     let later = letters

@@ -2,6 +2,7 @@
 ghost use Rattle.std.specs.Prelude.{◌≡◌, false, IfSome, is_some};
 
 use crate::gates::{Holds, gate, pause};
+use crate::once::once;
 use crate::programs::run_programs;
 use crate::revived::revive;
 use crate::space::meet;
@@ -174,6 +175,12 @@ where
             let text = size.text(alloc)?;
             let reports = meet(rt, alloc, text.as_str(), blank_disks(alloc, size.nodes)?);
             out.debug(&reports.map(|reports| reports.len()));
+        }
+        "once" => {
+            let size = Size::pair(number(words, 1)?);
+            let text = size.text(alloc)?;
+            let disks = blank_disks(alloc, size.nodes)?;
+            out.debug(&once(rt, alloc, text.as_str(), disks));
         }
         "turn" => {
             let stage = stage_of(word(words, 2)?)?;

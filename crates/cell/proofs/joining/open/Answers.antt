@@ -3,11 +3,13 @@ use Rattle.std.proofs.lemmas.List.{length-map}
 use Rattle.std.proofs.lemmas.Result.{err_from_is_err_and}
 use Rattle.node.specs.Keeping.{WholeNode}
 use Rattle.image.proofs.Spelled.{kept_is}
-use Rattle.cell.specs.Opened.{AreBeside, IsReadFrom}
+use Rattle.cell.specs.Ages.{AreOfOneAge}
+use Rattle.cell.specs.Opened.{AreBeside, IsReadFrom, cores, world_of}
 use Rattle.cell.specs.Reached.{IsReached}
 use Rattle.cell.proofs.Causes.{same-error}
-use Rattle.cell.proofs.Closed.{opened-again}
+use Rattle.cell.proofs.Closed.{never-ages, new-begun, opened-again}
 use Rattle.cell.proofs.OnShelves.{found-kept}
+use Rattle.cell.proofs.Places.{mapped-there}
 use Rattle.cell.proofs.Ready.{opened}
 use Rattle.cell.proofs.joining.open.Goals as goal
 
@@ -53,4 +55,24 @@ returns-in-Ok-clause-closed g c = λ opening reached width once.
     subst IsReached (sym c.in-Ok.ensures.made.opening)
     (opened-again g.D.Disk.seen g.D.Disk.may_leave g.met.D.Disk.reads_left c.args.shape opening
     c.args.disks.items nodes reached width once c.in_ok-nodes.ensures.count
-    c.in_ok-nodes.ensures.read c.in_ok-nodes.ensures.one_age).0
+    c.in_ok-nodes.ensures.read).0
+
+pub returns-in_err-nodes-clause-closed : goal.returns-in_err-nodes-clause-closed
+returns-in_err-nodes-clause-closed g c = λ opening reached width once.
+    let p = err_from_is_err_and c.from_residual.result c.from_residual.ensures.1 in
+    rw (p.1, p.2)
+    (never-ages g.D.Disk.seen g.D.Disk.may_leave g.met.D.Disk.reads_left c.args.shape opening
+    c.args.disks.items reached width once _ c.in_err-nodes.ensures.ages)
+
+pub returns-in-Ok-clause-begun : goal.returns-in-Ok-clause-begun
+returns-in-Ok-clause-begun g c =
+    let made = c.in-Ok.ensures.made in
+    let same = c.in-Ok.ensures.nodes in
+    new-begun _ c.in-Ok.ensures.new
+    (subst AreOfOneAge (sym same) c.in_ok-nodes.ensures.one_age)
+    (λ k d there.
+    (let seat = made.each_seat k d.seat (mapped-there (λ x. x.seat) _ k d there) in (
+      seat.of.2 ∙ made.opening
+          ∙ ap (λ (l : List WholeNode). world_of (cores l)) (sym same),
+      seat.node,
+    )))

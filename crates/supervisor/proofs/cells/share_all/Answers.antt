@@ -1,6 +1,7 @@
 use Rattle.std.proofs.Common.{◌<◌, length, arith}
 use Rattle.std.specs.Arc.{arc_value}
-use Rattle.supervisor.proofs.Seats.{first-seat, later-seats}
+use Rattle.cell.specs.Closing.{HasBegun}
+use Rattle.supervisor.proofs.Seats.{first-of, first-seat, later-of, later-seats}
 use Rattle.supervisor.proofs.cells.share_all.Goals as goal
 
 pub share-requires-clause-seat : goal.share-requires-clause-seat
@@ -9,10 +10,16 @@ share-requires-clause-seat g c =
     first-seat (λ y. y.seat) (arc_value c.args.wire.now) _ c.remove-cell.result
     c.loop.invariant.seats some c.remove-cell.ensures.value
 
+pub share-requires-clause-begun : goal.share-requires-clause-begun
+share-requires-clause-begun g c = λ _.
+    first-of HasBegun _ c.remove-cell.result c.loop.invariant.begun
+    (let some : 0 < length c.loop.cells.items = omega arith in some) c.remove-cell.ensures.value
+
 pub loop-preserved : goal.loop-preserved
 loop-preserved g c = record {
   seats = later-seats (λ y. y.seat) (arc_value c.args.wire.now) _ _ c.loop.invariant.seats
       c.remove-cell.ensures.items;
+  begun = later-of HasBegun _ _ c.loop.invariant.begun c.remove-cell.ensures.items;
   left = omega (arith, c.loop.invariant.left, c.remove-cell.ensures.len);
   all = c.loop.invariant.all;
   made = omega (arith, c.loop.invariant.made, c.in_ok-push.ensures.len);

@@ -11,16 +11,16 @@ pub take_at_once-requires-clause-named : goal.take_at_once-requires-clause-named
 take_at_once-requires-clause-named g c =
     c.requires.named ∙ ap (λ (w : Wire). Some (name_of w)) (sym c.deref.ensures)
 
-pub take_at_once-requires-clause-count : goal.take_at_once-requires-clause-count
-take_at_once-requires-clause-count g c =
-    c.requires.count ∙ ap (λ (w : Wire). nodes_of (opened_with w)) (sym c.deref.ensures)
+pub take_at_once-requires-clause-wide : goal.take_at_once-requires-clause-wide
+take_at_once-requires-clause-wide g c =
+    ap (λ (w : Wire). nodes_of (opened_with w)) c.deref.ensures ∙ c.requires.wide
 
 pub invariant_of-result : goal.invariant_of-result
 invariant_of-result g c = record {
   once = ∣ subst
       (λ (w : Wire).
       AreOfOneMoment g.D.Disk.may_leave (opened_with w) c.in_ok-disks.disks.items)
-      (c.deref.ensures ∙ ap (λ x. arc_value x) (sym c.of.ensures)) c.in_ok-disks.ensures ∣₁;
+      (c.deref.ensures ∙ ap (λ x. arc_value x) (sym c.of.ensures)) c.in_ok-disks.ensures.once ∣₁;
 }
 
 pub returns-clause-once : goal.returns-clause-once
@@ -28,4 +28,4 @@ returns-clause-once g c =
     subst
     (λ (w : Wire).
     AreOfOneMoment g.D.Disk.may_leave (opened_with w) c.in_ok-disks.disks.items)
-    c.deref.ensures c.in_ok-disks.ensures
+    c.deref.ensures c.in_ok-disks.ensures.once

@@ -4,19 +4,20 @@ use Rattle.wire.specs.Readers.{opened_with, IsSeatOf}
 use Rattle.wire.specs.Rule.{nodes_of}
 use Rattle.cell.specs.Cells.{IsKept}
 use Rattle.cell.specs.Moments.{EachCell, HaveLearned}
-use Rattle.supervisor.specs.Closing.{IsRow}
-use Rattle.supervisor.proofs.Backs.{back-seats, both-ok, of-one-moment}
+use Rattle.supervisor.specs.Closing.{IsBack, IsRow, IsWhy}
+use Rattle.supervisor.proofs.Backs.{all-back, back-seats, both-ok, err-then, of-one-moment}
 use Rattle.supervisor.proofs.closing.take_at_once.Goals as goal
 
 pub survey-requires : goal.survey-requires
 survey-requires g c =
     subst (λ l. EachCell (λ k x. IsSeatOf c.args.wire.now x.seat) l)
     (sym c.as_mut_slice.ensures.value)
-    (back-seats c.args.wire.now g.W.Naming.wire c.requires.named c.in_ok-cells.cells.items
+    (back-seats c.args.wire.now g.W.Naming.wire c.requires.named g.W.Naming.begun
+    c.in_ok-cells.cells.items
     c.in_ok-cells.ensures.back)
 
-pub returns : goal.returns
-returns g c =
+pub returns-clause-once : goal.returns-clause-once
+returns-clause-once g c =
     let old = c.in_ok-cells.cells.items in
     let new = c.survey.new.cells in
     let learned = subst (λ l. HaveLearned l new) c.as_mut_slice.ensures.value
@@ -27,13 +28,34 @@ returns g c =
     ap (λ n. take n (new ++ drop (length new) old)) long
     ∙ take-append_seam new (drop (length new) old) in
     both-ok _ _ _ c.take_disks.result (λ disks same kept.
-    of-one-moment c.args.wire.now g.W.Naming.wire c.requires.named g.D.Disk.may_leave old new
-    c.in_ok-cells.ensures.back
-    (subst (EachCell IsRow) c.as_slice.ensures.value (c.are_last.ensures c.if-not-are_last.false))
+    of-one-moment c.args.wire.now g.W.Naming.wire c.requires.named g.W.Naming.begun
+    g.D.Disk.may_leave old new c.in_ok-cells.ensures.back
+    (subst (EachCell IsRow) c.as_slice.ensures.value c.in_default.ensures.rows)
     (let count : length old ≡ nodes_of (opened_with c.args.wire.now) =
-    omega (arith, c.in_ok-cells.ensures.count, c.requires.count, c.in_ok-cells.cells.ok) in count)
-    learned kept disks.items same c.survey.ensures.at_once)
+    omega (arith, c.in_ok-cells.ensures.count, c.requires.wide, c.in_ok-cells.cells.ok) in count)
+    learned kept c.requires.begun disks.items same c.survey.ensures.at_once)
     (subst (λ l. IfOk c.take_disks.result (λ v. map (λ x. x.disk) l ≡ v.items)) back
     c.take_disks.ensures.disks)
     (subst (λ l. IfOk c.take_disks.result (λ _. EachCell (λ k x. IsKept g.D.Disk.may_leave x) l)) back
     c.take_disks.ensures.kept)
+
+pub returns-clause-why : goal.returns-clause-why
+returns-clause-why g c =
+    err-then c.take_disks.result c.take_disks.ensures.memory (λ u is.
+    subst (λ f. IsWhy c.args.nodes f u.cells.items) (sym is) tt)
+
+pub returns-clause-back : goal.returns-clause-back
+returns-clause-back g c =
+    let old = c.in_ok-cells.cells.items in
+    let new = c.survey.new.cells in
+    let learned = subst (λ l. HaveLearned l new) c.as_mut_slice.ensures.value
+    c.survey.ensures.learned in
+    let long : c.in_ok-cells.cells.len ≡ length new =
+    omega (arith, learned.count, c.in_ok-cells.cells.ok) in
+    let back : take c.in_ok-cells.cells.len (new ++ drop (length new) old) ≡ new =
+    ap (λ n. take n (new ++ drop (length new) old)) long
+    ∙ take-append_seam new (drop (length new) old) in
+    err-then c.take_disks.result c.take_disks.ensures.back (λ u same.
+    subst (EachCell (IsBack g.W.Naming.wire g.W.Naming.begun))
+    (sym (ap (λ v. v.items) same ∙ back))
+    (all-back g.W.Naming.wire g.W.Naming.begun old new learned c.in_ok-cells.ensures.back))

@@ -12,11 +12,13 @@ loop-preserved g c =
     let some : 0 < length c.loop.cells.items = omega arith in
     record {
       left = omega (arith, was.left, c.remove.ensures.len);
+      room = omega (arith, was.room, c.push_reserved.ensures.capacity);
+      made = omega (arith, was.made, c.push_reserved.ensures.len);
       all = was.all;
       rest = c.remove.ensures.items ∙ ap (drop 1) was.rest
           ∙ drop-drop 1 c.loop.counter c.args.cells.items;
       disks = shifted-by (λ d. d) (λ v. v.disk) _ _ _ _ c.into_disk.result c.remove.result _
-          was.disks c.in_ok-push.ensures.items c.into_disk.ensures.disk c.remove.ensures.value some
+          was.disks c.push_reserved.ensures.items c.into_disk.ensures.disk c.remove.ensures.value some
           c.remove.ensures.items;
       kept = kept-next (IsKept g.D.Disk.may_leave) c.args.cells.items c.loop.cells.items
           c.loop.counter c.remove.result was.rest some c.remove.ensures.value

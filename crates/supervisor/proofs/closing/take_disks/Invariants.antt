@@ -1,4 +1,4 @@
-use Rattle.std.proofs.Common.{◌≡◌, ◌<◌, ◌+◌, ◌++◌, drop, map, vec_len}
+use Rattle.std.proofs.Common.{◌≡◌, ◌<◌, ◌≤◌, ◌+◌, ◌++◌, drop, map, vec_capacity, vec_len}
 use Rattle.cell.specs.Cells.{IsKept}
 use Rattle.cell.specs.Moments.{EachCell}
 use Rattle.supervisor.proofs.closing.take_disks.Given as goal
@@ -10,5 +10,7 @@ invariant-loop g l = record {
   rest : l.cells.items ≡ drop l.counter l.fn.cells.items;
   disks : map (λ d. d) l.disks.items ++ map (λ c. c.disk) l.cells.items
       ≡ map (λ c. c.disk) l.fn.cells.items;
+  room : l.end ≤ vec_capacity l.disks;
+  made : vec_len l.disks ≡ l.counter;
   kept : EachCell (λ k c. k < l.counter → IsKept g.D.Disk.may_leave c) l.fn.cells.items;
 }

@@ -1,0 +1,109 @@
+//! A space that is closed with its disks as they are at one moment, and a second one that continues
+//! on them. docs/EMBEDDING.md shows this file, and a case runs it.
+use crate::gates::{Open, pause};
+use cell::Naming;
+use disk::Disk;
+use ids::Refusal;
+use model::{Answer, Event};
+use std::alloc::Global;
+use std::sync::{Arc, Wait};
+use std::thread::Threads;
+use std::time::Clock;
+use supervisor::{Config, Opened, Program, SpaceOn};
+
+// Node 0 makes an object, and gives it to node 1 in a letter.
+#[derive(Drop)]
+struct Giving {
+    gate: Arc<Open>,
+    given: Option<()>,
+}
+
+impl<R, D> Program<R, D> for Giving
+where
+    R: Threads + Wait + Clone + Send + Drop + 'static,
+    D: Disk + Send + Drop + 'static,
+{
+    fn run<W: Naming + Send + 'static>(&mut self, rt: &R, space: &mut SpaceOn<D, W>) {
+        if let Ok(gate) = self.gate.clone()
+            && space.start(rt, gate).is_ok()
+        {
+            self.given = give(rt, space);
+        }
+    }
+}
+
+fn give<R: Wait, D: Disk + Drop, W: Naming>(rt: &R, space: &SpaceOn<D, W>) -> Option<()> {
+    let program = space.program(0)?;
+    let object = Event::Alloc {
+        register: 0,
+        places: 2,
+    };
+    program.act(rt, object).ok()?;
+    let letter = Event::Give {
+        to: 1,
+        label: 7,
+        register: 0,
+    };
+    program.act(rt, letter).ok()?;
+    program.save(rt).ok()
+}
+
+// Node 1 accepts the letter; its label.
+#[derive(Drop)]
+struct Accepting {
+    gate: Arc<Open>,
+    label: Option<u32>,
+}
+
+impl<R, D> Program<R, D> for Accepting
+where
+    R: Threads + Wait + Clock + Clone + Send + Drop + 'static,
+    D: Disk + Send + Drop + 'static,
+{
+    fn run<W: Naming + Send + 'static>(&mut self, rt: &R, space: &mut SpaceOn<D, W>) {
+        if let Ok(gate) = self.gate.clone()
+            && space.start(rt, gate).is_ok()
+        {
+            self.label = accept(rt, space);
+        }
+    }
+}
+
+fn accept<R, D, W>(rt: &R, space: &SpaceOn<D, W>) -> Option<u32>
+where
+    R: Wait + Clock,
+    D: Disk + Drop,
+    W: Naming,
+{
+    let program = space.program(1)?;
+    for _ in rt.forever() {
+        match program.act(rt, Event::Accept { register: 1 }) {
+            Ok(Answer::Letter(letter)) => return Some(letter.label),
+            Err(Refusal::NoLetter) => pause(rt),
+            _ => return None,
+        }
+    }
+    None
+}
+
+/// Two spaces of this configuration, one after another on these disks. The label of the letter that
+/// was given in the first one and accepted in the second one, and the number of disks at the end.
+pub(crate) fn once<R, D>(rt: &R, alloc: Global, text: &str, disks: Vec<D>) -> Option<(u32, usize)>
+where
+    R: Threads + Wait + Clock + Clone + Send + Drop + 'static,
+    D: Disk + Send + Drop + 'static,
+{
+    let config = Config::from_text(alloc, text).ok()?;
+    let gate = Arc::new(alloc, Open).ok()?;
+    let mut giving = Giving {
+        gate: gate.clone().ok()?,
+        given: None,
+    };
+    let first = Opened::open(alloc, &config, disks).ok()?;
+    let closed = first.serve(rt, &mut giving).ok()?.closed.ok()?;
+    giving.given?;
+    let mut accepting = Accepting { gate, label: None };
+    let second = Opened::open(alloc, &config, closed.disks).ok()?;
+    let closed = second.serve(rt, &mut accepting).ok()?.closed.ok()?;
+    Some((accepting.label?, closed.disks.len()))
+}
