@@ -67,6 +67,7 @@ impl Core {
         Ok(Answer::Value(value))
     }
 
+    #[inline(always)]
     #[tactic(auto, using(crate::proofs::Refusing::store_refused), unfolding(model::specs::View::view_act, model::specs::Steps::stored, model::specs::Heaps::heap_store))]
     pub(crate) fn store(&mut self, object: u16, place: u8, register: u16) -> Result<Answer, Refusal>
         ensures performed { Performed false result self.old self.new
