@@ -99,14 +99,13 @@ static void letters(void)
         accepted / LETTERS, moved / LETTERS);
 }
 
-#ifdef MARKRING_WITH_SPACES
-
 static void time_cell(void)
 {
     markring_space space = {0};
     markring_cell cell = {0};
+    uint8_t apart[2];
     MUST(markring_space_new(&space, 2, 4, 1024, 0));
-    MUST(markring_space_open(&space));
+    MUST(markring_space_open(&space, &apart[0], &apart[1]));
     MUST(markring_space_cell(&space, 0, &cell));
     MUST(markring_cell_alloc(&cell, 0, 2, &answer));
     TIME("word of a cell", MARKRING_OK, markring_cell_word(&cell, 0, &answer));
@@ -114,14 +113,6 @@ static void time_cell(void)
     MUST(markring_cell_free(&cell));
     MUST(markring_space_free(&space));
 }
-
-#else
-
-static void time_cell(void)
-{
-}
-
-#endif
 
 int main(void)
 {

@@ -508,10 +508,10 @@ int markring_space_disk(markring_space *space, uint8_t node, const uint8_t *imag
 // may be repeated.
 // MARKRING_IN_USE: the space is open. MARKRING_WRONG_DISKS: an image is that of another node, or of
 // a space of another shape. MARKRING_BAD_IMAGE: the bytes given for a node are no image.
-// MARKRING_AGES: two images can't be of one moment: one node has received what the other one hasn't
-// sent yet, or lacks what the other one has dropped. MARKRING_DISK: the cell of a node can't get
-// the memory that it saves to.
-int markring_space_open(markring_space *space);
+// MARKRING_AGES: the images of two nodes can't be of one moment. `*receiver` has received messages
+// that `*sender` hasn't sent, or lacks some that `*sender` has dropped. The two numbers are written
+// with this status alone. MARKRING_DISK: a cell can't get the memory that it saves to.
+int markring_space_open(markring_space *space, uint8_t *sender, uint8_t *receiver);
 
 // Moves the cell of a node into an empty handle. It takes no memory.
 // MARKRING_NO_HANDLE: the space's handle is empty. MARKRING_IN_USE: the cell's handle isn't empty.

@@ -231,7 +231,7 @@ static void open_cells(int i)
 {
     markring_space space = {0};
     OK(markring_space_new(&space, 2, REGISTERS, SLOTS, 0));
-    OK(markring_space_open(&space));
+    OK(open_space(&space));
     OK(markring_space_cell(&space, 0, &cells[i][0]));
     OK(markring_space_cell(&space, 1, &cells[i][1]));
     OK(markring_space_free(&space));

@@ -12,7 +12,7 @@ static void begin(void)
 {
     markring_space space = {0};
     OK(markring_space_new(&space, 2, 2, 4, 1));
-    OK(markring_space_open(&space));
+    OK(open_space(&space));
     OK(markring_space_cell(&space, 0, &cells[0]));
     OK(markring_space_cell(&space, 1, &cells[1]));
     OK(markring_space_watch(&space, &watch));
@@ -250,11 +250,60 @@ static void board(void)
     end();
 }
 
+// Images of different moments: node 1 has received a letter that an older node 0 hasn't sent, or
+// lacks one that a later node 0 has dropped.
+static void ages(void)
+{
+    static uint8_t stored[3][2][512];
+    size_t lengths[3][2];
+    begin();
+    for (int moment = 0; moment < 3; moment++) {
+        for (int own_number = 0; own_number < 2; own_number++) {
+            save_cell(own_number);
+            memcpy(stored[moment][own_number], image, needed);
+            lengths[moment][own_number] = needed;
+        }
+        if (moment == 0) {
+            OK(markring_cell_give(&cells[0], 1, 4, 0, &answer));
+            save_cell(0);
+            send(0, 1);
+            receive(1, MARKRING_ANSWER_RECEIVED);
+        } else if (moment == 1) {
+            // The acknowledgement: node 0 drops the letter.
+            send(1, 1);
+            receive(0, MARKRING_ANSWER_DONE);
+        }
+    }
+    end();
+    for (int zero = 0; zero < 3; zero++) {
+        for (int one = 0; one < 3; one++) {
+            markring_space space = {0};
+            OK(markring_space_new(&space, 2, 2, 4, 1));
+            OK(markring_space_disk(&space, 0, stored[zero][0], lengths[zero][0]));
+            OK(markring_space_disk(&space, 1, stored[one][1], lengths[one][1]));
+            int is_apart = (zero == 0 && one > 0) || (zero == 2 && one == 0);
+            uint8_t sender = 7, receiver = 7;
+            IS(is_apart ? MARKRING_AGES : MARKRING_OK,
+                markring_space_open(&space, &sender, &receiver));
+            EQUAL(is_apart ? 0 : 7, sender);
+            EQUAL(is_apart ? 1 : 7, receiver);
+            // The right image can still be given.
+            if (is_apart) {
+                OK(markring_space_disk(&space, 0, stored[one][0], lengths[one][0]));
+                OK(open_space(&space));
+                IS(MARKRING_IN_USE, open_space(&space));
+            }
+            OK(markring_space_free(&space));
+        }
+    }
+}
+
 int main(void)
 {
     letters();
     early_messages();
     marks();
     board();
+    ages();
     return report();
 }

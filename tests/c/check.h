@@ -69,6 +69,18 @@ __attribute__((unused)) static void *own(void *block)
     return block;
 }
 
+// ## Spaces
+
+// Opens a space. Unless its images are of different ages, nothing is written.
+__attribute__((unused)) static int open_space(markring_space *space)
+{
+    uint8_t sender = 0x5A, receiver = 0xA5;
+    int status = markring_space_open(space, &sender, &receiver);
+    HOLDS(status == MARKRING_AGES ? sender < 64 && receiver < 64 && sender != receiver
+                                  : sender == 0x5A && receiver == 0xA5);
+    return status;
+}
+
 // ## Answers
 
 // Fills an answer with bytes that no call writes, so that a write shows.

@@ -93,7 +93,7 @@ static void no_space(markring_space *at)
     markring_watch watch = {0};
     blot_buffer();
     NONE(markring_space_disk(at, 0, clean, 8));
-    NONE(markring_space_open(at));
+    NONE(open_space(at));
     NONE(markring_space_cell(at, 0, &cell));
     NONE(markring_space_watch(at, &watch));
     NONE(markring_space_free(at));
@@ -110,7 +110,7 @@ static void empty_spaces(void)
         no_cell(&cell);
         no_watch(&watch);
         OK(markring_space_new(&space, 2, 1, 1, 1));
-        OK(markring_space_open(&space));
+        OK(open_space(&space));
         OK(markring_space_cell(&space, 0, &cell));
         OK(markring_space_watch(&space, &watch));
         OK(markring_space_free(&space));
@@ -455,7 +455,7 @@ static void disks(uint64_t seed, unsigned long count)
     OK(markring_space_disk(&space, 0, good[0].at, good[0].length));
     // Node 0's image for node 1, and then images of spaces of other shapes.
     OK(markring_space_disk(&space, 1, good[0].at, good[0].length));
-    IS(MARKRING_WRONG_DISKS, markring_space_open(&space));
+    IS(MARKRING_WRONG_DISKS, open_space(&space));
     static const struct {
         uint8_t nodes;
         uint16_t registers;
@@ -465,13 +465,13 @@ static void disks(uint64_t seed, unsigned long count)
         OK(markring_node_new(&node, SHAPES[i].nodes, SHAPES[i].registers, SHAPES[i].slots, 1, 0));
         other = image_of(&node);
         OK(markring_space_disk(&space, 1, other.at, other.length));
-        IS(MARKRING_WRONG_DISKS, markring_space_open(&space));
+        IS(MARKRING_WRONG_DISKS, open_space(&space));
         IS(MARKRING_NOTHING, markring_space_cell(&space, 0, &cell));
         OK(markring_node_free(&node));
         drop_bytes(&other);
     }
     OK(markring_space_disk(&space, 1, clean, 0));
-    IS(MARKRING_BAD_IMAGE, markring_space_open(&space));
+    IS(MARKRING_BAD_IMAGE, open_space(&space));
     for (unsigned long i = 0; i < count; i++) {
         bytes given = copy_of(&good[1]);
         markring_space another = {0};
@@ -479,7 +479,7 @@ static void disks(uint64_t seed, unsigned long count)
         OK(markring_space_new(&another, 2, 3, 5, 0));
         OK(markring_space_disk(&another, 0, good[0].at, good[0].length));
         OK(markring_space_disk(&another, 1, given.at, given.length));
-        int status = markring_space_open(&another);
+        int status = open_space(&another);
         int expected = markring_node_from_image(&node, given.at, given.length, 0);
         HOLDS(status == MARKRING_OK || status == MARKRING_BAD_IMAGE
             || status == MARKRING_WRONG_DISKS || status == MARKRING_AGES);
@@ -491,8 +491,8 @@ static void disks(uint64_t seed, unsigned long count)
         drop_bytes(&given);
     }
     OK(markring_space_disk(&space, 1, good[1].at, good[1].length));
-    OK(markring_space_open(&space));
-    IS(MARKRING_IN_USE, markring_space_open(&space));
+    OK(open_space(&space));
+    IS(MARKRING_IN_USE, open_space(&space));
     IS(MARKRING_IN_USE, markring_space_disk(&space, 1, good[1].at, good[1].length));
     OK(markring_space_cell(&space, 1, &cell));
     IS(MARKRING_IN_USE, markring_space_cell(&space, 0, &cell));

@@ -334,7 +334,7 @@ static bytes over_cells(void)
     markring_watch watch = {0};
     bytes images[2] = {{0}, {0}};
     MAY(markring_space_new(&space, 2, 4, 64, 1));
-    MAY(markring_space_open(&space));
+    MAY(open_space(&space));
     SPARES(markring_space_cell(&space, 0, &cells[0]));
     SPARES(markring_space_cell(&space, 1, &cells[1]));
     SPARES(markring_space_watch(&space, &watch));
@@ -368,7 +368,7 @@ static bytes over_cells(void)
     MAY(markring_space_new(&space, 2, 4, 64, 0));
     MAY(markring_space_disk(&space, 0, images[0].at, images[0].length));
     MAY(markring_space_disk(&space, 1, images[1].at, images[1].length));
-    MAY(markring_space_open(&space));
+    MAY(open_space(&space));
     SPARES(markring_space_cell(&space, 1, &cells[1]));
     SPARES(markring_space_free(&space));
     MAY(markring_cell_image(&cells[1], image, sizeof image, &needed, &mark));
@@ -389,7 +389,7 @@ static int save_without(unsigned long one)
     markring_space space = {0};
     markring_cell *cell = &cells[0];
     OK(markring_space_new(&space, 2, 2, 4, 0));
-    OK(markring_space_open(&space));
+    OK(open_space(&space));
     OK(markring_space_cell(&space, 0, cell));
     OK(markring_space_free(&space));
     OK(markring_cell_alloc(cell, 0, 1, &answer));

@@ -195,7 +195,7 @@ static void *run(void *given)
 }
 
 // Opens the space, on the stored images if there are any, with a watch.
-static void open_space(int has_images, markring_watch *watch)
+static void make_space(int has_images, markring_watch *watch)
 {
     markring_space space = {0};
     markring_answer answer;
@@ -205,7 +205,7 @@ static void open_space(int has_images, markring_watch *watch)
             OK(markring_space_disk(&space, node, sites[node].image, sites[node].length));
         }
     }
-    OK(markring_space_open(&space));
+    OK(open_space(&space));
     OK(markring_space_watch(&space, watch));
     for (uint8_t node = 0; node < nodes; node++) {
         site *it = &sites[node];
@@ -267,7 +267,7 @@ int main(int length, char **given)
     nodes = (uint8_t)(length > 1 ? strtoul(given[1], NULL, 10) : 3);
     letters = length > 2 ? strtoul(given[2], NULL, 10) : 2000;
     unsigned long crashes = length > 3 ? strtoul(given[3], NULL, 10) : 5;
-    open_space(0, &watch);
+    make_space(0, &watch);
     for (unsigned long i = 0; i < crashes; i++) {
         run_threads(1, &seed, &watch);
         OK(markring_watch_look(&watch, &cycle));
@@ -275,7 +275,7 @@ int main(int length, char **given)
             OK(markring_cell_free(&sites[node].cell));
         }
         OK(markring_watch_free(&watch));
-        open_space(1, &watch);
+        make_space(1, &watch);
         OK(markring_watch_look(&watch, &later));
         EQUAL(0, later);
     }

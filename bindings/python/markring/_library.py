@@ -112,7 +112,7 @@ FUNCTIONS = {
     "space": {
         "new": (U8, U16, U32, U8),
         "disk": (U8, c_char_p, SIZE),
-        "open": (),
+        "open": (TO_FLAG, TO_FLAG),
         "cell": (U8, AT),
         "watch": (AT,),
         "free": (),

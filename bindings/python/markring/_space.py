@@ -7,7 +7,7 @@ from types import TracebackType
 from typing import Any, NamedTuple, Optional, TypeVar, Union
 
 from . import _library as c
-from .errors import BadArgument, check, found
+from .errors import Ages, BadArgument, check, found
 
 LENGTH, NUMBER = 2, 8
 FRAME, WINDOW = 48, 1_856
@@ -357,7 +357,12 @@ class Space(_Handle):
 
     def open(self) -> list[Cell]:
         """Opens the space, and moves out the cells of all nodes. If that is refused, the space keeps its images."""
-        self._call("open")
+        sender, receiver = ctypes.c_uint8(), ctypes.c_uint8()
+        try:
+            self._call("open", sender, receiver)
+        except Ages as refusal:
+            refusal.sender, refusal.receiver = sender.value, receiver.value
+            raise
         cells = [Cell() for _ in range(self.nodes)]
         for node, cell in enumerate(cells):
             self._call("cell", node, cell._at)

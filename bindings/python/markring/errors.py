@@ -199,9 +199,14 @@ class Congested(Refusal):
 
 
 class Ages(Refusal):
-    """The images of two nodes aren't of one moment."""
+    """The images of two nodes aren't of one moment.
+
+    The receiver has received messages that the sender hasn't sent, or lacks some that the sender has dropped.
+    """
 
     status, text = 109, "the images of two nodes aren't of one moment"
+    sender: int = 0
+    receiver: int = 0
 
 
 OK = 0

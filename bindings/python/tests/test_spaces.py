@@ -89,6 +89,18 @@ class Spaces(unittest.TestCase):
         cells[0].reopen()
         self.assertEqual(cells[0].word(3), 42)
 
+        # Node 1 receives a letter that the stored image of node 0 hasn't sent.
+        cells[0].give(1, 1, 3)
+        cells[0].save(cells[0].image().mark)
+        cells[0].send(1)
+        self.assertEqual(cells[1].receive(0), Taken.RECEIVED)
+        later = Space(2, 4, 16)
+        later.disk(0, images[0].data)
+        later.disk(1, cells[1].image().data)
+        with self.assertRaises(errors.Ages) as caught:
+            later.open()
+        self.assertEqual((caught.exception.sender, caught.exception.receiver), (0, 1))
+
         again = Space(2, 4, 16)
         self.assertRaises(errors.NoNode, again.disk, 2, b"")
         again.disk(0, images[1].data)

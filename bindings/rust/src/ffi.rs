@@ -151,7 +151,7 @@ extern "C" {
         image: *const u8,
         length: usize,
     ) -> c_int;
-    pub(crate) fn markring_space_open(space: Place) -> c_int;
+    pub(crate) fn markring_space_open(space: Place, sender: *mut u8, receiver: *mut u8) -> c_int;
     pub(crate) fn markring_space_cell(space: Place, node: u8, cell: Place) -> c_int;
     pub(crate) fn markring_space_watch(space: Place, watch: Place) -> c_int;
     pub(crate) fn markring_space_free(space: Place) -> c_int;

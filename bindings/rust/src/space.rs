@@ -4,7 +4,9 @@ use crate::events::events;
 use crate::ffi;
 use crate::node::filled;
 use crate::refusal::{checked, found};
-use crate::{Answer, Event, Events, Freed, Image, Letter, Link, Passed, Ref, Result, State, Taken};
+use crate::{
+    Answer, Event, Events, Freed, Image, Letter, Link, Passed, Ref, Refusal, Result, State, Taken,
+};
 use alloc::vec::Vec;
 use core::cell::UnsafeCell;
 use core::ffi::c_int;
@@ -35,6 +37,7 @@ use core::fmt;
 pub struct Space {
     at: UnsafeCell<ffi::Handle>,
     nodes: u8,
+    apart: core::cell::Cell<Option<(u8, u8)>>,
 }
 
 // SAFETY: the library allows a handle to move between threads.
@@ -50,7 +53,11 @@ impl Space {
     pub fn new(nodes: u8, registers: u16, slots: u32, watches: u8) -> Result<Self> {
         let at = UnsafeCell::new(ffi::Handle::empty());
         checked(unsafe { ffi::markring_space_new(at.get(), nodes, registers, slots, watches) })?;
-        Ok(Space { at, nodes })
+        Ok(Space {
+            at,
+            nodes,
+            apart: core::cell::Cell::new(None),
+        })
     }
 
     /// Gives the space the stored image of a node, from which that node will continue. Give the
@@ -72,7 +79,19 @@ impl Space {
     /// `InUse` if the space is open; `WrongDisks` if an image is of another node or of a space of
     /// another shape; `Ages` if two images can't be of one moment; `BadImage`; `Disk`; `Memory`.
     pub fn open(&self) -> Result<()> {
-        checked(unsafe { ffi::markring_space_open(self.at.get()) })
+        let (mut sender, mut receiver) = (0, 0);
+        let status = unsafe { ffi::markring_space_open(self.at.get(), &mut sender, &mut receiver) };
+        let opened = checked(status);
+        self.apart
+            .set((opened == Err(Refusal::Ages)).then_some((sender, receiver)));
+        opened
+    }
+
+    /// The two nodes that made the last [`open`](Space::open) fail with `Ages`, if it did. The
+    /// second one has received messages that the first hasn't sent, or lacks some that the first
+    /// has dropped.
+    pub fn apart(&self) -> Option<(u8, u8)> {
+        self.apart.get()
     }
 
     /// The cell of a node, or nothing if the space isn't open or the cell was moved out before.

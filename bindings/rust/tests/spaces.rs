@@ -142,8 +142,17 @@ fn a_space_continues_from_its_images() -> Result<()> {
     assert_eq!(space.open(), Err(Refusal::WrongDisks));
     space.disk(1, &images[1].bytes[1..])?;
     assert_eq!(space.open(), Err(Refusal::BadImage));
+    // Node 1 receives a letter that the stored image of node 0 hasn't sent.
+    cells[0].give(1, 1, 3)?;
+    cells[0].save(cells[0].image()?.mark)?;
+    assert!(cells[0].send(1)?);
+    assert_eq!(cells[1].receive(0)?, Some(Taken::Received));
+    space.disk(1, &cells[1].image()?.bytes)?;
+    assert_eq!(space.open(), Err(Refusal::Ages));
+    assert_eq!(space.apart(), Some((0, 1)));
     space.disk(1, &images[1].bytes)?;
     space.open()?;
+    assert_eq!(space.apart(), None);
     let cell = space.cell(0)?.expect("the space is open");
     assert_eq!(cell.word(3)?, 42);
     Ok(())

@@ -1,6 +1,6 @@
 -- What the exports do: they call the method of a handle, return the status of its result, and write
 -- what the result holds.
-use Rattle.std.specs.Prelude.{◌≡◌, ℕ, ℤ, Bool, Option, Some, None, Result}
+use Rattle.std.specs.Prelude.{◌≡◌, ℕ, ℤ, Bool, Option, Some, None, Result, Err}
 use Rattle.model.specs.declared.event.Answer.{Answer}
 use Rattle.model.specs.declared.event.Event.{Event}
 use Rattle.handles.specs.Faults.{Through, status, status_of, written}
@@ -47,6 +47,24 @@ pub record Flagged (Does : Result Bool Fault → Type 0) (s : ℤ) (before after
   pub does : Does result
   pub status : s ≡ status result
   pub flag : after ≡ written bit result before
+
+-- the two nodes of a fault, or what was there
+abbrev pub sender_of : Result (Unit {0}) Fault → ℕ → ℕ
+sender_of (Err (fault.Ages sender receiver)) before = sender
+sender_of r before = before
+
+abbrev pub receiver_of : Result (Unit {0}) Fault → ℕ → ℕ
+receiver_of (Err (fault.Ages sender receiver)) before = receiver
+receiver_of r before = before
+
+-- The call did this with some result. If that names two nodes, their numbers were written.
+pub record OpenedOr {X : Type 0} (Does : Option X → Option X → Result (Unit {0}) Fault → Type 0)
+    (old new : Option X) (s : ℤ) (from sender to receiver : ℕ) : Type 0 where
+  pub result : Result (Unit {0}) Fault
+  pub does : Does old new result
+  pub status : s ≡ status result
+  pub first : sender ≡ sender_of result from
+  pub second : receiver ≡ receiver_of result to
 
 abbrev pub NodeCalled : Event → Option LoneNode → Option LoneNode → ℤ → CAnswer → CAnswer → Type 0
 NodeCalled e = Answered (Through (NodeActs e))

@@ -2,9 +2,10 @@
 ghost use Rattle.handles.specs.Faults.{Filled, Freed, Through};
 ghost use Rattle.spaces.specs.Spaces.{Given, Made, Moved, Opens, TakesCell, TakesWatch};
 ghost use Rattle.spaces.specs.Watches.{Looks};
-ghost use Rattle.markring_c.specs.Calls.{Finished, Finishes, Numbered};
+ghost use Rattle.markring_c.specs.Calls.{Finished, Finishes, Numbered, OpenedOr};
 
 use crate::written::{status, written};
+use handles::{Fault, OK};
 use spaces::{CellHandle, SpaceHandle, WatchHandle};
 use std::alloc::Global;
 
@@ -38,12 +39,31 @@ pub extern "C" fn markring_space_disk(
     status(space.give(alloc, node, image))
 }
 
-/// Opens the space.
+/// Opens the space. If the images of two nodes are not of one moment, it writes their numbers.
 #[unsafe(no_mangle)]
-pub extern "C" fn markring_space_open(alloc: Global, space: &mut SpaceHandle) -> i32
-    ensures { Finished (Through Opens) space.old.held space.new.held result }
+pub extern "C" fn markring_space_open(
+    alloc: Global,
+    space: &mut SpaceHandle,
+    sender: &mut u8,
+    receiver: &mut u8,
+) -> i32
+    ensures { OpenedOr (Through Opens) space.old.held space.new.held result sender.old sender.new
+        receiver.old receiver.new }
 {
-    status(space.open(alloc))
+    match space.open(alloc) {
+        Ok(()) => OK,
+        Err(fault) => {
+            if let Fault::Ages {
+                sender: from,
+                receiver: to,
+            } = fault
+            {
+                *sender = from;
+                *receiver = to;
+            }
+            fault.status()
+        }
+    }
 }
 
 /// Moves the cell of a node into an empty handle.
