@@ -1,5 +1,5 @@
 //! A space that is closed with its disks as they are at one moment, and a second one that continues
-//! on them. docs/EMBEDDING.md shows this file, and a case runs it.
+//! on them. docs/EMBEDDING.md shows parts of this file, and a case runs it.
 use crate::gates::{Open, pause};
 use cell::Naming;
 use disk::Disk;
@@ -14,21 +14,12 @@ use supervisor::{Config, Opened, Program, SpaceOn};
 // Node 0 makes an object, and gives it to node 1 in a letter.
 #[derive(Drop)]
 struct Giving {
-    gate: Arc<Open>,
     given: Option<()>,
 }
 
-impl<R, D> Program<R, D> for Giving
-where
-    R: Threads + Wait + Clone + Send + Drop + 'static,
-    D: Disk + Send + Drop + 'static,
-{
-    fn run<W: Naming + Send + 'static>(&mut self, rt: &R, space: &mut SpaceOn<D, W>) {
-        if let Ok(gate) = self.gate.clone()
-            && space.start(rt, gate).is_ok()
-        {
-            self.given = give(rt, space);
-        }
+impl<R: Wait, D: Disk + Drop> Program<R, D> for Giving {
+    fn run<W: Naming>(&mut self, rt: &R, space: &SpaceOn<D, W>) {
+        self.given = give(rt, space);
     }
 }
 
@@ -51,21 +42,12 @@ fn give<R: Wait, D: Disk + Drop, W: Naming>(rt: &R, space: &SpaceOn<D, W>) -> Op
 // Node 1 accepts the letter; its label.
 #[derive(Drop)]
 struct Accepting {
-    gate: Arc<Open>,
     label: Option<u32>,
 }
 
-impl<R, D> Program<R, D> for Accepting
-where
-    R: Threads + Wait + Clock + Clone + Send + Drop + 'static,
-    D: Disk + Send + Drop + 'static,
-{
-    fn run<W: Naming + Send + 'static>(&mut self, rt: &R, space: &mut SpaceOn<D, W>) {
-        if let Ok(gate) = self.gate.clone()
-            && space.start(rt, gate).is_ok()
-        {
-            self.label = accept(rt, space);
-        }
+impl<R: Wait + Clock, D: Disk + Drop> Program<R, D> for Accepting {
+    fn run<W: Naming>(&mut self, rt: &R, space: &SpaceOn<D, W>) {
+        self.label = accept(rt, space);
     }
 }
 
@@ -95,15 +77,14 @@ where
 {
     let config = Config::from_text(alloc, text).ok()?;
     let gate = Arc::new(alloc, Open).ok()?;
-    let mut giving = Giving {
-        gate: gate.clone().ok()?,
-        given: None,
-    };
+    let mut giving = Giving { given: None };
+    let mut accepting = Accepting { label: None };
     let first = Opened::open(alloc, &config, disks).ok()?;
-    let closed = first.serve(rt, &mut giving).ok()?.closed.ok()?;
+    let served = first.serve(rt, gate.clone().ok()?, &mut giving).ok()?;
+    let disks = served.closed.ok()?.disks;
     giving.given?;
-    let mut accepting = Accepting { gate, label: None };
-    let second = Opened::open(alloc, &config, closed.disks).ok()?;
-    let closed = second.serve(rt, &mut accepting).ok()?.closed.ok()?;
-    Some((accepting.label?, closed.disks.len()))
+    let second = Opened::open(alloc, &config, disks).ok()?;
+    let served = second.serve(rt, gate, &mut accepting).ok()?;
+    let disks = served.closed.ok()?.disks;
+    Some((accepting.label?, disks.len()))
 }

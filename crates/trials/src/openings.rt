@@ -1,7 +1,8 @@
 //! Opens spaces on disks in memory. A case can make a disk fail and crash, and replace it with an
 //! older copy. No worker is started: each command that gives a node something opens the space,
 //! saves the node and drops the space.
-ghost use Rattle.std.specs.Prelude.{◌≡◌, true};
+ghost use Rattle.std.specs.Prelude.{◌≡◌, true, IsTrue, Some};
+ghost use Rattle.cell.specs.Names.{name_of};
 ghost use Rattle.model.specs.Steps.{is_own};
 
 use crate::spaces::config_of;
@@ -12,9 +13,10 @@ use disk::{Disk, MemoryDisk};
 use ids::Refusal;
 use model::{Answer, Event};
 use std::alloc::Global;
+use std::marker::Brand;
 use std::sync::Wait;
 use std::thread::Threads;
-use supervisor::{CloseFault, Config, OpenFault, Opened, Program, Space, SpaceOn};
+use supervisor::{CloseFault, Config, OpenFault, Opened, Space, SpaceOn};
 use wire::Inbound;
 
 // The disks of a space, and the copies that the case has kept.
@@ -98,15 +100,12 @@ impl<R: Threads + Wait> Openings<'_, R> {
         let [_, node, words @ ..] = words else {
             return Err(Stop::Unknown);
         };
-        let mut acting = Acting {
-            node: read(node)?,
-            event: event_of(self.alloc, words)?,
-            answer: Err(Refusal::Memory),
-        };
-        match served(self.rt, self.alloc, &mut self.disks, &mut acting) {
-            Ok(closed) => {
-                out.answer(acting.answer);
-                out.debug(&closed);
+        let node = read(node)?;
+        let event = event_of(self.alloc, words)?;
+        match close_at_once(self.rt, self.alloc, &mut self.disks, node, event) {
+            Ok(once) => {
+                out.answer(once.answer);
+                out.debug(&once.closed);
             }
             Err(fault) => out.show(&fault),
         }
@@ -190,38 +189,52 @@ fn opened<'a>(
     Space::open(alloc, &config, disks)
 }
 
-// A program that gives a node an event, and saves it.
-#[derive(Drop)]
-struct Acting {
-    node: u8,
-    event: Event,
-    answer: Result<Answer, Refusal>,
-    ghost own: { is_own event ≡ true },
-}
-
-impl<R: Wait, D: Disk + Drop> Program<R, D> for Acting {
-    fn run<W: Naming + Send + 'static>(&mut self, rt: &R, space: &mut SpaceOn<D, W>) {
-        self.answer = act_on(rt, space, self.node, self.event);
-    }
-}
-
-// Runs the program in a space on these disks, and closes the space at once. Whether it gave out its
-// disks.
-fn served<R: Threads + Wait>(
+// A node's answer to an event in a space on these disks, which is then closed at once, and whether
+// the space gave out its disks.
+fn close_at_once<R: Threads + Wait>(
     rt: &R,
     alloc: Global,
     held: &mut [MemoryDisk],
-    acting: &mut Acting,
-) -> Result<Result<(), CloseFault>, OpenFault> {
+    node: u8,
+    event: Event,
+) -> Result<Once, OpenFault>
+    requires { is_own event ≡ true }
+{
     let (config, disks) = lent(alloc, held)?;
-    let space = Opened::open(alloc, &config, disks)?;
-    match space.serve(rt, acting) {
-        Ok(served) => match served.closed {
-            Ok(_closed) => Ok(Ok(())),
-            Err(unclosed) => Ok(Err(unclosed.fault)),
-        },
+    let opened = Opened::open(alloc, &config, disks)?;
+    match close_named::<Brand, R>(rt, opened, node, event) {
+        Ok(once) => Ok(once),
         Err(refusal) => Err(OpenFault::Refused(refusal)),
     }
+}
+
+// What a space answered, and whether it gave out its disks.
+#[derive(Drop)]
+struct Once {
+    answer: Result<Answer, Refusal>,
+    closed: Result<(), CloseFault>,
+}
+
+// The same in a space whose wire has the name of `W`.
+fn close_named<W: Naming, R: Threads + Wait>(
+    rt: &R,
+    opened: Opened<Lent<'_, MemoryDisk>>,
+    node: u8,
+    event: Event,
+) -> Result<Once, Refusal>
+    requires own { is_own event ≡ true }
+    requires named { W.wire ≡ Some (name_of opened.wire) }
+    requires begun { IsTrue W.begun }
+{
+    let space = opened.share::<W>()?;
+    let answer = act_on(rt, &space, node, event);
+    let (reports, closed) = space.close_at_once(rt);
+    drop(reports);
+    let closed = match closed {
+        Ok(_closed) => Ok(()),
+        Err(unclosed) => Err(unclosed.fault),
+    };
+    Ok(Once { answer, closed })
 }
 
 // A node's answer to an event, once the node is saved.
