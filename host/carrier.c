@@ -1,7 +1,5 @@
 #include "carrier.h"
 
-#include <string.h>
-
 enum { RECONNECT_MS = 100, CONNECT_MS = 2000, PING_MS = 5000, BACKLOG = 1 << 20 };
 
 static void on_connected(natsConnection *connection, void *closure)
@@ -30,11 +28,9 @@ static void on_error(
     natsConnection *connection, natsSubscription *subscription, natsStatus error, void *closure)
 {
     const carrier_events *events = closure;
-    const char *text = NULL;
+    (void)connection;
     (void)subscription;
-    if (error == NATS_NOT_PERMITTED
-        && natsConnection_GetLastError(connection, &text) == NATS_NOT_PERMITTED && text != NULL
-        && strstr(text, "Subscription") != NULL) {
+    if (error == NATS_NOT_PERMITTED) {
         events->forbidden(events->context);
     }
 }

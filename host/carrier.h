@@ -16,7 +16,7 @@ typedef struct carrier_options {
 typedef struct carrier_events {
     void (*connected)(void *context); // for the first time, or again
     void (*closed)(void *context);    // for ever: the server refuses the user, for example
-    // The server doesn't let this user subscribe to something.
+    // The server doesn't let this user publish or subscribe to something.
     void (*forbidden)(void *context);
     void *context;
 } carrier_events;
