@@ -183,7 +183,7 @@ impl<D: Disk + Drop, W: Naming> SpaceOn<D, W> {
     /// node of that number; `Disk` if the device failed; `Memory` if allocation failed. After the
     /// last two, the node's cell is closed until a restart succeeds.
     pub fn restart<R: Wait>(&self, rt: &R, node: u8) -> Result<(), Refusal>
-        ensures no_node { self.now.plan.nodes ≤ node → IfErr result (λ e. e ≡ refusal.NoNode) }
+        ensures no_node { IsErrOf result refusal.NoNode ↔ (self.now.plan.nodes ≤ node) }
         ensures others { node < self.now.plan.nodes
             → IfErr result (λ e. (e ≡ refusal.Memory) ⊎ (e ≡ refusal.Disk)) }
     {
@@ -235,7 +235,9 @@ impl<D: Disk + Drop, W: Naming> SpaceOn<D, W> {
     }
 
     /// Whether no worker is left that could take a turn: all have ended, or none was started.
-    pub fn all_ended(&self) -> bool {
+    pub fn all_ended(&self) -> bool
+        ensures none { is_some self.now.team ≡ false → result ≡ true }
+    {
         match &self.team {
             Some(team) => team.all_ended(),
             None => true,

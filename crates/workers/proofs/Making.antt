@@ -1,15 +1,14 @@
 -- Calls made one after another.
 use Rattle.std.proofs.Common.{◌≡◌, ℕ, ◌+◌, Bool, true, List, ◌∷◌, [], ◌++◌, Some, Result, Ok, Err, IfErr, is_ok, sym, subst, append_assoc, arith}
 use Rattle.std.specs.Result.{result_err}
-use Rattle.workers.specs.Calls.{asked, Makes}
+use Rattle.workers.specs.Calls.{Called, Makes, asked}
 use Rattle.workers.specs.Turns.{at, collects, raises, saves, sends, takes, turn_of}
-use Rattle.workers.specs.declared.calls.Call.{Call}
 use Rattle.workers.specs.declared.calls.Past.{Past}
 use Rattle.workers.specs.declared.gate.Stage.{Stage}
 use Rattle.workers.specs.declared.gate.Stage.TheVariants as stage
 
 -- these calls, and then those
-pub then : {first second : List Call} {r f s g : ℕ} {old middle new : Past}
+pub then : {first second : List Called} {r f s g : ℕ} {old middle new : Past}
     → Makes first r f old middle → Makes second s g middle new
     → Makes (first ++ second) (r + s) (f + g) old new
 then {first} {second} {r} {f} {s} {g} {old} {middle} {new} before after =
@@ -29,7 +28,7 @@ answered {node} {turn} {r} {f} {s} {old = old} {new = new} answer is makes =
     subst (λ a. Makes (at node turn s a ∷ []) r f old new) is makes
 
 -- the calls of a turn whose last question has this answer
-abbrev pub up_to_sent : ℕ → ℕ → ℕ → ℕ → Bool → Bool → List Call
+abbrev pub up_to_sent : ℕ → ℕ → ℕ → ℕ → Bool → Bool → List Called
 up_to_sent node nodes turn scanned unsaved goes_on =
     (at node turn stage.Start true ∷ [])
     ++ (takes node nodes ++ ((at node turn stage.TakenIn true ∷ [])

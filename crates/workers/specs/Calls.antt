@@ -1,26 +1,48 @@
 -- The calls of a turn, in order, and what they did.
-use Rattle.std.specs.Prelude.{◌≡◌, ℕ, ◌+◌, false, cond, List, [], ◌∷◌, ◌++◌}
+use Rattle.std.specs.Prelude.{◌≡◌, ℕ, ◌+◌, Bool, is_ok, List, [], ◌∷◌, ◌++◌, Ok}
+use Rattle.model.specs.declared.event.Answer.TheVariants as answer
+use Rattle.wire.specs.declared.pumped.Inbound.TheVariants as inbound
 use Rattle.workers.specs.declared.calls.Call.{Call}
 use Rattle.workers.specs.declared.calls.Call.TheVariants as call
 use Rattle.workers.specs.declared.calls.Past.{Past, Start, Then'}
+use Rattle.workers.specs.declared.gate.Point.{Point}
 
--- a call without the part of its answer that is counted
-abbrev pub plain : Call → Call
-plain (call.PumpIn from received) = call.PumpIn from false
-plain (call.Sweep count freed) = call.Sweep count 0
-plain c = c
+-- what was called: a call without its answer, unless the turn depends on that
+pub data Called : Type 0 where
+  At : Point → Bool → Called
+  PumpIn : ℕ → Called
+  Scan : Bool → Called
+  Pass : Called
+  Sweep : ℕ → Called
+  Unsaved : Bool → Called
+  Save : Called
+  PumpOut : ℕ → Called
+  Raise : Called
 
--- how many messages a call received, and how many objects it freed
+abbrev pub plain : Call → Called
+plain (call.At point goes_on) = At point goes_on
+plain (call.PumpIn from answered) = PumpIn from
+plain (call.Scan answered) = Scan (is_ok answered)
+plain call.Pass = Pass
+plain (call.Sweep count answered) = Sweep count
+plain (call.Unsaved unsaved) = Unsaved unsaved
+plain call.Save = Save
+plain (call.PumpOut to) = PumpOut to
+plain call.Raise = Raise
+
+-- how many messages a call received: a message counts once it is received, neither when it comes
+-- early nor when it comes again
 abbrev pub received_by : Call → ℕ
-received_by (call.PumpIn from received) = cond received 1 0
+received_by (call.PumpIn from (Ok (inbound.Event answer.Received))) = 1
 received_by _ = 0
 
+-- how many objects a call freed
 abbrev pub freed_by : Call → ℕ
-freed_by (call.Sweep count freed) = freed
+freed_by (call.Sweep count (Ok (answer.Freed freed done))) = freed
 freed_by _ = 0
 
 -- the completed calls
-abbrev pub asked : Past → List Call
+abbrev pub asked : Past → List Called
 asked Start = []
 asked (Then' m before c) = asked before ++ plain c ∷ []
 
@@ -33,7 +55,7 @@ freed_in Start = 0
 freed_in (Then' m before c) = freed_in before + freed_by c
 
 -- these calls were made, and received this many messages and freed this many objects
-pub record Makes (calls : List Call) (received freed : ℕ) (old new : Past) : Type 0 where
+pub record Makes (calls : List Called) (received freed : ℕ) (old new : Past) : Type 0 where
   pub asks : asked new ≡ asked old ++ calls
   pub receives : received_in new ≡ received_in old + received
   pub frees : freed_in new ≡ freed_in old + freed

@@ -1,17 +1,15 @@
 -- The calls of a worker's turns.
 use Rattle.std.specs.Prelude.{◌≡◌, ℕ, ◌+◌, ◌≤◌, zero, suc, nat_lt, ◌==◌, Bool, true, false, not, cond, List, [], ◌∷◌, ◌++◌, replicate, Option, Some, None}
-use Rattle.workers.specs.Calls.{asked, freed_in, received_in}
-use Rattle.workers.specs.declared.calls.Call.{Call}
-use Rattle.workers.specs.declared.calls.Call.TheVariants as call
+use Rattle.workers.specs.Calls.{Called, At, Pass, PumpIn, PumpOut, Raise, Save, Scan, Sweep, Unsaved, asked, freed_in, received_in}
 use Rattle.workers.specs.declared.calls.Past.{Past}
 use Rattle.workers.specs.declared.gate.Stage.{Stage}
 use Rattle.workers.specs.declared.gate.Stage.TheVariants as stage
 use Rattle.workers.specs.declared.run.Turns.{Turns, Start, Then'}
-use Rattle.workers.specs.declared.turn.Turn.{Turn}
+use Rattle.workers.specs.declared.turn.Counts.{Counts}
 
 -- the gate is asked, and answers whether the worker continues
-abbrev pub at : ℕ → ℕ → Stage → Bool → Call
-at node turn s goes_on = call.At (record { node = node; turn = turn; stage = s }) goes_on
+abbrev pub at : ℕ → ℕ → Stage → Bool → Called
+at node turn s goes_on = At (record { node = node; turn = turn; stage = s }) goes_on
 
 -- whether the gate ended the worker there
 abbrev pub ends_at : Option Stage → Stage → Bool
@@ -23,38 +21,38 @@ ends_at (Some stage.Sent) stage.Sent = true
 ends_at _ _ = false
 
 -- one call for each other node below a number, ascending
-abbrev pub each_other : (ℕ → Call) → ℕ → ℕ → List Call
+abbrev pub each_other : (ℕ → Called) → ℕ → ℕ → List Called
 each_other make own zero = []
 each_other make own (suc n) = each_other make own n ++ cond (n == own) [] (make n ∷ [])
 
-abbrev pub takes : ℕ → ℕ → List Call
-takes own n = each_other (λ from. call.PumpIn from false) own n
+abbrev pub takes : ℕ → ℕ → List Called
+takes own n = each_other (λ from. PumpIn from) own n
 
-abbrev pub sends : ℕ → ℕ → List Call
-sends own n = each_other (λ to. call.PumpOut to) own n
+abbrev pub sends : ℕ → ℕ → List Called
+sends own n = each_other (λ to. PumpOut to) own n
 
 -- scans until one fails, at most eight
-abbrev pub scans : ℕ → List Call
-scans n = replicate n (call.Scan true) ++ cond (nat_lt n 8) (call.Scan false ∷ []) []
+abbrev pub scans : ℕ → List Called
+scans n = replicate n (Scan true) ++ cond (nat_lt n 8) (Scan false ∷ []) []
 
 -- the collector's part
-abbrev pub collects : ℕ → List Call
-collects scanned = scans scanned ++ call.Pass ∷ call.Sweep 64 0 ∷ []
+abbrev pub collects : ℕ → List Called
+collects scanned = scans scanned ++ Pass ∷ Sweep 64 ∷ []
 
 -- a save, if there is something to save
-abbrev pub saves : Bool → List Call
-saves unsaved = call.Unsaved unsaved ∷ cond unsaved (call.Save ∷ []) []
+abbrev pub saves : Bool → List Called
+saves unsaved = Unsaved unsaved ∷ cond unsaved (Save ∷ []) []
 
 -- node 0 raises the last ended cycle on the board
-abbrev pub raises : ℕ → List Call
-raises node = cond (node == 0) (call.Raise ∷ []) []
+abbrev pub raises : ℕ → List Called
+raises node = cond (node == 0) (Raise ∷ []) []
 
 -- the gate is asked, and these calls follow if it doesn't end the worker there
-abbrev pub asks : ℕ → ℕ → Option Stage → Stage → List Call → List Call
+abbrev pub asks : ℕ → ℕ → Option Stage → Stage → List Called → List Called
 asks node turn ended s rest =
     at node turn s (not (ends_at ended s)) ∷ cond (ends_at ended s) [] rest
 
-abbrev pub turn_of : ℕ → ℕ → ℕ → Option Stage → ℕ → Bool → List Call
+abbrev pub turn_of : ℕ → ℕ → ℕ → Option Stage → ℕ → Bool → List Called
 turn_of node nodes turn ended scanned unsaved =
     asks node turn ended stage.Start
     (takes node nodes ++ asks node turn ended stage.TakenIn
@@ -71,12 +69,12 @@ pub record IsTurn (node nodes turn : ℕ) (ended : Option Stage) (past : Past) :
   pub whole : asked past ≡ turn_of node nodes turn ended scanned unsaved
 
 -- nothing has been done yet in the turn
-pub record IsNew (t : Turn) : Type 0 where
-  pub asks : asked t.past.value ≡ []
-  pub receives : received_in t.past.value ≡ 0
-  pub frees : freed_in t.past.value ≡ 0
-  pub received : t.received ≡ 0
-  pub freed : t.freed ≡ 0
+pub record IsNew (c : Counts) (past : Past) : Type 0 where
+  pub asks : asked past ≡ []
+  pub receives : received_in past ≡ 0
+  pub frees : freed_in past ≡ 0
+  pub received : c.received ≡ 0
+  pub freed : c.freed ≡ 0
 
 -- turns, one after another, counted from 1
 abbrev pub count : Turns → ℕ

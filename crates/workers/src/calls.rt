@@ -1,31 +1,53 @@
-//! A record of a worker's calls, for proofs alone. It takes up no bytes, and a turn's contract is
-//! stated in terms of it.
-ghost use Rattle.std.specs.Prelude.{◌≡◌, [], Some};
-ghost use Rattle.workers.specs.Calls.{asked, freed_in, received_in, Adds};
+//! The calls of a worker's turn. A turn calls its site and its gate only through [`Calls`], which
+//! adds each call to a record. So the record is what was called, in order, and a turn's contract is
+//! stated in terms of it. Only proofs read it: it takes up no bytes.
+ghost use Rattle.std.specs.Prelude.{◌≡◌, ◌∷◌, [], cond};
+ghost use Rattle.workers.specs.Calls.{At, Pass, PumpIn, PumpOut, Raise, Save, Scan, Sweep, Unsaved};
+ghost use Rattle.workers.specs.Calls.{asked, freed_in, received_in, Adds, Makes};
 
-use crate::gate::Point;
+use crate::gate::{Gate, Point};
+use crate::site::Site;
+use ids::Refusal;
+use model::{Answer, Event};
 use std::mem;
 use std::snapshot::Snapshot;
+use std::sync::Wait;
+use wire::Inbound;
 
-/// A call that a worker made, with the part of its answer that is counted.
+/// A call that a worker made, with its answer if that is counted or decides how the turn goes on.
 #[derive(Clone, Copy)]
 pub enum Call {
-    /// The gate was asked at this point; whether the worker continues.
-    At { point: Point, goes_on: bool },
-    /// `pump_in` from a node; whether it received a new message.
-    PumpIn { from: u8, received: bool },
-    /// A scan; whether an object was scanned.
-    Scan { scanned: bool },
+    /// The gate was told of this point, and then asked; whether the worker continues.
+    At {
+        point: Point,
+        goes_on: bool,
+    },
+    /// `pump_in` from a node.
+    PumpIn {
+        from: u8,
+        answered: Result<Inbound, Refusal>,
+    },
+    /// A scan.
+    Scan {
+        answered: Result<Answer, Refusal>,
+    },
     /// An attempt to pass the token on.
     Pass,
-    /// A sweep of `count` slots; how many objects it freed.
-    Sweep { count: u32, freed: u32 },
+    /// A sweep of `count` slots.
+    Sweep {
+        count: u32,
+        answered: Result<Answer, Refusal>,
+    },
     /// A question whether anything is unsaved; the answer.
-    Unsaved { unsaved: bool },
+    Unsaved {
+        unsaved: bool,
+    },
     /// A save of the node.
     Save,
     /// An attempt to send a frame to a node.
-    PumpOut { to: u8 },
+    PumpOut {
+        to: u8,
+    },
     /// The last ended cycle was raised on the board.
     Raise,
 }
@@ -37,19 +59,127 @@ pub enum Past {
     Then { before: Snapshot<Past>, call: Call },
 }
 
-// An empty record.
-pub(crate) fn start() -> Snapshot<Past>
-    ensures asked { asked result.value ≡ [] }
-    ensures received { received_in result.value ≡ 0 }
-    ensures freed { freed_in result.value ≡ 0 }
-{
-    Snapshot::of(&Past::Start)
+/// The site and the gate of a worker, with the record of a turn's calls. Each method makes one call
+/// and adds it. Nothing else has the site or the gate, or changes the record.
+#[derive(Drop)]
+pub(crate) struct Calls<'a, S, G> {
+    site: &'a S,
+    gate: &'a G,
+    past: Snapshot<Past>,
 }
 
-// Adds a call.
-pub(crate) fn note(past: &mut Snapshot<Past>, call: Call)
-    ensures { Adds call past.old.value past.new.value }
-{
-    let before = mem::replace(past, Snapshot::of(&Past::Start));
-    *past = Snapshot::of(&Past::Then { before, call });
+impl<'a, S: Site, G: Gate> Calls<'a, S, G> {
+    /// No calls yet.
+    pub(crate) fn new(site: &'a S, gate: &'a G) -> Self
+        ensures asked { asked result.past.value ≡ [] }
+        ensures received { received_in result.past.value ≡ 0 }
+        ensures freed { freed_in result.past.value ≡ 0 }
+    {
+        Calls {
+            site,
+            gate,
+            past: Snapshot::of(&Past::Start),
+        }
+    }
+
+    /// The record.
+    pub(crate) fn into_past(self) -> Snapshot<Past>
+        ensures { result ≡ self.entry.past }
+    {
+        let Calls { past, .. } = self;
+        past
+    }
+
+    fn note(&mut self, call: Call)
+        ensures { Adds call self.old.past.value self.new.past.value }
+    {
+        let before = mem::replace(&mut self.past, Snapshot::of(&Past::Start));
+        self.past = Snapshot::of(&Past::Then { before, call });
+    }
+
+    /// Tells the gate of a point, and then asks it whether the worker continues.
+    pub(crate) fn ask(&mut self, point: Point) -> bool
+        ensures { Makes (At point result ∷ []) 0 0 self.old.past.value self.new.past.value }
+    {
+        self.gate.at(point);
+        let goes_on = self.gate.go_on(point);
+        self.note(Call::At { point, goes_on });
+        goes_on
+    }
+
+    /// Receives a frame or a waiting message from another node; returns whether it was a new
+    /// message.
+    pub(crate) fn take<R: Wait>(&mut self, rt: &R, from: u8) -> bool
+        ensures { Makes (PumpIn from ∷ []) (cond result 1 0) 0
+            self.old.past.value self.new.past.value }
+    {
+        let answered = self.site.pump_in(rt, from);
+        self.note(Call::PumpIn { from, answered });
+        match answered {
+            Ok(Inbound::Event(Answer::Received)) => true,
+            Ok(_) | Err(_) => false,
+        }
+    }
+
+    /// Scans an object; returns whether there was one.
+    pub(crate) fn scan<R: Wait>(&mut self, rt: &R) -> bool
+        ensures { Makes (Scan result ∷ []) 0 0 self.old.past.value self.new.past.value }
+    {
+        let answered = self.site.act(rt, Event::Scan);
+        self.note(Call::Scan { answered });
+        answered.is_ok()
+    }
+
+    /// Passes the token on, if the node may.
+    pub(crate) fn pass<R: Wait>(&mut self, rt: &R)
+        ensures { Makes (Pass ∷ []) 0 0 self.old.past.value self.new.past.value }
+    {
+        let _ = self.site.act(rt, Event::Pass);
+        self.note(Call::Pass);
+    }
+
+    /// Sweeps slots, if there is a cycle to sweep; returns how many objects it freed.
+    pub(crate) fn sweep<R: Wait>(&mut self, rt: &R, count: u32) -> u32
+        ensures { Makes (Sweep count ∷ []) 0 result self.old.past.value self.new.past.value }
+    {
+        let answered = self.site.act(rt, Event::Sweep { count });
+        self.note(Call::Sweep { count, answered });
+        match answered {
+            Ok(Answer::Freed { count, .. }) => count,
+            Ok(_) | Err(_) => 0,
+        }
+    }
+
+    /// Asks whether something is unsaved.
+    pub(crate) fn unsaved<R: Wait>(&mut self, rt: &R) -> bool
+        ensures { Makes (Unsaved result ∷ []) 0 0 self.old.past.value self.new.past.value }
+    {
+        let unsaved = self.site.unsaved(rt);
+        self.note(Call::Unsaved { unsaved });
+        unsaved
+    }
+
+    /// Saves the node.
+    pub(crate) fn save<R: Wait>(&mut self, rt: &R)
+        ensures { Makes (Save ∷ []) 0 0 self.old.past.value self.new.past.value }
+    {
+        let _ = self.site.save(rt);
+        self.note(Call::Save);
+    }
+
+    /// Sends a frame to another node, if there is room.
+    pub(crate) fn send<R: Wait>(&mut self, rt: &R, to: u8)
+        ensures { Makes (PumpOut to ∷ []) 0 0 self.old.past.value self.new.past.value }
+    {
+        let _ = self.site.pump_out(rt, to);
+        self.note(Call::PumpOut { to });
+    }
+
+    /// Raises the last ended cycle on the board.
+    pub(crate) fn raise<R: Wait>(&mut self, rt: &R)
+        ensures { Makes (Raise ∷ []) 0 0 self.old.past.value self.new.past.value }
+    {
+        let _ = self.site.raise(rt);
+        self.note(Call::Raise);
+    }
 }

@@ -31,10 +31,12 @@ mod gate;
 mod run;
 mod site;
 mod steps;
+mod stop;
 mod turn;
 
 pub use calls::{Call, Past};
 pub use gate::{Gate, Point, Stage};
-pub use run::{Report, Run, Stop, Turns, run_node};
+pub use run::{Report, Run, Turns, run_node};
 pub use site::Site;
+pub use stop::{Asked, Counted, Stop};
 pub use turn::{Turn, turn_node};

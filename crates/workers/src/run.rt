@@ -7,48 +7,11 @@ ghost use Rattle.workers.specs.Turns.{is_whole, AddsTurn};
 use crate::calls::Past;
 use crate::gate::{Gate, Stage};
 use crate::site::Site;
+use crate::stop::{Asked, Counted, Stop};
 use crate::turn::turn_node;
 use std::mem;
 use std::snapshot::Snapshot;
 use std::sync::Wait;
-use std::sync::atomic::{AtomicBool, AtomicU64, Ordering};
-
-/// What the workers of a space share: whether they are to stop, and how many have ended.
-#[derive(Drop)]
-pub struct Stop {
-    asked: AtomicBool,
-    ended: AtomicU64,
-}
-
-impl Stop {
-    /// No stop requested, and no worker has ended.
-    pub fn new() -> Stop {
-        Stop {
-            asked: AtomicBool::new(false),
-            ended: AtomicU64::new(0),
-        }
-    }
-
-    /// Asks all workers to end before their next turn.
-    pub fn ask(&self) {
-        self.asked.store(true, Ordering::SeqCst);
-    }
-
-    /// Whether the workers were asked to end.
-    pub fn is_asked(&self) -> bool {
-        self.asked.load(Ordering::SeqCst)
-    }
-
-    /// Counts a worker that has ended.
-    pub(crate) fn note_end(&self) {
-        self.ended.fetch_add(1, Ordering::SeqCst);
-    }
-
-    /// How many workers have ended.
-    pub fn ended(&self) -> u64 {
-        self.ended.load(Ordering::SeqCst)
-    }
-}
 
 /// What a worker did: its node, its whole turns, the new messages that it received and the objects
 /// that it freed. `ended_at` is the stage at which the gate ended it, if it did. A turn that ended
@@ -72,11 +35,23 @@ pub enum Turns {
     },
 }
 
-/// A worker's run: its report, and its turns for proofs alone.
+/// A worker's run: its report, whether it found that the workers were asked to end, and its turns
+/// for proofs alone.
 #[derive(Drop)]
 pub struct Run {
     pub report: Report,
+    pub asked: Option<Asked>,
+    /// Its end was counted.
+    pub counted: Counted,
     pub turns: Snapshot<Turns>,
+}
+
+// The same before its end is counted.
+#[derive(Drop)]
+struct Taken {
+    report: Report,
+    asked: Option<Asked>,
+    turns: Snapshot<Turns>,
 }
 
 // Whether a turn that ended there is whole.
@@ -94,7 +69,7 @@ fn add(turns: &mut Snapshot<Turns>, turn: Snapshot<Past>)
     *turns = Snapshot::of(&Turns::Then { before, turn });
 }
 
-// Takes at most this many turns, until the workers are asked to stop or the gate ends this one.
+// Takes this many turns, or fewer if the workers are asked to stop or the gate ends this one.
 fn take_turns<R: Wait, S: Site, G: Gate>(
     rt: &R,
     site: &S,
@@ -103,16 +78,18 @@ fn take_turns<R: Wait, S: Site, G: Gate>(
     nodes: u8,
     turns: u32,
     stop: &Stop,
-) -> Run
-    ensures { IsRun node nodes turns result }
+) -> Taken
+    ensures { IsRun node nodes turns result.report result.asked result.turns.value }
 {
     let mut past = Snapshot::of(&Turns::Start);
     let mut over = 0;
     let mut received = 0;
     let mut freed = 0;
     let mut ended_at = None;
+    let mut asked = None;
     for turn in 0..turns {
-        if stop.is_asked() || ended_at.is_some() {
+        asked = stop.asked();
+        if asked.is_some() || ended_at.is_some() {
             break;
         }
         let taken = turn_node(rt, site, gate, node, nodes, turn + 1);
@@ -124,7 +101,7 @@ fn take_turns<R: Wait, S: Site, G: Gate>(
         freed += u64::from(taken.freed);
         add(&mut past, taken.past);
     }
-    Run {
+    Taken {
         report: Report {
             node,
             turns: over,
@@ -132,13 +109,14 @@ fn take_turns<R: Wait, S: Site, G: Gate>(
             freed,
             ended_at,
         },
+        asked,
         turns: past,
     }
 }
 
-/// Takes at most `turns` turns for a node of a space of `nodes` nodes, until the workers are asked
-/// to stop or the gate ends this worker. Then it counts the worker as ended. The report sums up the
-/// turns.
+/// Takes `turns` turns for a node of a space of `nodes` nodes. It takes fewer only if it finds,
+/// before a turn, that the workers were asked to stop, or if the gate ends this worker. Then it
+/// counts the worker as ended. The report sums up the turns.
 pub fn run_node<R: Wait, S: Site, G: Gate>(
     rt: &R,
     site: &S,
@@ -148,9 +126,17 @@ pub fn run_node<R: Wait, S: Site, G: Gate>(
     turns: u32,
     stop: &Stop,
 ) -> Run
-    ensures { IsRun node nodes turns result }
+    ensures { IsRun node nodes turns result.report result.asked result.turns.value }
 {
-    let run = take_turns(rt, site, gate, node, nodes, turns, stop);
-    stop.note_end();
-    run
+    let Taken {
+        report,
+        asked,
+        turns,
+    } = take_turns(rt, site, gate, node, nodes, turns, stop);
+    Run {
+        report,
+        asked,
+        counted: stop.note_end(),
+        turns,
+    }
 }

@@ -5,7 +5,7 @@ ghost use Rattle.std.specs.Result.{result_err};
 ghost use Rattle.workers.specs.Calls.{freed_in, received_in};
 ghost use Rattle.workers.specs.Turns.{IsNew, IsTurn};
 
-use crate::calls::{Past, start};
+use crate::calls::{Calls, Past};
 use crate::gate::{Gate, Stage};
 use crate::site::Site;
 use crate::steps::{ask, collect, raise, save_unsaved, send_out, take_in};
@@ -25,33 +25,37 @@ pub struct Turn {
     pub past: Snapshot<Past>,
 }
 
+// How many new messages a turn received, and how many objects it freed.
+struct Counts {
+    received: u8,
+    freed: u32,
+}
+
 // Takes a turn in which nothing has been done yet. If the gate ends the worker, the error is the
 // stage at which it did.
 fn take_turn<R: Wait, S: Site, G: Gate>(
     rt: &R,
-    site: &S,
-    gate: &G,
+    calls: &mut Calls<'_, S, G>,
     node: u8,
     nodes: u8,
     number: u32,
-    turn: &mut Turn,
+    counts: &mut Counts,
 ) -> Result<(), Stage>
-    requires { IsNew turn.old }
-    ensures calls { IsTurn node nodes number (result_err result) turn.new.past.value }
-    ensures received { turn.new.received ≡ received_in turn.new.past.value }
-    ensures freed { turn.new.freed ≡ freed_in turn.new.past.value }
+    requires { IsNew counts.old calls.old.past.value }
+    ensures calls { IsTurn node nodes number (result_err result) calls.new.past.value }
+    ensures received { counts.new.received ≡ received_in calls.new.past.value }
+    ensures freed { counts.new.freed ≡ freed_in calls.new.past.value }
 {
-    let past = &mut turn.past;
-    ask(gate, past, node, number, Stage::Start)?;
-    turn.received = take_in(rt, site, past, node, nodes);
-    ask(gate, past, node, number, Stage::TakenIn)?;
-    turn.freed = collect(rt, site, past);
-    ask(gate, past, node, number, Stage::Collected)?;
-    save_unsaved(rt, site, past);
-    ask(gate, past, node, number, Stage::Saved)?;
-    send_out(rt, site, past, node, nodes);
-    raise(rt, site, past, node);
-    ask(gate, past, node, number, Stage::Sent)
+    ask(calls, node, number, Stage::Start)?;
+    counts.received = take_in(rt, calls, node, nodes);
+    ask(calls, node, number, Stage::TakenIn)?;
+    counts.freed = collect(rt, calls);
+    ask(calls, node, number, Stage::Collected)?;
+    save_unsaved(rt, calls);
+    ask(calls, node, number, Stage::Saved)?;
+    send_out(rt, calls, node, nodes);
+    raise(rt, calls, node);
+    ask(calls, node, number, Stage::Sent)
 }
 
 /// Takes one turn for a node of a space of `nodes` nodes. The turn receives a frame from each other
@@ -74,12 +78,17 @@ pub fn turn_node<R: Wait, S: Site, G: Gate>(
     ensures received { result.received ≡ received_in result.past.value }
     ensures freed { result.freed ≡ freed_in result.past.value }
 {
-    let mut taken = Turn {
+    let mut calls = Calls::new(site, gate);
+    let mut counts = Counts {
         received: 0,
         freed: 0,
-        ended_at: None,
-        past: start(),
     };
-    taken.ended_at = take_turn(rt, site, gate, node, nodes, turn, &mut taken).err();
-    taken
+    let ended_at = take_turn(rt, &mut calls, node, nodes, turn, &mut counts).err();
+    let Counts { received, freed } = counts;
+    Turn {
+        received,
+        freed,
+        ended_at,
+        past: calls.into_past(),
+    }
 }

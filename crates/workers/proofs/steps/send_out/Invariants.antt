@@ -5,7 +5,7 @@ use Rattle.workers.proofs.steps.send_out.Given as goal
 
 abbrev pub invariant-loop-to : goal.invariant-loop-to
 invariant-loop-to g l = record {
-  asked : asked l.past.value ≡ asked l.fn.past.value ++ sends l.node l.to;
-  received : received_in l.past.value ≡ received_in l.fn.past.value;
-  freed : freed_in l.past.value ≡ freed_in l.fn.past.value;
+  asked : asked l.calls.past.value ≡ asked l.fn.calls.past.value ++ sends l.node l.to;
+  received : received_in l.calls.past.value ≡ received_in l.fn.calls.past.value;
+  freed : freed_in l.calls.past.value ≡ freed_in l.fn.calls.past.value;
 }

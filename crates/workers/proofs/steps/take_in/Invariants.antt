@@ -5,8 +5,8 @@ use Rattle.workers.proofs.steps.take_in.Given as goal
 
 abbrev pub invariant-loop-from : goal.invariant-loop-from
 invariant-loop-from g l = record {
-  asked : asked l.past.value ≡ asked l.fn.past.value ++ takes l.node l.from;
-  received : received_in l.past.value ≡ received_in l.fn.past.value + l.received;
-  freed : freed_in l.past.value ≡ freed_in l.fn.past.value;
+  asked : asked l.calls.past.value ≡ asked l.fn.calls.past.value ++ takes l.node l.from;
+  received : received_in l.calls.past.value ≡ received_in l.fn.calls.past.value + l.received;
+  freed : freed_in l.calls.past.value ≡ freed_in l.fn.calls.past.value;
   few : l.received ≤ l.from;
 }

@@ -5,11 +5,11 @@ use Rattle.workers.proofs.turn.take_turn.Goals as goal
 
 pub returns-clause-calls : goal.returns-clause-calls
 returns-clause-calls g c =
-    let scanned = c.collect-turn.ensures in
+    let scanned = c.collect-counts.ensures in
     let saved = c.save_unsaved.ensures in
     let made =
     then (answered true (search rules) c.ask.ensures.made)
-    (then c.take_in-turn.ensures
+    (then c.take_in-counts.ensures
     (then (answered true (search rules) c.ask-2.ensures.made)
     (then scanned.2 (then (answered true (search rules) c.ask-3.ensures.made)
     (then saved.1 (then (answered true (search rules) c.ask-4.ensures.made)
@@ -18,8 +18,8 @@ returns-clause-calls g c =
       scanned = scanned.0;
       few = scanned.1;
       unsaved = saved.0;
-      whole = at-last c.ask-5.new.past.value c.args.node c.args.nodes c.args.number scanned.0
+      whole = at-last c.ask-5.new.calls.past.value c.args.node c.args.nodes c.args.number scanned.0
           saved.0 c.ask-5.result c.ask-5.ensures.stage
-          (subst (λ l. asked c.ask-5.new.past.value ≡ l ++ up_to_sent c.args.node c.args.nodes
+          (subst (λ l. asked c.ask-5.new.calls.past.value ≡ l ++ up_to_sent c.args.node c.args.nodes
           c.args.number scanned.0 saved.0 (is_ok c.ask-5.result)) c.requires.asks made.asks);
     }
