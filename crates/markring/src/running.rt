@@ -1,9 +1,11 @@
 //! Runs a script on node threads. The main thread acts as the program of every node, next to a
 //! worker for each. To wait for something, it polls.
-ghost use Rattle.std.specs.Prelude.{◌≡◌, ◌≤◌, IfOk, true};
+ghost use Rattle.std.specs.Prelude.{◌≡◌, ◌≤◌, ◌++◌, ◌∷◌, [], IfOk, OnOk, codes, map, string_bytes, true};
 ghost use Rattle.std.specs.Arc.{arc_value};
+ghost use Rattle.std.specs.Io.KnownBytes.{Appends};
 ghost use Rattle.model.specs.Steps.{is_own};
 ghost use Rattle.wire.specs.Readers.{IsWatchOf};
+ghost use Rattle.markring.specs.Told.{status_after, told_of, told_text, trace_text};
 
 use commands::print_unread;
 use disk::{Disk, FileDisk, MemoryDisk};
@@ -184,7 +186,8 @@ fn memory_disks(alloc: Global, nodes: u8) -> Result<Vec<MemoryDisk>, Refusal> {
 
 // Prints that the space can't be opened, and returns the status.
 fn print_unopened<W: Write>(out: &mut W) -> io::Result<u8>
-    ensures { IfOk result (λ status. status ≤ 2) }
+    ensures { IfOk result (λ status. (status ≡ 1)
+        × Appends (W.contents out.old) (W.contents out.new) (codes "open refused" ++ 10 ∷ [])) }
 {
     writeln!(out, "open refused")?;
     out.flush()?;
@@ -297,7 +300,9 @@ fn take_line<R: Clock + Wait, D: Disk + Drop>(
     }
 }
 
-fn told_of(answered: Result<Answer, Refusal>) -> Told {
+fn told_of(answered: Result<Answer, Refusal>) -> Told
+    ensures { result ≡ told_of answered }
+{
     match answered {
         Ok(answer) => Told::Outcome(Outcome::Answer(answer)),
         Err(refusal) => Told::Refused(refusal),
@@ -384,7 +389,10 @@ fn await_letter<R: Clock + Wait, D: Disk + Drop>(
 }
 
 // Prints the outcome of the line of this number.
-fn print_told<W: Write>(out: &mut W, number: usize, told: &Told) -> io::Result<()> {
+fn print_told<W: Write>(out: &mut W, number: usize, told: &Told) -> io::Result<()>
+    ensures { OnOk result
+        (Appends (W.contents out.old) (W.contents out.new) (told_text number told.now)) }
+{
     match told {
         Told::Nothing => {}
         Told::Outcome(outcome) => writeln!(out, "{}", OutcomeText(*outcome))?,
@@ -397,7 +405,10 @@ fn print_told<W: Write>(out: &mut W, number: usize, told: &Told) -> io::Result<(
 }
 
 // Prints texts, one on each line, or `-` if there aren't any.
-fn print_texts<W: Write>(out: &mut W, texts: &[String]) -> io::Result<()> {
+fn print_texts<W: Write>(out: &mut W, texts: &[String]) -> io::Result<()>
+    ensures { OnOk result (Appends (W.contents out.old) (W.contents out.new)
+        (trace_text (map string_bytes texts.now))) }
+{
     if texts.is_empty() {
         return writeln!(out, "-");
     }
@@ -409,7 +420,7 @@ fn print_texts<W: Write>(out: &mut W, texts: &[String]) -> io::Result<()> {
 
 // The status of a line with this outcome. The script's status is the greatest of these.
 fn status_after(told: &Told) -> u8
-    ensures { result ≤ 2 }
+    ensures { result ≡ status_after told.now }
 {
     match told {
         Told::Nothing | Told::Outcome(_) | Told::Trace(_) => DONE,
