@@ -71,6 +71,7 @@ pub fn shape_of(words: &[&str]) -> Result<Shape, Stop> {
 fn on_node(alloc: Global, node: &mut Node, words: &[&str], out: &mut Out) -> Result<(), Stop> {
     match verb(words) {
         "bytes" => put_image(alloc, node, out),
+        "check" => out.done(check(alloc, node)),
         "state" => out.show(&SummaryText(node.state())),
         "kept" => {
             node.kept();
@@ -124,6 +125,19 @@ fn repeat(node: &mut Node, event: Event, count: u64) -> Result<Answer, Refusal> 
         last = node.act(event)?;
     }
     Ok(last)
+}
+
+// Whether the node's image is read as a node with the same image; `BadImage` if it isn't.
+fn check(alloc: Global, node: &Node) -> Result<(), Refusal> {
+    let bytes = image::to_bytes(alloc, node)?;
+    let again = image::from_bytes(alloc, &bytes)?;
+    let spelled = image::to_bytes(alloc, &again);
+    drop(again);
+    if spelled?.as_slice() == bytes.as_slice() {
+        Ok(())
+    } else {
+        Err(Refusal::BadImage)
+    }
 }
 
 /// The node's image as bytes, or why there isn't one.

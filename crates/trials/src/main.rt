@@ -2,6 +2,7 @@
 //! it, whose answer is printed. `tests/README.md` lists the commands.
 #![tactic(auto)]
 
+mod apart;
 mod cells;
 mod ended;
 mod endings;
@@ -14,6 +15,7 @@ mod player;
 mod program;
 mod programs;
 mod quiet;
+mod revivals;
 mod revived;
 mod shared;
 mod space;
@@ -24,7 +26,7 @@ mod turns;
 
 use cases::disks::Disks;
 use cases::nodes::{Nodes, shape_of};
-use cases::{Line, Out, Stop, arenas, collected, files, frames, read_lines, take_all, verb};
+use cases::{Line, Out, Stop, arenas, collected, files, frames, read, read_lines, take_all, verb};
 use std::alloc::Global;
 use std::fs::File;
 use std::io;
@@ -103,7 +105,13 @@ where
     let words = out.at(first);
     match verb(words) {
         "cells" => cells::run(alloc, shape_of(words)?, lines, out),
-        "shared" => shared::run(rt, alloc, shape_of(words)?, lines, out),
+        "shared" => {
+            let k = match words.get(4) {
+                Some(word) => Some(read(word)?),
+                None => None,
+            };
+            shared::run(rt, alloc, shape_of(words)?, k, lines, out)
+        }
         subject => take_subject(rt, alloc, subject, lines, out),
     }
 }

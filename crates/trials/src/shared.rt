@@ -105,11 +105,30 @@ fn same_wire(wire: &Arc<Wire>) -> Result<Arc<Wire>, Refusal>
     }
 }
 
-// The cells of a wire, in order, shared.
+// A cell, shared. The k-th call of its disk from now on fails, if `k` is given.
+fn share<W: Naming>(
+    mut cell: Cell<MemoryDisk>,
+    wire: Arc<Wire>,
+    k: Option<u64>,
+) -> SharedOn<MemoryDisk, W>
+    requires seat { IsSeatOf (arc_value wire) cell.seat }
+    requires name { IsNamed W.wire (name_of (arc_value wire)) }
+{
+    match k {
+        Some(k) => {
+            cell.fail_once(k);
+            SharedOn::new(cell, wire)
+        }
+        None => SharedOn::new(cell, wire),
+    }
+}
+
+// The cells of a wire, in order, shared; see `share`.
 fn share_all<W: Naming>(
     alloc: Global,
     wire: &Arc<Wire>,
     mut cells: Vec<Cell<MemoryDisk>>,
+    k: Option<u64>,
 ) -> Result<Vec<SharedOn<MemoryDisk, W>>, Refusal>
     requires seats { All (λ c. IsSeatOf (arc_value wire.now) c.seat) cells.items }
     requires name { IsNamed W.wire (name_of (arc_value wire.now)) }
@@ -117,20 +136,22 @@ fn share_all<W: Naming>(
     let mut shared = Vec::new(alloc);
     for _ in 0..cells.len() {
         let cell = cells.remove(0);
-        shared.push(SharedOn::new(cell, same_wire(wire)?))?;
+        shared.push(share(cell, same_wire(wire)?, k))?;
     }
     Ok(shared)
 }
 
-/// A case for the shared cells of new nodes.
+/// A case for the shared cells of new nodes. If `k` is given, the k-th call of each of their disks
+/// fails once.
 pub fn run<R: Wait>(
     rt: &R,
     alloc: Global,
     shape: Shape,
+    k: Option<u64>,
     lines: &[Line<'_>],
     out: &mut Out,
 ) -> Result<(), Stop> {
-    match on_wire(rt, alloc, shape, lines, out) {
+    match on_wire(rt, alloc, shape, k, lines, out) {
         Ok(taken) => taken,
         Err(_) => Err(Stop::Memory),
     }
@@ -140,12 +161,13 @@ fn on_wire<R: Wait>(
     rt: &R,
     alloc: Global,
     shape: Shape,
+    k: Option<u64>,
     lines: &[Line<'_>],
     out: &mut Out,
 ) -> Result<Result<(), Stop>, Refusal> {
     let (wire, cells, watch) = open_cells(alloc, shape)?;
     let wire = Arc::new(alloc, wire)?;
-    named::<Brand, R>(rt, alloc, wire, cells, watch, lines, out)
+    named::<Brand, R>(rt, alloc, wire, cells, watch, k, lines, out)
 }
 
 // The same on a wire whose name is that of `W`.
@@ -155,6 +177,7 @@ fn named<W: Naming, R: Wait>(
     wire: Arc<Wire>,
     cells: Vec<Cell<MemoryDisk>>,
     watch: Watch,
+    k: Option<u64>,
     lines: &[Line<'_>],
     out: &mut Out,
 ) -> Result<Result<(), Stop>, Refusal>
@@ -162,7 +185,7 @@ fn named<W: Naming, R: Wait>(
     requires watch { IsWatchOf (arc_value wire) watch }
     requires name { W.wire ≡ Some (name_of (arc_value wire)) }
 {
-    let cells = share_all::<W>(alloc, &wire, cells)?;
+    let cells = share_all::<W>(alloc, &wire, cells, k)?;
     let sharing = Sharing {
         rt,
         alloc,

@@ -1,12 +1,14 @@
 //! Spaces whose nodes have workers. The output is the same in each schedule.
 ghost use Rattle.std.specs.Prelude.{◌≡◌, false, IfSome, is_some};
 
+use crate::apart::meet_apart;
 use crate::gates::{Holds, gate, pause};
 use crate::programs::run_programs;
+use crate::revivals::{revive_all, revive_on_failing_disk};
 use crate::revived::revive;
 use crate::space::meet;
-use crate::turning::{turn_often, writes_of};
-use cases::{Out, Size, Stop, blank_disks, number, verb, word};
+use crate::turning::{trace, turn_often, writes_of};
+use cases::{Out, Size, Stop, blank_disks, number, read, verb, word};
 use cell::Shared;
 use disk::MemoryDisk;
 use ids::Refusal;
@@ -151,8 +153,8 @@ where
     })
 }
 
-// The stage of a turn that the word names.
-fn stage_of(word: &str) -> Result<Stage, Stop> {
+/// The stage of a turn that the word names.
+pub(crate) fn stage_of(word: &str) -> Result<Stage, Stop> {
     match word {
         "Start" => Ok(Stage::Start),
         "TakenIn" => Ok(Stage::TakenIn),
@@ -161,6 +163,15 @@ fn stage_of(word: &str) -> Result<Stage, Stop> {
         "Sent" => Ok(Stage::Sent),
         _ => Err(Stop::Unknown),
     }
+}
+
+// The numbers of nodes from this word of a line on.
+fn numbers(alloc: Global, words: &[&str], place: usize) -> Result<Vec<u8>, Stop> {
+    let mut found = Vec::new(alloc);
+    for word in words.iter().skip(place) {
+        found.push(read(word)?)?;
+    }
+    Ok(found)
 }
 
 /// A command about spaces.
@@ -179,8 +190,15 @@ where
             let stage = stage_of(word(words, 2)?)?;
             out.debug(&take_turn(rt, alloc, number(words, 1)?, stage));
         }
+        "apart" => out.debug(&meet_apart(rt, alloc)),
         "leave" => out.debug(&leave(rt, alloc)),
         "revive" => out.debug(&revive(rt, alloc, stage_of(word(words, 1)?)?)),
+        "revives" => {
+            let order = numbers(alloc, words, 2)?;
+            out.debug(&revive_all(rt, alloc, number(words, 1)?, order.as_slice()));
+        }
+        "revive-failing" => out.debug(&revive_on_failing_disk(rt, alloc, number(words, 1)?)),
+        "trace" => out.debug(&trace(rt, alloc, number(words, 1)?)),
         "start" => out.debug(&start_all(rt, alloc, number(words, 1)?)),
         _ => return take_many(rt, alloc, words, out),
     }

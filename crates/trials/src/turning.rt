@@ -1,11 +1,13 @@
 //! The turns of a worker at one node, one after another on one thread, without a team's workers.
-//! This only shows how long they take.
+//! This shows how long they take, and which calls they make at a cell.
 ghost use Rattle.std.specs.Prelude.{◌≡◌, true};
 ghost use Rattle.model.specs.Steps.{is_own};
 
 use crate::gates::Open;
-use crate::spaces::opened;
+use crate::spaces::{MANY, opened};
 use cases::{Size, Stop};
+use cell::Shared;
+use disk::MemoryDisk;
 use model::Event;
 use std::alloc::Global;
 use std::sync::Wait;
@@ -67,4 +69,30 @@ pub(crate) fn turn_often<R: Wait>(
     };
     drop(space);
     refused
+}
+
+// The calls of node 0 in a turn, an event of its program, and two more turns.
+fn trace_turns<R: Wait>(rt: &R, site: &Shared<MemoryDisk>, nodes: u8) -> Option<Vec<String>> {
+    drop(turn_node(rt, site, &Open, 0, nodes, 1));
+    let object = Event::Alloc {
+        register: 0,
+        places: 0,
+    };
+    site.act(rt, object).ok()?;
+    drop(turn_node(rt, site, &Open, 0, nodes, 2));
+    drop(turn_node(rt, site, &Open, 0, nodes, 3));
+    site.trace_lines(rt).ok()
+}
+
+/// Node 0 of a space of this many nodes takes a turn, makes an object, and takes two more turns. The
+/// result is its trace.
+pub(crate) fn trace<R: Wait>(rt: &R, alloc: Global, nodes: u8) -> Option<Vec<String>> {
+    let size = Size {
+        nodes,
+        ..Size::pair(MANY)
+    };
+    let space = opened(alloc, size)?;
+    let lines = trace_turns(rt, space.program(0)?, nodes);
+    drop(space);
+    lines
 }

@@ -1,6 +1,7 @@
 //! Turns of a worker on a site that records what it is asked and gives scripted answers. So the
-//! calls of a turn are seen in order.
-use cases::{Out, Stop, number, verb};
+//! calls of a turn are seen in order. Runs of a worker are on a site that always answers the same.
+use crate::spaces::stage_of;
+use cases::{Out, Stop, number, verb, word};
 use ids::{Ref, Refusal};
 use model::{Answer, Event};
 use std::alloc::Global;
@@ -8,7 +9,10 @@ use std::cell::{Cell, RefCell};
 use std::fmt::Display;
 use std::sync::Wait;
 use wire::{Inbound, Outbound, Raised};
-use workers::{Gate, Point, Site, turn_node};
+use workers::{Gate, Point, Report, Site, Stage, run_node, turn_node};
+
+// The number of the turn that is recorded.
+const TURN: u32 = 7;
 
 // Records each call, and each point at which it is asked as a gate.
 #[derive(Drop)]
@@ -97,8 +101,105 @@ impl Site for Recorder {
 
 impl Gate for Recorder {
     fn at(&self, point: Point) {
-        self.note(&format_args!("{:?}", point.stage));
+        let Point { node, turn, stage } = point;
+        self.note(&format_args!("at {node} {turn} {stage:?}"));
     }
+
+    fn go_on(&self, point: Point) -> bool {
+        let Point { node, turn, stage } = point;
+        self.note(&format_args!("go_on {node} {turn} {stage:?}"));
+        true
+    }
+}
+
+// How many objects each sweep of a busy site frees.
+const FREED: u32 = 2;
+
+/// A site that always has a message of each other node, and frees objects in each sweep. As a gate
+/// it ends the worker at a stage of a turn.
+#[derive(Drop)]
+struct Busy {
+    end: (u32, Stage),
+    // The last turn of which it was told.
+    last: Cell<u32>,
+}
+
+impl Site for Busy {
+    fn pump_in<R: Wait>(&self, _rt: &R, _from: u8) -> Result<Inbound, Refusal> {
+        Ok(Inbound::Event(Answer::Received))
+    }
+
+    fn act<R: Wait>(&self, _rt: &R, event: Event) -> Result<Answer, Refusal> {
+        match event {
+            Event::Sweep { .. } => Ok(Answer::Freed {
+                count: FREED,
+                done: false,
+            }),
+            _ => Err(Refusal::NothingToDo),
+        }
+    }
+
+    fn unsaved<R: Wait>(&self, _rt: &R) -> bool {
+        true
+    }
+
+    fn save<R: Wait>(&self, _rt: &R) -> Result<(), Refusal> {
+        Ok(())
+    }
+
+    fn pump_out<R: Wait>(&self, _rt: &R, _to: u8) -> Result<Outbound, Refusal> {
+        Ok(Outbound::Sent)
+    }
+
+    fn raise<R: Wait>(&self, _rt: &R) -> Result<Raised, Refusal> {
+        Err(Refusal::NotDirector)
+    }
+}
+
+impl Gate for Busy {
+    fn at(&self, point: Point) {
+        self.last.set(point.turn);
+    }
+
+    fn go_on(&self, point: Point) -> bool {
+        (point.turn, point.stage) != self.end
+    }
+}
+
+// What was seen of a worker's run on a busy site.
+#[derive(Clone, Copy, Debug)]
+struct Ran {
+    report: Report,
+    // The last turn of which its gate was told.
+    last: u32,
+    // How many workers had ended before and after it.
+    ended: (u64, u64),
+}
+
+// A worker's run on a busy site: `NODE NODES TURNS END STAGE`.
+fn run<R: Wait>(rt: &R, words: &[&str], stop: &workers::Stop) -> Result<Ran, Stop> {
+    let busy = Busy {
+        end: (number(words, 4)?, stage_of(word(words, 5)?)?),
+        last: Cell::new(0),
+    };
+    let (node, nodes, turns) = (number(words, 1)?, number(words, 2)?, number(words, 3)?);
+    let before = stop.ended();
+    let report = run_node(rt, &busy, &busy, node, nodes, turns, stop).report;
+    Ok(Ran {
+        report,
+        last: busy.last.get(),
+        ended: (before, stop.ended()),
+    })
+}
+
+// Records a turn: `NODE NODES SCANNED UNSAVED`.
+fn turn<R: Wait>(rt: &R, alloc: Global, words: &[&str], out: &mut Out) -> Result<(), Stop> {
+    let (node, nodes) = (number(words, 1)?, number(words, 2)?);
+    let recorder = Recorder::new(alloc, number(words, 3)?, number(words, 4)?);
+    drop(turn_node(rt, &recorder, &recorder, node, nodes, TURN));
+    recorder.put(out);
+    drop(recorder);
+    Ok(())
 }
 
 /// A command about turns.
@@ -108,13 +209,15 @@ pub(crate) fn take<R: Wait>(
     words: &[&str],
     out: &mut Out,
 ) -> Result<(), Stop> {
-    if verb(words) != "turn" {
-        return Err(Stop::Unknown);
+    let stop = workers::Stop::new();
+    match verb(words) {
+        "turn" => return turn(rt, alloc, words, out),
+        "run" => out.debug(&run(rt, words, &stop)?),
+        "stopped" => {
+            stop.ask();
+            out.debug(&run(rt, words, &stop)?);
+        }
+        _ => return Err(Stop::Unknown),
     }
-    let (node, nodes) = (number(words, 1)?, number(words, 2)?);
-    let recorder = Recorder::new(alloc, number(words, 3)?, number(words, 4)?);
-    drop(turn_node(rt, &recorder, &recorder, node, nodes, 1));
-    recorder.put(out);
-    drop(recorder);
     Ok(())
 }
