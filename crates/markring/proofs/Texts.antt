@@ -1,5 +1,6 @@
 -- Texts, each on a line, written one after another.
-use Rattle.std.proofs.Common.{◌≡◌, ◌∙◌, ℕ, List, [], ◌∷◌, ◌++◌, Option, ap, append_assoc}
+use Rattle.std.proofs.Common.{◌≡◌, ◌∙◌, ℕ, ◌+◌, ◌<◌, List, [], ◌∷◌, ◌++◌, length, get_or, drop, map, Option, ap, sym, append_assoc}
+use Rattle.std.proofs.lemmas.List.{drop_more}
 use Rattle.std.specs.Io.KnownBytes.{Appends}
 use Rattle.std.proofs.KnownBytes.{Appends-trans}
 use Rattle.markring.specs.Told.{text_lines}
@@ -23,3 +24,9 @@ next_text {start} {now} {later} {all} {text} {left} written line =
           ∙ ap (λ bs. written.bytes ++ bs) (append_assoc text (10 ∷ []) (text_lines left))
           ∙ written.is;
     }
+
+-- what is left begins with the next text
+pub one_less : {X : Type 0} (f : X → List ℕ) (xs : List X) (i : ℕ) (x : X) → i < length xs
+    → x ≡ get_or xs i x → map f (drop i xs) ≡ f x ∷ map f (drop (i + 1) xs)
+one_less f xs i x within is =
+    ap (map f) (drop_more xs i x within ∙ ap (λ y. y ∷ drop (i + 1) xs) (sym is))

@@ -1,5 +1,5 @@
 -- What `run` prints for a line of its script, and the status of the line.
-use Rattle.std.specs.Prelude.{◌≡◌, ℕ, List, [], ◌∷◌, ◌++◌, codes, decimal, map, string_bytes, Result, Ok, Err}
+use Rattle.std.specs.Prelude.{ℕ, List, [], ◌∷◌, ◌++◌, codes, decimal, map, string_bytes, Result, Ok, Err}
 use Rattle.ids.specs.declared.refusal.Refusal.{Refusal}
 use Rattle.lines.specs.Text.{outcome_text, refused_text}
 use Rattle.model.specs.declared.event.Answer.{Answer}

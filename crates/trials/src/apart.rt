@@ -20,6 +20,7 @@ use workers::{Gate, Point, Report, Stage, turn_node};
 // How often a worker looks at most whether the other one has come to its point, and how many
 // milliseconds it pauses between two looks.
 const LOOKS: u32 = 1000;
+
 const PAUSE: u64 = 1;
 
 // How many turns follow at most, of both nodes together.

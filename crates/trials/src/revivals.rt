@@ -19,6 +19,7 @@ use workers::{Gate, Point, Stage};
 
 // The turn in which a worker ends, and how many microseconds it waits before it does.
 const LAST_TURN: u32 = 3;
+
 const WAIT: u64 = 100_000;
 
 /// A gate that ends workers, but only after a while: the first one of each node, except node 0, and
@@ -219,7 +220,11 @@ where
     let then = space.program(1)?.act(rt, alloc_event);
     let second = space.revive(rt, 1, gate);
     let last = space.program(1)?.act(rt, alloc_event);
-    let reports = space.close(rt).iter().filter(|report| report.node == 1).count();
+    let reports = space
+        .close(rt)
+        .iter()
+        .filter(|report| report.node == 1)
+        .count();
     Some(Failed {
         first,
         then,

@@ -105,8 +105,25 @@ fn same_wire(wire: &Arc<Wire>) -> Result<Arc<Wire>, Refusal>
     }
 }
 
-// The cells of a wire, in order, shared. The k-th call of each disk from now on fails once, if `k`
-// is given.
+// A cell, shared. The k-th call of its disk from now on fails, if `k` is given.
+fn share<W: Naming>(
+    mut cell: Cell<MemoryDisk>,
+    wire: Arc<Wire>,
+    k: Option<u64>,
+) -> SharedOn<MemoryDisk, W>
+    requires seat { IsSeatOf (arc_value wire) cell.seat }
+    requires name { IsNamed W.wire (name_of (arc_value wire)) }
+{
+    match k {
+        Some(k) => {
+            cell.fail_once(k);
+            SharedOn::new(cell, wire)
+        }
+        None => SharedOn::new(cell, wire),
+    }
+}
+
+// The cells of a wire, in order, shared; see `share`.
 fn share_all<W: Naming>(
     alloc: Global,
     wire: &Arc<Wire>,
@@ -118,11 +135,8 @@ fn share_all<W: Naming>(
 {
     let mut shared = Vec::new(alloc);
     for _ in 0..cells.len() {
-        let mut cell = cells.remove(0);
-        if let Some(k) = k {
-            cell.fail_once(k);
-        }
-        shared.push(SharedOn::new(cell, same_wire(wire)?))?;
+        let cell = cells.remove(0);
+        shared.push(share(cell, same_wire(wire)?, k))?;
     }
     Ok(shared)
 }

@@ -1,5 +1,5 @@
-//! Turns of a worker on a site that records what it is asked and gives scripted answers, so that the
-//! calls of a turn are seen in order; and runs of a worker on a site where every turn does the same.
+//! Turns of a worker on a site that records what it is asked and gives scripted answers. So the
+//! calls of a turn are seen in order. Runs of a worker are on a site that always answers the same.
 use crate::spaces::stage_of;
 use cases::{Out, Stop, number, verb, word};
 use ids::{Ref, Refusal};
@@ -115,8 +115,8 @@ impl Gate for Recorder {
 // How many objects each sweep of a busy site frees.
 const FREED: u32 = 2;
 
-/// A site where each other node has sent a message, and each sweep frees objects. As a gate it ends
-/// the worker at a stage of a turn.
+/// A site that always has a message of each other node, and frees objects in each sweep. As a gate
+/// it ends the worker at a stage of a turn.
 #[derive(Drop)]
 struct Busy {
     end: (u32, Stage),

@@ -97,7 +97,7 @@ impl<'a, S: Site, G: Gate> Calls<'a, S, G> {
         self.past = Snapshot::of(&Past::Then { before, call });
     }
 
-    /// Tells the gate of a point, and then asks it whether the worker continues.
+    /// Calls `at` of the gate, and then `go_on`, which returns whether the worker continues.
     pub(crate) fn ask(&mut self, point: Point) -> bool
         ensures { Makes (At point result ∷ []) 0 0 self.old.past.value self.new.past.value }
     {

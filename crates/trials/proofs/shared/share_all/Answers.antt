@@ -5,8 +5,8 @@ use Rattle.wire.specs.declared.seats.Wire.{Wire}
 use Rattle.trials.proofs.Seating.{first-all, later-all}
 use Rattle.trials.proofs.shared.share_all.Goals as goal
 
-pub new-requires-clause-seat : goal.new-requires-clause-seat
-new-requires-clause-seat g c =
+pub share-requires-clause-seat : goal.share-requires-clause-seat
+share-requires-clause-seat g c =
     let some : 0 < length c.loop.cells.items = omega arith in
     subst (λ (w : Wire). IsSeatOf w c.remove-cell.result.seat) (sym c.in_ok-same_wire.ensures)
     (first-all (λ y. IsSeatOf (arc_value c.args.wire.now) y.seat) _ c.remove-cell.result some
