@@ -165,6 +165,8 @@ static void write_and_sync(const char *folder, size_t count, size_t length)
     snprintf(path, sizeof path, "%s/floor", folder);
     int file = open(path, O_RDWR | O_CREAT, 0600);
     must(file < 0 || data == NULL, "open");
+    // The first sync also waits for the file system to note the new file.
+    must(pwrite(file, data, length, 0) != (ssize_t)length || fsync(file) != 0, "write");
     double began = seconds();
     for (size_t i = 0; i < count; i++) {
         data[0] = (char)i;

@@ -89,6 +89,7 @@ class Cluster:
         self.folder = Path(self.place.name)
         self.server = Server(self.folder, "test", nodes)
         self.processes = [None] * nodes
+        self.started = []
         self.kills = 0
         self.id = subprocess.run([program, "id"], capture_output=True, text=True, check=True).stdout.strip()
         self.clients = []
@@ -102,8 +103,8 @@ class Cluster:
     def __exit__(self, kind, error, trace) -> None:
         for it in self.clients:
             it.close()
-        for it in self.processes:
-            if it is not None:
+        for it in self.started:
+            if it.poll() is None:
                 it.kill()
                 it.wait()
         self.server.kill()
@@ -124,6 +125,7 @@ class Cluster:
         words = [self.program, "run", place, url, *self.run_words]
         with (self.folder / f"{node}.log").open("a") as log:
             it = subprocess.Popen(words, stdout=log, stderr=log, env=os.environ)
+        self.started.append(it)
         if folder is None:
             self.processes[node] = it
         return it
