@@ -1,8 +1,10 @@
 //! Makes the cells of nodes that are on shelves, and the wire between them. The caller names the
 //! world whose states the nodes are in; the theorems hold if a run reaches it.
-ghost use Rattle.std.specs.Prelude.{◌≡◌, ◌≢◌, true, All, IfErr, IfOk, IsErrOf, MatchResult, length, map, vec_len};
+ghost use Rattle.std.specs.Prelude.{◌≡◌, ◌≢◌, ℕ, true, All, IfErr, IfOk, IsErrOf, MatchResult, Some, length};
+ghost use Rattle.std.specs.Prelude.{map, slice_get, vec_len};
 ghost use Rattle.ids.specs.declared.refusal.Refusal.TheVariants.{Memory};
 ghost use Rattle.model.specs.World.{World};
+ghost use Rattle.node.specs.Keeping.{WholeNode};
 ghost use Rattle.wire.specs.Readers.{AreOpened, IsMade, opened_with};
 ghost use Rattle.wire.specs.Rule.{nodes_of};
 ghost use Rattle.cell.specs.Ages.{AreApart, AreOfOneAge, AreRead, IfAges};
@@ -20,6 +22,7 @@ ghost use Rattle.cell.specs.Opened.{
   HoldsAnother,
   IfRefused,
   IsCause,
+  IsNodeOf,
   IsReadFrom,
 };
 ghost use Rattle.cell.specs.declared.fault.Unopened.TheVariants as fault;
@@ -112,6 +115,8 @@ pub fn open<D: Disk + Drop>(
         AreRead D.seen shape disks.items (λ ns. AreApart ns sender receiver))) }
     ensures read { IfOk result (λ r. AreBeside (λ k d n. IsReadFrom shape k (D.seen d) n)
         disks.items (map (λ c. c.node) r.1.items)) }
+    ensures shaped { IfOk result (λ r. (k : ℕ) (n : WholeNode)
+        → slice_get (map (λ c. c.node) r.1.items) k ≡ Some n → IsNodeOf shape k n.core) }
     ensures count { IfOk result (λ r. vec_len r.1 ≡ shape.nodes) }
     ensures all { IfOk result (λ r. length r.1.items ≡ length disks.items) }
     ensures one_age { IfOk result (λ r. AreOfOneAge (map (λ c. c.node) r.1.items)) }

@@ -60,6 +60,8 @@ pub record AreBegun (shape : Shaped) (images : List Image) (watches : ℕ) (wire
     (cells : List (CellView MemoryDisk)) (watching : List Watch) : Type 0 where
   pub count : length cells ≡ shape.nodes
   pub read : AreBeside (λ k i n. Begins shape k i n) images (map (λ c. c.node) cells)
+  pub shaped : (k : ℕ) (n : WholeNode) → slice_get (map (λ c. c.node) cells) k ≡ Some n
+      → IsNodeOf shape k n.core
   pub one_age : AreOfOneAge (map (λ c. c.node) cells)
   pub new : All IsNew cells
   pub made : IsMade (world_of (cores (map (λ c. c.node) cells))) watches wire

@@ -71,7 +71,7 @@ pub record IsOpened (old new : Space) : Type 0 where
   pub shape : new.shape ≡ old.shape
   pub watches : new.watches ≡ old.watches
 
--- The space is opened; or nothing changes, for the first reason that applies.
+-- The space is opened; or nothing changes, and the fault says why.
 abbrev pub Opens : Space → Space → Result (Unit {0}) Fault → Type 0
 Opens old new (Ok u) = (old.is_open ≡ false) × IsOpened old new
 Opens old new (Err fault.InUse) = (old.is_open ≡ true) × (new ≡ old)

@@ -1,15 +1,17 @@
-use Rattle.std.proofs.Common.{◌∙◌, List, ap, length, subst, sym}
+use Rattle.std.proofs.Common.{◌≡◌, ◌∙◌, ℕ, List, Some, ap, arith, length, subst, sym}
+use Rattle.std.specs.Prelude.{slice_get}
 use Rattle.std.proofs.lemmas.List.{length-map}
+use Rattle.std.proofs.lemmas.Option.{slice_get_within}
 use Rattle.std.proofs.lemmas.Result.{err_from_is_err_and}
 use Rattle.node.specs.Keeping.{WholeNode}
 use Rattle.image.proofs.Spelled.{kept_is}
 use Rattle.cell.specs.Ages.{AreOfOneAge}
-use Rattle.cell.specs.Opened.{AreBeside, IsReadFrom, cores, world_of}
+use Rattle.cell.specs.Opened.{AreBeside, IsNodeOf, IsReadFrom, cores, world_of}
 use Rattle.cell.specs.Reached.{IsReached}
 use Rattle.cell.proofs.Causes.{same-error}
 use Rattle.cell.proofs.Closed.{never-ages, new-begun, opened-again}
 use Rattle.cell.proofs.OnShelves.{found-kept}
-use Rattle.cell.proofs.Places.{mapped-there}
+use Rattle.cell.proofs.Places.{mapped-there, some_at}
 use Rattle.cell.proofs.Ready.{opened}
 use Rattle.cell.proofs.joining.open.Goals as goal
 
@@ -28,6 +30,17 @@ returns-in-Ok-clause-read g c =
     subst (λ (l : List WholeNode).
     AreBeside (λ k d n. IsReadFrom c.args.shape k (g.D.Disk.seen d) n) c.args.disks.items l)
     (sym c.in-Ok.ensures.nodes) c.in_ok-nodes.ensures.read
+
+pub returns-in-Ok-clause-shaped : goal.returns-in-Ok-clause-shaped
+returns-in-Ok-clause-shaped g c =
+    let nodes = c.in_ok-nodes.nodes.items in
+    let found = c.in_ok-nodes.ensures.found in
+    subst (λ (l : List WholeNode).
+    (k : ℕ) (n : WholeNode) → slice_get l k ≡ Some n → IsNodeOf c.args.shape k n.core)
+    (sym c.in-Ok.ensures.nodes) (λ k n there.
+    let shelf = some_at c.in_ok-nodes.shelves.items k
+    (omega (arith, slice_get_within nodes k n there, found.same)) in
+    (found.each k n shelf.0 there shelf.1).0)
 
 pub returns-in-Ok-clause-all : goal.returns-in-Ok-clause-all
 returns-in-Ok-clause-all g c =

@@ -12,6 +12,7 @@ returns-in-Ok-clause-begun c =
     record {
       count = h.all ∙ same-count are ∙ c.requires;
       read = all-begin c.args.shape c.args.images.now c.in_ok-disks.disks.items _ are h.read;
+      shaped = h.shaped;
       one_age = h.one_age;
       new = h.new;
       made = h.made;
