@@ -80,7 +80,13 @@ pub(crate) fn clear_node<R: Wait, S: Site>(rt: &R, cell: &S) {
         }
     }
     let _ = act(rt, cell, Event::Drop { register: OTHERS });
-    let _ = act(rt, cell, Event::Drop { register: OTHERS + 1 });
+    let _ = act(
+        rt,
+        cell,
+        Event::Drop {
+            register: OTHERS + 1,
+        },
+    );
 }
 
 // What is left after a restart: the letters below this label, and possibly one more.

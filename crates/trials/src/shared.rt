@@ -1,6 +1,6 @@
 //! Shared cells of new nodes on one wire, and a watch that is told what they raise. The effect of a
 //! call is seen from outside the lock.
-ghost use Rattle.std.specs.Prelude.{◌≡◌, All, IfOk, Some};
+ghost use Rattle.std.specs.Prelude.{◌≡◌, false, All, IfOk, Some};
 ghost use Rattle.std.specs.Arc.{arc_value};
 ghost use Rattle.cell.specs.Names.{name_of, IsNamed};
 ghost use Rattle.wire.specs.Readers.{IsSeatOf, IsWatchOf};
@@ -132,6 +132,7 @@ fn share_all<W: Naming>(
 ) -> Result<Vec<SharedOn<MemoryDisk, W>>, Refusal>
     requires seats { All (λ c. IsSeatOf (arc_value wire.now) c.seat) cells.items }
     requires name { IsNamed W.wire (name_of (arc_value wire.now)) }
+    requires begun { W.begun ≡ false }
 {
     let mut shared = Vec::new(alloc);
     for _ in 0..cells.len() {
@@ -184,6 +185,7 @@ fn named<W: Naming, R: Wait>(
     requires seats { All (λ c. IsSeatOf (arc_value wire) c.seat) cells.items }
     requires watch { IsWatchOf (arc_value wire) watch }
     requires name { W.wire ≡ Some (name_of (arc_value wire)) }
+    requires begun { W.begun ≡ false }
 {
     let cells = share_all::<W>(alloc, &wire, cells, k)?;
     let sharing = Sharing {
