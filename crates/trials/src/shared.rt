@@ -113,6 +113,7 @@ fn share<W: Naming>(
 ) -> SharedOn<MemoryDisk, W>
     requires seat { IsSeatOf (arc_value wire) cell.seat }
     requires name { IsNamed W.wire (name_of (arc_value wire)) }
+    requires begun { W.begun ≡ false }
 {
     match k {
         Some(k) => {

@@ -1,5 +1,4 @@
-use Rattle.std.proofs.Common.{◌<◌, ◌∙◌, length, sym, subst, arith}
-use Rattle.std.proofs.lemmas.Bool.{false≢true}
+use Rattle.std.proofs.Common.{◌<◌, length, sym, subst, arith}
 use Rattle.std.specs.Arc.{arc_value}
 use Rattle.wire.specs.Readers.{IsSeatOf}
 use Rattle.wire.specs.declared.seats.Wire.{Wire}
@@ -12,9 +11,6 @@ share-requires-clause-seat g c =
     subst (λ (w : Wire). IsSeatOf w c.remove-cell.result.seat) (sym c.in_ok-same_wire.ensures)
     (first-all (λ y. IsSeatOf (arc_value c.args.wire.now) y.seat) _ c.remove-cell.result some
     c.loop.invariant.seats c.remove-cell.ensures.value)
-
-pub new-requires-clause-begun : goal.new-requires-clause-begun
-new-requires-clause-begun g c = λ is. absurd (false≢true (sym c.requires.begun ∙ is))
 
 pub loop-preserved : goal.loop-preserved
 loop-preserved g c = record {
