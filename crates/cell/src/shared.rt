@@ -228,6 +228,7 @@ impl<D: Disk, W: Naming> SharedOn<D, W> {
 }
 
 impl<D: Disk, W: Naming> Site for SharedOn<D, W> {
+    #[inline(always)]
     fn pump_in<R: Wait>(&self, rt: &R, from: u8) -> Result<Inbound, Refusal> {
         SharedOn::pump_in(self, rt, from)
     }
@@ -244,6 +245,7 @@ impl<D: Disk, W: Naming> Site for SharedOn<D, W> {
         SharedOn::save(self, rt)
     }
 
+    #[inline(always)]
     fn pump_out<R: Wait>(&self, rt: &R, to: u8) -> Result<Outbound, Refusal> {
         SharedOn::pump_out(self, rt, to)
     }
