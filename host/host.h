@@ -77,7 +77,7 @@ typedef struct host_calls {
     // Sends an answer to whoever asked. It may be lost.
     void (*answer)(void *context, const char *reply, const uint8_t *bytes, size_t length);
     // Begins to save the value. The caller may write to the room around it, but keeps the value
-    // until it calls host_saved, also from within this call.
+    // until it calls host_saved, also from within this call. No other save begins before that.
     void (*save)(void *context, store_value *value);
 } host_calls;
 

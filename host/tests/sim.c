@@ -299,6 +299,8 @@ static void on_answer(void *context, const char *reply, const uint8_t *bytes, si
 static void on_save(void *context, store_value *value)
 {
     station *at = station_of(context);
+    // The value of a save that is under way is the caller's.
+    HOLDS(at->job == NULL);
     at->job = value;
     at->job_ends = now + (below(3) == 0 ? below(60) : 0);
 }

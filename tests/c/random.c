@@ -1,10 +1,11 @@
 // Programs of random events on all nodes of a space, over a net that loses, repeats and reorders
 // frames, with cycles of the collector, and with crashes after which a node continues from its last
 // stored image. Every answer is compared with a space without a collector (docs/RULES.md), which is
-// written here from the rules. At checkpoints the garbage has to go: each node has exactly the
-// objects that the model reaches.
+// written here from the rules. At checkpoints the programs stop, everything is received and saved,
+// and one whole cycle has to free the garbage: each node then has exactly the objects that the model
+// reaches.
 //
-//     random SEEDS STEPS
+//     random SEEDS STEPS [NODES]
 #include "check.h"
 
 // ROUNDS bounds what must end by itself.
@@ -108,6 +109,8 @@ static int in_net;
 // The tags of the messages from one node to another, by their numbers.
 static bytes tags[MOST][MOST];
 static unsigned long crashes, cycles, answers, lost;
+// Objects that the cycles of checkpoints freed, and those that were reached there.
+static unsigned long freed, kept;
 
 static message *sent_by(model *it, uint8_t to, size_t index)
 {
@@ -536,7 +539,9 @@ static void finish_cycle(void)
             while (markring_node_scan(&sites[node].node, &answer) == MARKRING_OK) {
             }
             (void)markring_node_pass(&sites[node].node, &answer);
-            (void)markring_node_sweep(&sites[node].node, SLOTS, &answer);
+            if (markring_node_sweep(&sites[node].node, SLOTS, &answer) == MARKRING_OK) {
+                freed += answer.count;
+            }
         }
     }
     OK(markring_node_state(&sites[0].node, &state));
@@ -563,13 +568,13 @@ static unsigned reach(markring_ref it, bytes *seen)
     return 1;
 }
 
-// Nothing is in flight. What the model reaches from registers and letters is there, and after three
-// cycles nothing else is.
+// Nothing is in flight. What the model reaches from registers and letters is there, and after a cycle
+// that begins now nothing else is. (It is over once the next one begins.)
 static void checkpoint(void)
 {
     bytes seen = {0};
     uint64_t objects[MOST] = {0};
-    for (int times = 0; times < 3; times++) {
+    for (int times = 0; times < 2; times++) {
         finish_cycle();
     }
     settle();
@@ -586,6 +591,7 @@ static void checkpoint(void)
             (void)reach(((letter *)(void *)(now->letters.at + at))->reference, &seen);
         }
     }
+    kept += seen.length / sizeof(markring_ref);
     for (size_t i = 0; i < seen.length / sizeof(markring_ref); i++) {
         objects[((markring_ref *)(void *)seen.at)[i].node]++;
     }
@@ -599,9 +605,9 @@ static void checkpoint(void)
     drop_bytes(&seen);
 }
 
-static void run(unsigned long steps)
+static void run(unsigned long steps, uint8_t size)
 {
-    nodes = (uint8_t)(2 + below(&seed, MOST - 1));
+    nodes = size != 0 ? size : (uint8_t)(2 + below(&seed, MOST - 1));
     limit = below(&seed, 2) != 0 ? 6 + below(&seed, 40) : 0;
     for (uint8_t node = 0; node < nodes; node++) {
         OK(markring_node_new(&sites[node].node, nodes, REGISTERS, SLOTS, node, limit));
@@ -633,15 +639,19 @@ int main(int length, char **given)
 {
     unsigned long seeds = length > 1 ? strtoul(given[1], NULL, 10) : 40;
     unsigned long steps = length > 2 ? strtoul(given[2], NULL, 10) : 4000;
+    uint8_t size = length > 3 ? (uint8_t)strtoul(given[3], NULL, 10) : 0;
     for (unsigned long i = 1; i <= seeds && failed == 0; i++) {
         seed = i * UINT64_C(0x9E3779B97F4A7C15) | 1;
-        run(steps);
+        run(steps, size);
         if (failed != 0) {
             printf("seed %lu failed\n", i);
         }
     }
     HOLDS(crashes > 0 && cycles > 0 && lost > 0);
-    printf("%lu events of programs, %lu crashes, %lu cycles, %lu frames lost\n", answers, crashes,
-        cycles, lost);
+    // On average one in each program, or else too little happens.
+    HOLDS(freed >= seeds && kept >= seeds);
+    printf("%lu events of programs, %lu crashes, %lu cycles, %lu frames lost, %lu objects freed, "
+           "%lu kept\n",
+        answers, crashes, cycles, lost, freed, kept);
     return report();
 }

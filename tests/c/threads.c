@@ -12,7 +12,7 @@
 #include <time.h>
 
 // A node gives a letter unless AHEAD of its messages to the receiver aren't acknowledged.
-enum { MOST = 8, REGISTERS = 8, SLOTS = 512, IMAGE = 1 << 16, AHEAD = 64, SECONDS = 300 };
+enum { MOST = 64, REGISTERS = 8, SLOTS = 512, IMAGE = 1 << 16, AHEAD = 64, SECONDS = 300 };
 
 // Registers: one object counts the letters that were accepted and those that were given, in the
 // words of two objects. Of a ring of two objects one is held until the next letter.

@@ -10,7 +10,7 @@ use Rattle.msg.specs.declared.body.Message.{Message}
 use Rattle.model.specs.Shading.{filled, unasked, mark_for, marks_for}
 use Rattle.model.specs.View.{no_link, used, append_to}
 use Rattle.model.proofs.Appending.{marks-inside, few-appended}
-use Rattle.model.proofs.ShadingParts.{filled-append, unasked-all, unasked-append}
+use Rattle.model.proofs.Shading.{filled-append, unasked-all, unasked-append}
 use Rattle.link.specs.Links.{LinksView, IsLinks, link_at}
 use Rattle.barrier.specs.Asked.{AreSent, IsAsked}
 

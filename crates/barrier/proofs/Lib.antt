@@ -1,4 +1,3 @@
 pub mod Indexed
 pub mod Sent
 pub mod InTurn
-pub mod Shaded

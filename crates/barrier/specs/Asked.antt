@@ -1,5 +1,5 @@
 -- The outcome of asking the owners of references to mark them.
-use Rattle.std.specs.Prelude.{◌≡◌, ◌≢◌, ℕ, true, false, List, ◌++◌, map}
+use Rattle.std.specs.Prelude.{◌≡◌, ◌≢◌, ℕ, Bool, true, false, cond, List, [], ◌++◌, map}
 use Rattle.ids.specs.declared.names.Ref.{Ref}
 use Rattle.ids.specs.declared.refusal.Refusal.{Refusal}
 use Rattle.ids.specs.declared.refusal.Refusal.TheVariants.{LinkSpent, Memory}
@@ -25,6 +25,12 @@ pub record IsAsked (before new : List Ref) (cycle : ℕ) (was : LinksView) (aske
   pub keys : asked ≡ before ++ new
   pub fits : fits (map used was.links) (marks_for cycle new) ≡ true
   pub sent : links ≡ all_appended was (marks_for cycle new)
+
+-- The new references come after those that were asked for before. If Marks are due, each has one.
+pub record IsSeen (due : Bool) (before new : List Ref) (cycle : ℕ) (was : LinksView)
+    (asked : List Ref) (links : LinksView) : Type 0 where
+  pub keys : asked ≡ before ++ new
+  pub sent : AreSent (marks_for cycle (cond due new [])) was links
 
 -- The refusal of a call whose messages weren't appended. It is Memory, which may come before a link
 -- turns out to have no number left, or LinkSpent, which comes only if some message gets no number.

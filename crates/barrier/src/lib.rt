@@ -1,16 +1,15 @@
-//! Shading many references, all or nothing. To shade an object of the node is to mark it. To shade
-//! an object of another node is to ask its owner to mark it, by a Mark, once in a cycle.
+//! Seeing to many references, all or nothing, as far as other nodes are concerned: they are asked
+//! to mark their objects, by a Mark, once in a cycle, or the references are vouched for.
 //!
-//! Whatever can fail comes first: room on the heap's list of grey objects, and then [`ask`],
-//! [`ask_for_roots`] or [`vouch`]. If one of these fails, it leaves everything as it was. If a step
-//! after them fails, [`unask`] and [`unvouch`] undo them. Marking objects and counting Marks come
-//! last and can't fail. [`shade_all`] and [`scan`] do both.
+//! [`see`] and [`ask_for_roots`] can fail, and then leave everything as it was. If a step after
+//! them fails, [`unsee`] and [`unask`] undo them. Marking the node's own objects can't fail, and
+//! comes last.
 //!
 //! The references that were asked for are a [`RefSet`], the oldest first. So the number of
 //! references at an earlier moment says which Marks were sent since, and undoing needs neither
 //! memory nor a list of its own.
 //!
-//! Each reference costs one look-up in the set or in the heap. Nothing else is read.
+//! Each reference costs one look-up in the set. Nothing else is read.
 //!
 //! Why references are asked for once: a node can't see another node's marks. So without the set it
 //! would ask again each time that it meets the reference. Also, a Load after marking has ended
@@ -31,11 +30,7 @@ mod asking;
 mod joining;
 mod marks;
 mod ref_set;
-mod scanning;
-mod shading;
 
-pub use asking::{ask, unask, unvouch, vouch};
+pub use asking::{see, unask, unsee};
 pub use joining::ask_for_roots;
 pub use ref_set::RefSet;
-pub use scanning::scan;
-pub use shading::shade_all;

@@ -13,7 +13,7 @@ use link::Links;
 use msg::{Body, Message};
 
 /// Appends a Mark of this cycle for the node of each of these references, in order, or for none. It
-/// fails like [`ask`](crate::ask); the links are then as they were.
+/// fails like `ask`; the links are then as they were.
 pub fn append_marks(links: &mut Links, cycle: u64, targets: &[Ref]) -> Result<(), Refusal>
     requires nodes { AllByRecursion (λ r. r.node < length links.old.links) targets.now }
     ensures done { OnOk result (AreSent (marks_for cycle targets.now) links.old links.new) }

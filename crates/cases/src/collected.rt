@@ -6,20 +6,21 @@ ghost use Rattle.model.specs.Steps.{is_own};
 use crate::case::{Stop, number, verb};
 use crate::dice::Dice;
 use crate::out::Out;
+use crate::reached::{count_there, reach};
 use ids::{Ref, Refusal, Shape};
 use model::{Answer, Event, Outcome, Step};
 use std::alloc::Global;
-use world::{Sim, reach};
+use world::Sim;
 
 /// How many nodes such a space has.
 const NODES: u8 = 3;
 
 const REGISTERS: u8 = 3;
 
-/// More rounds than it takes until nothing is in flight, or a cycle has been swept everywhere.
+/// More rounds than it takes until nothing is in flight.
 const ROUNDS: u32 = 100;
 
-/// More messages than a list sends from one node to another, and more slots than a node has.
+/// More messages than a list sends from one node to another.
 const MANY: u32 = 10_000;
 
 /// Counts over all cycles: how many objects were freed, and how many were kept that had been
@@ -75,7 +76,7 @@ fn run_list(alloc: Global, seed: u64, turns: u32, sums: &mut Sums) -> Result<(),
     for _turn in 0..turns {
         take_turn(&mut sim, &mut dice);
     }
-    let done = collect(alloc, &mut sim, sums);
+    let done = collect(alloc, &mut sim, seed, sums);
     drop(sim);
     done
 }
@@ -138,10 +139,8 @@ fn save(sim: &mut Sim, node: u8) {
 
 // Whether the message of this number is new to the receiver, and was received.
 fn deliver(sim: &mut Sim, from: u8, to: u8, number: u64) -> bool {
-    match sim.step(Step::Deliver { from, to, number }) {
-        Ok(outcome) => outcome == Outcome::Answer(Answer::Received),
-        Err(_) => false,
-    }
+    let delivered = sim.step(Step::Deliver { from, to, number });
+    matches!(delivered, Ok(Outcome::Answer(Answer::Received)))
 }
 
 // The number of the message that the receiver received last from the sender.
@@ -163,13 +162,16 @@ fn save_and_send(sim: &mut Sim, from: u8, to: u8) {
 
 // One cycle, once all messages were received and all nodes saved. It compares what was reached just
 // before the cycle with what is there after it.
-fn collect(alloc: Global, sim: &mut Sim, sums: &mut Sums) -> Result<(), Refusal> {
+fn collect(alloc: Global, sim: &mut Sim, seed: u64, sums: &mut Sums) -> Result<(), Refusal> {
     let is_settled = settle(sim);
     if sim.count() != NODES {
         return Err(Refusal::NoNode);
     }
-    let reached = reach(alloc, sim, &[false; 3])?;
-    if !(run_cycle(sim, sums) && is_settled) {
+    let reached = reach(alloc, &*sim)?;
+    let before = live(sim);
+    run_cycle(sim, seed)?;
+    sums.freed = sums.freed.saturating_add(before.saturating_sub(live(sim)));
+    if !(has_swept(sim) && is_settled) {
         sums.unended = sums.unended.saturating_add(1);
     }
     compare(sim, reached.as_slice(), sums);
@@ -211,34 +213,16 @@ fn hand_over(sim: &mut Sim, from: u8, to: u8) -> bool {
     true
 }
 
-// The first cycle, without steps of programs; whether every node has swept it then.
-fn run_cycle(sim: &mut Sim, sums: &mut Sums) -> bool {
+// The first cycle, without steps of programs. In every second list it has begun already.
+fn run_cycle(sim: &mut Sim, seed: u64) -> Result<u64, Refusal> {
+    if seed % 2 == 0 {
+        return sim.collect();
+    }
     act(sim, 0, Event::Begin);
-    for _round in 0..ROUNDS {
-        for node in 0..NODES {
-            work(sim, node, sums);
-        }
-        exchange(sim);
-        if has_swept(sim) {
-            return true;
-        }
-    }
-    false
+    sim.finish_cycle()
 }
 
-// Everything that the collector may do at a node now.
-fn work(sim: &mut Sim, node: u8, sums: &mut Sums) {
-    for _object in 0..MANY {
-        if sim.act(node, Event::Scan).is_err() {
-            break;
-        }
-    }
-    act(sim, node, Event::Pass);
-    if let Ok(Answer::Freed { count, .. }) = sim.act(node, Event::Sweep { count: MANY }) {
-        sums.freed = sums.freed.saturating_add(u64::from(count));
-    }
-}
-
+// Whether every node has swept the first cycle.
 fn has_swept(sim: &Sim) -> bool {
     for number in 0..NODES {
         match sim.state(number) {
@@ -252,23 +236,11 @@ fn has_swept(sim: &Sim) -> bool {
 // The references are distinct. So if all name objects and there are no more objects than
 // references, the two are the same.
 fn compare(sim: &Sim, reached: &[Ref], sums: &mut Sums) {
-    let mut kept = 0_u64;
-    for reference in reached {
-        if is_there(sim, *reference) {
-            kept = kept.saturating_add(1);
-        } else {
-            sums.missing = sums.missing.saturating_add(1);
-        }
-    }
+    let kept = count_there(sim, reached);
+    let missing = (reached.len() as u64).saturating_sub(kept);
+    sums.missing = sums.missing.saturating_add(missing);
     sums.kept = sums.kept.saturating_add(kept);
     sums.left = sums.left.saturating_add(live(sim).saturating_sub(kept));
-}
-
-fn is_there(sim: &Sim, reference: Ref) -> bool {
-    match sim.node(reference.node) {
-        Some(node) => node.core().is_live(reference),
-        None => false,
-    }
 }
 
 // How many objects there are.

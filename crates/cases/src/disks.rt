@@ -2,7 +2,7 @@
 //! each of the crashes that are possible.
 use crate::case::{Stop, Subject, number, verb};
 use crate::out::{Out, count, put_tally};
-use crate::shelves::{Bench, Held, node_on};
+use crate::shelves::{Bench, Held, node_behind, node_on};
 use disk::{MemoryDisk, is_blank};
 use ids::Refusal;
 use std::alloc::Global;
@@ -63,7 +63,8 @@ impl Disks {
         let mut tally = [0; 5];
         for fill in 0..=u8::MAX {
             let left = after_crash(&self.bench.held, fill)?;
-            count(&mut tally, opens_to(self.alloc, left, &self.old, &new));
+            let found = found_on(self.alloc, left, is_logged(&self.bench.held));
+            count(&mut tally, opens_to(&found, &self.old, &new));
         }
         put_tally(&NAMES, &tally, out);
         Ok(())
@@ -90,6 +91,7 @@ fn fail_once(held: &mut Held<MemoryDisk>, k: u64, out: &mut Out) -> Result<(), S
     match held {
         Held::Loose(disk) => disk.fail_once(k),
         Held::Shelved(shelf) => shelf.fail_once(k),
+        Held::Logged(journal) => journal.fail_once(k),
         Held::Nothing => return Err(Stop::Unknown),
     }
     out.text("ok");
@@ -101,6 +103,7 @@ fn fail(held: &mut Held<MemoryDisk>, k: u64, out: &mut Out) -> Result<(), Stop> 
     match held {
         Held::Loose(disk) => disk.fail_from(k),
         Held::Shelved(shelf) => shelf.fail_from(k),
+        Held::Logged(journal) => journal.fail_from(k),
         Held::Nothing => return Err(Stop::Unknown),
     }
     out.text("ok");
@@ -111,6 +114,7 @@ fn after_crash(held: &Held<MemoryDisk>, fill: u8) -> Result<Result<MemoryDisk, R
     match held {
         Held::Loose(disk) => Ok(disk.after_crash(fill)),
         Held::Shelved(shelf) => Ok(shelf.after_crash(fill)),
+        Held::Logged(journal) => Ok(journal.after_crash(fill)),
         Held::Nothing => Err(Stop::Unknown),
     }
 }
@@ -118,26 +122,40 @@ fn after_crash(held: &Held<MemoryDisk>, fill: u8) -> Result<Result<MemoryDisk, R
 /// What a disk opens to.
 const NAMES: [&str; 5] = ["blank", "old", "new", "other", "refused"];
 
-// The place of the outcome in `NAMES`.
-fn opens_to(alloc: Global, left: Result<MemoryDisk, Refusal>, old: &[u8], new: &[u8]) -> usize {
-    let Ok(mut disk) = left else {
-        return 4;
-    };
-    if is_blank(&mut disk) == Ok(true) {
-        return 0;
-    }
-    match image_on(alloc, disk) {
-        Ok(image) if image.as_slice() == old => 1,
-        Ok(image) if image.as_slice() == new => 2,
-        Ok(_) => 3,
+// The place in `NAMES` of what was found on a disk.
+fn opens_to(found: &Result<Option<Vec<u8>>, Refusal>, old: &[u8], new: &[u8]) -> usize {
+    match found {
+        Ok(None) => 0,
+        Ok(Some(image)) if image.as_slice() == old => 1,
+        Ok(Some(image)) if image.as_slice() == new => 2,
+        Ok(Some(_)) => 3,
         Err(_) => 4,
     }
 }
 
-// The image of the node that a disk opens to.
-fn image_on(alloc: Global, disk: MemoryDisk) -> Result<Vec<u8>, Refusal> {
-    let node = node_on(alloc, disk)?;
+// The image of the node that a shelf or a journal finds on a disk, unless the disk is blank.
+fn found_on(
+    alloc: Global,
+    left: Result<MemoryDisk, Refusal>,
+    is_logged: bool,
+) -> Result<Option<Vec<u8>>, Refusal> {
+    let mut disk = left?;
+    if is_blank(&mut disk) == Ok(true) {
+        return Ok(None);
+    }
+    let node = if is_logged {
+        node_behind(alloc, disk)?
+    } else {
+        node_on(alloc, disk)?
+    };
     let image = image::to_bytes(alloc, &node);
     drop(node);
-    image
+    Ok(Some(image?))
+}
+
+fn is_logged(held: &Held<MemoryDisk>) -> bool {
+    match held {
+        Held::Logged(_) => true,
+        Held::Nothing | Held::Loose(_) | Held::Shelved(_) => false,
+    }
 }

@@ -108,16 +108,26 @@ fn on_files<R: Files<File = File> + AllocGlobal>(
     match verb(words) {
         "bytes" => put_bytes(rt, path, out),
         "folder" => put_done(fs::create_dir_all(rt, path), out),
-        "clean" => {
-            let _ = fs::remove_dir_all(rt, path);
-            out.text("ok");
-        }
-        "put" => {
-            let bytes = bytes_of(rt.alloc(), word(words, 2)?)?;
-            put_done(fs::write(rt, path, bytes.as_slice()), out);
-        }
+        "clean" => clean(rt, path, out),
+        "put" => return write_file(rt, path, word(words, 2)?, out),
         _ => return Err(Stop::Unknown),
     }
+    Ok(())
+}
+
+fn clean<R: Files<File = File> + AllocGlobal>(rt: &R, path: &str, out: &mut Out) {
+    let _ = fs::remove_dir_all(rt, path);
+    out.text("ok");
+}
+
+fn write_file<R: Files<File = File> + AllocGlobal>(
+    rt: &R,
+    path: &str,
+    digits: &str,
+    out: &mut Out,
+) -> Result<(), Stop> {
+    let bytes = bytes_of(rt.alloc(), digits)?;
+    put_done(fs::write(rt, path, bytes.as_slice()), out);
     Ok(())
 }
 

@@ -8,19 +8,25 @@ use lines::SummaryText;
 use model::{Answer, Event};
 use msg::{Frame, decode, encode};
 use node::Node;
+use replays::{Log, act};
 use std::alloc::Global;
 
-/// The node of a case, once there is one.
+/// The node of a case, once there is one, and the log of its events.
 #[derive(Drop)]
 pub struct Nodes {
     pub(crate) alloc: Global,
     pub(crate) node: Option<Node>,
+    pub(crate) log: Log,
 }
 
 impl Nodes {
     /// No node yet.
     pub fn new(alloc: Global) -> Nodes {
-        Nodes { alloc, node: None }
+        Nodes {
+            alloc,
+            node: None,
+            log: Log::new(alloc),
+        }
     }
 
     /// Replaces the node, unless the new one was refused.
@@ -28,6 +34,7 @@ impl Nodes {
         match made {
             Ok(node) => {
                 drop(self.node.replace(node));
+                self.log.clear();
                 out.text("ok");
             }
             Err(refusal) => out.refused(refusal),
@@ -54,7 +61,7 @@ impl Subject for Nodes {
             "new" => self.make(words, out),
             "image" => self.read(word(words, 1)?, out),
             _ => match &mut self.node {
-                Some(node) => on_node(self.alloc, node, words, out),
+                Some(node) => on_node(self.alloc, node, &mut self.log, words, out),
                 None => Err(Stop::Unknown),
             },
         }
@@ -68,61 +75,80 @@ pub fn shape_of(words: &[&str]) -> Result<Shape, Stop> {
 }
 
 // A command to a node.
-fn on_node(alloc: Global, node: &mut Node, words: &[&str], out: &mut Out) -> Result<(), Stop> {
+fn on_node(
+    alloc: Global,
+    node: &mut Node,
+    log: &mut Log,
+    words: &[&str],
+    out: &mut Out,
+) -> Result<(), Stop> {
     match verb(words) {
         "bytes" => put_image(alloc, node, out),
         "check" => out.done(check(alloc, node)),
         "state" => out.show(&SummaryText(node.state())),
         "kept" => {
             node.kept();
+            log.lose();
             out.text("ok");
         }
         "frame" => {
             let bytes = bytes_of(alloc, word(words, 1)?)?;
-            out.answer(take_frame(node, &bytes));
+            out.answer(take_frame(node, log, &bytes));
         }
-        _ => return ask_frame(alloc, node, words, out),
+        _ => return ask_frame(alloc, node, log, words, out),
     }
     Ok(())
 }
 
 // Asks a node for a frame, or gives it an event.
-fn ask_frame(alloc: Global, node: &mut Node, words: &[&str], out: &mut Out) -> Result<(), Stop> {
+fn ask_frame(
+    alloc: Global,
+    node: &mut Node,
+    log: &mut Log,
+    words: &[&str],
+    out: &mut Out,
+) -> Result<(), Stop> {
     let frame = match verb(words) {
         "frame-at" => node.frame_at(number(words, 1)?, number(words, 2)?),
         "numbered" => node
             .core()
             .numbered_frame(number(words, 1)?, number(words, 2)?),
         "ack-for" => node.ack_for(number(words, 1)?),
-        _ => return act(alloc, node, words, out),
+        _ => return take_event(alloc, node, log, words, out),
     };
     put_frame(alloc, frame, out);
     Ok(())
 }
 
-fn act(alloc: Global, node: &mut Node, words: &[&str], out: &mut Out) -> Result<(), Stop> {
+fn take_event(
+    alloc: Global,
+    node: &mut Node,
+    log: &mut Log,
+    words: &[&str],
+    out: &mut Out,
+) -> Result<(), Stop> {
     if verb(words) == "repeat" {
         let (event, count) = repeated(alloc, words)?;
-        out.answer(repeat(node, event, count));
+        out.answer(repeat(node, log, event, count));
     } else {
-        out.answer(node.act(event_of(alloc, words)?));
+        out.answer(act(node, log, event_of(alloc, words)?));
     }
     Ok(())
 }
 
 // Gives the node the frame that the bytes spell.
-fn take_frame(node: &mut Node, bytes: &[u8]) -> Result<Answer, Refusal> {
+fn take_frame(node: &mut Node, log: &mut Log, bytes: &[u8]) -> Result<Answer, Refusal> {
     match decode(bytes)? {
-        Frame::Data(data) => node.act(Event::Data(data)),
-        Frame::Ack(ack) => node.act(Event::Ack(ack)),
+        Frame::Data(data) => act(node, log, Event::Data(data)),
+        Frame::Ack(ack) => act(node, log, Event::Ack(ack)),
     }
 }
 
 // Repeats the event this many times, or until one fails; the last answer.
-fn repeat(node: &mut Node, event: Event, count: u64) -> Result<Answer, Refusal> {
+fn repeat(node: &mut Node, log: &mut Log, event: Event, count: u64) -> Result<Answer, Refusal> {
     let mut last = Answer::Done;
     for _ in 0..count {
-        last = node.act(event)?;
+        last = act(node, log, event)?;
     }
     Ok(last)
 }

@@ -1,13 +1,32 @@
-//! What the nodes of a space reach once nothing is in flight and a cycle has been swept everywhere.
-//! Objects that aren't reached should be gone.
+//! What the nodes of a space reach while nothing is in flight. It is computed from scratch, without
+//! any part of the collector. Objects that aren't reached should be gone once a cycle has been
+//! swept everywhere.
 use crate::found::Found;
-use ids::{Ref, Refusal};
+use ids::{GREATEST_NODES, Ref, Refusal};
 use indexmap::IndexSet;
 use node::{Core, Node};
 use std::alloc::Global;
+use world::Sim;
 
 // More references than are reached.
 const MANY: usize = 1_000_000;
+
+/// The nodes of a space, by their numbers.
+pub trait Nodes {
+    fn node(&self, number: u8) -> Option<&Node>;
+}
+
+impl<'a> Nodes for &'a [Node] {
+    fn node(&self, number: u8) -> Option<&Node> {
+        self.get(usize::from(number))
+    }
+}
+
+impl Nodes for Sim {
+    fn node(&self, number: u8) -> Option<&Node> {
+        Sim::node(self, number)
+    }
+}
 
 // How many objects there are.
 fn live(nodes: &[Node]) -> u64 {
@@ -61,32 +80,50 @@ fn add_roots(reached: &mut IndexSet<Ref>, node: &Core) -> Result<(), Refusal> {
     Ok(())
 }
 
-// Adds what is reached from the references that are there; the result is how many of all these name
-// no object.
-fn follow_all(nodes: &[Node], reached: &mut IndexSet<Ref>) -> Result<u64, Refusal> {
-    let mut missing = 0u64;
+// Adds what is reached from the references that are there. References that name no object stay.
+fn follow_all<N: Nodes>(nodes: &N, reached: &mut IndexSet<Ref>) -> Result<(), Refusal> {
     for next in 0..MANY {
         let Some(&reference) = reached.get_index(next) else {
             break;
         };
-        match nodes.get(usize::from(reference.node)) {
-            Some(node) if node.core().is_live(reference) => {
+        if is_there(nodes, reference) {
+            if let Some(node) = nodes.node(reference.node) {
                 add_all(reached, node.core().places(reference.slot))?;
             }
-            _ => missing = missing.saturating_add(1),
         }
     }
-    Ok(missing)
+    Ok(())
 }
 
-// How many references are reached, and how many of them name no object.
-fn reach_all(alloc: Global, nodes: &[Node]) -> Result<(u64, u64), Refusal> {
-    let mut reached = IndexSet::new(alloc);
-    for node in nodes {
-        add_roots(&mut reached, node.core())?;
+// Whether the reference names an object.
+fn is_there<N: Nodes>(nodes: &N, reference: Ref) -> bool {
+    match nodes.node(reference.node) {
+        Some(node) => node.core().is_live(reference),
+        None => false,
     }
-    let missing = follow_all(nodes, &mut reached)?;
-    Ok((reached.len() as u64, missing))
+}
+
+/// The references that the programs of the nodes reach, each once.
+pub fn reach<N: Nodes>(alloc: Global, nodes: &N) -> Result<Vec<Ref>, Refusal> {
+    let mut reached = IndexSet::new(alloc);
+    for number in 0..GREATEST_NODES {
+        if let Some(node) = nodes.node(number) {
+            add_roots(&mut reached, node.core())?;
+        }
+    }
+    follow_all(nodes, &mut reached)?;
+    Ok(Vec::from_slice(alloc, reached.as_slice())?)
+}
+
+/// How many of the references name an object.
+pub fn count_there<N: Nodes>(nodes: &N, references: &[Ref]) -> u64 {
+    let mut there = 0u64;
+    for reference in references {
+        if is_there(nodes, *reference) {
+            there = there.saturating_add(1);
+        }
+    }
+    there
 }
 
 /// Counts what is there and what is reached, once nothing is in flight and this cycle has been
@@ -98,9 +135,9 @@ pub fn count_reached(
     found: &mut Found,
 ) -> Result<(), Refusal> {
     look_each(nodes, cycle, found);
-    let (reached, missing) = reach_all(alloc, nodes)?;
-    found.missing = missing;
-    found.kept = reached.saturating_sub(missing);
+    let reached = reach(alloc, &nodes)?;
+    found.kept = count_there(&nodes, reached.as_slice());
+    found.missing = (reached.len() as u64).saturating_sub(found.kept);
     found.left = live(nodes).saturating_sub(found.kept);
     Ok(())
 }

@@ -1,12 +1,13 @@
-//! A disk, and a shelf on it that keeps the node of the case. The commands are the same for disks
-//! in memory and in files.
+//! A disk, and a shelf or a journal on it that keeps the node of the case. The commands are the
+//! same for disks in memory and in files.
 use crate::case::{Stop, Subject, bytes_of, number, verb, word};
 use crate::nodes::Nodes;
 use crate::out::Out;
-use disk::{Area, Disk, DiskFault, MemoryDisk, Shelf, is_blank};
+use disk::{Area, Disk, DiskFault, Journal, MemoryDisk, Shelf, is_blank};
 use ids::Refusal;
 use image::Images;
 use node::Node;
+use replays::{Log, LoggedImages};
 use std::alloc::Global;
 use std::mem;
 
@@ -18,6 +19,8 @@ pub enum Held<D: Disk> {
     Loose(D),
     /// The shelf, which has the disk.
     Shelved(Shelf<D>),
+    /// The journal, which has the disk.
+    Logged(Journal<D, LoggedImages>),
 }
 
 /// What a case about a disk holds.
@@ -51,7 +54,7 @@ impl<D: Disk + Drop> Bench<D> {
     fn loose(&mut self) -> Result<D, Stop> {
         match mem::replace(&mut self.held, Held::Nothing) {
             Held::Loose(disk) => Ok(disk),
-            Held::Nothing | Held::Shelved(_) => Err(Stop::Unknown),
+            Held::Nothing | Held::Shelved(_) | Held::Logged(_) => Err(Stop::Unknown),
         }
     }
 
@@ -80,23 +83,62 @@ impl<D: Disk + Drop> Bench<D> {
         Ok(())
     }
 
-    // Saves the node this many times, or until a save fails.
-    fn save(&mut self, count: u64, out: &mut Out) -> Result<(), Stop> {
-        let Held::Shelved(shelf) = &mut self.held else {
-            return Err(Stop::Unknown);
-        };
+    // `journal create` or `journal open`
+    fn take_journal(&mut self, words: &[&str], out: &mut Out) -> Result<(), Stop> {
+        match word(words, 1)? {
+            "create" => self.begin(out),
+            "open" => self.restore(out),
+            _ => Err(Stop::Unknown),
+        }
+    }
+
+    // Creates a journal, once it is known that the disk has nothing.
+    fn begin(&mut self, out: &mut Out) -> Result<(), Stop> {
+        let disk = self.loose()?;
         let Some(node) = &self.nodes.node else {
             return Err(Stop::Unknown);
         };
-        out.done(save_often(shelf, node, count));
+        let (held, refusal) = begun(self.nodes.alloc, disk, node);
+        self.held = held;
+        self.nodes.log.clear();
+        out.done(refusal);
+        Ok(())
+    }
+
+    // Opens a journal. If the opening fails, the disk is dropped.
+    fn restore(&mut self, out: &mut Out) -> Result<(), Stop> {
+        let disk = self.loose()?;
+        match Journal::open(self.nodes.alloc, disk) {
+            Ok((journal, node)) => {
+                self.held = Held::Logged(journal);
+                self.nodes.set(Ok(node), out);
+            }
+            Err(refusal) => out.refused(refusal),
+        }
+        Ok(())
+    }
+
+    // Saves the node this many times, or until a save fails.
+    fn save(&mut self, count: u64, out: &mut Out) -> Result<(), Stop> {
+        let Some(node) = &mut self.nodes.node else {
+            return Err(Stop::Unknown);
+        };
+        match &mut self.held {
+            Held::Shelved(shelf) => out.done(save_often(shelf, node, count)),
+            Held::Logged(journal) => {
+                out.done(log_often(journal, node, &mut self.nodes.log, count));
+            }
+            Held::Nothing | Held::Loose(_) => return Err(Stop::Unknown),
+        }
         Ok(())
     }
 
     fn reopen(&mut self, out: &mut Out) -> Result<(), Stop> {
-        let Held::Shelved(shelf) = &mut self.held else {
-            return Err(Stop::Unknown);
+        let found = match &mut self.held {
+            Held::Shelved(shelf) => shelf.reopen::<Images>(),
+            Held::Logged(journal) => journal.reopen(),
+            Held::Nothing | Held::Loose(_) => return Err(Stop::Unknown),
         };
-        let found = shelf.reopen::<Images>();
         self.nodes.set(found, out);
         Ok(())
     }
@@ -119,7 +161,7 @@ impl<D: Disk + Drop> Bench<D> {
     fn take_disk(&mut self, words: &[&str], out: &mut Out) -> Result<(), Stop> {
         match &mut self.held {
             Held::Loose(disk) => on_disk(self.nodes.alloc, disk, words, out),
-            Held::Nothing | Held::Shelved(_) => Err(Stop::Unknown),
+            Held::Nothing | Held::Shelved(_) | Held::Logged(_) => Err(Stop::Unknown),
         }
     }
 }
@@ -128,6 +170,7 @@ impl<D: Disk + Drop> Subject for Bench<D> {
     fn take(&mut self, words: &[&str], out: &mut Out) -> Result<(), Stop> {
         match verb(words) {
             "create" => self.create(out),
+            "journal" => self.take_journal(words, out),
             "open" => self.open(out),
             "save" => self.save(1, out),
             "reopen" => self.reopen(out),
@@ -136,6 +179,14 @@ impl<D: Disk + Drop> Subject for Bench<D> {
             "disk" => self.take_disk(words, out),
             _ => self.nodes.take(words, out),
         }
+    }
+}
+
+/// The node that the disk of a journal opens to.
+pub fn node_behind<D: Disk + Drop>(alloc: Global, disk: D) -> Result<Node, Refusal> {
+    match Journal::<D, LoggedImages>::open(alloc, disk) {
+        Ok((_journal, node)) => Ok(node),
+        Err(refusal) => Err(refusal),
     }
 }
 
@@ -162,6 +213,35 @@ fn created<D: Disk + Drop>(
         Ok(false) => (Held::Loose(disk), Err(Refusal::BadImage)),
         Err(_) => (Held::Loose(disk), Err(Refusal::Disk)),
     }
+}
+
+// The same with a journal.
+fn begun<D: Disk + Drop>(
+    alloc: Global,
+    mut disk: D,
+    node: &Node,
+) -> (Held<D>, Result<(), Refusal>) {
+    match is_blank(&mut disk) {
+        Ok(true) => match Journal::create(alloc, disk, node) {
+            Ok(journal) => (Held::Logged(journal), Ok(())),
+            Err((disk, refusal)) => (Held::Loose(disk), Err(refusal)),
+        },
+        Ok(false) => (Held::Loose(disk), Err(Refusal::BadImage)),
+        Err(_) => (Held::Loose(disk), Err(Refusal::Disk)),
+    }
+}
+
+// The first save adds the log, and each later one an empty batch.
+fn log_often<D: Disk>(
+    journal: &mut Journal<D, LoggedImages>,
+    node: &mut Node,
+    log: &mut Log,
+    count: u64,
+) -> Result<(), Refusal> {
+    for _ in 0..count {
+        replays::save(journal, node, log)?;
+    }
+    Ok(())
 }
 
 fn save_often<D: Disk>(shelf: &mut Shelf<D>, node: &Node, count: u64) -> Result<(), Refusal> {

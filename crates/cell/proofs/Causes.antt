@@ -1,5 +1,5 @@
 -- Why opening a node from its disk fails.
-use Rattle.std.proofs.Common.{◌≡◌, ◌≢◌, ◌⊎◌, ◌≤◌, ℕ, [], Result, Err, sym, ap, subst, ⊎_elim, arith}
+use Rattle.std.proofs.Common.{◌≡◌, ◌≢◌, ◌⊎◌, ◌≤◌, ℕ, List, [], Some, slice_get, Result, Err, refl, sym, ap, subst, ⊎_elim, arith}
 use Rattle.ids.specs.Limits.{Shaped}
 use Rattle.ids.specs.declared.refusal.Refusal.{Refusal}
 use Rattle.ids.specs.declared.refusal.Refusal.TheVariants.{BadImage, Disk, ImageTooLarge, Memory}
@@ -7,16 +7,45 @@ use Rattle.disk.specs.Areas.{Areas}
 use Rattle.disk.specs.Crashes.{Grew}
 use Rattle.node.specs.Keeping.{WholeNode}
 use Rattle.cell.specs.Disks.{OpensToNode}
-use Rattle.cell.specs.Opened.{HoldsNone, IfRefused, IsCause, IsTooLarge}
+use Rattle.cell.specs.Ages.{IsWhy}
+use Rattle.cell.specs.Looking.{IsOfReading}
+use Rattle.cell.specs.Opened.{HoldsNone, IsCause, IsTooLarge, IsWhyNot}
 use Rattle.cell.specs.declared.fault.Unopened.{Unopened}
-use Rattle.cell.specs.declared.fault.Unopened.TheVariants.{Ages, Disks, Refused}
+use Rattle.cell.specs.declared.fault.Unopened.TheVariants as fault
 
--- a cause for one node is a cause for the list
-pub cause-there : {P Q : Refusal → Type 0} (e : Unopened) → ((r : Refusal) → P r → Q r)
-    → IfRefused P e → IfRefused Q e
-cause-there Disks more is = tt
-cause-there (Ages sender receiver) more is = tt
-cause-there (Refused r) more is = λ other. more r (is other)
+module _ {D : Type 0} (seen : D → Areas) (moment faults : D → ℕ) (shape : Shaped) where
+  -- a cause for one node is a cause for the list
+  pub why-there : (disks : List D) (k : ℕ) (d : D) → slice_get disks k ≡ Some d → (e : Unopened)
+      → IsWhyNot seen moment faults shape k d e → IsWhy seen moment faults shape disks e
+  why-there disks k d there fault.Disks why = absurd why
+  why-there disks k d there (fault.Another node) why =
+      subst (λ (i : ℕ). IsWhy seen moment faults shape disks (fault.Another i)) (sym why.0)
+      (record { value = d; there = there; is = why.1 })
+  why-there disks k d there (fault.Ages sender receiver) why = absurd why
+  why-there disks k d there (fault.Failed node e) why =
+      subst (λ (i : ℕ). IsWhy seen moment faults shape disks (fault.Failed i e)) (sym why.0)
+      (record { value = d; there = there; is = why.1 })
+  why-there disks k d there fault.Memory why = tt
+
+  -- of a node whose disk failed with this refusal
+  pub why-failed : (k : ℕ) (d : D) (r : Refusal) (e : Unopened)
+      → ((r ≡ Memory) × (e ≡ fault.Memory)) ⊎ ((r ≢ Memory) × (e ≡ fault.Failed k r))
+      → (r ≢ Memory → IsCause seen moment faults shape k d r)
+      → IsWhyNot seen moment faults shape k d e
+  why-failed k d r e which cause =
+      ⊎_elim
+      (λ memory. subst (IsWhyNot seen moment faults shape k d) (sym memory.1) tt)
+      (λ other. subst (IsWhyNot seen moment faults shape k d) (sym other.1)
+      (refl, cause other.0))
+      which
+
+-- a node that wasn't created, when all disks had been read
+pub all-read-then : (k : ℕ) (r : Refusal) (e : Unopened)
+    → ((r ≡ Memory) × (e ≡ fault.Memory)) ⊎ ((r ≢ Memory) × (e ≡ fault.Failed k r))
+    → r ≢ BadImage → IsOfReading e → ⊥
+all-read-then k r e which good reading =
+    ⊎_elim (λ memory. subst IsOfReading memory.1 reading)
+    (λ other. good (subst IsOfReading other.1 reading)) which
 
 -- the same refusal, of another call
 pub same-error : {A B E : Type 0} (e f : E) → ◌≡◌ {A = Result A E} (Err e) (Err f)

@@ -19,7 +19,7 @@ use Rattle.node.specs.Keeping.{WholeNode}
 use Rattle.wire.specs.Readers.{known, seat_node}
 use Rattle.wire.specs.Rule.{nodes_of}
 use Rattle.wire.specs.Views.{Pair}
-use Rattle.cell.specs.Ages.{AreApart, AreOfOneAge, AreRead, IfAges}
+use Rattle.cell.specs.Ages.{AreApart, AreOfOneAge, AreRead, IfAges, IsWhy}
 use Rattle.cell.specs.Cells.{CellView, IsNew}
 use Rattle.cell.specs.Closing.{AreClosed, AreOfOneMoment, ClosedIsLeft, ClosedIsReached, HasBegun, HaveBegun, IsLast}
 use Rattle.cell.specs.Desks.{IsSavedNode}
@@ -29,7 +29,7 @@ use Rattle.cell.specs.Opened.{AreBeside, IsReadFrom, cores, state_of, world_of}
 use Rattle.cell.specs.Reached.{AreHeld, BeginReached, IsReached}
 use Rattle.cell.specs.Theorems.{AreLeft}
 use Rattle.cell.specs.declared.fault.Unopened.{Unopened}
-use Rattle.cell.specs.declared.fault.Unopened.TheVariants.{Ages, Disks, Refused}
+use Rattle.cell.specs.declared.fault.Unopened.TheVariants.{Ages, Another, Disks, Failed, Memory}
 use Rattle.cell.proofs.AlikeRuns.{heard-like}
 use Rattle.cell.proofs.Applied.{node-count}
 use Rattle.cell.proofs.Left.{left-node, left-opened, restarted-reached}
@@ -229,13 +229,16 @@ never-apart seen may_leave left shape opening disks reached width once sender re
 pub never-ages : {D : Type 0} (seen : D → Areas) (may_leave : D → Areas → Type 0)
     → ((d : D) → may_leave d (seen d)) → (shape : Shaped) (opening : World) (disks : List D)
     → IsReached opening → nodes_of opening ≡ shape.nodes
-    → AreOfOneMoment may_leave opening disks → (e : Unopened)
-    → IfAges (λ sender receiver. AreRead seen shape disks (λ ns. AreApart ns sender receiver)) e
-    → IfAges (λ sender receiver. ⊥) e
-never-ages seen may_leave left shape opening disks reached width once Disks h = tt
-never-ages seen may_leave left shape opening disks reached width once (Ages i j) h =
+    → AreOfOneMoment may_leave opening disks → (moment faults : D → ℕ) (e : Unopened)
+    → IsWhy seen moment faults shape disks e → IfAges (λ sender receiver. ⊥) e
+never-ages seen may_leave left shape opening disks reached width once moment faults (Ages i j) h =
     never-apart seen may_leave left shape opening disks reached width once i j h
-never-ages seen may_leave left shape opening disks reached width once (Refused r) h = tt
+never-ages seen may_leave left shape opening disks reached width once moment faults Disks h = tt
+never-ages seen may_leave left shape opening disks reached width once moment faults (Another k) h =
+    tt
+never-ages seen may_leave left shape opening disks reached width once moment faults (Failed k r)
+    h = tt
+never-ages seen may_leave left shape opening disks reached width once moment faults Memory h = tt
 
 -- ---- Cells that were just opened
 

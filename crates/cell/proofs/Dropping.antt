@@ -28,9 +28,8 @@ use Rattle.wire.specs.Lists.{Continues}
 use Rattle.wire.specs.Readers.{known}
 use Rattle.wire.specs.Rule.{receiver}
 use Rattle.wire.specs.Views.{Known, ticks}
-use Rattle.wire.specs.declared.seats.NodeSeat.{NodeSeat}
 use Rattle.wire.proofs.Lists.{continues-both}
-use Rattle.cell.specs.Desks.{HasDropped, IsDropped}
+use Rattle.cell.specs.Desks.{DeskView, HasDropped, IsDropped}
 use Rattle.cell.specs.Disks.{is_same_image}
 use Rattle.cell.specs.Events.{Given, Handled, is_counted, known_after, pair_by}
 use Rattle.cell.specs.Sending.{IsSent}
@@ -260,10 +259,11 @@ at-last v w f is =
     ) ∣₁
 
 -- so does failing to send one
-pub send-took : (places after : List ℕ) (box : ℕ) (f : Plain) (r : Result Bool Refusal)
-    (s t : NodeSeat) → IfOk r (λ sent. IsSent box f sent (known s) (known t))
-    → IfErr r (λ e. (e ≡ Memory) × (t ≡ s) × (after ≡ places)) → TookMore (known s) (known t)
-send-took places after box f (Ok sent) s t done failed = sent-took box f sent (known s) (known t) done
-send-took places after box f (Err e) s t done failed =
-    took-same (known s) (known t) (ap (λ (x : NodeSeat). (known x).me) failed.1)
-    (ap (λ (x : NodeSeat). (known x).taken) failed.1)
+pub send-took : (box : ℕ) (f : Plain) (r : Result Bool Refusal) (old new : DeskView)
+    → IfOk r (λ sent. IsSent box f sent (known old.seat) (known new.seat))
+    → IfErr r (λ e. (e ≡ Memory) × (new ≡ old)) → TookMore (known old.seat) (known new.seat)
+send-took box f (Ok sent) old new done failed =
+    sent-took box f sent (known old.seat) (known new.seat) done
+send-took box f (Err e) old new done failed =
+    took-same (known old.seat) (known new.seat) (ap (λ (d : DeskView). (known d.seat).me) failed.1)
+    (ap (λ (d : DeskView). (known d.seat).taken) failed.1)

@@ -4,6 +4,7 @@ pub mod Waiting
 pub mod Found
 pub mod Releasing
 pub mod Seats
+pub mod Views
 pub mod Marks
 pub mod Nexts
 pub mod Opening
@@ -29,3 +30,4 @@ pub mod Composed
 pub mod OneAge
 pub mod Together
 pub mod Closed
+pub mod Answered

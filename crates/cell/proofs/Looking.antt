@@ -8,8 +8,11 @@ use Rattle.disk.specs.Areas.{Areas}
 use Rattle.disk.specs.Crashes.{Unmoved}
 use Rattle.disk.specs.declared.shelf.Selected.{Selected}
 use Rattle.node.specs.Keeping.{WholeNode}
-use Rattle.cell.specs.Looking.{AreLookedAt, AreOn, AreUnmoved, IsLookedAt}
-use Rattle.cell.specs.Opened.{AreBeside, AreFound, HasPlace, IsCause, IsReadFrom}
+use Rattle.cell.specs.Ages.{IsWhy}
+use Rattle.cell.specs.Looking.{AreLookedAt, AreOn, AreUnmoved, IsLookedAt, IsOfReading}
+use Rattle.cell.specs.Opened.{AreBeside, AreFound, HasAt, IsCause, IsReadFrom}
+use Rattle.cell.specs.declared.fault.Unopened.{Unopened}
+use Rattle.cell.specs.declared.fault.Unopened.TheVariants as fault
 use Rattle.cell.proofs.Causes.{earlier-cause}
 use Rattle.cell.proofs.Places.{pushed-at, some_at}
 use Rattle.cell.proofs.Surveying.{same-there, set-from}
@@ -129,29 +132,47 @@ module _ {D : Type 0} (seen : D → Areas) (may_leave : D → Areas → Type 0) 
       (h.each k d there.0 n at.0 was there.1 stands at.1).read
 
   -- why a node of one of these disks couldn't be created
-  pub cause-before : (moment : D → ℕ) (left_since : D → ℕ → Areas → Type 0) (old new : List D)
+  cause-before : (moment : D → ℕ) (left_since : D → ℕ → Areas → Type 0) (old new : List D)
       (nodes : List WholeNode) (areas : List (Option Selected)) (r : Refusal)
       → AreLookedAt seen may_leave faults shape shape.nodes old new nodes areas
       → length old ≡ shape.nodes → AreUnmoved seen may_leave moment left_since old new
-      → HasPlace (λ k d. IsCause seen moment faults shape k d r) new
-      → HasPlace (λ k d. IsCause seen moment faults shape k d r) old
-  cause-before moment left_since old new nodes areas r h many quiet cause =
+      → (k : ℕ) → HasAt k (λ d. IsCause seen moment faults shape k d r) new
+      → HasAt k (λ d. IsCause seen moment faults shape k d r) old
+  cause-before moment left_since old new nodes areas r h many quiet k cause =
       let count = quiet.count in
-      let inside = slice_get_within new cause.place cause.value cause.there in
-      let was = some_at old cause.place (omega (arith, inside, count)) in
-      let n = some_at nodes cause.place
+      let inside = slice_get_within new k cause.value cause.there in
+      let was = some_at old k (omega (arith, inside, count)) in
+      let n = some_at nodes k
       (let found = h.nodes_count in omega (arith, inside, many, count, found)) in
-      let at = some_at areas cause.place
+      let at = some_at areas k
       (let found = h.areas_count in omega (arith, inside, many, count, found)) in
-      let same = quiet.each cause.place was.0 cause.value was.1 cause.there in
-      let it = h.each cause.place was.0 cause.value n.0 at.0 was.1 cause.there n.1 at.1 in
+      let same = quiet.each k was.0 cause.value was.1 cause.there in
+      let it = h.each k was.0 cause.value n.0 at.0 was.1 cause.there n.1 at.1 in
       record {
-        place = cause.place;
         value = was.0;
         there = was.1;
-        is = earlier-cause seen moment faults shape cause.place was.0 cause.value r same.same
+        is = earlier-cause seen moment faults shape k was.0 cause.value r same.same
             same.any_moment.later it.fine cause.is;
       }
+
+  pub why-before : (moment : D → ℕ) (left_since : D → ℕ → Areas → Type 0) (old new found : List D)
+      (nodes : List WholeNode) (areas : List (Option Selected)) (e : Unopened)
+      → AreLookedAt seen may_leave faults shape shape.nodes old new nodes areas
+      → length old ≡ shape.nodes → AreUnmoved seen may_leave moment left_since old new
+      → found ≡ new → (IsOfReading e → ⊥) → IsWhy seen moment faults shape found e
+      → IsWhy seen moment faults shape old e
+  why-before moment left_since old new found nodes areas fault.Disks h many quiet same read why =
+      absurd (read tt)
+  why-before moment left_since old new found nodes areas (fault.Another k) h many quiet same read
+      why = absurd (read tt)
+  why-before moment left_since old new found nodes areas (fault.Ages i j) h many quiet same read
+      why = absurd (read tt)
+  why-before moment left_since old new found nodes areas (fault.Failed k r) h many quiet same read
+      why =
+      cause-before moment left_since old new nodes areas r h many quiet k
+      (subst (HasAt k (λ d. IsCause seen moment faults shape k d r)) same why)
+  why-before moment left_since old new found nodes areas fault.Memory h many quiet same read why =
+      tt
 
 -- ---- Their shelves
 
@@ -233,17 +254,11 @@ pub put-cause : {D : Type 0} (seen : D → Areas) (may_leave : D → Areas → T
     → AreOn seen may_leave shape disks nodes areas → slice_get disks place ≡ Some d
     → slice_get nodes place ≡ Some n
     → IsCause seen moment faults n.core.local.shape n.core.local.own d r
-    → HasPlace (λ k x. IsCause seen moment faults shape k x r) disks
+    → IsCause seen moment faults shape place d r
 put-cause seen may_leave moment faults shape disks nodes areas place d n r on there stands cause =
     let area = some_at areas place
     (let inside = slice_get_within disks place d there in
     let many = on.areas_count in omega (arith, inside, many)) in
     let node = (on.each place d n area.0 there stands area.1).0 in
-    record {
-      place = place;
-      value = d;
-      there = there;
-      is = subst (λ (i : ℕ). IsCause seen moment faults shape i d r) node.numbered
-          (subst (λ (s : Shaped). IsCause seen moment faults s n.core.local.own d r) node.shaped
-          cause);
-    }
+    subst (λ (i : ℕ). IsCause seen moment faults shape i d r) node.numbered
+    (subst (λ (s : Shaped). IsCause seen moment faults s n.core.local.own d r) node.shaped cause)

@@ -16,7 +16,7 @@ use Rattle.wire.specs.declared.seats.Wire.{Wire}
 use Rattle.wire.proofs.Lists.{found-here}
 use Rattle.cell.specs.Desks.{IsSavedNode, IsSeatAt, IsUnsaved, StandsAt}
 use Rattle.cell.specs.Sending.{frame_due, frame_or_ack, IsSent}
-use Rattle.cell.specs.declared.desk.Desk.{Desk}
+use Rattle.cell.specs.declared.desk.Desk.TheInside.{Inside}
 use Rattle.cell.proofs.Releasing.{apart, inside}
 
 pub still-of : (w : Wire) (s t : NodeSeat) → IsSeatOf w s → IsSame s t → IsSeatOf w t
@@ -32,7 +32,7 @@ same-again r s t first next = (
 )
 
 -- another node of the space, in terms of the wire
-pub other-on : (desk : Desk) (w : Wire) (to : ℕ) → IsSeatOf w desk.seat
+pub other-on : (desk : Inside) (w : Wire) (to : ℕ) → IsSeatOf w desk.seat
     → is_other desk.node.core.local to ≡ true → (to < w.nodes) × (to ≢ seat_node desk.seat)
 other-on desk w to of other = (
   subst (λ k. to < k) (desk.stands.nodes ∙ sym desk.at.nodes ∙ of.1)
@@ -41,14 +41,14 @@ other-on desk w to of other = (
 )
 
 -- what a desk needs of a seat
-pub record Keeps (desk : Desk) (t : NodeSeat) : Type 0 where
+pub record Keeps (desk : Inside) (t : NodeSeat) : Type 0 where
   pub at : IsSeatAt desk.own desk.nodes t
   pub stands : StandsAt desk.own desk.nodes (known t).pair desk.node.core
   pub was : IsSavedNode desk.own desk.nodes (known t).pair.saved desk.saved.value
   pub ended_is : desk.ended.number ≡ (known t).pair.saved.local.phases.ended
   pub unsaved : IsUnsaved desk.is_unsaved (known t).pair
 
-pub steps-on : (desk : Desk) (t : NodeSeat) → IsSame desk.seat t
+pub steps-on : (desk : Inside) (t : NodeSeat) → IsSame desk.seat t
     → (known t).pair ≡ (known desk.seat).pair → Keeps desk t
 steps-on desk t same pair = record {
   at = record { own = same.2 ∙ desk.at.own; nodes = same.3 ∙ desk.at.nodes };

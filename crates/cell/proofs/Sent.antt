@@ -13,6 +13,7 @@ use Rattle.wire.proofs.seats.Wire.TheSendSync as Wire
 use Rattle.disk.specs.declared.device.Disk as disk
 use Rattle.cell.specs.declared.shared.Naming as naming
 use Rattle.cell.specs.contracts.desk.Desk as Desk
+use Rattle.cell.specs.contracts.desk.Desk.TheInside as DeskInside
 use Rattle.cell.specs.contracts.cell.Cell as Cell
 use Rattle.cell.specs.contracts.cell.Cell.TheInside as Inside
 use Rattle.cell.specs.contracts.shared.Held as Held
@@ -20,7 +21,10 @@ use Rattle.cell.specs.contracts.shared.SharedOn as SharedOn
 
 desk-send : IsSend (Desk.the_field).row
 desk-send =
-    struct_send (shape Desk.the_type) (
+    let inside = DeskInside.the_type in
+    view_send _ _ _ _ _
+    (recorded_send (Struct (shape inside)) inside.D inside.to inside.to_one
+    (struct_send (shape inside) (
       search sendable,
       (
         search sendable,
@@ -32,7 +36,7 @@ desk-send =
           ),
         ),
       ),
-    )
+    )))
 
 module _ (D : RattleType) (g : disk.Ghosts D.Denot) where
   pub cell-send : IsSend D → IsSend (Cell.the_field D g).row

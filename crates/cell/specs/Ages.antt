@@ -1,14 +1,14 @@
 -- Whether nodes that were read from disks can be the saved states of one moment. Two nodes of one
 -- space can show that they aren't, by what one keeps of its messages to the other.
-use Rattle.std.specs.Prelude.{◌≡◌, ◌≤◌, ℕ, List, Some, length, slice_get}
+use Rattle.std.specs.Prelude.{◌≡◌, ◌≢◌, ◌≤◌, ℕ, List, Some, length, slice_get}
 use Rattle.ids.specs.Limits.{Shaped}
 use Rattle.model.specs.State.{got_from}
 use Rattle.model.specs.View.{Link, link_to, used}
 use Rattle.disk.specs.Areas.{Areas}
 use Rattle.node.specs.Keeping.{WholeNode}
-use Rattle.cell.specs.Opened.{AreBeside, IsReadFrom}
+use Rattle.cell.specs.Opened.{AreBeside, HasAt, HoldsAnother, IsCause, IsReadFrom}
 use Rattle.cell.specs.declared.fault.Unopened.{Unopened}
-use Rattle.cell.specs.declared.fault.Unopened.TheVariants.{Ages}
+use Rattle.cell.specs.declared.fault.Unopened.TheVariants.{Ages, Another, Disks, Failed, Memory}
 
 -- The receiver of a link has received this many messages: no more than were sent on it, and no
 -- fewer than the sender has dropped because they were acknowledged. At every moment this holds of
@@ -43,6 +43,18 @@ pub record AreRead {D : Type 0} (seen : D → Areas) (shape : Shaped) (disks : L
   pub count : length nodes ≡ length disks
   pub read : AreBeside (λ k d n. IsReadFrom shape k (seen d) n) disks nodes
   pub are : Are nodes
+
+-- Why the cells of a space couldn't be opened on these disks. A fault of one disk names its node.
+abbrev pub IsWhy : {D : Type 0} → (D → Areas) → (D → ℕ) → (D → ℕ) → Shaped → List D → Unopened
+    → Type 0
+IsWhy seen moment faults shape disks Disks = length disks ≢ shape.nodes
+IsWhy seen moment faults shape disks (Another node) =
+    HasAt node (λ d. HoldsAnother shape node (seen d)) disks
+IsWhy seen moment faults shape disks (Ages sender receiver) =
+    AreRead seen shape disks (λ ns. AreApart ns sender receiver)
+IsWhy seen moment faults shape disks (Failed node e) =
+    HasAt node (λ d. IsCause seen moment faults shape node d e) disks
+IsWhy seen moment faults shape disks Memory = Unit {0}
 
 -- what holds of two nodes that are named as not of one age
 abbrev pub IfAges : (ℕ → ℕ → Type 0) → Unopened → Type 0

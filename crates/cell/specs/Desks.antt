@@ -1,12 +1,13 @@
 -- What holds of a node and its seat between two calls.
-use Rattle.std.specs.Prelude.{◌≡◌, ◌⊎◌, ◌≤◌, ℕ, Bool, false, List, Some, length, slice_get, take}
+use Rattle.std.specs.Prelude.{◌≡◌, ◌⊎◌, ◌≤◌, ℕ, Bool, false, List, Some, length, replicate, slice_get, take}
+use Rattle.ids.specs.declared.limits.TheConstants.{GREATEST_NODES}
 use Rattle.msg.specs.Frames.{plain_data}
 use Rattle.msg.specs.Grammar.{Plain, ack_frame}
 use Rattle.msg.specs.declared.frame.Data.{Data}
 use Rattle.model.specs.State.{NodeState, sent_to}
 use Rattle.model.specs.View.{NodeView, Shows, link_to}
 use Rattle.image.specs.Nodes.{HasImage}
-use Rattle.node.specs.Keeping.{OfAll, Rings}
+use Rattle.node.specs.Keeping.{OfAll, Rings, WholeNode}
 use Rattle.wire.specs.Views.{Known, Pair}
 use Rattle.wire.specs.Readers.{known, seat_node}
 use Rattle.wire.specs.declared.seats.NodeSeat.{NodeSeat}
@@ -67,3 +68,39 @@ pub record IsAtSeat (n : NodeView) (s : NodeSeat) : Type 0 where
   pub nodes : n.local.shape.nodes ≡ s.nodes
   pub shows : Shows n (known s).pair.current
   pub saved : (known s).pair.saved ≡ (known s).pair.current
+
+-- ---- A desk as its callers see it
+
+pub record DeskView : Type 0 where
+  -- the current node, with the messages that it keeps until their turn
+  pub node : WholeNode
+  -- the last saved node
+  pub saved : NodeView
+  pub seat : NodeSeat
+  -- for each node: the place, in the window to it, of the frame that is sent next
+  pub places : List ℕ
+  -- whether an event happened since the last save or reopening
+  pub unsaved : Bool
+
+-- the desk of a node that was just read from bytes
+abbrev pub new_desk : WholeNode → NodeSeat → DeskView
+new_desk node seat = record {
+  node = node;
+  saved = node.core;
+  seat = seat;
+  places = replicate GREATEST_NODES 0;
+  unsaved = false;
+}
+
+-- What a desk guarantees between two calls. The node shows the current state that its seat's events
+-- lead to, and the last saved node shows the saved state.
+pub record IsKeptAt (d : DeskView) : Type 0 where
+  pub stands : StandsAt (seat_node d.seat) d.seat.nodes (known d.seat).pair d.node.core
+  pub was : IsSavedNode (seat_node d.seat) d.seat.nodes (known d.seat).pair.saved d.saved
+  pub unsaved : IsUnsaved d.unsaved (known d.seat).pair
+  pub taken : AreTaken (known d.seat).taken d.node.early
+
+-- What an event of the node leaves unchanged: the saved node, and the places in the windows.
+abbrev pub GoesOnAt : DeskView → DeskView → Type 0
+GoesOnAt old new =
+    new ≡ record old { node = new.node; seat = new.seat; unsaved = new.unsaved }

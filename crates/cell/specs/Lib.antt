@@ -13,3 +13,4 @@ pub mod Theorems
 pub mod Closing
 pub mod Opened
 pub mod Looking
+pub mod Locked

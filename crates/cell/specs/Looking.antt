@@ -10,7 +10,7 @@ use Rattle.node.specs.Keeping.{WholeNode, new_whole}
 use Rattle.cell.specs.Disks.{OpensToNode}
 use Rattle.cell.specs.Opened.{IsNodeOf, IsReadFrom}
 use Rattle.cell.specs.declared.fault.Unopened.{Unopened}
-use Rattle.cell.specs.declared.fault.Unopened.TheVariants.{Ages, Disks, Refused}
+use Rattle.cell.specs.declared.fault.Unopened.TheVariants.{Ages, Another, Disks, Failed, Memory}
 
 -- Of each disk, neither what it holds has changed nor what a crash may leave.
 pub record AreUnmoved {D : Type 0} (seen : D → Areas) (may_leave : D → Areas → Type 0)
@@ -61,5 +61,7 @@ pub record AreLookedAt {D : Type 0} (seen : D → Areas) (may_leave : D → Area
 -- the errors of an opening that come before anything is created
 abbrev pub IsOfReading : Unopened → Type 0
 IsOfReading Disks = Unit {0}
+IsOfReading (Another node) = Unit {0}
 IsOfReading (Ages sender receiver) = Unit {0}
-IsOfReading (Refused e) = e ≡ BadImage
+IsOfReading (Failed node e) = e ≡ BadImage
+IsOfReading Memory = ⊥

@@ -3,7 +3,7 @@ use Rattle.std.specs.Prelude.{◌≡◌, ◌≢◌, ◌<◌, ℕ, [], List, ◌+
 use Rattle.ids.specs.Limits.{Shaped}
 use Rattle.ids.specs.declared.limits.TheConstants.{GREATEST_IMAGE}
 use Rattle.ids.specs.declared.refusal.Refusal.{Refusal}
-use Rattle.ids.specs.declared.refusal.Refusal.TheVariants.{BadImage, Disk, ImageTooLarge, Memory}
+use Rattle.ids.specs.declared.refusal.Refusal.TheVariants.{BadImage, Disk, ImageTooLarge}
 use Rattle.msg.specs.declared.body.Body.TheVariants as body
 use Rattle.msg.specs.declared.body.Message.{Message}
 use Rattle.model.specs.State.{NodeState}
@@ -17,7 +17,7 @@ use Rattle.image.specs.Wholes.{whole_image}
 use Rattle.cell.specs.Desks.{IsAtSeat}
 use Rattle.cell.specs.Disks.{OpensTo, OpensToNode}
 use Rattle.cell.specs.declared.fault.Unopened.{Unopened}
-use Rattle.cell.specs.declared.fault.Unopened.TheVariants.{Ages, Disks, Refused}
+use Rattle.cell.specs.declared.fault.Unopened.TheVariants.{Ages, Another, Disks, Failed, Memory}
 
 -- the cores of nodes, which are what is saved
 abbrev pub cores : List WholeNode → List NodeView
@@ -59,18 +59,22 @@ IsCause seen moment faults shape own disk BadImage = HoldsNone (seen disk)
 IsCause seen moment faults shape own disk ImageTooLarge = IsTooLarge shape own (seen disk)
 IsCause seen moment faults shape own disk e = ⊥
 
--- what holds of a refusal other than `Memory`; `Disks` and `Ages` aren't refusals
-abbrev pub IfRefused : (Refusal → Type 0) → Unopened → Type 0
-IfRefused P Disks = Unit {0}
-IfRefused P (Ages sender receiver) = Unit {0}
-IfRefused P (Refused e) = e ≢ Memory → P e
+-- why the node of this number wasn't read from this disk, or wasn't created there
+abbrev pub IsWhyNot : {D : Type 0} → (D → Areas) → (D → ℕ) → (D → ℕ) → Shaped → ℕ → D → Unopened
+    → Type 0
+IsWhyNot seen moment faults shape own disk Disks = ⊥
+IsWhyNot seen moment faults shape own disk (Another node) =
+    (node ≡ own) × HoldsAnother shape own (seen disk)
+IsWhyNot seen moment faults shape own disk (Ages sender receiver) = ⊥
+IsWhyNot seen moment faults shape own disk (Failed node e) =
+    (node ≡ own) × IsCause seen moment faults shape own disk e
+IsWhyNot seen moment faults shape own disk Memory = Unit {0}
 
--- a place of a list at which a property holds
-pub record HasPlace {X : Type 0} (Is : ℕ → X → Type 0) (xs : List X) : Type 0 where
-  pub place : ℕ
+-- a list has a value at this place, of which a property holds
+pub record HasAt {X : Type 0} (place : ℕ) (Is : X → Type 0) (xs : List X) : Type 0 where
   pub value : X
   pub there : slice_get xs place ≡ Some value
-  pub is : Is place value
+  pub is : Is value
 
 -- a property holds at each place of two lists
 abbrev pub AreBeside : {X : Type 0} → (ℕ → X → WholeNode → Type 0) → List X → List WholeNode

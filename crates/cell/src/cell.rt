@@ -44,10 +44,10 @@ pub struct Cell<D: Disk> {
     // The node with which the cell was made.
     first: Snapshot<Core>,
     ghost dropped: { HasDropped first.value (known desk.seat) desk.node.core },
-    ghost saved_dropped: { HasDropped first.value (known desk.seat) desk.saved.value },
-    ghost while_open: { IsTrue shelf.ready → ∥ OpensTo desk.saved.value (D.seen shelf.disk) ∥₁ },
+    ghost saved_dropped: { HasDropped first.value (known desk.seat) desk.saved },
+    ghost while_open: { IsTrue shelf.ready → ∥ OpensTo desk.saved (D.seen shelf.disk) ∥₁ },
     ghost left: { (c : Areas) → D.may_leave shelf.disk c
-        → ∥ OpensToEither desk.saved.value desk.node.core c ∥₁ },
+        → ∥ OpensToEither desk.saved desk.node.core c ∥₁ },
 }
 
 // Written out, so that the crates above need not prove again how each field is dropped.
@@ -70,11 +70,11 @@ impl<D: Disk> Model for Cell<D> {
 
     ghost view = { λ c. record {
       node = c.desk.node;
-      saved = c.desk.saved.value;
+      saved = c.desk.saved;
       first = c.first.value;
       seat = c.desk.seat;
       places = c.desk.places;
-      unsaved = c.desk.is_unsaved;
+      unsaved = c.desk.unsaved;
       disk = c.shelf.disk;
       is_open = c.shelf.ready;
       trace = c.trace;

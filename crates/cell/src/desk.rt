@@ -1,11 +1,19 @@
 //! A node at its seat, without its disk. Each call that performs an event of the node also enters
 //! it in the history, so the node always shows what its seat's events lead to.
 ghost use Rattle.std.specs.Prelude.{◌≡◌};
-ghost use Rattle.wire.specs.Readers.{known};
-ghost use Rattle.cell.specs.Desks.{AreTaken, IsSeatAt, IsSavedNode, IsUnsaved, StandsAt};
+ghost use Rattle.wire.specs.Readers.{known, seat_node};
+ghost use Rattle.cell.specs.Desks.{
+  AreTaken,
+  IsKeptAt,
+  IsSavedNode,
+  IsSeatAt,
+  IsUnsaved,
+  StandsAt,
+};
 
 use ids::{Cycle, GREATEST_NODES};
 use node::{Core, Node};
+use std::marker::Model;
 use std::snapshot::Snapshot;
 use wire::NodeSeat;
 
@@ -30,4 +38,46 @@ pub(crate) struct Desk {
     ghost ended_is: { ended.number ≡ (known seat).pair.saved.local.phases.ended },
     ghost unsaved: { IsUnsaved is_unsaved (known seat).pair },
     ghost taken: { AreTaken (known seat).taken node.early },
+}
+
+impl Model for Desk {
+    ghost use Rattle.cell.specs.Desks.{DeskView};
+
+    ghost Value = { DeskView };
+
+    ghost view = { λ d. record {
+      node = d.node;
+      saved = d.saved.value;
+      seat = d.seat;
+      places = d.places;
+      unsaved = d.is_unsaved;
+    } };
+}
+
+impl Desk {
+    // The current node. The contract states everything that a desk guarantees between two calls.
+    #[inline(always)]
+    pub(crate) fn node(&self) -> &Node
+        ensures value { result.now ≡ self.now.node }
+        ensures kept { IsKeptAt self.now }
+    {
+        &self.node
+    }
+
+    // The number of the node.
+    #[inline(always)]
+    pub(crate) fn own(&self) -> u8
+        ensures { result ≡ seat_node self.now.seat }
+    {
+        self.own
+    }
+
+    // Whether an event happened since the last save or reopening.
+    #[inline(always)]
+    pub(crate) fn is_unsaved(&self) -> bool
+        ensures value { result ≡ self.now.unsaved }
+        ensures saved { IsUnsaved result (known self.now.seat).pair }
+    {
+        self.is_unsaved
+    }
 }

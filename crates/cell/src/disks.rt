@@ -1,12 +1,11 @@
 //! What a disk does for the node at a desk: it returns the saved node. That enters the history as a
 //! restart, or as the save in which the disk failed.
-ghost use Rattle.std.specs.Prelude.{◌≡◌, false, replicate};
-ghost use Rattle.ids.specs.declared.limits.TheConstants.{GREATEST_NODES};
+ghost use Rattle.std.specs.Prelude.{◌≡◌, false};
 ghost use Rattle.model.specs.View.{kept_view};
 ghost use Rattle.node.specs.Keeping.{alone, kept_whole};
 ghost use Rattle.image.specs.Nodes.{HasImage};
 ghost use Rattle.wire.specs.Readers.{known, IsSeatOf, IsSame};
-ghost use Rattle.cell.specs.Desks.{IsAtSeat};
+ghost use Rattle.cell.specs.Desks.{new_desk, IsAtSeat};
 ghost use Rattle.cell.specs.Disks.{is_same_image};
 ghost use Rattle.cell.specs.Events.{found_step, reopened_by, saved_by, Entered};
 ghost use Rattle.model.specs.declared.step.Step.TheVariants as step;
@@ -33,11 +32,7 @@ impl Desk {
         requires seat { IsAtSeat node.core seat }
         requires image { HasImage node.core }
         requires alone { node ≡ alone node.core }
-        ensures node { result.node ≡ node }
-        ensures seat { result.seat ≡ seat }
-        ensures saved { result.saved.value ≡ node.core }
-        ensures places { result.places ≡ replicate GREATEST_NODES 0 }
-        ensures unsaved { result.is_unsaved ≡ false }
+        ensures { result ≡ new_desk node seat }
     {
         let state = node.state();
         Desk {
@@ -60,10 +55,12 @@ impl Desk {
         ensures known { known self.new.seat ≡ saved_by (known self.old.seat) }
         ensures entered { Entered (step.Save (known self.old.seat).me)
             (known self.old.seat) (known self.new.seat) }
-        ensures node { self.new.node ≡ kept_whole self.old.node }
-        ensures saved { self.new.saved.value ≡ kept_view self.old.node.core }
-        ensures places { self.new.places ≡ self.old.places }
-        ensures unsaved { self.new.is_unsaved ≡ false }
+        ensures done { self.new ≡ record self.old {
+          node = kept_whole self.old.node;
+          saved = kept_view self.old.node.core;
+          seat = self.new.seat;
+          unsaved = false;
+        } }
     {
         self.node.kept();
         self.saved = Snapshot::of(self.node.core());
@@ -77,18 +74,16 @@ impl Desk {
         requires wire { IsSeatOf wire.now self.old.seat }
         requires image { HasImage found.core }
         requires alone { found ≡ alone found.core }
-        requires which { is_same_image found.core self.old.saved.value ≡ false
+        requires which { is_same_image found.core self.old.saved ≡ false
             → found.core ≡ kept_view self.old.node.core }
         ensures same { IsSame self.old.seat self.new.seat }
         ensures known { known self.new.seat
-            ≡ reopened_by (is_same_image found.core self.old.saved.value) (known self.old.seat) }
+            ≡ reopened_by (is_same_image found.core self.old.saved) (known self.old.seat) }
         ensures entered { Entered
-            (found_step (is_same_image found.core self.old.saved.value) (known self.old.seat).me)
+            (found_step (is_same_image found.core self.old.saved) (known self.old.seat).me)
             (known self.old.seat) (known self.new.seat) }
-        ensures node { self.new.node ≡ found }
-        ensures saved { self.new.saved.value ≡ found.core }
-        ensures places { self.new.places ≡ replicate GREATEST_NODES 0 }
-        ensures unsaved { self.new.is_unsaved ≡ false }
+        ensures was { ∥ HasImage self.old.saved ∥₁ }
+        ensures done { self.new ≡ new_desk found self.new.seat }
     {
         enter_found(wire, &mut self.seat, found.core(), &self.saved);
         self.saved = Snapshot::of(found.core());

@@ -7,7 +7,7 @@ ghost use Rattle.model.specs.declared.event.Event.TheVariants as events;
 ghost use Rattle.msg.specs.declared.frame.Data.{Data};
 ghost use Rattle.node.specs.Keeping.{met, own_step};
 ghost use Rattle.wire.specs.Readers.{known, IsSeatOf, IsSame};
-ghost use Rattle.cell.specs.Desks.{IsTaken};
+ghost use Rattle.cell.specs.Desks.{GoesOnAt, IsTaken};
 ghost use Rattle.cell.specs.Events.{is_counted, unsaved_after, Acknowledged, Given, IsDue, MayAct};
 
 use crate::desk::Desk;
@@ -45,7 +45,7 @@ impl Desk {
     fn meant(&self, event: Event) -> (Event, Step)
         requires own { is_own event ≡ true }
         ensures event { result.0 ≡ met self.now.node.early event }
-        ensures step { result.1 ≡ own_step self.now.node.early self.now.own event }
+        ensures step { result.1 ≡ own_step self.now.node.early (known self.now.seat).me event }
         ensures may { MayAct (known self.now.seat) result.0 result.1 }
         ensures due { (from : ℕ) (d : Data) → event ≡ events.Next from → result.0 ≡ events.Data d
             → IsDue (known self.now.seat) self.now.node.core.local d }
@@ -74,10 +74,9 @@ impl Desk {
             self.old.node self.new.node (known self.old.seat) (known self.new.seat) }
         ensures memory_free { IsTrue (is_memory_free self.old.node.core.local (met self.old.node.early event))
             → IfErr result (λ e. e ≢ Memory) }
-        ensures unsaved { self.new.is_unsaved ≡ unsaved_after result self.old.is_unsaved }
+        ensures unsaved { self.new.unsaved ≡ unsaved_after result self.old.unsaved }
         ensures same { IsSame self.old.seat self.new.seat }
-        ensures saved { self.new.saved.value ≡ self.old.saved.value }
-        ensures places { self.new.places ≡ self.old.places }
+        ensures stays { GoesOnAt self.old self.new }
     {
         let (meant, step) = self.meant(event);
         self.perform(wire, event, &meant, step)
@@ -103,10 +102,9 @@ impl Desk {
             self.old.node self.new.node (known self.old.seat) (known self.new.seat) }
         ensures memory_free { IsTrue (is_memory_free self.old.node.core.local meant.now)
             → IfErr result (λ e. e ≢ Memory) }
-        ensures unsaved { self.new.is_unsaved ≡ unsaved_after result self.old.is_unsaved }
+        ensures unsaved { self.new.unsaved ≡ unsaved_after result self.old.unsaved }
         ensures same { IsSame self.old.seat self.new.seat }
-        ensures saved { self.new.saved.value ≡ self.old.saved.value }
-        ensures places { self.new.places ≡ self.old.places }
+        ensures stays { GoesOnAt self.old self.new }
     {
         let answer = self.node.act(event)?;
         if is_counted_answer(&answer) {
@@ -121,10 +119,7 @@ impl Desk {
         ensures acknowledged { Acknowledged ack result
             self.old.node self.new.node (known self.old.seat) (known self.new.seat) }
         ensures memory_free { IfErr result (λ e. e ≢ Memory) }
-        ensures unsaved { self.new.is_unsaved ≡ self.old.is_unsaved }
-        ensures seat { self.new.seat ≡ self.old.seat }
-        ensures saved { self.new.saved.value ≡ self.old.saved.value }
-        ensures places { self.new.places ≡ self.old.places }
+        ensures stays { self.new ≡ record self.old { node = self.new.node } }
     {
         self.node.act(Event::Ack(ack))
     }

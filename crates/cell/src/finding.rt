@@ -5,24 +5,24 @@
 //! the disk of node k                                  the node, or why there is none
 //! nothing was ever created on it                      a new node, which is created there
 //! it opens to node k of a space of this shape         that node as it was saved last
-//! it opens to another node, or of another shape       Disks
-//! something was created on it, and it opens to none   BadImage
-//! a call of the disk failed                           Disk
+//! it opens to another node, or of another shape       Another
+//! something was created on it, and it opens to none   Failed with BadImage
+//! a call of the disk failed                           Failed with Disk
 //! ```
 //!
-//! The first failure ends the opening. If the number of disks is wrong, the opening fails before
-//! any disk is read. All disks are read before anything is created. Each two of the nodes are
-//! compared: if they can't be the saved states of one moment, the opening fails with `Ages`. Only
-//! then are the new nodes created. So an opening that fails before that has written nothing.
-ghost use Rattle.std.specs.Prelude.{◌≡◌, ◌≢◌, ◌++◌, [], ◌∷◌, false, true, IfErr, IfOk, IsErrOf, IsTrue, OnOk};
+//! The first failure ends the opening; it names the node. If the number of disks is wrong, the
+//! opening fails before any disk is read. All disks are read before anything is created. Each two
+//! of the nodes are compared: if they can't be the saved states of one moment, the opening fails
+//! with `Ages`. Only then are the new nodes created. So an opening that fails before that has
+//! written nothing.
+ghost use Rattle.std.specs.Prelude.{◌≡◌, ◌≢◌, ◌⊎◌, ◌++◌, [], ◌∷◌, false, true, IfErr, IfOk, IsErrOf, IsTrue, OnOk};
 ghost use Rattle.std.specs.Prelude.{◌<◌, length, vec_len};
 ghost use Rattle.ids.specs.declared.refusal.Refusal.TheVariants.{BadImage, Memory};
 ghost use Rattle.disk.specs.Crashes.{Unmoved};
-ghost use Rattle.cell.specs.Ages.{AreApart, AreOfOneAge, AreRead, IfAges};
+ghost use Rattle.cell.specs.Ages.{AreOfOneAge, IsWhy};
 ghost use Rattle.cell.specs.Disks.{OpensToNode};
 ghost use Rattle.cell.specs.Looking.{AreLookedAt, AreOn, AreUnmoved, HoldsNode, IsOfReading};
-ghost use Rattle.cell.specs.Opened.{AreBeside, AreFound, HasPlace, HoldsAnother, IfRefused};
-ghost use Rattle.cell.specs.Opened.{IsCause, IsNodeOf, IsReadFrom};
+ghost use Rattle.cell.specs.Opened.{AreBeside, AreFound, IsCause, IsNodeOf, IsReadFrom, IsWhyNot};
 ghost use Rattle.cell.specs.declared.fault.Unopened.TheVariants as fault;
 ghost use Rattle.node.specs.Keeping.{new_whole};
 
@@ -50,11 +50,22 @@ fn is_node_of(node: &Node, shape: Shape, own: NodeId) -> bool
 // Adds a value to a list.
 fn keep<T: Drop>(values: &mut Vec<T>, value: T) -> Result<(), Unopened>
     ensures kept { OnOk result (values.new.items ≡ values.old.items ++ value ∷ []) }
-    ensures refused { IfErr result (λ e. e ≡ fault.Refused Memory) }
+    ensures refused { IfErr result (λ e. e ≡ fault.Memory) }
 {
     match values.push(value) {
         Ok(()) => Ok(()),
-        Err(_) => Err(Unopened::Refused(Refusal::Memory)),
+        Err(_) => Err(Unopened::Memory),
+    }
+}
+
+// The fault of a node that wasn't read or created because of this refusal.
+fn failed(node: u8, refusal: Refusal) -> Unopened
+    ensures { ((refusal ≡ Memory) × (result ≡ fault.Memory))
+        ⊎ ((refusal ≢ Memory) × (result ≡ fault.Failed node refusal)) }
+{
+    match refusal {
+        Refusal::Memory => Unopened::Memory,
+        refusal => Unopened::Failed { node, refusal },
     }
 }
 
@@ -72,19 +83,17 @@ fn read_node<D: Disk>(
     ensures read { IfOk result (λ r. OpensToNode r.0 (D.seen disk.old)) }
     ensures quiet { Unmoved D.seen D.may_leave D.moment D.left_since disk.old disk.new }
     ensures fine { OnOk result (D.faults disk.new ≡ D.faults disk.old) }
-    ensures other { IsErrOf result fault.Disks → HoldsAnother shape own.number (D.seen disk.old) }
-    ensures cause { IfErr result (IfRefused
-        (IsCause D.seen D.moment D.faults shape own.number disk.old)) }
-    ensures ages { IfErr result (IfAges (λ i j. ⊥)) }
+    ensures why { IfErr result
+        (IsWhyNot D.seen D.moment D.faults shape own.number disk.old) }
 {
     let (selected, node) = match read_value::<D, Images>(alloc, disk) {
         Ok(found) => found,
-        Err(refusal) => return Err(Unopened::Refused(refusal)),
+        Err(refusal) => return Err(failed(own.number, refusal)),
     };
     if is_node_of(&node, shape, own) {
         Ok((node, Some(selected)))
     } else {
-        Err(Unopened::Disks)
+        Err(Unopened::Another { node: own.number })
     }
 }
 
@@ -93,11 +102,11 @@ fn new_node(alloc: Global, shape: Shape, own: NodeId) -> Result<(Node, Option<Se
     requires { own.number < shape.nodes }
     ensures node { IfOk result (λ r. r.0 ≡ new_whole shape own.number) }
     ensures blank { IfOk result (λ r. r.1 ≡ None) }
-    ensures refused { IfErr result (λ e. e ≡ fault.Refused Memory) }
+    ensures refused { IfErr result (λ e. e ≡ fault.Memory) }
 {
     match Node::new(alloc, shape, own) {
         Ok(node) => Ok((node, None)),
-        Err(_) => Err(Unopened::Refused(Refusal::Memory)),
+        Err(_) => Err(Unopened::Memory),
     }
 }
 
@@ -115,15 +124,16 @@ fn look_at<D: Disk>(
     ensures read { IfOk result (λ r. IsReadFrom shape own.number (D.seen disk.old) r.0) }
     ensures quiet { Unmoved D.seen D.may_leave D.moment D.left_since disk.old disk.new }
     ensures fine { OnOk result (D.faults disk.new ≡ D.faults disk.old) }
-    ensures other { IsErrOf result fault.Disks → HoldsAnother shape own.number (D.seen disk.old) }
-    ensures cause { IfErr result (IfRefused
-        (IsCause D.seen D.moment D.faults shape own.number disk.old)) }
-    ensures ages { IfErr result (IfAges (λ i j. ⊥)) }
+    ensures why { IfErr result
+        (IsWhyNot D.seen D.moment D.faults shape own.number disk.old) }
 {
     match is_blank(disk) {
         Ok(true) => new_node(alloc, shape, own),
         Ok(false) => read_node(alloc, shape, own, disk),
-        Err(_) => Err(Unopened::Refused(Refusal::Disk)),
+        Err(_) => Err(Unopened::Failed {
+            node: own.number,
+            refusal: Refusal::Disk,
+        }),
     }
 }
 
@@ -136,11 +146,7 @@ fn look_at_all<D: Disk>(
 ) -> Result<(Vec<Node>, Vec<Option<Selected>>), Unopened>
     requires { length disks.old ≡ shape.nodes }
     ensures untouched { AreUnmoved D.seen D.may_leave D.moment D.left_since disks.old disks.new }
-    ensures other { IsErrOf result fault.Disks →
-        HasPlace (λ k d. HoldsAnother shape k (D.seen d)) disks.old }
-    ensures cause { IfErr result (IfRefused (λ r.
-        HasPlace (λ k d. IsCause D.seen D.moment D.faults shape k d r) disks.old)) }
-    ensures ages { IfErr result (IfAges (λ i j. ⊥)) }
+    ensures why { IfErr result (IsWhy D.seen D.moment D.faults shape disks.old) }
     ensures found { IfOk result (λ r. AreLookedAt D.seen D.may_leave D.faults shape shape.nodes
         disks.old disks.new r.0.items r.1.items) }
 {
@@ -197,19 +203,23 @@ fn put_all_on<D: Disk + Drop>(
     mut disks: Vec<D>,
     nodes: &[Node],
     areas: &[Option<Selected>],
-) -> Result<Vec<Shelf<D>>, Refusal>
-    requires { AreOn D.seen D.may_leave shape disks.items nodes.now areas.now }
+) -> Result<Vec<Shelf<D>>, Unopened>
+    requires on { AreOn D.seen D.may_leave shape disks.items nodes.now areas.now }
+    requires count { length nodes.now ≡ shape.nodes }
     ensures found { IfOk result (λ v.
         AreFound (λ n s. (s.ready ≡ true) × OpensToNode n (D.seen s.disk))
         shape nodes.now v.items) }
-    ensures cause { IfErr result (λ r. r ≢ Memory →
-        HasPlace (λ k d. IsCause D.seen D.moment D.faults shape k d r) disks.items) }
-    ensures not_bad { IfErr result (λ r. r ≢ BadImage) }
+    ensures why { IfErr result (IsWhy D.seen D.moment D.faults shape disks.items) }
+    ensures all_read { IfErr result (λ e. IsOfReading e → ⊥) }
 {
     let mut shelves = Vec::new(alloc);
-    for place in 0..nodes.len() {
+    for number in 0..shape.nodes() {
         let disk = disks.remove(0);
-        shelves.push(put_on(alloc, disk, &nodes[place], areas[place])?)?;
+        let place = usize::from(number);
+        match put_on(alloc, disk, &nodes[place], areas[place]) {
+            Ok(shelf) => keep(&mut shelves, shelf)?,
+            Err(refusal) => return Err(failed(number, refusal)),
+        }
     }
     Ok(shelves)
 }
@@ -217,34 +227,29 @@ fn put_all_on<D: Disk + Drop>(
 /// The nodes of a space, in order, each on its shelf: new ones for disks on which nothing was ever
 /// created, else those that the disks hold.
 ///
-/// Fails with `Disks` if the number of disks is not the number of nodes, or if a disk holds a node
-/// of another shape or number. Otherwise it fails with `Refused` of one of these:
+/// Fails with `Disks` exactly if the number of disks is not the number of nodes; with `Memory` if
+/// an allocation failed. The other errors name the node of the disk that is their cause:
 ///
-/// - `BadImage`, if something was created on a disk and it opens to no node;
-/// - `ImageTooLarge`, if a disk is blank and the image of its new node would be longer than an
-/// image may be;
-/// - `Disk`, if a call of a disk failed during this call;
-/// - `Memory`, if an allocation failed.
+/// - `Another`, if the disk holds a node of another shape or number;
+/// - `Failed` with `BadImage`, if something was created on the disk and it opens to no node;
+/// - `Failed` with `ImageTooLarge`, if the disk is blank and the image of its new node would be
+/// longer than an image may be;
+/// - `Failed` with `Disk`, if a call of the disk failed during this call.
 ///
 /// If all nodes are found, it fails with `Ages` exactly if two of them can't be the saved states of
 /// one moment. The first of them has sent fewer messages than the second has received from it, or
 /// has dropped some that the second lacks.
 ///
 /// There are no other causes. All disks are read, and the nodes compared, before anything is
-/// created. So after `Disks`, `Ages` and `BadImage` the disks are still in the vector, and nothing
-/// was written on any of them. If it succeeds, the vector is empty.
+/// created. So after `Disks`, `Another`, `Ages` and `BadImage` the disks are still in the vector,
+/// and nothing was written on any of them. If it succeeds, the vector is empty.
 pub fn find<D: Disk + Drop>(
     alloc: Global,
     shape: Shape,
     disks: &mut Vec<D>,
 ) -> Result<(Vec<Node>, Vec<Shelf<D>>), Unopened>
     ensures disks { vec_len disks.old ≢ shape.nodes → IsErrOf result fault.Disks }
-    ensures other { IsErrOf result fault.Disks → vec_len disks.old ≡ shape.nodes →
-        HasPlace (λ k d. HoldsAnother shape k (D.seen d)) disks.old.items }
-    ensures cause { IfErr result (IfRefused (λ r.
-        HasPlace (λ k d. IsCause D.seen D.moment D.faults shape k d r) disks.old.items)) }
-    ensures ages { IfErr result (IfAges (λ sender receiver.
-        AreRead D.seen shape disks.old.items (λ ns. AreApart ns sender receiver))) }
+    ensures why { IfErr result (IsWhy D.seen D.moment D.faults shape disks.old.items) }
     ensures untouched { IfErr result (λ e. IsOfReading e →
         AreUnmoved D.seen D.may_leave D.moment D.left_since disks.old.items disks.new.items) }
     ensures taken { OnOk result (disks.new.items ≡ []) }
@@ -265,8 +270,6 @@ pub fn find<D: Disk + Drop>(
         return Err(Unopened::Ages { sender, receiver });
     }
     let found = mem::replace(disks, Vec::new(alloc));
-    match put_all_on(alloc, shape, found, nodes.as_slice(), areas.as_slice()) {
-        Ok(shelves) => Ok((nodes, shelves)),
-        Err(refusal) => Err(Unopened::Refused(refusal)),
-    }
+    let shelves = put_all_on(alloc, shape, found, nodes.as_slice(), areas.as_slice())?;
+    Ok((nodes, shelves))
 }

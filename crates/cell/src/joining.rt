@@ -7,7 +7,7 @@ ghost use Rattle.model.specs.World.{World};
 ghost use Rattle.node.specs.Keeping.{WholeNode};
 ghost use Rattle.wire.specs.Readers.{AreOpened, IsMade, opened_with};
 ghost use Rattle.wire.specs.Rule.{nodes_of};
-ghost use Rattle.cell.specs.Ages.{AreApart, AreOfOneAge, AreRead, IfAges};
+ghost use Rattle.cell.specs.Ages.{AreOfOneAge, IfAges, IsWhy};
 ghost use Rattle.cell.specs.Cells.{IsNew};
 ghost use Rattle.cell.specs.Closing.{AreOfOneMoment, HaveBegun};
 ghost use Rattle.cell.specs.Reached.{IsReached};
@@ -18,10 +18,6 @@ ghost use Rattle.cell.specs.Opened.{
   AreBeside,
   AreFound,
   AreReady,
-  HasPlace,
-  HoldsAnother,
-  IfRefused,
-  IsCause,
   IsNodeOf,
   IsReadFrom,
 };
@@ -107,12 +103,7 @@ pub fn open<D: Disk + Drop>(
     watches: u8,
 ) -> Result<(Wire, Vec<Cell<D>>, Vec<Watch>), Unopened>
     ensures disks { vec_len disks ≢ shape.nodes → IsErrOf result fault.Disks }
-    ensures other { IsErrOf result fault.Disks → vec_len disks ≡ shape.nodes →
-        HasPlace (λ k d. HoldsAnother shape k (D.seen d)) disks.items }
-    ensures cause { IfErr result (IfRefused (λ r.
-        HasPlace (λ k d. IsCause D.seen D.moment D.faults shape k d r) disks.items)) }
-    ensures ages { IfErr result (IfAges (λ sender receiver.
-        AreRead D.seen shape disks.items (λ ns. AreApart ns sender receiver))) }
+    ensures why { IfErr result (IsWhy D.seen D.moment D.faults shape disks.items) }
     ensures read { IfOk result (λ r. AreBeside (λ k d n. IsReadFrom shape k (D.seen d) n)
         disks.items (map (λ c. c.node) r.1.items)) }
     ensures shaped { IfOk result (λ r. (k : ℕ) (n : WholeNode)
@@ -132,6 +123,6 @@ pub fn open<D: Disk + Drop>(
     let (nodes, shelves) = find(alloc, shape, &mut disks)?;
     match join(alloc, shape, nodes, shelves, watches) {
         Ok(opened) => Ok(opened),
-        Err(refusal) => Err(Unopened::Refused(refusal)),
+        Err(_) => Err(Unopened::Memory),
     }
 }

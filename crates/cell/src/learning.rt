@@ -14,10 +14,7 @@ impl Desk {
         ensures seen { note_seen result ≡ (known self.old.seat).seen }
         ensures same { IsSame self.old.seat self.new.seat }
         ensures known { known self.new.seat ≡ known self.old.seat }
-        ensures node { self.new.node ≡ self.old.node }
-        ensures saved { self.new.saved.value ≡ self.old.saved.value }
-        ensures places { self.new.places ≡ self.old.places }
-        ensures unsaved { self.new.is_unsaved ≡ self.old.is_unsaved }
+        ensures stays { self.new ≡ record self.old { seat = self.new.seat } }
     {
         wire.note(&mut self.seat)
     }
@@ -28,10 +25,7 @@ impl Desk {
         requires note { IsNoteOf wire.now note }
         ensures same { IsSame self.old.seat self.new.seat }
         ensures learned { Learns (note_seen note) (known self.old.seat) (known self.new.seat) }
-        ensures node { self.new.node ≡ self.old.node }
-        ensures saved { self.new.saved.value ≡ self.old.saved.value }
-        ensures places { self.new.places ≡ self.old.places }
-        ensures unsaved { self.new.is_unsaved ≡ self.old.is_unsaved }
+        ensures stays { self.new ≡ record self.old { seat = self.new.seat } }
     {
         wire.learn(&mut self.seat, note);
     }

@@ -32,6 +32,7 @@ ghost use Rattle.wire.specs.Readers.{
   IsSeatOf,
   IsSame,
 };
+ghost use Rattle.cell.specs.Desks.{GoesOnAt};
 ghost use Rattle.cell.specs.Events.{emptied, event_of, Handled, IsMarked};
 ghost use Rattle.cell.specs.Sending.{frame_due, next_place, places_after, IsSent};
 
@@ -90,11 +91,9 @@ impl Desk {
             (known self.old.seat) (known self.new.seat)) }
         ensures places { IfOk result (λ sent. self.new.places
             ≡ places_after sent self.old.node.core to self.old.places) }
-        ensures refused { IfErr result (λ e. (e ≡ Memory) × (self.new.seat ≡ self.old.seat)
-            × (self.new.places ≡ self.old.places)) }
-        ensures node { self.new.node ≡ self.old.node }
-        ensures saved { self.new.saved.value ≡ self.old.saved.value }
-        ensures unsaved { self.new.is_unsaved ≡ self.old.is_unsaved }
+        ensures refused { IfErr result (λ e. (e ≡ Memory) × (self.new ≡ self.old)) }
+        ensures stays { self.new
+            ≡ record self.old { seat = self.new.seat; places = self.new.places } }
     {
         let place = self.places[usize::from(to)];
         let (frame, next) = due(&self.node, to, place);
@@ -112,16 +111,14 @@ impl Desk {
         requires wire { IsSeatOf wire.now self.old.seat }
         requires other { IsTrue (is_other self.old.node.core.local from) }
         ensures same { IsSame self.old.seat self.new.seat }
+        ensures inside { from < (known self.old.seat).nodes }
         ensures taken { MatchOption result
             (FindsOther (inbox self.old.seat from) 1 (known self.old.seat) (known self.new.seat))
             (λ f. (sender (plain f) ≡ from) × (receiver (plain f) ≡ (known self.old.seat).me)
             × Arrives (known self.old.seat) (plain f)
             × ((taken : ℕ) × (cleared : ℕ) × (known self.new.seat ≡ emptied
             (inbox self.old.seat from) taken cleared (plain f) (known self.old.seat)))) }
-        ensures node { self.new.node ≡ self.old.node }
-        ensures saved { self.new.saved.value ≡ self.old.saved.value }
-        ensures places { self.new.places ≡ self.old.places }
-        ensures unsaved { self.new.is_unsaved ≡ self.old.is_unsaved }
+        ensures stays { self.new ≡ record self.old { seat = self.new.seat } }
     {
         let taken = wire.take(&mut self.seat, from)?;
         let bytes = wire.clear(&mut self.seat, taken);
@@ -134,7 +131,7 @@ impl Desk {
     // Shows on the board the cycle that the saved state knows to have ended.
     pub(crate) fn raise(&mut self, wire: &Wire) -> Raised
         requires wire { IsSeatOf wire.now self.old.seat }
-        requires first { self.old.own ≡ 0 }
+        requires first { seat_node self.old.seat ≡ 0 }
         ensures same { IsSame self.old.seat self.new.seat }
         ensures cycle { raised_cycle result
             ≡ (known self.old.seat).pair.saved.local.phases.ended }
@@ -142,10 +139,7 @@ impl Desk {
         ensures opening { raised_opening result ≡ (known self.old.seat).opening }
         ensures known { known self.new.seat
             ≡ raises (known self.old.seat).pair.saved.local.phases.ended (known self.old.seat) }
-        ensures node { self.new.node ≡ self.old.node }
-        ensures saved { self.new.saved.value ≡ self.old.saved.value }
-        ensures places { self.new.places ≡ self.old.places }
-        ensures unsaved { self.new.is_unsaved ≡ self.old.is_unsaved }
+        ensures stays { self.new ≡ record self.old { seat = self.new.seat } }
     {
         wire.raise(&mut self.seat, self.ended)
     }
@@ -169,10 +163,9 @@ impl Desk {
         ensures memory_free { IsTrue (is_memory_free self.old.node.core.local (event_of frame))
             → IfErr result (λ e. e ≢ Memory) }
         ensures unsaved { IsMarked (known self.old.seat) (known self.new.seat)
-            self.old.is_unsaved self.new.is_unsaved }
+            self.old.unsaved self.new.unsaved }
         ensures same { IsSame self.old.seat self.new.seat }
-        ensures saved { self.new.saved.value ≡ self.old.saved.value }
-        ensures places { self.new.places ≡ self.old.places }
+        ensures stays { GoesOnAt self.old self.new }
     {
         match frame {
             Frame::Data(data) => {

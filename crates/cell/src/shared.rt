@@ -1,12 +1,26 @@
 //! A cell that the threads of a program share. Each call locks the cell for its own duration, so
 //! what holds of a cell between two calls holds whenever the lock is free.
-ghost use Rattle.std.specs.Prelude.{◌≡◌, ◌≢◌, ◌⊎◌, true, IfErr, IfOk, IsTrue};
+ghost use Rattle.std.specs.Prelude.{
+  ◌≡◌,
+  ◌≢◌,
+  ◌↔◌,
+  ◌⊎◌,
+  false,
+  true,
+  IfErr,
+  IfOk,
+  IsErrOf,
+  IsTrue,
+  OnErr,
+  OnOk,
+};
 ghost use Rattle.std.specs.Arc.{arc_value};
 ghost use Rattle.ids.specs.declared.refusal.Refusal.TheVariants as refusal;
 ghost use Rattle.model.specs.Steps.{is_own};
 ghost use Rattle.wire.specs.Readers.{known, IsSeatOf};
 ghost use Rattle.wire.specs.Rule.{nodes_of};
 ghost use Rattle.cell.specs.Closing.{HasBegun};
+ghost use Rattle.cell.specs.Locked.{WasAnswered};
 ghost use Rattle.cell.specs.Names.{name_of, raised_on, seat_name, IsNamed};
 
 use crate::cell::Cell;
@@ -83,12 +97,16 @@ pub type Shared<D> = SharedOn<D, Unnamed>;
 impl<D: Disk, W: Naming> Held<D, W> {
     fn act(&mut self, event: Event) -> Result<Answer, Refusal>
         requires own { is_own event ≡ true }
+        ensures answered { WasAnswered event result }
+        ensures closed { IsErrOf result refusal.Closed ↔ (self.old.cell.is_open ≡ false) }
     {
         let Held { cell, wire, .. } = self;
         cell.act(wire, event)
     }
 
-    fn pump_in(&mut self, from: u8) -> Result<Inbound, Refusal> {
+    fn pump_in(&mut self, from: u8) -> Result<Inbound, Refusal>
+        ensures closed { IsErrOf result refusal.Closed ↔ (self.old.cell.is_open ≡ false) }
+    {
         let Held { cell, wire, .. } = self;
         cell.pump_in(wire, from)
     }
@@ -96,6 +114,7 @@ impl<D: Disk, W: Naming> Held<D, W> {
     fn save(&mut self) -> Result<(), Refusal>
         ensures others { IfErr result (λ e. (e ≡ refusal.Closed) ⊎ ((e ≡ refusal.ImageTooLarge)
             ⊎ ((e ≡ refusal.Memory) ⊎ (e ≡ refusal.Disk)))) }
+        ensures closed { IsErrOf result refusal.Closed ↔ (self.old.cell.is_open ≡ false) }
     {
         let Held { cell, wire, .. } = self;
         cell.save(wire)
@@ -104,6 +123,7 @@ impl<D: Disk, W: Naming> Held<D, W> {
     fn pump_out(&mut self, to: u8) -> Result<Outbound, Refusal>
         ensures others { IfErr result (λ e. (e ≡ refusal.Closed)
             ⊎ ((e ≡ refusal.NoNode) ⊎ (e ≡ refusal.Memory))) }
+        ensures closed { IsErrOf result refusal.Closed ↔ (self.old.cell.is_open ≡ false) }
     {
         let Held { cell, wire, .. } = self;
         cell.pump_out(wire, to)
@@ -111,6 +131,8 @@ impl<D: Disk, W: Naming> Held<D, W> {
 
     fn reopen(&mut self) -> Result<(), Refusal>
         ensures others { IfErr result (λ e. (e ≡ refusal.Memory) ⊎ (e ≡ refusal.Disk)) }
+        ensures ready { OnOk result (self.new.cell.is_open ≡ true) }
+        ensures shut { OnErr result (self.new.cell.is_open ≡ false) }
     {
         let Held { cell, wire, .. } = self;
         cell.reopen(wire)
@@ -119,6 +141,7 @@ impl<D: Disk, W: Naming> Held<D, W> {
     fn raise(&mut self) -> Result<Raised, Refusal>
         ensures raised { IfOk result (λ r. IsNamed W.wire (raised_on r)) }
         ensures others { IfErr result (λ e. e ≢ refusal.Closed → e ≡ refusal.NotDirector) }
+        ensures closed { IsErrOf result refusal.Closed ↔ (self.old.cell.is_open ≡ false) }
     {
         let Held { cell, wire, .. } = self;
         cell.raise(wire)
@@ -171,6 +194,7 @@ impl<D: Disk, W: Naming> SharedOn<D, W> {
     /// Gives the node an event of its own; see [`Cell::act`].
     pub fn act<R: Wait>(&self, rt: &R, event: Event) -> Result<Answer, Refusal>
         requires own { is_own event ≡ true }
+        ensures answered { WasAnswered event result }
     {
         self.held.lock(rt).act(event)
     }

@@ -1,17 +1,18 @@
 -- What has been printed before each iteration of the loop over a script's lines.
-use Rattle.std.proofs.Common.{inl, inr, ◌≡◌, ◌≢◌, ℕ, ◌+◌, ◌≤◌, max, List, [], ◌∷◌, ◌++◌, length, Option, refl, sym, ap, ◌∙◌, subst, arith, append_assoc, append-nil, length-append}
+use Rattle.std.proofs.Common.{◌≡◌, ◌≢◌, ℕ, ◌+◌, ◌≤◌, max, List, [], ◌∷◌, ◌++◌, length, Option, refl, sym, ap, ◌∙◌, subst, arith, append_assoc, append-nil, length-append}
 use Rattle.std.specs.Io.KnownBytes.{Appends, Keeps}
 use Rattle.std.specs.Str.Lines.{lines}
 use Rattle.std.proofs.KnownBytes.{Appends-nil, Appends-trans, Appends-kept}
 use Rattle.std.proofs.lemmas.List.{nil_from_length}
 use Rattle.model.specs.World.{World}
 use Rattle.node.specs.Keeping.{Rings}
+use Rattle.commands.specs.declared.reading.Unread.{Unread}
 use Rattle.commands.specs.declared.script.Reply.{Reply}
 use Rattle.commands.specs.declared.script.Reply.TheVariants as reply
 use Rattle.commands.specs.declared.script.State.{State}
 use Rattle.commands.specs.declared.script.State.TheVariants as state
 use Rattle.lines.specs.Grammar.{line_of, words_of}
-use Rattle.commands.specs.Script.{Held, awaited, ShowsHeld, TakesLine, GoesOn, Replies, PrintsNoScript, PrintsReply, PrintsReplies, RunsScript, replied, unread, printed, reply_text, status_after, status_of}
+use Rattle.commands.specs.Script.{Held, awaited, ShowsHeld, TakesLine, GoesOn, Replies, PrintsReply, PrintsReplies, PrintsUnread, printed, reply_text, status_after, status_of}
 
 -- a reply after others
 printed_push : (n : ℕ) (rs : List Reply) (r : Reply)
@@ -41,15 +42,10 @@ status_of_le : (rs : List Reply) → status_of rs ≤ 2
 status_of_le [] = omega arith
 status_of_le (r ∷ rs) = omega (arith, status_after_le r, status_of_le rs)
 
-no_script_le : (status : ℕ) (old new : Option (List ℕ)) → PrintsNoScript status old new → status ≤ 2
-no_script_le status old new (inl prints) = omega (arith, prints.0)
-no_script_le status old new (inr prints) = omega (arith, prints.0)
-
-pub small_status : (remaining : Option (List ℕ)) (status : ℕ) (old new : Option (List ℕ))
-    → RunsScript remaining status old new → status ≤ 2
-small_status remaining status old new (replied script all prints) =
+pub small_replies : (script : List ℕ) (status : ℕ) (old new : Option (List ℕ))
+    → PrintsReplies script status old new → status ≤ 2
+small_replies script status old new prints =
     omega (arith, prints.worst, status_of_le prints.replies)
-small_status remaining status old new (unread prints) = no_script_le status old new prints
 
 -- A point of the loop over a script's lines: the remaining text, how many lines were processed, the
 -- space, the status so far, and the contents of the output, if they are known.
@@ -198,21 +194,20 @@ printed_all shows keeps script start p before none =
     }
 
 -- a flush at the end
-flushed_no_script : (status : ℕ) (old mid new : Option (List ℕ)) → PrintsNoScript status old mid
-    → Keeps mid new → PrintsNoScript status old new
-flushed_no_script status old mid new (inl prints) kept =
-    inl (prints.0, Appends-kept old mid new _ prints.1 kept)
-flushed_no_script status old mid new (inr prints) kept =
-    inr (prints.0, Appends-kept old mid new _ prints.1 kept)
+pub flushed_replies : (script : List ℕ) (status : ℕ) (old mid new : Option (List ℕ))
+    → PrintsReplies script status old mid → Keeps mid new → PrintsReplies script status old new
+flushed_replies script status old mid new prints kept = record {
+  replies = prints.replies;
+  follow = prints.follow;
+  worst = prints.worst;
+  appended = Appends-kept old mid new (printed 1 prints.replies) prints.appended kept;
+}
 
-pub flushed : (remaining : Option (List ℕ)) (status : ℕ) (old mid new : Option (List ℕ))
-    → RunsScript remaining status old mid → Keeps mid new → RunsScript remaining status old new
-flushed remaining status old mid new (replied script all prints) kept =
-    replied script all (record {
-      replies = prints.replies;
-      follow = prints.follow;
-      worst = prints.worst;
-      appended = Appends-kept old mid new (printed 1 prints.replies) prints.appended kept;
-    })
-flushed remaining status old mid new (unread prints) kept =
-    unread (flushed_no_script status old mid new prints kept)
+pub flushed_unread : (why : Unread) (status : ℕ) (old mid new : Option (List ℕ))
+    → PrintsUnread why status old mid → Keeps mid new → PrintsUnread why status old new
+flushed_unread why status old mid new prints kept = record {
+  memory = λ is.
+      (let one = prints.memory is in (one.0, Appends-kept old mid new _ one.1 kept));
+  other = λ not.
+      (let one = prints.other not in (one.0, Appends-kept old mid new _ one.1 kept));
+}

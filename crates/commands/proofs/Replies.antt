@@ -1,6 +1,5 @@
 -- How a script's space follows the definitions.
-use Rattle.std.proofs.Common.{◌≡◌, ◌≢◌, ℕ, true, List, [], Result, Ok, Err, Option, Some, None, is_some, OnSome, IfOk, IfSome, refl, ap, inl, subst}
-use Rattle.std.specs.Result.{result_ok}
+use Rattle.std.proofs.Common.{◌≡◌, ◌≢◌, ℕ, true, List, [], Result, Ok, Err, Option, Some, None, is_some, OnOk, IfOk, refl, ap, inl, subst}
 use Rattle.lines.specs.declared.line.Line.{Line}
 use Rattle.lines.specs.Operands.{read}
 use Rattle.ids.specs.Limits.{Shaped}
@@ -20,16 +19,10 @@ use Rattle.commands.specs.Freed.{KeepsSums, freed_after}
 use Rattle.commands.specs.Script.{Held, RefusesStep, awaited, denied, there, ShowsHeld, TakesSpace, TakesStep, none_kept}
 
 -- what holds of the text that was printed, with its status
-pub printed_as : {A : Type 0} {Q P : ℕ → Type 0} (r : Option ℕ) → OnSome r A
-    → IfSome r Q → (A → (status : ℕ) → Q status → P status) → IfSome r P
-printed_as (Some status) text is follows = follows text status is
-printed_as None text is follows = tt
-
--- what holds of an `Ok` whose value was returned
-pub of_ok : {E : Type 0} (P : ℕ → Type 0) (r : Result ℕ E) (n : ℕ) → Some n ≡ result_ok r
-    → IfOk r P → P n
-of_ok P (Ok k) n is holds = let same : k ≡ n = cc in subst P same holds
-of_ok P (Err e) n is holds = absurd cc
+pub printed_as : {A E : Type 0} {Q P : ℕ → Type 0} (r : Result ℕ E) → OnOk r A
+    → IfOk r Q → (A → (status : ℕ) → Q status → P status) → IfOk r P
+printed_as (Ok status) text is follows = follows text status is
+printed_as (Err e) text is follows = tt
 
 -- a line that was read is the one that was built
 pub read_some : {X : Type 0} (done : Option X) (l : Line) (said : Option Line)

@@ -8,7 +8,7 @@ use Rattle.model.specs.declared.step.Outcome.{Outcome}
 use Rattle.model.specs.declared.step.Outcome.TheVariants as outcome
 use Rattle.model.specs.declared.step.Step.{Step}
 use Rattle.model.specs.declared.step.Step.TheVariants as step
-use Rattle.node.specs.declared.summary.Summary.{Summary}
+use Rattle.model.specs.declared.summary.Summary.{Summary}
 use Rattle.world.specs.Shows.{summary_at}
 
 -- a sum for each cycle at least up to this one

@@ -1,5 +1,5 @@
 -- What a script prints, and its exit status.
-use Rattle.std.specs.Prelude.{◌≡◌, ◌≢◌, ℕ, ◌+◌, ◌<◌, true, length, max, List, [], ◌∷◌, ◌++◌, ◌⊎◌, Option, Some, None, IfSome, Ok, Err, codes, decimal, replicate}
+use Rattle.std.specs.Prelude.{◌≡◌, ◌≢◌, ℕ, ◌+◌, ◌<◌, true, length, max, List, [], ◌∷◌, ◌++◌, ◌⊎◌, Option, Some, None, Ok, Err, codes, decimal, replicate}
 use Rattle.std.specs.Io.KnownBytes.{Appends}
 use Rattle.std.specs.Str.Lines.{lines}
 use Rattle.ids.specs.Limits.{Shaped, IsShape}
@@ -15,6 +15,8 @@ use Rattle.model.specs.View.{NodeView}
 use Rattle.image.specs.Images.{image_of}
 use Rattle.lines.specs.declared.line.Line.{Line}
 use Rattle.lines.specs.declared.line.Line.TheVariants as line
+use Rattle.std.specs.declared.io.ErrorKind.TheVariants as kind
+use Rattle.commands.specs.declared.reading.Unread.{Unread}
 use Rattle.commands.specs.declared.script.Reply.{Reply}
 use Rattle.commands.specs.declared.script.Reply.TheVariants as reply
 use Rattle.commands.specs.declared.script.State.{State}
@@ -25,7 +27,7 @@ use Rattle.world.specs.Shows.{ShowsNode, summary_at}
 use Rattle.world.specs.Spaces.{KeepsAfter, step_met}
 use Rattle.lines.specs.Text.{outcome_text, refused_text, report_text, summary_text}
 use Rattle.node.specs.Keeping.{Rings, no_rings}
-use Rattle.node.specs.declared.summary.Summary.{Summary}
+use Rattle.model.specs.declared.summary.Summary.{Summary}
 
 -- the space of a script: not asked for yet, refused because memory ran out, or there
 pub data Held : Type 0 where
@@ -201,18 +203,9 @@ pub record PrintsReplies (script : List ℕ) (status : ℕ) (old new : Option (L
   pub worst : status ≡ status_of replies
   pub appended : Appends old new (printed 1 replies)
 
--- the program printed why it couldn't read the script
-abbrev pub PrintsNoScript : ℕ → Option (List ℕ) → Option (List ℕ) → Type 0
-PrintsNoScript status old new =
-    ((status ≡ 2) × Appends old new (codes "file refused" ++ (10 ∷ [])))
-    ⊎ ((status ≡ 1) × Appends old new (refused_text Memory ++ (10 ∷ [])))
-
--- What a run of a script prints, and its exit status. If the contents of the reader are known, the
--- script is all of them.
-pub data RunsScript (remaining : Option (List ℕ)) (status : ℕ) (old new : Option (List ℕ)) : Type 0
-  where
-    -- the replies to the lines
-    replied : (script : List ℕ) → IfSome remaining (λ bytes. script ≡ bytes)
-        → PrintsReplies script status old new → RunsScript remaining status old new
-    -- that the script can't be read
-    unread : PrintsNoScript status old new → RunsScript remaining status old new
+-- the program printed why it couldn't read a text
+pub record PrintsUnread (why : Unread) (status : ℕ) (old new : Option (List ℕ)) : Type 0 where
+  pub memory : why.kind ≡ kind.OutOfMemory
+      → (status ≡ 1) × Appends old new (refused_text Memory ++ (10 ∷ []))
+  pub other : why.kind ≢ kind.OutOfMemory
+      → (status ≡ 2) × Appends old new (codes "file refused" ++ (10 ∷ []))

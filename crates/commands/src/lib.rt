@@ -3,10 +3,15 @@
 //! for every writer whose contents are known.
 #![tactic(auto)]
 
-mod first_line;
 mod frames;
 mod freed;
+mod output;
+mod reading;
 mod script;
+mod splitting;
 
 pub use frames::decode;
-pub use script::{print_unread, sim};
+pub use output::{Lost, print_refusal, print_unread};
+pub use reading::{Unread, read_file, read_text};
+pub use script::sim;
+pub use splitting::next_line;

@@ -1,6 +1,6 @@
 //! Runs a script over a space of nodes. For each line the space takes a step, and the reply is
 //! printed; a line outside the grammar is the last. The status is that of the worst reply.
-ghost use Rattle.std.specs.Prelude.{◌≡◌, ◌≤◌, ◌⊎◌, ◌++◌, ◌∷◌, [], ℕ, List, Some, IfOk, IfErr, IfSome, OnSome, IsTrue, ◌≢◌};
+ghost use Rattle.std.specs.Prelude.{◌≡◌, ◌≤◌, ℕ, List, Some, IfOk, OnOk, IfErr, IsTrue, ◌≢◌, string_bytes};
 ghost use Rattle.std.specs.Io.KnownBytes.{Appends};
 ghost use Rattle.ids.specs.declared.refusal.Refusal.TheVariants.{Memory, ImageTooLarge};
 ghost use Rattle.model.specs.Steps.{is_own};
@@ -14,25 +14,28 @@ ghost use Rattle.world.specs.Shows.{summary_at};
 ghost use Rattle.world.specs.Spaces.{KeepsAfter, ShowsSpace, outcome_by, step_met};
 ghost use Rattle.commands.specs.Freed.{KeepsSums, freed_with};
 ghost use Rattle.lines.specs.Grammar.{line_of, words_of};
-ghost use Rattle.commands.specs.Script.{MayBeTooLarge, Moves, PrintsNoScript, PrintsReplies};
-ghost use Rattle.commands.specs.Script.{RunsScript, TakesLine, TakesReport, TakesSpace};
+ghost use Rattle.commands.specs.Script.{MayBeTooLarge, Moves, PrintsReplies};
+ghost use Rattle.commands.specs.Script.{PrintsUnread, TakesLine, TakesReport, TakesSpace};
 ghost use Rattle.commands.specs.Script.{TakesState, TakesStep, none_kept, reply_text, status_after};
 ghost use Rattle.commands.specs.Script.{PrintsReply};
 ghost use Rattle.commands.specs.declared.script.Reply.TheVariants as reply;
 ghost use Rattle.commands.specs.declared.script.State.TheVariants as state;
 ghost use Rattle.lines.specs.declared.line.Line.TheVariants as line;
-ghost use Rattle.lines.specs.Text.{refused_text};
 
-use crate::first_line::first_line;
 use crate::freed::{Freed, freed_by, sweeper};
+use crate::output::{
+    Lost, flush, print_answer, print_no_command, print_refusal, print_step, print_unread,
+    put_report, put_summary,
+};
+use crate::reading::Unread;
+use crate::splitting::first_line;
 use ids::{Refusal, Shape};
-use lines::{Line, Printer, SummaryText, print_outcome, print_report};
+use lines::{Line, Printer};
 use model::{Answer, Event, Outcome, Step};
 use node::Summary;
 use std::alloc::Global;
-use std::io;
-use std::io::{ErrorKind, Read, Write};
-use words::{DONE, REFUSED, UNREADABLE};
+use std::io::Write;
+use words::{DONE, UNREADABLE};
 use world::Sim;
 
 /// What a script runs on.
@@ -133,62 +136,55 @@ enum Reply {
 }
 
 /// Runs a script in one thread, prints the replies to its lines, and returns the exit status. The
-/// status is 0 if no line was refused; 1 if a line was refused, memory ran out or the output
-/// failed; and 2 if the script can't be read or a line is outside the grammar. The script is read
-/// to its end before its first line is run. A line outside the grammar is the last one that is
-/// looked at.
+/// status is 0 if no line was refused; 1 if a line was refused or memory ran out; and 2 if the
+/// script couldn't be read or a line is outside the grammar. A line outside the grammar is the last
+/// one that is looked at. It fails if the output does.
 ///
 /// The outcome of a step is written in one call, any other line in several, so a writer whose calls
 /// are expensive should be buffered. The output is flushed at the end. If the output fails, some of
 /// the text may have been written.
-pub fn sim<R: Read + Drop, W: Write>(alloc: Global, script: R, out: &mut W) -> u8
-    ensures status { RunsScript (R.remaining script) result
-        (W.contents out.old) (W.contents out.new) ⊎ (result ≡ 1) }
-    ensures small { result ≤ 2 }
+pub fn sim<W: Write>(
+    alloc: Global,
+    script: &Result<String, Unread>,
+    out: &mut W,
+) -> Result<u8, Lost>
+    ensures replies { IfOk script.now (λ text. IfOk result (λ status.
+        PrintsReplies (string_bytes text) status (W.contents out.old) (W.contents out.new))) }
+    ensures unread { IfErr script.now (λ why. IfOk result (λ status.
+        PrintsUnread why status (W.contents out.old) (W.contents out.new))) }
+    ensures small { IfOk result (λ status. status ≤ 2) }
 {
-    match run::<Sim, R, W>(alloc, script, out) {
-        Some(status) => status,
-        None => REFUSED,
+    match script {
+        Ok(text) => run::<Sim, W>(alloc, text.as_str(), out),
+        Err(unread) => tell_unread(out, unread),
     }
 }
 
-/// Runs a script, and returns the status; `None` if the output failed. An error of the output is
-/// large and nobody reports its cause, so it isn't returned.
-fn run<S: Space, R: Read + Drop, W: Write>(alloc: Global, script: R, out: &mut W) -> Option<u8>
-    ensures { IfSome result (λ status.
-        RunsScript (R.remaining script) status (W.contents out.old) (W.contents out.new)) }
+/// Runs a script, flushes the output, and returns the status.
+fn run<S: Space, W: Write>(alloc: Global, script: &str, out: &mut W) -> Result<u8, Lost>
+    ensures replies { IfOk result (λ status.
+        PrintsReplies script.now status (W.contents out.old) (W.contents out.new)) }
+    ensures small { IfOk result (λ status. status ≤ 2) }
 {
-    let status = match io::read_to_string(alloc, script) {
-        Ok(text) => run_lines::<S, W>(alloc, text.as_str(), out)?,
-        Err(error) => print_unread(out, error.kind()).ok()?,
-    };
-    out.flush().ok()?;
-    Some(status)
+    let status = run_lines::<S, W>(alloc, script, out)?;
+    flush(out)?;
+    Ok(status)
 }
 
-/// Prints that a script or another file can't be read, after an error of this kind. It returns the
-/// status: 1 if memory ran out, else 2. It fails if the output does.
-pub fn print_unread<W: Write>(out: &mut W, kind: ErrorKind) -> io::Result<u8>
-    ensures printed { IfOk result (λ status.
-        PrintsNoScript status (W.contents out.old) (W.contents out.new)) }
-    ensures memory { kind ≡ ErrorKind.OutOfMemory → IfOk result (λ status. status ≡ 1) }
-    ensures other { kind ≢ ErrorKind.OutOfMemory → IfOk result (λ status. status ≡ 2) }
+/// Prints why a script couldn't be read, flushes the output, and returns the status.
+fn tell_unread<W: Write>(out: &mut W, unread: &Unread) -> Result<u8, Lost>
+    ensures unread { IfOk result (λ status.
+        PrintsUnread unread.now status (W.contents out.old) (W.contents out.new)) }
+    ensures small { IfOk result (λ status. status ≤ 2) }
 {
-    match kind {
-        ErrorKind::OutOfMemory => {
-            writeln!(out, "refused {}", Refusal::Memory)?;
-            Ok(REFUSED)
-        }
-        _ => {
-            writeln!(out, "file refused")?;
-            Ok(UNREADABLE)
-        }
-    }
+    let status = print_unread(out, unread)?;
+    flush(out)?;
+    Ok(status)
 }
 
-/// Runs a script's lines, and returns the status; `None` if the output failed.
-fn run_lines<S: Space, W: Write>(alloc: Global, script: &str, out: &mut W) -> Option<u8>
-    ensures { IfSome result (λ status.
+/// Runs a script's lines, and returns the status. It fails if the output does.
+fn run_lines<S: Space, W: Write>(alloc: Global, script: &str, out: &mut W) -> Result<u8, Lost>
+    ensures { IfOk result (λ status.
         PrintsReplies script.now status (W.contents out.old) (W.contents out.new)) }
 {
     let mut state = State::<S>::Unopened;
@@ -212,14 +208,14 @@ fn run_lines<S: Space, W: Write>(alloc: Global, script: &str, out: &mut W) -> Op
         )?;
         status = status.max(reached);
         if reached == UNREADABLE {
-            return Some(status);
+            return Ok(status);
         }
     }
-    Some(status)
+    Ok(status)
 }
 
-/// Does what the line of this number says, prints the reply, and returns the line's status; `None`
-/// if the output failed. The line is read into a value that all lines share, because a new one
+/// Does what the line of this number says, prints the reply, and returns the line's status. It
+/// fails if the output does. The line is read into a value that all lines share, because a new one
 /// would be zeroed first.
 fn run_line<S: Space, W: Write>(
     alloc: Global,
@@ -229,8 +225,8 @@ fn run_line<S: Space, W: Write>(
     number: usize,
     text: &str,
     out: &mut W,
-) -> Option<u8>
-    ensures { IfSome result (PrintsReply S.shows S.keeps
+) -> Result<u8, Lost>
+    ensures { IfOk result (PrintsReply S.shows S.keeps
         (λ h r later. TakesLine h (line_of (words_of text.now)) r later) number
         state.old state.new (W.contents out.old) (W.contents out.new)) }
 {
@@ -251,9 +247,9 @@ fn run_step<S: Space, W: Write>(
     number: usize,
     step: &Step,
     out: &mut W,
-) -> Option<u8>
+) -> Result<u8, Lost>
     requires { IsTrue (is_own_step step.now) }
-    ensures { IfSome result (PrintsReply S.shows S.keeps
+    ensures { IfOk result (PrintsReply S.shows S.keeps
         (λ h r later. TakesStep h step.now r later) number
         state.old state.new (W.contents out.old) (W.contents out.new)) }
 {
@@ -276,9 +272,9 @@ fn run_event<S: Space, W: Write>(
     node: u8,
     event: &Event,
     out: &mut W,
-) -> Option<u8>
+) -> Result<u8, Lost>
     requires { IsTrue (is_own event.now) }
-    ensures { (number : ℕ) → IfSome result (PrintsReply S.shows S.keeps
+    ensures { (number : ℕ) → IfOk result (PrintsReply S.shows S.keeps
         (λ h r later. TakesStep h (steps.Act node event.now) r later) number
         (state.Open space.old freed.old) (state.Open space.new freed.new)
         (W.contents out.old) (W.contents out.new)) }
@@ -287,10 +283,7 @@ fn run_event<S: Space, W: Write>(
     match &space.act(node, *event) {
         Ok(answer) => {
             note(space, freed, swept, freed_by(answer));
-            match printer.print(out, answer) {
-                Ok(()) => Some(DONE),
-                Err(_) => None,
-            }
+            print_answer(printer, out, answer)
         }
         Err(refusal) => print_refusal(out, *refusal),
     }
@@ -304,19 +297,16 @@ fn run_move<S: Space, W: Write>(
     freed: &mut Freed,
     step: &Step,
     out: &mut W,
-) -> Option<u8>
+) -> Result<u8, Lost>
     requires own { IsTrue (is_own_step step.now) }
     requires other { (node : ℕ) (event : Event) → step.now ≢ steps.Act node event }
-    ensures { (number : ℕ) → IfSome result (PrintsReply S.shows S.keeps
+    ensures { (number : ℕ) → IfOk result (PrintsReply S.shows S.keeps
         (λ h r later. TakesStep h step.now r later) number
         (state.Open space.old freed.old) (state.Open space.new freed.new)
         (W.contents out.old) (W.contents out.new)) }
 {
     match &space.step(*step) {
-        Ok(outcome) => match print_outcome(out, outcome) {
-            Ok(()) => Some(DONE),
-            Err(_) => None,
-        },
+        Ok(outcome) => print_step(out, outcome),
         Err(refusal) => print_refusal(out, *refusal),
     }
 }
@@ -330,9 +320,9 @@ fn run_other<S: Space, W: Write>(
     number: usize,
     said: &Line,
     out: &mut W,
-) -> Option<u8>
+) -> Result<u8, Lost>
     requires { (step : Step) → said.now ≢ line.Step step }
-    ensures { IfSome result (PrintsReply S.shows S.keeps
+    ensures { IfOk result (PrintsReply S.shows S.keeps
         (λ h r later. TakesLine h (Some said.now) r later) number
         state.old state.new (W.contents out.old) (W.contents out.new)) }
 {
@@ -350,46 +340,22 @@ fn run_other<S: Space, W: Write>(
     print_reply(out, number, &reply)
 }
 
-/// Prints that a line was refused, and returns the status; `None` if the output failed. (Not
-/// inlined: the room for an error of the output would be zeroed in the caller for each step.)
-#[inline(never)]
-fn print_refusal<W: Write>(out: &mut W, refusal: Refusal) -> Option<u8>
-    ensures text { OnSome result
-        (Appends (W.contents out.old) (W.contents out.new) (refused_text refusal ++ 10 ∷ [])) }
-    ensures status { IfSome result (λ status. status ≡ 1) }
-{
-    writeln!(out, "refused {refusal}").ok()?;
-    Some(REFUSED)
-}
-
-/// Prints that the line of this number is outside the grammar, and returns the status; `None` if
-/// the output failed.
-#[cold]
-fn print_no_command<W: Write>(out: &mut W, number: usize) -> Option<u8>
-    ensures text { OnSome result
-        (Appends (W.contents out.old) (W.contents out.new) (reply_text number reply.NoCommand)) }
-    ensures status { IfSome result (λ status. status ≡ 2) }
-{
-    writeln!(out, "line {number}: not a command").ok()?;
-    Some(UNREADABLE)
-}
-
-/// Prints the reply to the line of this number, and returns the line's status; `None` if the output
-/// failed.
-fn print_reply<W: Write>(out: &mut W, number: usize, reply: &Reply) -> Option<u8>
-    ensures text { OnSome result
+/// Prints the reply to the line of this number, and returns the line's status. It fails if the
+/// output does.
+fn print_reply<W: Write>(out: &mut W, number: usize, reply: &Reply) -> Result<u8, Lost>
+    ensures text { OnOk result
         (Appends (W.contents out.old) (W.contents out.new) (reply_text number reply.now)) }
-    ensures status { IfSome result (λ status. status ≡ status_after reply.now) }
+    ensures status { IfOk result (λ status. status ≡ status_after reply.now) }
 {
     match reply {
         Reply::Nothing => {}
-        Reply::Outcome(outcome) => print_outcome(out, outcome).ok()?,
-        Reply::Summary(summary) => writeln!(out, "{}", SummaryText(*summary)).ok()?,
-        Reply::Report(sums) => print_report(out, sums).ok()?,
+        Reply::Outcome(outcome) => return print_step(out, outcome),
+        Reply::Summary(summary) => put_summary(out, *summary)?,
+        Reply::Report(sums) => put_report(out, sums)?,
         Reply::Refused(refusal) => return print_refusal(out, *refusal),
         Reply::NoCommand => return print_no_command(out, number),
     }
-    Some(DONE)
+    Ok(DONE)
 }
 
 /// Creates the space of these sizes, if no line asked for one before and they are within the

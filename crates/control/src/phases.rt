@@ -181,7 +181,9 @@ impl Phases {
         Ok(())
     }
 
-    fn is_swept_everywhere(&self) -> bool
+    /// Whether this node has swept its last cycle, and, at node 0, each other node has reported it
+    /// as swept. It takes time linear in the number of nodes.
+    pub fn is_swept_everywhere(&self) -> bool
         ensures { result ≡ is_swept_everywhere self.now }
     {
         self.swept == self.cycle && others_reported(&self.reports, self.cycle)

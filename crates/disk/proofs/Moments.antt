@@ -33,19 +33,19 @@ module _ {D : Type 0} (moment : D → ℕ) (left_since : D → ℕ → Areas →
   }
 
   -- an area is written, when before a crash left what a read gives
-  pub wrote : (old new : D) (s : Areas) (before after : Areas → Type 0) (area : Area) (n : ℕ) →
+  pub wrote : (old new : D) (s : Areas) (before after : Areas → Type 0) (area : Area) (at n : ℕ) →
       Only s before → ((c : Areas) → left_since old (moment old) c → before c) →
-      Follows (Changes area (Torn 0 n)) before after →
+      Follows (Changes area (Torn at n)) before after →
       Elapses (moment old) (moment new) (left_since old) (left_since new) after →
-      LeavesOnly moment left_since old new (Changes area (Torn 0 n) s)
-  wrote old new s before after area n only here follows time =
-      let P : Areas → Type 0 = λ c. Changes area (Torn 0 n) s c in
-      let nothing : P s = unchanged area (Torn 0 n) s (torn_same 0 n (part area s)) in
+      LeavesOnly moment left_since old new (Changes area (Torn at n) s)
+  wrote old new s before after area at n only here follows time =
+      let P : Areas → Type 0 = λ c. Changes area (Torn at n) s c in
+      let nothing : P s = unchanged area (Torn at n) s (torn_same at n (part area s)) in
       goes_on old old new P after
       (started old P (λ c left. subst P (sym (only c (here c left))) nothing)) time
       (λ c left.
       let from = follows c left in
-      subst (λ (x : Areas). Changes area (Torn 0 n) x c) (only from.0 from.1) from.2)
+      subst (λ (x : Areas). Changes area (Torn at n) x c) (only from.0 from.1) from.2)
 
   -- what satisfies P satisfies Q
   pub weaker : (old new : D) (P Q : Areas → Type 0) → LeavesOnly moment left_since old new P →

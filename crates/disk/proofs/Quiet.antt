@@ -21,6 +21,15 @@ module _ {D : Type 0} (seen : D → Areas) (may_leave : D → Areas → Type 0)
         (started moment left_since old (may_leave old) here) time crash;
   }
 
+  -- no call
+  pub still : (old : D) → ((c : Areas) → left_since old (moment old) c → may_leave old c) →
+      Unmoved seen may_leave moment left_since old old
+  still old here = record {
+    same = refl;
+    crash = λ c left. left;
+    any_moment = started moment left_since old (may_leave old) here;
+  }
+
   -- one after another
   pub both_unmoved : (old mid new : D) → Unmoved seen may_leave moment left_since old mid →
       Unmoved seen may_leave moment left_since mid new →
@@ -79,6 +88,10 @@ handed_cause is cause = record {
   failed = λ same. cause.failed (cc);
   fine = λ none. cause.fine (λ same. none (cc));
 }
+
+pub handed_err : {T U E : Type 0} {e x : E} {r : Result U E} → r ≡ Err e → IsErrOf r x →
+    IsErrOf {T = T} (Err e) x
+handed_err is from = cc (is, from)
 
 -- what succeeded isn't refused, and `BadImage` is no failure of the disk
 pub ok_no_err : {T E : Type 0} {x : T} {e : E} → Ok x ≡ Err e → ⊥

@@ -167,72 +167,95 @@ follows_set step s mid s' noted set change c left = ⊎_elim
     ))
     (λ earlier. noted c earlier) (set c left)
 
--- of n bytes to be written at this offset, `bytes` were, and the area then holds `next`
+-- of n bytes to be written at this offset, `bytes` were
 pub record Written (area : Area) (at n : ℕ) (d d' : Areas) : Type 0 where
   pub bytes : List ℕ
-  pub next : List ℕ
   pub within : at ≤ length (part area d)
   pub fits : length bytes ≤ n
-  pub made : next ≡ pasted at bytes (part area d)
-  pub held : d' ≡ with_part area next d
+  pub held : d' ≡ with_part area (pasted at bytes (part area d)) d
 
 -- what such a write does to the areas
 pub changed_by_write : (area : Area) (at n : ℕ) (d d' : Areas) → Written area at n d d' →
     Changes area (Torn at n) d d'
 changed_by_write area at n d d' w =
-    let P : List ℕ → Type 0 = λ l. Torn at n (part area d) l in
-    let torn = subst P (sym w.made) (torn_pasted at n w.bytes (part area d) w.within w.fits) in
     subst (λ (x : Areas). Changes area (Torn at n) d x) (sym w.held)
-    (changed area (Torn at n) d w.next torn)
+    (changed area (Torn at n) d (pasted at w.bytes (part area d))
+    (torn_pasted at n w.bytes (part area d) w.within w.fits))
 
 -- and when all of them were written
-pub changed_to : (area : Area) (at : ℕ) (bytes next : List ℕ) (d d' : Areas) →
-    next ≡ pasted at bytes (part area d) → d' ≡ with_part area next d →
-    Changes area (Holds at bytes) d d'
-changed_to area at bytes next d d' made held =
+pub changed_to : (area : Area) (at : ℕ) (bytes : List ℕ) (d d' : Areas) →
+    d' ≡ with_part area (pasted at bytes (part area d)) d → Changes area (Holds at bytes) d d'
+changed_to area at bytes d d' held =
     subst (λ (x : Areas). Changes area (Holds at bytes) d x) (sym held)
-    (changed area (Holds at bytes) d next made)
+    (changed area (Holds at bytes) d (pasted at bytes (part area d)) refl)
 
--- a state that says the same
-same_leaves : (s s' : State) → s'.held ≡ s.held → synced s' ≡ synced s →
-    s'.ranges.items ≡ s.ranges.items → (c : Areas) → leaves s' c → leaves s c
+-- room was made before
+pub written_from : (area : Area) (at : ℕ) (bytes : List ℕ) (d mid d' : Areas) → mid ≡ d →
+    d' ≡ with_part area (pasted at bytes (part area mid)) mid →
+    d' ≡ with_part area (pasted at bytes (part area d)) d
+written_from area at bytes d mid d' same held =
+    subst (λ (x : Areas). d' ≡ with_part area (pasted at bytes (part area x)) x) same held
+
+-- two states that say the same
+pub record Alike (s s' : State) : Type 0 where
+  pub held : areas_of s'.held ≡ areas_of s.held
+  pub synced : synced s' ≡ synced s
+  pub ranges : s'.ranges.items ≡ s.ranges.items
+
+pub same_alike : (s s' : State) → s' ≡ s → Alike s s'
+same_alike s s' same = record {
+  held = ap (λ (x : State). areas_of x.held) same;
+  synced = ap (λ (x : State). synced x) same;
+  ranges = ap (λ (x : State). x.ranges.items) same;
+}
+
+pub alike_after : (s mid s' : State) → Alike s mid → s' ≡ mid → Alike s s'
+alike_after s mid s' alike same = subst (Alike s) (sym same) alike
+
+alike_back : (s s' : State) → Alike s s' → Alike s' s
+alike_back s s' alike =
+    record { held = sym alike.held; synced = sym alike.synced; ranges = sym alike.ranges }
+
+alike_left : (s s' : State) → Alike s s' → (c : Areas) → leaves s' c → leaves s c
 unfolding leaves
-same_leaves s s' held same ranges c (inl now) = inl (now ∙ ap areas_of held)
-same_leaves s s' held same ranges c (inr torn) = inr (risk_same s s' same ranges c torn)
+alike_left s s' alike c (inl now) = inl (now ∙ alike.held)
+alike_left s s' alike c (inr torn) = inr (risk_same s s' alike.synced alike.ranges c torn)
 
--- there was no memory to record a range
-pub unnoted : (s s' : State) → s'.held ≡ s.held → synced s' ≡ synced s →
-    s'.ranges.items ≡ s.ranges.items → (c : Areas) → leaves s' c ↔ leaves s c
-unnoted s s' held same ranges c = (
-  same_leaves s s' held same ranges c,
-  same_leaves s' s (sym held) (sym same) (sym ranges) c,
+-- so a crash may leave the same
+pub alike_leaves : (s s' : State) → Alike s s' → (c : Areas) → leaves s' c ↔ leaves s c
+alike_leaves s s' alike c =
+    (alike_left s s' alike c, alike_left s' s (alike_back s s' alike) c)
+
+-- also after a change that leaves the outcomes of a crash as they were
+pub alike_both : (s mid : State) (new : Areas → Type 0) → Alike s mid → (c : Areas) →
+    new c ↔ leaves mid c → new c ↔ leaves s c
+alike_both s mid new alike c same = (
+  λ now. (alike_leaves s mid alike c).0 (same.0 now),
+  λ was. same.1 ((alike_leaves s mid alike c).1 was),
 )
 
-pub follows_same : (area : Area) (at n : ℕ) (s s' : State) → s'.held ≡ s.held →
-    synced s' ≡ synced s → s'.ranges.items ≡ s.ranges.items →
+pub follows_alike : (area : Area) (at n : ℕ) (s s' : State) → Alike s s' →
     Follows (Changes area (Torn at n)) (leaves s) (leaves s')
-follows_same area at n s s' held same ranges c left = (
-  c,
-  same_leaves s s' held same ranges c left,
-  unchanged area (Torn at n) c (torn_same at n (part area c)),
-)
+follows_alike area at n s s' alike c left =
+    let none = unchanged area (Torn at n) c (torn_same at n (part area c)) in
+    (c, (alike_leaves s s' alike c).0 left, none)
+
+-- a step from one of them is one from the other
+pub follows_from : (step : Areas → Areas → Type 0) (s s' : State) (new : Areas → Type 0) →
+    Alike s s' → Follows step (leaves s') new → Follows step (leaves s) new
+follows_from step s s' new alike follows c left =
+    let from = follows c left in (from.0, (alike_leaves s s' alike from.0).0 from.1, from.2)
+
+pub reaches_from : (step : Areas → Areas → Type 0) (s s' : State) (new : Areas → Type 0) →
+    Alike s s' → Reaches step (leaves s') new → Reaches step (leaves s) new
+reaches_from step s s' new alike reaches d c left =
+    reaches d c ((alike_leaves s s' alike d).1 left)
 
 -- nothing was written
-pub changed_none : (area : Area) (at n : ℕ) (held held' : Contents) → held' ≡ held →
-    Changes area (Torn at n) (areas_of held) (areas_of held')
-changed_none area at n held held' same =
-    let d = areas_of held in
-    subst (λ (x : Contents). Changes area (Torn at n) d (areas_of x)) (sym same)
+pub changed_none : (area : Area) (at n : ℕ) (d d' : Areas) → d' ≡ d → Changes area (Torn at n) d d'
+changed_none area at n d d' same =
+    subst (λ (x : Areas). Changes area (Torn at n) d x) (sym same)
     (unchanged area (Torn at n) d (torn_same at n (part area d)))
-
--- the state stays the same
-pub follows_still : (area : Area) (at n : ℕ) (s s' : State) → s' ≡ s →
-    Follows (Changes area (Torn at n)) (leaves s) (leaves s')
-follows_still area at n s s' same c left = (
-  c,
-  subst (λ (x : State). leaves x c) same left,
-  unchanged area (Torn at n) c (torn_same at n (part area c)),
-)
 
 -- everything is synced
 pub only_synced : (s : State) (d : Areas) → areas_of s.held ≡ d → synced s ≡ d →

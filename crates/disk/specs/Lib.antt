@@ -1,6 +1,9 @@
 pub mod Areas
 pub mod Crashes
 pub mod Record
+pub mod Undo
 pub mod Memory
 pub mod Plan
 pub mod Shelf
+pub mod Journal
+pub mod Tails

@@ -11,16 +11,16 @@ blank = record { select = []; a = []; b = [] }
 
 -- what a read gives
 abbrev pub held_by : MemoryDisk → Areas
-held_by d = areas_of d.state.held
+held_by d = areas_of d.account.state.held
 
 -- what a crash now may leave
 abbrev pub left_by : MemoryDisk → Areas → Type 0
-left_by d = leaves d.state
+left_by d = leaves d.account.state
 
 -- what a crash now leaves if each byte that was written since the last sync became this one
 abbrev pub filled_by_crash : ℕ → MemoryDisk → Areas
-filled_by_crash fill d = filled fill d.state
+filled_by_crash fill d = filled fill d.account.state
 
 -- no call of it has failed, and none will
 abbrev pub IsFaultless : MemoryDisk → Type 0
-IsFaultless d = (d.plan ≡ Never) × (d.failures ≡ 0)
+IsFaultless d = (d.plan ≡ Never) × (d.account.failures ≡ 0)

@@ -1,12 +1,12 @@
 -- What the record of a disk in memory says: its current state, and the states of the past moments.
-use Rattle.std.specs.Prelude.{◌≡◌, ◌⊎◌, ℕ, ◌+◌, ◌≤◌, List, [], ◌∷◌, length, replicate, Vec, Option}
-use Rattle.std.specs.Prelude.{Some, None, if◌then◌else◌, refl, ⊤}
+use Rattle.std.specs.Prelude.{◌≡◌, ◌⊎◌, ℕ, ◌+◌, ◌≤◌, List, [], ◌∷◌, length, replicate, vec_capacity}
+use Rattle.std.specs.Prelude.{if◌then◌else◌, refl, ⊤}
 use Rattle.std.proofs.Common.{inl, inr, arith}
 use Rattle.std.specs.Prelude.{leb}
-use Rattle.std.specs.declared.alloc.Global.{Global}
 use Rattle.disk.specs.Areas.{Areas, NoLonger, part, with_part, Changes, Torn, pasted}
-use Rattle.disk.specs.Crashes.{Reaches}
+use Rattle.disk.specs.Crashes.{Elapses, Reaches}
 use Rattle.disk.specs.declared.device.Area.{Area}
+use Rattle.disk.specs.declared.device.Area.TheVariants.{Select, A, B}
 use Rattle.disk.specs.declared.state.Contents.{Contents}
 use Rattle.disk.specs.declared.state.Range.{Range}
 use Rattle.disk.specs.declared.state.State.{State}
@@ -16,18 +16,15 @@ use Rattle.disk.specs.declared.state.Past.{Past, Start, Then'}
 abbrev pub areas_of : Contents → Areas
 areas_of c = record { select = c.select.items; a = c.a.items; b = c.b.items }
 
--- what an area held at the last sync: it is kept if the area was written since
-abbrev pub kept_or : Option (Vec ℕ Global) → Vec ℕ Global → List ℕ
-kept_or None held = held.items
-kept_or (Some kept) held = kept.items
+-- how many bytes an area may hold before it needs more memory
+abbrev pub room : Area → Contents → ℕ
+room Select c = vec_capacity c.select
+room A c = vec_capacity c.a
+room B c = vec_capacity c.b
 
 -- what the disk held at the last sync
 abbrev pub synced : State → Areas
-synced s = record {
-  select = kept_or s.kept_select s.held.select;
-  a = kept_or s.kept_a s.held.a;
-  b = kept_or s.kept_b s.held.b;
-}
+synced s = areas_of s.settled.value
 
 -- what may result when a range is written over an outcome that satisfies P, or over what was held
 -- before: the range may hold any bytes
@@ -77,6 +74,11 @@ left_since past s t c = left_before past t c ⊎ leaves s c
 abbrev pub IsThen : Past → State → Past → Type 0
 IsThen past s Start = ⊥
 IsThen past s (Then' m before state) = (before ≡ past) × (state.value ≡ s)
+
+-- one more moment has passed, whatever the state is after it
+abbrev pub HasPassed : Past → State → Past → Type 0
+HasPassed past s later = (s' : State) →
+    Elapses (moments past) (moments later) (left_since past s) (left_since later s') (leaves s')
 
 -- what a crash leaves if each byte of a range became this one
 abbrev pub filled_in : ℕ → Range → Areas → Areas

@@ -3,18 +3,19 @@
 //!
 //! A read compares the file with the copy, including its end; a difference is a failure. A write is
 //! recorded before the file is touched. Short writes are continued, and interrupted calls repeated.
-//! If a write fails, its range is read back and accepted as it is found; the next sync first
-//! compares all files, and fails while they differ. After a failed sync, the next one first
-//! rewrites each range that was written since the last successful one, because the system may have
-//! dropped what it couldn't write and would then report success. The file `select` is locked while
-//! the disk exists.
-ghost use Rattle.std.specs.Prelude.{◌≡◌, ◌⊎◌, ◌≤◌, length, IfErr, IfOk, OnOk};
+//! A sync syncs the files that were written since the last one. If a write fails, its range is read
+//! back and accepted as it is found; the next sync first compares all files, and fails while they
+//! differ. After a failed sync, the next one first rewrites each range that was written since the
+//! last successful one, because the system may have dropped what it couldn't write and would then
+//! report success. The file `select` is locked while the disk exists.
+ghost use Rattle.std.specs.Prelude.{◌≡◌, ◌⊎◌, ◌+◌, ◌≤◌, length, IfErr, IfOk, OnOk};
 ghost use Rattle.disk.specs.Areas.{Areas, Changes, Torn, part};
-ghost use Rattle.disk.specs.Memory.{blank, held_by};
+ghost use Rattle.disk.specs.Memory.{blank};
 ghost use Rattle.disk.specs.Record.{areas_of, at_risk, leaves, moments, left_since, reads_left};
-ghost use Rattle.disk.specs.Record.{counts_now, IsUnsynced, Loaded, only_now};
+ghost use Rattle.disk.specs.Record.{counts_now, IsUnsynced, Loaded, only_now, room};
 
-use crate::state::Range;
+use crate::account::Account;
+use crate::state::{Contents, Range};
 use crate::{Area, Disk, DiskFault, MemoryDisk};
 use ids::Refusal;
 use std::alloc::{AllocError, Global};
@@ -38,8 +39,8 @@ pub struct FileDisk<F = File> {
     select: F,
     a: F,
     b: F,
-    memory: MemoryDisk,
-    // A write failed, so a file may hold other bytes than `memory` does.
+    account: Account,
+    // A write failed, so a file may hold other bytes than the account says.
     doubted: bool,
     // A sync failed, so the system may have dropped what it hadn't written.
     stale: bool,
@@ -53,7 +54,7 @@ impl FileDisk {
     /// or if another `FileDisk` has the folder open. Fails with `Memory` if there isn't enough
     /// memory for what the files hold.
     pub fn at<R: Files<File = File>>(rt: &R, alloc: Global, folder: &str) -> Result<Self, Refusal>
-        ensures unsynced { IfOk result (λ d. IsUnsynced d.memory.state) }
+        ensures unsynced { IfOk result (λ d. IsUnsynced d.account.state) }
         ensures refused { IfErr result (λ e. (e ≡ Refusal.Disk) ⊎ (e ≡ Refusal.Memory)) }
     {
         match open_folder(rt, alloc, Path::new(folder)) {
@@ -70,19 +71,19 @@ fn open_folder<R: Files<File = File>>(
     alloc: Global,
     folder: Path<'_>,
 ) -> io::Result<FileDisk>
-    ensures { IfOk result (λ d. IsUnsynced d.memory.state) }
+    ensures { IfOk result (λ d. IsUnsynced d.account.state) }
 {
     make_folder(rt, alloc, folder)?;
     let (mut select, mut a, mut b) = open_files(rt, alloc, folder)?;
     sync_folder(rt, folder)?;
-    let mut memory = MemoryDisk::new(alloc);
-    load_all(alloc, &mut memory, &mut select, &mut a, &mut b)?;
+    let mut account = Account::new(alloc, Contents::new(alloc));
+    load_all(&mut account, &mut select, &mut a, &mut b)?;
     // The files have just been read, so nothing needs a comparison or a second write.
     Ok(FileDisk {
         select,
         a,
         b,
-        memory,
+        account,
         doubted: false,
         stale: false,
     })
@@ -218,33 +219,27 @@ fn open_to_sync<R: Files<File = File>>(rt: &R, folder: Path<'_>) -> io::Result<F
 }
 
 /// Reads the three files whole into an empty disk. Their content counts as unsynced.
-fn load_all(
-    alloc: Global,
-    memory: &mut MemoryDisk,
-    select: &mut File,
-    a: &mut File,
-    b: &mut File,
-) -> io::Result<()>
-    requires { held_by memory.old ≡ blank }
+fn load_all(account: &mut Account, select: &mut File, a: &mut File, b: &mut File) -> io::Result<()>
+    requires { areas_of account.old.state.held ≡ blank }
 
-    ensures { OnOk result (IsUnsynced memory.new.state) }
+    ensures { OnOk result (IsUnsynced account.new.state) }
 {
-    load(alloc, memory, Area::Select, select)?;
-    load(alloc, memory, Area::A, a)?;
-    load(alloc, memory, Area::B, b)
+    load(account, Area::Select, select)?;
+    load(account, Area::A, a)?;
+    load(account, Area::B, b)
 }
 
 /// Reads a file whole. Its content counts as unsynced.
-fn load(alloc: Global, memory: &mut MemoryDisk, area: Area, file: &mut File) -> io::Result<()>
-    ensures { OnOk result (Loaded area memory.old.state memory.new.state) }
+fn load(account: &mut Account, area: Area, file: &mut File) -> io::Result<()>
+    ensures { OnOk result (Loaded area account.old.state account.new.state) }
 {
-    let mut content = Vec::new(alloc);
+    let mut content = Vec::new(account.alloc);
     file.read_to_end(&mut content)?;
-    match memory.risk(area, 0, content.len()) {
+    match account.risk(area, 0, content.len()) {
         Ok(()) => {}
         Err(_) => return Err(AllocError.into()),
     }
-    memory.state.set(area, content);
+    account.state.set(area, content);
     Ok(())
 }
 
@@ -252,13 +247,13 @@ impl<F: FileExt + OpenFile> FileDisk<F> {
     /// The disk in these files, which should hold what `memory` holds. That isn't taken on trust:
     /// the first sync compares them, and fails while they differ.
     pub fn over(select: F, a: F, b: F, memory: MemoryDisk) -> Self
-        ensures { result.memory ≡ memory }
+        ensures { result.account ≡ memory.account }
     {
         FileDisk {
             select,
             a,
             b,
-            memory,
+            account: memory.into_account(),
             doubted: true,
             stale: false,
         }
@@ -272,19 +267,19 @@ impl<F: FileExt + OpenFile> FileDisk<F> {
         }
     }
 
-    /// Whether each file holds what `memory` holds.
+    /// Whether each file holds what it should.
     fn agrees(&self) -> bool {
         [Area::Select, Area::A, Area::B].iter().all(|area| holds(
             self.file(*area),
             0,
-            self.memory.state.held.part(*area),
+            self.account.state.held.part(*area),
             true,
         ))
     }
 
     /// Rewrites each range that was written since the last sync.
     fn write_again(&self) -> io::Result<()> {
-        for range in &self.memory.state.ranges {
+        for range in &self.account.state.ranges {
             self.write_range(range)?;
         }
         Ok(())
@@ -292,7 +287,7 @@ impl<F: FileExt + OpenFile> FileDisk<F> {
 
     /// Writes what the disk holds in a range.
     fn write_range(&self, range: &Range) -> io::Result<()> {
-        let held = self.memory.state.held.part(range.area);
+        let held = self.account.state.held.part(range.area);
         if range.at >= held.len() {
             return Ok(());
         }
@@ -304,31 +299,39 @@ impl<F: FileExt + OpenFile> FileDisk<F> {
     /// Accepts what is in a range of a file after a write there has failed. If the file can't be
     /// read, or lost bytes, the disk keeps what it held.
     fn look_again(&mut self, area: Area, at: usize, len: usize)
-        requires { at ≤ length (part area (areas_of self.old.memory.state.held)) }
+        requires within { at ≤ length (part area (areas_of self.old.account.state.held)) }
+        requires room { at + len ≤ room area self.old.account.state.held }
 
         ensures change { Changes area (Torn at len)
-            (areas_of self.old.memory.state.held) (areas_of self.new.memory.state.held) }
-        ensures crash { (c : Areas) → leaves self.new.memory.state c →
-            (c ≡ areas_of self.new.memory.state.held) ⊎ leaves self.old.memory.state c }
-        ensures risk { (c : Areas) → at_risk self.old.memory.state c
-            → at_risk self.new.memory.state c }
-        ensures past { self.new.memory.past ≡ self.old.memory.past }
-        ensures failures { self.new.memory.failures ≡ self.old.memory.failures }
+            (areas_of self.old.account.state.held) (areas_of self.new.account.state.held) }
+        ensures crash { (c : Areas) → leaves self.new.account.state c →
+            (c ≡ areas_of self.new.account.state.held) ⊎ leaves self.old.account.state c }
+        ensures risk { (c : Areas) → at_risk self.old.account.state c
+            → at_risk self.new.account.state c }
+        ensures past { self.new.account.past ≡ self.old.account.past }
+        ensures failures { self.new.account.failures ≡ self.old.account.failures }
     {
-        let alloc = self.memory.alloc;
-        let Ok(found) = read_range(alloc, self.file(area), at, len) else {
-            return;
-        };
-        if let Ok(next) = self.memory.state.prepared(alloc, area, at, &found) {
-            self.memory.state.set(area, next);
+        if let Ok(found) = read_range(self.account.alloc, self.file(area), at, len) {
+            self.account.state.write(area, at, &found);
         }
     }
 
-    /// Writes the files through to the device, once they are known to hold what `memory` holds.
-    /// Returns whether they do and everything succeeded.
+    /// Whether an area was written since the last sync.
+    fn is_written(&self, area: Area) -> bool {
+        self.account
+            .state
+            .ranges
+            .iter()
+            .any(|range| range.area == area)
+    }
+
+    /// Writes through to the device what was written since the last sync, or after a failure all
+    /// files, once they are known to hold what they should. Returns whether they do and everything
+    /// succeeded.
     fn write_through(&mut self) -> bool
-        ensures { self.new.memory ≡ self.old.memory }
+        ensures { self.new.account ≡ self.old.account }
     {
+        let all = self.doubted || self.stale;
         if self.doubted && !self.agrees() {
             return false;
         }
@@ -337,15 +340,19 @@ impl<F: FileExt + OpenFile> FileDisk<F> {
             self.doubted = true;
             return false;
         }
-        self.stale = self.sync_files().is_err();
+        self.stale = self.sync_files(all).is_err();
         !self.stale
     }
 
-    /// Writes the files through to the device.
-    fn sync_files(&self) -> io::Result<()> {
-        self.a.sync_all()?;
-        self.b.sync_all()?;
-        self.select.sync_all()
+    /// Writes the files through to the device: all of them, or those that were written since the
+    /// last sync.
+    fn sync_files(&self, all: bool) -> io::Result<()> {
+        for area in [Area::A, Area::B, Area::Select] {
+            if all || self.is_written(area) {
+                self.file(area).sync_all()?;
+            }
+        }
+        Ok(())
     }
 }
 
@@ -398,52 +405,52 @@ fn holds<F: FileExt>(file: &F, at: usize, bytes: &[u8], ends: bool) -> bool {
 }
 
 impl<F: FileExt + OpenFile> Disk for FileDisk<F> {
-    ghost seen = { λ d. areas_of d.memory.state.held };
+    ghost seen = { λ d. areas_of d.account.state.held };
 
-    ghost may_leave = { λ d. leaves d.memory.state };
+    ghost may_leave = { λ d. leaves d.account.state };
 
-    ghost moment = { λ d. moments d.memory.past.value };
+    ghost moment = { λ d. moments d.account.past.value };
 
-    ghost left_since = { λ d. left_since d.memory.past.value d.memory.state };
+    ghost left_since = { λ d. left_since d.account.past.value d.account.state };
 
-    ghost faults = { λ d. d.memory.failures };
+    ghost faults = { λ d. d.account.failures };
 
     fn read(&mut self, area: Area, at: usize, into: &mut [u8]) -> Result<usize, DiskFault> {
-        let n = self.memory.read(area, at, into)?;
+        let n = self.account.state.held.read(area, at, into);
         let ends = n < into.len();
         if !holds(self.file(area), at, &into[..n], ends) {
-            return Err(self.memory.fault(DiskFault::Device));
+            return Err(self.account.fault(DiskFault::Device));
         }
         Ok(n)
     }
 
     fn write_at(&mut self, area: Area, at: usize, bytes: &[u8]) -> Result<(), DiskFault> {
         // The range is recorded before the file is touched.
-        let next = self.memory.begin(area, at, bytes)?;
+        self.account.begin(area, at, bytes.len())?;
         if self.file(area).write_all_at(bytes, at as u64).is_err() {
             self.doubted = true;
             self.look_again(area, at, bytes.len());
-            return Err(self.memory.fault(DiskFault::Device));
+            return Err(self.account.fault(DiskFault::Device));
         }
-        self.memory.state.set(area, next);
+        self.account.state.write(area, at, bytes);
         Ok(())
     }
 
     fn sync(&mut self) -> Result<(), DiskFault> {
         if !self.write_through() {
-            return Err(self.memory.fault(DiskFault::Device));
+            return Err(self.account.fault(DiskFault::Device));
         }
-        self.memory.settle();
+        self.account.settle();
         Ok(())
     }
 
     fn failures(&self) -> u64 {
-        self.memory.failures
+        self.account.failures
     }
 
-    ghost reads_left = { λ d. reads_left d.memory.state };
+    ghost reads_left = { λ d. reads_left d.account.state };
 
-    ghost counts_now = { λ d t c le now. counts_now d.memory.past.value d.memory.state t c le now };
+    ghost counts_now = { λ d t c le now. counts_now d.account.past.value d.account.state t c le now };
 
-    ghost only_now = { λ d c left. only_now d.memory.past.value d.memory.state c left };
+    ghost only_now = { λ d c left. only_now d.account.past.value d.account.state c left };
 }

@@ -5,17 +5,22 @@
 //! and what a crash at any moment since an earlier one may have left.
 #![tactic(auto)]
 
+mod account;
 mod device;
 mod file;
+mod journal;
+mod log;
 mod memory;
 mod persist;
 mod plan;
 mod save;
 mod shelf;
 mod state;
+mod undo;
 
 pub use device::{Area, Disk, DiskFault};
 pub use file::FileDisk;
+pub use journal::{Journal, Tail, opens_once, read_logged, restores_once};
 pub use memory::MemoryDisk;
-pub use persist::Persist;
+pub use persist::{HEAD, Persist, Replay};
 pub use shelf::{Selected, Shelf, is_blank, read_value};

@@ -1,45 +1,36 @@
-//! A disk in memory, which can be made to fail and to crash. It keeps what an area held at the last
-//! sync only while a crash may bring that back.
+//! A disk in memory, which can be made to fail and to crash. It keeps what a write replaces only
+//! while a crash may bring that back.
 ghost use Rattle.std.specs.Prelude.{◌≡◌, ◌≤◌, ◌↔◌, [], ◌∷◌, length, IfOk, IfErr, IsErr, IsErrOf, OnOk};
-ghost use Rattle.std.specs.Prelude.{IsTrue, OnErr, ⊤};
-ghost use Rattle.disk.specs.Areas.{Areas, Changes, Holds, Reads, Torn, part, pasted};
+ghost use Rattle.std.specs.Prelude.{IsTrue, OnErr};
+ghost use Rattle.disk.specs.Areas.{Areas, Changes, Holds, Reads, Torn, part};
 ghost use Rattle.disk.specs.Crashes.{Elapses, Follows, HasCause, Only, Reaches};
-ghost use Rattle.disk.specs.Record.{areas_of, at_risk, leaves, moments, left_since, IsThen};
+ghost use Rattle.disk.specs.Record.{areas_of, leaves, moments, left_since, synced};
 ghost use Rattle.disk.specs.Record.{reads_left, counts_now, only_now};
 ghost use Rattle.disk.specs.Shelf.{record_of};
 ghost use Rattle.disk.specs.Plan.{AsPlanned, fails_from, fails_once, is_due};
+ghost use Rattle.disk.specs.Undo.{undone, IsUndone};
 
+use crate::account::Account;
 use crate::plan::{Plan, falters};
 use crate::save::record;
-use crate::state::{Contents, Past, State, start, tick};
+use crate::state::Contents;
+use crate::undo::Undo;
 use crate::{Area, Disk, DiskFault};
 use ids::Refusal;
-use std::alloc::Global;
-use std::snapshot::Snapshot;
+use std::alloc::{AllocError, Global};
 
 /// A disk in memory. It fails as the last call of [`fail_from`](MemoryDisk::fail_from) or
 /// [`fail_once`](MemoryDisk::fail_once) said, and when there is no memory for its record.
 ///
-/// It keeps its current content and, until the next successful sync, what each written area held at
-/// the last one, and a few words for each write.
+/// It keeps its current content and, until the next successful sync, the bytes that each write
+/// replaced, and a few words for each write.
 #[derive(Drop)]
 pub struct MemoryDisk {
-    pub(crate) alloc: Global,
-    pub(crate) state: State,
-    pub(crate) past: Snapshot<Past>,
+    pub(crate) account: Account,
+    // What the writes since the last sync replaced.
+    undo: Vec<Undo>,
     plan: Plan,
-    pub(crate) failures: u64,
-}
-
-/// Copies the bytes of `held` from the offset `at` on to the front of `into`, as many as both
-/// allow, and returns how many.
-fn copy_out(held: &[u8], at: usize, into: &mut [u8]) -> usize
-    ensures { Reads held.now at result into.old into.new }
-{
-    let rest = if at < held.len() { &held[at..] } else { &[] };
-    let n = rest.len().min(into.len());
-    into[..n].copy_from_slice(&rest[..n]);
-    n
+    ghost undoes: { undone undo.items (areas_of account.state.held) ≡ synced account.state },
 }
 
 impl MemoryDisk {
@@ -78,11 +69,9 @@ impl MemoryDisk {
         ensures faultless { IsFaultless result }
     {
         MemoryDisk {
-            alloc,
-            state: State::new(alloc, held),
-            past: start(),
+            account: Account::new(alloc, held),
+            undo: Vec::new(alloc),
             plan: Plan::Never,
-            failures: 0,
         }
     }
 
@@ -90,9 +79,7 @@ impl MemoryDisk {
     /// all fail.
     pub fn fail_from(&mut self, k: u64)
         ensures plan { self.new.plan ≡ fails_from k }
-        ensures state { self.new.state ≡ self.old.state }
-        ensures past { self.new.past ≡ self.old.past }
-        ensures failures { self.new.failures ≡ self.old.failures }
+        ensures account { self.new.account ≡ self.old.account }
     {
         self.plan = Plan::From {
             good: k.saturating_sub(1),
@@ -103,97 +90,51 @@ impl MemoryDisk {
     /// the next one.
     pub fn fail_once(&mut self, k: u64)
         ensures plan { self.new.plan ≡ fails_once k }
-        ensures state { self.new.state ≡ self.old.state }
-        ensures past { self.new.past ≡ self.old.past }
-        ensures failures { self.new.failures ≡ self.old.failures }
+        ensures account { self.new.account ≡ self.old.account }
     {
         self.plan = Plan::Once {
             good: k.saturating_sub(1),
         };
     }
 
-    // Counts a failure.
-    pub(crate) fn fault(&mut self, fault: DiskFault) -> DiskFault
-        ensures same { result ≡ fault }
-        ensures state { self.new.state ≡ self.old.state }
-        ensures past { self.new.past ≡ self.old.past }
-        ensures plan { self.new.plan ≡ self.old.plan }
-        ensures counted { HasCause self.old.failures self.new.failures ⊤ }
+    // What the disk knows of itself.
+    pub(crate) fn into_account(self) -> Account
+        ensures { result ≡ self.account }
     {
-        self.failures = self.failures.saturating_add(1);
-        fault
+        let MemoryDisk {
+            account,
+            undo: _,
+            plan: _,
+        } = self;
+        account
     }
 
-    // After it, a crash leaves what a read gives.
-    pub(crate) fn settle(&mut self)
-        ensures held { self.new.state.held ≡ self.old.state.held }
-        ensures durable { Only (areas_of self.old.state.held) (leaves self.new.state) }
-        ensures crash { (c : Areas) → leaves self.new.state c → leaves self.old.state c }
-        ensures time { IsThen self.old.past.value self.old.state self.new.past.value }
+    // Keeps what a write of `len` bytes at this offset replaces, before the write. If memory runs
+    // out, nothing changes.
+    fn keep(&mut self, area: Area, at: usize, len: usize) -> Result<(), AllocError>
+        requires { at ≤ length (part area (areas_of self.old.account.state.held)) }
+
+        ensures account { self.new.account ≡ self.old.account }
         ensures plan { self.new.plan ≡ self.old.plan }
-        ensures failures { self.new.failures ≡ self.old.failures }
+        ensures undoes { OnOk result (IsUndone area at len self.new.undo.items
+            (areas_of self.old.account.state.held) (synced self.old.account.state)) }
     {
-        tick(&mut self.past, &self.state);
-        self.state.settle(self.alloc);
+        let undo = Undo::of(self.account.alloc, &self.account.state.held, area, at, len)?;
+        self.undo.push(undo)?;
+        Ok(())
     }
 
-    // One more moment has passed, and a crash may leave any bytes in this range. If there is no
-    // memory for the record, nothing changes.
-    pub(crate) fn risk(&mut self, area: Area, at: usize, len: usize) -> Result<(), DiskFault>
-        ensures held { self.new.state.held ≡ self.old.state.held }
-        ensures crash { Follows (Changes area (Torn at len))
-            (leaves self.old.state) (leaves self.new.state) }
-        ensures torn { OnOk result (Reaches (Changes area (Torn at len))
-            (leaves self.old.state) (at_risk self.new.state)) }
-        ensures refused { OnErr result
-            ((c : Areas) → leaves self.new.state c ↔ leaves self.old.state c) }
-        ensures memory { IfErr result (λ e. e ≡ DiskFault.Memory) }
-        ensures time { IsThen self.old.past.value self.old.state self.new.past.value }
-        ensures plan { self.new.plan ≡ self.old.plan }
-        ensures cause { HasCause self.old.failures self.new.failures (IsErr result) }
+    // What the disk held at the last sync.
+    fn last_synced(&self) -> Result<Contents, AllocError>
+        ensures { IfOk result (λ c. areas_of c ≡ synced self.now.account.state) }
     {
-        tick(&mut self.past, &self.state);
-        match self.state.note(area, at, len) {
-            Ok(()) => Ok(()),
-            Err(_) => Err(self.fault(DiskFault::Memory)),
+        let mut last = self.account.state.held.copied(self.account.alloc)?;
+        let mut left = self.undo.len();
+        while left > 0 {
+            left -= 1;
+            self.undo[left].undo(&mut last)?;
         }
-    }
-
-    // The content that an area will have once these bytes are written at this offset. A crash now
-    // may leave any bytes in their range. If memory runs out, nothing changes.
-    pub(crate) fn begin(
-        &mut self,
-        area: Area,
-        at: usize,
-        bytes: &[u8],
-    ) -> Result<Vec<u8>, DiskFault>
-        requires { at ≤ length (part area (areas_of self.old.state.held)) }
-
-        ensures next { IfOk result (λ v.
-            v.items ≡ pasted at bytes.now (part area (areas_of self.old.state.held))) }
-        ensures held { self.new.state.held ≡ self.old.state.held }
-        ensures crash { Follows (Changes area (Torn at (length bytes.now)))
-            (leaves self.old.state) (leaves self.new.state) }
-        ensures torn { OnOk result (Reaches (Changes area (Torn at (length bytes.now)))
-            (leaves self.old.state) (at_risk self.new.state)) }
-        ensures refused { OnErr result
-            ((c : Areas) → leaves self.new.state c ↔ leaves self.old.state c) }
-        ensures memory { IfErr result (λ e. e ≡ DiskFault.Memory) }
-        ensures gone { OnOk result
-            (IsThen self.old.past.value self.old.state self.new.past.value) }
-        ensures time { OnErr result
-            (Elapses (moments self.old.past.value) (moments self.new.past.value)
-            (left_since self.old.past.value self.old.state)
-            (left_since self.new.past.value self.new.state) (leaves self.new.state)) }
-        ensures plan { self.new.plan ≡ self.old.plan }
-        ensures cause { HasCause self.old.failures self.new.failures (IsErr result) }
-    {
-        let next = match self.state.prepared(self.alloc, area, at, bytes) {
-            Ok(next) => next,
-            Err(_) => return Err(self.fault(DiskFault::Memory)),
-        };
-        self.risk(area, at, bytes.len())?;
-        Ok(next)
+        Ok(last)
     }
 
     /// The disk that a crash now leaves if each byte that was written since the last sync became
@@ -206,100 +147,116 @@ impl MemoryDisk {
         ensures faultless { IfOk result IsFaultless }
         ensures memory { IfErr result (λ e. e ≡ Refusal.Memory) }
     {
-        let left = self.state.filled(self.alloc, fill)?;
-        Ok(MemoryDisk::holding(self.alloc, left))
+        let alloc = self.account.alloc;
+        let last = self.last_synced()?;
+        let left = self.account.state.filled(alloc, last, fill)?;
+        Ok(MemoryDisk::holding(alloc, left))
     }
 }
 
 impl Disk for MemoryDisk {
-    ghost seen = { λ d. areas_of d.state.held };
+    ghost seen = { λ d. areas_of d.account.state.held };
 
-    ghost may_leave = { λ d. leaves d.state };
+    ghost may_leave = { λ d. leaves d.account.state };
 
-    ghost moment = { λ d. moments d.past.value };
+    ghost moment = { λ d. moments d.account.past.value };
 
-    ghost left_since = { λ d. left_since d.past.value d.state };
+    ghost left_since = { λ d. left_since d.account.past.value d.account.state };
 
-    ghost faults = { λ d. d.failures };
+    ghost faults = { λ d. d.account.failures };
 
     /// Fails only as planned.
     fn read(&mut self, area: Area, at: usize, into: &mut [u8]) -> Result<usize, DiskFault>
         ensures bytes { IfOk result (λ n.
-            Reads (part area (areas_of self.old.state.held)) at n into.old into.new) }
-        ensures state { self.new.state ≡ self.old.state }
-        ensures past { self.new.past ≡ self.old.past }
-        ensures cause { HasCause self.old.failures self.new.failures (IsErr result) }
+            Reads (part area (areas_of self.old.account.state.held)) at n into.old into.new) }
+        ensures state { self.new.account.state ≡ self.old.account.state }
+        ensures past { self.new.account.past ≡ self.old.account.past }
+        ensures cause { HasCause self.old.account.failures self.new.account.failures
+            (IsErr result) }
         ensures plan { AsPlanned self.old.plan self.new.plan (IsErr result) }
         ensures only_planned { IsErr result → IsTrue (is_due self.old.plan) }
     {
         if falters(&mut self.plan) {
-            return Err(self.fault(DiskFault::Device));
+            return Err(self.account.fault(DiskFault::Device));
         }
-        Ok(copy_out(self.state.held.part(area), at, into))
+        Ok(self.account.state.held.read(area, at, into))
     }
 
     /// If it fails, a read gives what it gave before.
     fn write_at(&mut self, area: Area, at: usize, bytes: &[u8]) -> Result<(), DiskFault>
-        requires { at ≤ length (part area (areas_of self.old.state.held)) }
+        requires { at ≤ length (part area (areas_of self.old.account.state.held)) }
 
         ensures written { OnOk result (Changes area (Holds at bytes.now)
-            (areas_of self.old.state.held) (areas_of self.new.state.held)) }
+            (areas_of self.old.account.state.held) (areas_of self.new.account.state.held)) }
         ensures failed { OnErr result (Changes area (Torn at (length bytes.now))
-            (areas_of self.old.state.held) (areas_of self.new.state.held)) }
-        ensures kept { OnErr result (self.new.state.held ≡ self.old.state.held) }
+            (areas_of self.old.account.state.held) (areas_of self.new.account.state.held)) }
+        ensures kept { OnErr result
+            (areas_of self.new.account.state.held ≡ areas_of self.old.account.state.held) }
         ensures crash { Follows (Changes area (Torn at (length bytes.now)))
-            (leaves self.old.state) (leaves self.new.state) }
+            (leaves self.old.account.state) (leaves self.new.account.state) }
         ensures torn { OnOk result (Reaches (Changes area (Torn at (length bytes.now)))
-            (leaves self.old.state) (leaves self.new.state)) }
+            (leaves self.old.account.state) (leaves self.new.account.state)) }
         ensures torn_too { IsErrOf result DiskFault.Device →
             Reaches (Changes area (Torn at (length bytes.now)))
-            (leaves self.old.state) (leaves self.new.state) }
+            (leaves self.old.account.state) (leaves self.new.account.state) }
         ensures refused { IsErrOf result DiskFault.Memory →
-            (areas_of self.new.state.held ≡ areas_of self.old.state.held)
-            × ((c : Areas) → leaves self.new.state c ↔ leaves self.old.state c) }
-        ensures time { Elapses (moments self.old.past.value) (moments self.new.past.value)
-            (left_since self.old.past.value self.old.state)
-            (left_since self.new.past.value self.new.state) (leaves self.new.state) }
-        ensures cause { HasCause self.old.failures self.new.failures (IsErr result) }
+            (areas_of self.new.account.state.held ≡ areas_of self.old.account.state.held)
+            × ((c : Areas) → leaves self.new.account.state c ↔ leaves self.old.account.state c) }
+        ensures time { Elapses
+            (moments self.old.account.past.value) (moments self.new.account.past.value)
+            (left_since self.old.account.past.value self.old.account.state)
+            (left_since self.new.account.past.value self.new.account.state)
+            (leaves self.new.account.state) }
+        ensures cause { HasCause self.old.account.failures self.new.account.failures
+            (IsErr result) }
         ensures plan { AsPlanned self.old.plan self.new.plan (IsErr result) }
     {
         if falters(&mut self.plan) {
-            self.risk(area, at, bytes.len())?;
-            return Err(self.fault(DiskFault::Device));
+            self.account.risk(area, at, bytes.len())?;
+            return Err(self.account.fault(DiskFault::Device));
         }
-        let next = self.begin(area, at, bytes)?;
-        self.state.set(area, next);
+        if self.keep(area, at, bytes.len()).is_err() {
+            return Err(self.account.fault(DiskFault::Memory));
+        }
+        self.account.begin(area, at, bytes.len())?;
+        self.account.state.write(area, at, bytes);
         Ok(())
     }
 
     /// Fails only as planned.
     fn sync(&mut self) -> Result<(), DiskFault>
         ensures durable { OnOk result
-            (Only (areas_of self.old.state.held) (leaves self.new.state)) }
-        ensures seen { areas_of self.new.state.held ≡ areas_of self.old.state.held }
-        ensures crash { (c : Areas) → leaves self.new.state c → leaves self.old.state c }
-        ensures kept { OnErr result ((c : Areas) → leaves self.old.state c → leaves self.new.state c) }
-        ensures time { Elapses (moments self.old.past.value) (moments self.new.past.value)
-            (left_since self.old.past.value self.old.state)
-            (left_since self.new.past.value self.new.state) (leaves self.new.state) }
-        ensures cause { HasCause self.old.failures self.new.failures (IsErr result) }
+            (Only (areas_of self.old.account.state.held) (leaves self.new.account.state)) }
+        ensures seen { areas_of self.new.account.state.held ≡ areas_of self.old.account.state.held }
+        ensures crash { (c : Areas) →
+            leaves self.new.account.state c → leaves self.old.account.state c }
+        ensures kept { OnErr result ((c : Areas) →
+            leaves self.old.account.state c → leaves self.new.account.state c) }
+        ensures time { Elapses
+            (moments self.old.account.past.value) (moments self.new.account.past.value)
+            (left_since self.old.account.past.value self.old.account.state)
+            (left_since self.new.account.past.value self.new.account.state)
+            (leaves self.new.account.state) }
+        ensures cause { HasCause self.old.account.failures self.new.account.failures
+            (IsErr result) }
         ensures plan { AsPlanned self.old.plan self.new.plan (IsErr result) }
         ensures only_planned { IsErr result → IsTrue (is_due self.old.plan) }
     {
         if falters(&mut self.plan) {
-            return Err(self.fault(DiskFault::Device));
+            return Err(self.account.fault(DiskFault::Device));
         }
-        self.settle();
+        self.account.settle();
+        self.undo.clear();
         Ok(())
     }
 
     fn failures(&self) -> u64 {
-        self.failures
+        self.account.failures
     }
 
-    ghost reads_left = { λ d. reads_left d.state };
+    ghost reads_left = { λ d. reads_left d.account.state };
 
-    ghost counts_now = { λ d t c le now. counts_now d.past.value d.state t c le now };
+    ghost counts_now = { λ d t c le now. counts_now d.account.past.value d.account.state t c le now };
 
-    ghost only_now = { λ d c left. only_now d.past.value d.state c left };
+    ghost only_now = { λ d c left. only_now d.account.past.value d.account.state c left };
 }

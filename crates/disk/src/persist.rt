@@ -1,10 +1,14 @@
 //! How a shelf keeps values: each as bytes, its image. A value that is read back may differ from
 //! the saved one in what its image doesn't hold.
-ghost use Rattle.std.specs.Prelude.{◌≡◌, ◌≢◌, ◌<◌, ◌≤◌, List, ℕ, length, IfErr, IfOk, OnOk};
+ghost use Rattle.std.specs.Prelude.{◌≡◌, ◌≢◌, ◌<◌, ◌≤◌, ◌++◌, List, ℕ, length, replicate};
+ghost use Rattle.std.specs.Prelude.{Bool, IfErr, IfOk, OnOk, true};
 ghost use Rattle.ids.specs.declared.limits.TheConstants.{GREATEST_IMAGE};
 
 use ids::Refusal;
 use std::alloc::Global;
+
+/// How many bytes hold the length of an image.
+pub const HEAD: usize = 8;
 
 /// A way to save values as bytes, their images. It is a separate type from the values' own, so that
 /// their crate and this one don't depend on each other.
@@ -21,10 +25,11 @@ pub trait Persist {
     /// The value that is read back after this one was saved.
     ghost saved: { Self.Value → Self.Value };
 
-    /// The value's image. [`from_bytes`](Persist::from_bytes) reads it as the value once saved.
-    /// Fails with `ImageTooLarge` if the image is longer than an image may be, else with `Memory`.
+    /// The value's image behind [`HEAD`] zeros, in whose place a shelf puts the image's length.
+    /// [`from_bytes`](Persist::from_bytes) reads the image as the value once saved. Fails with
+    /// `ImageTooLarge` if the image is longer than an image may be, else with `Memory`.
     fn to_bytes(alloc: Global, value: &Self::Value) -> Result<Vec<u8>, Refusal>
-        ensures bytes { IfOk result (λ v. v.items ≡ image value.now) }
+        ensures bytes { IfOk result (λ v. v.items ≡ replicate HEAD 0 ++ image value.now) }
         ensures within { OnOk result (length (image value.now) ≤ GREATEST_IMAGE) }
         ensures readable { OnOk result (reads (image value.now) (saved value.now)) }
         ensures refused { IfErr result (λ e. e ≢ Refusal.Memory
@@ -38,4 +43,48 @@ pub trait Persist {
         ensures value { IfOk result (λ v. reads bytes.now v) }
         ensures refused { IfErr result (λ e. e ≢ Refusal.Memory
             → (e ≡ Refusal.BadImage) × ((v : Self.Value) → reads bytes.now v → ⊥)) };
+}
+
+/// A way to save values by what happened to them. A batch of bytes says how the saved value became
+/// another one, and costs less than the image of that one.
+pub trait Replay: Persist {
+    /// Whether a log of batches follows this image.
+    ghost logs: { List ℕ → Bool };
+
+    /// This batch leads from the one value to the other.
+    ghost leads: { List ℕ → Self.Value → Self.Value → Type 0 };
+
+    /// This value is as one that was read, to which batches may be applied.
+    ghost fresh: { Self.Value → Type 0 };
+
+    /// Whether a log of batches follows this image. What follows an image without a log means
+    /// nothing.
+    fn has_log(image: &[u8]) -> bool
+        ensures { result ≡ logs image.now };
+
+    /// Makes the value to which the batch leads from this one. Fails with `BadImage` if the batch
+    /// leads from this value to none, and with `Memory`. The value is then of no use.
+    fn redo(value: &mut Self::Value, batch: &[u8]) -> Result<(), Refusal>
+        requires { fresh value.old }
+
+        ensures led { OnOk result (leads batch.now value.old value.new) }
+        ensures refused { IfErr result (λ e. e ≢ Refusal.Memory → (e ≡ Refusal.BadImage)
+            × ((last : Self.Value) → leads batch.now value.old last → ⊥)) };
+
+    /// What an image is read as is fresh.
+    ghost read_fresh: { (bytes : List ℕ) (v : Self.Value) → Self.reads bytes v → fresh v };
+
+    /// What a batch leads to is fresh.
+    ghost led_fresh: { (batch : List ℕ) (v w : Self.Value) → leads batch v w → fresh w };
+
+    /// A log follows the image that is written of a value.
+    ghost followed: { (value : Self.Value) → logs (Self.image value) ≡ true };
+
+    /// An image is read as one value.
+    ghost one_value: { (bytes : List ℕ) (v w : Self.Value)
+        → Self.reads bytes v → Self.reads bytes w → v ≡ w };
+
+    /// A batch leads to one value.
+    ghost one_end: { (batch : List ℕ) (first v w : Self.Value)
+        → leads batch first v → leads batch first w → v ≡ w };
 }

@@ -1,6 +1,6 @@
 //! The disk calls that save an image and find it again, without the value that it represents. Each
 //! function makes only a few calls, so that its contract says what a crash leaves after each.
-ghost use Rattle.std.specs.Prelude.{◌≡◌, ◌≢◌, ◌⊎◌, ◌%◌, ◌==◌, ◌≤◌, [], length, IfErr, IfOk, IsErr};
+ghost use Rattle.std.specs.Prelude.{◌≡◌, ◌≢◌, ◌⊎◌, ◌%◌, ◌==◌, ◌≤◌, [], length, drop, IfErr, IfOk, IsErr};
 ghost use Rattle.std.specs.Prelude.{IsErrOf, OnOk, Some, None, false, not};
 ghost use Rattle.ids.specs.declared.refusal.Refusal.TheVariants.{Disk as DiskRefused};
 ghost use Rattle.ids.specs.declared.limits.TheConstants.{GREATEST_IMAGE};
@@ -9,7 +9,8 @@ ghost use Rattle.disk.specs.Crashes.{HasCause, LeavesOnly, Only, Unmoved};
 ghost use Rattle.disk.specs.Shelf.{IsSettled, NoneOrNew, OldOrNew, half as half_of, opened};
 ghost use Rattle.disk.specs.Shelf.{record_of, recorded, side, told, TellsLength};
 
-use crate::{Area, Disk, DiskFault};
+use crate::state::paste;
+use crate::{Area, Disk, DiskFault, HEAD};
 use ids::{GREATEST_IMAGE, Refusal};
 use std::alloc::{AllocError, Global};
 
@@ -21,9 +22,6 @@ impl From<DiskFault> for Refusal {
     }
 }
 
-/// How many bytes hold the length of an image.
-const HEAD: usize = 8;
-
 /// The area on a side.
 pub(crate) fn half(in_b: bool) -> Area
     ensures { result ≡ half_of in_b }
@@ -32,7 +30,7 @@ pub(crate) fn half(in_b: bool) -> Area
 }
 
 /// The selector's byte for a side.
-fn mark(in_b: bool) -> u8
+pub(crate) fn mark(in_b: bool) -> u8
     ensures { (result % 2 == 1) ≡ in_b }
 {
     if in_b { 1 } else { 0 }
@@ -49,18 +47,46 @@ pub(crate) fn record(alloc: Global, image: &[u8]) -> Result<Vec<u8>, AllocError>
     Ok(bytes)
 }
 
-/// Writes an area from its start, and syncs.
-fn put<D: Disk>(disk: &mut D, area: Area, bytes: &[u8]) -> Result<(), DiskFault>
-    requires { Only (D.seen disk.old) (D.may_leave disk.old) }
+/// Puts the length of an image in place of the zeros before it.
+#[tactic(auto, using(crate::proofs::Records::length_pasted))]
+pub(crate) fn with_length(bytes: Vec<u8>) -> Vec<u8>
+    requires { HEAD ≤ length bytes.items }
+
+    ensures { result.items ≡ record_of (drop 8 bytes.items) }
+{
+    let mut bytes = bytes;
+    let len = bytes.len() - HEAD;
+    paste(&mut bytes, 0, &(len as u64).to_be_bytes());
+    bytes
+}
+
+/// The image in what is written for it.
+pub(crate) fn image_in(bytes: &[u8]) -> &[u8]
+    requires { HEAD ≤ length bytes.now }
+
+    ensures { result.now ≡ drop 8 bytes.now }
+{
+    &bytes[HEAD..]
+}
+
+/// Writes an area from an offset on, and syncs.
+pub(crate) fn put<D: Disk>(
+    disk: &mut D,
+    area: Area,
+    at: usize,
+    bytes: &[u8],
+) -> Result<(), DiskFault>
+    requires within { at ≤ length (part area (D.seen disk.old)) }
+    requires durable { Only (D.seen disk.old) (D.may_leave disk.old) }
 
     ensures any_moment { LeavesOnly D.moment D.left_since disk.old disk.new
-        (Changes area (Torn 0 (length bytes.now)) (D.seen disk.old)) }
+        (Changes area (Torn at (length bytes.now)) (D.seen disk.old)) }
     ensures written { OnOk result
-        (Changes area (Holds 0 bytes.now) (D.seen disk.old) (D.seen disk.new)) }
+        (Changes area (Holds at bytes.now) (D.seen disk.old) (D.seen disk.new)) }
     ensures durable { OnOk result (Only (D.seen disk.new) (D.may_leave disk.new)) }
     ensures cause { HasCause (D.faults disk.old) (D.faults disk.new) (IsErr result) }
 {
-    disk.write_at(area, 0, bytes)?;
+    disk.write_at(area, at, bytes)?;
     disk.sync()
 }
 
@@ -79,7 +105,7 @@ fn write_both<D: Disk>(disk: &mut D, bytes: &[u8]) -> Result<(), DiskFault>
 }
 
 /// Writes A and B from their starts, and syncs.
-fn put_both<D: Disk>(disk: &mut D, bytes: &[u8]) -> Result<(), DiskFault>
+pub(crate) fn put_both<D: Disk>(disk: &mut D, bytes: &[u8]) -> Result<(), DiskFault>
     requires { (c : Areas) → D.may_leave disk.old c → c.select ≡ [] }
 
     ensures any_moment { LeavesOnly D.moment D.left_since disk.old disk.new (λ c. c.select ≡ []) }
@@ -106,7 +132,7 @@ pub(crate) fn lay<D: Disk>(disk: &mut D, image: &[u8], bytes: &[u8]) -> Result<(
 {
     let choice = mark(false);
     put_both(disk, bytes)?;
-    put(disk, Area::Select, &[choice])
+    put(disk, Area::Select, 0, &[choice])
 }
 
 /// Writes an image, as these bytes, into the area that isn't selected, and then selects that area.
@@ -127,8 +153,8 @@ pub(crate) fn swap<D: Disk>(
     ensures cause { HasCause (D.faults disk.old) (D.faults disk.new) (IsErr result) }
 {
     let choice = mark(!in_b);
-    put(disk, half(!in_b), bytes)?;
-    put(disk, Area::Select, &[choice])
+    put(disk, half(!in_b), 0, bytes)?;
+    put(disk, Area::Select, 0, &[choice])
 }
 
 /// Fills `into` from the offset `at` of an area on. Returns whether there are enough bytes.
@@ -147,18 +173,19 @@ fn read_whole<D: Disk>(
     Ok(found >= into.len())
 }
 
-/// The length of the image in an area, as its first bytes say. Fails with `BadImage` if there are
-/// too few bytes, or if the length is greater than an image may have.
-fn told_length<D: Disk>(disk: &mut D, area: Area) -> Result<usize, Refusal>
-    ensures told { IfOk result (λ n. told (part area (D.seen disk.old)) ≡ n) }
-    ensures tells { OnOk result (TellsLength (part area (D.seen disk.old))) }
-    ensures none { IsErrOf result Refusal.BadImage → recorded (part area (D.seen disk.old)) ≡ None }
+/// The length of the image at an offset of an area, as the first bytes there say. Fails with
+/// `BadImage` if there are too few bytes, or if the length is greater than an image may have.
+fn told_length<D: Disk>(disk: &mut D, area: Area, at: usize) -> Result<usize, Refusal>
+    ensures told { IfOk result (λ n. told (drop at (part area (D.seen disk.old))) ≡ n) }
+    ensures tells { OnOk result (TellsLength (drop at (part area (D.seen disk.old)))) }
+    ensures none { IsErrOf result Refusal.BadImage →
+        recorded (drop at (part area (D.seen disk.old))) ≡ None }
     ensures quiet { Unmoved D.seen D.may_leave D.moment D.left_since disk.old disk.new }
     ensures cause { HasCause (D.faults disk.old) (D.faults disk.new) (IsErrOf result Refusal.Disk) }
     ensures others { IfErr result (λ e. (e ≡ Refusal.BadImage) ⊎ (e ≡ Refusal.Disk)) }
 {
     let mut head = [0; HEAD];
-    if !read_whole(disk, area, 0, &mut head)? {
+    if !read_whole(disk, area, at, &mut head)? {
         return Err(Refusal::BadImage);
     }
     let len = u64::from_be_bytes(head);
@@ -168,23 +195,51 @@ fn told_length<D: Disk>(disk: &mut D, area: Area) -> Result<usize, Refusal>
     Ok(len as usize)
 }
 
-/// Reads the image that an area holds. Fails with `BadImage` if it holds none, and with `Memory` if
-/// there isn't enough memory for the length that the area says.
-pub(crate) fn load<D: Disk>(alloc: Global, disk: &mut D, area: Area) -> Result<Vec<u8>, Refusal>
-    ensures image { IfOk result (λ v. recorded (part area (D.seen disk.old)) ≡ Some v.items) }
-    ensures none { IsErrOf result Refusal.BadImage → recorded (part area (D.seen disk.old)) ≡ None }
-    ensures memory { IsErrOf result Refusal.Memory → TellsLength (part area (D.seen disk.old)) }
+/// Reads the image that an area holds from an offset on. Fails with `BadImage` if it holds none,
+/// and with `Memory` if there isn't enough memory for the length that the area says.
+pub(crate) fn load<D: Disk>(
+    alloc: Global,
+    disk: &mut D,
+    area: Area,
+    at: usize,
+) -> Result<Vec<u8>, Refusal>
+    ensures image { IfOk result (λ v.
+        recorded (drop at (part area (D.seen disk.old))) ≡ Some v.items) }
+    ensures none { IsErrOf result Refusal.BadImage →
+        recorded (drop at (part area (D.seen disk.old))) ≡ None }
+    ensures memory { IsErrOf result Refusal.Memory →
+        TellsLength (drop at (part area (D.seen disk.old))) }
     ensures quiet { Unmoved D.seen D.may_leave D.moment D.left_since disk.old disk.new }
     ensures cause { HasCause (D.faults disk.old) (D.faults disk.new) (IsErrOf result Refusal.Disk) }
     ensures others { IfErr result (λ e. (e ≡ Refusal.Memory)
         ⊎ ((e ≡ Refusal.BadImage) ⊎ (e ≡ Refusal.Disk))) }
 {
-    let len = told_length(disk, area)?;
+    let len = told_length(disk, area, at)?;
     let mut image = vec![in alloc; 0; len]?;
-    if !read_whole(disk, area, HEAD, &mut image)? {
+    let Some(from) = at.checked_add(HEAD) else {
+        return Err(Refusal::Memory);
+    };
+    if !read_whole(disk, area, from, &mut image)? {
         return Err(Refusal::BadImage);
     }
     Ok(image)
+}
+
+/// Whether the byte at this offset of an area is odd, if there is one.
+pub(crate) fn parity<D: Disk>(
+    disk: &mut D,
+    area: Area,
+    at: usize,
+) -> Result<Option<bool>, DiskFault>
+    ensures side { IfOk result (λ o. side (drop at (part area (D.seen disk.old))) ≡ o) }
+    ensures quiet { Unmoved D.seen D.may_leave D.moment D.left_since disk.old disk.new }
+    ensures cause { HasCause (D.faults disk.old) (D.faults disk.new) (IsErr result) }
+{
+    let mut first = [0; 1];
+    if !read_whole(disk, area, at, &mut first)? {
+        return Ok(None);
+    }
+    Ok(Some(first[0] % 2 == 1))
 }
 
 /// Which side is selected.
@@ -193,9 +248,5 @@ pub(crate) fn chosen<D: Disk>(disk: &mut D) -> Result<Option<bool>, DiskFault>
     ensures quiet { Unmoved D.seen D.may_leave D.moment D.left_since disk.old disk.new }
     ensures cause { HasCause (D.faults disk.old) (D.faults disk.new) (IsErr result) }
 {
-    let mut first = [0; 1];
-    if !read_whole(disk, Area::Select, 0, &mut first)? {
-        return Ok(None);
-    }
-    Ok(Some(first[0] % 2 == 1))
+    parity(disk, Area::Select, 0)
 }

@@ -10,7 +10,7 @@ ghost use Rattle.disk.specs.Crashes.{Grew, HasCause, LeavesOnly, Only, Unmoved};
 ghost use Rattle.disk.specs.Shelf.{IsReadAs, IsSettled, NoneOrNew, OldOrNew, SelectsLength};
 ghost use Rattle.disk.specs.Shelf.{opened, record_of, side};
 
-use crate::save::{chosen, half, lay, load, record, swap};
+use crate::save::{chosen, half, image_in, lay, load, swap, with_length};
 use crate::{Disk, DiskFault, MemoryDisk, Persist};
 use ids::Refusal;
 use std::alloc::Global;
@@ -66,7 +66,7 @@ pub fn is_blank<D: Disk>(disk: &mut D) -> Result<bool, DiskFault>
 
 /// Syncs a disk, so that no crash takes back what is read, and then returns the image that it opens
 /// to and the side that holds it.
-fn recall_image<D: Disk>(alloc: Global, disk: &mut D) -> Result<(bool, Vec<u8>), Refusal>
+pub(crate) fn recall_image<D: Disk>(alloc: Global, disk: &mut D) -> Result<(bool, Vec<u8>), Refusal>
     ensures side { IfOk result (λ r. side (D.seen disk.old).select ≡ Some r.0) }
     ensures image { IfOk result (λ r. opened (D.seen disk.old) ≡ Some r.1.items) }
     ensures tells { OnOk result (SelectsLength (D.seen disk.old)) }
@@ -82,7 +82,7 @@ fn recall_image<D: Disk>(alloc: Global, disk: &mut D) -> Result<(bool, Vec<u8>),
     let Some(in_b) = side else {
         return Err(Refusal::BadImage);
     };
-    let image = load(alloc, disk, half(in_b))?;
+    let image = load(alloc, disk, half(in_b), 0)?;
     Ok((in_b, image))
 }
 
@@ -137,20 +137,18 @@ where
     Ok((Selected { in_b }, value))
 }
 
-/// The image of a value, and what is written for it. Fails as [`Persist::to_bytes`] does, and with
-/// `Memory`.
-fn spelled<P: Persist>(alloc: Global, value: &P::Value) -> Result<(Vec<u8>, Vec<u8>), Refusal>
-    ensures image { IfOk result (λ r. r.0.items ≡ P.image value.now) }
-    ensures bytes { IfOk result (λ r. r.1.items ≡ record_of (P.image value.now)) }
+/// What is written for a value: the length of its image, and the image. Fails as
+/// [`Persist::to_bytes`] does.
+pub(crate) fn spelled<P: Persist>(alloc: Global, value: &P::Value) -> Result<Vec<u8>, Refusal>
+    ensures bytes { IfOk result (λ v. v.items ≡ record_of (P.image value.now)) }
     ensures readable { OnOk result (P.reads (P.image value.now) (P.saved value.now)) }
     ensures within { OnOk result (length (P.image value.now) ≤ GREATEST_IMAGE) }
     ensures too_large { IfErr result (λ e.
         e ≡ Refusal.ImageTooLarge ↔ GREATEST_IMAGE < length (P.image value.now)) }
     ensures others { IfErr result (λ e. (e ≡ Refusal.Memory) ⊎ (e ≡ Refusal.ImageTooLarge)) }
 {
-    let image = P::to_bytes(alloc, value)?;
-    let bytes = record(alloc, &image)?;
-    Ok((image, bytes))
+    let bytes = P::to_bytes(alloc, value)?;
+    Ok(with_length(bytes))
 }
 
 impl<D: Disk> Shelf<D> {
@@ -201,11 +199,11 @@ impl<D: Disk> Shelf<D> {
         ensures others { IfErr result (λ e. (e.1 ≡ Refusal.Memory)
             ⊎ ((e.1 ≡ Refusal.ImageTooLarge) ⊎ (e.1 ≡ Refusal.Disk))) }
     {
-        let (image, bytes) = match spelled::<P>(alloc, value) {
-            Ok(both) => both,
+        let bytes = match spelled::<P>(alloc, value) {
+            Ok(bytes) => bytes,
             Err(refusal) => return Err((disk, refusal)),
         };
-        match lay(&mut disk, &image, &bytes) {
+        match lay(&mut disk, image_in(&bytes), &bytes) {
             Ok(()) => {}
             Err(_) => return Err((disk, Refusal::Disk)),
         }
@@ -325,9 +323,9 @@ impl<D: Disk> Shelf<D> {
         if !self.ready {
             return Err(Refusal::Closed);
         }
-        let (image, bytes) = spelled::<P>(self.alloc, value)?;
+        let bytes = spelled::<P>(self.alloc, value)?;
         self.ready = false;
-        swap(&mut self.disk, self.in_b, &image, &bytes)?;
+        swap(&mut self.disk, self.in_b, image_in(&bytes), &bytes)?;
         self.in_b = !self.in_b;
         self.ready = true;
         Ok(())
@@ -342,9 +340,7 @@ impl Shelf<MemoryDisk> {
     /// [`MemoryDisk::fail_from`].
     pub fn fail_from(&mut self, k: u64)
         ensures plan { self.new.disk.plan ≡ fails_from k }
-        ensures state { self.new.disk.state ≡ self.old.disk.state }
-        ensures past { self.new.disk.past ≡ self.old.disk.past }
-        ensures failures { self.new.disk.failures ≡ self.old.disk.failures }
+        ensures account { self.new.disk.account ≡ self.old.disk.account }
         ensures ready { self.new.ready ≡ self.old.ready }
     {
         self.disk.fail_from(k);
@@ -354,9 +350,7 @@ impl Shelf<MemoryDisk> {
     /// [`MemoryDisk::fail_once`].
     pub fn fail_once(&mut self, k: u64)
         ensures plan { self.new.disk.plan ≡ fails_once k }
-        ensures state { self.new.disk.state ≡ self.old.disk.state }
-        ensures past { self.new.disk.past ≡ self.old.disk.past }
-        ensures failures { self.new.disk.failures ≡ self.old.disk.failures }
+        ensures account { self.new.disk.account ≡ self.old.disk.account }
         ensures ready { self.new.ready ≡ self.old.ready }
     {
         self.disk.fail_once(k);

@@ -1,9 +1,9 @@
 //! What a disk in memory records of itself and, for proofs, the states that it had. It knows the
 //! range of each write since the last sync, which is what a crash may fill with any bytes.
-ghost use Rattle.std.specs.Prelude.{◌≡◌, ◌≤◌, ◌↔◌, [], length, IfOk, OnOk, OnErr};
-ghost use Rattle.disk.specs.Areas.{Areas, Changes, Torn, part, with_part, pasted};
+ghost use Rattle.std.specs.Prelude.{◌≡◌, ◌≤◌, ◌+◌, ◌↔◌, [], length, take, vec_capacity, IfOk, OnOk, OnErr};
+ghost use Rattle.disk.specs.Areas.{Areas, Changes, Reads, Torn, part, with_part, pasted};
 ghost use Rattle.disk.specs.Crashes.{Follows, Reaches};
-ghost use Rattle.disk.specs.Record.{kept_or, moments, IsThen};
+ghost use Rattle.disk.specs.Record.{moments, IsThen};
 
 use crate::Area;
 use std::alloc::{AllocError, Global};
@@ -28,15 +28,13 @@ pub struct Range {
     pub(crate) before: Snapshot<Contents>,
 }
 
-/// What a disk holds now, what each area held at the last sync, and the ranges that were written
-/// since. A sync discards everything except the current content.
+/// What a disk holds now, and the ranges that were written since the last sync, which discards
+/// them.
 #[derive(Drop)]
 pub struct State {
     pub(crate) held: Contents,
-    // What the area held at the last sync, if it was written since.
-    pub(crate) kept_select: Option<Vec<u8>>,
-    pub(crate) kept_a: Option<Vec<u8>>,
-    pub(crate) kept_b: Option<Vec<u8>>,
+    // What the disk held at the last sync. Only proofs read it: it takes no bytes.
+    pub(crate) settled: Snapshot<Contents>,
     pub(crate) ranges: Vec<Range>,
 }
 
@@ -51,7 +49,7 @@ pub enum Past {
 }
 
 impl Contents {
-    ghost use Rattle.disk.specs.Record.{areas_of, filled_in};
+    ghost use Rattle.disk.specs.Record.{areas_of, filled_in, room};
 
     pub(crate) fn new(alloc: Global) -> Contents
         ensures select { result.select.items ≡ [] }
@@ -65,6 +63,16 @@ impl Contents {
         }
     }
 
+    pub(crate) fn copied(&self, alloc: Global) -> Result<Contents, AllocError>
+        ensures { IfOk result (λ c. areas_of c ≡ areas_of self.now) }
+    {
+        Ok(Contents {
+            select: self.select.to_vec(alloc)?,
+            a: self.a.to_vec(alloc)?,
+            b: self.b.to_vec(alloc)?,
+        })
+    }
+
     pub(crate) fn part(&self, area: Area) -> &[u8]
         ensures { result.now ≡ part area (areas_of self.now) }
     {
@@ -75,27 +83,84 @@ impl Contents {
         }
     }
 
-    /// Sets each byte of a range to this one.
-    pub(crate) fn fill(&mut self, alloc: Global, range: &Range, fill: u8) -> Result<(), AllocError>
-        ensures { OnOk result (areas_of self.new ≡ filled_in fill range.now (areas_of self.old)) }
+    /// Copies the bytes of an area from the offset `at` on to the front of `into`, as many as both
+    /// allow, and returns how many.
+    pub(crate) fn read(&self, area: Area, at: usize, into: &mut [u8]) -> usize
+        ensures { Reads (part area (areas_of self.now)) at result into.old into.new }
     {
-        let old = self.part(range.area);
-        if range.at > old.len() {
-            return Ok(());
-        }
-        let bytes = vec![in alloc; fill; range.len]?;
-        let next = pasted_copy(alloc, old, range.at, &bytes)?;
-        match range.area {
+        copy_out(self.part(area), at, into)
+    }
+
+    /// Replaces the bytes of an area.
+    pub(crate) fn set(&mut self, area: Area, next: Vec<u8>)
+        ensures { areas_of self.new ≡ with_part area next.items (areas_of self.old) }
+    {
+        match area {
             Area::Select => self.select = next,
             Area::A => self.a = next,
             Area::B => self.b = next,
         }
+    }
+
+    /// Makes room for this many bytes at this offset, so that [`write`](Contents::write) can't
+    /// fail.
+    pub(crate) fn reserve(&mut self, area: Area, at: usize, len: usize) -> Result<(), AllocError>
+        requires { at ≤ length (part area (areas_of self.old)) }
+
+        ensures held { areas_of self.new ≡ areas_of self.old }
+        ensures room { OnOk result (at + len ≤ room area self.new) }
+    {
+        match area {
+            Area::Select => reserve(&mut self.select, at, len),
+            Area::A => reserve(&mut self.a, at, len),
+            Area::B => reserve(&mut self.b, at, len),
+        }
+    }
+
+    /// Writes these bytes over those of an area from an offset on, in place.
+    pub(crate) fn write(&mut self, area: Area, at: usize, bytes: &[u8])
+        requires within { at ≤ length (part area (areas_of self.old)) }
+        requires room { at + length bytes.now ≤ room area self.old }
+
+        ensures { areas_of self.new
+            ≡ with_part area (pasted at bytes.now (part area (areas_of self.old)))
+            (areas_of self.old) }
+    {
+        match area {
+            Area::Select => paste(&mut self.select, at, bytes),
+            Area::A => paste(&mut self.a, at, bytes),
+            Area::B => paste(&mut self.b, at, bytes),
+        }
+    }
+
+    /// Makes an area this long, if it is longer.
+    pub(crate) fn cut(&mut self, area: Area, len: usize)
+        ensures { areas_of self.new
+            ≡ with_part area (take len (part area (areas_of self.old))) (areas_of self.old) }
+    {
+        match area {
+            Area::Select => self.select.truncate(len),
+            Area::A => self.a.truncate(len),
+            Area::B => self.b.truncate(len),
+        }
+    }
+
+    /// Sets each byte of a range to this one.
+    pub(crate) fn fill(&mut self, alloc: Global, range: &Range, fill: u8) -> Result<(), AllocError>
+        ensures { OnOk result (areas_of self.new ≡ filled_in fill range.now (areas_of self.old)) }
+    {
+        if range.at > self.part(range.area).len() {
+            return Ok(());
+        }
+        let bytes = vec![in alloc; fill; range.len]?;
+        self.reserve(range.area, range.at, range.len)?;
+        self.write(range.area, range.at, &bytes);
         Ok(())
     }
 }
 
 impl State {
-    ghost use Rattle.disk.specs.Record.{areas_of, at_risk, filled, leaves, synced};
+    ghost use Rattle.disk.specs.Record.{areas_of, at_risk, filled, leaves, room, synced};
 
     /// A disk that holds this, all of it synced.
     pub(crate) fn new(alloc: Global, held: Contents) -> State
@@ -103,56 +168,49 @@ impl State {
         ensures synced { synced result ≡ areas_of held }
         ensures ranges { result.ranges.items ≡ [] }
     {
+        let settled = Snapshot::of(&held);
         State {
             held,
-            kept_select: None,
-            kept_a: None,
-            kept_b: None,
+            settled,
             ranges: Vec::new(alloc),
         }
     }
 
-    /// What the disk held at the last sync.
-    pub(crate) fn last_synced(&self, alloc: Global) -> Result<Contents, AllocError>
-        ensures { IfOk result (λ c. areas_of c ≡ synced self.now) }
-    {
-        Ok(Contents {
-            select: copied(alloc, &self.kept_select, &self.held.select)?,
-            a: copied(alloc, &self.kept_a, &self.held.a)?,
-            b: copied(alloc, &self.kept_b, &self.held.b)?,
-        })
-    }
+    /// What a crash leaves if each byte that was written since the last sync became `fill`; `last`
+    /// is what the disk held then.
+    pub(crate) fn filled(
+        &self,
+        alloc: Global,
+        last: Contents,
+        fill: u8,
+    ) -> Result<Contents, AllocError>
+        requires { areas_of last ≡ synced self.now }
 
-    /// What a crash leaves if each byte that was written since the last sync became `fill`.
-    pub(crate) fn filled(&self, alloc: Global, fill: u8) -> Result<Contents, AllocError>
         ensures { IfOk result (λ c. areas_of c ≡ filled fill self.now) }
     {
-        let mut left = self.last_synced(alloc)?;
+        let mut left = last;
         for range in &self.ranges {
             left.fill(alloc, range, fill)?;
         }
         Ok(left)
     }
 
-    /// The content that an area will have once these bytes are written at this offset.
-    pub(crate) fn prepared(
-        &self,
-        alloc: Global,
-        area: Area,
-        at: usize,
-        bytes: &[u8],
-    ) -> Result<Vec<u8>, AllocError>
-        requires { at ≤ length (part area (areas_of self.now.held)) }
+    /// Makes room for this many bytes at this offset, so that [`write`](State::write) can't fail.
+    pub(crate) fn reserve(&mut self, area: Area, at: usize, len: usize) -> Result<(), AllocError>
+        requires { at ≤ length (part area (areas_of self.old.held)) }
 
-        ensures { IfOk result (λ v.
-            v.items ≡ pasted at bytes.now (part area (areas_of self.now.held))) }
+        ensures held { areas_of self.new.held ≡ areas_of self.old.held }
+        ensures synced { synced self.new ≡ synced self.old }
+        ensures ranges { self.new.ranges ≡ self.old.ranges }
+        ensures room { OnOk result (at + len ≤ room area self.new.held) }
     {
-        pasted_copy(alloc, self.held.part(area), at, bytes)
+        self.held.reserve(area, at, len)
     }
 
     /// From now on a crash may leave any bytes in this range. A failure changes nothing.
     pub(crate) fn note(&mut self, area: Area, at: usize, len: usize) -> Result<(), AllocError>
         ensures held { self.new.held ≡ self.old.held }
+        ensures synced { synced self.new ≡ synced self.old }
         ensures crash { Follows (Changes area (Torn at len)) (leaves self.old) (leaves self.new) }
         ensures torn { OnOk result
             (Reaches (Changes area (Torn at len)) (leaves self.old) (at_risk self.new)) }
@@ -168,64 +226,73 @@ impl State {
         Ok(())
     }
 
-    /// Replaces the bytes of an area. Its bytes at the last sync stay known.
+    /// Writes these bytes over those of an area from an offset on, in place.
+    pub(crate) fn write(&mut self, area: Area, at: usize, bytes: &[u8])
+        requires within { at ≤ length (part area (areas_of self.old.held)) }
+        requires room { at + length bytes.now ≤ room area self.old.held }
+
+        ensures held { areas_of self.new.held
+            ≡ with_part area (pasted at bytes.now (part area (areas_of self.old.held)))
+            (areas_of self.old.held) }
+        ensures synced { synced self.new ≡ synced self.old }
+        ensures ranges { self.new.ranges ≡ self.old.ranges }
+    {
+        self.held.write(area, at, bytes);
+    }
+
+    /// Replaces the bytes of an area.
     pub(crate) fn set(&mut self, area: Area, next: Vec<u8>)
         ensures held { areas_of self.new.held ≡ with_part area next.items (areas_of self.old.held) }
         ensures synced { synced self.new ≡ synced self.old }
         ensures ranges { self.new.ranges ≡ self.old.ranges }
     {
-        match area {
-            Area::Select => replace(&mut self.held.select, &mut self.kept_select, next),
-            Area::A => replace(&mut self.held.a, &mut self.kept_a, next),
-            Area::B => replace(&mut self.held.b, &mut self.kept_b, next),
-        }
+        self.held.set(area, next);
     }
 
     /// Everything that the disk holds is synced.
-    pub(crate) fn settle(&mut self, alloc: Global)
+    pub(crate) fn settle(&mut self)
         ensures held { self.new.held ≡ self.old.held }
         ensures synced { synced self.new ≡ areas_of self.old.held }
         ensures ranges { self.new.ranges.items ≡ [] }
     {
-        self.kept_select = None;
-        self.kept_a = None;
-        self.kept_b = None;
-        self.ranges = Vec::new(alloc);
+        self.settled = Snapshot::of(&self.held);
+        self.ranges.clear();
     }
 }
 
-// A copy of the old bytes with these written over them, at this offset.
-fn pasted_copy(alloc: Global, old: &[u8], at: usize, bytes: &[u8]) -> Result<Vec<u8>, AllocError>
-    requires { at ≤ length old.now }
-
-    ensures { IfOk result (λ v. v.items ≡ pasted at bytes.now old.now) }
+// Copies the bytes of `held` from the offset `at` on to the front of `into`, as many as both allow,
+// and returns how many.
+fn copy_out(held: &[u8], at: usize, into: &mut [u8]) -> usize
+    ensures { Reads held.now at result into.old into.new }
 {
-    let mut next = old[..at].to_vec(alloc)?;
-    next.extend_from_slice(bytes)?;
-    if bytes.len() < old.len() - at {
-        next.extend_from_slice(&old[at + bytes.len()..])?;
-    }
-    Ok(next)
+    let rest = if at < held.len() { &held[at..] } else { &[] };
+    let n = rest.len().min(into.len());
+    into[..n].copy_from_slice(&rest[..n]);
+    n
 }
 
-// The kept bytes, or if none are kept, the current ones.
-fn copied(alloc: Global, kept: &Option<Vec<u8>>, held: &Vec<u8>) -> Result<Vec<u8>, AllocError>
-    ensures { IfOk result (λ v. v.items ≡ kept_or kept.now held.now) }
+// Makes room for this many bytes from an offset on.
+fn reserve(held: &mut Vec<u8>, at: usize, len: usize) -> Result<(), AllocError>
+    requires { at ≤ length held.old.items }
+
+    ensures held { held.new.items ≡ held.old.items }
+    ensures room { OnOk result (at + len ≤ vec_capacity held.new) }
 {
-    match kept {
-        Some(kept) => kept.to_vec(alloc),
-        None => held.to_vec(alloc),
-    }
+    held.reserve(len.saturating_sub(held.len() - at))
 }
 
-// Replaces the current bytes. The old ones are kept if none are kept yet.
-fn replace(held: &mut Vec<u8>, kept: &mut Option<Vec<u8>>, next: Vec<u8>)
-    ensures held { held.new.items ≡ next.items }
-    ensures kept { kept_or kept.new held.new ≡ kept_or kept.old held.old }
+/// Writes these bytes over others from an offset on.
+pub(crate) fn paste(held: &mut Vec<u8>, at: usize, bytes: &[u8])
+    requires within { at ≤ length held.old.items }
+    requires room { at + length bytes.now ≤ vec_capacity held.old }
+
+    ensures { held.new.items ≡ pasted at bytes.now held.old.items }
 {
-    let last = mem::replace(held, next);
-    if kept.is_none() {
-        *kept = Some(last);
+    let over = bytes.len().min(held.len() - at);
+    held[at..at + over].copy_from_slice(&bytes[..over]);
+    match held.extend_from_slice(&bytes[over..]) {
+        Ok(()) => {}
+        Err(_) => unreachable!(),
     }
 }
 

@@ -8,8 +8,8 @@ use Rattle.msg.specs.Grammar.{Plain, ack_frame, data_frame, spelling}
 use Rattle.model.specs.View.{NodeView, is_other}
 use Rattle.node.specs.Frames.{acknowledgement, released_frame}
 use Rattle.handles.specs.Reads.{found}
-use Rattle.handles.specs.declared.fault.Fault.{Fault}
-use Rattle.handles.specs.declared.fault.Fault.TheVariants as fault
+use Rattle.values.specs.declared.fault.Fault.{Fault}
+use Rattle.values.specs.declared.fault.Fault.TheVariants as fault
 use Rattle.handles.specs.declared.lone.LoneNode.{LoneNode}
 use Rattle.handles.specs.declared.packing.Packing.{Packing}
 

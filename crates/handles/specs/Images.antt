@@ -7,9 +7,9 @@ use Rattle.model.specs.State.{got_from}
 use Rattle.model.specs.View.{NodeView, link_to, used}
 use Rattle.node.specs.Keeping.{WholeNode, kept_whole, kept_whole_with}
 use Rattle.image.specs.Images.{image_of}
-use Rattle.handles.specs.Bytes.{Wrote}
-use Rattle.handles.specs.declared.fault.Fault.{Fault}
-use Rattle.handles.specs.declared.fault.Fault.TheVariants as fault
+use Rattle.values.specs.Bytes.{Wrote}
+use Rattle.values.specs.declared.fault.Fault.{Fault}
+use Rattle.values.specs.declared.fault.Fault.TheVariants as fault
 use Rattle.handles.specs.declared.lone.images.Counts.{Counts}
 use Rattle.handles.specs.declared.lone.LoneNode.{LoneNode}
 

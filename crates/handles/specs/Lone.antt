@@ -18,8 +18,8 @@ use Rattle.model.specs.declared.event.Event.{Event}
 use Rattle.model.specs.declared.event.Event.TheVariants as event
 use Rattle.node.specs.Keeping.{WholeNode, alone, early_after, met, new_whole}
 use Rattle.image.specs.Nodes.{IsImageOf}
-use Rattle.handles.specs.declared.fault.Fault.{Fault}
-use Rattle.handles.specs.declared.fault.Fault.TheVariants as fault
+use Rattle.values.specs.declared.fault.Fault.{Fault}
+use Rattle.values.specs.declared.fault.Fault.TheVariants as fault
 use Rattle.handles.specs.declared.lone.LoneNode.{LoneNode}
 
 -- ---- Making one

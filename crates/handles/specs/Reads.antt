@@ -6,9 +6,9 @@ use Rattle.msg.specs.declared.frame.Data.{Data}
 use Rattle.model.specs.State.{LocalState, got_from}
 use Rattle.model.specs.View.{NodeView, is_other, link_to, used}
 use Rattle.node.specs.Keeping.{WholeNode, waiting}
-use Rattle.handles.specs.declared.fault.Fault.{Fault}
-use Rattle.handles.specs.declared.fault.Fault.TheVariants as fault
-use Rattle.handles.specs.declared.fields.CLink.{CLink}
+use Rattle.values.specs.declared.fault.Fault.{Fault}
+use Rattle.values.specs.declared.fault.Fault.TheVariants as fault
+use Rattle.values.specs.declared.fields.CLink.{CLink}
 
 -- this value, or nothing
 abbrev pub found : {A : Type 0} → Option A → Result A Fault

@@ -10,16 +10,10 @@
 //! fails with [`Fault::NoHandle`]. So only `swap` of each handle deals with a pointer.
 #![tactic(auto)]
 
-mod bytes;
-mod fault;
-mod fields;
 mod lone;
 mod nodes;
 mod packing;
 
-pub use bytes::put;
-pub use fault::{Fault, OK};
-pub use fields::{CAnswer, CEvent, CLink, CRef, CState};
 pub use lone::LoneNode;
 pub use lone::reading::{link_of, register_of};
 pub use nodes::NodeHandle;

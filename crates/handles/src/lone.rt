@@ -8,7 +8,6 @@ mod frames;
 mod images;
 pub(crate) mod reading;
 
-use crate::fault::Fault;
 use ids::{NodeId, Ref, Refusal, Shape};
 use image::from_bytes;
 pub(crate) use images::Counts;
@@ -16,6 +15,7 @@ use model::{Answer, Event};
 use msg::{Ack, Data, Frame, decode};
 use node::Node;
 use std::alloc::Global;
+use values::Fault;
 
 /// A node whose caller moves its frames and stores its images.
 #[derive(Drop)]

@@ -5,15 +5,13 @@ ghost use Rattle.held.specs.Holds.{unboxed};
 ghost use Rattle.handles.specs.declared.lone.LoneNode.{LoneNode};
 ghost use Rattle.handles.specs.contracts.lone.LoneNode.{the_row as LoneRow};
 ghost use Rattle.node.specs.Summaries.{summary_of};
-ghost use Rattle.handles.specs.Faults.{Filled, Freed, Through, empty, read};
-ghost use Rattle.handles.specs.Bytes.{WroteIf};
+ghost use Rattle.values.specs.Faults.{Filled, Freed, Through, empty, read};
+ghost use Rattle.values.specs.Bytes.{WroteIf};
 ghost use Rattle.handles.specs.Frames.{HandlePacks, ack_bytes, frame_bytes};
 ghost use Rattle.handles.specs.Images.{HandleImaged, Kept, Released, SizedSame};
 ghost use Rattle.handles.specs.Lone.{Made, NodeActs, Read, TookIn};
 ghost use Rattle.handles.specs.Reads.{link_of, register_of, waiting_number};
 
-use crate::fault::Fault;
-use crate::fields::CLink;
 use crate::lone::LoneNode;
 use held::Held;
 use ids::Ref;
@@ -21,6 +19,7 @@ use model::{Answer, Event};
 use node::Summary;
 use std::alloc::Global;
 use std::marker::{Model, Send};
+use values::{CLink, Fault};
 
 /// What C holds of a node. Null is an empty handle. Only C copies its bytes, so it can't be dropped
 /// here.

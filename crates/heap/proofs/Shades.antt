@@ -7,7 +7,7 @@ use Rattle.ids.specs.declared.names.Ref.{Ref}
 use Rattle.model.specs.State.{Heap}
 use Rattle.model.specs.Heaps.{object_at}
 use Rattle.model.specs.Shading.{is_unmarked, wakes, make_grey, make_all_grey, filled, roots}
-use Rattle.model.proofs.ShadingParts.{make_all_grey-append}
+use Rattle.model.proofs.Shading.{make_all_grey-append}
 
 -- the next reference, and those after it
 next_one : (os : List (Option Ref)) (i : ℕ) → i < length os

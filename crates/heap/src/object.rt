@@ -32,8 +32,9 @@ impl Model for Object {
     ghost view = { λ o. record { word = o.word; places = held_in o.places; mark = o.mark } };
 
     ghost use Rattle.std.specs.Prelude.{◌≤◌, length};
+    ghost use Rattle.ids.specs.declared.limits.TheConstants.{GREATEST_PLACES};
 
-    ghost invariant = { λ o. length (held_in o.places) ≤ 8 };
+    ghost invariant = { λ o. length (held_in o.places) ≤ GREATEST_PLACES };
 }
 
 impl Object {
@@ -56,7 +57,7 @@ impl Object {
 
     /// Makes a new object with this many empty places, marked by this cycle.
     pub(crate) fn new(alloc: Global, cycle: u64, places: u8) -> Result<Object, Refusal>
-        requires { places ≤ 8 }
+        requires { places ≤ GREATEST_PLACES }
         ensures made { IfOk result (λ o. o ≡ new_object cycle places) }
         ensures refused { IfErr result (λ e. e ≡ Memory) }
     {

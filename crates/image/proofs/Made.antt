@@ -11,11 +11,11 @@ use Rattle.msg.specs.declared.version.Version.{Version}
 use Rattle.model.specs.View.{NodeView}
 use Rattle.node.specs.Parts.{IsRestorable}
 use Rattle.node.proofs.Restorable.{restorable}
-use Rattle.image.specs.Grammar.{Stored, Fits, IsImage}
+use Rattle.grammar.specs.Grammar.{Stored, Fits, IsImage}
 use Rattle.image.specs.Conditions.{IsSaved}
 use Rattle.image.specs.Nodes.{node_of, IsStanding, IsImageOf}
 use Rattle.image.proofs.Conditions.{standing_saved, saved_standing}
-use Rattle.image.proofs.Spelled.{read, again}
+use Rattle.grammar.proofs.Readings.{read, again}
 
 -- one more element in each of two lists that say the same
 pub same_more : {A B C : Type 0} (f : A → C) (g : B → C) (xs : List A) (ys : List B) (x : A) (y : B)

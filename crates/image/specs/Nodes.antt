@@ -5,9 +5,9 @@ use Rattle.heap.specs.Heap.{slot_of, IsSlotted}
 use Rattle.node.specs.Invariant.{IsNode}
 use Rattle.model.specs.View.{Link, NodeView, no_link}
 use Rattle.msg.specs.declared.version.Version.{Version}
-use Rattle.image.specs.declared.parts.Head.{Head}
-use Rattle.image.specs.Links.{StoredLink}
-use Rattle.image.specs.Grammar.{Stored, IsImage}
+use Rattle.grammar.specs.declared.parts.Head.{Head}
+use Rattle.grammar.specs.Links.{StoredLink}
+use Rattle.grammar.specs.Grammar.{Stored, IsImage}
 use Rattle.image.specs.Conditions.{IsSaved}
 
 -- all messages count as saved

@@ -1,6 +1,6 @@
 //! How a shelf keeps nodes: each as its image.
 use crate::{restoring, saving};
-use disk::Persist;
+use disk::{HEAD, Persist};
 use ids::Refusal;
 use node::Node;
 use std::alloc::Global;
@@ -21,7 +21,7 @@ impl Persist for Images {
     ghost saved = { saved_whole };
 
     fn to_bytes(alloc: Global, value: &Node) -> Result<Vec<u8>, Refusal> {
-        saving::to_bytes(alloc, value)
+        saving::to_bytes_behind(Vec::new(alloc), &[0; HEAD], value)
     }
 
     fn from_bytes(alloc: Global, bytes: &[u8]) -> Result<Node, Refusal> {

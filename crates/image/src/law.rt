@@ -1,22 +1,13 @@
-//! What holds of all images: no image is a prefix of another, and bytes are the image of at most
-//! one node. Each law is the contract of a function that does nothing.
-ghost use Rattle.std.specs.Prelude.{◌≡◌, ◌≤◌, ◌++◌, ◌↔◌, [], ℕ, List, length};
+//! What holds of all images: bytes are the image of at most one node. Each law is the contract of a
+//! function that does nothing.
+ghost use Rattle.std.specs.Prelude.{◌≡◌, ◌≤◌, ◌↔◌, ℕ, List, length};
 ghost use Rattle.ids.specs.declared.limits.TheConstants.{GREATEST_IMAGE};
 ghost use Rattle.msg.specs.declared.version.Version.{Version};
 ghost use Rattle.msg.specs.declared.version.Version.TheVariants.{Second};
 ghost use Rattle.model.specs.View.{NodeView, kept_view};
-ghost use Rattle.image.specs.Grammar.{Stored, Fits, spelling};
 ghost use Rattle.image.specs.Images.{image_of};
 ghost use Rattle.image.specs.Conditions.{IsSaved};
 ghost use Rattle.image.specs.Nodes.{IsStanding, Spells};
-
-/// No spelling of an image, of either version, is a prefix of another. So bytes are at most one
-/// image. The function does nothing; its contract states the law.
-#[tactic(auto, using(crate::proofs::Spelled::no_spelling_begins_another))]
-pub fn grammar()
-    ensures { (v w : Version) (s t : Stored) (rest : List ℕ) → Fits v s → Fits w t
-        → spelling v s ++ rest ≡ spelling w t → (rest ≡ []) × (v ≡ w) × (s ≡ t) }
-{}
 
 /// Bytes spell at most one node, and a node has at most one spelling in each version. All messages
 /// and numbers of a node that has a spelling count as saved. What the first version spells, the

@@ -1,20 +1,21 @@
 //! Makes a node of what its image says. Everything that it sent and received counts as saved, since
 //! images are written only of nodes that are being saved.
-ghost use Rattle.std.specs.Prelude.{◌≡◌, ◌≢◌, ◌≤◌, length, map, IfOk, IfErr, OnOk};
+ghost use Rattle.std.specs.Prelude.{◌≡◌, ◌≢◌, ◌≤◌, length, map, IfOk, IfErr, IsTrue, OnOk};
 ghost use Rattle.std.specs.List.{insert};
 ghost use Rattle.ids.specs.declared.refusal.Refusal.TheVariants.{BadImage, Memory};
 ghost use Rattle.msg.specs.declared.version.Version.{Version};
 ghost use Rattle.model.specs.View.{NodeView, no_link};
 ghost use Rattle.link.specs.Parts.{link_given, taken_given};
 ghost use Rattle.node.specs.Keeping.{alone};
-ghost use Rattle.image.specs.Grammar.{Fits};
+ghost use Rattle.grammar.specs.Grammar.{Fits};
 ghost use Rattle.image.specs.Nodes.{link_of, received_of, reports_of, node_of};
 ghost use Rattle.image.specs.Nodes.{IsStanding, IsImageOf};
-ghost use Rattle.image.specs.Parts.{stored_of};
+ghost use Rattle.grammar.specs.Logs.{begins_logged};
+ghost use Rattle.grammar.specs.Parts.{stored_of};
+ghost use Rattle.image.specs.Logged.{IsAnyImageOf, IsLoggedOf};
 
-use crate::parts::{Head, NodeParts, StoredLink};
-use crate::reading::whole;
 use control::Phases;
+use grammar::{Head, NodeParts, StoredLink, begins_logged, whole, whole_logged};
 use heap::HeapParts;
 use ids::{GREATEST_IMAGE, Refusal, Shape};
 use link::LinkParts;
@@ -52,6 +53,43 @@ pub fn core_from_bytes(alloc: Global, bytes: &[u8]) -> Result<Core, Refusal>
         return Err(Refusal::BadImage);
     }
     let (_version, image) = whole(alloc, bytes)?;
+    restored(alloc, image)
+}
+
+/// The node whose image the bytes are, if a log of events may follow the image. It reads version 3
+/// and, as [`from_bytes`] does, the others. It fails as that does.
+pub fn from_any_bytes(alloc: Global, bytes: &[u8]) -> Result<Node, Refusal>
+    ensures read { IfOk result (λ n. IsAnyImageOf bytes.now n.core) }
+    ensures alone { IfOk result (λ n. n ≡ alone n.core) }
+    ensures refused { IfErr result (λ e. e ≢ Memory
+        → (e ≡ BadImage) × ((n : NodeView) → IsAnyImageOf bytes.now n → ⊥)) }
+{
+    let core = core_from_any_bytes(alloc, bytes)?;
+    Node::of(alloc, core)
+}
+
+fn core_from_any_bytes(alloc: Global, bytes: &[u8]) -> Result<Core, Refusal>
+    ensures read { IfOk result (λ n. IsAnyImageOf bytes.now n) }
+    ensures refused { IfErr result (λ e. e ≢ Memory
+        → (e ≡ BadImage) × ((n : NodeView) → IsAnyImageOf bytes.now n → ⊥)) }
+{
+    if begins_logged(bytes) {
+        core_from_logged(alloc, bytes)
+    } else {
+        core_from_bytes(alloc, bytes)
+    }
+}
+
+fn core_from_logged(alloc: Global, bytes: &[u8]) -> Result<Core, Refusal>
+    requires { IsTrue (begins_logged bytes.now) }
+    ensures read { IfOk result (λ n. IsLoggedOf bytes.now n) }
+    ensures refused { IfErr result (λ e. e ≢ Memory
+        → (e ≡ BadImage) × ((n : NodeView) → IsLoggedOf bytes.now n → ⊥)) }
+{
+    if bytes.len() > GREATEST_IMAGE as usize {
+        return Err(Refusal::BadImage);
+    }
+    let image = whole_logged(alloc, bytes)?;
     restored(alloc, image)
 }
 

@@ -19,10 +19,10 @@ use Rattle.model.specs.Steps.{act, tests, made, taken_in, is_own, is_addressed}
 use Rattle.model.specs.World.{new_world, new_nodes, run}
 use Rattle.model.specs.Cuts.{Cut, cut, taken, IsInFlight, Becomes, PlainStep, acts, delivers, PlainRun, still, further}
 use Rattle.model.proofs.Lookups.{at_set_if, get_or-replicate_any}
+use Rattle.model.proofs.Leaving.{Stands, counted_in, own-stands, taken-stands}
 use Rattle.laws.proofs.StepFacts.{Delivery, act-ok, Receipt, repeated, next, receipt-cases, length-append_all}
 use Rattle.laws.proofs.Cuts.{cuts-extend}
 use Rattle.laws.proofs.Turns.{Turn, at_becomes, at_turn, sent-grows}
-use Rattle.laws.proofs.Stands.{Stands, Takes, own-stands, taken-takes}
 use Rattle.laws.proofs.Lookups.{set-no_fewer, nothing-below-zero}
 use Rattle.laws.proofs.Invariant.{Base}
 
@@ -96,9 +96,9 @@ own-heard {p = p} h from =
     subst (λ (z : List ℕ). got_from p from ≤ get_or z from 0) (sym h.got) (omega arith)
 
 -- one message is received
-pub taken-heard : {p q : LocalState} {from number : ℕ} → Takes p q from number
-    → got_from p from ≤ number → (j : ℕ) → got_from p j ≤ got_from q j
-taken-heard {p = p} {from = from} {number = number} h more j =
+pub taken-heard : {q : LocalState} (p : LocalState) (from number : ℕ)
+    → Stands (counted_in p from number) q → got_from p from ≤ number → (j : ℕ) → got_from p j ≤ got_from q j
+taken-heard p from number h more j =
     subst (λ (z : List ℕ). got_from p j ≤ get_or z j 0) (sym h.got)
     (set-no_fewer p.got from number more j)
 
@@ -146,7 +146,8 @@ base-receive {shape = shape} {c = c} {d = d} {from = from} {to = to} {x = x} fli
     let p : LocalState = (c to).local in
     let number : ℕ = taken c from to + 1 in
     let y : Effect = taken_in p from number x.stamp x.body in
-    let takes : Takes p y.local from number = taken-takes p from number x.stamp x.body in
+    let takes : Stands (counted_in p from number) y.local =
+    taken-stands p from number x.stamp x.body in
     let there : taken c from to < length (sent_to (c from) to) =
     slice_get_within (sent_to (c from) to) (taken c from to) x flight.there in
     let step : BaseStep shape c d to y.local y.sends = record {
@@ -154,7 +155,7 @@ base-receive {shape = shape} {c = c} {d = d} {from = from} {to = to} {x = x} fli
           (no-node-takes_nothing from to);
       turn = record {
         becomes = subst (λ (z : NodeState). Becomes c d to z) found.state becomes;
-        heard = taken-heard takes (omega arith);
+        heard = taken-heard p from number takes (omega arith);
       };
       own = takes.own;
       same_shape = takes.shape;

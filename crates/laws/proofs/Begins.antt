@@ -1,34 +1,33 @@
 -- The invariant after node 0 has begun a cycle.
 use Rattle.std.proofs.Common.{◌≡◌, ◌≢◌, ℕ, zero, suc, ◌+◌, ◌-◌, ◌%◌, ◌<◌, ◌≤◌, ◌⊎◌, ◌==◌, true, List, [], ◌∷◌, ◌++◌, length, drop, get_or, Option, None, Some, refl, sym, ap, ◌∙◌, subst, ⊎_elim, inl, inr, arith, le_refl}
 use Rattle.std.specs.List.{list_all}
-use Rattle.std.proofs.lemmas.Bool.{cases_Bool, cases_eq, ne_eqb, eqb-true, and_parts, not_from_false}
+use Rattle.std.proofs.lemmas.Bool.{cases_eq, eqb-true, and_parts}
 use Rattle.ids.specs.Limits.{Shaped}
 use Rattle.ids.specs.declared.names.Ref.{Ref}
 use Rattle.msg.specs.declared.body.Body.TheVariants as body
 use Rattle.msg.specs.declared.body.Colour.TheVariants.{White}
 use Rattle.msg.specs.declared.body.Token.{Token}
 use Rattle.msg.specs.declared.body.Message.{Message}
-use Rattle.model.specs.State.{Phases, Ring, LocalState, NodeState}
-use Rattle.model.specs.Effects.{Work, at_rest}
+use Rattle.model.specs.State.{Phases, Ring, NodeState}
+use Rattle.model.specs.Effects.{Work}
 use Rattle.model.specs.Counting.{append, announce, stamped, to_others}
-use Rattle.model.specs.Shading.{is_open, filled, roots, enter, join}
+use Rattle.model.specs.Shading.{enter, join, see_to}
 use Rattle.model.specs.Collecting.{whitened, without_token, new_token, probe, begun, is_swept_everywhere}
 use Rattle.model.specs.Steps.{append_all}
 use Rattle.model.specs.Cuts.{Cut, Becomes}
-use Rattle.model.proofs.ShadingParts.{shade_all-open, shade_all-closed}
-use Rattle.laws.proofs.Stands.{join-stands}
-use Rattle.laws.proofs.Invariant.{phases_of, cycle_of, Marking, Resting, Safe, RootsAll, at_node, is_held, Inv}
+use Rattle.model.proofs.Leaving.{stands-walks}
+use Rattle.model.proofs.Joining.{join-token}
+use Rattle.model.proofs.Walk.{join-walks, work_in}
+use Rattle.laws.proofs.Invariant.{phases_of, cycle_of, Marking, Resting, Safe, at_node, is_held, Inv}
 use Rattle.laws.proofs.Acting.{put, put-here, becomes-put}
 use Rattle.laws.proofs.Moves.{worked, append_all-append, Moves}
-use Rattle.laws.proofs.OwnEvents.{effect_work, roots-moves}
-use Rattle.laws.proofs.HeapSteps.{re_rooted}
 use Rattle.laws.proofs.Receipts.{becomes-from}
 use Rattle.laws.proofs.Tallies.{bound-none}
 use Rattle.laws.proofs.TokenSteps.{Leaving, leave-inv, probe-safra}
 use Rattle.laws.proofs.PhaseSteps.{Telling, tell-inv}
 use Rattle.laws.proofs.Joins.{entering, enter-slots}
 use Rattle.laws.proofs.Starts.{Starting, start-inv}
-use Rattle.laws.proofs.Dressing.{bare, Dressing, dress-moves, roots-all}
+use Rattle.laws.proofs.Dressing.{Dressing, dress-moves, roots-all}
 use Rattle.laws.proofs.Rounds.{last-next}
 
 -- all others have reported, as node 0 tests
@@ -54,42 +53,17 @@ abbrev with_token : NodeState → Option Token → NodeState
 with_token s t = record s { local = record s.local { ring = record s.local.ring { token = t } } }
 
 -- joining doesn't change the token, and doesn't depend on it
-join-token-apart : (s : NodeState) (cycle : ℕ) (t : Option Token) → s.local.phases.ended ≢ cycle
+join-token-apart : (s : NodeState) (cycle : ℕ) (t : Option Token)
     → worked (with_token s t) (join (with_token s t).local cycle)
     ≡ with_token (worked s (join s.local cycle)) t
-unfolding join enter
-join-token-apart s cycle t before =
-    let opened : is_open (enter s.local cycle) ≡ true =
-    not_from_false _ (ne_eqb s.local.phases.ended cycle before) in
-    ap (worked (with_token s t))
-    (shade_all-open (enter (with_token s t).local cycle) [] (filled (roots s.local.heap)) opened)
-    ∙ ap (λ (w : Work). with_token (worked s w) t)
-    (sym (shade_all-open (enter s.local cycle) [] (filled (roots s.local.heap)) opened))
-
-join-has_token : (p : LocalState) (cycle : ℕ) → p.phases.ended ≢ cycle
-    → (join p cycle).local.ring.token ≡ p.ring.token
-unfolding join enter
-join-has_token p cycle before =
-    ap (λ (w : Work). w.local.ring.token)
-    (shade_all-open (enter p cycle) [] (filled (roots p.heap))
-    (not_from_false _ (ne_eqb p.phases.ended cycle before)))
-
-pub join-has_cycle : (p : LocalState) (cycle : ℕ) → (join p cycle).local.phases.cycle ≡ cycle
-unfolding join enter
-join-has_cycle p cycle = ⊎_elim {C = (join p cycle).local.phases.cycle ≡ cycle}
-    (λ opened.
-    ap (λ (w : Work). w.local.phases.cycle)
-    (shade_all-open (enter p cycle) [] (filled (roots p.heap)) opened))
-    (λ shut.
-    ap (λ (w : Work). w.local.phases.cycle)
-    (shade_all-closed (at_rest (enter p cycle)) (filled (roots p.heap)) shut))
-    (cases_Bool (is_open (enter p cycle)))
+unfolding join enter see_to
+join-token-apart s cycle t = refl
 
 pub record Beginning (shape : Shaped) (c d : Cut) : Type 0 where
   pub inv : Inv shape c
   pub several : 2 ≤ shape.nodes
   pub swept : is_swept_everywhere (c 0).local.phases ≡ true
-  pub becomes : Becomes c d 0 (worked (c 0) (effect_work (begun (c 0).local)))
+  pub becomes : Becomes c d 0 (worked (c 0) (work_in (begun (c 0).local)))
 
 module _ {shape : Shaped} {c d : Cut} (h : Beginning shape c d) where
   abbrev beginner : NodeState
@@ -151,52 +125,27 @@ module _ {shape : Shaped} {c d : Cut} (h : Beginning shape c d) where
   begin-inv =
       let s : NodeState = beginner in
       let grey : List ℕ = length s.local.heap.slots ∷ [] in
-      let s1 : NodeState = re_rooted s [] [] in
-      let c1 : Cut = put c 0 s1 in
-      let at1 : c1 0 ≡ s1 = put-here c 0 s1 in
-      let first : Moves shape c c1 0 =
-      roots-moves [] [] begin-inside (becomes-put c 0 s1)
-      (record { registers = λ k. tt; letters = λ k. tt }) h.inv in
-      let cycle1 : cycle_of c1 0 ≡ cycle_of c 0 =
-      ap (λ (z : ℕ → Phases). (z 0).cycle) first.phases in
       let t : NodeState = with_token s (Some new_token) in
       let s2 : NodeState = record {
-        local = entering (bare t.local) coming grey (Some new_token);
+        local = entering s.local coming grey (Some new_token);
         sent = s.sent;
       } in
-      let c2 : Cut = put c1 0 s2 in
-      let b2 : Becomes c1 c2 0 (record {
-        local = entering (c1 0).local (cycle_of c1 0 + 1) grey (Some new_token);
-        sent = (c1 0).sent;
-      }) =
-      subst (λ (z : ℕ). Becomes c1 c2 0 (record {
-        local = entering (c1 0).local (z + 1) grey (Some new_token);
-        sent = (c1 0).sent;
-      })) (sym cycle1)
-      (subst (λ (z : NodeState). Becomes c1 c2 0 (record {
-        local = entering z.local coming grey (Some new_token);
-        sent = z.sent;
-      })) (sym at1) (becomes-put c1 0 s2)) in
-      let starting : Starting shape c1 c2 grey = record {
-        inv = first.inv;
+      let c2 : Cut = put c 0 s2 in
+      let at2 : c2 0 ≡ s2 = put-here c 0 s2 in
+      let b2 = becomes-put c 0 s2 in
+      let starting : Starting shape c c2 grey = record {
+        inv = h.inv;
         inside = begin-inside;
-        empty =
-            subst (λ (z : NodeState). RootsAll (λ _. ⊥) z.local.heap) (sym at1)
-            (record { registers = λ k. tt; letters = λ k. tt });
-        resting = subst (λ (z : ℕ → Phases). Resting (z 0)) (sym first.phases) begin-resting;
-        swept = λ i inside.
-            ap (λ (z : ℕ → Phases). (z i).swept) first.phases ∙ begin-swept i inside ∙ sym cycle1;
-        reported = λ i above inside.
-            ap (λ (z : ℕ → Phases). get_or (z 0).reports i 0) first.phases
-            ∙ begin-reported i above inside ∙ sym cycle1;
+        resting = begin-resting;
+        swept = begin-swept;
+        reported = begin-reported;
         becomes = b2;
       } in
       let inv2 : Inv shape c2 = start-inv starting in
-      let now2 : cycle_of c2 0 ≡ coming =
-      ap (λ (z : NodeState). z.local.phases.cycle) (put-here c1 0 s2) in
+      let now2 : cycle_of c2 0 ≡ coming = ap (λ (z : NodeState). z.local.phases.cycle) at2 in
       let ended2 : (phases_of c2 0).ended ≡ (phases_of c 0).ended =
-      ap (λ (z : NodeState). z.local.phases.ended) (put-here c1 0 s2) in
-      let safe2 : (r : Ref) → Safe c1 r → Safe c2 r = λ r z. record {
+      ap (λ (z : NodeState). z.local.phases.ended) at2 in
+      let safe2 : (r : Ref) → Safe c r → Safe c2 r = λ r z. record {
         object = z.object;
         there = enter-slots b2 r.node r.slot ∙ z.there;
         marked = λ rest. absurd (omega (arith, rest, now2, ended2, begin-resting));
@@ -207,21 +156,21 @@ module _ {shape : Shaped} {c d : Cut} (h : Beginning shape c d) where
       let dressing : Dressing shape c2 c3 0 coming t = record {
         inv = inv2;
         inside = begin-inside;
-        now = put-here c1 0 s2;
+        now = at2;
         calm = h.inv.rested.grey 0 begin-resting;
         before = begin-before;
-        safe = λ r a.
-            safe2 r (first.safe r (roots-all (Safe c) s.local.heap (h.inv.closed.roots 0) r a));
+        safe = λ r a. safe2 r (roots-all (Safe c) s.local.heap (h.inv.closed.roots 0) r a);
         becomes = becomes-put c2 0 s3;
       } in
       let third : Moves shape c2 c3 0 = dress-moves dressing in
       let w : Work = join s.local coming in
       let worked_is : s3 ≡ with_token (worked s w) (Some new_token) =
-      join-token-apart s coming (Some new_token) begin-before in
+      join-token-apart s coming (Some new_token) in
       let at3b : c3 0 ≡ with_token (worked s w) (Some new_token) = at3 ∙ worked_is in
       let wide : w.local.shape.nodes ≡ shape.nodes =
       ap (λ (z : Shaped). z.nodes)
-      ((join-stands s.local coming).shape ∙ h.inv.base.shapes 0 begin-inside) in
+      ((join-walks stands-walks.collects s.local coming (omega arith)).shape
+      ∙ h.inv.base.shapes 0 begin-inside) in
       let to : ℕ = w.local.shape.nodes - 1 in
       let last : suc to ≡ shape.nodes = omega (arith, wide, h.several) in
       let s4 : NodeState = record {
@@ -253,11 +202,11 @@ module _ {shape : Shaped} {c d : Cut} (h : Beginning shape c d) where
       } in
       let inv4 : Inv shape c4 = leave-inv leaving in
       let none : w.local.ring.token ≡ None =
-      join-has_token s.local coming begin-before ∙ begin-none in
+      join-token s.local coming ∙ begin-none in
       let ring_is : whitened w.local.ring ≡ whitened (without_token w.local.ring) =
       ap (λ (z : Option Token). record w.local.ring { colour = White; token = z }) none in
       let ms : List (ℕ × Message) = (to, stamped w.local (body.Token new_token)) ∷ [] in
-      let final : worked s (effect_work (begun s.local))
+      let final : worked s (work_in (begun s.local))
       ≡ record {
         local = s4.local;
         sent = append_all s4.sent (to_others s4.local body.Begin w.local.shape.nodes);
@@ -286,8 +235,7 @@ module _ {shape : Shaped} {c d : Cut} (h : Beginning shape c d) where
               sent = append_all s4.sent (to_others s4.local body.Begin z);
             })) wide
             (becomes-from (becomes-put c3 0 s4) (becomes-from (becomes-put c2 0 s3)
-            (becomes-from (becomes-put c1 0 s2) (becomes-from (becomes-put c 0 s1)
-            (subst (λ (z : NodeState). Becomes c d 0 z) final h.becomes))))));
+            (becomes-from b2 (subst (λ (z : NodeState). Becomes c d 0 z) final h.becomes)))));
         idle = refl;
         no_token = λ k e. absurd cc;
         fits = λ k other inside. (refl, le_refl _);

@@ -38,22 +38,14 @@ pub reference-balance : (cycle stamp : ℕ) (b : Body) → is_reference b ≡ tr
 reference-balance cycle stamp (body.Give label reference) is = refl
 reference-balance cycle stamp (body.Put target place reference) is = refl
 reference-balance cycle stamp (body.Get target place label) is = refl
-reference-balance cycle stamp body.Begin is = absurd cc
-reference-balance cycle stamp (body.Token t) is = absurd cc
-reference-balance cycle stamp (body.Mark r) is = absurd cc
-reference-balance cycle stamp body.Ended is = absurd cc
-reference-balance cycle stamp body.Swept is = absurd cc
+reference-balance cycle stamp b is = absurd cc
 
 pub reference-counts : (cycle stamp : ℕ) (b : Body) → is_reference b ≡ true
     → counts cycle stamp b ≡ ltb stamp cycle
-reference-counts cycle stamp (body.Mark r) is = absurd cc
 reference-counts cycle stamp (body.Give label reference) is = refl
 reference-counts cycle stamp (body.Put target place reference) is = refl
 reference-counts cycle stamp (body.Get target place label) is = refl
-reference-counts cycle stamp body.Begin is = absurd cc
-reference-counts cycle stamp (body.Token t) is = absurd cc
-reference-counts cycle stamp body.Ended is = absurd cc
-reference-counts cycle stamp body.Swept is = absurd cc
+reference-counts cycle stamp b is = absurd cc
 
 pub reference-fresh : (cycle : ℕ) (x : Message) → is_reference x.body ≡ true
     → is_fresh cycle x ≡ (x.stamp == cycle)

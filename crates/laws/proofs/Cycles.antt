@@ -7,13 +7,12 @@ use Rattle.msg.specs.declared.body.Body.{Body}
 use Rattle.msg.specs.declared.body.Body.TheVariants as body
 use Rattle.msg.specs.declared.body.Message.{Message}
 use Rattle.model.specs.State.{Object, Slot, Free, Occupied, Retired, Heap, Phases, LocalState, NodeState, slot_at, got_from, sent_to}
-use Rattle.model.specs.Effects.{at_rest}
 use Rattle.model.specs.Counting.{stamped}
-use Rattle.model.specs.Shading.{is_open, is_calm, filled, shade_all, make_all_grey, last_grey, without_last_grey}
+use Rattle.model.specs.Shading.{is_open, is_calm, filled, make_all_grey, last_grey, without_last_grey, seen, see_to}
 use Rattle.model.specs.Collecting.{places_in, scan, looked_at, sweeps_last, sweeping, after_sweep, reports_sweep, sweep}
 use Rattle.model.specs.Steps.{append_all}
 use Rattle.model.specs.Cuts.{Cut, IsInFlight, Among, Becomes}
-use Rattle.model.proofs.ShadingParts.{shade_all-open, shaded_work}
+use Rattle.model.proofs.Shading.{see_to-open}
 use Rattle.laws.proofs.Lookups.{among-append_left, among-append_right, among-append}
 use Rattle.laws.proofs.Turns.{at_turn}
 use Rattle.laws.proofs.Invariant.{phases_of, cycle_of, Resting, Safe, PlacesAll, BodyFits, Inv}
@@ -62,7 +61,7 @@ scan-inv {shape = shape} {c = c} {d = d} i inside busy becomes inv =
     let apart : GreyApart p.own p.phases.cycle h rs = grey-apart p.own p.phases.cycle h rs in
     let safe : (r : Ref) → Among r rs → Safe c r =
     λ r a. scanned-safe inv marking (slot_at h k) refl r a in
-    let s1 : NodeState = worked s (shade_all (at_rest p) rs) in
+    let s1 : NodeState = worked s (see_to true rs p) in
     let c1 : Cut = put c i s1 in
     let shadeable : Shadeable shape c i rs = record {
       inv = inv;
@@ -71,8 +70,8 @@ scan-inv {shape = shape} {c = c} {d = d} i inside busy becomes inv =
       quiet = λ _. inl (λ grey. absurd (some grey));
     } in
     let met : Met shape c c1 i rs = shade-met shadeable (becomes-put c i s1) in
-    let state1 : c1 i ≡ worked s (shaded_work p [] rs) =
-    put-here c i s1 ∙ ap (worked s) (shade_all-open p [] rs opened) in
+    let state1 : c1 i ≡ worked s (seen true rs p) =
+    put-here c i s1 ∙ ap (worked s) (see_to-open true rs p opened) in
     let heap1 : make_all_grey p.own p.phases.cycle h rs
     ≡ record (make_all_grey p.own p.phases.cycle h rs) {
       registers = h.registers;
@@ -82,10 +81,10 @@ scan-inv {shape = shape} {c = c} {d = d} i inside busy becomes inv =
     let grey1 : (c1 i).local.heap.grey ≡ h.grey ++ apart.new =
     ap (λ (z : NodeState). z.local.heap.grey) state1 ∙ ap (λ (z : Heap). z.grey) heap1 in
     let final : worked s (scan p)
-    ≡ with_heap (worked s (shaded_work p [] rs))
+    ≡ with_heap (worked s (seen true rs p))
     (record (make_all_grey p.own p.phases.cycle h rs) { grey = less ++ apart.new }) =
-    ap (worked s) (shade_all-open (record p { heap = without_last_grey h }) [] rs opened)
-    ∙ ap (λ (z : Heap). with_heap (worked s (shaded_work p [] rs)) z)
+    ap (worked s) (see_to-open true rs (record p { heap = without_last_grey h }) opened)
+    ∙ ap (λ (z : Heap). with_heap (worked s (seen true rs p)) z)
     (apart.same h.registers h.letters less
     ∙ ap (λ (z : Heap). record z { grey = less ++ apart.new }) (sym heap1)) in
     let b1 : Becomes c1 d i

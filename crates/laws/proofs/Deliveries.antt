@@ -49,22 +49,14 @@ pub target-own : (n : ℕ) (c : Cut) (from to s : ℕ) (b : Body) → BodyFits n
 target-own n c from to s (body.Mark target) fits = fits.0
 target-own n c from to s (body.Put target place reference) fits = fits.0
 target-own n c from to s (body.Get target place label) fits = fits.0
-target-own n c from to s body.Begin fits = tt
-target-own n c from to s (body.Token t) fits = tt
-target-own n c from to s (body.Give label reference) fits = tt
-target-own n c from to s body.Ended fits = tt
-target-own n c from to s body.Swept fits = tt
+target-own n c from to s b fits = tt
 
 target-mentioned : (P : Ref → Type 0) (b : Body) → AllByRecursion P (mentioned b)
     → IfAny P (target_of b)
 target-mentioned P (body.Mark target) all = all.0
 target-mentioned P (body.Put target place reference) all = all.0
 target-mentioned P (body.Get target place label) all = all.0
-target-mentioned P body.Begin all = tt
-target-mentioned P (body.Token t) all = tt
-target-mentioned P (body.Give label reference) all = tt
-target-mentioned P body.Ended all = tt
-target-mentioned P body.Swept all = tt
+target-mentioned P b all = tt
 
 received-target : {shape : Shaped} {t : NodeState} (w : World) (m : Delivery) (r : Ref)
     → KeepsSent w
@@ -148,10 +140,10 @@ all-within shape [] all = refl
 all-within shape (r ∷ rs) all = and_from _ _ all.0 (all-within shape rs all.1)
 
 -- The first message in flight to a node fits it.
-record Arrival (shape : Shaped) (c : Cut) (from to place : ℕ) (x : Message) : Type 0 where
-  inv : Inv shape c
-  inside : to < shape.nodes
-  flight : IsInFlight c from to place x
+pub record Arrival (shape : Shaped) (c : Cut) (from to place : ℕ) (x : Message) : Type 0 where
+  pub inv : Inv shape c
+  pub inside : to < shape.nodes
+  pub flight : IsInFlight c from to place x
 
 module _ {shape : Shaped} {c : Cut} {from to place : ℕ} {x : Message}
     (h : Arrival shape c from to place x) where
@@ -256,9 +248,9 @@ module _ {shape : Shaped} {c : Cut} {from to place : ℕ} {x : Message}
       cond-true (ltb (cycle_of c to) x.stamp) (join here x.stamp) (at_rest here)
       (lt-ltb _ _ ahead) in
       let phases : settled_node.phases ≡ record here.phases { cycle = x.stamp; cursor = 0 } =
-      ap (λ (w : Work). w.local.phases) joins ∙ join-phases here x.stamp (not-open-before ahead) in
+      ap (λ (w : Work). w.local.phases) joins ∙ join-phases here x.stamp in
       let token : settled_node.ring.token ≡ None =
-      ap (λ (w : Work). w.local.ring.token) joins ∙ join-token here x.stamp (not-open-before ahead)
+      ap (λ (w : Work). w.local.ring.token) joins ∙ join-token here x.stamp
       ∙ none-held t x.stamp whole marking in
       and_from _ _
       (and_from _ _
@@ -334,7 +326,7 @@ module _ {shape : Shaped} {c : Cut} {from to place : ℕ} {x : Message}
           subst (λ (w : Work). (x.stamp == w.local.phases.cycle) ≡ true) (sym both.0)
           (eq-eqb x.stamp here.phases.cycle both.1)
 
-  taken-whole : may_take here from x.stamp x.body ≡ true
+  pub taken-whole : may_take here from x.stamp x.body ≡ true
   taken-whole = and_from _ _ reaches (and_from _ _ within (and_from _ _ follows settles))
 
 -- the tests of a receipt

@@ -12,11 +12,11 @@ use Rattle.model.specs.declared.event.Event.TheVariants as event
 use Rattle.model.specs.Checks.{AllPass}
 use Rattle.model.specs.State.{Object, Occupied, Heap, LocalState, register_at, slot_at}
 use Rattle.model.specs.Heaps.{alloc_heap, with_object, new_reference, new_object, named, object_at, has_place, place_of, word_of, with_register, register_copied, letter_taken, with_letter, with_rewritten, place_loaded, next_slot, generation_for, oldest_letter}
-use Rattle.model.specs.Effects.{Work, at_rest}
+use Rattle.model.specs.Effects.{Work}
 use Rattle.model.specs.Counting.{is_reference, append}
-use Rattle.model.specs.Shading.{shade_all, is_same}
+use Rattle.model.specs.Shading.{is_same, see_to}
 use Rattle.model.specs.declared.event.Answer.TheVariants as answer
-use Rattle.model.specs.Steps.{tests, made, take_body, target_of, allocated, copied, dropped, loaded, stored, cleared, word_read, word_set, given, accepted, put_asked, get_asked}
+use Rattle.model.specs.Steps.{tests, made, take_body, target_of}
 use Rattle.laws.specs.Objects.{Thing, Space, object_in, has_that, stands_in, word_in, with_desk, with_thing, rewriting, posted, is_program, new_thing, IsAnswer, does, follows, with_place, with_word}
 use Rattle.laws.specs.Sights.{thing_of, programs}
 use Rattle.model.proofs.Slots.{found-object}
@@ -26,7 +26,7 @@ use Rattle.laws.proofs.Past.{PastAt, occupied-past, new-not_past}
 use Rattle.laws.proofs.GoodHeaps.{own_reference}
 use Rattle.laws.proofs.Meets.{same-is, is-same}
 use Rattle.laws.proofs.Things.{desk_of, Kept, kept-desk, LivesIn, lives-rewritten, rewriting-back, posts, posts-append, IsQuiet, quiet-posts, quiet-append}
-use Rattle.laws.proofs.Unseen.{none-quiet, calm-shade}
+use Rattle.laws.proofs.Unseen.{none-quiet, calm-collects}
 
 -- Node i of a space without a collector has this heap's registers and letters, and its objects.
 pub record Here (s : Space) (i : ℕ) (h : Heap) : Type 0 where
@@ -294,17 +294,17 @@ own-reads p register object place d =
     ∙ thing-place found place
 
 -- it is shaded, and the register gets it
-own-loads : {s : Space} (p : LocalState) (register object place : ℕ)
+own-loads : {s : Space} (p : LocalState) (counts : List ℕ) (register object place : ℕ)
     → Doing s p (event.Load register object place)
     → Effects s
     (with_desk s p.own
     (with_register (s.desk p.own) register (stands_in (object_in s p.own object) place)))
-    p.own (loaded p register object place).local.heap (loaded p register object place).sends
-unfolding loaded
-own-loads {s = s} p register object place d =
+    p.own (made p counts (event.Load register object place)).local.heap
+    (made p counts (event.Load register object place)).sends
+own-loads {s = s} p counts register object place d =
     let v : Option Ref = place_loaded p.heap object place in
-    let w : Work = shade_all (at_rest p) (option_to_list v) in
-    let calm = calm-shade (at_rest p) (option_to_list v) none-quiet in
+    let w : Work = see_to true (option_to_list v) p in
+    let calm = calm-collects.sees true (option_to_list v) p in
     effects-desk {h = with_register w.local.heap register v}
     (with_register (s.desk p.own) register (stands_in (object_in s p.own object) place))
     (ap (λ (z : Option Ref). with_register (s.desk p.own) register z)
@@ -319,8 +319,7 @@ pub own-does : {s : Space} (p : LocalState) (counts : List ℕ) (e : Event)
     → is_program e ≡ true → Doing s p e
     → Effects s (does s p.own e (made p counts e).answer) p.own (made p counts e).local.heap
     (made p counts e).sends
-unfolding allocated copied dropped stored cleared word_read word_set given accepted put_asked
-    get_asked append
+unfolding append
 own-does p counts (event.Alloc register places) is d = own-allocates p register places d
 own-does p counts (event.Copy register source) is d =
     effects-desk _ (ap (λ (z : Heap). register_copied z register source) d.here.desk) d.here.lives
@@ -328,31 +327,32 @@ own-does p counts (event.Copy register source) is d =
 own-does p counts (event.Drop register) is d =
     effects-desk _ (ap (λ (z : Heap). with_register z register None) d.here.desk) d.here.lives
     none-quiet
-own-does p counts (event.Load register object place) is d = own-loads p register object place d
+own-does p counts (event.Load register object place) is d =
+    own-loads p counts register object place d
 own-does {s = s} p counts (event.Store object place register) is d =
     let v : Option Ref = register_at p.heap register in
     subst (λ (z : Heap).
     Effects s (with_place s (named z object) place (register_at z register)) p.own
-    (stored p object place register).local.heap []) (sym d.here.desk)
+    (made p counts (event.Store object place register)).local.heap []) (sym d.here.desk)
     (effects-rewritten (named p.heap object) _ (λ o. record o { places = set o.places place v })
     (eqb-true _ _ d.passed.1.1.1.1.0) (λ _. refl) d.here)
 own-does {s = s} p counts (event.Clear object place) is d =
     subst (λ (z : Heap).
     Effects s (with_place s (named z object) place None) p.own
-    (cleared p object place).local.heap []) (sym d.here.desk)
+    (made p counts (event.Clear object place)).local.heap []) (sym d.here.desk)
     (effects-rewritten (named p.heap object) _ (λ o. record o { places = set o.places place None })
     (eqb-true _ _ d.passed.1.1.0) (λ _. refl) d.here)
 own-does p counts (event.Word object) is d = effects-none d.here none-quiet
 own-does {s = s} p counts (event.SetWord object word) is d =
     subst (λ (z : Heap).
-    Effects s (with_word s (named z object) word) p.own (word_set p object word).local.heap [])
-    (sym d.here.desk)
+    Effects s (with_word s (named z object) word) p.own
+    (made p counts (event.SetWord object word)).local.heap []) (sym d.here.desk)
     (effects-rewritten (named p.heap object) _ (λ o. record o { word = word })
     (eqb-true _ _ d.passed.1.1.0) (λ _. refl) d.here)
 own-does {s = s} p counts (event.Give to label register) is d =
     subst (λ (z : Heap).
     Effects s (posted s p.own to (body.Give label (register_at z register))) p.own p.heap
-    (given p counts to label register).sends) (sym d.here.desk)
+    (made p counts (event.Give to label register)).sends) (sym d.here.desk)
     (effects-posted to p.phases.cycle (body.Give label (register_at p.heap register)) refl d.here)
 own-does p counts (event.Accept register) is d =
     effects-desk _ (ap (λ (z : Heap). letter_taken z register) d.here.desk) d.here.lives none-quiet
@@ -361,13 +361,13 @@ own-does {s = s} p counts (event.Put object place register) is d =
     Effects s
     (posted s p.own (named z object).node
     (body.Put (named z object) place (register_at z register)))
-    p.own p.heap (put_asked p counts object place register).sends) (sym d.here.desk)
+    p.own p.heap (made p counts (event.Put object place register)).sends) (sym d.here.desk)
     (effects-posted (named p.heap object).node p.phases.cycle
     (body.Put (named p.heap object) place (register_at p.heap register)) refl d.here)
 own-does {s = s} p counts (event.Get object place label) is d =
     subst (λ (z : Heap).
     Effects s (posted s p.own (named z object).node (body.Get (named z object) place label)) p.own
-    p.heap (get_asked p counts object place label).sends) (sym d.here.desk)
+    p.heap (made p counts (event.Get object place label)).sends) (sym d.here.desk)
     (effects-posted (named p.heap object).node p.phases.cycle
     (body.Get (named p.heap object) place label) refl d.here)
 own-does p counts e never d = absurd cc
@@ -375,8 +375,7 @@ own-does p counts e never d = absurd cc
 -- and its answer is one that it may get there
 pub own-answers : {s : Space} (p : LocalState) (counts : List ℕ) (e : Event)
     → is_program e ≡ true → Doing s p e → IsAnswer s p.own e (made p counts e).answer
-unfolding allocated copied dropped loaded stored cleared word_read word_set given accepted put_asked
-    get_asked append
+unfolding append
 own-answers p counts (event.Alloc register places) is d =
     (new_reference p.own p.heap, refl, refl, new-unmade d)
 own-answers p counts (event.Load register object place) is d =
@@ -425,8 +424,8 @@ body-does from stamp (body.Put target place reference) p is f =
 body-does {s = s} {i = i} from stamp (body.Get target place label) p is f =
     let found : Option Object = object_at p.heap target in
     let v : Option Ref = place_of found place in
-    let w : Work = shade_all (at_rest p) (option_to_list v) in
-    let calm = calm-shade (at_rest p) (option_to_list v) none-quiet in
+    let w : Work = see_to true (option_to_list v) p in
+    let calm = calm-collects.sees true (option_to_list v) p in
     let same : stands_in (s.objects target) place ≡ v =
     ap (λ (z : Option Thing). stands_in z place)
     (found-same target f.here (f.own target refl) (f.there target place label refl))

@@ -5,14 +5,15 @@ use Rattle.std.proofs.lemmas.Bool.{ne_eqb, not_from_false}
 use Rattle.ids.specs.Limits.{Shaped}
 use Rattle.ids.specs.declared.names.Ref.{Ref}
 use Rattle.model.specs.declared.event.Letter.{Letter}
-use Rattle.model.specs.State.{Heap, LocalState, NodeState}
+use Rattle.model.specs.State.{Heap, NodeState}
 use Rattle.model.specs.Heaps.{no_letter}
 use Rattle.model.specs.References.{IfAny}
-use Rattle.model.specs.Effects.{Work, at_rest}
-use Rattle.model.specs.Shading.{is_open, filled, reference_of, roots, enter, join, shade_all, make_all_grey}
+use Rattle.model.specs.Effects.{Work}
+use Rattle.model.specs.Shading.{is_open, filled, reference_of, roots, enter, join, make_all_grey, seen, see_to}
 use Rattle.model.specs.Cuts.{Cut, Among, Becomes}
-use Rattle.model.proofs.ShadingParts.{shade_all-open, shaded_work, filled-append}
 use Rattle.model.proofs.Slots.{occupied-within}
+use Rattle.model.proofs.Shading.{filled-append, see_to-open}
+use Rattle.model.proofs.Joining.{join-open}
 use Rattle.laws.proofs.Lookups.{among-append_left, among-append_right, among-append}
 use Rattle.laws.proofs.Invariant.{Safe, RootsAll, Inv}
 use Rattle.laws.proofs.Inner.{Known}
@@ -22,10 +23,6 @@ use Rattle.laws.proofs.HeapSteps.{re_rooted, scanned-inner}
 use Rattle.laws.proofs.OwnEvents.{roots-moves}
 use Rattle.laws.proofs.Joins.{entering}
 use Rattle.laws.proofs.Moves.{worked, Moves, inner-moves, moves-through, Met, Shadeable, shade-met}
-
--- without registers and letters
-abbrev pub bare : LocalState → LocalState
-bare p = record p { heap = record p.heap { registers = []; letters = [] } }
 
 -- the reference of a register or letter is among the roots
 pub filled-among : (os : List (Option Ref)) (k : ℕ) (r : Ref) → get_or os k None ≡ Some r
@@ -87,12 +84,13 @@ roots-all P h all r a = ⊎_elim {C = P r}
     (among-append r (filled h.registers) (filled (map reference_of h.letters))
     (subst (Among r) (filled-append h.registers (map reference_of h.letters)) a))
 
--- The node has entered the cycle, bare, with one entry on its grey list that names no object.
+-- The node has entered the cycle, without registers and letters. Its grey list has one entry, which
+-- names no object.
 pub record Dressing (shape : Shaped) (c d : Cut) (i cycle : ℕ) (s : NodeState) : Type 0 where
   pub inv : Inv shape c
   pub inside : i < shape.nodes
   pub now : c i ≡ record {
-    local = entering (bare s.local) cycle (length s.local.heap.slots ∷ []) s.local.ring.token;
+    local = entering s.local cycle (length s.local.heap.slots ∷ []) s.local.ring.token;
     sent = s.sent;
   }
   pub calm : s.local.heap.grey ≡ []
@@ -107,12 +105,12 @@ module _ {shape : Shaped} {c d : Cut} {i cycle : ℕ} {s : NodeState}
 
   abbrev bare_state : NodeState
   bare_state = record {
-    local = entering (bare s.local) cycle (length s.local.heap.slots ∷ []) s.local.ring.token;
+    local = entering s.local cycle (length s.local.heap.slots ∷ []) s.local.ring.token;
     sent = s.sent;
   }
 
   abbrev bare_work : Work
-  bare_work = shaded_work bare_state.local [] own_roots
+  bare_work = seen true own_roots bare_state.local
 
   abbrev apart : GreyApart s.local.own cycle s.local.heap own_roots
   apart = grey-apart s.local.own cycle s.local.heap own_roots
@@ -151,14 +149,10 @@ module _ {shape : Shaped} {c d : Cut} {i cycle : ℕ} {s : NodeState}
       make_all_grey s.local.own cycle (record s.local.heap { grey = z }) own_roots)
       (sym h.calm)
 
-  opened : is_open (enter s.local cycle) ≡ true
-  unfolding enter
-  opened = not_from_false _ (ne_eqb s.local.phases.ended cycle h.before)
-
   final-is : worked s (join s.local cycle) ≡ final_state
-  unfolding join enter
+  unfolding enter
   final-is =
-      ap (worked s) (shade_all-open (enter s.local cycle) [] own_roots opened)
+      ap (worked s) (join-open s.local cycle (ne_eqb s.local.phases.ended cycle h.before))
       ∙ ap (λ (z : Heap). with_heap shaded_state z) (sym final-heap)
 
   pub dress-moves : Moves shape c d i
@@ -176,11 +170,11 @@ module _ {shape : Shaped} {c d : Cut} {i cycle : ℕ} {s : NodeState}
             absurd (let never : length s.local.heap.slots ∷ [] ≡ [] =
             ap (λ (z : NodeState). z.local.heap.grey) (sym h.now) ∙ grey in cc));
       } in
-      let b1 : Becomes c c1 i (worked (c i) (shade_all (at_rest (c i).local) own_roots)) =
-      subst (λ (z : NodeState). Becomes c c1 i (worked z (shade_all (at_rest z.local) own_roots)))
+      let b1 : Becomes c c1 i (worked (c i) (see_to true own_roots (c i).local)) =
+      subst (λ (z : NodeState). Becomes c c1 i (worked z (see_to true own_roots z.local)))
       (sym h.now)
       (subst (λ (z : Work). Becomes c c1 i (worked bare_state z))
-      (sym (shade_all-open bare_state.local [] own_roots opened_bare))
+      (sym (see_to-open true own_roots bare_state.local opened_bare))
       (becomes-put c i shaded_state)) in
       let first : Met shape c c1 i own_roots = shade-met shadeable b1 in
       let b2 : Becomes c1 c2 i (re_rooted (c1 i) s.local.heap.registers s.local.heap.letters) =

@@ -251,16 +251,13 @@ module _ {shape : Shaped} {c d : Cut} {t : Token} (h : Ending shape c d t) where
 
       by : (b : Body) → x.body ≡ b → BodyFits shape.nodes (phases_of c) from to x.stamp b
           → AllByRecursion (Safe d) (mentioned b)
-      by body.Begin e f = tt
-      by (body.Token k) e f = tt
-      by body.Ended e f = tt
-      by body.Swept e f = tt
       by (body.Mark r) e f =
           absurd (end-delivered from to place x flight
           (ap (counts (cycle_of c 0) x.stamp) e ∙ eq-eqb x.stamp (cycle_of c 0) f.2))
       by (body.Give label reference) e f = now (body.Give label reference) e refl f
       by (body.Put target slot reference) e f = now (body.Put target slot reference) e refl f.1
       by (body.Get target slot label) e f = now (body.Get target slot label) e refl f.1
+      by b e f = tt
 
   end-heap : (j : ℕ) → (d j).local.heap ≡ (c j).local.heap
   end-heap = at_turn (λ j s. s.local.heap ≡ (c j).local.heap) end-turn refl (λ j _. refl)

@@ -11,47 +11,51 @@ use Rattle.msg.specs.declared.body.Message.{Message}
 use Rattle.model.specs.State.{LocalState, NodeState, got_from, sent_to}
 use Rattle.model.specs.Steps.{append_all}
 use Rattle.model.specs.Cuts.{Cut, taken, IsInFlight}
-use Rattle.model.specs.Agreement.{total, number_of, in_flight, flow, is_counted, balance}
+use Rattle.model.specs.Agreement.{total, weighed, in_flight, load, flow, is_counted, balance}
 use Rattle.model.proofs.Lookups.{at_set_if, slice_get-drop}
-use Rattle.laws.proofs.Sums.{total-same, total-one, total-part, total-nonneg, number-push, number-take, number-at}
+use Rattle.laws.proofs.Sums.{total-same, total-one, total-part, total-nonneg, weighed-push, weighed-take, weighed-at}
 use Rattle.laws.proofs.Turns.{Turn, at_turn}
 use Rattle.laws.proofs.Base.{inside-where}
 use Rattle.laws.proofs.Invariant.{cycle_of, Base, Flows, is_fresh, fresh_balance}
 
+-- the weights of sent messages, added
+abbrev pub load_sent : (Message → ℕ) → List (ℕ × Message) → ℕ
+load_sent g [] = 0
+load_sent g (m ∷ ms) = g m.1 + load_sent g ms
+
 -- how many of the sent messages pass
 abbrev pub number_sent : (Message → Bool) → List (ℕ × Message) → ℕ
-number_sent f [] = 0
-number_sent f (m ∷ ms) = cond (f m.1) 1 0 + number_sent f ms
+number_sent f ms = load_sent (λ x. cond (f x) 1 0) ms
 
--- of one sender's messages, those from the given places on that pass
-abbrev row : ℕ → (Message → Bool) → (ℕ → ℕ) → List (List Message) → ℤ
-row n f g sent = total n (λ to. pos (number_of f (drop (g to) (get_or sent to []))))
+-- the weights of one sender's messages from the given places on
+abbrev row : ℕ → (Message → ℕ) → (ℕ → ℕ) → List (List Message) → ℤ
+row n f g sent = total n (λ to. pos (weighed f (drop (g to) (get_or sent to []))))
 
-row-one : {n : ℕ} (f : Message → Bool) (g : ℕ → ℕ) (sent : List (List Message)) (to : ℕ)
+row-one : {n : ℕ} (f : Message → ℕ) (g : ℕ → ℕ) (sent : List (List Message)) (to : ℕ)
     (x : Message) → length sent ≡ n → to < n → g to ≤ length (get_or sent to [])
     → row n f g (set sent to (get_or sent to [] ++ x ∷ []))
-    ≡ row n f g sent +ℤ pos (cond (f x) 1 0)
+    ≡ row n f g sent +ℤ pos (f x)
 row-one {n = n} f g sent to x width inside within =
     let longer : List Message = get_or sent to [] ++ x ∷ [] in
     let here : get_or (set sent to longer) to [] ≡ longer =
     get_or-set_same sent to longer []
     (let k : to < length sent = omega (arith, width, inside) in k) in
-    total-one n (λ k. pos (number_of f (drop (g k) (get_or sent k []))))
-    (λ k. pos (number_of f (drop (g k) (get_or (set sent to longer) k []))))
-    to (pos (cond (f x) 1 0)) inside
-    (let e : number_of f (drop (g to) (get_or (set sent to longer) to []))
-    ≡ number_of f (drop (g to) (get_or sent to [])) + cond (f x) 1 0 =
-    ap (λ (z : List Message). number_of f (drop (g to) z)) here
-    ∙ number-push f (g to) (get_or sent to []) x within in
+    total-one n (λ k. pos (weighed f (drop (g k) (get_or sent k []))))
+    (λ k. pos (weighed f (drop (g k) (get_or (set sent to longer) k []))))
+    to (pos (f x)) inside
+    (let e : weighed f (drop (g to) (get_or (set sent to longer) to []))
+    ≡ weighed f (drop (g to) (get_or sent to [])) + f x =
+    ap (λ (z : List Message). weighed f (drop (g to) z)) here
+    ∙ weighed-push f (g to) (get_or sent to []) x within in
     omega (arith, ints, e))
     (λ k _ other.
-    ap (λ (z : List Message). pos (number_of f (drop (g k) z)))
+    ap (λ (z : List Message). pos (weighed f (drop (g k) z)))
     (get_or-set_other sent to k longer [] other))
 
-row-sends : (n : ℕ) (f : Message → Bool) (g : ℕ → ℕ) (sent : List (List Message))
+row-sends : (n : ℕ) (f : Message → ℕ) (g : ℕ → ℕ) (sent : List (List Message))
     (ms : List (ℕ × Message)) → length sent ≡ n → ((to : ℕ) → g to ≤ length (get_or sent to []))
     → AllByRecursion (λ m. m.0 < n) ms
-    → row n f g (append_all sent ms) ≡ row n f g sent +ℤ pos (number_sent f ms)
+    → row n f g (append_all sent ms) ≡ row n f g sent +ℤ pos (load_sent f ms)
 row-sends n f g sent [] width within all = omega (arith, ints)
 row-sends n f g sent ((to, x) ∷ ms) width within all =
     let longer : List Message = get_or sent to [] ++ x ∷ [] in
@@ -67,43 +71,43 @@ row-sends n f g sent ((to, x) ∷ ms) width within all =
     omega (arith, ints, first, rest)
 
 -- messages are sent, and none is received
-pub flow-sends : {shape : Shaped} {c d : Cut} {i : ℕ} {q : LocalState} {ms : List (ℕ × Message)}
-    (f : Message → Bool) → Base shape c → i < shape.nodes → Turn c d i q ms
+pub load-sends : {shape : Shaped} {c d : Cut} {i : ℕ} {q : LocalState} {ms : List (ℕ × Message)}
+    (f : Message → ℕ) → Base shape c → i < shape.nodes → Turn c d i q ms
     → q.got ≡ (c i).local.got → AllByRecursion (λ m. m.0 < shape.nodes) ms
-    → flow shape.nodes f d ≡ flow shape.nodes f c +ℤ pos (number_sent f ms)
-flow-sends {shape = shape} {c = c} {d = d} {i = i} {ms = ms} f base inside turn got all =
+    → load shape.nodes f d ≡ load shape.nodes f c +ℤ pos (load_sent f ms)
+load-sends {shape = shape} {c = c} {d = d} {i = i} {ms = ms} f base inside turn got all =
     let n : ℕ = shape.nodes in
     let heard : (from to : ℕ) → taken d from to ≡ taken c from to =
     λ from to.
     at_turn (λ j s. got_from s.local from ≡ taken c from j) turn
     (ap (λ (z : List ℕ). get_or z from 0) got) (λ j _. refl) to in
-    total-one n (λ from. total n (λ to. pos (number_of f (in_flight c from to))))
-    (λ from. total n (λ to. pos (number_of f (in_flight d from to))))
-    i (pos (number_sent f ms)) inside
+    total-one n (λ from. total n (λ to. pos (weighed f (in_flight c from to))))
+    (λ from. total n (λ to. pos (weighed f (in_flight d from to))))
+    i (pos (load_sent f ms)) inside
     (total-same n
-    (λ to. pos (number_of f (drop (taken c i to) (get_or (append_all (c i).sent ms) to []))))
-    (λ to. pos (number_of f (in_flight d i to)))
+    (λ to. pos (weighed f (drop (taken c i to) (get_or (append_all (c i).sent ms) to []))))
+    (λ to. pos (weighed f (in_flight d i to)))
     (λ to _.
-    ap (λ (z : ℕ). pos (number_of f (drop z (sent_to (d i) to)))) (heard i to)
-    ∙ ap (λ (z : NodeState). pos (number_of f (drop (taken c i to) (sent_to z to))))
+    ap (λ (z : ℕ). pos (weighed f (drop z (sent_to (d i) to)))) (heard i to)
+    ∙ ap (λ (z : NodeState). pos (weighed f (drop (taken c i to) (sent_to z to))))
     turn.becomes.changed)
     ∙ row-sends n f (λ to. taken c i to) (c i).sent ms (base.width i inside)
     (λ to. base.within i to) all)
     (λ j _ other.
-    total-same n (λ to. pos (number_of f (in_flight c j to)))
-    (λ to. pos (number_of f (in_flight d j to)))
+    total-same n (λ to. pos (weighed f (in_flight c j to)))
+    (λ to. pos (weighed f (in_flight d j to)))
     (λ to _.
-    ap (λ (z : ℕ). pos (number_of f (drop z (sent_to (d j) to)))) (heard j to)
-    ∙ ap (λ (z : NodeState). pos (number_of f (drop (taken c j to) (sent_to z to))))
+    ap (λ (z : ℕ). pos (weighed f (drop z (sent_to (d j) to)))) (heard j to)
+    ∙ ap (λ (z : NodeState). pos (weighed f (drop (taken c j to) (sent_to z to))))
     (turn.becomes.others j other)))
 
 -- one message is received, and none is sent
-pub flow-takes : {shape : Shaped} {c d : Cut} {i j : ℕ} {q : LocalState} {x : Message}
-    (f : Message → Bool) → Base shape c → i < shape.nodes → j < shape.nodes
+pub load-takes : {shape : Shaped} {c d : Cut} {i j : ℕ} {q : LocalState} {x : Message}
+    (f : Message → ℕ) → Base shape c → i < shape.nodes → j < shape.nodes
     → Turn c d i q [] → IsInFlight c j i (taken c j i) x
     → q.got ≡ set (c i).local.got j (taken c j i + 1)
-    → flow shape.nodes f c ≡ flow shape.nodes f d +ℤ pos (cond (f x) 1 0)
-flow-takes {shape = shape} {c = c} {d = d} {i = i} {j = j} {q = q} {x = x} f base inside sender turn
+    → load shape.nodes f c ≡ load shape.nodes f d +ℤ pos (f x)
+load-takes {shape = shape} {c = c} {d = d} {i = i} {j = j} {q = q} {x = x} f base inside sender turn
     flight got =
     let n : ℕ = shape.nodes in
     let sent : (from to : ℕ) → sent_to (d from) to ≡ sent_to (c from) to =
@@ -122,28 +126,28 @@ flow-takes {shape = shape} {c = c} {d = d} {i = i} {j = j} {q = q} {x = x} f bas
     ap (λ (z : List ℕ). get_or z from 0) got
     ∙ get_or-set_other (c i).local.got j from (taken c j i + 1) 0 (λ (e : from ≡ j). a e refl))
     (λ l _ a. refl) to apart in
-    total-one n (λ from. total n (λ to. pos (number_of f (in_flight d from to))))
-    (λ from. total n (λ to. pos (number_of f (in_flight c from to))))
-    j (pos (cond (f x) 1 0)) sender
-    (total-one n (λ to. pos (number_of f (in_flight d j to)))
-    (λ to. pos (number_of f (in_flight c j to))) i (pos (cond (f x) 1 0)) inside
-    (let e : number_of f (in_flight c j i) ≡ number_of f (in_flight d j i) + cond (f x) 1 0 =
-    number-take f (taken c j i) (sent_to (c j) i) x flight.there
-    ∙ ap (λ (z : ℕ). number_of f (drop z (sent_to (c j) i)) + cond (f x) 1 0) (sym there)
-    ∙ ap (λ (z : List Message). number_of f (drop (taken d j i) z) + cond (f x) 1 0)
+    total-one n (λ from. total n (λ to. pos (weighed f (in_flight d from to))))
+    (λ from. total n (λ to. pos (weighed f (in_flight c from to))))
+    j (pos (f x)) sender
+    (total-one n (λ to. pos (weighed f (in_flight d j to)))
+    (λ to. pos (weighed f (in_flight c j to))) i (pos (f x)) inside
+    (let e : weighed f (in_flight c j i) ≡ weighed f (in_flight d j i) + f x =
+    weighed-take f (taken c j i) (sent_to (c j) i) x flight.there
+    ∙ ap (λ (z : ℕ). weighed f (drop z (sent_to (c j) i)) + f x) (sym there)
+    ∙ ap (λ (z : List Message). weighed f (drop (taken d j i) z) + f x)
     (sym (sent j i)) in
     omega (arith, ints, e))
     (λ to _ other.
-    ap (λ (z : ℕ). pos (number_of f (drop z (sent_to (c j) to))))
+    ap (λ (z : ℕ). pos (weighed f (drop z (sent_to (c j) to))))
     (sym (elsewhere j to (λ _. other)))
-    ∙ ap (λ (z : List Message). pos (number_of f (drop (taken d j to) z))) (sym (sent j to))))
+    ∙ ap (λ (z : List Message). pos (weighed f (drop (taken d j to) z))) (sym (sent j to))))
     (λ k _ other.
-    total-same n (λ to. pos (number_of f (in_flight d k to)))
-    (λ to. pos (number_of f (in_flight c k to)))
+    total-same n (λ to. pos (weighed f (in_flight d k to)))
+    (λ to. pos (weighed f (in_flight c k to)))
     (λ to _.
-    ap (λ (z : ℕ). pos (number_of f (drop z (sent_to (c k) to))))
+    ap (λ (z : ℕ). pos (weighed f (drop z (sent_to (c k) to))))
     (sym (elsewhere k to (λ (e : k ≡ j). absurd (other e))))
-    ∙ ap (λ (z : List Message). pos (number_of f (drop (taken d k to) z))) (sym (sent k to))))
+    ∙ ap (λ (z : List Message). pos (weighed f (drop (taken d k to) z))) (sym (sent k to))))
 
 -- messages are in flight only between nodes of the space
 pub flight-inside : {shape : Shaped} {c : Cut} (from to place : ℕ) (x : Message) → Base shape c
@@ -164,10 +168,10 @@ flight-inside {shape = shape} {c = c} from to place x base flight =
           (cases_lt to shape.nodes),
     )
 
-pub flow-positive : {shape : Shaped} {c : Cut} (f : Message → Bool) (from to place : ℕ)
-    (x : Message) → Base shape c → IsInFlight c from to place x → f x ≡ true
-    → pos 0 <ℤ flow shape.nodes f c
-flow-positive {shape = shape} {c = c} f from to place x base flight passes =
+-- what is in flight weighs at most as much as all that is
+pub load-holds : {shape : Shaped} {c : Cut} (f : Message → ℕ) (from to place : ℕ) (x : Message)
+    → Base shape c → IsInFlight c from to place x → pos (f x) ≤ℤ load shape.nodes f c
+load-holds {shape = shape} {c = c} f from to place x base flight =
     let n : ℕ = shape.nodes in
     let inside = flight-inside from to place x base flight in
     let offset : ℕ = place - taken c from to in
@@ -176,17 +180,24 @@ flow-positive {shape = shape} {c = c} f from to place x base flight passes =
     ∙ ap (slice_get (sent_to (c from) to))
     (let e : taken c from to + offset ≡ place = omega (arith, flight.later) in e)
     ∙ flight.there in
-    let some : 0 < number_of f (in_flight c from to) =
-    number-at f (in_flight c from to) offset x there passes in
-    let in_row : pos (number_of f (in_flight c from to))
-    ≤ℤ total n (λ k. pos (number_of f (in_flight c from k))) =
-    total-part n (λ k. pos (number_of f (in_flight c from k))) to inside.1
+    let some : f x ≤ weighed f (in_flight c from to) =
+    weighed-at f (in_flight c from to) offset x there in
+    let in_row : pos (weighed f (in_flight c from to))
+    ≤ℤ total n (λ k. pos (weighed f (in_flight c from k))) =
+    total-part n (λ k. pos (weighed f (in_flight c from k))) to inside.1
     (λ k _. omega (arith, ints)) in
-    let rows : total n (λ k. pos (number_of f (in_flight c from k))) ≤ℤ flow n f c =
-    total-part n (λ j. total n (λ k. pos (number_of f (in_flight c j k)))) from inside.0
+    let rows : total n (λ k. pos (weighed f (in_flight c from k))) ≤ℤ load n f c =
+    total-part n (λ j. total n (λ k. pos (weighed f (in_flight c j k)))) from inside.0
     (λ j _.
-    total-nonneg n (λ k. pos (number_of f (in_flight c j k))) (λ k _. omega (arith, ints))) in
+    total-nonneg n (λ k. pos (weighed f (in_flight c j k))) (λ k _. omega (arith, ints))) in
     omega (arith, ints, some, in_row, rows)
+
+pub flow-positive : {shape : Shaped} {c : Cut} (f : Message → Bool) (from to place : ℕ)
+    (x : Message) → Base shape c → IsInFlight c from to place x → f x ≡ true
+    → pos 0 <ℤ flow shape.nodes f c
+flow-positive f from to place x base flight passes =
+    let one : ◌≡◌ {A = ℕ} (cond (f x) 1 0) 1 = ap (λ (b : Bool). cond b 1 0) passes in
+    omega (arith, ints, one, load-holds (λ y. cond (f y) 1 0) from to place x base flight)
 
 -- ---- balances change with what is in flight
 
@@ -224,8 +235,8 @@ pub flows-sent : {shape : Shaped} {c d : Cut} {i : ℕ} {q : LocalState} {ms : L
     → SendsCounted shape c d i q ms → Flows shape.nodes c → Flows shape.nodes d
 flows-sent {shape = shape} {c = c} {d = d} {ms = ms} h flows =
     let cycle : ℕ = cycle_of c 0 in
-    let counted = flow-sends (is_counted cycle) h.base h.inside h.turn h.got h.all in
-    let fresh = flow-sends (is_fresh cycle) h.base h.inside h.turn h.got h.all in
+    let counted = load-sends (λ x. cond (is_counted cycle x) 1 0) h.base h.inside h.turn h.got h.all in
+    let fresh = load-sends (λ x. cond (is_fresh cycle x) 1 0) h.base h.inside h.turn h.got h.all in
     let owed = total-turn shape.nodes (balance cycle) _ h.turn h.inside h.counted in
     let new = total-turn shape.nodes (fresh_balance cycle) _ h.turn h.inside h.fresh in
     flows-at shape.nodes d cycle h.cycle (
@@ -251,8 +262,8 @@ pub flows-taken : {shape : Shaped} {c d : Cut} {i : ℕ} {q : LocalState} {j : �
 flows-taken {shape = shape} {c = c} {d = d} {i = i} {q = q} {j = j} {x = x} h flows =
     let cycle : ℕ = cycle_of c 0 in
     let sender = (flight-inside j i (taken c j i) x h.base h.flight).0 in
-    let counted = flow-takes (is_counted cycle) h.base h.inside sender h.turn h.flight h.got in
-    let fresh = flow-takes (is_fresh cycle) h.base h.inside sender h.turn h.flight h.got in
+    let counted = load-takes (λ x. cond (is_counted cycle x) 1 0) h.base h.inside sender h.turn h.flight h.got in
+    let fresh = load-takes (λ x. cond (is_fresh cycle x) 1 0) h.base h.inside sender h.turn h.flight h.got in
     let k : ℤ = pos (cond (is_counted cycle x) 1 0) in
     let l : ℤ = pos (cond (is_fresh cycle x) 1 0) in
     let owed : total shape.nodes (λ a. balance cycle (d a).local)

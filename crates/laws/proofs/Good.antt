@@ -1,18 +1,16 @@
 -- What is good in one node: in its heap, among what it asked for, and in what it sends. Shading,
 -- vouching and joining keep it so.
-use Rattle.std.proofs.Common.{◌≡◌, ℕ, ◌≤◌, true, List, [], ◌++◌, sym, ap, subst, ⊎_elim, arith}
-use Rattle.std.proofs.lemmas.Bool.{cases_Bool}
+use Rattle.std.proofs.Common.{◌≡◌, ℕ, ◌≤◌, true, List, [], ◌++◌, sym, ap, subst, ⊎_elim, arith, Bool, cond}
+use Rattle.std.proofs.lemmas.Bool.{cond_both}
 use Rattle.ids.specs.declared.names.Ref.{Ref}
 use Rattle.msg.specs.declared.body.Body.{Body}
 use Rattle.msg.specs.declared.body.Body.TheVariants as body
 use Rattle.msg.specs.declared.body.Message.{Message}
 use Rattle.model.specs.State.{Heap, Ring, LocalState}
-use Rattle.model.specs.Effects.{Work, at_rest}
 use Rattle.model.specs.Counting.{append, announce, stamped}
-use Rattle.model.specs.Shading.{is_in, is_open, filled, roots, enter, join, shade_all, vouch_all, make_all_grey, unasked, mark_for}
+use Rattle.model.specs.Shading.{is_in, is_open, filled, roots, enter, join, make_all_grey, unasked, mark_for, seen, see_to}
 use Rattle.model.specs.Steps.{carried}
 use Rattle.model.specs.Cuts.{Among}
-use Rattle.model.proofs.ShadingParts.{shade_all-open, shade_all-closed, vouch_all-open, vouch_all-closed, shaded_work}
 use Rattle.laws.proofs.Lookups.{among-append}
 use Rattle.laws.proofs.Meets.{in-append, unasked-from, marks-from}
 use Rattle.laws.proofs.Dressing.{roots-all}
@@ -114,48 +112,40 @@ met-good {G = G} p rs ring good brought = record {
   phase = good.phase;
 }
 
--- shades references that are good if the node has reached the cycle `since`
-pub shade-good : {G : Ref → Type 0} {since : ℕ} (p : LocalState) (rs : List Ref)
+-- the node sees to references that are good if it has reached the cycle `since`
+pub see-good : {G : Ref → Type 0} {since : ℕ} (due : Bool) (rs : List Ref) (p : LocalState)
     → GoodPart G since p → (since ≤ p.phases.cycle → (r : Ref) → Among r rs → G r)
-    → GoodDone G since (shade_all (at_rest p) rs).local (shade_all (at_rest p) rs).sends
-shade-good {G = G} {since = since} p rs good brought =
-    ⊎_elim {C = GoodDone G since (shade_all (at_rest p) rs).local (shade_all (at_rest p) rs).sends}
-    (λ opened.
-    subst (λ (w : Work). GoodDone G since w.local w.sends) (sym (shade_all-open p [] rs opened))
-    (record {
-      part = met-good p rs (shaded_work p [] rs).local.ring good brought;
-      sends = λ to x a. marks to x (marks-from p.phases.cycle (unasked p.own p.asked rs) to x a);
-    }))
-    (λ shut.
-    subst (λ (w : Work). GoodDone G since w.local w.sends)
-    (sym (shade_all-closed (at_rest p) rs shut)) (done-quiet good))
-    (cases_Bool (is_open p))
+    → GoodDone G since (see_to due rs p).local (see_to due rs p).sends
+unfolding see_to
+see-good {G = G} {since = since} due rs p good brought =
+    let met : List Ref = cond (is_open p) rs [] in
+    let new : List Ref = unasked p.own p.asked met in
+    let all : since ≤ p.phases.cycle → (r : Ref) → Among r met → G r =
+    λ there r.
+    cond_both (is_open p) rs [] (λ z. Among r z → G r) (λ _. brought there r)
+    (λ _ never. absurd never) in
+    record {
+      part = met-good p met (seen due met p).local.ring good all;
+      sends = λ to x a. marks met all to x (marks-from p.phases.cycle (cond due new []) to x a);
+    }
   where
-    marks : (to : ℕ) (x : Message)
-        → (r : Ref) × Among r (unasked p.own p.asked rs) × ((to, x) ≡ mark_for p.phases.cycle r)
+    marks : (met : List Ref) → (since ≤ p.phases.cycle → (r : Ref) → Among r met → G r)
+        → (to : ℕ) (x : Message)
+        → (r : Ref) × Among r (cond due (unasked p.own p.asked met) [])
+        × ((to, x) ≡ mark_for p.phases.cycle r)
         → GoodMessage G since x
-    marks to x found =
+    marks met all to x found =
         subst (GoodMessage G since) (sym (ap (λ (z : ℕ × Message). z.1) found.2))
         (record {
           carries = λ r never. absurd never;
           asks = λ r e there.
               (let same : found.0 ≡ r = cc in
-              subst G same (brought there found.0
-              (unasked-from p.own p.asked rs found.0 found.1).0));
+              let new : Among found.0 (unasked p.own p.asked met) =
+              cond_both due (unasked p.own p.asked met) []
+              (λ z. Among found.0 z → Among found.0 (unasked p.own p.asked met))
+              (λ _ a. a) (λ _ never. absurd never) found.1 in
+              subst G same (all there found.0 (unasked-from p.own p.asked met found.0 new).0));
         })
-
-pub vouch-good : {G : Ref → Type 0} {since : ℕ} (p : LocalState) (rs : List Ref)
-    → GoodPart G since p → (since ≤ p.phases.cycle → (r : Ref) → Among r rs → G r)
-    → GoodDone G since (vouch_all (at_rest p) rs).local (vouch_all (at_rest p) rs).sends
-vouch-good {G = G} {since = since} p rs good brought =
-    ⊎_elim {C = GoodDone G since (vouch_all (at_rest p) rs).local (vouch_all (at_rest p) rs).sends}
-    (λ opened.
-    subst (λ (w : Work). GoodDone G since w.local w.sends) (sym (vouch_all-open p [] rs opened))
-    (done-quiet (met-good p rs p.ring good brought)))
-    (λ shut.
-    subst (λ (w : Work). GoodDone G since w.local w.sends)
-    (sym (vouch_all-closed (at_rest p) rs shut)) (done-quiet good))
-    (cases_Bool (is_open p))
 
 -- the node moves to a later cycle while no object is grey
 pub join-good : {G : Ref → Type 0} {since : ℕ} (p : LocalState) (cycle : ℕ) → p.heap.grey ≡ []
@@ -163,7 +153,7 @@ pub join-good : {G : Ref → Type 0} {since : ℕ} (p : LocalState) (cycle : ℕ
     → GoodDone G since (join p cycle).local (join p cycle).sends
 unfolding join enter
 join-good {G = G} p cycle calm more good =
-    shade-good (enter p cycle) (filled (roots p.heap))
+    see-good true (filled (roots p.heap)) (enter p cycle)
     (record {
       heap = heap-entered cycle calm good.heap;
       asked = λ _ r never. absurd cc;

@@ -13,9 +13,9 @@ use Rattle.model.specs.Heaps.{new_reference}
 use Rattle.model.specs.Effects.{Effect}
 use Rattle.model.specs.Steps.{tests, made, may_reach, may_take, taken_in, is_addressed}
 use Rattle.model.specs.Cuts.{Cut, taken, IsInFlight, Becomes, PlainStep, acts, delivers, PlainRun, still, further}
+use Rattle.model.proofs.Leaving.{own-stands, taken-stands}
 use Rattle.laws.proofs.StepFacts.{act-ok, Receipt, repeated, next, receipt-cases}
 use Rattle.laws.proofs.Turns.{Turn, at_becomes, at_turn, flew}
-use Rattle.laws.proofs.Stands.{own-stands, taken-takes}
 use Rattle.laws.proofs.Invariant.{phases_of, BodyFits, Inv}
 use Rattle.laws.proofs.Base.{inside-where, no-node-refuses, no-node-takes_nothing, first_in_flight, own-heard, taken-heard}
 use Rattle.laws.proofs.Inner.{resting-joined, sweeping-resting}
@@ -100,12 +100,7 @@ module _ {shape : Shaped} {c : Cut} {from to : ℕ} {x : Message}
     is-for (body.Mark target) fits =
         (let w = fits.2 in let v = latest inv to inside in omega (arith, w, v))
     is-for (body.Get target place label) fits = fits.0 ∙ sym (inv.base.own to inside)
-    is-for body.Begin fits = tt
-    is-for (body.Token token) fits = tt
-    is-for (body.Give label reference) fits = tt
-    is-for (body.Put target place reference) fits = tt
-    is-for body.Ended fits = tt
-    is-for body.Swept fits = tt
+    is-for b fits = tt
 
     receiving : {G : Ref → Type 0} {since : ℕ} → may_take (c to).local from x.stamp x.body ≡ true
         → GoodCut G since c → Receiving G since (c to).local x
@@ -151,7 +146,8 @@ plain-good {shape = shape} {G = G} {since = since} {c = c} {d = d} inv
         (no-node-takes_nothing from to) in
         let t : Turn c d to y.local y.sends = record {
           becomes = subst (λ (z : NodeState). Becomes c d to z) found.state becomes;
-          heard = taken-heard (taken-takes p from number x.stamp x.body) (omega arith);
+          heard = taken-heard p from number (taken-stands p from number x.stamp x.body)
+              (omega arith);
         } in
         turn-good t (taken-good p from number x (receiving inv inside flight may good))
         (ages-taken p from number x.stamp x.body) good

@@ -10,26 +10,28 @@ use Rattle.model.specs.declared.event.Event.TheVariants as event
 use Rattle.model.specs.declared.event.Answer.TheVariants as answer
 use Rattle.model.specs.declared.event.Letter.{Letter}
 use Rattle.model.specs.Checks.{AllPass}
-use Rattle.model.specs.State.{Object, Occupied, LocalState, slot_at, register_at}
+use Rattle.model.specs.State.{Object, Occupied, LocalState, slot_at, register_at, Phases}
 use Rattle.model.specs.Heaps.{no_letter, no_reference, named, new_reference, oldest_letter, with_letter, letter_taken, object_at, place_of, place_loaded}
 use Rattle.model.specs.References.{IfAny}
 use Rattle.model.specs.Effects.{Work, at_rest, Effect, answers}
 use Rattle.model.specs.Counting.{stamped}
-use Rattle.model.specs.Shading.{filled, join, joined, shade_all, vouch_all, last_grey, without_last_grey}
+use Rattle.model.specs.Shading.{filled, join, joined, last_grey, without_last_grey, see_to}
 use Rattle.model.specs.Collecting.{without_token, whitened, is_concluded, new_token, forwarded, probe, begun, places_in, scan, scanned, conclude, judged, handed_on, passed, looked_at, sweeps_last, reports_sweep, sweeping, swept_slots}
-use Rattle.model.specs.Steps.{is_own, tests, made, carried, taken_in, settled, take_carried, take_body, count_in, allocated, copied, dropped, loaded, stored, cleared, word_read, word_set, given, accepted, put_asked, get_asked}
+use Rattle.model.specs.Steps.{is_own, tests, made, carried, taken_in, settled, take_carried, take_body, count_in}
 use Rattle.model.specs.Cuts.{Among}
 use Rattle.model.proofs.Lookups.{at_set, at_push}
 use Rattle.model.proofs.Slots.{occupied-within}
+use Rattle.model.proofs.Leaving.{stands-walks}
+use Rattle.model.proofs.Shading.{see_to-none}
+use Rattle.model.proofs.Joining.{join-phases}
+use Rattle.model.proofs.Walk.{joined-walks, carried-walks}
 use Rattle.laws.proofs.Lookups.{any-list, any-there, all-among}
-use Rattle.laws.proofs.Stands.{joined-stands, carried-stands}
 use Rattle.laws.proofs.Invariant.{Tidy}
 use Rattle.laws.proofs.Dressing.{option-holds}
 use Rattle.laws.proofs.Sweeps.{SweptHeap, swept-some}
 use Rattle.laws.proofs.OwnEvents.{letters-dropped}
-use Rattle.laws.proofs.Begins.{join-has_cycle}
 use Rattle.laws.proofs.GoodHeaps.{read-good, last-among, fewer-among, grey-good, heap-rooted, heap-registered, heap-fewer_grey, heap-rewritten, place-good, word-good, heap-object, heap-swept}
-use Rattle.laws.proofs.Good.{GoodPart, GoodMessage, GoodDone, done-quiet, done-through, part-with, part-ringed, idle-good, append-good, announce-good, shade-good, vouch-good, join-good}
+use Rattle.laws.proofs.Good.{GoodPart, GoodMessage, GoodDone, done-quiet, done-through, part-with, part-ringed, idle-good, append-good, announce-good, join-good, see-good}
 
 -- what a node's own event also relies on
 pub record Ready (G : Ref → Type 0) (p : LocalState) : Type 0 where
@@ -92,8 +94,8 @@ scan-good : {G : Ref → Type 0} {since : ℕ} (p : LocalState) → (length p.he
     → GoodPart G since p → GoodDone G since (scan p).local (scan p).sends
 unfolding scan
 scan-good p busy good =
-    shade-good (record p { heap = without_last_grey p.heap })
-    (filled (places_in (slot_at p.heap (last_grey p.heap))))
+    see-good true (filled (places_in (slot_at p.heap (last_grey p.heap))))
+    (record p { heap = without_last_grey p.heap })
     (part-with (without_last_grey p.heap) good
     (heap-fewer_grey (take (length p.heap.grey - 1) p.heap.grey) (fewer-among p.heap busy)
     good.heap))
@@ -198,8 +200,7 @@ swept-good {G = G} {since = since} p count ready r good = record {
 pub own-good : {G : Ref → Type 0} {since : ℕ} (p : LocalState) (counts : List ℕ) (e : Event)
     → is_own e ≡ true → AllPass (tests p e) → Ready G p → GoodPart G since p
     → GoodDone G since (made p counts e).local (made p counts e).sends
-unfolding allocated copied dropped loaded stored cleared word_read word_set given accepted put_asked
-    get_asked scanned
+unfolding scanned
 own-good p counts (event.Alloc register places) own passes r good =
     done-quiet (part-with _ good
     (heap-registered register (Some (new_reference p.own p.heap))
@@ -217,7 +218,7 @@ own-good {G = G} p counts (event.Load register object place) own passes r good =
     (eqb-true (named p.heap object).node p.own passes.1.1.1.0)
     (any-there G (register_at p.heap object) no_reference passes.1.1.0
     (good.heap.roots.registers object)) in
-    let first = shade-good p (option_to_list v) good (λ _. option-good G v is) in
+    let first = see-good true (option_to_list v) p good (λ _. option-good G v is) in
     done-through first
     (done-quiet (part-with _ first.part (heap-registered register v first.part.heap is)))
 own-good p counts (event.Store object place register) own passes r good =
@@ -303,17 +304,14 @@ joined-cycle : (p : LocalState) (stamp : ℕ) → p.phases.cycle ≤ stamp
 joined-cycle p stamp most =
     cond_both (ltb p.phases.cycle stamp) (join p stamp) (at_rest p)
     (λ (w : Work). w.local.phases.cycle ≤ stamp)
-    (λ _. (let e = join-has_cycle p stamp in omega (arith, e))) (λ _. most)
+    (λ _.
+    (let e = ap (λ (z : Phases). z.cycle) (join-phases p stamp) in omega (arith, e))) (λ _. most)
 
 carried-good : {G : Ref → Type 0} {since : ℕ} (p : LocalState) (stamp : ℕ) (b : Body)
     → ((r : Ref) → Among r (carried b) → G r) → GoodPart G since p
     → GoodDone G since (take_carried stamp b p).local (take_carried stamp b p).sends
 carried-good {G = G} {since = since} p stamp b all good =
-    cond_both (ltb stamp p.phases.cycle) (shade_all (at_rest p) (carried b))
-    (vouch_all (at_rest p) (carried b))
-    (λ (x : Work). GoodDone G since x.local x.sends)
-    (λ _. shade-good p (carried b) good (λ _. all))
-    (λ _. vouch-good p (carried b) good (λ _. all))
+    see-good (ltb stamp p.phases.cycle) (carried b) p good (λ _. all)
 
 body-good : {G : Ref → Type 0} {since : ℕ} (p : LocalState) (from stamp : ℕ) (b : Body)
     → GoodMessage G since (record { stamp = stamp; body = b }) → IsFor p stamp b
@@ -323,7 +321,7 @@ unfolding take_body
 body-good p from stamp body.Begin message fits good = done-quiet good
 body-good p from stamp (body.Token token) message fits good = done-quiet (part-ringed _ good)
 body-good {G = G} p from stamp (body.Mark target) message fits good =
-    shade-good p (target ∷ []) good
+    see-good true (target ∷ []) p good
     (λ there r a.
     ⊎_elim {C = G r}
     (λ (e : r ≡ target). subst G (sym e) (message.asks target refl (omega (arith, there, fits))))
@@ -350,9 +348,9 @@ body-good {G = G} p from stamp (body.Get target place label) message fits good =
     let v : Option Ref = place_of (object_at p.heap target) place in
     let is : IfAny G v =
     read-good target place good.heap fits (message.carries target (inl refl)) in
-    let first = shade-good p (option_to_list v) good (λ _. option-good G v is) in
+    let first = see-good true (option_to_list v) p good (λ _. option-good G v is) in
     done-through first
-    (append-good from (body.Give label v) (shade_all (at_rest p) (option_to_list v)).local
+    (append-good from (body.Give label v) (see_to true (option_to_list v) p).local
     (give-good _ label v is) first.part)
 body-good p from stamp body.Ended message fits good =
     done-quiet (record { heap = good.heap; asked = good.asked; phase = good.phase })
@@ -365,34 +363,29 @@ pub taken-good : {G : Ref → Type 0} {since : ℕ} (p : LocalState) (from numbe
     (taken_in p from number x.stamp x.body).sends
 unfolding taken_in settled count_in
 taken-good {G = G} {since = since} p from number x r =
-    let w : LocalState = (joined p x.stamp).local in
-    let q : LocalState = count_in from number x.stamp x.body w in
+    let q : LocalState = (joined p x.stamp).local in
     let y : LocalState = (take_carried x.stamp x.body q).local in
     let first = joined-good p x.stamp r.calm r.good in
-    let counted : GoodPart G since q =
-    record { heap = first.part.heap; asked = first.part.asked; phase = first.part.phase } in
-    let second = carried-good q x.stamp x.body r.message.carries counted in
-    done-through first
-    (done-through second (body-good y from x.stamp x.body r.message (fits x.body r.fits)
-    second.part))
+    let second = carried-good q x.stamp x.body r.message.carries first.part in
+    let third = body-good y from x.stamp x.body r.message (fits x.body r.fits) second.part in
+    let done = done-through first (done-through second third) in
+    record {
+      part = record {
+        heap = done.part.heap;
+        asked = done.part.asked;
+        phase = done.part.phase;
+      };
+      sends = done.sends;
+    }
   where
     fits : (b : Body) → IsFor p x.stamp b
-        → IsFor (take_carried x.stamp b (count_in from number x.stamp b
-        (joined p x.stamp).local)).local x.stamp b
+        → IsFor (take_carried x.stamp b (joined p x.stamp).local).local x.stamp b
     fits (body.Mark target) h =
-        let q : LocalState =
-        count_in from number x.stamp (body.Mark target) (joined p x.stamp).local in
-        cond_both (ltb x.stamp q.phases.cycle) (at_rest q) (at_rest q)
-        (λ (w : Work). w.local.phases.cycle ≤ x.stamp) (λ _. joined-cycle p x.stamp h)
-        (λ _. joined-cycle p x.stamp h)
+        let q : LocalState = (joined p x.stamp).local in
+        subst (λ (w : Work). w.local.phases.cycle ≤ x.stamp)
+        (sym (see_to-none (ltb x.stamp q.phases.cycle) q)) (joined-cycle p x.stamp h)
     fits (body.Get target place label) h =
-        let q : LocalState =
-        count_in from number x.stamp (body.Get target place label) (joined p x.stamp).local in
-        h ∙ sym (joined-stands p x.stamp).own
-        ∙ sym (carried-stands x.stamp (body.Get target place label) q).own
-    fits body.Begin h = tt
-    fits (body.Token token) h = tt
-    fits (body.Give label reference) h = tt
-    fits (body.Put target place reference) h = tt
-    fits body.Ended h = tt
-    fits body.Swept h = tt
+        let q : LocalState = (joined p x.stamp).local in
+        h ∙ sym (joined-walks stands-walks.collects p x.stamp).own
+        ∙ sym (carried-walks stands-walks.collects x.stamp (body.Get target place label) q).own
+    fits b h = tt

@@ -282,11 +282,7 @@ module _ {shape : Shaped} {c d : Cut} {i : ℕ} {q : LocalState} {ms : List (ℕ
       fits-reference (body.Give label reference) is here stamp = stamp
       fits-reference (body.Put target place reference) is here stamp = (here, stamp)
       fits-reference (body.Get target place label) is here stamp = (here, stamp)
-      fits-reference body.Begin is here stamp = absurd cc
-      fits-reference (body.Token t) is here stamp = absurd cc
-      fits-reference (body.Mark r) is here stamp = absurd cc
-      fits-reference body.Ended is here stamp = absurd cc
-      fits-reference body.Swept is here stamp = absurd cc
+      fits-reference b is here stamp = absurd cc
 
   sent-plain : (to : ℕ) (x : Message) → Sent shape.nodes c i to x → is_single x.body ≡ false
   sent-plain to x (sends_mark r is node inside safe marking joined) =

@@ -26,11 +26,11 @@ use Rattle.laws.proofs.Invariant.{phases_of, cycle_of, Marking, Resting, Safe, H
 use Rattle.laws.proofs.RingSteps.{token-back, token-on}
 use Rattle.laws.proofs.PhaseSteps.{fits-moved}
 
--- the node in the new cycle
+-- the node in the new cycle, with its registers and letters set aside
 abbrev pub entering : LocalState → ℕ → List ℕ → Option Token → LocalState
 entering p cycle grey token =
     record p {
-      heap = record p.heap { grey = grey };
+      heap = record p.heap { registers = []; letters = []; grey = grey };
       asked = [];
       phases = record p.phases { cycle = cycle; cursor = 0 };
       ring = record (entered p.ring) { token = token };
@@ -42,7 +42,6 @@ pub record Entering (shape : Shaped) (c d : Cut) (i cycle : ℕ) (grey : List �
     (token : Option Token) : Type 0 where
   pub inv : Inv shape c
   pub inside : i < shape.nodes
-  pub empty : RootsAll (λ _. ⊥) (c i).local.heap
   pub becomes : Becomes c d i (record {
     local = entering (c i).local cycle grey token;
     sent = (c i).sent;
@@ -110,8 +109,7 @@ enter-inv {shape = shape} {c = c} {d = d} {i = i} {cycle = cycle} {grey = grey} 
       messages = h.messages;
       closed = record {
         roots = at_turn (λ j s. RootsAll (Safe d) s.local.heap) turn
-            (let none = roots-map (λ _. ⊥) (Safe d) (λ _ never. absurd never) h.empty in
-            record { registers = none.registers; letters = none.letters })
+            (record { registers = λ k. tt; letters = λ k. tt })
             (λ j _. roots-map (Safe c) (Safe d) safe (h.inv.closed.roots j));
         places = λ j k g o there _ l.
             (let was : slot_at (c j).local.heap k ≡ Occupied g o = sym (slots j k) ∙ there in
@@ -127,9 +125,7 @@ enter-inv {shape = shape} {c = c} {d = d} {i = i} {cycle = cycle} {grey = grey} 
       cover = h.cover;
       held = record {
         roots = at_turn (λ j s. is_open s.local ≡ true → RootsAll (Holds s.local) s.local.heap) turn
-            (λ _.
-            (let none = roots-map (λ _. ⊥) (Holds q) (λ _ never. absurd never) h.empty in
-            record { registers = none.registers; letters = none.letters }))
+            (λ _. record { registers = λ k. tt; letters = λ k. tt })
             (λ j _. h.inv.held.roots j);
         blacks = λ j k g o.
             at_turn (λ l s. is_open s.local ≡ true → slot_at s.local.heap k ≡ Occupied g o
@@ -156,7 +152,6 @@ pub record Joining (shape : Shaped) (c d : Cut) (i : ℕ) (grey : List ℕ) : Ty
   pub inv : Inv shape c
   pub inside : i < shape.nodes
   pub other : i ≢ 0
-  pub empty : RootsAll (λ _. ⊥) (c i).local.heap
   pub marking : Marking (phases_of c 0)
   pub behind : cycle_of c i ≢ cycle_of c 0
   pub becomes : Becomes c d i (record {
@@ -216,7 +211,6 @@ join-inv {shape = shape} {c = c} {d = d} {i = i} {grey = grey} h =
     enter-inv (record {
       inv = h.inv;
       inside = h.inside;
-      empty = h.empty;
       becomes = h.becomes;
       older = older;
       now = now;

@@ -5,7 +5,6 @@ pub mod Onward
 pub mod KeepsSent
 pub mod Cuts
 pub mod Turns
-pub mod Stands
 pub mod Sums
 pub mod Safra
 pub mod Invariant

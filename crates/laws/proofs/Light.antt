@@ -33,24 +33,18 @@ is_idle body.Swept = true
 is_idle b = false
 
 pub idle-mentions : (b : Body) → is_idle b ≡ true → mentioned b ≡ []
-idle-mentions body.Begin is = refl
-idle-mentions (body.Token t) is = refl
-idle-mentions body.Ended is = refl
-idle-mentions body.Swept is = refl
 idle-mentions (body.Mark r) is = absurd cc
 idle-mentions (body.Give label reference) is = absurd cc
 idle-mentions (body.Put target place reference) is = absurd cc
 idle-mentions (body.Get target place label) is = absurd cc
+idle-mentions b is = refl
 
 pub idle-carries : (b : Body) → is_idle b ≡ true → carried b ≡ []
-idle-carries body.Begin is = refl
-idle-carries (body.Token t) is = refl
-idle-carries body.Ended is = refl
-idle-carries body.Swept is = refl
 idle-carries (body.Mark r) is = absurd cc
 idle-carries (body.Give label reference) is = absurd cc
 idle-carries (body.Put target place reference) is = absurd cc
 idle-carries (body.Get target place label) is = absurd cc
+idle-carries b is = refl
 
 pub idle-counts : (cycle : ℕ) (x : Message) → is_idle x.body ≡ true
     → (is_counted cycle x ≡ false) × (is_fresh cycle x ≡ false)
@@ -58,14 +52,11 @@ idle-counts cycle x is = by x.body is
   where
     by : (b : Body) → is_idle b ≡ true → (counts cycle x.stamp b ≡ false)
         × (is_fresh cycle (record { stamp = x.stamp; body = b }) ≡ false)
-    by body.Begin i = (refl, refl)
-    by (body.Token t) i = (refl, refl)
-    by body.Ended i = (refl, refl)
-    by body.Swept i = (refl, refl)
     by (body.Mark r) i = absurd cc
     by (body.Give label reference) i = absurd cc
     by (body.Put target place reference) i = absurd cc
     by (body.Get target place label) i = absurd cc
+    by b i = (refl, refl)
 
 pub record Light (shape : Shaped) (c d : Cut) (i : ℕ) (q : LocalState) (ms : List (ℕ × Message))
     : Type 0 where

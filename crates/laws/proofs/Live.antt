@@ -96,17 +96,13 @@ reached-safe {c = c} inv r (in_message from to place x flight among) =
   where
     carried-safe : (b : Body) → AllByRecursion (Safe c) (mentioned b) → Among r (carried b)
         → Safe c r
-    carried-safe (body.Mark target) all never = absurd never
-    carried-safe body.Begin all never = absurd never
-    carried-safe (body.Token t) all never = absurd never
-    carried-safe body.Ended all never = absurd never
-    carried-safe body.Swept all never = absurd never
     carried-safe (body.Give label reference) all a =
         all-among (Safe c) (carried (body.Give label reference)) all r a
     carried-safe (body.Put target place reference) all a =
         all-among (Safe c) (carried (body.Put target place reference)) all r a
     carried-safe (body.Get target place label) all a =
         all-among (Safe c) (carried (body.Get target place label)) all r a
+    carried-safe b all never = absurd never
 reached-safe {c = c} inv r (in_place owner o k reached there place) =
     let safe : Safe c owner = reached-safe inv owner reached in
     let same : safe.object ≡ o =
@@ -144,15 +140,12 @@ ended-delivered {shape = shape} {c = c} cycle from to s b inv done fits = by b f
     late z is f = reference-counts cycle s z is ∙ le-ltb s cycle (stamps f)
 
     by : (z : Body) → BodyFits shape.nodes (phases_of c) from to s z → counts cycle s z ≡ false
-    by body.Begin f = refl
-    by (body.Token t) f = refl
-    by body.Ended f = refl
-    by body.Swept f = refl
     by (body.Mark r) f =
         ne_eqb s cycle (λ e. (let w = f.1 in let v = f.2 in omega (arith, e, w, v, done)))
     by (body.Give label reference) f = late (body.Give label reference) refl f
     by (body.Put target place reference) f = late (body.Put target place reference) refl f.1
     by (body.Get target place label) f = late (body.Get target place label) refl f.1
+    by b f = refl
 
 ended-joined : {shape : Shaped} {c : Cut} (cycle j : ℕ) → Inv shape c → j < shape.nodes
     → cycle ≤ (phases_of c 0).ended → cycle ≤ cycle_of c j

@@ -1,5 +1,5 @@
 -- The invariant after a node has shaded references, or vouched for them.
-use Rattle.std.proofs.Common.{◌≡◌, ◌≢◌, ℕ, ℤ, pos, ◌+ℤ◌, ◌<◌, ◌≤◌, ◌⊎◌, ◌==◌, ◌||◌, cond, not, true, List, [], ◌∷◌, ◌++◌, length, get_or, Option, None, refl, sym, ap, ◌∙◌, subst, ⊎_elim, inl, inr, arith, append_assoc}
+use Rattle.std.proofs.Common.{◌≡◌, ◌≢◌, ℕ, ℤ, pos, ◌+ℤ◌, ◌<◌, ◌≤◌, ◌⊎◌, ◌==◌, ◌||◌, cond, not, true, List, [], ◌∷◌, ◌++◌, length, get_or, Option, None, refl, sym, ap, ◌∙◌, subst, ⊎_elim, inl, inr, arith, append_assoc, false}
 use Rattle.std.specs.Prelude.{◌≤ℤ◌}
 use Rattle.std.proofs.lemmas.Int.{ints}
 use Rattle.std.proofs.lemmas.Bool.{eq-eqb, eqb-true, cases_eq, cond_both, cond-true, and_parts, or_cases, or_left, or_right, both_ways}
@@ -8,15 +8,15 @@ use Rattle.ids.specs.Limits.{Shaped}
 use Rattle.ids.specs.declared.names.Ref.{Ref}
 use Rattle.msg.specs.declared.body.Body.TheVariants as body
 use Rattle.msg.specs.declared.body.Message.{Message}
-use Rattle.model.specs.State.{Object, Occupied, Heap, LocalState, slot_at}
+use Rattle.model.specs.State.{Object, Occupied, Heap, LocalState, slot_at, Ring}
 use Rattle.model.specs.Heaps.{no_letter}
-use Rattle.model.specs.Shading.{is_same, is_in, is_open, make_all_grey, unasked, mark_for, marks_for}
+use Rattle.model.specs.Shading.{is_same, is_in, is_open, make_all_grey, unasked, mark_for, marks_for, seen}
 use Rattle.model.specs.Steps.{append_all}
 use Rattle.model.specs.References.{IfAny}
 use Rattle.model.specs.Cuts.{Cut, Among, Becomes}
-use Rattle.model.specs.Agreement.{is_counted}
-use Rattle.model.proofs.ShadingParts.{shaded_work, vouched_work}
+use Rattle.model.specs.Agreement.{is_counted, balance}
 use Rattle.model.proofs.Slots.{same-object}
+use Rattle.model.proofs.Shading.{marks-none}
 use Rattle.laws.proofs.Flights.{number_sent}
 use Rattle.laws.proofs.Rings.{Counted}
 use Rattle.laws.proofs.Invariant.{phases_of, cycle_of, Marking, Resting, Joined, Safe, Holds, holds_marked, holds_asked, Covered, is_marked, is_asked, RootsAll, Tidy, FreeSlots, fresh_balance, is_fresh, Inv}
@@ -319,14 +319,14 @@ pub record Shading (shape : Shaped) (c : Cut) (i : ℕ) (rs : List Ref) : Type 0
 
 module _ {shape : Shaped} {c d : Cut} {i : ℕ} {rs : List Ref} (s : Shading shape c i rs)
     (becomes : Becomes c d i (record {
-      local = (shaded_work (c i).local [] rs).local;
-      sent = append_all (c i).sent (shaded_work (c i).local [] rs).sends;
+      local = (seen true rs (c i).local).local;
+      sent = append_all (c i).sent (seen true rs (c i).local).sends;
     })) where
   abbrev news : List Ref
   news = unasked (c i).local.own (c i).local.asked rs
 
   abbrev shaded : LocalState
-  shaded = (shaded_work (c i).local [] rs).local
+  shaded = (seen true rs (c i).local).local
 
   shaded-same : Same (c i).local shaded
   shaded-same = record { shape = refl; own = refl; phases = refl; token = refl }
@@ -442,11 +442,11 @@ pub record Vouching (shape : Shaped) (c : Cut) (i : ℕ) (rs : List Ref) : Type 
 
 module _ {shape : Shaped} {c d : Cut} {i : ℕ} {rs : List Ref} (s : Vouching shape c i rs)
     (becomes : Becomes c d i (record {
-      local = (vouched_work (c i).local [] rs).local;
+      local = (seen false rs (c i).local).local;
       sent = (c i).sent;
     })) where
   abbrev vouched : LocalState
-  vouched = (vouched_work (c i).local [] rs).local
+  vouched = (seen false rs (c i).local).local
 
   -- if an object turns grey, a Mark for it is in flight
   vouched-calm : (grey_heap c i rs ≡ (c i).local.heap) ⊎ Counted c
@@ -514,8 +514,15 @@ module _ {shape : Shaped} {c d : Cut} {i : ℕ} {rs : List Ref} (s : Vouching sh
             {C = (Joined c i → (c i).local.heap.grey ≡ []
             → (vouched.heap.grey ≡ [])
             × (vouched.ring.earlier ≡ (c i).local.ring.earlier)) ⊎ Counted c}
-            (λ none. inl (λ _ grey. (ap (λ (z : Heap). z.grey) none ∙ grey, refl)))
+            (λ none. inl (λ _ grey. (
+              ap (λ (z : Heap). z.grey) none ∙ grey,
+              +ℤ_idr (c i).local.ring.earlier,
+            )))
             (λ some. inr some) vouched-calm;
-        counted = omega (arith, ints);
+        counted =
+            (let same : balance (cycle_of c 0) vouched ≡ balance (cycle_of c 0) (c i).local =
+            ap (λ (z : Ring). balance (cycle_of c 0) (record vouched { ring = z }))
+            (marks-none (c i).local.ring) in
+            omega (arith, ints, same));
         fresh = omega (arith, ints);
       })

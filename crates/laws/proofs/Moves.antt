@@ -1,21 +1,21 @@
 -- Steps of one node, one after another: what each step ensures for the next.
-use Rattle.std.proofs.Common.{◌≡◌, ℕ, ◌<◌, ◌⊎◌, ◌==◌, not, true, false, List, [], ◌∷◌, ◌++◌, get_or, set, refl, sym, ap, ◌∙◌, subst, ⊎_elim, arith}
+use Rattle.std.proofs.Common.{◌≡◌, ℕ, ◌<◌, ◌⊎◌, ◌==◌, not, true, false, List, [], ◌∷◌, ◌++◌, get_or, set, refl, sym, ap, ◌∙◌, subst, ⊎_elim, arith, Bool}
 use Rattle.std.proofs.lemmas.Bool.{cases_Bool, both_ways}
 use Rattle.std.proofs.Math.Path.{fun_ext}
 use Rattle.ids.specs.Limits.{Shaped}
 use Rattle.ids.specs.declared.names.Ref.{Ref}
 use Rattle.msg.specs.declared.body.Message.{Message}
 use Rattle.model.specs.State.{Phases, LocalState, NodeState, got_from}
-use Rattle.model.specs.Effects.{Work, at_rest}
-use Rattle.model.specs.Shading.{is_open, shade_all, vouch_all}
+use Rattle.model.specs.Effects.{Work}
+use Rattle.model.specs.Shading.{is_open, seen, see_to}
 use Rattle.model.specs.Steps.{append_all}
 use Rattle.model.specs.Cuts.{Cut, taken, IsInFlight, Among, Becomes}
-use Rattle.model.proofs.ShadingParts.{shade_all-open, shade_all-closed, vouch_all-open, vouch_all-closed, shaded_work, vouched_work}
+use Rattle.model.proofs.Shading.{see_to-open, see_to-closed}
 use Rattle.laws.proofs.Turns.{at_turn, at_becomes, flies}
 use Rattle.laws.proofs.Rings.{Counted}
 use Rattle.laws.proofs.Invariant.{phases_of, Marking, Safe, Holds, Covered, Inv}
 use Rattle.laws.proofs.Inner.{Known, Inner, inner-inv, known-kept, safe-kept, same-phases}
-use Rattle.laws.proofs.Meets.{Meeting, meet-holds, Shading, shade-inner, Vouching, vouch-inner}
+use Rattle.laws.proofs.Meets.{Meeting, meet-holds, shade-inner, vouch-inner}
 
 -- a node after some work
 abbrev pub worked : NodeState → Work → NodeState
@@ -104,54 +104,51 @@ open-now : {shape : Shaped} {c d : Cut} {i : ℕ} → Moves shape c d i
     → is_open (d i).local ≡ is_open (c i).local
 open-now {i = i} m = ap (λ (z : ℕ → Phases). not ((z i).ended == (z i).cycle)) m.phases
 
--- a node that marks then holds them
-met-open : {shape : Shaped} {c d : Cut} {i : ℕ} {rs : List Ref} {q : LocalState} → Moves shape c d i
-    → ((r : Ref) → Among r rs → Safe c r) → (d i).local ≡ q
-    → ((r : Ref) → Among r rs → Holds q r) → Met shape c d i rs
-met-open moves safe now holds = record {
-  moves = moves;
-  known = λ r a. record {
-    safe = moves.safe r (safe r a);
-    held = λ _. subst (λ (z : LocalState). Holds z r) (sym now) (holds r a);
-  };
-}
-
--- a node that doesn't mark is as before
-met-shut : {shape : Shaped} {c d : Cut} {i : ℕ} {rs : List Ref} → Inv shape c → Becomes c d i (c i)
-    → ((r : Ref) → Among r rs → Safe c r) → is_open (c i).local ≡ false → Met shape c d i rs
-met-shut {shape = shape} {c = c} {d = d} {i = i} inv becomes safe shut =
-    let moves : Moves shape c d i = moves-none becomes inv in
+-- A node that marks then holds them, and one that doesn't is as before.
+see-met : {shape : Shaped} {c d : Cut} {i : ℕ} {rs : List Ref} (due : Bool) → Inv shape c
+    → i < shape.nodes → ((r : Ref) → Among r rs → Safe c r)
+    → (Meeting shape c i rs → Becomes c d i (worked (c i) (seen due rs (c i).local))
+    → Inner shape c d i (seen due rs (c i).local).local (seen due rs (c i).local).sends)
+    → Becomes c d i (worked (c i) (see_to due rs (c i).local)) → Met shape c d i rs
+see-met {shape = shape} {c = c} {d = d} {i = i} {rs = rs} due inv inside safe inner becomes =
+    let p : LocalState = (c i).local in
+    ⊎_elim {C = Met shape c d i rs}
+    (λ opened.
+    let meeting : Meeting shape c i rs =
+    record { inv = inv; inside = inside; opened = opened; safe = safe } in
+    let became : Becomes c d i (worked (c i) (seen due rs p)) =
+    subst (λ (z : Work). Becomes c d i (worked (c i) z)) (see_to-open due rs p opened) becomes in
+    let moves : Moves shape c d i = inner-moves (inner meeting became) refl in
+    record {
+      moves = moves;
+      known = λ r a. record {
+        safe = moves.safe r (safe r a);
+        held = λ _.
+            subst (λ (z : NodeState). Holds z.local r) (sym became.changed)
+            (meet-holds meeting {q = (seen due rs p).local} refl
+            (record { shape = refl; own = refl; phases = refl; token = refl }) refl r a);
+      };
+    })
+    (λ shut.
+    let moves : Moves shape c d i =
+    moves-none
+    (subst (λ (z : Work). Becomes c d i (worked (c i) z)) (see_to-closed due rs p shut) becomes)
+    inv in
     record {
       moves = moves;
       known = λ r a. record {
         safe = moves.safe r (safe r a);
         held = λ opened. absurd (both_ways _ shut (sym (open-now moves) ∙ opened));
       };
-    }
+    })
+    (cases_Bool (is_open p))
 
 pub shade-met : {shape : Shaped} {c d : Cut} {i : ℕ} {rs : List Ref} → Shadeable shape c i rs
-    → Becomes c d i (worked (c i) (shade_all (at_rest (c i).local) rs)) → Met shape c d i rs
-shade-met {shape = shape} {c = c} {d = d} {i = i} {rs = rs} s becomes =
-    ⊎_elim {C = Met shape c d i rs}
-    (λ opened.
-    let meeting : Meeting shape c i rs = record {
-      inv = s.inv;
-      inside = s.inside;
-      opened = opened;
-      safe = s.safe;
-    } in
-    let shading : Shading shape c i rs = record { meeting = meeting; quiet = s.quiet opened } in
-    let became : Becomes c d i (worked (c i) (shaded_work (c i).local [] rs)) =
-    subst (λ (z : Work). Becomes c d i (worked (c i) z)) (shade_all-open (c i).local [] rs opened)
-    becomes in
-    met-open (inner-moves (shade-inner shading became) refl) s.safe
-    (ap (λ (z : NodeState). z.local) became.changed)
-    (meet-holds meeting {q = (shaded_work (c i).local [] rs).local} refl
-    (record { shape = refl; own = refl; phases = refl; token = refl }) refl))
-    (λ shut.
-    met-shut s.inv (subst (λ (z : Work). Becomes c d i (worked (c i) z))
-    (shade_all-closed (at_rest (c i).local) rs shut) becomes) s.safe shut)
-    (cases_Bool (is_open (c i).local))
+    → Becomes c d i (worked (c i) (see_to true rs (c i).local)) → Met shape c d i rs
+shade-met s becomes =
+    see-met true s.inv s.inside s.safe
+    (λ meeting became.
+    shade-inner (record { meeting = meeting; quiet = s.quiet meeting.opened }) became) becomes
 
 pub record Vouchable (shape : Shaped) (c : Cut) (i : ℕ) (rs : List Ref) : Type 0 where
   pub inv : Inv shape c
@@ -161,26 +158,9 @@ pub record Vouchable (shape : Shaped) (c : Cut) (i : ℕ) (rs : List Ref) : Type
       → Covered c r
 
 pub vouch-met : {shape : Shaped} {c d : Cut} {i : ℕ} {rs : List Ref} → Vouchable shape c i rs
-    → Becomes c d i (worked (c i) (vouch_all (at_rest (c i).local) rs)) → Met shape c d i rs
-vouch-met {shape = shape} {c = c} {d = d} {i = i} {rs = rs} s becomes =
-    ⊎_elim {C = Met shape c d i rs}
-    (λ opened.
-    let meeting : Meeting shape c i rs = record {
-      inv = s.inv;
-      inside = s.inside;
-      opened = opened;
-      safe = s.safe;
-    } in
-    let vouching : Vouching shape c i rs =
-    record { meeting = meeting; covered = λ m. s.covered m opened } in
-    let became : Becomes c d i (worked (c i) (vouched_work (c i).local [] rs)) =
-    subst (λ (z : Work). Becomes c d i (worked (c i) z)) (vouch_all-open (c i).local [] rs opened)
-    becomes in
-    met-open (inner-moves (vouch-inner vouching became) refl) s.safe
-    (ap (λ (z : NodeState). z.local) became.changed)
-    (meet-holds meeting {q = (vouched_work (c i).local [] rs).local} refl
-    (record { shape = refl; own = refl; phases = refl; token = refl }) refl))
-    (λ shut.
-    met-shut s.inv (subst (λ (z : Work). Becomes c d i (worked (c i) z))
-    (vouch_all-closed (at_rest (c i).local) rs shut) becomes) s.safe shut)
-    (cases_Bool (is_open (c i).local))
+    → Becomes c d i (worked (c i) (see_to false rs (c i).local)) → Met shape c d i rs
+vouch-met s becomes =
+    see-met false s.inv s.inside s.safe
+    (λ meeting became.
+    vouch-inner (record { meeting = meeting; covered = λ m. s.covered m meeting.opened }) became)
+    becomes

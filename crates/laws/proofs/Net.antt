@@ -13,11 +13,11 @@ use Rattle.model.specs.declared.step.Outcome.TheVariants as outcome
 use Rattle.model.specs.State.{NodeState, node_at, new_node, got_from, sent_to}
 use Rattle.model.specs.Steps.{act, is_own, is_addressed}
 use Rattle.model.specs.World.{World, new_world, run, numbered, released, acknowledged, release_count, take_step, IsInNet}
+use Rattle.model.proofs.Leaving.{own-stands, taken-stands}
 use Rattle.laws.specs.Statements.{NetGrows, NoneBeyond, AcknowledgementsGoThrough, HandsGoThrough, AcknowledgedIsTakenIn}
 use Rattle.laws.proofs.Lookups.{Grows, slice_get-grows}
 use Rattle.laws.proofs.StepFacts.{Delivery, act-ok, Receipt, repeated, next, receipt-cases}
 use Rattle.laws.proofs.Onward.{Onward, Behind, new-behind, run-behind, run-saved}
-use Rattle.laws.proofs.Stands.{own-stands, taken-takes}
 use Rattle.laws.proofs.KeepsSent.{SentMore, sent-onward, new-keeps-sent, run-count}
 use Rattle.laws.proofs.Cuts.{released-numbered, run-keeps-sent}
 use Rattle.laws.proofs.Base.{own-heard, taken-heard, between-nodes, all-base}
@@ -55,7 +55,8 @@ receive-heard : (s : NodeState) (m : Delivery) (t : NodeState) (a : Answer) → 
 receive-heard s m t a (repeated same says) = subst (HeardMore s) (sym same) (λ j. le_refl _)
 receive-heard s m t a (next turn may found) =
     subst (HeardMore s) (sym found.state)
-    (taken-heard (taken-takes s.local m.from m.number m.message.stamp m.message.body) (omega arith))
+    (taken-heard s.local m.from m.number
+    (taken-stands s.local m.from m.number m.message.stamp m.message.body) (omega arith))
 
 pub heard-onward : Onward HeardMore
 heard-onward = record {

@@ -15,7 +15,7 @@ use Rattle.model.specs.declared.step.Outcome.TheVariants as outcome
 use Rattle.model.specs.Checks.{guarded}
 use Rattle.model.specs.State.{LocalState, NodeState, no_node, node_at}
 use Rattle.model.specs.Effects.{Effect, answers}
-use Rattle.model.specs.Steps.{act, made, taken_in, is_own, is_addressed, append_all, allocated, copied, dropped, loaded, stored, cleared, word_read, word_set, given, accepted, put_asked, get_asked}
+use Rattle.model.specs.Steps.{act, made, taken_in, is_own, is_addressed, append_all}
 use Rattle.model.specs.Collecting.{without_token, is_concluded, probe, begun, scanned, conclude, judged, handed_on, passed, swept_slots}
 use Rattle.model.specs.World.{World, released, acknowledged, release_count, moved, delivery, is_node, take_step, outcome_of, world_after, is_eventful}
 use Rattle.laws.specs.Statements.{OnlyEventsChange}
@@ -42,8 +42,7 @@ quiet-passed p =
 
 quiet-effect : (p : LocalState) (counts : List ℕ) (e : Event)
     → is_own e ≡ true → IsQuiet (made p counts e).answer → IsNothing p (made p counts e)
-unfolding allocated copied dropped loaded stored cleared word_read word_set given accepted put_asked
-    get_asked begun scanned swept_slots
+unfolding begun scanned swept_slots
 quiet-effect p counts (event.Word object) own quiet = record { local = refl; sends = refl }
 quiet-effect p counts event.Pass own quiet = absurd (quiet-passed p quiet)
 quiet-effect p counts (event.Data d) own quiet = absurd cc

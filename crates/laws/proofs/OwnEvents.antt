@@ -13,13 +13,14 @@ use Rattle.model.specs.Checks.{AllPass}
 use Rattle.model.specs.State.{Object, Occupied, Heap, Phases, NodeState, register_at, slot_at}
 use Rattle.model.specs.Heaps.{no_letter, with_object, new_object, new_reference, no_reference, named, object_at, place_of, place_loaded, oldest_letter, with_place}
 use Rattle.model.specs.References.{IfAny}
-use Rattle.model.specs.Effects.{Work, at_rest, Effect}
+use Rattle.model.specs.Effects.{Work}
 use Rattle.model.specs.Counting.{append}
-use Rattle.model.specs.Shading.{is_open, shade_all}
-use Rattle.model.specs.Steps.{is_own, tests, made, append_all, allocated, copied, dropped, loaded, stored, cleared, word_read, word_set, given, accepted, put_asked, get_asked}
+use Rattle.model.specs.Shading.{is_open, see_to}
+use Rattle.model.specs.Steps.{is_own, tests, made, append_all}
 use Rattle.model.specs.Cuts.{Cut, Among, Becomes}
 use Rattle.model.proofs.Lookups.{at_set, at_set_if}
 use Rattle.model.proofs.Slots.{found-object, same-object}
+use Rattle.model.proofs.Walk.{work_in}
 use Rattle.laws.proofs.Lookups.{any-some, any-list, any-there}
 use Rattle.laws.proofs.Invariant.{cycle_of, Resting, Safe, Holds, holds_marked, holds_asked, RootsAll, Inv}
 use Rattle.laws.proofs.Inner.{Known, known-roots, resting-joined, occupied-inside}
@@ -170,21 +171,16 @@ is_cyclic event.Pass = true
 is_cyclic (event.Sweep count) = true
 is_cyclic e = false
 
-abbrev pub effect_work : Effect → Work
-effect_work x = record { local = x.local; sends = x.sends }
-
 -- a node's own event
 pub record OwnStep (shape : Shaped) (c d : Cut) (i : ℕ) (counts : List ℕ) (e : Event) : Type 0 where
   pub inv : Inv shape c
   pub inside : i < shape.nodes
   pub own : is_own e ≡ true
   pub passed : AllPass (tests (c i).local e)
-  pub becomes : Becomes c d i (worked (c i) (effect_work (made (c i).local counts e)))
+  pub becomes : Becomes c d i (worked (c i) (work_in (made (c i).local counts e)))
 
 pub program-moves : {shape : Shaped} {c d : Cut} (i : ℕ) (counts : List ℕ) (e : Event)
     → is_cyclic e ≡ false → OwnStep shape c d i counts e → Moves shape c d i
-unfolding allocated copied dropped loaded stored cleared word_read word_set given accepted put_asked
-    get_asked
 program-moves {shape = shape} {c = c} {d = d} i counts (event.Alloc register places) plain step =
     let s : NodeState = c i in
     let h : Heap = s.local.heap in
@@ -232,7 +228,7 @@ program-moves {shape = shape} {c = c} {d = d} i counts (event.Load register obje
     step =
     let s : NodeState = c i in
     let v : Option Ref = place_loaded s.local.heap object place in
-    let w : Work = shade_all (at_rest s.local) (option_to_list v) in
+    let w : Work = see_to true (option_to_list v) s.local in
     let t : NodeState = worked s w in
     let r : Ref = named s.local.heap object in
     let reads : Reading shape c i r = record {

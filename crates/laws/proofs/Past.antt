@@ -1,25 +1,21 @@
 -- A generation that was given out stays so. No event of a node and no message takes a generation
 -- back or lowers the node's cycle.
-use Rattle.std.proofs.Common.{◌≡◌, ℕ, zero, suc, ◌+◌, ◌<◌, ◌≤◌, ◌==◌, true, cond, List, [], ◌∷◌, ◌++◌, length, length-set, length-append, get_or, set, option_to_list, sym, subst, ⊎_elim, arith, le_refl, le_trans, ltb, ltb-true}
-use Rattle.std.proofs.lemmas.Bool.{cases_Bool, cond_both}
+use Rattle.std.proofs.Common.{◌≡◌, ℕ, zero, suc, ◌+◌, ◌<◌, ◌≤◌, ◌==◌, cond, List, [], ◌∷◌, ◌++◌, length, length-set, length-append, get_or, set, sym, subst, arith, le_refl, le_trans, refl, true}
+use Rattle.std.proofs.lemmas.Bool.{cond_both}
 use Rattle.std.proofs.lemmas.List.{get_or_append_left}
 use Rattle.ids.specs.declared.limits.TheConstants.{GREATEST_GENERATION}
 use Rattle.ids.specs.declared.names.Ref.{Ref}
 use Rattle.msg.specs.declared.body.Body.{Body}
-use Rattle.msg.specs.declared.body.Body.TheVariants as body
 use Rattle.model.specs.declared.event.Event.{Event}
-use Rattle.model.specs.declared.event.Event.TheVariants as event
-use Rattle.model.specs.declared.event.Answer.TheVariants as answer
 use Rattle.model.specs.State.{Object, Slot, Free, Occupied, Retired, Heap, LocalState, slot_at}
-use Rattle.model.specs.Heaps.{named, rewritten, with_rewritten, slots_with, next_slot, next_generation, generation_for, object_at, place_of, place_loaded}
-use Rattle.model.specs.Effects.{Work, at_rest, Effect, answers}
+use Rattle.model.specs.Heaps.{rewritten, with_rewritten, slots_with, next_slot, next_generation, generation_for, object_at}
 use Rattle.model.specs.Counting.{append, announce}
-use Rattle.model.specs.Shading.{is_open, is_unmarked, with_mark, make_grey, make_all_grey, shade_all, vouch_all, filled, roots, enter, join, joined, last_grey, without_last_grey}
-use Rattle.model.specs.Collecting.{without_token, is_concluded, probe, begun, places_in, scan, scanned, conclude, judged, handed_on, passed, is_garbage, generation_in, vacated_slot, vacated, Sweeping, sweep_one, sweep_some, looked_at, swept_slots}
-use Rattle.model.specs.Steps.{is_own, made, carried, taken_in, settled, take_carried, take_body, count_in, allocated, copied, dropped, loaded, stored, cleared, word_read, word_set, given, accepted, put_asked, get_asked}
+use Rattle.model.specs.Shading.{is_open, is_unmarked, with_mark, make_grey, make_all_grey, enter, see_to}
+use Rattle.model.specs.Collecting.{is_garbage, generation_in, vacated_slot, vacated, Sweeping, sweep_one, sweep_some, looked_at}
+use Rattle.model.specs.Steps.{is_own, made, taken_in, settled, count_in}
 use Rattle.model.proofs.Lookups.{at_set_if}
-use Rattle.model.proofs.ShadingParts.{shade_all-open, shade_all-closed, vouch_all-open, vouch_all-closed}
 use Rattle.model.proofs.Slots.{occupied-within}
+use Rattle.model.proofs.Walk.{Walks, own-walks, taken-walks}
 use Rattle.laws.proofs.Invariant.{IsFree, FreeSlots}
 use Rattle.laws.proofs.Sweeps.{garbage-there}
 
@@ -163,118 +159,56 @@ later-sweep cycle i (suc n) s k g x =
 pub ages-same : (p : LocalState) → Ages p p
 ages-same p = record { cycle = le_refl _; past = λ k g x. x }
 
-pub ages-shade : (w : Work) (rs : List Ref) → Ages w.local (shade_all w rs).local
-ages-shade w rs = ⊎_elim {C = Ages w.local (shade_all w rs).local}
-    (λ opened.
-    subst (λ (x : Work). Ages w.local x.local) (sym (shade_all-open w.local w.sends rs opened))
-    (record {
-      cycle = le_refl _;
-      past = later-all_grey w.local.own w.local.phases.cycle w.local.heap rs;
-    }))
-    (λ shut.
-    subst (λ (x : Work). Ages w.local x.local) (sym (shade_all-closed w rs shut))
-    (ages-same w.local))
-    (cases_Bool (is_open w.local))
+-- registers, letters and the grey list aren't read
+moved : {h g : Heap} → g.slots ≡ h.slots → Later h g
+moved {h = h} {g = g} same k generation x =
+    let y : (k < length g.slots) × PastSlot (get_or g.slots k Retired) generation =
+    subst (λ (z : List Slot). (k < length z) × PastSlot (get_or z k Retired) generation) (sym same)
+    (x.used, x.past) in
+    record { used = y.0; past = y.1 }
 
-pub ages-vouch : (w : Work) (rs : List Ref) → Ages w.local (vouch_all w rs).local
-ages-vouch w rs = ⊎_elim {C = Ages w.local (vouch_all w rs).local}
-    (λ opened.
-    subst (λ (x : Work). Ages w.local x.local) (sym (vouch_all-open w.local w.sends rs opened))
-    (record {
+-- if the free list names free slots, when an object is made
+ages-walks : Walks (λ p. FreeSlots p.heap.slots p.heap.free) (λ p w. Ages p w.local)
+unfolding see_to enter append announce
+ages-walks = record {
+  collects = record {
+    rest = ages-same;
+    both = λ p w f first second. ages-through first second;
+    sees = λ due rs p. record {
       cycle = le_refl _;
-      past = later-all_grey w.local.own w.local.phases.cycle w.local.heap rs;
-    }))
-    (λ shut.
-    subst (λ (x : Work). Ages w.local x.local) (sym (vouch_all-closed w rs shut))
-    (ages-same w.local))
-    (cases_Bool (is_open w.local))
+      past = later-all_grey p.own p.phases.cycle p.heap (cond (is_open p) rs []);
+    };
+    enters = λ p cycle later. record { cycle = omega (arith, later); past = moved refl };
+    rings = λ p r. record { cycle = le_refl _; past = moved refl };
+    ends = λ p. record { cycle = le_refl _; past = moved refl };
+    hears = λ p reports. record { cycle = le_refl _; past = moved refl };
+    scans = λ p. record { cycle = le_refl _; past = moved refl };
+    sends = λ to b p quiet. record { cycle = le_refl _; past = moved refl };
+    tells = λ b p quiet. record { cycle = le_refl _; past = moved refl };
+  };
+  roots = λ p registers letters. record { cycle = le_refl _; past = moved refl };
+  rewrites = λ p r f. record { cycle = le_refl _; past = later-rewritten p.heap r f };
+  makes = λ p register places f. record {
+    cycle = le_refl _;
+    past = λ k g x.
+        (let y = later-object p.heap.free p.heap.slots _ f k g x.used x.past in
+        record { used = y.0; past = y.1 });
+  };
+  gives = λ to b p. record { cycle = le_refl _; past = moved refl };
+  sweeps = λ p count. record {
+    cycle = le_refl _;
+    past = later-sweep p.phases.cycle p.phases.cursor (looked_at p count)
+        (record { heap = p.heap; freed = 0 });
+  };
+}
 
-pub ages-join : (p : LocalState) (cycle : ℕ) → p.phases.cycle ≤ cycle → Ages p (join p cycle).local
-unfolding join enter
-ages-join p cycle more =
-    ages-through {q = enter p cycle}
-    (record { cycle = more; past = λ k g x. record { used = x.used; past = x.past } })
-    (ages-shade (at_rest (enter p cycle)) (filled (roots p.heap)))
+pub ages-own : (p : LocalState) (counts : List ℕ) (e : Event) → is_own e ≡ true
+    → FreeSlots p.heap.slots p.heap.free → Ages p (made p counts e).local
+ages-own p counts e own f = own-walks ages-walks p counts e own f
 
 pub ages-taken : (p : LocalState) (from number stamp : ℕ) (b : Body)
     → Ages p (taken_in p from number stamp b).local
-unfolding taken_in settled count_in take_body append
+unfolding taken_in settled count_in
 ages-taken p from number stamp b =
-    let w : LocalState = (joined p stamp).local in
-    let q : LocalState = count_in from number stamp b w in
-    ages-through
-    (cond_both (ltb p.phases.cycle stamp) (join p stamp) (at_rest p) (λ (x : Work). Ages p x.local)
-    (λ ahead. ages-join p stamp (let l = ltb-true p.phases.cycle stamp ahead in omega (arith, l)))
-    (λ _. ages-same p))
-    (ages-through {q = q} (record { cycle = le_refl _; past = λ k g x. x })
-    (ages-through
-    (cond_both (ltb stamp q.phases.cycle) (shade_all (at_rest q) (carried b))
-    (vouch_all (at_rest q) (carried b))
-    (λ (x : Work). Ages q x.local)
-    (λ _. ages-shade (at_rest q) (carried b)) (λ _. ages-vouch (at_rest q) (carried b)))
-    (ages-body from stamp b (take_carried stamp b q).local)))
-  where
-    ages-body : (j s : ℕ) (z : Body) (y : LocalState) → Ages y (take_body j s z y).local
-    ages-body j s (body.Mark target) y = ages-shade (at_rest y) (target ∷ [])
-    ages-body j s (body.Put target place reference) y =
-        record { cycle = le_refl _; past = later-rewritten y.heap target _ }
-    ages-body j s (body.Get target place label) y =
-        ages-through
-        (ages-shade (at_rest y) (option_to_list (place_of (object_at y.heap target) place)))
-        (record { cycle = le_refl _; past = λ k g x. x })
-    ages-body j s z y = record {
-      cycle = le_refl _;
-      past = λ k g x. record { used = x.used; past = x.past };
-    }
-
-ages-passed : (p : LocalState) → Ages p (passed p).local
-unfolding passed append announce probe conclude
-ages-passed p =
-    cond_both (p.own == 0) (judged p) (handed_on p) (λ (x : Effect). Ages p x.local)
-    (λ _.
-    cond_both (is_concluded p.ring)
-    (answers (conclude p) (answer.Ended p.phases.cycle))
-    (answers (probe (record p { ring = without_token p.ring })) answer.ProbeAgain)
-    (λ (x : Effect). Ages p x.local)
-    (λ _. record { cycle = le_refl _; past = λ k g x. x })
-    (λ _. record { cycle = le_refl _; past = λ k g x. x }))
-    (λ _. record { cycle = le_refl _; past = λ k g x. x })
-
--- a node's own event, if the free list names free slots
-pub ages-own : (p : LocalState) (counts : List ℕ) (e : Event) → is_own e ≡ true
-    → FreeSlots p.heap.slots p.heap.free → Ages p (made p counts e).local
-unfolding append announce allocated copied dropped loaded stored cleared word_read word_set given
-    accepted put_asked get_asked begun probe scanned scan swept_slots
-ages-own p counts (event.Alloc register places) own f = record {
-  cycle = le_refl _;
-  past = λ k g x.
-      (let y = later-object p.heap.free p.heap.slots _ f k g x.used x.past in
-      record { used = y.0; past = y.1 });
-}
-ages-own p counts (event.Load register object place) own f =
-    ages-through (ages-shade (at_rest p) (option_to_list (place_loaded p.heap object place)))
-    (record { cycle = le_refl _; past = λ k g x. record { used = x.used; past = x.past } })
-ages-own p counts (event.Store object place register) own f =
-    record { cycle = le_refl _; past = later-rewritten p.heap (named p.heap object) _ }
-ages-own p counts (event.Clear object place) own f =
-    record { cycle = le_refl _; past = later-rewritten p.heap (named p.heap object) _ }
-ages-own p counts (event.SetWord object word) own f =
-    record { cycle = le_refl _; past = later-rewritten p.heap (named p.heap object) _ }
-ages-own p counts event.Begin own f =
-    ages-through (ages-join p (p.phases.cycle + 1) (omega arith))
-    (record { cycle = le_refl _; past = λ k g x. x })
-ages-own p counts event.Scan own f =
-    ages-through {q = record p { heap = without_last_grey p.heap }}
-    (record { cycle = le_refl _; past = λ k g x. record { used = x.used; past = x.past } })
-    (ages-shade (at_rest (record p { heap = without_last_grey p.heap }))
-    (filled (places_in (slot_at p.heap (last_grey p.heap)))))
-ages-own p counts event.Pass own f = ages-passed p
-ages-own p counts (event.Sweep count) own f = record {
-  cycle = le_refl _;
-  past = later-sweep p.phases.cycle p.phases.cursor (looked_at p count)
-      (record { heap = p.heap; freed = 0 });
-}
-ages-own p counts (event.Data d) own f = absurd cc
-ages-own p counts (event.Ack a) own f = absurd cc
-ages-own p counts e own f =
-    record { cycle = le_refl _; past = λ k g x. record { used = x.used; past = x.past } }
+    let before = taken-walks ages-walks p from stamp b in
+    record { cycle = before.cycle; past = before.past }

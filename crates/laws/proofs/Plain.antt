@@ -12,12 +12,13 @@ use Rattle.model.specs.State.{NodeState}
 use Rattle.model.specs.Collecting.{is_swept_everywhere, scanned, swept_slots}
 use Rattle.model.specs.Steps.{tests, made, is_addressed}
 use Rattle.model.specs.Cuts.{Cut, Becomes, PlainStep, acts, delivers}
+use Rattle.model.proofs.Walk.{work_in}
 use Rattle.laws.proofs.StepFacts.{act-ok, Receipt, repeated, next, receipt-cases}
 use Rattle.laws.proofs.Turns.{at_becomes}
 use Rattle.laws.proofs.Base.{inside-where, no-node-refuses, no-node-takes_nothing, first_in_flight}
 use Rattle.laws.proofs.Invariant.{Inv}
 use Rattle.laws.proofs.Moves.{worked}
-use Rattle.laws.proofs.OwnEvents.{effect_work, OwnStep, program-moves}
+use Rattle.laws.proofs.OwnEvents.{OwnStep, program-moves}
 use Rattle.laws.proofs.Replies.{taken-inv}
 use Rattle.laws.proofs.Cycles.{scan-inv, sweep-event}
 use Rattle.laws.proofs.Rounds.{some-of, Passing, pass-inv}
@@ -46,7 +47,7 @@ own-inv {shape = shape} {c = c} {d = d} i counts event.Begin several unwrapped s
           step.passed.1.0;
       becomes =
           subst (λ (z : ℕ).
-          Becomes c d z (worked (c z) (effect_work (made (c z).local counts event.Begin))))
+          Becomes c d z (worked (c z) (work_in (made (c z).local counts event.Begin))))
           zero_is step.becomes;
     } in
     begin-inv begins

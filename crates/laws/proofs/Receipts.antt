@@ -1,40 +1,52 @@
 -- The invariant after a node has received a message. It joins the message's cycle if it isn't there
 -- yet, shades or vouches for the references, does what the body asks for, and counts the message.
-use Rattle.std.proofs.Common.{◌≡◌, ◌≢◌, ℕ, ℤ, pos, ◌+◌, ◌+ℤ◌, ◌-ℤ◌, ◌<◌, ◌≤◌, ltb, ltb-true, true, List, [], ◌∷◌, ◌++◌, length, get_or, set, Option, None, Some, refl, sym, ap, ◌∙◌, subst, ⊎_elim, inl, inr, arith, append-nil}
+use Rattle.std.proofs.Common.{◌≡◌, ◌≢◌, ℕ, ◌+◌, ◌<◌, ◌≤◌, ltb, ltb-true, true, List, [], ◌∷◌, ◌++◌, length, get_or, Option, refl, sym, ap, ◌∙◌, subst, ⊎_elim, inl, inr, arith, Bool}
 use Rattle.std.specs.List.{AllByRecursion}
-use Rattle.std.proofs.lemmas.Int.{ints}
-use Rattle.std.proofs.lemmas.Bool.{cases_Bool, cond-true, cond-false, cond_both, eq-eqb, lt-ltb, ltb-false, not_from_true}
+use Rattle.std.proofs.lemmas.Bool.{cases_Bool, eq-eqb, lt-ltb, ltb-false, not_from_true}
 use Rattle.ids.specs.Limits.{Shaped}
 use Rattle.ids.specs.declared.names.Ref.{Ref}
 use Rattle.msg.specs.declared.body.Body.{Body}
 use Rattle.msg.specs.declared.body.Body.TheVariants as body
-use Rattle.msg.specs.declared.body.Colour.TheVariants.{Black}
 use Rattle.msg.specs.declared.body.Token.{Token}
 use Rattle.msg.specs.declared.body.Message.{Message}
-use Rattle.model.specs.declared.balance.Balance.{Balance}
-use Rattle.model.specs.declared.balance.Balance.TheVariants.{Earlier, Recent}
 use Rattle.model.specs.declared.event.Letter.{Letter}
-use Rattle.model.specs.State.{Object, Occupied, Phases, Ring, LocalState, NodeState, slot_at, got_from}
-use Rattle.model.specs.Heaps.{no_letter, with_place, with_letter}
+use Rattle.model.specs.State.{Object, Occupied, Phases, LocalState, NodeState, slot_at, got_from}
+use Rattle.model.specs.Heaps.{no_letter, with_place}
 use Rattle.model.specs.References.{IfAny}
-use Rattle.model.specs.Effects.{Work, at_rest, then}
-use Rattle.model.specs.Counting.{is_reference, balance_of, counted_down}
-use Rattle.model.specs.Shading.{is_open, join, joined, shade_all, vouch_all}
-use Rattle.model.specs.Steps.{carried, count_in, take_carried, take_body, settled, append_all}
+use Rattle.model.specs.Effects.{Work, then}
+use Rattle.model.specs.Counting.{is_reference}
+use Rattle.model.specs.Shading.{join, joined, see_to}
+use Rattle.model.specs.Steps.{carried, count_in, take_carried, take_body, settled, counted}
 use Rattle.model.specs.Cuts.{Cut, taken, IsInFlight, Among, Becomes}
-use Rattle.model.proofs.ShadingParts.{shade_all-open, shade_all-closed, vouch_all-open, vouch_all-closed, shaded_work}
 use Rattle.model.proofs.Lookups.{at_push}
+use Rattle.model.proofs.Shading.{see_to-none}
 use Rattle.laws.proofs.Lookups.{all-among}
 use Rattle.laws.proofs.Turns.{at_turn, flies}
-use Rattle.laws.proofs.Invariant.{phases_of, cycle_of, Marking, Resting, Joined, Safe, Holds, holds_marked, holds_asked, Covered, RootsAll, StampFits, Inv}
+use Rattle.laws.proofs.Invariant.{phases_of, cycle_of, Marking, Resting, Joined, Safe, Holds, holds_marked, holds_asked, Covered, StampFits, Inv}
 use Rattle.laws.proofs.Inner.{Known, known-roots, inner-inv, marking-open, open-joined, mentioned-carried}
 use Rattle.laws.proofs.Acting.{with_heap, put, put-here, becomes-put, latest}
 use Rattle.laws.proofs.HeapSteps.{re_rooted}
 use Rattle.laws.proofs.Counts.{reference-counts, Kind, mark-kind, reference-kind, Counting, counted_local, count-inner}
-use Rattle.laws.proofs.Moves.{worked, Moves, moves-through, Met, Shadeable, shade-met, Vouchable, vouch-met}
+use Rattle.laws.proofs.Moves.{worked, Moves, moves-through, Met, Shadeable, shade-met, Vouchable, vouch-met, append_all-append}
 use Rattle.laws.proofs.OwnEvents.{roots-moves, rewrite-moves, known-option}
 use Rattle.laws.proofs.Joins.{entering, enter-turn, enter-slots, Joining, join-inv}
-use Rattle.laws.proofs.Dressing.{bare, Dressing, dress-moves, roots-all}
+use Rattle.laws.proofs.Dressing.{Dressing, dress-moves, roots-all}
+
+-- from the cut before to the one after some steps of the node
+pub becomes-from : {c d e : Cut} {i : ℕ} {s t : NodeState} → Becomes c d i s → Becomes c e i t
+    → Becomes d e i t
+becomes-from a b = record {
+  changed = b.changed;
+  others = λ j other. b.others j other ∙ sym (a.others j other);
+}
+
+-- one step of the node after another
+pub becomes-through : {c d e : Cut} {i : ℕ} {s t : NodeState} → Becomes c d i s → Becomes d e i t
+    → Becomes c e i t
+becomes-through a b = record {
+  changed = b.changed;
+  others = λ j other. b.others j other ∙ a.others j other;
+}
 
 -- ---- a node joins the cycle of a message
 
@@ -53,68 +65,39 @@ pub join-step : {shape : Shaped} {c d : Cut} (i : ℕ) → Inv shape c → i < s
 join-step {shape = shape} {c = c} {d = d} i inv inside behind becomes =
     let s : NodeState = c i in
     let n : ℕ = cycle_of c 0 in
-    let s1 : NodeState = re_rooted s [] [] in
+    let grey : List ℕ = length s.local.heap.slots ∷ [] in
+    let s1 : NodeState =
+    record { local = entering s.local n grey s.local.ring.token; sent = s.sent } in
     let c1 : Cut = put c i s1 in
-    let s2 : NodeState = record {
-      local = entering (bare s.local) n (length s.local.heap.slots ∷ []) s.local.ring.token;
-      sent = s.sent;
-    } in
-    let c2 : Cut = put c1 i s2 in
-    let first : Moves shape c c1 i =
-    roots-moves [] [] inside (becomes-put c i s1)
-    (record { registers = λ k. tt; letters = λ k. tt }) inv in
-    let at1 : c1 i ≡ s1 = put-here c i s1 in
-    let cycle1 : cycle_of c1 0 ≡ n = ap (λ (z : ℕ → Phases). (z 0).cycle) first.phases in
+    let b1 = becomes-put c i s1 in
     let other : i ≢ 0 =
     λ e.
     (let same : cycle_of c i ≡ cycle_of c 0 = ap (cycle_of c) e in omega (arith, same, behind)) in
     let marking : Marking (phases_of c 0) =
     ⊎_elim {C = Marking (phases_of c 0)} (λ there. absurd (omega (arith, there, behind))) (λ b. b.0)
     (inv.phased.apart i inside) in
-    let marking1 : Marking (phases_of c1 0) =
-    subst (λ (z : ℕ → Phases). Marking (z 0)) (sym first.phases) marking in
-    let b2 : Becomes c1 c2 i (record {
-      local = entering (c1 i).local (cycle_of c1 0) (length s.local.heap.slots ∷ [])
-          (c1 i).local.ring.token;
-      sent = (c1 i).sent;
-    }) =
-    subst (λ (z : ℕ). Becomes c1 c2 i (record {
-      local = entering (c1 i).local z (length s.local.heap.slots ∷ []) (c1 i).local.ring.token;
-      sent = (c1 i).sent;
-    })) (sym cycle1)
-    (subst (λ (z : NodeState). Becomes c1 c2 i (record {
-      local = entering z.local n (length s.local.heap.slots ∷ []) z.local.ring.token;
-      sent = z.sent;
-    })) (sym at1) (becomes-put c1 i s2)) in
-    let joining : Joining shape c1 c2 i (length s.local.heap.slots ∷ []) = record {
-      inv = first.inv;
+    let joining : Joining shape c c1 i grey = record {
+      inv = inv;
       inside = inside;
       other = other;
-      empty =
-          subst (λ (z : NodeState). RootsAll (λ _. ⊥) z.local.heap) (sym at1)
-          (record { registers = λ k. tt; letters = λ k. tt });
-      marking = marking1;
-      behind = λ e.
-          (let a : cycle_of c1 i ≡ cycle_of c i =
-          ap (λ (z : ℕ → Phases). (z i).cycle) first.phases in
-          omega (arith, e, a, cycle1, behind));
-      becomes = b2;
+      marking = marking;
+      behind = λ e. omega (arith, e, behind);
+      becomes = b1;
     } in
-    let inv2 : Inv shape c2 = join-inv joining in
-    let first2 : phases_of c2 0 ≡ phases_of c1 0 =
-    ap (λ (z : NodeState). z.local.phases) ((becomes-put c1 i s2).others 0 (λ e. other (sym e))) in
-    let safe2 : (r : Ref) → Safe c1 r → Safe c2 r = λ r z. record {
+    let first : phases_of c1 0 ≡ phases_of c 0 =
+    ap (λ (z : NodeState). z.local.phases) (b1.others 0 (λ e. other (sym e))) in
+    let safe : (r : Ref) → Safe c r → Safe c1 r = λ r z. record {
       object = z.object;
-      there = enter-slots b2 r.node r.slot ∙ z.there;
+      there = enter-slots b1 r.node r.slot ∙ z.there;
       marked = λ rest.
           absurd
-          (let w : Resting (phases_of c1 0) = subst Resting first2 rest in
-          omega (arith, w, marking1));
+          (let w : Resting (phases_of c 0) = subst Resting first rest in
+          omega (arith, w, marking));
     } in
-    let dressing : Dressing shape c2 d i n s = record {
-      inv = inv2;
+    let dressing : Dressing shape c1 d i n s = record {
+      inv = join-inv joining;
       inside = inside;
-      now = put-here c1 i s2;
+      now = put-here c i s1;
       calm = (inv.tidy i).calm
           (not_from_true _ (eq-eqb _ _
           (⊎_elim {C = s.local.phases.ended ≡ s.local.phases.cycle}
@@ -124,106 +107,28 @@ join-step {shape = shape} {c = c} {d = d} i inv inside behind becomes =
           let y = inv.phased.ended i in omega (arith, b.1, b.2, x, y)))
           (inv.phased.apart i inside))));
       before = λ e. (let w = inv.phased.ended i in omega (arith, e, w, behind));
-      safe = λ r a.
-          safe2 r (first.safe r (roots-all (Safe c) s.local.heap (inv.closed.roots i) r a));
-      becomes = record {
-        changed = becomes.changed;
-        others = λ j k.
-            becomes.others j k
-            ∙ sym ((becomes-put c1 i s2).others j k ∙ (becomes-put c i s1).others j k);
-      };
+      safe = λ r a. safe r (roots-all (Safe c) s.local.heap (inv.closed.roots i) r a);
+      becomes = becomes-from b1 becomes;
     } in
-    let last : Moves shape c2 d i = dress-moves dressing in
+    let last : Moves shape c1 d i = dress-moves dressing in
     record {
       inv = last.inv;
-      first = ap (λ (z : ℕ → Phases). z 0) last.phases ∙ first2
-          ∙ ap (λ (z : ℕ → Phases). z 0) first.phases;
+      first = ap (λ (z : ℕ → Phases). z 0) last.phases ∙ first;
       flight = λ from to place x f.
           last.flight from to place x
-          (flies (enter-turn b2) from to place x (first.flight from to place x f)
-          (let same : taken c2 from to ≡ taken c1 from to =
-          at_turn (λ l z. got_from z.local from ≡ taken c1 from l) (enter-turn b2) refl
+          (flies (enter-turn b1) from to place x f
+          (let same : taken c1 from to ≡ taken c from to =
+          at_turn (λ l z. got_from z.local from ≡ taken c from l) (enter-turn b1) refl
           (λ l _. refl) to in
-          let w = (first.flight from to place x f).later in
+          let w = f.later in
           omega (arith, same, w)));
       got =
           last.got
-          ∙ ap (λ (z : NodeState). z.local.got) (put-here c1 i s2);
+          ∙ ap (λ (z : NodeState). z.local.got) (put-here c i s1);
       reached =
           ap (λ (z : ℕ → Phases). (z i).cycle) last.phases
-          ∙ ap (λ (z : NodeState). z.local.phases.cycle) (put-here c1 i s2);
+          ∙ ap (λ (z : NodeState). z.local.phases.cycle) (put-here c i s1);
     }
-
--- ---- counting may come last
-
-ring-earlier_later : (b : Option Balance) (r : Ring) (k : ℤ)
-    → record (counted_down b r) { earlier = (counted_down b r).earlier +ℤ k }
-    ≡ counted_down b (record r { earlier = r.earlier +ℤ k })
-ring-earlier_later (Some Earlier) r k =
-    let e : (r.earlier -ℤ pos 1) +ℤ k ≡ (r.earlier +ℤ k) -ℤ pos 1 = omega (arith, ints) in
-    ap (λ (z : ℤ). record r { colour = Black; earlier = z }) e
-ring-earlier_later (Some Recent) r k = refl
-ring-earlier_later None r k = refl
-
--- some work, and one message counted
-abbrev pub counted_work : ℕ → ℕ → ℕ → Body → Work → Work
-counted_work from number stamp b w =
-    record { local = count_in from number stamp b w.local; sends = w.sends }
-
-pub count-shade : (from number stamp : ℕ) (b : Body) (p : LocalState) (rs : List Ref)
-    → shade_all (at_rest (count_in from number stamp b p)) rs
-    ≡ counted_work from number stamp b (shade_all (at_rest p) rs)
-unfolding count_in
-count-shade from number stamp b p rs = ⊎_elim
-    {C = shade_all (at_rest (count_in from number stamp b p)) rs
-    ≡ counted_work from number stamp b (shade_all (at_rest p) rs)}
-    (λ opened.
-    shade_all-open (count_in from number stamp b p) [] rs opened
-    ∙ ap (λ (z : Ring). record {
-      local = record (shaded_work p [] rs).local { got = set p.got from number; ring = z };
-      sends = (shaded_work p [] rs).sends;
-    }) (ring-earlier_later (balance_of p.phases.cycle stamp b) p.ring _)
-    ∙ ap (counted_work from number stamp b) (sym (shade_all-open p [] rs opened)))
-    (λ shut.
-    shade_all-closed (at_rest (count_in from number stamp b p)) rs shut
-    ∙ ap (counted_work from number stamp b) (sym (shade_all-closed (at_rest p) rs shut)))
-    (cases_Bool (is_open p))
-
-count-vouch : (from number stamp : ℕ) (b : Body) (p : LocalState) (rs : List Ref)
-    → vouch_all (at_rest (count_in from number stamp b p)) rs
-    ≡ counted_work from number stamp b (vouch_all (at_rest p) rs)
-unfolding count_in
-count-vouch from number stamp b p rs = ⊎_elim
-    {C = vouch_all (at_rest (count_in from number stamp b p)) rs
-    ≡ counted_work from number stamp b (vouch_all (at_rest p) rs)}
-    (λ opened.
-    vouch_all-open (count_in from number stamp b p) [] rs opened
-    ∙ ap (counted_work from number stamp b) (sym (vouch_all-open p [] rs opened)))
-    (λ shut.
-    vouch_all-closed (at_rest (count_in from number stamp b p)) rs shut
-    ∙ ap (counted_work from number stamp b) (sym (vouch_all-closed (at_rest p) rs shut)))
-    (cases_Bool (is_open p))
-
-pub count-carried : (from number stamp : ℕ) (b : Body) (p : LocalState)
-    → take_carried stamp b (count_in from number stamp b p)
-    ≡ counted_work from number stamp b (take_carried stamp b p)
-unfolding count_in
-count-carried from number stamp b p = ⊎_elim
-    {C = take_carried stamp b (count_in from number stamp b p)
-    ≡ counted_work from number stamp b (take_carried stamp b p)}
-    (λ older.
-    cond-true (ltb stamp p.phases.cycle)
-    (shade_all (at_rest (count_in from number stamp b p)) (carried b)) _ older
-    ∙ count-shade from number stamp b p (carried b)
-    ∙ ap (counted_work from number stamp b)
-    (sym (cond-true (ltb stamp p.phases.cycle) (shade_all (at_rest p) (carried b)) _ older)))
-    (λ same.
-    cond-false (ltb stamp p.phases.cycle) _
-    (vouch_all (at_rest (count_in from number stamp b p)) (carried b)) same
-    ∙ count-vouch from number stamp b p (carried b)
-    ∙ ap (counted_work from number stamp b)
-    (sym (cond-false (ltb stamp p.phases.cycle) _ (vouch_all (at_rest p) (carried b)) same)))
-    (cases_Bool (ltb stamp p.phases.cycle))
 
 -- ---- a message with references, or a Mark
 
@@ -284,14 +189,6 @@ count-last {shape = shape} {c = c} {d = d} {e = e} {i = i} {j = j} {x = x} s m k
       sent = z.sent;
     })) (sym at) becomes)))
 
--- from the cut before to the one after some steps of the node
-pub becomes-from : {c d e : Cut} {i : ℕ} {s t : NodeState} → Becomes c d i s → Becomes c e i t
-    → Becomes d e i t
-becomes-from a b = record {
-  changed = b.changed;
-  others = λ j other. b.others j other ∙ sym (a.others j other);
-}
-
 -- the references that the message carries are shaded or vouched for
 pub carried-met : {shape : Shaped} {c d : Cut} {i j : ℕ} {x : Message} → Taking shape c i j x
     → is_reference x.body ≡ true → StampFits (phases_of c 0) x.stamp
@@ -329,9 +226,8 @@ carried-met {shape = shape} {c = c} {d = d} {i = i} {j = j} {x = x} s is fits be
           );
     } in
     shade-met shadeable
-    (subst (λ (z : Work). Becomes c d i (worked (c i) z))
-    (cond-true (ltb x.stamp (cycle_of c i)) (shade_all (at_rest (c i).local) (carried x.body)) _
-    older) becomes))
+    (subst (λ (z : Bool). Becomes c d i (worked (c i) (see_to z (carried x.body) (c i).local)))
+    older becomes))
     (λ same.
     let most : cycle_of c i ≤ x.stamp = ltb-false x.stamp (cycle_of c i) same in
     let vouchable : Vouchable shape c i (carried x.body) = record {
@@ -346,9 +242,8 @@ carried-met {shape = shape} {c = c} {d = d} {i = i} {j = j} {x = x} s is fits be
           omega (arith, w, z, most))) r a;
     } in
     vouch-met vouchable
-    (subst (λ (z : Work). Becomes c d i (worked (c i) z))
-    (cond-false (ltb x.stamp (cycle_of c i)) _ (vouch_all (at_rest (c i).local) (carried x.body))
-    same) becomes))
+    (subst (λ (z : Bool). Becomes c d i (worked (c i) (see_to z (carried x.body) (c i).local)))
+    same becomes))
     (cases_Bool (ltb x.stamp (cycle_of c i)))
 
 abbrev pub Settles : Cut → Cut → ℕ → ℕ → ℕ → Body → Type 0
@@ -366,12 +261,59 @@ pub no-token : (b : Body) → is_reference b ≡ true → (t : Token) → b ≡ 
 no-token b is t e =
     absurd (let never : is_reference (body.Token t) ≡ true = ap is_reference (sym e) ∙ is in cc)
 
+-- the node after it has followed a message, which then counts
+abbrev pub followed : ℕ → ℕ → Body → NodeState → NodeState
+followed j stamp b s =
+    let s1 : NodeState = worked s (take_carried stamp b s.local) in
+    worked s1 (take_body j stamp b s1.local)
+
+abbrev pub counted_state : ℕ → ℕ → ℕ → Body → NodeState → NodeState
+counted_state j number stamp b s = record s { local = count_in j number stamp b s.local }
+
+settled-is : (j number stamp : ℕ) (b : Body) (s : NodeState)
+    → worked s (settled j number stamp b s.local)
+    ≡ counted_state j number stamp b (followed j stamp b s)
+unfolding settled
+settled-is j number stamp b s =
+    let s1 : NodeState = worked s (take_carried stamp b s.local) in
+    ap (λ (z : List (List Message)). record {
+      local = (counted_state j number stamp b (followed j stamp b s)).local;
+      sent = z;
+    })
+    (append_all-append s.sent (take_carried stamp b s.local).sends
+    (take_body j stamp b s1.local).sends)
+
+-- a message that carries nothing is followed at once
+pub settled-bare : (j number stamp : ℕ) (b : Body) (p : LocalState) → carried b ≡ []
+    → settled j number stamp b p ≡ counted j number stamp b (take_body j stamp b p)
+unfolding settled
+settled-bare j number stamp b p none =
+    ap (λ (w : Work). counted j number stamp b (then w (take_body j stamp b)))
+    (ap (λ (rs : List Ref). see_to (ltb stamp p.phases.cycle) rs p) none
+    ∙ see_to-none (ltb stamp p.phases.cycle) p)
+
+-- once a message with references is followed, it counts
+pub reference-last : {shape : Shaped} {c d e : Cut} {i j : ℕ} {x : Message} → Taking shape c i j x
+    → is_reference x.body ≡ true → StampFits (phases_of c 0) x.stamp → Moves shape c d i
+    → Becomes c d i (followed j x.stamp x.body (c i)) → Settles c e i j x.stamp x.body
+    → Inv shape e
+reference-last {shape = shape} {c = c} {d = d} {e = e} {i = i} {j = j} {x = x} s is fits moves
+    follows becomes =
+    let later : Taking shape d i j x = later-taking s moves in
+    count-last s moves
+    (reference-kind x moves.inv s.inside is
+    (subst (λ (z : ℕ → Phases). StampFits (z 0) x.stamp) (sym moves.phases) fits) later.reached)
+    (no-token x.body is) (no-mark d x.body is) (followed j x.stamp x.body (c i)) follows.changed
+    (becomes-from follows
+    (subst (λ (z : NodeState). Becomes c e i z)
+    (settled-is j (taken c j i + 1) x.stamp x.body (c i)) becomes))
+
 -- a letter
 pub take-give : {shape : Shaped} {c d : Cut} {i j stamp : ℕ} (label : ℕ) (reference : Option Ref)
     → Taking shape c i j (record { stamp = stamp; body = body.Give label reference })
     → StampFits (phases_of c 0) stamp → Settles c d i j stamp (body.Give label reference)
     → Inv shape d
-unfolding settled take_body count_in
+unfolding take_body
 take-give {shape = shape} {c = c} {d = d} {i = i} {j = j} {stamp = stamp} label reference s fits
     becomes =
     let b : Body = body.Give label reference in
@@ -399,40 +341,8 @@ take-give {shape = shape} {c = c} {d = d} {i = i} {j = j} {stamp = stamp} label 
           (known-option reference met.known) tt (old.letters k);
     }) met.moves.inv in
     let moves : Moves shape c c2 i = moves-through met.moves second in
-    let later : Taking shape c2 i j x = later-taking s moves in
-    let equal : worked (c i) (settled j (taken c j i + 1) stamp b (c i).local)
-    ≡ record { local = count_in j (taken c j i + 1) stamp b s2.local; sent = s2.sent } =
-    give-is (c i) (taken c j i + 1) in
-    count-last s moves
-    (reference-kind x moves.inv s.inside refl
-    (subst (λ (z : ℕ → Phases). StampFits (z 0) stamp) (sym moves.phases) fits) later.reached)
-    (no-token b refl) (no-mark c2 b refl) s2 (put-here c1 i s2)
-    (becomes-from (becomes-put c1 i s2)
-    (becomes-from (becomes-put c i s1) (subst (λ (z : NodeState). Becomes c d i z) equal becomes)))
-  where
-    give-is : (z : NodeState) (number : ℕ)
-        → worked z (settled j number stamp (body.Give label reference) z.local)
-        ≡ record {
-          local = count_in j number stamp (body.Give label reference)
-              (record (take_carried stamp (body.Give label reference) z.local).local {
-                heap =
-                    with_letter (take_carried stamp (body.Give label reference) z.local).local.heap
-                    (record { from = j; label = label; reference = reference });
-              });
-          sent = append_all z.sent (take_carried stamp (body.Give label reference) z.local).sends;
-        }
-    give-is z number =
-        let b : Body = body.Give label reference in
-        ap (λ (w : Work). worked z (then w (take_body j stamp b)))
-        (count-carried j number stamp b z.local)
-        ∙ ap (λ (ms : List (ℕ × Message)). record {
-          local = count_in j number stamp b
-              (record (take_carried stamp b z.local).local {
-                heap = with_letter (take_carried stamp b z.local).local.heap
-                    (record { from = j; label = label; reference = reference });
-              });
-          sent = append_all z.sent ms;
-        }) (append-nil (take_carried stamp b z.local).sends)
+    reference-last s refl fits moves (becomes-through (becomes-put c i s1) (becomes-put c1 i s2))
+    becomes
 
 -- a place is written
 pub take-put : {shape : Shaped} {c d : Cut} {i j stamp : ℕ} (target : Ref) (place : ℕ)
@@ -440,7 +350,7 @@ pub take-put : {shape : Shaped} {c d : Cut} {i j stamp : ℕ} (target : Ref) (pl
     → Taking shape c i j (record { stamp = stamp; body = body.Put target place reference })
     → StampFits (phases_of c 0) stamp → Settles c d i j stamp (body.Put target place reference)
     → Inv shape d
-unfolding settled take_body count_in
+unfolding take_body
 take-put {shape = shape} {c = c} {d = d} {i = i} {j = j} {stamp = stamp} target place reference s
     fits becomes =
     let b : Body = body.Put target place reference in
@@ -461,45 +371,14 @@ take-put {shape = shape} {c = c} {d = d} {i = i} {j = j} {stamp = stamp} target 
     rewrite-moves target place reference s.inside b2
     (known-option reference (λ r a. met.known r (inr a))) met.moves.inv in
     let moves : Moves shape c c2 i = moves-through met.moves second in
-    let later : Taking shape c2 i j x = later-taking s moves in
-    count-last s moves
-    (reference-kind x moves.inv s.inside refl
-    (subst (λ (z : ℕ → Phases). StampFits (z 0) stamp) (sym moves.phases) fits) later.reached)
-    (no-token b refl) (no-mark c2 b refl) s2 (put-here c1 i s2)
-    (becomes-from (becomes-put c1 i s2)
-    (becomes-from (becomes-put c i s1)
-    (subst (λ (z : NodeState). Becomes c d i z) (put-is (c i) (taken c j i + 1)) becomes)))
-  where
-    put-is : (z : NodeState) (number : ℕ)
-        → worked z (settled j number stamp (body.Put target place reference) z.local)
-        ≡ record {
-          local = count_in j number stamp (body.Put target place reference)
-              (record (take_carried stamp (body.Put target place reference) z.local).local {
-                heap =
-                    with_place
-                    (take_carried stamp (body.Put target place reference) z.local).local.heap
-                    target place reference;
-              });
-          sent = append_all z.sent
-              (take_carried stamp (body.Put target place reference) z.local).sends;
-        }
-    put-is z number =
-        let b : Body = body.Put target place reference in
-        ap (λ (w : Work). worked z (then w (take_body j stamp b)))
-        (count-carried j number stamp b z.local)
-        ∙ ap (λ (ms : List (ℕ × Message)). record {
-          local = count_in j number stamp b
-              (record (take_carried stamp b z.local).local {
-                heap = with_place (take_carried stamp b z.local).local.heap target place reference;
-              });
-          sent = append_all z.sent ms;
-        }) (append-nil (take_carried stamp b z.local).sends)
+    reference-last s refl fits moves (becomes-through (becomes-put c i s1) (becomes-put c1 i s2))
+    becomes
 
 -- an object is marked
 pub take-mark : {shape : Shaped} {c d : Cut} {i j stamp : ℕ} (r : Ref)
     → Taking shape c i j (record { stamp = stamp; body = body.Mark r })
     → Settles c d i j stamp (body.Mark r) → Inv shape d
-unfolding settled take_body count_in
+unfolding take_body
 take-mark {shape = shape} {c = c} {d = d} {i = i} {j = j} {stamp = stamp} r s becomes =
     let b : Body = body.Mark r in
     let x : Message = record { stamp = stamp; body = b } in
@@ -507,7 +386,7 @@ take-mark {shape = shape} {c = c} {d = d} {i = i} {j = j} {stamp = stamp} r s be
     let marking : Marking (phases_of c 0) = fits.1 in
     let joined_now : Joined c i =
     (let z = s.reached in let w = latest s.inv i s.inside in omega (arith, z, w, fits.2)) in
-    let s1 : NodeState = worked (c i) (shade_all (at_rest (c i).local) (r ∷ [])) in
+    let s1 : NodeState = worked (c i) (see_to true (r ∷ []) (c i).local) in
     let c1 : Cut = put c i s1 in
     let safe : Safe c r = (s.inv.closed.messages j i (taken c j i) x s.flight).0 in
     let shadeable : Shadeable shape c i (r ∷ []) = record {
@@ -550,7 +429,8 @@ take-mark {shape = shape} {c = c} {d = d} {i = i} {j = j} {stamp = stamp} r s be
     (target-marked inv1 joined1 (fits.0) held)))
     s1 (put-here c i s1)
     (becomes-from (becomes-put c i s1)
-    (subst (λ (z : NodeState). Becomes c d i z) (mark-is (c i) (taken c j i + 1)) becomes))
+    (subst (λ (z : Work). Becomes c d i (worked (c i) z))
+    (settled-bare j (taken c j i + 1) stamp b (c i).local refl) becomes))
   where
     mark-of : (a z : Ref) → body.Mark a ≡ body.Mark z → a ≡ z
     mark-of a z e = cc
@@ -562,18 +442,3 @@ take-mark {shape = shape} {c = c} {d = d} {i = i} {j = j} {stamp = stamp} r s be
         (o, ap (λ (z : ℕ). slot_at (e z).local.heap r.slot) here ∙ there, mark ∙ joined)
     target-marked inv joined here (holds_asked far asked) =
         absurd (far (here ∙ sym (inv.base.own i s.inside)))
-
-    mark-is : (z : NodeState) (number : ℕ)
-        → worked z (settled j number stamp (body.Mark r) z.local)
-        ≡ record {
-          local = count_in j number stamp (body.Mark r)
-              (shade_all (at_rest z.local) (r ∷ [])).local;
-          sent = append_all z.sent (shade_all (at_rest z.local) (r ∷ [])).sends;
-        }
-    mark-is z number =
-        let b : Body = body.Mark r in
-        let p : LocalState = count_in j number stamp b z.local in
-        ap (λ (w : Work). worked z (then w (take_body j stamp b)))
-        (cond_both (ltb stamp p.phases.cycle) (at_rest p) (at_rest p) (λ w. w ≡ at_rest p)
-        (λ _. refl) (λ _. refl))
-        ∙ ap (worked z) (count-shade j number stamp b z.local (r ∷ []))

@@ -1,8 +1,7 @@
 -- The invariant after a node has received a Get, which it answers, or a message of the ring or of
 -- the phases; and so after any receipt.
-use Rattle.std.proofs.Common.{◌≡◌, ◌≢◌, ℕ, ℤ, pos, ◌+◌, ◌+ℤ◌, ◌-ℤ◌, ◌<◌, ◌≤◌, ◌⊎◌, ltb, ltb-true, true, false, List, [], ◌∷◌, ◌++◌, length, get_or, set, Option, None, Some, option_to_list, refl, sym, ap, ◌∙◌, subst, ⊎_elim, inl, inr, arith, le_refl, length-set, get_or-set_same, get_or-set_other}
-use Rattle.std.proofs.lemmas.Int.{ints}
-use Rattle.std.proofs.lemmas.Bool.{cases_Bool, cases_eq, cond-true, cond-false, cond_both, eq-eqb, ltb-false, both_ways, not_from_true}
+use Rattle.std.proofs.Common.{◌≡◌, ◌≢◌, ℕ, ◌+◌, ◌<◌, ◌≤◌, ◌⊎◌, ltb, ltb-true, true, false, List, length, get_or, set, Option, Some, option_to_list, refl, sym, ap, ◌∙◌, subst, ⊎_elim, inl, inr, arith, le_refl, length-set, get_or-set_same, get_or-set_other}
+use Rattle.std.proofs.lemmas.Bool.{cases_Bool, cases_eq, cond-true, cond-false, eq-eqb, ltb-false, both_ways, not_from_true}
 use Rattle.std.proofs.Math.Path.{fun_ext}
 use Rattle.ids.specs.Limits.{Shaped}
 use Rattle.ids.specs.declared.names.Ref.{Ref}
@@ -10,59 +9,36 @@ use Rattle.msg.specs.declared.body.Body.{Body}
 use Rattle.msg.specs.declared.body.Body.TheVariants as body
 use Rattle.msg.specs.declared.body.Token.{Token}
 use Rattle.msg.specs.declared.body.Message.{Message}
-use Rattle.model.specs.declared.balance.Balance.{Balance}
-use Rattle.model.specs.declared.balance.Balance.TheVariants.{Earlier, Recent}
-use Rattle.model.specs.State.{Phases, Ring, LocalState, NodeState, got_from}
+use Rattle.model.specs.State.{Phases, LocalState, NodeState, got_from}
 use Rattle.model.specs.Heaps.{object_at, place_of}
 use Rattle.model.specs.Effects.{Work, at_rest, then}
-use Rattle.model.specs.Counting.{is_reference, balance_of, counted_down, append}
-use Rattle.model.specs.Shading.{is_open, join, joined, shade_all, vouch_all}
-use Rattle.model.specs.Steps.{carried, count_in, take_carried, take_body, settled, taken_in, append_all}
+use Rattle.model.specs.Counting.{append}
+use Rattle.model.specs.Shading.{is_open, join, joined, see_to}
+use Rattle.model.specs.Steps.{carried, count_in, take_carried, take_body, settled, taken_in, counted}
 use Rattle.model.specs.Cuts.{Cut, taken, IsInFlight, Among, Becomes}
 use Rattle.model.proofs.Lookups.{at_set_if}
+use Rattle.model.proofs.Walk.{work_in}
 use Rattle.laws.proofs.Turns.{at_turn}
 use Rattle.laws.proofs.Flights.{flight-inside}
 use Rattle.laws.proofs.Invariant.{phases_of, cycle_of, Marking, Resting, Joined, StampFits, BodyFits, is_single, Phased, Inv}
 use Rattle.laws.proofs.Inner.{Known, resting-joined}
 use Rattle.laws.proofs.Acting.{put, put-here, becomes-put, latest}
-use Rattle.laws.proofs.Counts.{append-reference, reference-kind, Sending}
+use Rattle.laws.proofs.Counts.{Sending}
 use Rattle.laws.proofs.Moves.{worked, append_all-append, Moves, moves-through, Met, shade-met}
-use Rattle.laws.proofs.OwnEvents.{send-moves, Reading, read-shadeable, known-option, effect_work}
+use Rattle.laws.proofs.OwnEvents.{send-moves, Reading, read-shadeable, known-option}
 use Rattle.laws.proofs.Lookups.{any-list}
 use Rattle.laws.proofs.Light.{is_idle, idle-carries, Hears, hears-turn}
 use Rattle.laws.proofs.TokenSteps.{arrive-inv}
 use Rattle.laws.proofs.PhaseSteps.{hear-inv}
-use Rattle.laws.proofs.Receipts.{HasJoined, join-step, counted_work, count-shade, count-carried, Taking, later-taking, count-last, becomes-from, carried-met, Settles, no-mark, no-token, take-give, take-put, take-mark}
+use Rattle.laws.proofs.Receipts.{HasJoined, join-step, Taking, becomes-from, carried-met, Settles, take-give, take-put, take-mark, becomes-through, followed, settled-bare, reference-last}
 
 -- ---- a place is read for another node
-
-recent-later : (b : Option Balance) (r : Ring)
-    → record (counted_down b r) { recent = (counted_down b r).recent +ℤ pos 1 }
-    ≡ counted_down b (record r { recent = r.recent +ℤ pos 1 })
-recent-later (Some Earlier) r = refl
-recent-later (Some Recent) r =
-    let e : (r.recent -ℤ pos 1) +ℤ pos 1 ≡ (r.recent +ℤ pos 1) -ℤ pos 1 = omega (arith, ints) in
-    ap (λ (z : ℤ). record r { recent = z }) e
-recent-later None r = refl
-
-count-append : (from number stamp to : ℕ) (b reply : Body) (p : LocalState)
-    → is_reference reply ≡ true
-    → append to reply (count_in from number stamp b p)
-    ≡ counted_work from number stamp b (append to reply p)
-unfolding count_in
-count-append from number stamp to b reply p is =
-    append-reference to reply (count_in from number stamp b p) is
-    ∙ ap (λ (z : Ring). record {
-      local = record p { got = set p.got from number; ring = z };
-      sends = (to, record { stamp = p.phases.cycle; body = reply }) ∷ [];
-    }) (recent-later (balance_of p.phases.cycle stamp b) p.ring)
-    ∙ ap (counted_work from number stamp b) (sym (append-reference to reply p is))
 
 pub take-get : {shape : Shaped} {c d : Cut} {i j stamp : ℕ} (target : Ref) (place label : ℕ)
     → Taking shape c i j (record { stamp = stamp; body = body.Get target place label })
     → target.node ≡ i → StampFits (phases_of c 0) stamp
     → Settles c d i j stamp (body.Get target place label) → Inv shape d
-unfolding settled take_body count_in
+unfolding take_body
 take-get {shape = shape} {c = c} {d = d} {i = i} {j = j} {stamp = stamp} target place label s own
     fits becomes =
     let b : Body = body.Get target place label in
@@ -71,7 +47,7 @@ take-get {shape = shape} {c = c} {d = d} {i = i} {j = j} {stamp = stamp} target 
     let c1 : Cut = put c i s1 in
     let at1 : c1 i ≡ s1 = put-here c i s1 in
     let v : Option Ref = place_of (object_at s1.local.heap target) place in
-    let s2 : NodeState = worked s1 (shade_all (at_rest s1.local) (option_to_list v)) in
+    let s2 : NodeState = worked s1 (see_to true (option_to_list v) s1.local) in
     let c2 : Cut = put c1 i s2 in
     let at2 : c2 i ≡ s2 = put-here c1 i s2 in
     let s3 : NodeState = worked s2 (append j (body.Give label v) s2.local) in
@@ -83,10 +59,10 @@ take-get {shape = shape} {c = c} {d = d} {i = i} {j = j} {stamp = stamp} target 
       own = own;
       known = met.known target (inl refl);
     } in
-    let b2 : Becomes c1 c2 i (worked (c1 i) (shade_all (at_rest (c1 i).local)
-    (option_to_list (place_of (object_at (c1 i).local.heap target) place)))) =
-    subst (λ (z : NodeState). Becomes c1 c2 i (worked z (shade_all (at_rest z.local)
-    (option_to_list (place_of (object_at z.local.heap target) place)))))
+    let b2 : Becomes c1 c2 i (worked (c1 i) (see_to true
+    (option_to_list (place_of (object_at (c1 i).local.heap target) place)) (c1 i).local)) =
+    subst (λ (z : NodeState). Becomes c1 c2 i (worked z (see_to true
+    (option_to_list (place_of (object_at z.local.heap target) place)) z.local)))
     (sym at1) (becomes-put c1 i s2) in
     let second : Met shape c1 c2 i
     (option_to_list (place_of (object_at (c1 i).local.heap target) place)) =
@@ -110,70 +86,24 @@ take-get {shape = shape} {c = c} {d = d} {i = i} {j = j} {stamp = stamp} target 
     (becomes-put c2 i s3) in
     let third : Moves shape c2 c3 i = send-moves sends b3 in
     let moves : Moves shape c c3 i = moves-through met.moves (moves-through second.moves third) in
-    let later : Taking shape c3 i j x = later-taking s moves in
-    count-last s moves
-    (reference-kind x moves.inv s.inside refl
-    (subst (λ (z : ℕ → Phases). StampFits (z 0) stamp) (sym moves.phases) fits) later.reached)
-    (no-token b refl) (no-mark c3 b refl) s3 (put-here c2 i s3)
-    (becomes-from (becomes-put c2 i s3) (becomes-from (becomes-put c1 i s2)
-    (becomes-from (becomes-put c i s1)
-    (subst (λ (z : NodeState). Becomes c d i z) (get-is (c i) (taken c j i + 1)) becomes))))
-  where
-    get-is : (z : NodeState) (number : ℕ)
-        → worked z (settled j number stamp (body.Get target place label) z.local)
-        ≡ (let w = take_carried stamp (body.Get target place label) z.local in
-        let v = place_of (object_at w.local.heap target) place in
-        let y = shade_all (at_rest w.local) (option_to_list v) in
-        let u = append j (body.Give label v) y.local in
-        record {
-          local = count_in j number stamp (body.Get target place label) u.local;
-          sent = append_all (append_all (append_all z.sent w.sends) y.sends) u.sends;
-        })
-    get-is z number =
-        let b : Body = body.Get target place label in
-        let w : Work = take_carried stamp b z.local in
-        let v : Option Ref = place_of (object_at w.local.heap target) place in
-        let y : Work = shade_all (at_rest w.local) (option_to_list v) in
-        let u : Work = append j (body.Give label v) y.local in
-        ap (λ (k : Work). worked z (then k (take_body j stamp b)))
-        (count-carried j number stamp b z.local)
-        ∙ ap (λ (k : Work). worked z (record {
-          local = (append j (body.Give label v) k.local).local;
-          sends = w.sends ++ (k.sends ++ (append j (body.Give label v) k.local).sends);
-        })) (count-shade j number stamp b w.local (option_to_list v))
-        ∙ ap (λ (k : Work). worked z (record {
-          local = k.local;
-          sends = w.sends ++ (y.sends ++ k.sends);
-        })) (count-append j number stamp j b (body.Give label v) y.local refl)
-        ∙ ap (λ (k : List (List Message)). record {
-          local = count_in j number stamp b u.local;
-          sent = k;
-        }) (append_all-append z.sent w.sends (y.sends ++ u.sends)
-        ∙ append_all-append (append_all z.sent w.sends) y.sends u.sends)
+    let follows : s3 ≡ followed j stamp b (c i) =
+    ap (λ (z : List (List Message)). record { local = s3.local; sent = z })
+    (sym (append_all-append s1.sent (see_to true (option_to_list v) s1.local).sends
+    (append j (body.Give label v) s2.local).sends)) in
+    reference-last s refl fits moves
+    (subst (Becomes c c3 i) follows
+    (becomes-through (becomes-put c i s1)
+    (becomes-through (becomes-put c1 i s2) (becomes-put c2 i s3))))
+    becomes
 
 -- ---- messages that carry nothing
 
--- nothing is shaded, and nothing is counted
-idle-settled : (from number stamp : ℕ) (b : Body) (p : LocalState) → is_idle b ≡ true
-    → settled from number stamp b p
-    ≡ then (at_rest (count_in from number stamp b p)) (take_body from stamp b)
-unfolding settled
-idle-settled from number stamp b p is =
-    let q : LocalState = count_in from number stamp b p in
-    ap (λ (w : Work). then w (take_body from stamp b))
-    (cond_both (ltb stamp q.phases.cycle) (shade_all (at_rest q) (carried b))
-    (vouch_all (at_rest q) (carried b))
-    (λ w. w ≡ at_rest q)
-    (λ _. ap (shade_all (at_rest q)) (idle-carries b is))
-    (λ _. ap (vouch_all (at_rest q)) (idle-carries b is)))
-
 idle-becomes : {c d : Cut} (i j stamp : ℕ) (b : Body) → is_idle b ≡ true → Settles c d i j stamp b
     → Becomes c d i
-    (worked (c i)
-    (then (at_rest (count_in j (taken c j i + 1) stamp b (c i).local)) (take_body j stamp b)))
+    (worked (c i) (counted j (taken c j i + 1) stamp b (take_body j stamp b (c i).local)))
 idle-becomes {c = c} {d = d} i j stamp b is becomes =
     subst (λ (z : Work). Becomes c d i (worked (c i) z))
-    (idle-settled j (taken c j i + 1) stamp b (c i).local is) becomes
+    (settled-bare j (taken c j i + 1) stamp b (c i).local (idle-carries b is)) becomes
 
 take-begin : {shape : Shaped} {c d : Cut} {i j stamp : ℕ}
     → Taking shape c i j (record { stamp = stamp; body = body.Begin })
@@ -494,7 +424,7 @@ stamp-most n ph from to s body.Swept f = omega (arith, f.2)
 pub taken-inv : {shape : Shaped} {c d : Cut} {i j : ℕ} (x : Message) → Inv shape c
     → i < shape.nodes → IsInFlight c j i (taken c j i) x
     → Becomes c d i
-    (worked (c i) (effect_work (taken_in (c i).local j (taken c j i + 1) x.stamp x.body)))
+    (worked (c i) (work_in (taken_in (c i).local j (taken c j i + 1) x.stamp x.body)))
     → Inv shape d
 unfolding taken_in
 taken-inv {shape = shape} {c = c} {d = d} {i = i} {j = j} x inv inside flight becomes =

@@ -19,11 +19,11 @@ use Rattle.model.specs.Counting.{append, announce, stamped, to_others}
 use Rattle.model.specs.Collecting.{is_white, whitened, without_token, new_token, token_of, sum_of, forwarded, is_concluded, probe, conclude, judged, handed_on, passed}
 use Rattle.model.specs.Steps.{append_all}
 use Rattle.model.specs.Cuts.{Cut, Becomes}
+use Rattle.model.proofs.Walk.{work_in}
 use Rattle.laws.proofs.Turns.{Turn, flew}
 use Rattle.laws.proofs.Invariant.{phases_of, cycle_of, Marking, Resting, Joined, BodyFits, Spot, place_of_spot, IsAt, at_node, is_held, Bound, Inv}
 use Rattle.laws.proofs.Acting.{put, put-here, becomes-put}
 use Rattle.laws.proofs.Moves.{worked}
-use Rattle.laws.proofs.OwnEvents.{effect_work}
 use Rattle.laws.proofs.Receipts.{becomes-from}
 use Rattle.laws.proofs.Tallies.{bound-turn, bound-none, bound-forward}
 use Rattle.laws.proofs.RingSteps.{at-once}
@@ -56,7 +56,7 @@ pub record Passing (shape : Shaped) (c d : Cut) (i : ℕ) (t : Token) : Type 0 w
   pub held : (c i).local.ring.token ≡ Some t
   pub calm : (c i).local.heap.grey ≡ []
   pub unwrapped : int_wrap w64 (t.q +ℤ (c i).local.ring.earlier) ≡ t.q +ℤ (c i).local.ring.earlier
-  pub becomes : Becomes c d i (worked (c i) (effect_work (passed (c i).local)))
+  pub becomes : Becomes c d i (worked (c i) (work_in (passed (c i).local)))
 
 module _ {shape : Shaped} {c d : Cut} {i : ℕ} {t : Token} (h : Passing shape c d i t) where
   abbrev passer : LocalState
@@ -92,7 +92,7 @@ module _ {shape : Shaped} {c d : Cut} {i : ℕ} {t : Token} (h : Passing shape c
         sent = append_all (c i).sent
             ((passer.shape.nodes - 1, stamped passer (body.Token new_token)) ∷ []);
       }) =
-      subst (λ (z : Effect). Becomes c d i (worked (c i) (effect_work z)))
+      subst (λ (z : Effect). Becomes c d i (worked (c i) (work_in z)))
       (cond-true (passer.own == 0) (judged passer) (handed_on passer) first
       ∙ cond-false (is_concluded passer.ring)
       (answers (conclude passer) (answer.Ended passer.phases.cycle))
@@ -150,7 +150,7 @@ module _ {shape : Shaped} {c d : Cut} {i : ℕ} {t : Token} (h : Passing shape c
         local = record passer { ring = whitened (without_token passer.ring) };
         sent = append_all (c i).sent ((passer.own - 1, stamped passer (body.Token u)) ∷ []);
       }) =
-      subst (λ (z : Effect). Becomes c d i (worked (c i) (effect_work z)))
+      subst (λ (z : Effect). Becomes c d i (worked (c i) (work_in z)))
       (cond-false (passer.own == 0) (judged passer) (handed_on passer) other) h.becomes in
       let before : i ≡ suc (passer.own - 1) = omega (arith, above, pass-own) in
       let round = h.inv.tokens.round pass-marking in
@@ -221,7 +221,7 @@ module _ {shape : Shaped} {c d : Cut} {i : ℕ} {t : Token} (h : Passing shape c
             })
             body.Ended passer.shape.nodes;
       })) =
-      subst (λ (z : Effect). Becomes c d i (worked (c i) (effect_work z)))
+      subst (λ (z : Effect). Becomes c d i (worked (c i) (work_in z)))
       (cond-true (passer.own == 0) (judged passer) (handed_on passer) first
       ∙ cond-true (is_concluded passer.ring)
       (answers (conclude passer) (answer.Ended passer.phases.cycle))

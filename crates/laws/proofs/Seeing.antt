@@ -18,27 +18,27 @@ use Rattle.model.specs.declared.event.Answer.{Answer}
 use Rattle.model.specs.Checks.{AllPass}
 use Rattle.model.specs.State.{Object, LocalState, NodeState, slot_at, got_from, sent_to}
 use Rattle.model.specs.Heaps.{is_filled, named, no_reference, object_at, place_of, place_loaded}
-use Rattle.model.specs.Effects.{Work, at_rest, Effect}
+use Rattle.model.specs.Effects.{Work, Effect}
 use Rattle.model.specs.Counting.{is_reference, stamped, append}
-use Rattle.model.specs.Shading.{shade_all, joined}
-use Rattle.model.specs.Steps.{allocated, copied, dropped, stored, cleared, word_read, word_set, accepted, tests, made, is_own, mentioned, take_carried, count_in, take_body, settled, taken_in, append_all, loaded, given, put_asked, get_asked}
+use Rattle.model.specs.Shading.{joined, see_to}
+use Rattle.model.specs.Steps.{tests, made, is_own, mentioned, take_carried, count_in, take_body, settled, taken_in, append_all}
 use Rattle.model.specs.Cuts.{Cut, taken, IsInFlight, Becomes}
 use Rattle.laws.specs.Objects.{Space, with_messages, is_program, does, arrives}
 use Rattle.laws.specs.Sights.{programs}
 use Rattle.model.proofs.Slots.{object-there}
+use Rattle.model.proofs.Leaving.{own-stands, taken-stands}
+use Rattle.model.proofs.Walk.{quiet-walks, work_in}
 use Rattle.laws.proofs.Lookups.{any-there}
 use Rattle.laws.proofs.StepFacts.{Stepped}
 use Rattle.laws.proofs.Turns.{at_becomes}
-use Rattle.laws.proofs.Stands.{own-stands, taken-takes}
 use Rattle.laws.proofs.Moves.{worked}
-use Rattle.laws.proofs.OwnEvents.{effect_work}
 use Rattle.laws.proofs.Invariant.{phases_of, Safe, BodyFits, Inv}
 use Rattle.laws.proofs.Inner.{occupied-inside}
 use Rattle.laws.proofs.Deliveries.{target-own}
 use Rattle.laws.proofs.Past.{PastAt, Ages, ages-own, ages-taken}
 use Rattle.laws.proofs.GoodHeaps.{own_reference}
 use Rattle.laws.proofs.Things.{still-through, quiet-append, posts, posts-append, quiet-posts, sent-posts, drop-first}
-use Rattle.laws.proofs.Unseen.{none-quiet, calm-shade, before_body, Calm, calm-before, calm-body, unseen-own}
+use Rattle.laws.proofs.Unseen.{none-quiet, before_body, Calm, calm-before, unseen-own, calm-collects}
 use Rattle.laws.proofs.Doings.{Here, IsMade, Effects, here-kept, effects-none, effects-behind, Doing, own-does, Following, body-does}
 use Rattle.laws.proofs.Telling.{Ready}
 
@@ -154,8 +154,7 @@ one-inside j y n to inside past =
 own-inside : {shape : Shaped} {s : Space} {c : Cut} {i : ℕ} (counts : List ℕ) (e : Event)
     → is_own e ≡ true → At shape s c i → AllPass (tests (c i).local e) → (to : ℕ)
     → shape.nodes ≤ to → posts to (made (c i).local counts e).sends ≡ []
-unfolding allocated copied dropped loaded stored cleared word_read word_set given accepted put_asked
-    get_asked append
+unfolding append
 own-inside {c = c} {i = i} counts event.Begin own x passed to past =
     quiet-posts to _ (unseen-own (c i).local counts event.Begin refl refl).quiet
 own-inside {c = c} {i = i} counts event.Scan own x passed to past =
@@ -169,8 +168,8 @@ own-inside counts (event.Ack m) never x passed to past = absurd cc
 own-inside {c = c} {i = i} counts (event.Load register object place) own x passed to past =
     let p : LocalState = (c i).local in
     let rs : List Ref = option_to_list (place_loaded p.heap object place) in
-    quiet-posts to ((shade_all (at_rest p) rs).sends ++ [])
-    (quiet-append _ [] (calm-shade (at_rest p) rs none-quiet).quiet none-quiet)
+    quiet-posts to ((see_to true rs p).sends ++ [])
+    (quiet-append _ [] (calm-collects.sees true rs p).quiet none-quiet)
 own-inside {shape = shape} {c = c} {i = i} counts (event.Give j label register) own x passed to past
     =
     let below : j < (c i).local.shape.nodes = ltb-true j _ passed.0 in
@@ -190,7 +189,7 @@ own-inside counts e own x passed to past = refl
 -- what the event leaves if the other space becomes t
 own-step : {shape : Shaped} {s t : Space} {c d : Cut} {i : ℕ} (counts : List ℕ) (e : Event)
     → is_own e ≡ true → At shape s c i → AllPass (tests (c i).local e)
-    → Becomes c d i (worked (c i) (effect_work (made (c i).local counts e)))
+    → Becomes c d i (worked (c i) (work_in (made (c i).local counts e)))
     → Effects s t i (made (c i).local counts e).local.heap (made (c i).local counts e).sends
     → Same t d
 own-step {s = s} {t = t} {c = c} {d = d} {i = i} counts e own x passed becomes effects =
@@ -257,7 +256,7 @@ pub record Taking (shape : Shaped) (s : Space) (c d : Cut) (from to : ℕ) (x : 
     pub flight : IsInFlight c from to (taken c from to) x
     pub becomes : Becomes c d to
         (worked (c to)
-        (effect_work (taken_in (c to).local from (taken c from to + 1) x.stamp x.body)))
+        (work_in (taken_in (c to).local from (taken c from to + 1) x.stamp x.body)))
 
 -- what its body makes the node send goes to the sender
 body-inside : (from stamp : ℕ) (b : Body) (p : LocalState) (k n : ℕ) → from < n → n ≤ k
@@ -267,14 +266,14 @@ body-inside from stamp (body.Give label reference) p k n inside past = refl
 body-inside from stamp (body.Put target place reference) p k n inside past = refl
 body-inside from stamp (body.Get target place label) p k n inside past =
     let v : Option Ref = place_of (object_at p.heap target) place in
-    let w : Work = shade_all (at_rest p) (option_to_list v) in
+    let w : Work = see_to true (option_to_list v) p in
     let last : List (ℕ × Message) = (append from (body.Give label v) w.local).sends in
     posts-append k w.sends last
     ∙ ap (λ (z : List Body). z ++ posts k last)
-    (quiet-posts k w.sends (calm-shade (at_rest p) (option_to_list v) none-quiet).quiet)
+    (quiet-posts k w.sends (calm-collects.sees true (option_to_list v) p).quiet)
     ∙ one-inside from (stamped w.local (body.Give label v)) n k inside past
 body-inside from stamp (body.Mark target) p k n inside past =
-    quiet-posts k _ (calm-body from stamp (body.Mark target) p refl).quiet
+    quiet-posts k _ (quiet-walks calm-collects from stamp (body.Mark target) p refl).quiet
 body-inside from stamp b p k n inside past = refl
 
 -- how many were received afterwards
@@ -283,7 +282,7 @@ module _ {shape : Shaped} {s : Space} {c d : Cut} {from to : ℕ} {x : Message}
   takes-got : (d to).local.got ≡ set (c to).local.got from (taken c from to + 1)
   takes-got =
       ap (λ (z : NodeState). z.local.got) h.becomes.changed
-      ∙ (taken-takes (c to).local from (taken c from to + 1) x.stamp x.body).got
+      ∙ (taken-stands (c to).local from (taken c from to + 1) x.stamp x.body).got
 
   taken-one : taken d from to ≡ taken c from to + 1
   taken-one =
@@ -298,7 +297,7 @@ module _ {shape : Shaped} {s : Space} {c d : Cut} {from to : ℕ} {x : Message}
       at_becomes (λ j z. (a ≡ from → j ≢ to) → got_from z.local a ≡ taken c a j) h.becomes
       (λ o.
       ap (λ (z : List ℕ). get_or z a 0)
-      (taken-takes (c to).local from (taken c from to + 1) x.stamp x.body).got
+      (taken-stands (c to).local from (taken c from to + 1) x.stamp x.body).got
       ∙ get_or-set_other (c to).local.got from a (taken c from to + 1) 0
       (λ (e : a ≡ from). o e refl))
       (λ j _ o. refl) b other
@@ -366,10 +365,10 @@ module _ {shape : Shaped} {s : Space} {c d : Cut} {from to : ℕ} {x : Message}
 
   -- what happens before the body is followed isn't seen
   abbrev first : Work
-  first = before_body (c to).local from (taken c from to + 1) x.stamp x.body
+  first = before_body (c to).local x.stamp x.body
 
   calm-first : Calm (c to).local.heap first
-  calm-first = calm-before (c to).local from (taken c from to + 1) x.stamp x.body
+  calm-first = calm-before (c to).local x.stamp x.body
 
   following : Following left to x.body first.local
   following = record {
@@ -396,7 +395,7 @@ module _ {shape : Shaped} {s : Space} {c d : Cut} {from to : ℕ} {x : Message}
       → Effects r t to (take_body from x.stamp x.body first.local).local.heap
       (take_body from x.stamp x.body first.local).sends
       → Same t d
-  unfolding taken_in settled
+  unfolding taken_in settled count_in
   taken-step {r = r} {t = t} stage effects =
       let p : LocalState = (c to).local in
       let number : ℕ = taken c from to + 1 in
@@ -404,8 +403,7 @@ module _ {shape : Shaped} {s : Space} {c d : Cut} {from to : ℕ} {x : Message}
       let done : Work = take_body from x.stamp x.body first.local in
       let sends : first.sends ++ done.sends ≡ y.sends =
       append_assoc (joined p x.stamp).sends
-      (take_carried x.stamp x.body
-      (count_in from number x.stamp x.body (joined p x.stamp).local)).sends
+      (take_carried x.stamp x.body (joined p x.stamp).local).sends
       done.sends in
       same-step {s = r} {t = t} {q = y.local} {ms = y.sends} (record {
         becomes = h.becomes;
@@ -440,7 +438,7 @@ module _ {shape : Shaped} {s : Space} {c d : Cut} {from to : ℕ} {x : Message}
   -- a message of the collector isn't seen
   pub quiet-same : is_reference x.body ≡ false → Same s d
   quiet-same none =
-      let calm = calm-body from x.stamp x.body first.local none in
+      let calm = quiet-walks calm-collects from x.stamp x.body first.local none in
       taken-step (quiet-stage none)
       (effects-none
       (here-kept (h.at.same.here to) (still-through calm-first.still calm.still).kept) calm.quiet)

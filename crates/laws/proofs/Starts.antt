@@ -24,13 +24,12 @@ use Rattle.laws.proofs.Tallies.{bound-none}
 use Rattle.laws.proofs.Inner.{occupied-inside}
 use Rattle.laws.proofs.Acting.{balance-joined, balance-apart, fresh-joined, fresh-apart}
 use Rattle.laws.proofs.Counts.{reference-counts, reference-fresh}
-use Rattle.laws.proofs.Invariant.{phases_of, cycle_of, Marking, Resting, Joined, Covered, RootsAll, Phased, StampFits, BodyFits, Flows, is_fresh, fresh_balance, Spot, at_node, on_way, IsAt, is_held, is_sent, Inv}
+use Rattle.laws.proofs.Invariant.{phases_of, cycle_of, Marking, Resting, Joined, Covered, Phased, StampFits, BodyFits, Flows, is_fresh, fresh_balance, Spot, at_node, on_way, IsAt, is_held, is_sent, Inv}
 use Rattle.laws.proofs.Joins.{entering, enter-turn, enter-inv}
 
 pub record Starting (shape : Shaped) (c d : Cut) (grey : List ℕ) : Type 0 where
   pub inv : Inv shape c
   pub inside : 0 < shape.nodes
-  pub empty : RootsAll (λ _. ⊥) (c 0).local.heap
   pub resting : Resting (phases_of c 0)
   pub swept : (i : ℕ) → i < shape.nodes → (phases_of c i).swept ≡ cycle_of c 0
   pub reported : (i : ℕ) → 0 < i → i < shape.nodes
@@ -174,15 +173,12 @@ module _ {shape : Shaped} {c d : Cut} {grey : List ℕ} (h : Starting shape c d 
           ≡ is_fresh (cycle_of c 0) (record { stamp = x.stamp; body = b }))
           × (counts (cycle_of c 0) x.stamp b ≡ false)
           × (is_fresh next_cycle (record { stamp = x.stamp; body = b }) ≡ false)
-      by body.Begin f = (refl, refl, refl)
-      by (body.Token t) f = (refl, refl, refl)
-      by body.Ended f = (refl, refl, refl)
-      by body.Swept f = (refl, refl, refl)
       by (body.Mark r) f = absurd (let w = f.1 in omega (arith, w, h.resting))
       by (body.Give label r) f = reference (body.Give label r) refl (stamp-now f)
       by (body.Put target slot r) f = reference (body.Put target slot r) refl (stamp-now f.1)
       by (body.Get target slot label) f =
           reference (body.Get target slot label) refl (stamp-now f.1)
+      by b f = (refl, refl, refl)
 
   start-flight : (from to : ℕ) → in_flight d from to ≡ in_flight c from to
   start-flight from to =
@@ -302,7 +298,6 @@ module _ {shape : Shaped} {c d : Cut} {grey : List ℕ} (h : Starting shape c d 
   start-inv = enter-inv (record {
     inv = h.inv;
     inside = h.inside;
-    empty = h.empty;
     becomes = h.becomes;
     older = omega arith;
     now = start-cycle;
@@ -361,11 +356,7 @@ module _ {shape : Shaped} {c d : Cut} {grey : List ℕ} (h : Starting shape c d 
 
       carries-none : (from to s : ℕ) (b : Body) → BodyFits shape.nodes (phases_of c) from to s b
           → s ≡ next_cycle → AllByRecursion (Covered d) (carried b)
-      carries-none from to s body.Begin f e = tt
-      carries-none from to s (body.Token t) f e = tt
-      carries-none from to s (body.Mark r) f e = tt
-      carries-none from to s body.Ended f e = tt
-      carries-none from to s body.Swept f e = tt
       carries-none from to s (body.Give label r) f e = absurd (start-stale _ f e)
       carries-none from to s (body.Put target slot r) f e = absurd (start-stale _ f.1 e)
       carries-none from to s (body.Get target slot label) f e = absurd (start-stale _ f.1 e)
+      carries-none from to s b f e = tt

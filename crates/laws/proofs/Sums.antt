@@ -4,7 +4,7 @@ use Rattle.std.specs.Prelude.{◌≤ℤ◌}
 use Rattle.std.proofs.lemmas.Int.{ints}
 use Rattle.std.proofs.lemmas.Bool.{cases_eq}
 use Rattle.msg.specs.declared.body.Message.{Message}
-use Rattle.model.specs.Agreement.{total, number_of}
+use Rattle.model.specs.Agreement.{total, weighed, number_of}
 
 pub total-same : (n : ℕ) (f g : ℕ → ℤ) → ((j : ℕ) → j < n → g j ≡ f j) → total n g ≡ total n f
 total-same zero f g same = refl
@@ -80,41 +80,46 @@ total-le (suc n) f g some =
     total-le n f g (λ j q. some j (let k : j < suc n = omega (arith, q) in k)) in
     omega (arith, ints, before, some n (let k : n < suc n = omega arith in k))
 
--- ---- messages that pass a test
+-- ---- weights of messages
 
-pub number-append : (f : Message → Bool) (xs ys : List Message)
-    → number_of f (xs ++ ys) ≡ number_of f xs + number_of f ys
-number-append f [] ys = omega arith
-number-append f (x ∷ xs) ys = omega (arith, number-append f xs ys)
+weighed-append : (g : Message → ℕ) (xs ys : List Message)
+    → weighed g (xs ++ ys) ≡ weighed g xs + weighed g ys
+weighed-append g [] ys = omega arith
+weighed-append g (x ∷ xs) ys = omega (arith, weighed-append g xs ys)
 
-drop-append : (g : ℕ) (xs ys : List Message) → g ≤ length xs → drop g (xs ++ ys) ≡ drop g xs ++ ys
+drop-append : (k : ℕ) (xs ys : List Message) → k ≤ length xs → drop k (xs ++ ys) ≡ drop k xs ++ ys
 drop-append zero xs ys h = refl
-drop-append (suc g) [] ys h = absurd (omega (arith, h))
-drop-append (suc g) (x ∷ xs) ys h =
-    drop-append g xs ys (let k : g ≤ length xs = omega (arith, h) in k)
+drop-append (suc k) [] ys h = absurd (omega (arith, h))
+drop-append (suc k) (x ∷ xs) ys h =
+    drop-append k xs ys (let w : k ≤ length xs = omega (arith, h) in w)
 
 -- one more at the end
-pub number-push : (f : Message → Bool) (g : ℕ) (xs : List Message) (x : Message) → g ≤ length xs
-    → number_of f (drop g (xs ++ x ∷ [])) ≡ number_of f (drop g xs) + cond (f x) 1 0
-number-push f g xs x h =
-    ap (number_of f) (drop-append g xs (x ∷ []) h)
-    ∙ number-append f (drop g xs) (x ∷ [])
-    ∙ (let e : number_of f (drop g xs) + (cond (f x) 1 0 + 0)
-    ≡ number_of f (drop g xs) + cond (f x) 1 0 = omega arith in e)
+pub weighed-push : (g : Message → ℕ) (k : ℕ) (xs : List Message) (x : Message) → k ≤ length xs
+    → weighed g (drop k (xs ++ x ∷ [])) ≡ weighed g (drop k xs) + g x
+weighed-push g k xs x h =
+    ap (weighed g) (drop-append k xs (x ∷ []) h)
+    ∙ weighed-append g (drop k xs) (x ∷ [])
+    ∙ (let e : weighed g (drop k xs) + (g x + 0) ≡ weighed g (drop k xs) + g x = omega arith in e)
 
 -- the first one leaves
-pub number-take : (f : Message → Bool) (g : ℕ) (xs : List Message) (x : Message)
-    → slice_get xs g ≡ Some x
-    → number_of f (drop g xs) ≡ number_of f (drop (g + 1) xs) + cond (f x) 1 0
-number-take f g [] x h = absurd cc
-number-take f zero (y ∷ xs) x h =
+pub weighed-take : (g : Message → ℕ) (k : ℕ) (xs : List Message) (x : Message)
+    → slice_get xs k ≡ Some x → weighed g (drop k xs) ≡ weighed g (drop (k + 1) xs) + g x
+weighed-take g k [] x h = absurd cc
+weighed-take g zero (y ∷ xs) x h =
     let same : y ≡ x = cc in
-    subst (λ (z : Message). cond (f y) 1 0 + number_of f xs ≡ number_of f xs + cond (f z) 1 0) same
-    (omega arith)
-number-take f (suc g) (y ∷ xs) x h =
-    number-take f g xs x h
-    ∙ ap (λ (k : ℕ). number_of f (drop k (y ∷ xs)) + cond (f x) 1 0)
-    (let e : suc (g + 1) ≡ suc g + 1 = omega arith in e)
+    subst (λ (z : Message). g y + weighed g xs ≡ weighed g xs + g z) same (omega arith)
+weighed-take g (suc k) (y ∷ xs) x h =
+    weighed-take g k xs x h
+    ∙ ap (λ (l : ℕ). weighed g (drop l (y ∷ xs)) + g x)
+    (let e : suc (k + 1) ≡ suc k + 1 = omega arith in e)
+
+-- each message weighs at most as much as all
+pub weighed-at : (g : Message → ℕ) (xs : List Message) (k : ℕ) (x : Message)
+    → slice_get xs k ≡ Some x → g x ≤ weighed g xs
+weighed-at g [] k x h = absurd cc
+weighed-at g (y ∷ xs) zero x h =
+    let same : g y ≡ g x = ap g (let e : y ≡ x = cc in e) in omega (arith, same)
+weighed-at g (y ∷ xs) (suc k) x h = omega (arith, weighed-at g xs k x h)
 
 pub number-same : (f g : Message → Bool) (xs : List Message)
     → ((k : ℕ) (x : Message) → slice_get xs k ≡ Some x → f x ≡ g x)
@@ -124,14 +129,3 @@ number-same f g (x ∷ xs) same =
     let first : f x ≡ g x = same zero x refl in
     let rest : number_of f xs ≡ number_of g xs = number-same f g xs (λ k y h. same (suc k) y h) in
     ap (λ (b : Bool). cond b 1 0 + number_of f xs) first ∙ ap (λ (m : ℕ). cond (g x) 1 0 + m) rest
-
--- one message that passes makes the number positive
-pub number-at : (f : Message → Bool) (xs : List Message) (k : ℕ) (x : Message)
-    → slice_get xs k ≡ Some x → f x ≡ true → 0 < number_of f xs
-number-at f [] k x h passes = absurd cc
-number-at f (y ∷ xs) zero x h passes =
-    let same : y ≡ x = cc in
-    let one : ◌≡◌ {A = ℕ} (cond (f y) 1 0) 1 =
-    ap (λ (z : Message). cond (f z) 1 0) same ∙ ap (λ (b : Bool). cond b 1 0) passes in
-    omega (arith, one)
-number-at f (y ∷ xs) (suc k) x h passes = omega (arith, number-at f xs k x h passes)

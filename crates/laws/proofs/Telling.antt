@@ -10,7 +10,7 @@ use Rattle.model.specs.declared.event.Event.TheVariants as event
 use Rattle.model.specs.Checks.{guarded, AllPass}
 use Rattle.model.specs.State.{Heap, LocalState, NodeState}
 use Rattle.model.specs.Heaps.{is_register, is_filled, is_local, has_slot, has_place, named, object_at, own_tests, copy_tests, drop_tests, word_tests, register_tests, put_tests, get_tests, accept_tests}
-use Rattle.model.specs.Steps.{tests, made, fits, all_tests, checked, act, allocated, copied, dropped, stored, cleared, word_read, word_set, accepted}
+use Rattle.model.specs.Steps.{tests, made, fits, all_tests, checked, act}
 use Rattle.laws.specs.Objects.{Thing, Space, object_in, has_that, is_program, checks, IsLimit, IsTold}
 use Rattle.model.proofs.Checks.{guarded-pass, guarded-passes}
 use Rattle.laws.proofs.StepFacts.{after-err, last-refusal}
@@ -188,7 +188,6 @@ slot-refused false x r h = let same : ArenaFull ≡ r = cc in sym same
 
 limit-refused : (p : LocalState) (counts : List ℕ) (e : Event) (r : Refusal) → is_program e ≡ true
     → guarded (limits p counts e) (made p counts e) ≡ Err r → IsLimit e r
-unfolding allocated copied dropped stored cleared word_read word_set accepted
 limit-refused p counts (event.Alloc register places) r is h = slot-refused _ _ r h
 limit-refused p counts (event.Load register object place) r is h =
     sym (last-refusal [] (fits counts _, LinkSpent) _ r tt h)

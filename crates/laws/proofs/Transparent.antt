@@ -24,6 +24,7 @@ use Rattle.model.specs.Steps.{made, act, receive, is_own, is_addressed, taken_in
 use Rattle.model.specs.World.{World, KeepsSent, new_world, released, acknowledged, release_count, moved, delivery, is_node, take_step, world_after, happens, run, outcome_of, is_eventful, is_event}
 use Rattle.model.specs.Cuts.{Cut, cut, taken, Becomes}
 use Rattle.model.proofs.Lookups.{get_or-replicate_any}
+use Rattle.model.proofs.Walk.{work_in}
 use Rattle.laws.specs.Objects.{Space, new_space, is_program, IsTold, Sight, told, came, IsRun, then, after}
 use Rattle.laws.specs.Sights.{came_of, seen, choosing, before, at_first, kept, programs, CollectorIsUnseen}
 use Rattle.laws.proofs.StepFacts.{Delivery, tests_of, IsTurnOf, IsReleased, Stepped, act-ok, Receipt, repeated, next, receipt-cases}
@@ -32,7 +33,6 @@ use Rattle.laws.proofs.KeepsSent.{keeps-sent, new-keeps-sent, run-count}
 use Rattle.laws.proofs.Cuts.{current-chosen, turn-number, after_change, hidden, shown, cut-choosing, cut-saved, cut-restarted, cut-in_flight, released-numbered}
 use Rattle.laws.proofs.Base.{new-at, at-new}
 use Rattle.laws.proofs.Moves.{worked}
-use Rattle.laws.proofs.OwnEvents.{effect_work}
 use Rattle.laws.proofs.Invariant.{Inv}
 use Rattle.laws.proofs.Live.{all-inv, reached-safe}
 use Rattle.laws.proofs.Telling.{told-ok, told-err}
@@ -283,13 +283,13 @@ coming-taking {shape = shape} {w = w} {choice = choice} {m = m} {t = t} {a = a} 
     let c : Cut = cut w choice in
     let here : node_at w.current m.to ≡ c m.to = sym (current-chosen w choice m.to chosen) in
     let state : t ≡ worked (c m.to)
-    (effect_work
+    (work_in
     (taken_in (c m.to).local m.from (taken c m.from m.to + 1) m.message.stamp m.message.body)) =
     subst (λ (k : ℕ). t ≡ worked (c m.to)
-    (effect_work (taken_in (c m.to).local m.from k m.message.stamp m.message.body)))
+    (work_in (taken_in (c m.to).local m.from k m.message.stamp m.message.body)))
     (turn-number w choice m chosen x.turn)
     (subst (λ (z : NodeState). t ≡ worked z
-    (effect_work (taken_in z.local m.from m.number m.message.stamp m.message.body))) here
+    (work_in (taken_in z.local m.from m.number m.message.stamp m.message.body))) here
     x.found.state) in
     record {
       at = at-node w choice m.to x.standing x.same x.receiver;

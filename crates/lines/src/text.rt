@@ -11,9 +11,8 @@ ghost use Rattle.lines.specs.Text.{answer_text as said, counts_text, cycles_text
 use crate::ending::Ending;
 use crate::frames::ColourText;
 use ids::{Ref, Refusal};
-use model::{Answer, Letter, Outcome};
+use model::{Answer, Letter, Outcome, Summary};
 use msg::{Colour, Token};
-use node::Summary;
 use std::alloc::Global;
 use std::{fmt, str};
 

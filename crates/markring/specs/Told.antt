@@ -1,8 +1,15 @@
 -- What `run` prints for a line of its script, and the status of the line.
-use Rattle.std.specs.Prelude.{ℕ, List, [], ◌∷◌, ◌++◌, codes, decimal, map, string_bytes, Result, Ok, Err}
+use Rattle.std.specs.Prelude.{◌≡◌, ◌<◌, ℕ, ◌+◌, max, List, [], ◌∷◌, ◌++◌, codes, decimal, map, string_bytes, Option, Some, None, Result, Ok, Err}
+use Rattle.std.specs.Io.KnownBytes.{Appends}
+use Rattle.std.specs.Str.Lines.{lines}
 use Rattle.ids.specs.declared.refusal.Refusal.{Refusal}
+use Rattle.lines.specs.Grammar.{words_of}
+use Rattle.lines.specs.RunLines.{run_line_of}
 use Rattle.lines.specs.Text.{outcome_text, refused_text}
+use Rattle.lines.specs.declared.run_line.RunLine.{RunLine}
+use Rattle.lines.specs.declared.run_line.RunLine.TheVariants as said
 use Rattle.model.specs.declared.event.Answer.{Answer}
+use Rattle.model.specs.declared.event.Answer.TheVariants as answer
 use Rattle.model.specs.declared.step.Outcome.TheVariants as outcome
 use Rattle.markring.specs.declared.running.Told.{Told}
 use Rattle.markring.specs.declared.running.Told.TheVariants as told
@@ -23,7 +30,7 @@ told_text number told.Nothing = []
 told_text number (told.Outcome o) = outcome_text o ++ (10 ∷ [])
 told_text number (told.Trace texts) = trace_text (map string_bytes texts.items)
 told_text number (told.Refused e) = refused_text e ++ (10 ∷ [])
-told_text number told.NoVerdict = codes "no verdict" ++ (10 ∷ [])
+told_text number (told.NoVerdict last) = codes "no verdict" ++ (10 ∷ [])
 told_text number told.NoCommand =
     codes "line " ++ (decimal number ++ (codes ": not a command" ++ (10 ∷ [])))
 
@@ -32,10 +39,82 @@ status_after told.Nothing = 0
 status_after (told.Outcome o) = 0
 status_after (told.Trace texts) = 0
 status_after (told.Refused e) = 1
-status_after told.NoVerdict = 1
+status_after (told.NoVerdict last) = 1
 status_after told.NoCommand = 2
 
 -- an event's answer, or its refusal
 abbrev pub told_of : Result Answer Refusal → Told
 told_of (Ok answer) = told.Outcome (outcome.Answer answer)
 told_of (Err e) = told.Refused e
+
+-- ---- A whole script
+
+-- an outcome or a refusal
+abbrev pub IsAnswer : Told → Type 0
+IsAnswer (told.Outcome o) = Unit {0}
+IsAnswer (told.Refused e) = Unit {0}
+IsAnswer t = ⊥
+
+-- the same, or no verdict
+abbrev pub IsEnd : Told → Type 0
+IsEnd (told.NoVerdict last) = Unit {0}
+IsEnd t = IsAnswer t
+
+-- that this cycle has ended, or that the last look showed an earlier one
+abbrev pub IsVerdict : ℕ → Told → Type 0
+IsVerdict cycle (told.Outcome o) = o ≡ outcome.Answer (answer.Ended cycle)
+IsVerdict cycle (told.NoVerdict last) = last.cycle.number < cycle
+IsVerdict cycle t = ⊥
+
+-- a trace or a refusal
+abbrev pub IsTrace : Told → Type 0
+IsTrace (told.Trace texts) = Unit {0}
+IsTrace (told.Refused e) = Unit {0}
+IsTrace t = ⊥
+
+-- what kind of outcome a line has that says this
+abbrev pub IsToldOf : Option RunLine → Told → Type 0
+IsToldOf None t = t ≡ told.NoCommand
+IsToldOf (Some said.Blank) t = t ≡ told.Nothing
+IsToldOf (Some (said.Act node e)) t = IsAnswer t
+IsToldOf (Some (said.Restart node)) t = IsAnswer t
+IsToldOf (Some said.Cycle) t = IsEnd t
+IsToldOf (Some (said.Await node register)) t = IsAnswer t
+IsToldOf (Some (said.Trace node)) t = IsTrace t
+
+-- a line has such an outcome, which is printed, and the status is that of the outcome
+pub record PrintsLine (line : List ℕ) (number : ℕ) (old new : Option (List ℕ)) (status : ℕ)
+    : Type 0 where
+  pub outcome : Told
+  pub of : IsToldOf (run_line_of (words_of line)) outcome
+  pub prints : Appends old new (told_text number outcome)
+  pub is : status ≡ status_after outcome
+
+-- a line outside the grammar is the last
+abbrev pub GoesOn : Told → List Told → Type 0 → Type 0
+GoesOn told.NoCommand ts rest = ts ≡ []
+GoesOn t ts rest = rest
+
+-- the outcomes of the lines, one by one
+abbrev pub AreTold : List (List ℕ) → List Told → Type 0
+AreTold [] ts = ts ≡ []
+AreTold (l ∷ ls) [] = ⊥
+AreTold (l ∷ ls) (t ∷ ts) = IsToldOf (run_line_of (words_of l)) t × GoesOn t ts (AreTold ls ts)
+
+-- what is printed for outcomes, the first of which is that of the line of this number
+abbrev pub printed : ℕ → List Told → List ℕ
+printed number [] = []
+printed number (t ∷ ts) = told_text number t ++ printed (number + 1) ts
+
+-- the status is that of the worst outcome
+abbrev pub status_of : List Told → ℕ
+status_of [] = 0
+status_of (t ∷ ts) = max (status_after t) (status_of ts)
+
+-- The outcomes of the script's lines were printed, and the status is that of the worst. The
+-- contents of the output before and afterwards are described if they are known.
+pub record PrintsTold (script : List ℕ) (status : ℕ) (old new : Option (List ℕ)) : Type 0 where
+  pub outcomes : List Told
+  pub follow : AreTold (lines script) outcomes
+  pub worst : status ≡ status_of outcomes
+  pub appended : Appends old new (printed 1 outcomes)

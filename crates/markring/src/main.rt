@@ -1,4 +1,4 @@
-//! The program `markring`. It opens the files that its arguments name and buffers standard output;
+//! The program `markring`. It reads the files that its arguments name and buffers standard output;
 //! the crates below decide what `sim` and `decode` print.
 #![tactic(auto)]
 
@@ -6,15 +6,16 @@ ghost use Rattle.std.specs.Prelude.{◌≤◌, IfOk};
 
 mod running;
 
-use commands::{decode, print_unread, sim};
+use commands::{Unread, decode, print_refusal, print_unread, read_file, read_text, sim};
+use ids::Refusal;
 use std::fs::File;
-use std::io::{BufWriter, Read};
+use std::io::BufWriter;
 use std::process::ExitCode;
 use std::rt::{Env, Files};
 use std::sync::Wait;
 use std::thread::Threads;
 use std::time::Clock;
-use std::{env, fs, io};
+use std::{env, io};
 use words::{Command, REFUSED, WordsError, print_refused_words};
 
 fn main(rt: HostRuntime) -> ExitCode {
@@ -35,20 +36,10 @@ where
     let alloc = rt.alloc();
     let words: Vec<String> = env::args(rt)?.collect(alloc)?;
     match Command::read(alloc, words.as_slice())? {
-        Command::Sim { script: None } => Ok(sim_buffered(rt, rt.reader())),
-        Command::Sim { script: Some(path) } => Ok(sim_file(rt, path)),
-        Command::Decode { hex } => Ok(decode(alloc, hex, &mut io::writer(rt))),
+        Command::Sim { script: None } => Ok(sim_buffered(rt, &read_text(alloc, rt.reader()))),
+        Command::Sim { script: Some(path) } => Ok(sim_buffered(rt, &read_file(rt, alloc, path))),
+        Command::Decode { hex } => Ok(decode(alloc, hex, &mut io::writer(rt)).unwrap_or(REFUSED)),
         Command::Run { config, script } => Ok(run_files(rt, config, script)),
-    }
-}
-
-/// Runs the script in a file.
-fn sim_file<R: Files + Print + AllocGlobal>(rt: &R, path: &str) -> u8
-    ensures { result ≤ 2 }
-{
-    match fs::open(rt, path) {
-        Ok(file) => sim_buffered(rt, file),
-        Err(error) => print_unread(&mut io::writer(rt), error.kind()).unwrap_or(REFUSED),
     }
 }
 
@@ -59,23 +50,24 @@ where
     R: Files<File = File> + Clock + Threads + Wait + Clone + Send + Sync + Drop + 'static,
     ensures { result ≤ 2 }
 {
-    let out = &mut io::writer(rt);
-    let config = match fs::open(rt, config) {
-        Ok(file) => file,
-        Err(error) => return print_unread(out, error.kind()).unwrap_or(REFUSED),
+    let (alloc, out) = (rt.alloc(), &mut io::writer(rt));
+    let config = match read_file(rt, alloc, config) {
+        Ok(text) => text,
+        Err(unread) => return print_unread(out, &unread).unwrap_or(REFUSED),
     };
-    match fs::open(rt, script) {
-        Ok(script) => running::run(rt, rt.alloc(), config, script, out),
-        Err(error) => print_unread(out, error.kind()).unwrap_or(REFUSED),
+    match read_file(rt, alloc, script) {
+        Ok(script) => running::run(rt, alloc, config.as_str(), script.as_str(), out),
+        Err(unread) => print_unread(out, &unread).unwrap_or(REFUSED),
     }
 }
 
 /// Runs a script, with buffered output.
-fn sim_buffered<R: Print + AllocGlobal, S: Read + Drop>(rt: &R, script: S) -> u8
+fn sim_buffered<R: Print + AllocGlobal>(rt: &R, script: &Result<String, Unread>) -> u8
     ensures { result ≤ 2 }
 {
-    match BufWriter::new(rt.alloc(), io::writer(rt)) {
+    let status = match BufWriter::new(rt.alloc(), io::writer(rt)) {
         Ok(mut out) => sim(rt.alloc(), script, &mut out),
-        Err(error) => print_unread(&mut io::writer(rt), error.kind()).unwrap_or(REFUSED),
-    }
+        Err(_) => print_refusal(&mut io::writer(rt), Refusal::Memory),
+    };
+    status.unwrap_or(REFUSED)
 }

@@ -3,24 +3,30 @@
 ghost use Rattle.std.specs.Prelude.{◌≡◌, ◌≤◌, ◌++◌, ◌∷◌, [], IfOk, OnOk, codes, map, string_bytes, true};
 ghost use Rattle.std.specs.Arc.{arc_value};
 ghost use Rattle.std.specs.Io.KnownBytes.{Appends};
+ghost use Rattle.ids.specs.declared.refusal.Refusal.TheVariants.{Memory};
+ghost use Rattle.lines.specs.Text.{refused_text};
 ghost use Rattle.model.specs.Steps.{is_own};
 ghost use Rattle.wire.specs.Readers.{IsWatchOf};
+ghost use Rattle.lines.specs.Grammar.{words_of};
+ghost use Rattle.lines.specs.RunLines.{run_line_of};
+ghost use Rattle.markring.specs.Told.{IsAnswer, IsEnd, IsToldOf, IsVerdict};
+ghost use Rattle.markring.specs.Told.{PrintsLine, PrintsTold};
 ghost use Rattle.markring.specs.Told.{status_after, told_of, told_text, trace_text};
 
-use commands::print_unread;
+use commands::next_line;
 use disk::{Disk, FileDisk, MemoryDisk};
 use ids::Refusal;
 use lines::{OutcomeText, RunLine};
 use model::{Answer, Event, Outcome};
 use std::alloc::Global;
 use std::fs::File;
-use std::io::{Read, Write};
+use std::io::Write;
 use std::rt::Files;
 use std::sync::{Arc, Wait};
 use std::thread::Threads;
 use std::time::{Clock, Duration};
 use std::{io, thread};
-use supervisor::{Config, OpenFault, Space};
+use supervisor::{Config, LastLook, OpenFault, Space};
 use wire::Watch;
 use words::{DONE, REFUSED, UNREADABLE};
 use workers::{Gate, Point, Stage};
@@ -41,8 +47,8 @@ enum Told {
     /// The texts of a node's last calls.
     Trace(Vec<String>),
     Refused(Refusal),
-    /// All workers had ended before a cycle did.
-    NoVerdict,
+    /// All workers had ended, and what the watch showed after that is an earlier cycle.
+    NoVerdict(LastLook),
     /// The line is outside the grammar.
     NoCommand,
 }
@@ -68,58 +74,42 @@ impl<R: Clock> Gate for Pause<R> {
 /// - 0 if no line was refused
 /// - 1 if the space couldn't be opened or started, a line was refused, a cycle didn't end, a node
 ///   couldn't be saved at the end, memory ran out, or the output failed
-/// - 2 if the configuration is rejected, one of the two can't be read, or a line is outside the
-///   grammar, which is then the last one
-pub fn run<R, C: Read + Drop, S: Read + Drop, W: Write>(
-    rt: &R,
-    alloc: Global,
-    config: C,
-    script: S,
-    out: &mut W,
-) -> u8
+/// - 2 if the configuration is rejected, or a line is outside the grammar, which is then the last
+///   one
+pub fn run<R, W: Write>(rt: &R, alloc: Global, config: &str, script: &str, out: &mut W) -> u8
 where
     R: Files<File = File> + Clock + Threads + Wait + Clone + Send + Sync + Drop + 'static,
     ensures { result ≤ 2 }
 {
-    match run_read(rt, alloc, config, script, out) {
+    let done = match Config::from_text(alloc, config) {
+        Ok(config) => run_config(rt, alloc, &config, script, out),
+        Err(OpenFault::Memory) => print_memory(out),
+        Err(_) => print_refused_config(out),
+    };
+    match done {
         Ok(status) => status,
         Err(_) => REFUSED,
     }
 }
 
-// Reads both, and then runs the script.
-fn run_read<R, C: Read + Drop, S: Read + Drop, W: Write>(
-    rt: &R,
-    alloc: Global,
-    config: C,
-    script: S,
-    out: &mut W,
-) -> io::Result<u8>
-where
-    R: Files<File = File> + Clock + Threads + Wait + Clone + Send + Sync + Drop + 'static,
-    ensures { IfOk result (λ status. status ≤ 2) }
+// Prints that memory ran out, and returns the status.
+fn print_memory<W: Write>(out: &mut W) -> io::Result<u8>
+    ensures { IfOk result (λ status. (status ≡ 1)
+        × Appends (W.contents out.old) (W.contents out.new) (refused_text Memory ++ 10 ∷ [])) }
 {
-    let config = match io::read_to_string(alloc, config) {
-        Ok(text) => text,
-        Err(error) => return print_unread(out, error.kind()),
-    };
-    let script = match io::read_to_string(alloc, script) {
-        Ok(text) => text,
-        Err(error) => return print_unread(out, error.kind()),
-    };
-    match Config::from_text(alloc, config.as_str()) {
-        Ok(config) => run_config(rt, alloc, &config, script.as_str(), out),
-        Err(OpenFault::Refused(refusal)) => {
-            writeln!(out, "refused {refusal}")?;
-            out.flush()?;
-            Ok(REFUSED)
-        }
-        Err(_) => {
-            writeln!(out, "config refused")?;
-            out.flush()?;
-            Ok(UNREADABLE)
-        }
-    }
+    writeln!(out, "refused {}", Refusal::Memory)?;
+    out.flush()?;
+    Ok(REFUSED)
+}
+
+// Prints that the configuration is rejected, and returns the status.
+fn print_refused_config<W: Write>(out: &mut W) -> io::Result<u8>
+    ensures { IfOk result (λ status. (status ≡ 2)
+        × Appends (W.contents out.old) (W.contents out.new) (codes "config refused" ++ 10 ∷ [])) }
+{
+    writeln!(out, "config refused")?;
+    out.flush()?;
+    Ok(UNREADABLE)
 }
 
 // Opens the disks that the configuration names, and runs the script on them.
@@ -259,18 +249,43 @@ fn run_lines<R: Clock + Wait, D: Disk + Drop, W: Write>(
     out: &mut W,
 ) -> io::Result<u8>
     requires { IsWatchOf (arc_value space.now.wire) watch.old }
-    ensures { IfOk result (λ status. status ≤ 2) }
+    ensures told { IfOk result (λ status.
+        PrintsTold script.now status (W.contents out.old) (W.contents out.new)) }
+    ensures small { IfOk result (λ status. status ≤ 2) }
 {
     let mut status = DONE;
-    for (index, text) in script.lines().enumerate() {
-        let told = take_line(rt, space, watch, text);
-        print_told(out, index + 1, &told)?;
-        status = status.max(status_after(&told));
-        if let Told::NoCommand = told {
+    let mut rest = script;
+    let mut number = 0;
+    while !rest.is_empty() {
+        let (text, others) = next_line(rest);
+        rest = others;
+        number += 1;
+        let reached = run_line(rt, space, watch, number, text, out)?;
+        status = status.max(reached);
+        if reached == UNREADABLE {
             return Ok(status);
         }
     }
     Ok(status)
+}
+
+// Does what the line of this number says, prints the outcome, and returns the line's status.
+fn run_line<R: Clock + Wait, D: Disk + Drop, W: Write>(
+    rt: &R,
+    space: &Space<D>,
+    watch: &mut Watch,
+    number: usize,
+    text: &str,
+    out: &mut W,
+) -> io::Result<u8>
+    requires { IsWatchOf (arc_value space.now.wire) watch.old }
+    ensures watch { IsWatchOf (arc_value space.now.wire) watch.new }
+    ensures told { IfOk result
+        (PrintsLine text.now number (W.contents out.old) (W.contents out.new)) }
+{
+    let told = take_line(rt, space, watch, text);
+    print_told(out, number, &told)?;
+    Ok(status_after(&told))
 }
 
 // Does what the line says.
@@ -281,7 +296,8 @@ fn take_line<R: Clock + Wait, D: Disk + Drop>(
     text: &str,
 ) -> Told
     requires { IsWatchOf (arc_value space.now.wire) watch.old }
-    ensures { IsWatchOf (arc_value space.now.wire) watch.new }
+    ensures watch { IsWatchOf (arc_value space.now.wire) watch.new }
+    ensures told { IsToldOf (run_line_of (words_of text.now)) result }
 {
     match RunLine::parse(text) {
         Some(RunLine::Blank) => Told::Nothing,
@@ -301,7 +317,8 @@ fn take_line<R: Clock + Wait, D: Disk + Drop>(
 }
 
 fn told_of(answered: Result<Answer, Refusal>) -> Told
-    ensures { result ≡ told_of answered }
+    ensures told { result ≡ told_of answered }
+    ensures answer { IsAnswer result }
 {
     match answered {
         Ok(answer) => Told::Outcome(Outcome::Answer(answer)),
@@ -339,7 +356,8 @@ fn trace<R: Wait, D: Disk + Drop>(
 // Begins a cycle, and looks at the board until it shows that cycle or all workers have ended.
 fn cycle<R: Clock + Wait, D: Disk + Drop>(rt: &R, space: &Space<D>, watch: &mut Watch) -> Told
     requires { IsWatchOf (arc_value space.now.wire) watch.old }
-    ensures { IsWatchOf (arc_value space.now.wire) watch.new }
+    ensures watch { IsWatchOf (arc_value space.now.wire) watch.new }
+    ensures told { IsEnd result }
 {
     match space.begin(rt) {
         Ok(Answer::Begun(cycle)) => await_end(rt, space, watch, cycle),
@@ -354,19 +372,30 @@ fn await_end<R: Clock + Wait, D: Disk + Drop>(
     cycle: u64,
 ) -> Told
     requires { IsWatchOf (arc_value space.now.wire) watch.old }
-    ensures { IsWatchOf (arc_value space.now.wire) watch.new }
+    ensures watch { IsWatchOf (arc_value space.now.wire) watch.new }
+    ensures told { IsVerdict cycle result }
 {
     for _ in rt.forever() {
-        let over = space.all_ended();
+        if let Some(ended) = space.ended() {
+            return verdict(space.look_last(ended, watch), cycle);
+        }
         if space.look(watch).number >= cycle {
             return Told::Outcome(Outcome::Answer(Answer::Ended(cycle)));
-        }
-        if over {
-            return Told::NoVerdict;
         }
         thread::sleep(rt, Duration::from_micros(LOOK));
     }
     unreachable!()
+}
+
+// What the last look says of a cycle.
+fn verdict(last: LastLook, cycle: u64) -> Told
+    ensures { IsVerdict cycle result }
+{
+    if last.cycle().number >= cycle {
+        Told::Outcome(Outcome::Answer(Answer::Ended(cycle)))
+    } else {
+        Told::NoVerdict(last)
+    }
 }
 
 // Waits for a letter and accepts it. The call also ends if the event fails for another reason, or
@@ -376,11 +405,13 @@ fn await_letter<R: Clock + Wait, D: Disk + Drop>(
     space: &Space<D>,
     node: u8,
     register: u16,
-) -> Told {
+) -> Told
+    ensures { IsAnswer result }
+{
     for _ in rt.forever() {
         let over = space.all_ended();
         let answered = act(rt, space, node, Event::Accept { register });
-        if over || answered != Err(Refusal::NoLetter) {
+        if over || !matches!(answered, Err(Refusal::NoLetter)) {
             return told_of(answered);
         }
         thread::sleep(rt, Duration::from_micros(LOOK));
@@ -398,7 +429,7 @@ fn print_told<W: Write>(out: &mut W, number: usize, told: &Told) -> io::Result<(
         Told::Outcome(outcome) => writeln!(out, "{}", OutcomeText(*outcome))?,
         Told::Trace(texts) => print_texts(out, texts.as_slice())?,
         Told::Refused(refusal) => writeln!(out, "refused {refusal}")?,
-        Told::NoVerdict => writeln!(out, "no verdict")?,
+        Told::NoVerdict(_) => writeln!(out, "no verdict")?,
         Told::NoCommand => writeln!(out, "line {number}: not a command")?,
     }
     out.flush()
@@ -424,7 +455,7 @@ fn status_after(told: &Told) -> u8
 {
     match told {
         Told::Nothing | Told::Outcome(_) | Told::Trace(_) => DONE,
-        Told::Refused(_) | Told::NoVerdict => REFUSED,
+        Told::Refused(_) | Told::NoVerdict(_) => REFUSED,
         Told::NoCommand => UNREADABLE,
     }
 }

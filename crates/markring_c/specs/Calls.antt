@@ -3,12 +3,12 @@
 use Rattle.std.specs.Prelude.{◌≡◌, ℕ, ℤ, Bool, Option, Some, None, Result, Err}
 use Rattle.model.specs.declared.event.Answer.{Answer}
 use Rattle.model.specs.declared.event.Event.{Event}
-use Rattle.handles.specs.Faults.{Through, status, status_of, written}
-use Rattle.handles.specs.Fields.{answer_fields, bit}
+use Rattle.values.specs.Faults.{Through, status, status_of, written}
+use Rattle.values.specs.Fields.{answer_fields, bit}
 use Rattle.handles.specs.Lone.{NodeActs}
-use Rattle.handles.specs.declared.fault.Fault.{Fault}
-use Rattle.handles.specs.declared.fault.Fault.TheVariants as fault
-use Rattle.handles.specs.declared.fields.CAnswer.{CAnswer}
+use Rattle.values.specs.declared.fault.Fault.{Fault}
+use Rattle.values.specs.declared.fault.Fault.TheVariants as fault
+use Rattle.values.specs.declared.fields.CAnswer.{CAnswer}
 use Rattle.handles.specs.declared.lone.LoneNode.{LoneNode}
 use Rattle.spaces.specs.Cells.{CellActs}
 use Rattle.spaces.specs.declared.seated.SeatedCell.{SeatedCell}

@@ -2,11 +2,10 @@
 ghost use Rattle.model.specs.declared.event.Event.TheVariants as event;
 ghost use Rattle.markring_c.specs.Calls.{CellCalled};
 
-use crate::written::answered;
-use handles::CAnswer;
 use model::Event;
 use spaces::CellHandle;
 use std::alloc::Global;
+use values::{CAnswer, answered};
 
 /// Makes a new object with this many empty places, and puts its reference into the register.
 #[unsafe(no_mangle)]

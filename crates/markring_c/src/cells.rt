@@ -1,17 +1,16 @@
 //! Cells, except for the events of their nodes one by one.
 ghost use Rattle.std.specs.Prelude.{◌≡◌, Ok};
 ghost use Rattle.node.specs.Summaries.{summary_of};
-ghost use Rattle.handles.specs.Faults.{Freed, Through, read, status, written};
-ghost use Rattle.handles.specs.Fields.{bit, event_of, reference_fields, state_fields};
+ghost use Rattle.values.specs.Faults.{Freed, Through, read, status, written};
+ghost use Rattle.values.specs.Fields.{bit, event_of, reference_fields, state_fields};
 ghost use Rattle.handles.specs.Reads.{link_of, register_of};
 ghost use Rattle.spaces.specs.Cells.{HandleImaged, Raised, Received, Reopened, Saved, Sent};
 ghost use Rattle.spaces.specs.Cells.{SizedSame};
 ghost use Rattle.markring_c.specs.Calls.{Answered, CellActed, Finished, Flagged, Numbered};
 
-use crate::written::{answered, status, written};
-use handles::{CAnswer, CEvent, CLink, CRef, CState, Fault, OK};
 use spaces::CellHandle;
 use std::alloc::Global;
+use values::{CAnswer, CEvent, CLink, CRef, CState, Fault, OK, answered, flagged, status, written};
 
 /// Frees the cell.
 #[unsafe(no_mangle)]
@@ -62,13 +61,7 @@ pub extern "C" fn markring_cell_send(
 ) -> i32
     ensures { Flagged (Through (Sent to) cell.old.held cell.new.held) result sent.old sent.new }
 {
-    match cell.send(alloc, to) {
-        Ok(it) => {
-            *sent = u8::from(it);
-            OK
-        }
-        Err(fault) => fault.status(),
-    }
+    flagged(cell.send(alloc, to), sent)
 }
 
 /// The number of bytes of the image of the cell's node.
@@ -191,11 +184,5 @@ pub extern "C" fn markring_cell_unsaved(alloc: Global, cell: &mut CellHandle, fl
     ensures value { flag.new
         ≡ written bit (read (λ c. Ok c.cell.unsaved) cell.old.held) flag.old }
 {
-    match cell.is_unsaved(alloc) {
-        Ok(it) => {
-            *flag = u8::from(it);
-            OK
-        }
-        Err(fault) => fault.status(),
-    }
+    flagged(cell.is_unsaved(alloc), flag)
 }

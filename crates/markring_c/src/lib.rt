@@ -10,4 +10,3 @@ mod cells;
 mod node_events;
 mod nodes;
 mod space;
-mod written;

@@ -2,10 +2,10 @@
 ghost use Rattle.model.specs.declared.event.Event.TheVariants as event;
 ghost use Rattle.markring_c.specs.Calls.{NodeCalled};
 
-use crate::written::answered;
-use handles::{CAnswer, NodeHandle};
+use handles::NodeHandle;
 use model::Event;
 use std::alloc::Global;
+use values::{CAnswer, answered};
 
 /// Makes a new object with this many empty places, and puts its reference into the register.
 #[unsafe(no_mangle)]

@@ -1,19 +1,19 @@
 //! Nodes, except for their events one by one.
 ghost use Rattle.std.specs.Prelude.{◌≡◌, Ok};
 ghost use Rattle.node.specs.Summaries.{summary_of};
-ghost use Rattle.handles.specs.Faults.{read, status, written};
-ghost use Rattle.handles.specs.Fields.{bit, event_of, reference_fields, state_fields};
+ghost use Rattle.values.specs.Faults.{read, status, written};
+ghost use Rattle.values.specs.Fields.{bit, event_of, reference_fields, state_fields};
 ghost use Rattle.handles.specs.Lone.{Made, Read, TookIn};
-ghost use Rattle.handles.specs.Bytes.{WroteIf};
-ghost use Rattle.handles.specs.Faults.{Filled, Freed, Through};
+ghost use Rattle.values.specs.Bytes.{WroteIf};
+ghost use Rattle.values.specs.Faults.{Filled, Freed, Through};
 ghost use Rattle.handles.specs.Frames.{HandlePacks, ack_bytes, frame_bytes};
 ghost use Rattle.handles.specs.Images.{HandleImaged, Kept, Released, SizedSame};
 ghost use Rattle.handles.specs.Reads.{link_of, register_of, waiting_number};
 ghost use Rattle.markring_c.specs.Calls.{Answered, Finished, Finishes, NodeActed, Numbered};
 
-use crate::written::{answered, status, written};
-use handles::{CAnswer, CEvent, CLink, CRef, CState, Fault, NodeHandle, OK};
+use handles::NodeHandle;
 use std::alloc::Global;
+use values::{CAnswer, CEvent, CLink, CRef, CState, Fault, OK, answered, flagged, status, written};
 
 /// Makes a new node.
 #[unsafe(no_mangle)]
@@ -154,13 +154,7 @@ pub extern "C" fn markring_node_unsaved(alloc: Global, node: &mut NodeHandle, fl
     ensures value { flag.new
         ≡ written bit (read (λ n. Ok n.is_unsaved) node.old.held) flag.old }
 {
-    match node.is_unsaved(alloc) {
-        Ok(it) => {
-            *flag = u8::from(it);
-            OK
-        }
-        Err(fault) => fault.status(),
-    }
+    flagged(node.is_unsaved(alloc), flag)
 }
 
 /// The number of the message that waits from another node.

@@ -1,13 +1,12 @@
 //! Spaces and watches.
-ghost use Rattle.handles.specs.Faults.{Filled, Freed, Through};
+ghost use Rattle.values.specs.Faults.{Filled, Freed, Through};
 ghost use Rattle.spaces.specs.Spaces.{Given, Made, Moved, Opens, TakesCell, TakesWatch};
 ghost use Rattle.spaces.specs.Watches.{Looks};
 ghost use Rattle.markring_c.specs.Calls.{Finished, Finishes, Numbered, OpenedOr};
 
-use crate::written::{status, written};
-use handles::{Fault, OK};
 use spaces::{CellHandle, SpaceHandle, WatchHandle};
 use std::alloc::Global;
+use values::{Fault, OK, status, written};
 
 /// Makes a space that isn't open yet.
 #[unsafe(no_mangle)]

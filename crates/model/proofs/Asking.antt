@@ -197,11 +197,3 @@ reports-new own nodes = record {
   first = get_or-replicate_any nodes 0 0;
   others = λ _ i. get_or-replicate_any nodes i 0;
 }
-
--- node 0 gets a report from another node
-pub reports-heard : (own : ℕ) (reports : List ℕ) (from cycle : ℕ) → own ≡ 0 → from ≢ 0
-    → AreReports own reports → AreReports own (set reports from cycle)
-reports-heard own reports from cycle first other old = record {
-  first = get_or-set_other reports from 0 cycle 0 (λ e. other (sym e)) ∙ old.first;
-  others = λ never. absurd (never first);
-}

@@ -1,18 +1,14 @@
--- The state of a node after it joined a cycle, for the tests of a message that makes it join.
-use Rattle.std.proofs.Common.{◌≡◌, ℕ, Bool, true, false, cond, not, ◌==◌, ◌&&◌, List, [], ◌∷◌, ◌++◌, length, Option, is_none, eq-eqb, refl, ap, sym, ◌∙◌, ⊎_elim}
+-- The state of a node after it joined a cycle.
+use Rattle.std.proofs.Common.{◌≡◌, ℕ, Bool, true, false, cond, ◌==◌, List, [], ◌∷◌, ◌++◌, length, refl, ap, sym, ◌∙◌, ⊎_elim}
 use Rattle.std.proofs.lemmas.Bool.{cases_Bool, cond-true, cond-false}
 use Rattle.std.proofs.Math.Bool.{and-true, and-false}
 use Rattle.std.proofs.Math.Dec.{eqb-suc-zero}
 use Rattle.ids.specs.declared.names.Ref.{Ref}
-use Rattle.msg.specs.declared.body.Body.{Body}
-use Rattle.msg.specs.declared.body.Body.TheVariants as body
-use Rattle.msg.specs.declared.body.Token.{Token}
-use Rattle.model.specs.State.{Heap, Phases, LocalState}
+use Rattle.model.specs.State.{Heap, LocalState}
 use Rattle.model.specs.Heaps.{object_at, with_rewritten}
 use Rattle.model.specs.Effects.{Work}
-use Rattle.model.specs.Shading.{is_unmarked, with_mark, wakes, make_grey, make_all_grey, filled, roots, enter, join, is_calm, stays_calm}
-use Rattle.model.specs.Steps.{is_marking, may_settle}
-use Rattle.model.proofs.ShadingParts.{shaded_work, shade_all-open}
+use Rattle.model.specs.Shading.{is_unmarked, with_mark, wakes, make_grey, make_all_grey, filled, roots, enter, join, is_calm, stays_calm, seen, see_to}
+use Rattle.model.proofs.Shading.{see_to-open}
 
 -- ---- whether anything turns grey
 
@@ -28,9 +24,6 @@ calm-none h calm = none_from_length h.grey calm
     none_from_length (k ∷ grey) empty =
         absurd
         (let never : ◌≡◌ {A = Bool} true false = sym empty ∙ eqb-suc-zero (length grey) in cc)
-
-pub none-calm : (h : Heap) → h.grey ≡ [] → is_calm h ≡ true
-none-calm h none = ap (λ (z : List ℕ). length z == 0) none
 
 -- an unmarked object turns grey; otherwise nothing changes
 make-grey : (cycle : ℕ) (h : Heap) (r : Ref) → is_unmarked cycle (object_at h r) ≡ true
@@ -99,70 +92,26 @@ all-calm own cycle h (r ∷ rs) =
 
 -- ---- the node that has joined
 
--- its marking hasn't ended
-join-built : (p : LocalState) (cycle : ℕ) → (p.phases.ended == cycle) ≡ false
-    → join p cycle ≡ shaded_work (enter p cycle) [] (filled (roots p.heap))
-unfolding join enter
-join-built p cycle before =
-    shade_all-open (enter p cycle) [] (filled (roots p.heap)) (rw before refl)
-
-pub join-phases : (p : LocalState) (cycle : ℕ) → (p.phases.ended == cycle) ≡ false
+pub join-phases : (p : LocalState) (cycle : ℕ)
     → (join p cycle).local.phases ≡ record p.phases { cycle = cycle; cursor = 0 }
-unfolding enter
-join-phases p cycle before = ap (λ (w : Work). w.local.phases) (join-built p cycle before)
+unfolding join enter see_to
+join-phases p cycle = refl
 
-pub join-token : (p : LocalState) (cycle : ℕ) → (p.phases.ended == cycle) ≡ false
-    → (join p cycle).local.ring.token ≡ p.ring.token
-unfolding enter
-join-token p cycle before = ap (λ (w : Work). w.local.ring.token) (join-built p cycle before)
+pub join-token : (p : LocalState) (cycle : ℕ) → (join p cycle).local.ring.token ≡ p.ring.token
+unfolding join enter see_to
+join-token p cycle = refl
+
+-- if its marking hasn't ended, it shades its roots
+pub join-open : (p : LocalState) (cycle : ℕ) → (p.phases.ended == cycle) ≡ false
+    → join p cycle ≡ seen true (filled (roots p.heap)) (enter p cycle)
+unfolding join enter
+join-open p cycle before =
+    see_to-open true (filled (roots p.heap)) (enter p cycle) (rw before refl)
 
 -- it has grey objects if it had some, or if its program holds a reference to an unmarked one
 pub join-calm : (p : LocalState) (cycle : ℕ) → (p.phases.ended == cycle) ≡ false
     → is_calm (join p cycle).local.heap ≡ stays_calm p.own cycle p.heap (filled (roots p.heap))
 unfolding enter
 join-calm p cycle before =
-    ap (λ (w : Work). is_calm w.local.heap) (join-built p cycle before)
+    ap (λ (w : Work). is_calm w.local.heap) (join-open p cycle before)
     ∙ all-calm p.own cycle p.heap (filled (roots p.heap))
-
--- ---- the tests of a message that makes the node join
-
--- these tests, in terms of the node before it joined
-abbrev pub settles_joining : LocalState → ℕ → Body → Bool
-settles_joining p cycle (body.Token token) = is_none p.ring.token
-settles_joining p cycle body.Ended =
-    stays_calm p.own cycle p.heap (filled (roots p.heap)) && is_none p.ring.token
-settles_joining p cycle b = true
-
-join-marking : (p : LocalState) (cycle : ℕ) → (p.phases.ended == cycle) ≡ false
-    → is_marking (join p cycle).local cycle ≡ true
-join-marking p cycle before =
-    ap (λ (z : Phases). (cycle == z.cycle) && not (z.ended == z.cycle)) (join-phases p cycle before)
-    ∙ rw (eq-eqb cycle cycle refl, before) refl
-
-join-swept : (p : LocalState) (cycle : ℕ) → (p.phases.ended == cycle) ≡ false
-    → (cycle == (join p cycle).local.phases.cycle) ≡ true
-join-swept p cycle before =
-    ap (λ (z : Phases). cycle == z.cycle) (join-phases p cycle before) ∙ eq-eqb cycle cycle refl
-
-pub settles-joined : (p : LocalState) (cycle : ℕ) (b : Body) → (p.phases.ended == cycle) ≡ false
-    → may_settle (join p cycle).local cycle b ≡ settles_joining p cycle b
-settles-joined p cycle (body.Token token) before =
-    ap (λ (z : Bool). z && is_none (join p cycle).local.ring.token) (join-marking p cycle before)
-    ∙ ap (λ (z : Option Token). is_none z) (join-token p cycle before)
-settles-joined p cycle body.Ended before =
-    ap
-    (λ (z : Bool).
-    z && (is_calm (join p cycle).local.heap && is_none (join p cycle).local.ring.token))
-    (join-marking p cycle before)
-    ∙ ap
-    (λ (z : Bool). z && is_none (join p cycle).local.ring.token)
-    (join-calm p cycle before)
-    ∙ ap
-    (λ (z : Option Token). stays_calm p.own cycle p.heap (filled (roots p.heap)) && is_none z)
-    (join-token p cycle before)
-settles-joined p cycle body.Swept before = join-swept p cycle before
-settles-joined p cycle body.Begin before = refl
-settles-joined p cycle (body.Mark target) before = refl
-settles-joined p cycle (body.Give label reference) before = refl
-settles-joined p cycle (body.Put target place reference) before = refl
-settles-joined p cycle (body.Get target place label) before = refl

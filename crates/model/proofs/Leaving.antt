@@ -1,14 +1,12 @@
--- What no event changes on the node as the code keeps it, and how an event changes the numbers
--- received. Both are proved once, from the effect of the event.
-use Rattle.std.proofs.Common.{◌≡◌, ℕ, ◌+◌, ◌<◌, ◌≤◌, ◌==◌, Bool, true, List, [], ◌∷◌, ◌++◌, map, get_or, set, Option, Some, None, option_to_list, Result, Ok, Err, refl, ap, sym, ◌∙◌, subst, ⊎_elim, arith}
-use Rattle.std.specs.Prelude.{nat_lt}
-use Rattle.std.proofs.lemmas.Bool.{cases_Bool, cond_both, leb-true, leb-false, ltb-true, ltb-false}
-use Rattle.ids.specs.declared.names.Ref.{Ref}
+-- What no event changes: the node's number and the shape of its space, and on the node as the code
+-- keeps it what `Leaves` names. The numbers received change only when a message is received. All is
+-- proved once, from the effect of the event.
+use Rattle.std.proofs.Common.{◌≡◌, ℕ, ◌+◌, ◌<◌, ◌≤◌, Bool, true, List, [], ◌∷◌, ◌++◌, map, get_or, set, Option, Some, None, Result, Ok, Err, refl, ap, sym, ◌∙◌, arith}
+use Rattle.std.proofs.lemmas.Bool.{cond_both, leb-true, leb-false, ltb-true, ltb-false}
 use Rattle.ids.specs.declared.limits.TheConstants.{WINDOW}
 use Rattle.ids.specs.declared.refusal.Refusal.{Refusal}
 use Rattle.ids.specs.declared.refusal.Refusal.TheVariants.{LinkSpent}
 use Rattle.msg.specs.declared.body.Body.{Body}
-use Rattle.msg.specs.declared.body.Body.TheVariants as body
 use Rattle.msg.specs.declared.body.Message.{Message}
 use Rattle.msg.specs.declared.frame.Ack.{Ack}
 use Rattle.msg.specs.declared.frame.Data.{Data}
@@ -17,37 +15,29 @@ use Rattle.model.specs.declared.event.Event.TheVariants as event
 use Rattle.model.specs.declared.event.Answer.{Answer}
 use Rattle.model.specs.declared.event.Answer.TheVariants as answer
 use Rattle.model.specs.Checks.{AllPass}
-use Rattle.model.specs.State.{LocalState, slot_at, got_from}
-use Rattle.model.specs.Heaps.{object_at, place_of, place_loaded}
-use Rattle.model.specs.Effects.{Work, at_rest, Effect, answers, unchanged}
+use Rattle.model.specs.State.{LocalState, got_from}
+use Rattle.model.specs.Effects.{Effect, unchanged}
 use Rattle.model.specs.Counting.{append, announce}
-use Rattle.model.specs.Shading.{is_open, shade_all, vouch_all, filled, roots, enter, join, joined, last_grey, without_last_grey}
-use Rattle.model.specs.Collecting.{without_token, is_concluded, probe, begun, places_in, scan, scanned, conclude, judged, handed_on, passed, swept_slots}
-use Rattle.model.specs.Steps.{tests, made, fits, ack_of, is_addressed, is_shading, is_repeat, is_early, receipt, carried, taken_in, settled, take_carried, allocated, copied, dropped, loaded, stored, cleared, word_read, word_set, given, accepted, put_asked, get_asked, count_in, take_body}
+use Rattle.model.specs.Shading.{enter, see_to}
+use Rattle.model.specs.Steps.{is_own, tests, made, fits, ack_of, is_addressed, is_shading, is_repeat, is_early, receipt, taken_in, settled, count_in}
 use Rattle.model.specs.View.{Link, NodeView, Performed, Leaves, no_link, used, appended, append_to, ack_tests, let_go, view_act, base_of, kept_of}
 use Rattle.model.proofs.Checks.{guarded-ok, guarded-passes, passed-parts}
 use Rattle.model.proofs.Lookups.{map-set_same}
-use Rattle.model.proofs.ShadingParts.{shade_all-closed, shade_all-open, vouch_all-closed, vouch_all-open}
 use Rattle.model.proofs.Shown.{view-ok}
+use Rattle.model.proofs.Walk.{Walks, own-walks, taken-walks}
 
 -- the same shape, node number and numbers received
-record StandsAs (p q : LocalState) : Type 0 where
-  shape : q.shape ≡ p.shape
-  own : q.own ≡ p.own
-  got : q.got ≡ p.got
+pub record Stands (p q : LocalState) : Type 0 where
+  pub shape : q.shape ≡ p.shape
+  pub own : q.own ≡ p.own
+  pub got : q.got ≡ p.got
 
-same-stands : (p : LocalState) → StandsAs p p
-same-stands p = record { shape = refl; own = refl; got = refl }
-
-stands-through : {p q r : LocalState} → StandsAs p q → StandsAs q r → StandsAs p r
-stands-through first second = record {
-  shape = second.shape ∙ first.shape;
-  own = second.own ∙ first.own;
-  got = second.got ∙ first.got;
-}
+pub stands-through : {p q r : LocalState} → Stands p q → Stands q r → Stands p r
+stands-through f g =
+    record { shape = g.shape ∙ f.shape; own = g.own ∙ f.own; got = g.got ∙ f.got }
 
 -- the node, with a message counted as received
-abbrev counted_in : LocalState → ℕ → ℕ → LocalState
+abbrev pub counted_in : LocalState → ℕ → ℕ → LocalState
 counted_in p from number = record p { got = set p.got from number }
 
 -- the numbers received after an event: a received message is the last one from its sender
@@ -55,157 +45,66 @@ abbrev pub got_after : List ℕ → Event → Result Answer Refusal → List ℕ
 got_after got (event.Data d) (Ok answer.Received) = set got d.from d.number
 got_after got e r = got
 
-shaded-stands : (w : Work) (rs : List Ref) → StandsAs w.local (shade_all w rs).local
-shaded-stands w rs =
-    ⊎_elim {C = StandsAs w.local (shade_all w rs).local}
-    (λ opened.
-    subst
-    (λ (x : Work). StandsAs w.local x.local)
-    (sym (shade_all-open w.local w.sends rs opened))
-    (record { shape = refl; own = refl; got = refl }))
-    (λ shut.
-    subst
-    (λ (x : Work). StandsAs w.local x.local)
-    (sym (shade_all-closed w rs shut))
-    (same-stands w.local))
-    (cases_Bool (is_open w.local))
+stays : {p q : LocalState} → q.shape ≡ p.shape → q.own ≡ p.own → q.got ≡ p.got → Stands p q
+stays shape own got = record { shape = shape; own = own; got = got }
 
-vouched-stands : (w : Work) (rs : List Ref) → StandsAs w.local (vouch_all w rs).local
-vouched-stands w rs =
-    ⊎_elim {C = StandsAs w.local (vouch_all w rs).local}
-    (λ opened.
-    subst
-    (λ (x : Work). StandsAs w.local x.local)
-    (sym (vouch_all-open w.local w.sends rs opened))
-    (record { shape = refl; own = refl; got = refl }))
-    (λ shut.
-    subst
-    (λ (x : Work). StandsAs w.local x.local)
-    (sym (vouch_all-closed w rs shut))
-    (same-stands w.local))
-    (cases_Bool (is_open w.local))
+pub stands-walks : Walks (λ _. Unit {0}) (λ p w. Stands p w.local)
+unfolding see_to enter append announce
+stands-walks = record {
+  collects = record {
+    rest = λ p. stays refl refl refl;
+    both = λ p w f first second. stands-through first second;
+    sees = λ due rs p. stays refl refl refl;
+    enters = λ p cycle later. stays refl refl refl;
+    rings = λ p r. stays refl refl refl;
+    ends = λ p. stays refl refl refl;
+    hears = λ p reports. stays refl refl refl;
+    scans = λ p. stays refl refl refl;
+    sends = λ to b p quiet. stays refl refl refl;
+    tells = λ b p quiet. stays refl refl refl;
+  };
+  roots = λ p registers letters. stays refl refl refl;
+  rewrites = λ p r f. stays refl refl refl;
+  makes = λ p register places ready. stays refl refl refl;
+  gives = λ to b p. stays refl refl refl;
+  sweeps = λ p count. stays refl refl refl;
+}
 
-join-stands : (p : LocalState) (cycle : ℕ) → StandsAs p (join p cycle).local
-unfolding join enter
-join-stands p cycle =
-    stands-through
-    (record { shape = refl; own = refl; got = refl })
-    (shaded-stands (at_rest (enter p cycle)) (filled (roots p.heap)))
+pub own-stands : (p : LocalState) (counts : List ℕ) (e : Event) → is_own e ≡ true
+    → Stands p (made p counts e).local
+own-stands p counts e own = own-walks stands-walks p counts e own tt
 
-joined-stands : (p : LocalState) (stamp : ℕ) → StandsAs p (joined p stamp).local
-joined-stands p stamp =
-    cond_both (nat_lt p.phases.cycle stamp) (join p stamp) (at_rest p)
-    (λ (x : Work). StandsAs p x.local)
-    (λ _. join-stands p stamp)
-    (λ _. same-stands p)
-
-carried-stands : (stamp : ℕ) (b : Body) (p : LocalState) → StandsAs p (take_carried stamp b p).local
-carried-stands stamp b p =
-    cond_both (nat_lt stamp p.phases.cycle)
-    (shade_all (at_rest p) (carried b))
-    (vouch_all (at_rest p) (carried b))
-    (λ (x : Work). StandsAs p x.local)
-    (λ _. shaded-stands (at_rest p) (carried b))
-    (λ _. vouched-stands (at_rest p) (carried b))
-
-body-stands : (from stamp : ℕ) (b : Body) (p : LocalState)
-    → StandsAs p (take_body from stamp b p).local
-unfolding take_body append
-body-stands from stamp body.Begin p = same-stands p
-body-stands from stamp (body.Token token) p = record { shape = refl; own = refl; got = refl }
-body-stands from stamp (body.Mark target) p = shaded-stands (at_rest p) (target ∷ [])
-body-stands from stamp (body.Give label reference) p = record { shape = refl; own = refl; got = refl }
-body-stands from stamp (body.Put target place reference) p = record { shape = refl; own = refl; got = refl }
-body-stands from stamp (body.Get target place label) p =
-    stands-through
-    (shaded-stands (at_rest p) (option_to_list (place_of (object_at p.heap target) place)))
-    (record { shape = refl; own = refl; got = refl })
-body-stands from stamp body.Ended p = record { shape = refl; own = refl; got = refl }
-body-stands from stamp body.Swept p = record { shape = refl; own = refl; got = refl }
-
-settled-stands : (from number stamp : ℕ) (b : Body) (p : LocalState)
-    → StandsAs (counted_in p from number) (settled from number stamp b p).local
-unfolding settled count_in
-settled-stands from number stamp b p =
-    stands-through
-    (stands-through
-    (record { shape = refl; own = refl; got = refl })
-    (carried-stands stamp b (count_in from number stamp b p)))
-    (body-stands from stamp b (take_carried stamp b (count_in from number stamp b p)).local)
-
-taken-stands : (p : LocalState) (from number stamp : ℕ) (b : Body)
-    → StandsAs (counted_in p from number) (taken_in p from number stamp b).local
-unfolding taken_in
+pub taken-stands : (p : LocalState) (from number stamp : ℕ) (b : Body)
+    → Stands (counted_in p from number) (taken_in p from number stamp b).local
+unfolding taken_in settled count_in
 taken-stands p from number stamp b =
-    let joins = joined-stands p stamp in
-    stands-through
-    (record {
-      shape = joins.shape;
-      own = joins.own;
-      got = ap (λ (z : List ℕ). set z from number) joins.got;
-    })
-    (settled-stands from number stamp b (joined p stamp).local)
-
-passed-stands : (p : LocalState) → StandsAs p (passed p).local
-unfolding passed append announce probe conclude
-passed-stands p =
-    cond_both (p.own == 0) (judged p) (handed_on p)
-    (λ (x : Effect). StandsAs p x.local)
-    (λ _.
-    cond_both (is_concluded p.ring)
-    (answers (conclude p) (answer.Ended p.phases.cycle))
-    (answers (probe (record p { ring = without_token p.ring })) answer.ProbeAgain)
-    (λ (x : Effect). StandsAs p x.local)
-    (λ _. record { shape = refl; own = refl; got = refl })
-    (λ _. record { shape = refl; own = refl; got = refl }))
-    (λ _. record { shape = refl; own = refl; got = refl })
+    let before = taken-walks stands-walks p from stamp b in
+    record {
+      shape = before.shape;
+      own = before.own;
+      got = ap (λ (z : List ℕ). set z from number) before.got;
+    }
 
 abbrev StandsTaken : LocalState → Data → Effect → Type 0
 StandsTaken p d x =
-    StandsAs (record p { got = got_after p.got (event.Data d) (Ok x.answer) }) x.local
+    Stands (record p { got = got_after p.got (event.Data d) (Ok x.answer) }) x.local
 
 made-stands : (p : LocalState) (counts : List ℕ) (e : Event)
-    → StandsAs (record p { got = got_after p.got e (Ok (made p counts e).answer) })
+    → Stands (record p { got = got_after p.got e (Ok (made p counts e).answer) })
     (made p counts e).local
-unfolding append announce allocated copied dropped loaded stored cleared word_read word_set given
-    accepted put_asked get_asked begun probe scanned scan swept_slots taken_in
-made-stands p counts (event.Alloc register places) = record { shape = refl; own = refl; got = refl }
-made-stands p counts (event.Copy register source) = record { shape = refl; own = refl; got = refl }
-made-stands p counts (event.Drop register) = record { shape = refl; own = refl; got = refl }
-made-stands p counts (event.Load register object place) =
-    stands-through
-    (shaded-stands (at_rest p) (option_to_list (place_loaded p.heap object place)))
-    (record { shape = refl; own = refl; got = refl })
-made-stands p counts (event.Store object place register) = record { shape = refl; own = refl; got = refl }
-made-stands p counts (event.Clear object place) = record { shape = refl; own = refl; got = refl }
-made-stands p counts (event.Word object) = record { shape = refl; own = refl; got = refl }
-made-stands p counts (event.SetWord object word) = record { shape = refl; own = refl; got = refl }
-made-stands p counts (event.Give to label register) = record { shape = refl; own = refl; got = refl }
-made-stands p counts (event.Accept register) = record { shape = refl; own = refl; got = refl }
-made-stands p counts (event.Put object place register) = record { shape = refl; own = refl; got = refl }
-made-stands p counts (event.Get object place label) = record { shape = refl; own = refl; got = refl }
-made-stands p counts event.Begin =
-    stands-through (join-stands p (p.phases.cycle + 1)) (record { shape = refl; own = refl; got = refl })
-made-stands p counts event.Scan =
-    stands-through
-    (record { shape = refl; own = refl; got = refl })
-    (shaded-stands
-    (at_rest (record p { heap = without_last_grey p.heap }))
-    (filled (places_in (slot_at p.heap (last_grey p.heap)))))
-made-stands p counts event.Pass = passed-stands p
-made-stands p counts (event.Sweep count) = record { shape = refl; own = refl; got = refl }
-made-stands p counts (event.Next from) = same-stands p
+unfolding taken_in
 made-stands p counts (event.Data d) =
     cond_both (is_repeat p d.from d.number) (unchanged p answer.Repeat) _
     (StandsTaken p d)
-    (λ _. same-stands p)
+    (λ _. record { shape = refl; own = refl; got = refl })
     (λ _.
     cond_both (is_early p d.from d.number) (unchanged p answer.Early)
     (taken_in p d.from d.number d.stamp d.body)
     (StandsTaken p d)
-    (λ _. same-stands p)
+    (λ _. record { shape = refl; own = refl; got = refl })
     (λ _. taken-stands p d.from d.number d.stamp d.body))
 made-stands p counts (event.Ack a) = record { shape = refl; own = refl; got = refl }
+made-stands p counts e = own-stands p counts e refl
 
 -- what appending a message doesn't change
 appended-keeps : (f : Link → ℕ) → ((l : Link) (x : Message) → f (appended l x) ≡ f l)

@@ -2,11 +2,13 @@ pub mod Checks
 pub mod Lookups
 pub mod IdleWrites
 pub mod Balances
-pub mod ShadingParts
+pub mod Shading
 pub mod Appending
 pub mod Joining
 pub mod Shown
 pub mod NewNodes
+pub mod Refusals
+pub mod Walk
 pub mod Leaving
 pub mod References
 pub mod Slots

@@ -14,7 +14,7 @@ use Rattle.model.specs.Shading.{is_unmarked, with_mark, make_grey, make_all_grey
 use Rattle.model.specs.Collecting.{is_garbage, generation_in, places_in, vacated_slot, vacated, Sweeping, sweep_one, sweep_some}
 use Rattle.model.specs.References.{IfAny, HoldsOnly}
 use Rattle.model.proofs.Lookups.{at_set, at_push}
-use Rattle.model.proofs.ShadingParts.{filled-append}
+use Rattle.model.proofs.Shading.{filled-append}
 
 pub holds-with_register : (P : Ref → Type 0) (h : Heap) (k : ℕ) (r : Option Ref) → HoldsOnly P h
     → IfAny P r → HoldsOnly P (with_register h k r)
@@ -140,19 +140,6 @@ holds-letter_gone P h all = record {
       (all.letters (1 + k));
   places = all.places;
 }
-
--- if P implies Q, and all references have P, then all have Q
-pub holds-map : (P Q : Ref → Type 0) → ((r : Ref) → P r → Q r) → (h : Heap) → HoldsOnly P h
-    → HoldsOnly Q h
-holds-map P Q each h all = record {
-  registers = λ k. any-map _ (all.registers k);
-  letters = λ k. any-map _ (all.letters k);
-  places = λ k g o j there. any-map _ (all.places k g o j there);
-}
-  where
-    any-map : (v : Option Ref) → IfAny P v → IfAny Q v
-    any-map None h = tt
-    any-map (Some r) h = each r h
 
 -- an optional reference as a list
 pub any-list : (P : Ref → Type 0) (v : Option Ref) → IfAny P v → AllByRecursion P (option_to_list v)

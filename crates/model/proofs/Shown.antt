@@ -48,7 +48,7 @@ shows_sends links sent (m ∷ ms) h =
           (shows_appended _ _ _ (h.each m.0)) h.each;
     })
 
-used_is : (l : Link) (sent : List Message) → ShowsSent l sent → used l ≡ length sent
+pub used_is : (l : Link) (sent : List Message) → ShowsSent l sent → used l ≡ length sent
 used_is l sent h = omega (arith, ap length h.unacknowledged, length-drop l.base sent, h.within)
 
 counts_agree : (n : NodeView) (s : NodeState) → Shows n s → map used n.links ≡ map length s.sent

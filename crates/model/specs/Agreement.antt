@@ -16,18 +16,26 @@ abbrev pub total : ℕ → (ℕ → ℤ) → ℤ
 total zero f = pos 0
 total (suc n) f = total n f +ℤ f n
 
+-- the weights of a list of messages, added
+abbrev pub weighed : (Message → ℕ) → List Message → ℕ
+weighed g [] = 0
+weighed g (x ∷ xs) = g x + weighed g xs
+
 -- how many messages of a list pass a test
 abbrev pub number_of : (Message → Bool) → List Message → ℕ
-number_of f [] = 0
-number_of f (x ∷ xs) = cond (f x) 1 0 + number_of f xs
+number_of f xs = weighed (λ x. cond (f x) 1 0) xs
 
 -- the messages in flight on a link, the next one to be received first
 abbrev pub in_flight : Cut → ℕ → ℕ → List Message
 in_flight c from to = drop (taken c from to) (sent_to (c from) to)
 
+-- the weights of the messages in flight between nodes below this number
+abbrev pub load : ℕ → (Message → ℕ) → Cut → ℤ
+load nodes g c = total nodes (λ from. total nodes (λ to. pos (weighed g (in_flight c from to))))
+
 -- how many messages that pass a test are in flight between nodes below this number
 abbrev pub flow : ℕ → (Message → Bool) → Cut → ℤ
-flow nodes f c = total nodes (λ from. total nodes (λ to. pos (number_of f (in_flight c from to))))
+flow nodes f c = load nodes (λ x. cond (f x) 1 0) c
 
 -- A cycle counts its own Marks, and the messages with references that were sent before it.
 abbrev pub counts : ℕ → ℕ → Body → Bool

@@ -1,5 +1,6 @@
--- A node's own steps of a collection cycle ("Cycles" in docs/RULES.md). The node begins the cycle,
--- scans grey objects, passes the token as in EWD998, and sweeps what isn't marked.
+-- A node's own steps of a collection cycle ("Cycles", "Scanning", "The ring" and "Sweeping" in
+-- docs/RULES.md). The node begins the cycle, scans grey objects, passes the token as in EWD998, and
+-- sweeps what isn't marked.
 use Rattle.std.specs.Prelude.{ℕ, zero, suc, min, ◌+◌, ◌-◌, ◌+ℤ◌, ◌%◌, pos, ℤ, Bool, true, false, cond, not, nat_lt, ◌==◌, ◌&&◌, List, [], ◌∷◌, length, drop, Option, None, is_some, slice_set}
 use Rattle.std.specs.Int.{w64, int_wrap}
 use Rattle.std.specs.List.{list_all}
@@ -15,9 +16,9 @@ use Rattle.msg.specs.declared.body.Colour.TheVariants.{White, Black}
 use Rattle.msg.specs.declared.body.Token.{Token}
 use Rattle.model.specs.declared.event.Answer.TheVariants as answer
 use Rattle.model.specs.State.{Slot, Free, Occupied, Retired, Heap, Phases, Ring, LocalState, slot_at}
-use Rattle.model.specs.Effects.{Work, at_rest, then, Effect, answers}
+use Rattle.model.specs.Effects.{Work, then, Effect, answers}
 use Rattle.model.specs.Counting.{stamped, append, announce}
-use Rattle.model.specs.Shading.{filled, shade_all, join, is_calm, last_grey, without_last_grey}
+use Rattle.model.specs.Shading.{filled, see_to, join, is_calm, last_grey, without_last_grey}
 
 -- ---- the ring
 
@@ -110,9 +111,8 @@ scanned_reference p =
 -- the last grey object leaves the list, and the references in its places are shaded in order
 unfoldable pub scan : LocalState → Work
 scan p =
-    shade_all
-    (at_rest (record p { heap = without_last_grey p.heap }))
-    (filled (places_in (slot_at p.heap (last_grey p.heap))))
+    see_to true (filled (places_in (slot_at p.heap (last_grey p.heap))))
+    (record p { heap = without_last_grey p.heap })
 
 unfoldable pub scanned : LocalState → Effect
 scanned p = answers (scan p) (answer.Scanned (scanned_reference p))

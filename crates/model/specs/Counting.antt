@@ -42,6 +42,10 @@ counted_down (Some Earlier) r = record r { colour = Black; earlier = r.earlier -
 counted_down (Some Recent) r = record r { recent = r.recent -ℤ pos 1 }
 counted_down None r = r
 
+-- this many Marks were sent
+abbrev pub counted_marks : ℕ → Ring → Ring
+counted_marks count r = record r { earlier = r.earlier +ℤ pos count }
+
 -- a message has its sender's cycle as its stamp
 abbrev pub stamped : LocalState → Body → Message
 stamped p b = record { stamp = p.phases.cycle; body = b }

@@ -128,11 +128,17 @@ with_rewritten h r f =
     record h { slots = slice_set h.slots r.slot (rewritten f r.generation (slot_at h r.slot)) }
 
 -- Writes a place of a live object. If there is no such place, nothing changes.
+abbrev pub placing : ℕ → Option Ref → Object → Object
+placing place v o = record o { places = slice_set o.places place v }
+
 abbrev pub with_place : Heap → Ref → ℕ → Option Ref → Heap
-with_place h r place v = with_rewritten h r (λ o. record o { places = slice_set o.places place v })
+with_place h r place v = with_rewritten h r (placing place v)
+
+abbrev pub wording : ℕ → Object → Object
+wording word o = record o { word = word }
 
 abbrev pub with_word : Heap → Ref → ℕ → Heap
-with_word h r word = with_rewritten h r (λ o. record o { word = word })
+with_word h r word = with_rewritten h r (wording word)
 
 -- the register names an object of this node, and the last test passes
 abbrev pub own_tests : ℕ → Heap → ℕ → Bool → List (Bool × Refusal)
@@ -228,11 +234,6 @@ heap_register h register = guarded (register_tests h register) (register_at h re
 unfoldable pub heap_copy : Heap → ℕ → ℕ → Result Heap Refusal
 heap_copy h register source =
     guarded (copy_tests h register source) (register_copied h register source)
-
-unfoldable pub heap_load : ℕ → Heap → ℕ → ℕ → ℕ → Result (Heap × Option Ref) Refusal
-heap_load own h register object place =
-    guarded (load_tests own h register object place)
-    (with_register h register (place_loaded h object place), place_loaded h object place)
 
 unfoldable pub heap_store : ℕ → Heap → ℕ → ℕ → ℕ → Result Heap Refusal
 heap_store own h object place register =

@@ -1,7 +1,7 @@
 -- Marking the objects that references name: the owner marks its own objects, and other nodes ask it
 -- by a message ("Shading and vouching" in docs/RULES.md). The colours are those of Dijkstra,
 -- Lamport, Martin, Scholten and Steffens.
-use Rattle.std.specs.Prelude.{ℕ, pos, ◌-◌, ◌+ℤ◌, Bool, false, cond, not, nat_lt, ◌==◌, ◌&&◌, ◌||◌, List, [], ◌∷◌, ◌++◌, length, take, map, Option, Some, None, option_to_list, slice_index_or}
+use Rattle.std.specs.Prelude.{ℕ, pos, ◌-◌, ◌+ℤ◌, Bool, true, false, cond, not, nat_lt, ◌==◌, ◌&&◌, ◌||◌, List, [], ◌∷◌, ◌++◌, length, take, map, Option, Some, None, option_to_list, slice_index_or}
 use Rattle.std.specs.List.{list_any}
 use Rattle.ids.specs.declared.names.Ref.{Ref}
 use Rattle.msg.specs.declared.body.Body.TheVariants as body
@@ -10,8 +10,8 @@ use Rattle.msg.specs.declared.body.Message.{Message}
 use Rattle.model.specs.declared.event.Letter.{Letter}
 use Rattle.model.specs.State.{Object, Heap, Ring, LocalState}
 use Rattle.model.specs.Heaps.{object_at, with_rewritten}
-use Rattle.model.specs.Effects.{Work, at_rest, then}
-use Rattle.model.specs.Counting.{append}
+use Rattle.model.specs.Effects.{Work, at_rest}
+use Rattle.model.specs.Counting.{counted_marks}
 
 abbrev pub is_same : Ref → Ref → Bool
 is_same a b = (a.node == b.node) && ((a.slot == b.slot) && (a.generation == b.generation))
@@ -44,41 +44,49 @@ make_grey cycle h r =
     (record (with_rewritten h r (with_mark cycle)) { grey = h.grey ++ r.slot ∷ [] })
     h
 
--- shades an object of the node
-abbrev pub shade_local : Work → Ref → Work
-shade_local w r =
-    record w { local = record w.local { heap = make_grey w.local.phases.cycle w.local.heap r } }
+-- the node's own objects among these turn grey
+abbrev pub make_all_grey : ℕ → ℕ → Heap → List Ref → Heap
+make_all_grey own cycle h [] = h
+make_all_grey own cycle h (r ∷ rs) =
+    make_all_grey own cycle (cond (r.node == own) (make_grey cycle h r) h) rs
 
--- the reference is appended to those asked for
-abbrev pub with_asked : Work → Ref → Work
-with_asked w r = record w { local = record w.local { asked = w.local.asked ++ r ∷ [] } }
-
--- The node meets a reference while it is marking. It marks an object of its own. For another node's
--- object that it hasn't asked for in this cycle, the result is the last argument. Otherwise nothing
--- changes.
-abbrev pub met : Work → Ref → Work → Work
-met w r new =
+-- the references to other nodes' objects that haven't been asked for, each once
+abbrev pub unasked : ℕ → List Ref → List Ref → List Ref
+unasked own asked [] = []
+unasked own asked (r ∷ rs) =
     cond
-    (is_open w.local)
-    (cond (r.node == w.local.own) (shade_local w r) (cond (is_in r w.local.asked) w new))
-    w
+    (r.node == own || is_in r asked)
+    (unasked own asked rs)
+    (r ∷ unasked own (asked ++ r ∷ []) rs)
 
--- the owner of another node's object is asked to mark it, once in a cycle
-unfoldable pub shade : Work → Ref → Work
-shade w r = met w r (then (with_asked w r) (append r.node (body.Mark r)))
+abbrev pub mark_for : ℕ → Ref → ℕ × Message
+mark_for cycle r = (r.node, record { stamp = cycle; body = body.Mark r })
 
-abbrev pub shade_all : Work → List Ref → Work
-shade_all w [] = w
-shade_all w (r ∷ rs) = shade_all (shade w r) rs
+abbrev pub marks_for : ℕ → List Ref → List (ℕ × Message)
+marks_for cycle rs = map (mark_for cycle) rs
 
--- A reference that came with a message of the node's own cycle. The sender has seen to the Mark, so
--- none is sent.
-unfoldable pub vouch : Work → Ref → Work
-vouch w r = met w r (with_asked w r)
+-- What a marking node does with references that it meets: its own objects turn grey, and what it
+-- didn't ask for before counts as asked for. If Marks are due, each of those is sent one.
+abbrev pub seen : Bool → List Ref → LocalState → Work
+seen due rs p =
+    let new : List Ref = unasked p.own p.asked rs in
+    let marked : List Ref = cond due new [] in
+    record {
+      local = record p {
+        heap = make_all_grey p.own p.phases.cycle p.heap rs;
+        asked = p.asked ++ new;
+        ring = counted_marks (length marked) p.ring;
+      };
+      sends = marks_for p.phases.cycle marked;
+    }
 
-abbrev pub vouch_all : Work → List Ref → Work
-vouch_all w [] = w
-vouch_all w (r ∷ rs) = vouch_all (vouch w r) rs
+-- A node sees to references. To shade them is to send the Marks, once for each object in a cycle.
+-- To vouch for them is not to send any: the node that they came from has seen to that. While the
+-- node isn't marking, it meets none.
+unfoldable pub see_to : Bool → List Ref → LocalState → Work
+see_to due rs p = seen due (cond (is_open p) rs []) p
+
+-- ---- joining ("Joining" in docs/RULES.md)
 
 -- the references that are present
 abbrev pub filled : List (Option Ref) → List Ref
@@ -107,11 +115,13 @@ enter p cycle =
 
 -- the node joins a cycle: its roots are shaded
 unfoldable pub join : LocalState → ℕ → Work
-join p cycle = shade_all (at_rest (enter p cycle)) (filled (roots p.heap))
+join p cycle = see_to true (filled (roots p.heap)) (enter p cycle)
 
 -- a node joins the cycle of a message, unless it is already in that cycle or past it
 abbrev pub joined : LocalState → ℕ → Work
 joined p stamp = cond (nat_lt p.phases.cycle stamp) (join p stamp) (at_rest p)
+
+-- ---- grey objects
 
 -- no object is grey
 abbrev pub is_calm : Heap → Bool
@@ -127,25 +137,3 @@ last_grey h = slice_index_or h.grey (length h.grey - 1) 0
 
 abbrev pub without_last_grey : Heap → Heap
 without_last_grey h = record h { grey = take (length h.grey - 1) h.grey }
-
--- ---- the same in parts: the heap after shading, the references asked for, and the Marks for these
-
-abbrev pub make_all_grey : ℕ → ℕ → Heap → List Ref → Heap
-make_all_grey own cycle h [] = h
-make_all_grey own cycle h (r ∷ rs) =
-    make_all_grey own cycle (cond (r.node == own) (make_grey cycle h r) h) rs
-
--- the references to other nodes' objects that haven't been asked for, each once
-abbrev pub unasked : ℕ → List Ref → List Ref → List Ref
-unasked own asked [] = []
-unasked own asked (r ∷ rs) =
-    cond
-    (r.node == own || is_in r asked)
-    (unasked own asked rs)
-    (r ∷ unasked own (asked ++ r ∷ []) rs)
-
-abbrev pub mark_for : ℕ → Ref → ℕ × Message
-mark_for cycle r = (r.node, record { stamp = cycle; body = body.Mark r })
-
-abbrev pub marks_for : ℕ → List Ref → List (ℕ × Message)
-marks_for cycle rs = map (mark_for cycle) rs

@@ -15,86 +15,16 @@ use Rattle.model.specs.declared.event.Event.TheVariants as event
 use Rattle.model.specs.declared.event.Answer.{Answer}
 use Rattle.model.specs.declared.event.Answer.TheVariants as answer
 use Rattle.model.specs.Checks.{guarded}
-use Rattle.model.specs.State.{LocalState, NodeState, register_at, got_from}
-use Rattle.model.specs.Heaps.{with_register, with_place, with_word, new_reference, named, object_at, word_of, oldest_letter, with_letter, alloc_heap, register_copied, place_of, place_loaded, letter_taken, alloc_tests, copy_tests, drop_tests, load_tests, store_tests, clear_tests, word_tests, put_tests, get_tests, accept_tests, register_tests}
+use Rattle.model.specs.State.{LocalState, NodeState, register_at, got_from, Object, Heap}
+use Rattle.model.specs.Heaps.{with_register, with_place, new_reference, named, object_at, word_of, oldest_letter, with_letter, alloc_heap, place_of, place_loaded, letter_taken, alloc_tests, copy_tests, drop_tests, load_tests, store_tests, clear_tests, word_tests, put_tests, get_tests, accept_tests, register_tests, placing, wording, with_rewritten}
 use Rattle.model.specs.Effects.{Work, at_rest, then, Effect, answers, becomes, unchanged}
 use Rattle.model.specs.Counting.{balance_of, counted_down, append}
-use Rattle.model.specs.Shading.{is_open, is_calm, shade, shade_all, vouch_all, joined}
+use Rattle.model.specs.Shading.{is_open, is_calm, see_to, joined}
 use Rattle.model.specs.Collecting.{token_sender, begin_tests, begun, scan_tests, scanned, pass_tests, passed, sweep_tests, swept_slots, reports_sweep}
 
--- Appends a message to another node; the answer is the message's number. For each node, `counts`
--- says how many messages were appended so far.
-abbrev pub sends_one : LocalState → List ℕ → ℕ → Body → Effect
-sends_one p counts to b =
-    answers (append to b p) (answer.Sent (slice_index_or counts to 0 + 1))
+-- ---- receiving ("Receiving" in docs/RULES.md)
 
--- Alloc
-unfoldable pub allocated : LocalState → ℕ → ℕ → Effect
-allocated p register places =
-    becomes p (alloc_heap p.own p.phases.cycle p.heap register places)
-    (answer.New (new_reference p.own p.heap))
-
--- Copy
-unfoldable pub copied : LocalState → ℕ → ℕ → Effect
-copied p register source = becomes p (register_copied p.heap register source) answer.Done
-
--- Drop
-unfoldable pub dropped : LocalState → ℕ → Effect
-dropped p register = becomes p (with_register p.heap register None) answer.Done
-
--- Load: the reference in the place is shaded, and then the register gets it
-abbrev pub with_loaded : ℕ → Option Ref → LocalState → Work
-with_loaded register v p = at_rest (record p { heap = with_register p.heap register v })
-
-abbrev pub load_value : LocalState → ℕ → Option Ref → Effect
-load_value p register v =
-    answers
-    (then (shade_all (at_rest p) (option_to_list v)) (with_loaded register v))
-    (answer.Value v)
-
-unfoldable pub loaded : LocalState → ℕ → ℕ → ℕ → Effect
-loaded p register object place = load_value p register (place_loaded p.heap object place)
-
--- Store
-unfoldable pub stored : LocalState → ℕ → ℕ → ℕ → Effect
-stored p object place register =
-    becomes p (with_place p.heap (named p.heap object) place (register_at p.heap register))
-    answer.Done
-
--- Clear
-unfoldable pub cleared : LocalState → ℕ → ℕ → Effect
-cleared p object place = becomes p (with_place p.heap (named p.heap object) place None) answer.Done
-
--- Word
-unfoldable pub word_read : LocalState → ℕ → Effect
-word_read p object = unchanged p (answer.Word (word_of (object_at p.heap (named p.heap object))))
-
--- SetWord
-unfoldable pub word_set : LocalState → ℕ → ℕ → Effect
-word_set p object word = becomes p (with_word p.heap (named p.heap object) word) answer.Done
-
--- Give: the register's reference goes to another node
-unfoldable pub given : LocalState → List ℕ → ℕ → ℕ → ℕ → Effect
-given p counts to label register =
-    sends_one p counts to (body.Give label (register_at p.heap register))
-
--- Accept: the oldest letter leaves
-unfoldable pub accepted : LocalState → ℕ → Effect
-accepted p register =
-    becomes p (letter_taken p.heap register) (answer.Letter (oldest_letter p.heap))
-
--- Put: the owner of the object is asked to store the register's reference in a place of it
-unfoldable pub put_asked : LocalState → List ℕ → ℕ → ℕ → ℕ → Effect
-put_asked p counts object place register =
-    sends_one p counts (named p.heap object).node
-    (body.Put (named p.heap object) place (register_at p.heap register))
-
--- Get: the owner of the object is asked for the content of a place of it
-unfoldable pub get_asked : LocalState → List ℕ → ℕ → ℕ → ℕ → Effect
-get_asked p counts object place label =
-    sends_one p counts (named p.heap object).node (body.Get (named p.heap object) place label)
-
--- Data: a message comes from another node
+-- a message comes from another node
 abbrev pub is_addressed : LocalState → ℕ → ℕ → Bool
 is_addressed p from to = (to == p.own) && (nat_lt from p.shape.nodes && not (from == p.own))
 
@@ -185,27 +115,15 @@ may_take p from stamp b =
     && (are_within p.shape (mentioned b)
     && (may_follow p from b && may_settle (joined p stamp).local stamp b))
 
--- the message counts as received
-unfoldable pub count_in : ℕ → ℕ → ℕ → Body → LocalState → LocalState
-count_in from number stamp b p =
-    record p {
-      got = slice_set p.got from number;
-      ring = counted_down (balance_of p.phases.cycle stamp b) p.ring;
-    }
-
 -- The references that the message carries are shaded if it comes from an earlier cycle than the
 -- node's, and vouched for if it comes from the same cycle.
 abbrev pub take_carried : ℕ → Body → LocalState → Work
-take_carried stamp b p =
-    cond
-    (nat_lt stamp p.phases.cycle)
-    (shade_all (at_rest p) (carried b))
-    (vouch_all (at_rest p) (carried b))
+take_carried stamp b p = see_to (nat_lt stamp p.phases.cycle) (carried b) p
 
 -- a place is read for another node: its reference is shaded, and then sent back
 abbrev pub answer_get : ℕ → ℕ → Option Ref → LocalState → Work
 answer_get from label v p =
-    then (shade_all (at_rest p) (option_to_list v)) (append from (body.Give label v))
+    then (see_to true (option_to_list v) p) (append from (body.Give label v))
 
 -- The body is followed. Token: it is held. Mark: the object is shaded. Give: a letter is added.
 -- Put: a place is written. Get: the content of a place is sent back. Ended: marking has ended.
@@ -214,7 +132,7 @@ unfoldable pub take_body : ℕ → ℕ → Body → LocalState → Work
 take_body from stamp body.Begin p = at_rest p
 take_body from stamp (body.Token token) p =
     at_rest (record p { ring = record p.ring { token = Some token } })
-take_body from stamp (body.Mark target) p = shade (at_rest p) target
+take_body from stamp (body.Mark target) p = see_to true (target ∷ []) p
 take_body from stamp (body.Give label reference) p =
     at_rest (record p {
       heap = with_letter p.heap (record { from = from; label = label; reference = reference });
@@ -230,10 +148,22 @@ take_body from stamp body.Swept p =
       phases = record p.phases { reports = slice_set p.phases.reports from stamp };
     })
 
--- a message is received by a node that is in its cycle or past it
+-- the message counts as received
+unfoldable pub count_in : ℕ → ℕ → ℕ → Body → LocalState → LocalState
+count_in from number stamp b p =
+    record p {
+      got = slice_set p.got from number;
+      ring = counted_down (balance_of p.phases.cycle stamp b) p.ring;
+    }
+
+abbrev pub counted : ℕ → ℕ → ℕ → Body → Work → Work
+counted from number stamp b w = record w { local = count_in from number stamp b w.local }
+
+-- A message is taken in by a node that is in its cycle or past it: what it carries is seen to, then
+-- its body is followed, and last of all it counts.
 unfoldable pub settled : ℕ → ℕ → ℕ → Body → LocalState → Work
 settled from number stamp b p =
-    then (take_carried stamp b (count_in from number stamp b p)) (take_body from stamp b)
+    counted from number stamp b (then (take_carried stamp b p) (take_body from stamp b))
 
 unfoldable pub taken_in : LocalState → ℕ → ℕ → ℕ → Body → Effect
 taken_in p from number stamp b =
@@ -252,52 +182,134 @@ receipt p from number stamp b =
     cond (is_repeat p from number) (unchanged p answer.Repeat)
     (cond (is_early p from number) (unchanged p answer.Early) (taken_in p from number stamp b))
 
--- The tests of an event, in the order of its refusals. A state keeps no early messages, so Next
--- never finds one. On a node that keeps them, Next acts as the Data event of the waiting message.
+-- ---- events
+
+-- What an event writes to the heap: a register; a register, which gets the reference of the oldest
+-- letter; an object, while it is live; a new object, which a register then names.
+pub data Write : Type 0 where
+  Sets : ℕ → Option Ref → Write
+  Accepts : ℕ → Write
+  Rewrites : Ref → (Object → Object) → Write
+  Makes : ℕ → ℕ → Write
+
+-- What an event does if its tests pass, with its answer. It reads; or it writes; or it shades what a
+-- place holds, and then the register gets it; or it sends one message. The last is for the
+-- collector's events and for messages.
+pub data Deed : Type 0 where
+  Reads : Answer → Deed
+  Writes : Write → Answer → Deed
+  Loads : ℕ → Option Ref → Deed
+  Sends : ℕ → Body → Deed
+  Takes : Effect → Deed
+
+-- an event's tests, in the order of its refusals, and what it does
+pub record Rule : Type 0 where
+  pub tests : List (Bool × Refusal)
+  pub deed : Deed
+
+-- One clause for each event. A state keeps no early messages, so Next never finds one. On a node
+-- that keeps them, Next acts as the Data event of the waiting message.
+abbrev pub rule : LocalState → Event → Rule
+rule p (event.Alloc register places) = record {
+  tests = alloc_tests p.shape.slots p.heap register places;
+  deed = Writes (Makes register places) (answer.New (new_reference p.own p.heap));
+}
+rule p (event.Copy register source) = record {
+  tests = copy_tests p.heap register source;
+  deed = Writes (Sets register (register_at p.heap source)) answer.Done;
+}
+rule p (event.Drop register) = record {
+  tests = drop_tests p.heap register;
+  deed = Writes (Sets register None) answer.Done;
+}
+rule p (event.Load register object place) = record {
+  tests = load_tests p.own p.heap register object place;
+  deed = Loads register (place_loaded p.heap object place);
+}
+rule p (event.Store object place register) = record {
+  tests = store_tests p.own p.heap object place register;
+  deed = Writes
+      (Rewrites (named p.heap object) (placing place (register_at p.heap register)))
+      answer.Done;
+}
+rule p (event.Clear object place) = record {
+  tests = clear_tests p.own p.heap object place;
+  deed = Writes (Rewrites (named p.heap object) (placing place None)) answer.Done;
+}
+rule p (event.Word object) = record {
+  tests = word_tests p.own p.heap object;
+  deed = Reads (answer.Word (word_of (object_at p.heap (named p.heap object))));
+}
+rule p (event.SetWord object word) = record {
+  tests = word_tests p.own p.heap object;
+  deed = Writes (Rewrites (named p.heap object) (wording word)) answer.Done;
+}
+rule p (event.Give to label register) = record {
+  tests =
+      (nat_lt to p.shape.nodes, NoNode) ∷ (not (to == p.own), SelfSend)
+      ∷ register_tests p.heap register;
+  deed = Sends to (body.Give label (register_at p.heap register));
+}
+rule p (event.Accept register) = record {
+  tests = accept_tests p.heap register;
+  deed = Writes (Accepts register) (answer.Letter (oldest_letter p.heap));
+}
+rule p (event.Put object place register) = record {
+  tests = put_tests p.own p.heap object place register;
+  deed = Sends (named p.heap object).node
+      (body.Put (named p.heap object) place (register_at p.heap register));
+}
+rule p (event.Get object place label) = record {
+  tests = get_tests p.own p.heap object place;
+  deed = Sends (named p.heap object).node (body.Get (named p.heap object) place label);
+}
+rule p event.Begin = record { tests = begin_tests p; deed = Takes (begun p) }
+rule p event.Scan = record { tests = scan_tests p; deed = Takes (scanned p) }
+rule p event.Pass = record { tests = pass_tests p; deed = Takes (passed p) }
+rule p (event.Sweep count) = record { tests = sweep_tests p; deed = Takes (swept_slots p count) }
+rule p (event.Next from) = record {
+  tests = (nat_lt from p.shape.nodes, NoNode) ∷ (false, NothingToDo) ∷ [];
+  deed = Reads answer.Received;
+}
+rule p (event.Data d) = record {
+  tests = receipt_tests p d.from d.to d.number d.stamp d.body;
+  deed = Takes (receipt p d.from d.number d.stamp d.body);
+}
+rule p (event.Ack a) = record {
+  tests = (is_addressed p a.from a.to, WrongNode) ∷ [];
+  deed = Reads answer.Done;
+}
+
+abbrev pub written : LocalState → Write → Heap
+written p (Sets register v) = with_register p.heap register v
+written p (Accepts register) = letter_taken p.heap register
+written p (Rewrites r f) = with_rewritten p.heap r f
+written p (Makes register places) = alloc_heap p.own p.phases.cycle p.heap register places
+
+-- the register gets what was read
+abbrev pub with_loaded : ℕ → Option Ref → LocalState → Work
+with_loaded register v p = at_rest (record p { heap = with_register p.heap register v })
+
+-- A message is appended; the answer is its number. For each node, `counts` says how many messages
+-- were appended so far.
+abbrev pub sends_one : LocalState → List ℕ → ℕ → Body → Effect
+sends_one p counts to b =
+    answers (append to b p) (answer.Sent (slice_index_or counts to 0 + 1))
+
+abbrev pub carry : LocalState → List ℕ → Deed → Effect
+carry p counts (Reads a) = unchanged p a
+carry p counts (Writes w a) = becomes p (written p w) a
+carry p counts (Loads register v) =
+    answers (then (see_to true (option_to_list v) p) (with_loaded register v)) (answer.Value v)
+carry p counts (Sends to b) = sends_one p counts to b
+carry p counts (Takes x) = x
+
 abbrev pub tests : LocalState → Event → List (Bool × Refusal)
-tests p (event.Alloc register places) = alloc_tests p.shape.slots p.heap register places
-tests p (event.Copy register source) = copy_tests p.heap register source
-tests p (event.Drop register) = drop_tests p.heap register
-tests p (event.Load register object place) = load_tests p.own p.heap register object place
-tests p (event.Store object place register) = store_tests p.own p.heap object place register
-tests p (event.Clear object place) = clear_tests p.own p.heap object place
-tests p (event.Word object) = word_tests p.own p.heap object
-tests p (event.SetWord object word) = word_tests p.own p.heap object
-tests p (event.Give to label register) =
-    (nat_lt to p.shape.nodes, NoNode) ∷ (not (to == p.own), SelfSend)
-    ∷ register_tests p.heap register
-tests p (event.Accept register) = accept_tests p.heap register
-tests p (event.Put object place register) = put_tests p.own p.heap object place register
-tests p (event.Get object place label) = get_tests p.own p.heap object place
-tests p event.Begin = begin_tests p
-tests p event.Scan = scan_tests p
-tests p event.Pass = pass_tests p
-tests p (event.Sweep count) = sweep_tests p
-tests p (event.Next from) = (nat_lt from p.shape.nodes, NoNode) ∷ (false, NothingToDo) ∷ []
-tests p (event.Data d) = receipt_tests p d.from d.to d.number d.stamp d.body
-tests p (event.Ack a) = (is_addressed p a.from a.to, WrongNode) ∷ []
+tests p e = (rule p e).tests
 
 -- the effect of an event
 abbrev pub made : LocalState → List ℕ → Event → Effect
-made p counts (event.Alloc register places) = allocated p register places
-made p counts (event.Copy register source) = copied p register source
-made p counts (event.Drop register) = dropped p register
-made p counts (event.Load register object place) = loaded p register object place
-made p counts (event.Store object place register) = stored p object place register
-made p counts (event.Clear object place) = cleared p object place
-made p counts (event.Word object) = word_read p object
-made p counts (event.SetWord object word) = word_set p object word
-made p counts (event.Give to label register) = given p counts to label register
-made p counts (event.Accept register) = accepted p register
-made p counts (event.Put object place register) = put_asked p counts object place register
-made p counts (event.Get object place label) = get_asked p counts object place label
-made p counts event.Begin = begun p
-made p counts event.Scan = scanned p
-made p counts event.Pass = passed p
-made p counts (event.Sweep count) = swept_slots p count
-made p counts (event.Next from) = unchanged p answer.Received
-made p counts (event.Data d) = receipt p d.from d.number d.stamp d.body
-made p counts (event.Ack a) = unchanged p answer.Done
+made p counts e = carry p counts (rule p e).deed
 
 -- every message gets a number within the limit
 abbrev pub fits : List ℕ → List (ℕ × Message) → Bool

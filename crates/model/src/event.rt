@@ -4,7 +4,7 @@ use msg::{Ack, Data, Token};
 
 /// A received letter that waits until the program accepts it: its sender, its label, and the
 /// reference that was sent, if any.
-#[derive(Clone, Copy, Debug, PartialEq, Eq)]
+#[derive(Clone, Copy, Debug)]
 pub struct Letter {
     pub from: u8,
     pub label: u32,
@@ -13,7 +13,7 @@ pub struct Letter {
 
 /// An event of one node. A program names objects only by its registers: `object` is the register
 /// that names the object.
-#[derive(Clone, Copy, Debug, PartialEq, Eq)]
+#[derive(Clone, Copy)]
 pub enum Event {
     /// Makes a new object with this many empty places, and puts its reference into the register.
     Alloc {
@@ -105,7 +105,7 @@ pub enum Event {
 }
 
 /// The answer of a node to an event that it didn't refuse.
-#[derive(Clone, Copy, Debug, PartialEq, Eq)]
+#[derive(Clone, Copy, Debug)]
 pub enum Answer {
     /// The reference of the new object.
     New(Ref),

@@ -2,7 +2,7 @@
 use crate::event::{Answer, Event};
 
 /// One step of a space of nodes in one thread.
-#[derive(Clone, Copy, Debug, PartialEq, Eq)]
+#[derive(Clone, Copy)]
 pub enum Step {
     /// An event of the node, which comes from no other node.
     Act(u8, Event),
@@ -18,7 +18,7 @@ pub enum Step {
 }
 
 /// The outcome of a step that was not refused.
-#[derive(Clone, Copy, Debug, PartialEq, Eq)]
+#[derive(Clone, Copy)]
 pub enum Outcome {
     /// The node's answer.
     Answer(Answer),

@@ -19,7 +19,7 @@ pub struct Token {
 }
 
 /// What a message says.
-#[derive(Clone, Copy, Debug, PartialEq, Eq)]
+#[derive(Clone, Copy)]
 pub enum Body {
     /// A collection cycle begins.
     Begin,
@@ -55,7 +55,7 @@ pub enum Body {
 
 /// A message as its sender keeps it: the sender's cycle when it was appended, and what it says. Its
 /// number is its position among all messages of its link, counted from 1.
-#[derive(Clone, Copy, Debug, PartialEq, Eq)]
+#[derive(Clone, Copy)]
 pub struct Message {
     pub stamp: u64,
     pub body: Body,

@@ -12,7 +12,7 @@ use ids::{GREATEST_CYCLE, GREATEST_NODES, GREATEST_NUMBER, GREATEST_PLACES, Ref}
 /// when it was appended, and what it says. The two nodes differ, the number is 1 to
 /// [`GREATEST_NUMBER`], the stamp is at most [`GREATEST_CYCLE`], and every part is within the
 /// limits.
-#[derive(Clone, Copy, Debug, PartialEq, Eq)]
+#[derive(Clone, Copy)]
 pub struct Data {
     pub from: u8,
     pub to: u8,
@@ -25,7 +25,7 @@ pub struct Data {
 /// An acknowledgement from one node to another: the first has received and saved all messages of
 /// the second up to this number. The two nodes differ, and the number is at most
 /// [`GREATEST_NUMBER`].
-#[derive(Clone, Copy, Debug, PartialEq, Eq)]
+#[derive(Clone, Copy)]
 pub struct Ack {
     pub from: u8,
     pub to: u8,
@@ -34,7 +34,7 @@ pub struct Ack {
 }
 
 /// What a link carries: a message or an acknowledgement.
-#[derive(Clone, Copy, Debug, PartialEq, Eq)]
+#[derive(Clone, Copy)]
 pub enum Frame {
     /// A message.
     Data(Data),

@@ -3,7 +3,7 @@
 /// A version of the formats. A reference's generation has four bytes in the first version and eight
 /// in the second; nothing else of a reference or of a message's body differs. Frames are always of
 /// the second version.
-#[derive(Clone, Copy, Debug, PartialEq, Eq)]
+#[derive(Clone, Copy)]
 pub enum Version {
     First,
     Second,

@@ -12,8 +12,8 @@ use Rattle.model.specs.Shading.{marks_for, unasked}
 use Rattle.model.specs.WellFormed.{IsOther}
 use Rattle.model.proofs.Appending.{length-append_to, marks-inside, marks-sendable, sendable-appended, sum-appended}
 use Rattle.model.proofs.References.{all-append}
-use Rattle.model.proofs.ShadingParts.{unasked-all}
 use Rattle.model.proofs.Asking.{marks-others, marks-timely, timely-appended, timely-later, unasked-others}
+use Rattle.model.proofs.Shading.{unasked-all}
 use Rattle.link.specs.Links.{LinksView, IsLinks, for_others}
 use Rattle.barrier.specs.Asked.{all_appended}
 use Rattle.node.specs.Invariant.{AreLinked, number_sum}

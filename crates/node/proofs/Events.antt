@@ -7,13 +7,13 @@ use Rattle.ids.specs.declared.refusal.Refusal.TheVariants.{LinkSpent, Memory}
 use Rattle.msg.specs.declared.body.Message.{Message}
 use Rattle.model.specs.declared.event.Answer.{Answer}
 use Rattle.model.specs.Checks.{guarded, AllPass, IsFirstRefusal, IsOkOrSpent, IsReplaced}
-use Rattle.model.specs.Effects.{Work, Effect}
+use Rattle.model.specs.Effects.{Effect}
 use Rattle.model.specs.State.{Heap, Phases, Ring, LocalState}
 use Rattle.model.specs.Steps.{checked, fits}
-use Rattle.model.specs.View.{NodeView, append_to, used, view_after}
+use Rattle.model.specs.View.{NodeView, Performed, append_to, used, view_after, view_done}
 use Rattle.model.proofs.Checks.{guarded-passed}
 use Rattle.link.specs.Links.{LinksView}
-use Rattle.barrier.specs.Parts.{part_of, IsDone}
+use Rattle.node.specs.Errands.{IsRun}
 use Rattle.node.specs.Invariant.{links_of}
 
 -- ---- lists of tests
@@ -60,13 +60,6 @@ module _ (n : NodeView) (h : Heap) (asked : List Ref) (ring : Ring) (l : LinksVi
       ∙ ap (λ (z : List Ref). with_parts n n.local.heap z n.local.phases ring l) b
       ∙ ap (λ (z : Ring). with_parts n n.local.heap n.local.asked n.local.phases z l) c
       ∙ ap (with_parts n n.local.heap n.local.asked n.local.phases n.local.ring) d
-
-  -- the outcome of a call is that of the definitions
-  pub parts-done : (w : Work) → IsDone w (part_of n.local h asked ring) (links_of n) l
-      → with_parts n h asked n.local.phases ring l ≡ after_step n w.local w.sends
-  parts-done w done =
-      ap (with_parts n h asked n.local.phases ring) done.links
-      ∙ ap (λ (q : LocalState). after_step n q w.sends) done.now
 
 -- an answer, with the node after it
 abbrev pub okay : NodeView → Answer → Result (NodeView × Answer) Refusal
@@ -119,3 +112,20 @@ module _ (n : NodeView) (ts : List (Bool × Refusal)) (x : Effect) where
         ∙ ap (λ (z : Refusal). Err z) (sym (h other).0),
     λ memory. subst (IsReplaced false) (sym (answered all (last memory))) refl,
   )
+
+-- ---- an effect that fails only if its messages get no numbers
+
+module _ {n new : NodeView} (x : Effect) where
+  pub effect-performed : IsRun (record { local = x.local; sends = x.sends }) n new
+      → Performed false (Ok x.answer) n new (view_done n x)
+  effect-performed run = record {
+    performs = answered n [] x tt run.fits ∙ ap (λ (m : NodeView). okay m x.answer) (sym run.now);
+    unchanged = tt;
+  }
+
+  pub effect-refused : (e : Refusal)
+      → (e ≢ Memory → (e ≡ LinkSpent) × (fits (map used n.links) x.sends ≡ false))
+      → (e ≡ Memory → fits (map used n.links) x.sends ≡ true) → new ≡ n
+      → Performed false (Err e) n new (view_done n x)
+  effect-refused e told last same =
+      record { performs = sending_refused n [] x e tt told last; unchanged = same }

@@ -1,30 +1,34 @@
 -- Each change of a node preserves what holds of every node.
-use Rattle.std.proofs.Common.{◌≡◌, ◌≢◌, ℕ, ◌+◌, ◌-◌, ◌<◌, ◌≤◌, ◌==◌, not, [], ◌∷◌, length, get_or, replicate, refl, sym, ap, ◌∙◌, subst, true, arith, le_refl}
+use Rattle.std.proofs.Common.{◌≡◌, ◌≢◌, ℕ, ◌+◌, ◌-◌, ◌<◌, ◌≤◌, ◌==◌, not, List, [], ◌∷◌, length, get_or, set, replicate, refl, sym, ap, ◌∙◌, subst, true, arith, le_refl}
 use Rattle.std.specs.Prelude.{nat_lt}
+use Rattle.std.specs.List.{sum_by}
 use Rattle.std.proofs.lemmas.Bool.{and_parts, eqb-false, ltb-true, not-true}
 use Rattle.std.proofs.lemmas.List.{length-set, length-map, length-replicate, get_or-drop}
 use Rattle.std.proofs.lemmas.List.Elements.{All-replicate}
+use Rattle.std.proofs.lemmas.List.Sums.{sum_by-set}
 use Rattle.std.proofs.Math.ListN.{get_or-map}
 use Rattle.ids.specs.Limits.{Shaped, IsShape}
 use Rattle.msg.specs.declared.body.Body.{Body}
 use Rattle.msg.specs.declared.body.Message.{Message}
 use Rattle.control.specs.Phases.{IsPhases}
-use Rattle.model.specs.Counting.{balance_of, counted_up, stamped}
+use Rattle.model.specs.Counting.{balance_of, counted_down, counted_up, stamped}
 use Rattle.model.specs.State.{Heap, Ring, new_phases}
 use Rattle.model.specs.Steps.{is_addressed}
 use Rattle.model.specs.View.{Link, NodeView, no_link, trimmed, all_kept, kept_to, new_view, is_other}
 use Rattle.model.specs.References.{HoldsOnly, IsWithin, IsSendable, no_message}
 use Rattle.model.specs.WellFormed.{IsOther, IsStocked, IsHeld}
 use Rattle.model.proofs.Lookups.{at_set, get_or-replicate_any}
-use Rattle.model.proofs.Asking.{asked-none, reports-new, timely-new, timely-trimmed, timely-same, timely-kept}
-use Rattle.model.proofs.Balances.{up-token}
+use Rattle.model.proofs.Asking.{asked-none, reports-new, timely-new, timely-trimmed, timely-same, timely-kept, timely-taken}
+use Rattle.model.proofs.Balances.{down-token, up-token}
 use Rattle.model.proofs.References.{holds-new_heap}
 use Rattle.model.proofs.Stocks.{stocked-new}
-use Rattle.link.specs.Links.{LinksView, IsLinks, appended_to, trimmed_to, kept_links, kept_peer, new_links}
+use Rattle.link.specs.Links.{LinksView, IsLinks, announced, appended_to, for_others, taken_next_from, trimmed_to, kept_links, kept_peer, new_links}
+use Rattle.barrier.specs.Asked.{all_appended}
 use Rattle.safra.specs.Balances.{IsBounded}
-use Rattle.safra.proofs.Bounds.{bounded_new, bounded_up}
+use Rattle.safra.proofs.Bounds.{bounded_down, bounded_more, bounded_new, bounded_up}
 use Rattle.node.specs.Invariant.{AreLinked, IsBalanced, IsNode, links_of, number_sum}
-use Rattle.node.proofs.Appended.{linked-appended, numbers-appended, one-may}
+use Rattle.node.specs.Taking.{IsSender}
+use Rattle.node.proofs.Appended.{MaySend, linked-appended, numbers-appended, one-may, others-may}
 use Rattle.node.proofs.Balances.{balance-kept, balance-set, balance-trimmed}
 
 -- only the heap changed, and it has no fewer slots
@@ -172,6 +176,50 @@ node-trimmed n from number old there w =
     node-rewired n (trimmed_to (links_of n) from number) n.local.ring old w refl
     (linked-trimmed n old from number there.1)
     (balance-trimmed n.local.ring n.links n.local.got from number old.balance inside)
+
+-- the same message was appended for all others
+pub node-told : (n : NodeView) (x : Message) {l : LinksView} → IsNode n
+    → IsSendable n.local.shape x → x.stamp ≡ n.local.phases.cycle
+    → Rewires (announced (links_of n) n.local.own x) n.local.ring l n.local.ring
+    → IsNode (rewired n l n.local.ring)
+node-told n x old sendable now w =
+    let s : Shaped = n.local.shape in
+    let own : ℕ = n.local.own in
+    let cycle : ℕ = n.local.phases.cycle in
+    let ms : List (ℕ × Message) = for_others own x (length n.links) in
+    let may = subst (λ (k : ℕ). MaySend s own cycle (for_others own x k)) (sym old.links.width)
+    (others-may s own cycle x sendable (omega (arith, now))) in
+    let more = numbers-appended s own cycle (links_of n) ms old.links may in
+    node-rewired n (all_appended (links_of n) ms) n.local.ring old w refl
+    (linked-appended s own cycle (links_of n) ms old.links may)
+    (bounded_more _ _ n.local.ring (omega (arith, more)) old.balance)
+
+-- the next message from a node is received
+pub node-counted : (n : NodeView) (from stamp : ℕ) (b : Body) {l : LinksView} {r : Ring} → IsNode n
+    → IsSender n.local from
+    → Rewires (taken_next_from (links_of n) from)
+    (counted_down (balance_of n.local.phases.cycle stamp b) n.local.ring) l r
+    → IsNode (rewired n l r)
+node-counted n from stamp b old sender w =
+    let k = balance_of n.local.phases.cycle stamp b in
+    let got = n.local.got in
+    let most : ℕ = number_sum n.links got in
+    let inside : from < length got =
+    omega (arith, sender.there, old.links.width, old.links.links.received) in
+    let more : sum_by (λ (j : ℕ). j) (set got from (get_or got from 0 + 1)) + get_or got from 0
+    ≡ sum_by (λ (j : ℕ). j) got + (get_or got from 0 + 1) =
+    sum_by-set (λ (j : ℕ). j) got from (get_or got from 0 + 1) 0 inside in
+    node-rewired n (taken_next_from (links_of n) from) (counted_down k n.local.ring) old w
+    (down-token k n.local.ring)
+    (λ links. record {
+      width = old.links.width;
+      links = links;
+      messages = old.links.messages;
+      timely = timely-taken n.local.own n.local.phases.cycle n.links got old.links.timely from
+          (get_or got from 0 + 1) sender.other;
+    })
+    (bounded_more (most + 1) _ (counted_down k n.local.ring) (omega (arith, more))
+    (bounded_down most k n.local.ring old.balance))
 
 pub node-kept : (n : NodeView) {l : LinksView} → IsNode n
     → Rewires (kept_links (links_of n)) n.local.ring l n.local.ring

@@ -1,21 +1,23 @@
 -- What the tests of a message and the limits of its frame imply.
-use Rattle.std.proofs.Common.{◌≡◌, ℕ, ◌+◌, ◌<◌, ◌≤◌, true, false, ◌==◌, ◌&&◌, not, Option, Some, None, option_to_list, ap, sym, ◌∙◌, arith}
-use Rattle.std.specs.Prelude.{nat_lt, nat_le}
+use Rattle.std.proofs.Common.{◌≡◌, ℕ, ◌+◌, ◌<◌, ◌≤◌, ◌%◌, Bool, true, false, ◌==◌, ◌&&◌, not, Option, Some, None, option_to_list, eq-eqb, refl, ap, sym, ◌∙◌, arith}
+use Rattle.std.specs.Prelude.{is_none, is_some, nat_lt, nat_le}
 use Rattle.std.specs.List.{AllByRecursion}
-use Rattle.std.proofs.lemmas.Bool.{and_parts, cond-true, eqb-false, not-true, lt-ltb, ltb-true, leb-true, ne_eqb}
+use Rattle.std.proofs.lemmas.Bool.{and_parts, cond-true, cond_both, eqb-false, not-true, le-leb, lt-ltb, ltb-false, ltb-true, leb-true, ne_eqb}
+use Rattle.std.proofs.lemmas.Bool.Decides.{nat_tests}
 use Rattle.ids.specs.Limits.{Shaped, reference_fits}
 use Rattle.ids.specs.declared.names.Ref.{Ref}
 use Rattle.ids.specs.declared.limits.TheConstants.{GREATEST_CYCLE, GREATEST_NODES, GREATEST_SLOTS, GREATEST_NUMBER}
 use Rattle.msg.specs.Limits.{nodes_fit, optional_fits, place_fits, body_fits}
 use Rattle.msg.specs.declared.body.Body.{Body}
+use Rattle.msg.specs.declared.body.Token.{Token}
 use Rattle.msg.specs.declared.frame.Data.{Data}
 use Rattle.msg.specs.declared.body.Body.TheVariants as body
-use Rattle.model.specs.State.{LocalState, got_from}
+use Rattle.model.specs.State.{LocalState, Phases, got_from}
 use Rattle.model.specs.Effects.{Work, at_rest}
-use Rattle.model.specs.Shading.{join, joined}
-use Rattle.model.specs.Steps.{is_addressed, is_within, are_within, mentioned, may_reach, may_follow, may_settle, may_take}
+use Rattle.model.specs.Shading.{filled, is_calm, join, joined, roots, stays_calm}
+use Rattle.model.specs.Steps.{is_addressed, is_marking, is_within, are_within, mentioned, may_reach, may_follow, may_settle, may_take}
 use Rattle.model.specs.References.{IsWithin}
-use Rattle.model.proofs.Joining.{settles_joining, settles-joined}
+use Rattle.model.proofs.Joining.{join-calm, join-phases, join-token}
 use Rattle.control.specs.Phases.{IsPhases}
 use Rattle.node.specs.Taking.{IsTakable}
 
@@ -55,10 +57,7 @@ within-mentioned shape (body.Put target place reference) within fit =
 within-mentioned shape (body.Get target place label) within fit =
     let named = (and_parts (reference_fits target) (nat_lt place _) fit).0 in
     (reference-within shape target (and_parts (is_within shape target) true within).0 named, tt)
-within-mentioned shape body.Begin within fit = tt
-within-mentioned shape (body.Token token) within fit = tt
-within-mentioned shape body.Ended within fit = tt
-within-mentioned shape body.Swept within fit = tt
+within-mentioned shape b within fit = tt
 
 -- a message that passed the tests in its turn may be received
 pub takable : (p : LocalState) (d : Data) → is_addressed p d.from d.to ≡ true
@@ -86,24 +85,91 @@ takable p d addressed turn may =
     (may_follow p from b && may_settle (joined p stamp).local stamp b) reach.1).0 in
     let sender = and_parts (nat_lt from p.shape.nodes) (not (from == p.own)) there in
     record {
-      there = ltb-true from p.shape.nodes sender.0;
-      other = eqb-false from p.own (not-true (from == p.own) sender.1);
-      room = omega (arith, turn, most);
+      sender = record {
+        there = ltb-true from p.shape.nodes sender.0;
+        other = eqb-false from p.own (not-true (from == p.own) sender.1);
+        room = omega (arith, turn, most);
+      };
       cycle = leb-true stamp GREATEST_CYCLE fourth.0;
       within = within-mentioned p.shape b within fourth.1;
       may = may;
     }
 
--- whether a body fits the node after it joins can be seen before it joins
-pub settles-later : (p : LocalState) (stamp : ℕ) (b : Body) → IsPhases p.phases
-    → p.phases.cycle < stamp
-    → settles_joining p stamp b ≡ may_settle (joined p stamp).local stamp b
-settles-later p stamp b phases later =
-    let less : p.phases.ended < stamp = omega (arith, phases.ended, later) in
-    let before : (p.phases.ended == stamp) ≡ false =
-    ne_eqb p.phases.ended stamp (λ same. absurd (omega (arith, same, less))) in
-    sym (settles-joined p stamp b before)
-    ∙ ap (λ (w : Work). may_settle w.local stamp b)
-    (sym
-    (cond-true (nat_lt p.phases.cycle stamp) (join p stamp) (at_rest p)
-    (lt-ltb p.phases.cycle stamp later)))
+-- ---- the tests of a node that joins the message's cycle first can be made before it joins
+
+module _ (p : LocalState) (stamp : ℕ) where
+  pub joined-token : is_none (joined p stamp).local.ring.token ≡ is_none p.ring.token
+  joined-token =
+      cond_both (nat_lt p.phases.cycle stamp) (join p stamp) (at_rest p)
+      (λ (w : Work). is_none w.local.ring.token ≡ is_none p.ring.token)
+      (λ _. ap (λ (t : Option Token). is_none t) (join-token p stamp))
+      (λ _. refl)
+
+  module _ (phases : IsPhases p.phases) (later : p.phases.cycle < stamp) where
+    before : (p.phases.ended == stamp) ≡ false
+    before =
+        ne_eqb p.phases.ended stamp (λ same. absurd (omega (arith, same, phases.ended, later)))
+
+    joined-later : (joined p stamp).local ≡ (join p stamp).local
+    joined-later =
+        ap (λ (w : Work). w.local)
+        (cond-true (nat_lt p.phases.cycle stamp) (join p stamp) (at_rest p)
+        (lt-ltb p.phases.cycle stamp later))
+
+    pub marks-later : is_marking (joined p stamp).local stamp ≡ true
+    marks-later =
+        ap (λ (q : LocalState). is_marking q stamp) joined-later
+        ∙ ap (λ (z : Phases). (stamp == z.cycle) && not (z.ended == z.cycle)) (join-phases p stamp)
+        ∙ rw (eq-eqb stamp stamp refl, before) refl
+
+    pub calm-later : is_calm (joined p stamp).local.heap
+        ≡ stays_calm p.own stamp p.heap (filled (roots p.heap))
+    calm-later =
+        ap (λ (q : LocalState). is_calm q.heap) joined-later ∙ join-calm p stamp before
+
+-- ---- the tests of these bodies
+
+pub none-is : {A : Type 0} (o : Option A) (b : Bool) → is_some o ≡ not b → b ≡ is_none o
+none-is None true h = refl
+none-is (Some x) false h = refl
+none-is None false h = absurd cc
+none-is (Some x) true h = absurd cc
+
+at-most : (a b : ℕ) → b ≤ a → nat_le a b ≡ (b == a)
+at-most a b less = grind (arith, nat_tests)
+
+abbrev suits : LocalState → ℕ → ℕ → Body → Bool
+suits p from stamp b =
+    are_within p.shape (mentioned b)
+    && (may_follow p from b && may_settle (joined p stamp).local stamp b)
+
+module _ (p : LocalState) (from stamp : ℕ) (b : Body) where
+  pub suits-token : {token : Token} → b ≡ body.Token token → from ≡ (p.own + 1) % p.shape.nodes
+      → is_marking (joined p stamp).local stamp ≡ true
+      → is_none p.ring.token ≡ suits p from stamp b
+  suits-token is sender marks =
+      rw (is, eq-eqb from ((p.own + 1) % p.shape.nodes) sender, marks)
+      (sym (joined-token p stamp))
+
+  pub suits-ended : b ≡ body.Ended → from ≡ 0 → is_marking (joined p stamp).local stamp ≡ true
+      → is_calm (joined p stamp).local.heap ≡ true
+      → is_none p.ring.token ≡ suits p from stamp b
+  suits-ended is sender marks calm =
+      rw (is, eq-eqb from 0 sender, marks, calm) (sym (joined-token p stamp))
+
+  -- the stamp is the node's cycle, or that of a cycle which the node joins
+  pub suits-swept : b ≡ body.Swept → p.own ≡ 0
+      → nat_le p.phases.cycle stamp ≡ suits p from stamp b
+  suits-swept is first =
+      rw (is, eq-eqb p.own 0 first) swept
+    where
+      swept : nat_le p.phases.cycle stamp ≡ (stamp == (joined p stamp).local.phases.cycle)
+      swept =
+          cond_both (nat_lt p.phases.cycle stamp) (join p stamp) (at_rest p)
+          (λ (w : Work). nat_le p.phases.cycle stamp ≡ (stamp == w.local.phases.cycle))
+          (λ later.
+          let less : p.phases.cycle < stamp = ltb-true p.phases.cycle stamp later in
+          le-leb p.phases.cycle stamp (omega (arith, less))
+          ∙ sym (eq-eqb stamp stamp refl)
+          ∙ ap (λ (z : Phases). stamp == z.cycle) (sym (join-phases p stamp)))
+          (λ here. at-most p.phases.cycle stamp (ltb-false p.phases.cycle stamp here))

@@ -1,14 +1,14 @@
 -- If the heap refuses an event, so does its node.
-use Rattle.std.proofs.Common.{◌≡◌, ℕ, true, false, Err, subst}
+use Rattle.std.proofs.Common.{◌≡◌, ℕ, true, false, Err, subst, map}
 use Rattle.ids.specs.declared.refusal.Refusal.{Refusal}
 use Rattle.ids.specs.declared.refusal.Refusal.TheVariants.{Memory}
 use Rattle.model.specs.declared.event.Event.TheVariants as event
 use Rattle.model.specs.Checks.{guarded, IsFirstRefusal}
 use Rattle.model.specs.State.{register_at}
 use Rattle.model.specs.Heaps.{heap_store, load_tests, named, place_loaded, store_tests, with_place}
-use Rattle.model.specs.Steps.{loaded, stored}
-use Rattle.model.specs.View.{NodeView, view_act}
+use Rattle.model.specs.View.{NodeView, view_act, used}
 use Rattle.node.proofs.Events.{guarded-never, test_refused}
+use Rattle.model.specs.Steps.{made}
 
 module _ (n : NodeView) (object place register : ℕ) (e : Refusal) where
   pub store_refused : heap_store n.local.own n.local.heap object place register ≡ Err e
@@ -18,7 +18,8 @@ module _ (n : NodeView) (object place register : ℕ) (e : Refusal) where
       let p = n.local in
       let ts = store_tests p.own p.heap object place register in
       let new = with_place p.heap (named p.heap object) place (register_at p.heap register) in
-      test_refused n ts (stored p object place register) false new e h
+      test_refused n ts (made p (map used n.links) (event.Store object place register))
+      false new e h
       (λ memory. guarded-never ts new Memory (
         λ e. absurd cc,
         (
@@ -45,7 +46,8 @@ module _ (n : NodeView) (object place register : ℕ) (e : Refusal) where
       let p = n.local in
       let ts = load_tests p.own p.heap register object place in
       let value = place_loaded p.heap object place in
-      test_refused n ts (loaded p register object place) true value e h
+      test_refused n ts (made p (map used n.links) (event.Load register object place))
+      true value e h
       (λ memory. guarded-never ts value Memory (
         λ e. absurd cc,
         (

@@ -11,7 +11,6 @@ use Rattle.model.specs.Heaps.{next_generation, slots_with, heap_alloc, alloc_tes
 use Rattle.model.specs.References.{IsWithin}
 use Rattle.model.specs.declared.event.Answer.TheVariants as answer
 use Rattle.model.specs.declared.event.Event.TheVariants as event
-use Rattle.model.specs.Steps.{allocated}
 use Rattle.model.specs.View.{NodeView, view_act}
 use Rattle.model.proofs.Checks.{guarded-ok, guarded-passes}
 use Rattle.model.proofs.References.{holds-letter_gone, holds-with_register, holds-with_object, holds-with_place, holds-with_word}
@@ -44,7 +43,7 @@ pub alloc-answered : (n : NodeView) (register places : ℕ) {g : Heap} {r : Ref}
     → heap_alloc n.local.shape.slots n.local.own n.local.phases.cycle n.local.heap register places
     ≡ Ok (g, r)
     → view_act n (event.Alloc register places) ≡ okay (with_heap n g) (answer.New r)
-unfolding heap_alloc allocated view_act
+unfolding heap_alloc view_act
 alloc-answered n register places h = search rules
 
 module _ (n : NodeView) (old : IsNode n) where

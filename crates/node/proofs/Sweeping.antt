@@ -1,5 +1,5 @@
 -- The next slots are swept.
-use Rattle.std.proofs.Common.{◌≡◌, ◌≢◌, ℕ, zero, suc, ◌+◌, ◌<◌, ◌≤◌, ◌==◌, ◌&&◌, not, Bool, true, false, cond, List, [], ◌∷◌, length, map, ap, sym, ◌∙◌, subst, refl, arith}
+use Rattle.std.proofs.Common.{◌≡◌, ◌≢◌, ℕ, zero, suc, ◌+◌, ◌<◌, ◌≤◌, ◌==◌, ◌&&◌, not, Bool, true, false, cond, List, [], ◌∷◌, length, map, Result, Ok, Err, ap, sym, ◌∙◌, subst, refl, arith}
 use Rattle.std.proofs.lemmas.Bool.{cond_both, eq-eqb, lt-ltb, le-ltb, ne_eqb}
 use Rattle.std.proofs.Math.Nat.{min-eq_left, min-eq_right}
 use Rattle.std.proofs.lemmas.List.{length-set}
@@ -9,21 +9,23 @@ use Rattle.msg.specs.declared.body.Body.TheVariants as body
 use Rattle.msg.specs.declared.body.Message.{Message}
 use Rattle.model.specs.declared.event.Answer.TheVariants as answer
 use Rattle.model.specs.declared.event.Event.TheVariants as event
-use Rattle.model.specs.Checks.{AllPass, IsFirstRefusal}
+use Rattle.model.specs.declared.event.Answer.{Answer}
+use Rattle.model.specs.Checks.{IsFirstRefusal}
 use Rattle.model.specs.Counting.{stamped}
 use Rattle.model.specs.Effects.{Effect}
 use Rattle.model.specs.State.{Heap, Phases, LocalState, Slot, slot_at}
-use Rattle.model.specs.Collecting.{Sweeping, generation_in, is_garbage, looked_at, sweep_one, sweep_some, sweep_tests, sweeps_last, swept_slots, unswept, vacated}
+use Rattle.model.specs.Collecting.{Sweeping, generation_in, is_garbage, looked_at, sweep_one, sweep_some, sweep_tests, swept_slots, unswept, vacated}
 use Rattle.model.specs.References.{IsWithin}
 use Rattle.model.specs.Steps.{fits}
-use Rattle.model.specs.View.{NodeView, append_to, used, view_act}
+use Rattle.model.specs.View.{NodeView, Performed, used, view_act, view_done}
 use Rattle.model.proofs.References.{holds-sweep_some}
 use Rattle.model.proofs.Stocks.{stocked-swept}
 use Rattle.control.specs.Phases.{IsPhases, advanced, all_swept}
 use Rattle.heap.specs.Heap.{swept}
-use Rattle.node.specs.Cycles.{reports}
+use Rattle.node.specs.Cycles.{reports, slots_swept}
+use Rattle.node.specs.Errands.{IsRun}
 use Rattle.node.specs.Invariant.{IsNode}
-use Rattle.node.proofs.Events.{after_step, answered, okay, sending_refused, test_refused}
+use Rattle.node.proofs.Events.{effect-performed, effect-refused, past_tests, test_refused}
 
 -- ---- the heap has as many slots as before
 
@@ -88,17 +90,14 @@ rest-is p count all inside =
     (min-eq_right all)
     (eq-eqb (p.phases.cursor + unswept p) (length p.heap.slots) (omega (arith, inside)))
 
-pub reports-last : (p : LocalState) (count : ℕ) → unswept p ≤ count
-    → p.phases.cursor ≤ length p.heap.slots → sweeps_last p count ≡ true
-reports-last p count all inside =
-    ap (λ (j : ℕ). p.phases.cursor + j == length p.heap.slots) (min-eq_right all)
-    ∙ eq-eqb (p.phases.cursor + unswept p) (length p.heap.slots) (omega (arith, inside))
-
 -- ---- its answers
 
 -- the node with this heap and these phases
 abbrev pub with_swept : NodeView → Heap → Phases → NodeView
 with_swept m h phases = record m { local = record m.local { heap = h; phases = phases } }
+
+abbrev swept_local : LocalState → ℕ → Phases → LocalState
+swept_local p k phases = record p { heap = (slots_swept k p).heap; phases = phases }
 
 module _ (n : NodeView) (count : ℕ) where
   pub sweep-none : n.local.phases.ended ≤ n.local.phases.swept
@@ -108,38 +107,46 @@ module _ (n : NodeView) (count : ℕ) where
       test_refused n (sweep_tests n.local) (swept_slots n.local count) false (tt {0}) NothingToDo
       (rw (le-ltb n.local.phases.swept n.local.phases.ended done) refl) (λ e. absurd cc)
 
-  tests-pass : n.local.phases.swept < n.local.phases.ended → AllPass (sweep_tests n.local)
-  tests-pass unfinished =
-      (lt-ltb n.local.phases.swept n.local.phases.ended unfinished, tt)
+  module _ (unfinished : n.local.phases.swept < n.local.phases.ended) where
+    -- its one test passes
+    tested : {r : Result Answer Refusal} {new : NodeView} (x : Effect)
+        → x ≡ swept_slots n.local count → Performed false r n new (view_done n x)
+        → Performed false r n new (view_act n (event.Sweep count))
+    unfolding view_act
+    tested {r = r} {new = new} x is done =
+        subst (Performed false r n new)
+        (ap (view_done n) is
+        ∙ sym (past_tests n (sweep_tests n.local) (swept_slots n.local count)
+        (lt-ltb n.local.phases.swept n.local.phases.ended unfinished, tt)))
+        done
 
-  abbrev pub slots_swept : ℕ → Sweeping
-  slots_swept k = swept n.local.phases.cycle n.local.phases.cursor k n.local.heap
+    pub part-performed : {freed : ℕ} {new : NodeView} → count < unswept n.local
+        → freed ≡ (slots_swept count n.local).freed
+        → new ≡ record n {
+          local = swept_local n.local count (advanced count n.local.phases);
+        }
+        → Performed false (Ok (answer.Freed freed false)) n new
+        (view_act n (event.Sweep count))
+    part-performed {new = new} less count-is now =
+        let x : Effect = sweep_effect n.local count false in
+        tested x (sym (part-is n.local count less))
+        (subst (λ (k : ℕ). Performed false (Ok (answer.Freed k false)) n new (view_done n x))
+        (sym count-is) (effect-performed x (record { fits = refl; now = now })))
 
-  pub part-answered : (h : Heap) (phases : Phases) (freed : ℕ)
-      → n.local.phases.swept < n.local.phases.ended → count < unswept n.local
-      → h ≡ (slots_swept count).heap → phases ≡ advanced count n.local.phases
-      → freed ≡ (slots_swept count).freed
-      → view_act n (event.Sweep count)
-      ≡ okay (with_swept n h phases) (answer.Freed freed false)
-  unfolding view_act
-  part-answered h phases freed unfinished less a b d =
-      let is = part-is n.local count less in
-      answered n (sweep_tests n.local) (swept_slots n.local count) (tests-pass unfinished)
-      (ap (λ (x : Effect). fits (map used n.links) x.sends) is)
-      ∙ ap (λ (x : Effect). okay (after_step n x.local x.sends) x.answer) is
-      ∙ ap (λ (z : Heap). okay (with_swept n z (advanced count n.local.phases))
-      (answer.Freed (slots_swept count).freed false)) (sym a)
-      ∙ ap (λ (z : Phases). okay (with_swept n h z)
-      (answer.Freed (slots_swept count).freed false)) (sym b)
-      ∙ ap (λ (k : ℕ). okay (with_swept n h phases) (answer.Freed k false)) (sym d)
+    module _ (all : unswept n.local ≤ count) (inside : n.local.phases.cursor
+        ≤ length n.local.heap.slots) where
+      abbrev rest : Effect
+      rest = record {
+        local = swept_local n.local (unswept n.local) (all_swept n.local.phases);
+        sends = reports n.local;
+        answer = answer.Freed (slots_swept (unswept n.local) n.local).freed true;
+      }
 
-  module _ (unfinished : n.local.phases.swept < n.local.phases.ended)
-      (all : unswept n.local ≤ count) (inside : n.local.phases.cursor ≤ length n.local.heap.slots)
-    where
-      rest-sends : (swept_slots n.local count).sends ≡ reports n.local
-      rest-sends =
-          ap (λ (x : Effect). x.sends) (rest-is n.local count all inside)
-          ∙ either (n.local.own == 0)
+      rest-effect : rest ≡ swept_slots n.local count
+      rest-effect =
+          ap (λ (ms : List (ℕ × Message)). record rest { sends = ms })
+          (sym (either (n.local.own == 0)))
+          ∙ sym (rest-is n.local count all inside)
         where
           either : (b : Bool)
               → cond {A = List (ℕ × Message)} (true && not b)
@@ -148,40 +155,21 @@ module _ (n : NodeView) (count : ℕ) where
           either true = refl
           either false = refl
 
-      pub rest-refused : (e : Refusal)
+      pub rest-refused : {e : Refusal} {new : NodeView}
           → (e ≢ Memory → (e ≡ LinkSpent) × (fits (map used n.links) (reports n.local) ≡ false))
-          → (e ≡ Memory → fits (map used n.links) (reports n.local) ≡ true)
-          → IsFirstRefusal false e (view_act n (event.Sweep count))
-      unfolding view_act
-      rest-refused e h last =
-          sending_refused n (sweep_tests n.local) (swept_slots n.local count) e
-          (tests-pass unfinished)
-          (λ other. ((h other).0, ap (fits (map used n.links)) rest-sends ∙ (h other).1))
-          (λ memory. ap (fits (map used n.links)) rest-sends ∙ last memory)
+          → (e ≡ Memory → fits (map used n.links) (reports n.local) ≡ true) → new ≡ n
+          → Performed false (Err e) n new (view_act n (event.Sweep count))
+      rest-refused h last same = tested rest rest-effect (effect-refused rest _ h last same)
 
-      abbrev pub reported : NodeView
-      reported = record n { links = append_to n.links (reports n.local) }
-
-      pub rest-answered : (h : Heap) (phases : Phases) (freed : ℕ)
-          → fits (map used n.links) (reports n.local) ≡ true
-          → h ≡ (slots_swept (unswept n.local)).heap → phases ≡ all_swept n.local.phases
-          → freed ≡ (slots_swept (unswept n.local)).freed
-          → view_act n (event.Sweep count)
-          ≡ okay (with_swept reported h phases) (answer.Freed freed true)
-      unfolding view_act
-      rest-answered h phases freed fit a b d =
-          let s : Sweeping = slots_swept (unswept n.local) in
-          let p : LocalState = (swept_slots n.local count).local in
-          let is = rest-is n.local count all inside in
-          answered n (sweep_tests n.local) (swept_slots n.local count) (tests-pass unfinished)
-          (ap (fits (map used n.links)) rest-sends ∙ fit)
-          ∙ ap (λ (ms : List (ℕ × Message)).
-          okay (after_step n p ms) (swept_slots n.local count).answer) rest-sends
-          ∙ ap (λ (x : Effect). okay (after_step n x.local (reports n.local)) x.answer) is
-          ∙ ap (λ (z : Heap). okay (with_swept reported z (all_swept n.local.phases))
-          (answer.Freed s.freed true)) (sym a)
-          ∙ ap (λ (z : Phases). okay (with_swept reported h z) (answer.Freed s.freed true)) (sym b)
-          ∙ ap (λ (k : ℕ). okay (with_swept reported h phases) (answer.Freed k true)) (sym d)
+      pub rest-performed : {freed : ℕ} {new : NodeView}
+          → freed ≡ (slots_swept (unswept n.local) n.local).freed
+          → IsRun (record { local = rest.local; sends = rest.sends }) n new
+          → Performed false (Ok (answer.Freed freed true)) n new
+          (view_act n (event.Sweep count))
+      rest-performed {new = new} count-is run =
+          tested rest rest-effect
+          (subst (λ (k : ℕ). Performed false (Ok (answer.Freed k true)) n new (view_done n rest))
+          (sym count-is) (effect-performed rest run))
 
 -- ---- what holds of every node holds afterwards
 

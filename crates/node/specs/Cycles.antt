@@ -1,11 +1,12 @@
--- What a node sends in the course of a collection cycle, other than Marks.
+-- What a node sends in the course of a collection cycle, other than Marks, and what it sweeps.
 use Rattle.std.specs.Prelude.{ℕ, ◌-◌, cond, ◌==◌, List, [], ◌∷◌}
 use Rattle.msg.specs.declared.body.Body.TheVariants as body
 use Rattle.msg.specs.declared.body.Message.{Message}
 use Rattle.msg.specs.declared.body.Token.{Token}
-use Rattle.model.specs.State.{Ring, LocalState}
+use Rattle.model.specs.State.{LocalState}
 use Rattle.model.specs.Counting.{stamped}
-use Rattle.model.specs.View.{NodeView, append_to}
+use Rattle.model.specs.Collecting.{Sweeping}
+use Rattle.heap.specs.Heap.{swept}
 use Rattle.link.specs.Links.{for_others}
 
 -- when a cycle begins: the token to the last node, and Begin to all others
@@ -14,14 +15,10 @@ begins own width cycle token =
     (width - 1, record { stamp = cycle; body = body.Token token })
     ∷ for_others own (record { stamp = cycle; body = body.Begin }) width
 
--- the node after sending the token to a node, with this part of the ring
-abbrev pub with_token_sent : NodeView → ℕ → Token → Ring → NodeView
-with_token_sent n to token ring =
-    record n {
-      local = record n.local { ring = ring };
-      links = append_to n.links ((to, stamped n.local (body.Token token)) ∷ []);
-    }
-
 -- a node other than 0 reports to node 0 that it has swept
 abbrev pub reports : LocalState → List (ℕ × Message)
 reports p = cond (p.own == 0) [] ((0, stamped p body.Swept) ∷ [])
+
+-- the heap once this many more slots are swept, and how many objects that frees
+abbrev pub slots_swept : ℕ → LocalState → Sweeping
+slots_swept count p = swept p.phases.cycle p.phases.cursor count p.heap

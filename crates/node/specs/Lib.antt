@@ -5,6 +5,7 @@ pub mod Summaries
 pub mod Sending
 pub mod Cycles
 pub mod Taking
+pub mod Errands
 pub mod Parts
 pub mod Keeping
 pub mod Whole

@@ -2,7 +2,7 @@
 use Rattle.std.specs.Prelude.{length, count_by, is_some}
 use Rattle.heap.specs.Heap.{is_occupied}
 use Rattle.model.specs.State.{LocalState}
-use Rattle.node.specs.declared.summary.Summary.{Summary}
+use Rattle.model.specs.declared.summary.Summary.{Summary}
 
 abbrev pub summary_of : LocalState → Summary
 summary_of p =

@@ -29,10 +29,9 @@ ghost use Rattle.node.specs.Keeping.{
 };
 
 use crate::node::Core;
-use crate::summary::Summary;
 use ids::{NodeId, Refusal, Shape};
 use link::EarlyFrames;
-use model::{Answer, Event};
+use model::{Answer, Event, Summary};
 use msg::{Data, Frame};
 use std::alloc::Global;
 use std::marker::Model;

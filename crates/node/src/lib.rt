@@ -106,9 +106,7 @@
 
 mod keeping;
 mod node;
-mod summary;
 
 pub use keeping::Node;
-pub use model::{Answer, Event, Letter};
+pub use model::{Answer, Event, Letter, Summary};
 pub use node::{Core, NodeParts};
-pub use summary::Summary;

@@ -7,21 +7,22 @@ ghost use Rattle.model.specs.View.{is_other, Performed, view_act, new_view, kept
 
 mod asking;
 mod collecting;
+mod errands;
 mod frames;
 mod joining;
 mod objects;
 mod parts;
 mod reading;
-mod settling;
+mod receiving;
+mod steps;
 mod taking;
 
-use crate::summary::Summary;
 use barrier::RefSet;
 use control::Phases;
 use heap::Heap;
 use ids::{NodeId, Ref, Refusal, Shape};
 use link::Links;
-use model::{Answer, Event};
+use model::{Answer, Event, Summary};
 pub use parts::NodeParts;
 use safra::Ring;
 use std::alloc::Global;

@@ -5,9 +5,9 @@ use Rattle.ids.specs.declared.refusal.Refusal.TheVariants.{NothingToDo}
 use Rattle.msg.specs.declared.body.Colour.TheVariants.{White, Black}
 use Rattle.model.specs.State.{slot_at, node_at}
 use Rattle.model.specs.Counting.{append, announce}
-use Rattle.model.specs.Shading.{make_grey, shade, vouch, enter, join}
+use Rattle.model.specs.Shading.{make_grey, see_to, enter, join}
 use Rattle.model.specs.Collecting.{probe, begun, scan, scanned, conclude, passed, sweep_one, swept_slots}
-use Rattle.model.specs.Steps.{act, receive, allocated, dropped, stored, given, accepted, count_in, take_body, settled, taken_in}
+use Rattle.model.specs.Steps.{act, receive, count_in, take_body, settled, taken_in}
 use Rattle.model.specs.World.{take_step, new_world}
 use Rattle.rows.proofs.Rows.{object, space, alloc, drop_register, give, accept, made, sent, letter, received, done, refused}
 use Rattle.rows.proofs.ObjectRows.{store}
@@ -48,8 +48,8 @@ empty_space =
     ++ swept_by_both
 
 pub empty-space-prints : Prints (space 2 4 16) empty_space
-unfolding int_wrap take_step act receive append announce shade vouch make_grey enter join begun
-    probe conclude passed sweep_one swept_slots count_in take_body settled taken_in
+unfolding int_wrap take_step act receive append announce see_to make_grey enter join begun probe
+    conclude passed sweep_one swept_slots count_in take_body settled taken_in
 empty-space-prints = refl
 
 -- Two objects of two nodes name each other, and register 0 of node 0 names one of them.
@@ -89,9 +89,8 @@ abbrev ring_freed : List Row
 ring_freed = building ++ drop_register 0 0 gives ok ∷ ring_swept
 
 pub ring-freed-prints : Prints (space 2 4 16) ring_freed
-unfolding int_wrap take_step act receive append announce shade vouch make_grey enter join allocated
-    dropped stored given accepted begun probe conclude passed sweep_one swept_slots count_in
-    take_body settled taken_in
+unfolding int_wrap take_step act receive append announce see_to make_grey enter join begun probe
+    conclude passed sweep_one swept_slots count_in take_body settled taken_in
 ring-freed-prints = refl
 
 -- that register isn't emptied, and both stay
@@ -124,9 +123,8 @@ ring_kept =
     ∷ []
 
 pub ring-kept-prints : Prints (space 2 4 16) ring_kept
-unfolding int_wrap take_step act receive append announce shade vouch make_grey enter join allocated
-    dropped stored given accepted begun probe scan scanned conclude passed sweep_one swept_slots
-    count_in take_body settled taken_in
+unfolding int_wrap take_step act receive append announce see_to make_grey enter join begun probe
+    scan scanned conclude passed sweep_one swept_slots count_in take_body settled taken_in
 ring-kept-prints = refl
 
 -- both are then marked with the cycle
@@ -138,7 +136,6 @@ mark_at node =
     0)
 
 pub ring-kept-marked : (mark_at 0 ≡ 1) × (mark_at 1 ≡ 1)
-unfolding int_wrap take_step act receive append announce shade vouch make_grey enter join allocated
-    dropped stored given accepted begun probe scan scanned conclude passed sweep_one swept_slots
-    count_in take_body settled taken_in
+unfolding int_wrap take_step act receive append announce see_to make_grey enter join begun probe
+    scan scanned conclude passed sweep_one swept_slots count_in take_body settled taken_in
 ring-kept-marked = (refl, refl)

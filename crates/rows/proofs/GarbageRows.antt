@@ -10,9 +10,9 @@ use Rattle.model.specs.declared.event.Letter.{Letter}
 use Rattle.msg.specs.declared.body.Body.TheVariants as body
 use Rattle.model.specs.State.{Occupied, NodeState, new_phases, new_ring, no_node, node_at, sent_to, got_from, register_at}
 use Rattle.model.specs.Counting.{append, announce}
-use Rattle.model.specs.Shading.{make_grey, shade, vouch, enter, join}
+use Rattle.model.specs.Shading.{make_grey, see_to, enter, join}
 use Rattle.model.specs.Collecting.{probe, begun, conclude, passed, sweep_one, swept_slots}
-use Rattle.model.specs.Steps.{act, receive, allocated, dropped, stored, given, accepted, count_in, take_body, settled, taken_in}
+use Rattle.model.specs.Steps.{act, receive, count_in, take_body, settled, taken_in}
 use Rattle.model.specs.World.{World, take_step, new_world}
 use Rattle.model.specs.Cuts.{cut, taken, IsInFlight, Reachable, in_register, in_letter, in_message, in_place}
 use Rattle.model.specs.Agreement.{OldGarbage}
@@ -24,9 +24,8 @@ abbrev ring_left : List Row
 ring_left = building ++ drop_register 0 0 gives ok ∷ save 0 gives done ∷ []
 
 pub ring-swept-prints : Prints (space 2 4 16) (ring_left ++ ring_swept)
-unfolding int_wrap take_step act receive append announce shade vouch make_grey enter join allocated
-    dropped stored given accepted begun probe conclude passed sweep_one swept_slots count_in
-    take_body settled taken_in
+unfolding int_wrap take_step act receive append announce see_to make_grey enter join begun probe
+    conclude passed sweep_one swept_slots count_in take_body settled taken_in
 ring-swept-prints = refl
 
 -- node i, which holds nothing, and whose object names that of node j
@@ -63,9 +62,8 @@ abbrev left : World
 left = record { current = n0 ∷ n1 ∷ []; saved = n0 ∷ n1 ∷ [] }
 
 left-is : after (new_world (space 2 4 16)) ring_left ≡ left
-unfolding int_wrap take_step act receive append announce shade vouch make_grey enter join allocated
-    dropped stored given accepted begun probe conclude passed sweep_one swept_slots count_in
-    take_body settled taken_in
+unfolding int_wrap take_step act receive append announce see_to make_grey enter join begun probe
+    conclude passed sweep_one swept_slots count_in take_body settled taken_in
 left-is = refl
 
 -- what holds of both nodes' states, and of the default node past the end, holds in every cut

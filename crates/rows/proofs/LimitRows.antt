@@ -13,7 +13,7 @@ use Rattle.model.specs.declared.event.Answer.TheVariants as answer
 use Rattle.model.specs.State.{Object, Free, Occupied, Retired, LocalState, new_local}
 use Rattle.model.specs.Effects.{Effect}
 use Rattle.model.specs.Counting.{append, announce}
-use Rattle.model.specs.Shading.{make_grey, shade, enter, join}
+use Rattle.model.specs.Shading.{make_grey, see_to, enter, join}
 use Rattle.model.specs.Collecting.{probe, begun, scan, scanned, conclude, passed, sweep_one, swept_slots}
 use Rattle.model.specs.Steps.{effect, is_memory_free}
 use Rattle.rows.proofs.Rows.{Answers, effect_answer, object, space}
@@ -52,7 +52,7 @@ pub cycles : Answers (
     ∷ (begins (after_cycles 0 7 7) (GREATEST_NUMBER - 1), Err LinkSpent)
     ∷ (begins (after_cycles 0 7 7) (GREATEST_NUMBER - 2), Ok (answer.Begun 8))
     ∷ [])
-unfolding append announce shade make_grey enter join begun probe
+unfolding append announce see_to make_grey enter join begun probe
 cycles = refl
 
 -- ---- Marks
@@ -84,7 +84,7 @@ pub marks : Answers (
     (scans (GREATEST_NUMBER - 1), Err LinkSpent)
     ∷ (scans (GREATEST_NUMBER - 2), Ok (answer.Scanned (object 0 0 3)))
     ∷ [])
-unfolding append shade make_grey scan scanned
+unfolding append see_to make_grey scan scanned
 marks = refl
 
 -- ---- the token's sum

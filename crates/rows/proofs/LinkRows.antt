@@ -15,8 +15,8 @@ use Rattle.model.specs.declared.step.Outcome.{Outcome}
 use Rattle.model.specs.declared.step.Outcome.TheVariants as outcome
 use Rattle.model.specs.State.{node_at}
 use Rattle.model.specs.Counting.{append}
-use Rattle.model.specs.Shading.{shade, vouch}
-use Rattle.model.specs.Steps.{settled, act, receive, allocated, word_read, given, taken_in, count_in, take_body}
+use Rattle.model.specs.Shading.{see_to}
+use Rattle.model.specs.Steps.{settled, act, receive, taken_in, count_in, take_body}
 use Rattle.model.specs.View.{Link, NodeView, new_view, no_link, link_to, released_at, view_act}
 use Rattle.model.specs.World.{World, take_step, new_world, run, is_eventful}
 use Rattle.rows.proofs.ObjectRows.{word, reads}
@@ -41,7 +41,7 @@ pub acknowledged-saved : Holds (space 2 4 16) (
     ∷ (step.Hand 1 1, no_frame)
     ∷ (step.Hand 2 2, refused NoNode)
     ∷ [])
-unfolding take_step act receive given taken_in count_in take_body append shade vouch settled
+unfolding take_step act receive taken_in count_in take_body append see_to settled
 acknowledged-saved = refl
 
 -- Messages are received in order and once. One that comes before its turn changes nothing.
@@ -59,8 +59,7 @@ in_turn =
     ∷ []
 
 pub order-and-once : Holds (space 2 4 16) in_turn
-unfolding take_step act receive allocated given taken_in count_in take_body append shade vouch
-    settled
+unfolding take_step act receive taken_in count_in take_body append see_to settled
 order-and-once = refl
 
 abbrev space_after : Shaped → Table → World
@@ -71,8 +70,7 @@ balance w node = (node_at w.current node).local.ring.recent
 
 -- and each message received counts down by one
 pub counted-once : balance (space_after (space 2 4 16) in_turn) 1 ≡ negsuc 1
-unfolding take_step act receive allocated given taken_in count_in take_body append shade vouch
-    settled
+unfolding take_step act receive taken_in count_in take_body append see_to settled
 counted-once = refl
 
 -- what is an event of the space, and what isn't
@@ -101,8 +99,7 @@ pub events : Holds (space 2 4 16) mixed
     × (map is_eventful (outcomes_of mixed)
     ≡ true ∷ false ∷ true ∷ false ∷ true ∷ true ∷ false ∷ true ∷ true ∷ true ∷ false ∷ false
     ∷ false ∷ false ∷ false ∷ true ∷ false ∷ [])
-unfolding take_step act receive allocated word_read given taken_in count_in take_body append shade
-    vouch settled
+unfolding take_step act receive taken_in count_in take_body append see_to settled
 events = (refl, refl)
 
 -- node 0 after 33 messages to node 1, all of them saved

@@ -3,9 +3,9 @@ use Rattle.std.proofs.Common.{pos, neg_ℤ, false, List, [], ◌∷◌, ◌++◌
 use Rattle.ids.specs.declared.refusal.Refusal.TheVariants.{NoRegister, EmptyRegister, Remote, NoField, TooManyFields, SelfSend, NotDirector, CycleRunning, NothingToDo}
 use Rattle.msg.specs.declared.body.Colour.TheVariants.{White, Black}
 use Rattle.model.specs.Counting.{append, announce}
-use Rattle.model.specs.Shading.{make_grey, shade, vouch, enter, join}
+use Rattle.model.specs.Shading.{make_grey, see_to, enter, join}
 use Rattle.model.specs.Collecting.{probe, begun, scan, scanned}
-use Rattle.model.specs.Steps.{act, receive, allocated, dropped, loaded, stored, given, accepted, count_in, take_body, settled, taken_in}
+use Rattle.model.specs.Steps.{act, receive, count_in, take_body, settled, taken_in}
 use Rattle.model.specs.World.{take_step}
 use Rattle.rows.proofs.Rows.{object, space, alloc, drop_register, give, made, sent, received, done, refused}
 use Rattle.rows.proofs.ObjectRows.{load, store}
@@ -31,8 +31,8 @@ marked_at_owner =
     ∷ []
 
 pub marked-at-owner-prints : Prints (space 2 4 16) marked_at_owner
-unfolding take_step act receive append announce shade vouch make_grey enter join allocated given
-    begun probe scan scanned count_in take_body settled taken_in
+unfolding take_step act receive append announce see_to make_grey enter join begun probe scan scanned
+    count_in take_body settled taken_in
 marked-at-owner-prints = refl
 
 -- A scanned object's places name objects of two other nodes, which are asked to mark them.
@@ -52,8 +52,8 @@ two_owners =
     ∷ []
 
 pub two-owners-prints : Prints (space 3 4 16) two_owners
-unfolding take_step act receive append announce shade vouch make_grey enter join allocated dropped
-    stored given accepted begun probe scan scanned count_in take_body settled taken_in
+unfolding take_step act receive append announce see_to make_grey enter join begun probe scan scanned
+    count_in take_body settled taken_in
 two-owners-prints = refl
 
 -- Refusals of loads and of related events, and of Begin.
@@ -73,6 +73,6 @@ refusals =
     ∷ []
 
 pub refusals-prints : Prints (space 2 256 16) refusals
-unfolding take_step act receive append announce shade vouch make_grey enter join allocated loaded
-    given accepted begun probe count_in take_body settled taken_in
+unfolding take_step act receive append announce see_to make_grey enter join begun probe count_in
+    take_body settled taken_in
 refusals-prints = refl

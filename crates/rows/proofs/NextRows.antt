@@ -4,9 +4,9 @@ use Rattle.std.specs.Int.{int_wrap}
 use Rattle.ids.specs.declared.refusal.Refusal.TheVariants.{NotDirector, CycleRunning}
 use Rattle.msg.specs.declared.body.Colour.TheVariants.{White, Black}
 use Rattle.model.specs.Counting.{append, announce}
-use Rattle.model.specs.Shading.{make_grey, shade, vouch, enter, join}
+use Rattle.model.specs.Shading.{make_grey, see_to, enter, join}
 use Rattle.model.specs.Collecting.{probe, begun, scan, scanned, conclude, passed, sweep_one, swept_slots}
-use Rattle.model.specs.Steps.{act, receive, allocated, dropped, count_in, take_body, settled, taken_in}
+use Rattle.model.specs.Steps.{act, receive, count_in, take_body, settled, taken_in}
 use Rattle.model.specs.World.{take_step}
 use Rattle.rows.proofs.Rows.{object, space, alloc, drop_register, made, received, done, no_frame, refused}
 use Rattle.rows.proofs.Words.{begin_cycle, scan_grey, pass_token, sweep_slots, save, restart, deliver, ok, began, scanned_grey, probe_again, ended, freed_done, state, Row, ◌gives◌, ◌shows◌, Prints, passes_on, first_token}
@@ -26,9 +26,8 @@ next_cycle =
     ∷ []
 
 pub next-cycle-prints : Prints (space 2 4 16) next_cycle
-unfolding int_wrap take_step act receive append announce shade vouch make_grey enter join allocated
-    dropped begun probe scan scanned conclude passed sweep_one swept_slots count_in take_body
-    settled taken_in
+unfolding int_wrap take_step act receive append announce see_to make_grey enter join begun probe
+    scan scanned conclude passed sweep_one swept_slots count_in take_body settled taken_in
 next-cycle-prints = refl
 
 -- The next cycle begins when node 0 has swept this one, and both others have reported their sweeps.
@@ -64,8 +63,8 @@ all_reported =
     ∷ []
 
 pub all-reported-prints : Prints (space 3 4 16) all_reported
-unfolding int_wrap take_step act receive append announce shade vouch make_grey enter join begun
-    probe conclude passed sweep_one swept_slots count_in take_body settled taken_in
+unfolding int_wrap take_step act receive append announce see_to make_grey enter join begun probe
+    conclude passed sweep_one swept_slots count_in take_body settled taken_in
 all-reported-prints = refl
 
 -- A restart takes back a cycle that wasn't saved, and the same cycle begins again.
@@ -84,6 +83,6 @@ cycle_taken_back =
     ∷ []
 
 pub cycle-taken-back-prints : Prints (space 2 4 16) cycle_taken_back
-unfolding take_step act receive append announce shade vouch make_grey enter join allocated begun
-    probe count_in take_body settled taken_in
+unfolding take_step act receive append announce see_to make_grey enter join begun probe count_in
+    take_body settled taken_in
 cycle-taken-back-prints = refl

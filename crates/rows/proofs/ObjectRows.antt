@@ -10,8 +10,8 @@ use Rattle.model.specs.declared.step.Step.TheVariants as step
 use Rattle.model.specs.declared.step.Outcome.{Outcome}
 use Rattle.model.specs.declared.step.Outcome.TheVariants as outcome
 use Rattle.model.specs.Counting.{append}
-use Rattle.model.specs.Shading.{shade, vouch}
-use Rattle.model.specs.Steps.{settled, act, receive, allocated, copied, dropped, loaded, stored, cleared, word_read, word_set, given, accepted, put_asked, get_asked, taken_in, count_in, take_body}
+use Rattle.model.specs.Shading.{see_to}
+use Rattle.model.specs.Steps.{settled, act, receive, taken_in, count_in, take_body}
 use Rattle.model.specs.World.{take_step}
 use Rattle.rows.proofs.Rows.{Table, object, space, alloc, drop_register, give, accept, made, sent, dropped_now, received, letter, empty_letter, done, refused, Holds}
 
@@ -72,7 +72,7 @@ pub stored-loaded : Holds (space 2 4 16) (
     ∷ (load 0 3 0 1, value None)
     ∷ (drop_register 0 3, refused EmptyRegister)
     ∷ [])
-unfolding take_step act allocated dropped loaded stored cleared shade
+unfolding take_step act see_to
 stored-loaded = refl
 
 -- a copied register names the same object, and the word belongs to the object
@@ -90,7 +90,7 @@ pub one-word : Holds (space 2 4 16) (
     ∷ (copy 0 0 1, dropped_now)
     ∷ (word 0 0, reads 0)
     ∷ [])
-unfolding take_step act allocated copied dropped word_read word_set
+unfolding take_step act
 one-word = refl
 
 -- the refusals of a load, in order, and of related events
@@ -108,8 +108,7 @@ pub load-refusals : Holds (space 2 256 16) (
     ∷ (load 0 1 0 8, refused NoField)
     ∷ (give 0 0 1 0, refused SelfSend)
     ∷ [])
-unfolding take_step act receive allocated loaded given accepted taken_in count_in take_body append
-    shade vouch settled
+unfolding take_step act receive taken_in count_in take_body append see_to settled
 load-refusals = refl
 
 -- the refusals of the others, each in order
@@ -138,8 +137,7 @@ pub object-refusals : Holds (space 2 3 16) (
     ∷ (set_word 0 2 9, refused EmptyRegister)
     ∷ (set_word 0 0 9, refused Remote)
     ∷ [])
-unfolding take_step act receive allocated copied loaded stored cleared word_read word_set given
-    accepted taken_in count_in take_body append shade vouch settled
+unfolding take_step act receive taken_in count_in take_body append see_to settled
 object-refusals = refl
 
 -- a place of another node's object is written and read by messages; if there is no such place,
@@ -163,8 +161,7 @@ pub put-got : Holds (space 2 4 16) (
     ∷ (accept 0 3, refused NoLetter)
     ∷ (put 0 1 0 0, refused Local)
     ∷ [])
-unfolding take_step act receive allocated loaded given accepted put_asked get_asked taken_in
-    count_in take_body append shade vouch settled
+unfolding take_step act receive taken_in count_in take_body append see_to settled
 put-got = refl
 
 -- an empty register empties the place; the refusals of both events, in order
@@ -193,6 +190,5 @@ pub put-refusals : Holds (space 2 3 16) (
     ∷ (step.Deliver 0 1 2, received)
     ∷ (load 1 1 0 0, value None)
     ∷ [])
-unfolding take_step act receive allocated loaded stored given accepted put_asked get_asked taken_in
-    count_in take_body append shade vouch settled
+unfolding take_step act receive taken_in count_in take_body append see_to settled
 put-refusals = refl

@@ -5,9 +5,9 @@ use Rattle.std.specs.Int.{int_wrap}
 use Rattle.ids.specs.declared.refusal.Refusal.TheVariants.{NothingToDo}
 use Rattle.msg.specs.declared.body.Colour.TheVariants.{White, Black}
 use Rattle.model.specs.Counting.{append, announce}
-use Rattle.model.specs.Shading.{make_grey, shade, vouch, enter, join}
+use Rattle.model.specs.Shading.{make_grey, see_to, enter, join}
 use Rattle.model.specs.Collecting.{probe, begun, scan, scanned, conclude, passed, sweep_one, swept_slots}
-use Rattle.model.specs.Steps.{act, receive, allocated, dropped, given, accepted, count_in, take_body, settled, taken_in}
+use Rattle.model.specs.Steps.{act, receive, count_in, take_body, settled, taken_in}
 use Rattle.model.specs.World.{take_step}
 use Rattle.rows.proofs.Rows.{object, space, alloc, drop_register, give, accept, made, sent, letter, received, done, no_frame, refused}
 use Rattle.rows.proofs.Words.{begin_cycle, scan_grey, pass_token, sweep_slots, save, deliver, ok, began, scanned_grey, passed_token, probe_again, ended, freed_done, state, Row, ◌gives◌, ◌shows◌, Prints, passes_on, first_token, comes_over}
@@ -58,9 +58,8 @@ held_back =
     ∷ []
 
 pub held-back-prints : Prints (space 3 4 16) held_back
-unfolding int_wrap take_step act receive append announce shade vouch make_grey enter join allocated
-    dropped given accepted begun probe scan scanned conclude passed sweep_one swept_slots count_in
-    take_body settled taken_in
+unfolding int_wrap take_step act receive append announce see_to make_grey enter join begun probe
+    scan scanned conclude passed sweep_one swept_slots count_in take_body settled taken_in
 held-back-prints = refl
 
 -- A reference of the same cycle to a third node's object causes no Mark.
@@ -79,8 +78,8 @@ same_cycle =
     ∷ []
 
 pub same-cycle-prints : Prints (space 3 4 16) same_cycle
-unfolding int_wrap take_step act receive append announce shade vouch make_grey enter join allocated
-    given accepted begun probe scan scanned conclude passed count_in take_body settled taken_in
+unfolding int_wrap take_step act receive append announce see_to make_grey enter join begun probe
+    scan scanned conclude passed count_in take_body settled taken_in
 same-cycle-prints = refl
 
 -- A reference of the same cycle to an unmarked object of the receiver comes before the Mark for it.
@@ -117,8 +116,8 @@ overtakes_mark =
     ∷ []
 
 pub overtakes-mark-prints : Prints (space 3 4 16) overtakes_mark
-unfolding int_wrap take_step act receive append announce shade vouch make_grey enter join allocated
-    dropped given accepted begun probe conclude passed count_in take_body settled taken_in
+unfolding int_wrap take_step act receive append announce see_to make_grey enter join begun probe
+    conclude passed count_in take_body settled taken_in
 overtakes-mark-prints = refl
 
 -- Node 0 counts its own balance. In the second probe the token has met no black node and its sum is
@@ -163,7 +162,6 @@ own_balance =
     ∷ []
 
 pub own-balance-prints : Prints (space 3 4 16) own_balance
-unfolding int_wrap take_step act receive append announce shade vouch make_grey enter join allocated
-    dropped given accepted begun probe scan scanned conclude passed count_in take_body settled
-    taken_in
+unfolding int_wrap take_step act receive append announce see_to make_grey enter join begun probe
+    scan scanned conclude passed count_in take_body settled taken_in
 own-balance-prints = refl

@@ -18,9 +18,9 @@ use Rattle.model.specs.declared.step.Outcome.TheVariants as outcome
 use Rattle.model.specs.State.{Free, Occupied, Retired, Heap, NodeState, new_heap, new_local, new_node}
 use Rattle.model.specs.Heaps.{heap_alloc}
 use Rattle.model.specs.Counting.{append}
-use Rattle.model.specs.Shading.{shade, vouch}
+use Rattle.model.specs.Shading.{see_to}
 use Rattle.model.specs.Effects.{Effect}
-use Rattle.model.specs.Steps.{settled, effect, act, receive, allocated, dropped, given, accepted, taken_in, count_in, take_body}
+use Rattle.model.specs.Steps.{settled, effect, act, receive, taken_in, count_in, take_body}
 use Rattle.model.specs.World.{outcomes, new_world, take_step}
 
 abbrev pub object : ℕ → ℕ → ℕ → Ref
@@ -107,8 +107,7 @@ pub one-reference : Holds (space 3 4 16) (
     ∷ (step.Deliver 1 2 1, received)
     ∷ (accept 2 0, letter 1 8 (object 0 0 1))
     ∷ [])
-unfolding take_step act receive allocated dropped given accepted taken_in count_in take_body append
-    shade vouch settled
+unfolding take_step act receive taken_in count_in take_body append see_to settled
 one-reference = refl
 
 -- nothing leaves before it is saved, and nothing is received twice
@@ -122,8 +121,7 @@ pub saved-first : Holds (space 2 4 16) (
     ∷ (accept 0 0, letter 1 7 (object 1 0 1))
     ∷ (accept 0 0, refused NoLetter)
     ∷ [])
-unfolding take_step act receive allocated dropped given accepted taken_in count_in take_body append
-    shade vouch settled
+unfolding take_step act receive taken_in count_in take_body append see_to settled
 saved-first = refl
 
 -- messages are received in order, and letters are read in that order
@@ -138,8 +136,7 @@ pub in-order : Holds (space 3 4 16) (
     ∷ (accept 2 0, empty_letter 0 4)
     ∷ (accept 2 0, empty_letter 0 5)
     ∷ [])
-unfolding take_step act receive allocated dropped given accepted taken_in count_in take_body append
-    shade vouch settled
+unfolding take_step act receive taken_in count_in take_body append see_to settled
 in-order = refl
 
 -- a letter without a reference empties the register
@@ -151,8 +148,7 @@ pub emptied : Holds (space 2 4 16) (
     ∷ (accept 1 2, empty_letter 0 9)
     ∷ (drop_register 1 2, refused EmptyRegister)
     ∷ [])
-unfolding take_step act receive allocated dropped given accepted taken_in count_in take_body append
-    shade vouch settled
+unfolding take_step act receive taken_in count_in take_body append see_to settled
 emptied = refl
 
 -- a restart takes back what was not saved, its numbers and slots too
@@ -165,8 +161,7 @@ pub taken-back : Holds (space 3 4 16) (
     ∷ (alloc 2 3 0, made (object 2 0 1))
     ∷ (give 2 0 16 3, sent 1)
     ∷ [])
-unfolding take_step act receive allocated dropped given accepted taken_in count_in take_body append
-    shade vouch settled
+unfolding take_step act receive taken_in count_in take_body append see_to settled
 taken-back = refl
 
 -- what was released stays released, and a receiver that forgets it receives it again
@@ -184,8 +179,7 @@ pub released-again : Holds (space 3 4 16) (
     ∷ (step.Deliver 2 1 1, repeat)
     ∷ (accept 1 1, empty_letter 2 10)
     ∷ [])
-unfolding take_step act receive allocated dropped given accepted taken_in count_in take_body append
-    shade vouch settled
+unfolding take_step act receive taken_in count_in take_body append see_to settled
 released-again = refl
 
 -- refusals, and the order in which they apply
@@ -214,8 +208,7 @@ pub refusals : Holds (space 2 2 1) (
     ∷ (step.Deliver 0 1 0, no_frame)
     ∷ (step.Deliver 0 1 2, no_frame)
     ∷ [])
-unfolding take_step act receive allocated dropped given accepted taken_in count_in take_body append
-    shade vouch settled
+unfolding take_step act receive taken_in count_in take_body append see_to settled
 refusals = refl
 
 -- each call has the answer beside it
@@ -251,7 +244,7 @@ pub wrong-messages : Answers (
     ∷ (offered 0 1 2 1 None, Ok answer.Early)
     ∷ (offered 0 1 0 1 (Some (object 2 0 1)), Ok answer.Repeat)
     ∷ [])
-unfolding receive taken_in count_in take_body append shade vouch settled
+unfolding receive taken_in count_in take_body append see_to settled
 wrong-messages = refl
 
 abbrev pub effect_answer : Result Effect Refusal → Result Answer Refusal
@@ -269,7 +262,7 @@ pub numbers : Answers (
     ∷ (given_after (GREATEST_NUMBER - 1), Ok (answer.Sent 281474976710656))
     ∷ (given_after GREATEST_NUMBER, Err LinkSpent)
     ∷ [])
-unfolding given append
+unfolding append
 numbers = refl
 
 -- A heap of three slots whose slots 2 and 0 were freed in this order. Slot 0 is used first.

@@ -4,9 +4,9 @@ use Rattle.std.specs.Int.{int_wrap}
 use Rattle.ids.specs.declared.refusal.Refusal.TheVariants.{NothingToDo}
 use Rattle.msg.specs.declared.body.Colour.TheVariants.{White, Black}
 use Rattle.model.specs.Counting.{append, announce}
-use Rattle.model.specs.Shading.{make_grey, shade, vouch, enter, join}
+use Rattle.model.specs.Shading.{make_grey, see_to, enter, join}
 use Rattle.model.specs.Collecting.{probe, begun, scan, scanned, conclude, passed, sweep_one, swept_slots}
-use Rattle.model.specs.Steps.{act, receive, allocated, copied, dropped, loaded, stored, given, accepted, put_asked, get_asked, count_in, take_body, settled, taken_in}
+use Rattle.model.specs.Steps.{act, receive, count_in, take_body, settled, taken_in}
 use Rattle.model.specs.World.{take_step}
 use Rattle.rows.proofs.Rows.{object, space, alloc, drop_register, give, accept, made, sent, letter, received, done, no_frame, refused}
 use Rattle.rows.proofs.ObjectRows.{copy, load, store, put, get, value}
@@ -52,8 +52,8 @@ roots_in_order =
     ∷ []
 
 pub roots-in-order-prints : Prints (space 2 4 16) roots_in_order
-unfolding take_step act receive append announce shade vouch make_grey enter join allocated copied
-    dropped given accepted begun probe scan scanned count_in take_body settled taken_in
+unfolding take_step act receive append announce see_to make_grey enter join begun probe scan scanned
+    count_in take_body settled taken_in
 roots-in-order-prints = refl
 
 -- The places of an object are shaded in order.
@@ -74,8 +74,7 @@ places_in_order =
     ∷ []
 
 pub places-in-order-prints : Prints (space 2 4 16) places_in_order
-unfolding take_step act append announce shade make_grey enter join allocated dropped stored begun
-    probe scan scanned
+unfolding take_step act append announce see_to make_grey enter join begun probe scan scanned
 places-in-order-prints = refl
 
 -- Node 1 makes two objects, the first with this many places. References to both end up in this
@@ -120,8 +119,8 @@ marks_in_order =
     ∷ []
 
 pub marks-in-order-prints : Prints (space 2 4 16) marks_in_order
-unfolding take_step act receive append announce shade vouch make_grey enter join allocated dropped
-    stored given accepted begun probe scan scanned count_in take_body settled taken_in
+unfolding take_step act receive append announce see_to make_grey enter join begun probe scan scanned
+    count_in take_body settled taken_in
 marks-in-order-prints = refl
 
 -- For a Put from an earlier cycle, the object that it writes to is shaded before the reference that
@@ -142,9 +141,8 @@ target_first =
     ∷ []
 
 pub target-first-prints : Prints (space 3 4 16) target_first
-unfolding int_wrap take_step act receive append announce shade vouch make_grey enter join allocated
-    dropped given accepted put_asked begun probe scan scanned conclude passed count_in take_body
-    settled taken_in
+unfolding int_wrap take_step act receive append announce see_to make_grey enter join begun probe
+    scan scanned conclude passed count_in take_body settled taken_in
 target-first-prints = refl
 
 -- What a Get asks for is shaded before it is sent back. If it names an object of the node that
@@ -176,9 +174,8 @@ mark_before_answer =
     ∷ []
 
 pub mark-before-answer-prints : Prints (space 3 4 16) mark_before_answer
-unfolding int_wrap take_step act receive append announce shade vouch make_grey enter join allocated
-    dropped stored given accepted get_asked begun probe conclude passed count_in take_body settled
-    taken_in
+unfolding int_wrap take_step act receive append announce see_to make_grey enter join begun probe
+    conclude passed count_in take_body settled taken_in
 mark-before-answer-prints = refl
 
 -- An own object of the node turns grey when a Get asks for it.
@@ -204,9 +201,8 @@ value_shaded =
     ∷ []
 
 pub value-shaded-prints : Prints (space 3 4 16) value_shaded
-unfolding int_wrap take_step act receive append announce shade vouch make_grey enter join allocated
-    dropped stored given accepted get_asked begun probe scan scanned conclude passed count_in
-    take_body settled taken_in
+unfolding int_wrap take_step act receive append announce see_to make_grey enter join begun probe
+    scan scanned conclude passed count_in take_body settled taken_in
 value-shaded-prints = refl
 
 -- A reference that was vouched for counts as asked for: no Mark is sent when it is met again.
@@ -226,8 +222,8 @@ vouched_once =
     ∷ []
 
 pub vouched-once-prints : Prints (space 3 4 16) vouched_once
-unfolding int_wrap take_step act receive append announce shade vouch make_grey enter join allocated
-    loaded stored given accepted begun probe conclude passed count_in take_body settled taken_in
+unfolding int_wrap take_step act receive append announce see_to make_grey enter join begun probe
+    conclude passed count_in take_body settled taken_in
 vouched-once-prints = refl
 
 -- What was asked for in one cycle is asked for again in the next.
@@ -266,7 +262,6 @@ asked_again =
     ∷ []
 
 pub asked-again-prints : Prints (space 2 4 16) asked_again
-unfolding int_wrap take_step act receive append announce shade vouch make_grey enter join allocated
-    dropped given accepted begun probe scan scanned conclude passed sweep_one swept_slots count_in
-    take_body settled taken_in
+unfolding int_wrap take_step act receive append announce see_to make_grey enter join begun probe
+    scan scanned conclude passed sweep_one swept_slots count_in take_body settled taken_in
 asked-again-prints = refl

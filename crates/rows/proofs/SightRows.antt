@@ -9,9 +9,9 @@ use Rattle.model.specs.declared.event.Answer.TheVariants as answer
 use Rattle.model.specs.declared.step.Step.{Step}
 use Rattle.model.specs.declared.step.Step.TheVariants as step
 use Rattle.model.specs.Counting.{append, announce}
-use Rattle.model.specs.Shading.{make_grey, shade, vouch, enter, join}
+use Rattle.model.specs.Shading.{make_grey, see_to, enter, join}
 use Rattle.model.specs.Collecting.{probe, begun, conclude, passed, sweep_one, swept_slots}
-use Rattle.model.specs.Steps.{act, receive, allocated, dropped, word_read, given, accepted, count_in, take_body, settled, taken_in}
+use Rattle.model.specs.Steps.{act, receive, count_in, take_body, settled, taken_in}
 use Rattle.model.specs.World.{take_step, new_world}
 use Rattle.laws.specs.Objects.{new_space, Sight, told, came, IsRun}
 use Rattle.laws.specs.Sights.{kept}
@@ -42,9 +42,8 @@ rows =
     ∷ []
 
 pub sights-print : Prints (space 2 4 16) rows
-unfolding int_wrap take_step act receive append announce shade vouch make_grey enter join allocated
-    dropped word_read given accepted begun probe conclude passed sweep_one swept_slots count_in
-    take_body settled taken_in
+unfolding int_wrap take_step act receive append announce see_to make_grey enter join begun probe
+    conclude passed sweep_one swept_slots count_in take_body settled taken_in
 sights-print = refl
 
 abbrev steps_in : List Row → List Step
@@ -85,14 +84,12 @@ after_sweep =
     ∷ []
 
 pub saved-sights : kept (new_world (space 2 4 16)) (steps_in rows) (λ _. true) ≡ before_saves
-unfolding int_wrap take_step act receive append announce shade vouch make_grey enter join allocated
-    dropped word_read given accepted begun probe conclude passed sweep_one swept_slots count_in
-    take_body settled taken_in
+unfolding int_wrap take_step act receive append announce see_to make_grey enter join begun probe
+    conclude passed sweep_one swept_slots count_in take_body settled taken_in
 saved-sights = refl
 
 pub current-sights : kept (new_world (space 2 4 16)) (steps_in rows) (λ _. false)
     ≡ before_saves ++ after_sweep
-unfolding int_wrap take_step act receive append announce shade vouch make_grey enter join allocated
-    dropped word_read given accepted begun probe conclude passed sweep_one swept_slots count_in
-    take_body settled taken_in
+unfolding int_wrap take_step act receive append announce see_to make_grey enter join begun probe
+    conclude passed sweep_one swept_slots count_in take_body settled taken_in
 current-sights = refl

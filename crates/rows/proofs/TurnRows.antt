@@ -14,7 +14,7 @@ use Rattle.model.specs.declared.event.Answer.TheVariants as answer
 use Rattle.model.specs.State.{Occupied, LocalState, new_local, slot_at}
 use Rattle.model.specs.Effects.{Effect}
 use Rattle.model.specs.Counting.{append}
-use Rattle.model.specs.Shading.{make_grey, shade, vouch, enter, join}
+use Rattle.model.specs.Shading.{make_grey, see_to, enter, join}
 use Rattle.model.specs.Steps.{received, count_in, take_body, settled, taken_in}
 use Rattle.rows.proofs.Rows.{Answers, effect_answer, object, space}
 use Rattle.rows.proofs.Words.{state, numbers_of, mark_of}
@@ -75,7 +75,7 @@ pub stamps : Answers (
     ∷ (told (standing 0 1 1 1) 2 1 give, taken)
     ∷ (told (standing 0 1 1 1) 2 2 give, wrong)
     ∷ [])
-unfolding append shade vouch make_grey enter join count_in take_body settled taken_in
+unfolding append see_to make_grey enter join count_in take_body settled taken_in
 stamps = refl
 
 -- who may send what, and about which objects
@@ -102,7 +102,7 @@ pub senders : Answers (
     ∷ (told (standing 0 1 1 1) 1 1 body.Swept, taken)
     ∷ (told (standing 2 1 1 1) 1 1 body.Swept, wrong)
     ∷ [])
-unfolding append shade vouch make_grey enter join count_in take_body settled taken_in
+unfolding append see_to make_grey enter join count_in take_body settled taken_in
 senders = refl
 
 -- The token, Ended and Swept must fit the node as it is after joining.
@@ -120,7 +120,7 @@ pub in-phase : Answers (
     ∷ (told (holding_token (standing 1 1 0 0)) 0 1 body.Ended, wrong)
     ∷ (told (standing 0 1 1 1) 1 0 body.Swept, wrong)
     ∷ [])
-unfolding append shade vouch make_grey enter join count_in take_body settled taken_in
+unfolding append see_to make_grey enter join count_in take_body settled taken_in
 in-phase = refl
 
 -- If the end of marking makes a node join first, the node may do so only if no object turns grey.
@@ -131,7 +131,7 @@ pub ended-unjoined : Answers (
     ∷ (told (with_root (object 1 0 1) (with_object 0 (standing 1 0 0 0))) 0 1 body.Ended, taken)
     ∷ (told (with_root (object 2 0 2) (with_object 0 (standing 1 0 0 0))) 0 1 body.Ended, taken)
     ∷ [])
-unfolding append shade vouch make_grey enter join count_in take_body settled taken_in
+unfolding append see_to make_grey enter join count_in take_body settled taken_in
 ended-unjoined = refl
 
 -- ---- the state afterwards
@@ -161,7 +161,7 @@ has_joined = left before_joining 1 body.Begin
 pub joins-anew : (has_joined.asked ≡ [])
     × (has_joined.phases ≡ record (standing 1 0 0 0).phases { cycle = 1 })
     × (has_joined.ring ≡ record { colour = Black; earlier = pos 3; recent = pos 0; token = None })
-unfolding append shade vouch make_grey enter join count_in take_body settled taken_in
+unfolding append see_to make_grey enter join count_in take_body settled taken_in
 joins-anew = (refl, refl, refl)
 
 -- A Mark of an earlier cycle counts with those of the present one, makes the node black, and marks
@@ -171,7 +171,7 @@ late_mark = left (with_object 1 (standing 1 2 1 1)) 1 (body.Mark (object 1 0 2))
 
 pub mark-late : (numbers_of late_mark ≡ state 2 1 1 Black (neg_ℤ (pos 1)) (pos 0) 1 1 false 0)
     × (mark_of (slot_at late_mark.heap 0) ≡ 2)
-unfolding append shade vouch make_grey enter join count_in take_body settled taken_in
+unfolding append see_to make_grey enter join count_in take_body settled taken_in
 mark-late = (refl, refl)
 
 -- Once marking has ended nothing is shaded, but a message of an earlier cycle counts as before.
@@ -181,7 +181,7 @@ late_give =
 
 pub give-late : (numbers_of late_give ≡ state 1 1 0 Black (neg_ℤ (pos 1)) (pos 0) 0 1 false 1)
     × (mark_of (slot_at late_give.heap 0) ≡ 0)
-unfolding append shade vouch make_grey enter join count_in take_body settled taken_in
+unfolding append see_to make_grey enter join count_in take_body settled taken_in
 give-late = (refl, refl)
 
 -- The token is held as it came, and is counted in no balance.
@@ -190,7 +190,7 @@ given_token = left (standing 2 1 0 0) 1 (body.Token token)
 
 pub token-held : (numbers_of given_token ≡ state 1 0 0 White (pos 0) (pos 0) 0 0 true 0)
     × (given_token.ring.token ≡ Some token)
-unfolding append shade vouch make_grey enter join count_in take_body settled taken_in
+unfolding append see_to make_grey enter join count_in take_body settled taken_in
 token-held = (refl, refl)
 
 -- Ended is counted in no balance either. The node notes that marking has ended.
@@ -198,7 +198,7 @@ abbrev told_ended : LocalState
 told_ended = left (standing 1 1 0 0) 1 body.Ended
 
 pub ended-noted : numbers_of told_ended ≡ state 1 1 0 White (pos 0) (pos 0) 0 0 false 0
-unfolding append shade vouch make_grey enter join count_in take_body settled taken_in
+unfolding append see_to make_grey enter join count_in take_body settled taken_in
 ended-noted = refl
 
 -- Node 0 notes Swept under the number of the node that has swept.
@@ -206,5 +206,5 @@ abbrev told_swept : LocalState
 told_swept = left_by (received (standing 0 1 1 1) (0 ∷ 0 ∷ 0 ∷ []) 2 0 1 1 body.Swept)
 
 pub swept-noted : told_swept.phases.reports ≡ 0 ∷ 0 ∷ 1 ∷ []
-unfolding append shade vouch make_grey enter join count_in take_body settled taken_in
+unfolding append see_to make_grey enter join count_in take_body settled taken_in
 swept-noted = refl

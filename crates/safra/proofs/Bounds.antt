@@ -4,9 +4,8 @@ use Rattle.std.proofs.lemmas.Int.{ints}
 use Rattle.model.specs.declared.balance.Balance.{Balance}
 use Rattle.model.specs.declared.balance.Balance.TheVariants.{Earlier, Recent}
 use Rattle.model.specs.State.{Ring, new_ring}
-use Rattle.model.specs.Counting.{counted_up, counted_down}
+use Rattle.model.specs.Counting.{counted_up, counted_down, counted_marks}
 use Rattle.model.specs.Shading.{entered}
-use Rattle.safra.specs.Rings.{counted_marks}
 use Rattle.safra.specs.Balances.{IsBounded}
 
 pub bounded_new : (most : ℕ) → IsBounded most new_ring

@@ -36,5 +36,5 @@ mod ring;
 mod verdict;
 
 pub use counting::balance_of;
-pub use ring::Ring;
+pub use ring::{NEW_TOKEN, Ring};
 pub use verdict::Verdict;

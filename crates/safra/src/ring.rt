@@ -4,7 +4,7 @@
 ghost use Rattle.std.specs.Prelude.{◌≡◌, ◌≤◌, ◌^◌, IsSome};
 ghost use Rattle.ids.specs.declared.limits.TheConstants.{GREATEST_COUNTED};
 ghost use Rattle.model.specs.State.{new_ring};
-ghost use Rattle.model.specs.Counting.{counted_up, counted_down};
+ghost use Rattle.model.specs.Counting.{counted_up, counted_down, counted_marks};
 ghost use Rattle.model.specs.Shading.{entered};
 ghost use Rattle.model.specs.Collecting.{
   is_white,
@@ -15,7 +15,7 @@ ghost use Rattle.model.specs.Collecting.{
   sum_of,
   forwarded,
 };
-ghost use Rattle.safra.specs.Rings.{ring_of, counted_marks, with_token};
+ghost use Rattle.safra.specs.Rings.{ring_of, with_token};
 ghost use Rattle.safra.specs.Balances.{IsBounded};
 ghost use Rattle.safra.specs.Verdicts.{verdict_of, judged_ring};
 
@@ -25,7 +25,7 @@ use msg::{Colour, Token};
 use std::marker::Model;
 
 /// The token of a new probe.
-const NEW_TOKEN: Token = Token {
+pub const NEW_TOKEN: Token = Token {
     colour: Colour::White,
     q: 0,
 };
@@ -40,7 +40,7 @@ const NEW_TOKEN: Token = Token {
 ///
 /// No call allocates memory. Calls that count require that the two parts together are at most
 /// [`ids::GREATEST_COUNTED`], whatever their signs: no node sends and receives more.
-#[derive(Clone, Copy, Debug, PartialEq, Eq)]
+#[derive(Clone, Copy)]
 pub struct Ring {
     colour: Colour,
     earlier: i64,
@@ -115,7 +115,7 @@ impl Ring {
 
     /// Counts a message that was sent, in the balance that [`balance_of`](crate::balance_of)
     /// returns; `None` changes nothing.
-    pub fn sent(&mut self, balance: Option<Balance>)
+    pub fn count_sent(&mut self, balance: Option<Balance>)
         requires { IsBounded GREATEST_COUNTED self.old }
         ensures { self.new ≡ counted_up balance self.old }
     {
@@ -127,7 +127,7 @@ impl Ring {
     }
 
     /// Counts this many Marks as sent. A Mark counts in the present cycle.
-    pub fn sent_marks(&mut self, count: u64)
+    pub fn count_marks(&mut self, count: u64)
         requires small { IsBounded GREATEST_COUNTED self.old }
         requires few { count ≤ GREATEST_COUNTED }
         ensures { self.new ≡ counted_marks count self.old }
@@ -138,7 +138,7 @@ impl Ring {
     /// Counts a message that was received, in the balance that [`balance_of`](crate::balance_of)
     /// returns; `None` changes nothing. A message that counts in the present cycle makes the node
     /// black, since it may have made the node active after the token left.
-    pub fn received(&mut self, balance: Option<Balance>)
+    pub fn count_received(&mut self, balance: Option<Balance>)
         requires { IsBounded GREATEST_COUNTED self.old }
         ensures { self.new ≡ counted_down balance self.old }
     {

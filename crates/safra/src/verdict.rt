@@ -3,7 +3,7 @@
 use msg::Token;
 
 /// What node 0 concludes from the token once it has gone round.
-#[derive(Clone, Copy, Debug, PartialEq, Eq)]
+#[derive(Clone, Copy)]
 pub enum Verdict {
     /// Marking has ended everywhere.
     Ended,

@@ -4,14 +4,13 @@ ghost use Rattle.std.specs.Prelude.{◌≡◌, ◌≤◌, ◌<◌, ◌⊎◌, No
 ghost use Rattle.std.specs.Prelude.{◌==◌, option_and_then, option_map};
 ghost use Rattle.toml.specs.Data.{as_integer, get_member};
 ghost use Rattle.toml.specs.View.{table_view, view};
-ghost use Rattle.ids.specs.declared.refusal.Refusal.TheVariants.{Memory};
 ghost use Rattle.settings.specs.Settings.{count_keys, found_settings, settings_of, folder_in};
 ghost use Rattle.settings.specs.Settings.{number_at, shape_at, table_settings, text_settings};
 ghost use Rattle.settings.specs.Settings.{within};
 ghost use Rattle.settings.specs.declared.fault.OpenFault.TheVariants as fault;
 
 use crate::fault::OpenFault;
-use ids::{GREATEST_NODES, GREATEST_REGISTERS, GREATEST_SLOTS, LEAST_NODES, Refusal, Shape};
+use ids::{GREATEST_NODES, GREATEST_REGISTERS, GREATEST_SLOTS, LEAST_NODES, Shape};
 use std::alloc::Global;
 use toml::{Table, Value};
 
@@ -45,18 +44,18 @@ impl Config {
     /// `registers`, 1 to 256; `slots`, 1 to 1,048,576; `turns`, 1 to 1,000,000; and optionally
     /// `folder`, a string.
     ///
-    /// `Config` exactly if the text isn't such a document. `Refused` with `Memory` may come instead
-    /// of either result.
+    /// `Config` exactly if the text isn't such a document. `Memory` may come instead of either
+    /// result.
     pub fn from_text(alloc: Global, text: &str) -> Result<Config, OpenFault>
         ensures read { IfOk result (λ c. text_settings text.now ≡ Some (settings_of c)) }
         ensures refused { IfErr result (λ e.
-            ((e ≡ fault.Config) × (text_settings text.now ≡ None)) ⊎ (e ≡ fault.Refused Memory)) }
+            ((e ≡ fault.Config) × (text_settings text.now ≡ None)) ⊎ (e ≡ fault.Memory)) }
     {
         match toml::table_from_str(alloc, text) {
             Ok(table) => config_in(alloc, &table),
             Err(error) => {
                 if error.is_memory() {
-                    Err(OpenFault::Refused(Refusal::Memory))
+                    Err(OpenFault::Memory)
                 } else {
                     Err(OpenFault::Config)
                 }
@@ -70,7 +69,7 @@ fn config_in(alloc: Global, table: &Table) -> Result<Config, OpenFault>
     ensures read { IfOk result (λ c. table_settings (table_view table.now) ≡ Some (settings_of c)) }
     ensures refused { IfErr result (λ e.
         ((e ≡ fault.Config) × (table_settings (table_view table.now) ≡ None))
-        ⊎ (e ≡ fault.Refused Memory)) }
+        ⊎ (e ≡ fault.Memory)) }
 {
     let Some(found) = found_in(table) else {
         return Err(OpenFault::Config);
@@ -78,7 +77,7 @@ fn config_in(alloc: Global, table: &Table) -> Result<Config, OpenFault>
     let folder = match found.folder {
         Some(text) => match String::from_str(alloc, text) {
             Ok(folder) => Some(folder),
-            Err(_) => return Err(OpenFault::Refused(Refusal::Memory)),
+            Err(_) => return Err(OpenFault::Memory),
         },
         None => None,
     };

@@ -1,7 +1,7 @@
 -- Frames one after another in one buffer.
 use Rattle.std.proofs.Common.{◌≡◌, ℕ, zero, suc, ◌<◌, ◌≤◌, List, [], ◌∷◌, ◌++◌, length, take, drop, get_or, slice_get, Some, refl, ap, sym, ◌∙◌, subst, arith}
 use Rattle.std.specs.List.{slice_range}
-use Rattle.std.proofs.lemmas.List.{take-append-le, take-append-drop, drop_at, length-take-le}
+use Rattle.std.proofs.lemmas.List.{take-append-le, take-append-drop, drop_at, length-take-le, take_all}
 use Rattle.std.proofs.lemmas.Slice.{between_is, between_to_end}
 use Rattle.site.specs.InsideFrames.{cut_at, AreEnds}
 
@@ -109,3 +109,9 @@ cut_front bytes n ends h less =
 
 -- the rules for dropping the last frames
 pub ruleset fronts = (cut_length, ends_front, cut_front)
+
+-- all parts are kept
+pub all_kept : (n : ℕ) (bytes : List ℕ) (from : ℕ) (ends : List ℕ) → length ends ≤ n →
+    cut_at bytes from ends ≡ take n (cut_at bytes from ends)
+all_kept n bytes from ends le =
+    sym (take_all n (cut_at bytes from ends) (omega (arith, cut_length bytes from ends, le)))

@@ -70,13 +70,16 @@ impl Frames {
     }
 
     /// Drops all frames except the first `count`.
-    #[tactic(auto, using(crate::proofs::Cuts::fronts))]
+    #[tactic(auto, using(crate::proofs::Cuts::fronts, crate::proofs::Cuts::all_kept))]
     pub fn truncate(&mut self, count: usize)
         requires { count ≤ length self.old }
         ensures { self.new ≡ take count self.old }
     {
-        self.bytes.truncate(start(&self.ends, count));
-        self.ends.truncate(count);
+        // Most often there is nothing to drop.
+        if count < self.ends.len() {
+            self.bytes.truncate(start(&self.ends, count));
+            self.ends.truncate(count);
+        }
     }
 }
 

@@ -1,6 +1,6 @@
 -- Spaces that are opened on images: what the disks of these images have, and what follows of the
 -- cells.
-use Rattle.std.proofs.Common.{◌≡◌, ◌≢◌, ℕ, ◌≤◌, ◌+◌, zero, suc, List, [], ◌++◌, Some, None, length, map, drop, refl, sym, ap, ◌∙◌, subst}
+use Rattle.std.proofs.Common.{◌≡◌, ℕ, ◌≤◌, ◌+◌, zero, suc, List, [], ◌++◌, Some, None, length, map, drop, refl, sym, ap, ◌∙◌, subst}
 use Rattle.std.specs.Prelude.{slice_get}
 use Rattle.std.proofs.lemmas.List.{append-nil, length-map}
 use Rattle.ids.specs.Limits.{Shaped}
@@ -15,14 +15,15 @@ use Rattle.disk.specs.Memory.{held_by}
 use Rattle.disk.specs.Shelf.{record_of, recorded}
 use Rattle.disk.specs.declared.memory.MemoryDisk.{MemoryDisk}
 use Rattle.disk.proofs.Records.{recorded_holds}
-use Rattle.cell.specs.Ages.{AreApart, AreRead, IfAges}
-use Rattle.cell.specs.Opened.{AreBeside, HasPlace, HoldsAnother, HoldsNone, IfRefused, IsCause, IsReadFrom}
+use Rattle.cell.specs.Ages as ages
+use Rattle.cell.specs.Ages.{AreApart, AreRead}
+use Rattle.cell.specs.Opened.{AreBeside, HasAt, HoldsAnother, HoldsNone, IsCause, IsReadFrom}
 use Rattle.cell.specs.declared.fault.Unopened.{Unopened}
 use Rattle.cell.specs.declared.fault.Unopened.TheVariants as unopened
 use Rattle.cell.specs.Opened as cells
 use Rattle.cell.proofs.Places.{mapped-from, mapped-there}
-use Rattle.handles.specs.declared.fault.Fault.TheVariants as fault
-use Rattle.spaces.specs.Opening.{AreOfTwoAges, Begins, EachOf, HoldsNoImage, HoldsOther, Image, IsShort, IsTooLarge, IsWhy, areas_in, fault_of}
+use Rattle.values.specs.declared.fault.Fault.TheVariants as fault
+use Rattle.spaces.specs.Opening.{AreOfTwoAges, Begins, EachOf, HasPlace, HoldsNoImage, HoldsOther, Image, IsShort, IsTooLarge, IsWhy, areas_in, fault_of}
 
 some-is : {A : Type 0} (x y : A) → Some x ≡ Some y → x ≡ y
 some-is x y e = cc
@@ -118,24 +119,24 @@ long-in None long = long tt
 long-in (Some v) long = λ n fits whole. long fits
 
 -- what a property of a disk means for the image
-moved : {P : ℕ → MemoryDisk → Type 0} {Q : ℕ → Image → Type 0} {images : List Image}
-    {disks : List MemoryDisk} → AreDisksOf images disks
-    → ((k : ℕ) (d : MemoryDisk) (i : Image) → IsShort i → held_by d ≡ areas_in i → P k d → Q k i)
-    → HasPlace P disks → HasPlace Q images
-moved are f h =
-    let of = image-at are h.place h.value h.there in
+moved : {P : MemoryDisk → Type 0} {Q : ℕ → Image → Type 0} {images : List Image}
+    {disks : List MemoryDisk} (k : ℕ) → AreDisksOf images disks
+    → ((d : MemoryDisk) (i : Image) → IsShort i → held_by d ≡ areas_in i → P d → Q k i)
+    → HasAt k P disks → HasPlace Q images
+moved k are f h =
+    let of = image-at are k h.value h.there in
     record {
-      place = h.place;
+      place = k;
       value = of.0;
       there = of.1;
-      is = f h.place h.value of.0 (are.short h.place of.0 of.1) of.2 h.is;
+      is = f h.value of.0 (are.short k of.0 of.1) of.2 h.is;
     }
 
-pub wrong-disks : (shape : Shaped) (images : List Image) (disks : List MemoryDisk)
-    → AreDisksOf images disks → HasPlace (λ k d. HoldsAnother shape k (held_by d)) disks
+pub wrong-disks : (shape : Shaped) (images : List Image) (disks : List MemoryDisk) (k : ℕ)
+    → AreDisksOf images disks → HasAt k (λ d. HoldsAnother shape k (held_by d)) disks
     → HasPlace (λ k i. HoldsOther shape k i) images
-wrong-disks shape images disks are =
-    moved are (λ k d i short is h.
+wrong-disks shape images disks k are =
+    moved k are (λ d i short is h.
     other-in shape k i short (subst (λ (c : Areas). HoldsAnother shape k c) is h))
 
 pub too-long : (images : List Image) → HasPlace (λ k i. IsShort i → ⊥) images
@@ -149,47 +150,41 @@ too-long images h = record {
 
 module _ (moment faults : MemoryDisk → ℕ) (shape : Shaped) (images : List Image)
     (disks : List MemoryDisk) (are : AreDisksOf images disks) where
-  abbrev pub Cause : Refusal → Type 0
-  Cause e = HasPlace (λ k d. IsCause held_by moment faults shape k d e) disks
-
-  pub why-refused : (e : Refusal) → (e ≢ refusal.Memory → Cause e)
+  pub why-refused : (k : ℕ) (e : Refusal)
+      → HasAt k (λ d. IsCause held_by moment faults shape k d e) disks
       → IsWhy shape images (fault.Refused e)
-  why-refused refusal.Memory h = tt
-  why-refused refusal.Disk h = tt
-  why-refused refusal.BadImage h =
-      moved are (λ k d i short is x. none-in i (subst HoldsNone is x)) (h (λ e. absurd cc))
-  why-refused refusal.ImageTooLarge h =
-      moved are (λ k d i short is x.
-      large-in shape k i (subst (λ (c : Areas). cells.IsTooLarge shape k c) is x))
-      (h (λ e. absurd cc))
-  why-refused refusal.ArenaFull h = (h (λ e. absurd cc)).is
-  why-refused refusal.NoRegister h = (h (λ e. absurd cc)).is
-  why-refused refusal.EmptyRegister h = (h (λ e. absurd cc)).is
-  why-refused refusal.Remote h = (h (λ e. absurd cc)).is
-  why-refused refusal.Local h = (h (λ e. absurd cc)).is
-  why-refused refusal.NoNode h = (h (λ e. absurd cc)).is
-  why-refused refusal.NoLetter h = (h (λ e. absurd cc)).is
-  why-refused refusal.NoField h = (h (λ e. absurd cc)).is
-  why-refused refusal.TooManyFields h = (h (λ e. absurd cc)).is
-  why-refused refusal.SelfSend h = (h (λ e. absurd cc)).is
-  why-refused refusal.LinkSpent h = (h (λ e. absurd cc)).is
-  why-refused refusal.CyclesSpent h = (h (λ e. absurd cc)).is
-  why-refused refusal.NotDirector h = (h (λ e. absurd cc)).is
-  why-refused refusal.CycleRunning h = (h (λ e. absurd cc)).is
-  why-refused refusal.NothingToDo h = (h (λ e. absurd cc)).is
-  why-refused refusal.OutOfOrder h = (h (λ e. absurd cc)).is
-  why-refused refusal.AckBeyond h = (h (λ e. absurd cc)).is
-  why-refused refusal.BadFrame h = (h (λ e. absurd cc)).is
-  why-refused refusal.WrongNode h = (h (λ e. absurd cc)).is
-  why-refused refusal.Closed h = (h (λ e. absurd cc)).is
+  why-refused k refusal.Memory h = tt
+  why-refused k refusal.Disk h = tt
+  why-refused k refusal.BadImage h =
+      moved k are (λ d i short is x. none-in i (subst HoldsNone is x)) h
+  why-refused k refusal.ImageTooLarge h =
+      moved k are (λ d i short is x.
+      large-in shape k i (subst (λ (c : Areas). cells.IsTooLarge shape k c) is x)) h
+  why-refused k refusal.ArenaFull h = h.is
+  why-refused k refusal.NoRegister h = h.is
+  why-refused k refusal.EmptyRegister h = h.is
+  why-refused k refusal.Remote h = h.is
+  why-refused k refusal.Local h = h.is
+  why-refused k refusal.NoNode h = h.is
+  why-refused k refusal.NoLetter h = h.is
+  why-refused k refusal.NoField h = h.is
+  why-refused k refusal.TooManyFields h = h.is
+  why-refused k refusal.SelfSend h = h.is
+  why-refused k refusal.LinkSpent h = h.is
+  why-refused k refusal.CyclesSpent h = h.is
+  why-refused k refusal.NotDirector h = h.is
+  why-refused k refusal.CycleRunning h = h.is
+  why-refused k refusal.NothingToDo h = h.is
+  why-refused k refusal.OutOfOrder h = h.is
+  why-refused k refusal.AckBeyond h = h.is
+  why-refused k refusal.BadFrame h = h.is
+  why-refused k refusal.WrongNode h = h.is
+  why-refused k refusal.Closed h = h.is
 
-  pub why : (e : Unopened)
-      → (e ≡ unopened.Disks → HasPlace (λ k d. HoldsAnother shape k (held_by d)) disks)
-      → IfRefused Cause e
-      → IfAges (λ sender receiver.
-      AreRead held_by shape disks (λ ns. AreApart ns sender receiver)) e
-      → IsWhy shape images (fault_of e)
-  why unopened.Disks other cause ages = wrong-disks shape images disks are (other refl)
-  why (unopened.Ages sender receiver) other cause ages =
-      two-ages shape images disks sender receiver are ages
-  why (unopened.Refused e) other cause ages = why-refused e cause
+  pub why : length disks ≡ shape.nodes → (e : Unopened)
+      → ages.IsWhy held_by moment faults shape disks e → IsWhy shape images (fault_of e)
+  why many unopened.Disks h = absurd (h many)
+  why many (unopened.Another k) h = wrong-disks shape images disks k are h
+  why many (unopened.Ages sender receiver) h = two-ages shape images disks sender receiver are h
+  why many (unopened.Failed k e) h = why-refused k e h
+  why many unopened.Memory h = tt

@@ -24,10 +24,10 @@ use Rattle.wire.specs.declared.pumped.Inbound.TheVariants as inbound
 use Rattle.model.specs.declared.step.Step.TheVariants as step
 use Rattle.cell.specs.Events.{outcome_of}
 use Rattle.cell.specs.Events as events
-use Rattle.handles.specs.Bytes.{Wrote}
+use Rattle.values.specs.Bytes.{Wrote}
 use Rattle.handles.specs.Images.{Sized}
-use Rattle.handles.specs.declared.fault.Fault.{Fault}
-use Rattle.handles.specs.declared.fault.Fault.TheVariants as fault
+use Rattle.values.specs.declared.fault.Fault.{Fault}
+use Rattle.values.specs.declared.fault.Fault.TheVariants as fault
 use Rattle.spaces.specs.declared.seated.SeatedCell.{SeatedCell}
 
 -- the wire and the marks stay as they are
@@ -162,7 +162,8 @@ pub record SavedAs (old new : SeatedCell) (r : Result (Unit {0}) Refusal) : Type
   })
   pub closed : IsErrOf r refusal.Closed ↔ (old.cell.is_open ≡ false)
   pub disk : IsErrOf r refusal.Disk
-      → Grew old.cell.disk.failures new.cell.disk.failures × (new.cell.is_open ≡ false)
+      → Grew old.cell.disk.account.failures new.cell.disk.account.failures
+      × (new.cell.is_open ≡ false)
   pub too_large : IsErrOf r refusal.ImageTooLarge
       ↔ IsTrue old.cell.is_open × (GREATEST_IMAGE < length (image_of old.cell.node.core))
   pub unchanged : IfErr r (λ e. e ≢ refusal.Disk

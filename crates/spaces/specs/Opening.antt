@@ -20,11 +20,11 @@ use Rattle.wire.specs.declared.seats.Watch.{Watch}
 use Rattle.wire.specs.declared.seats.Wire.{Wire}
 use Rattle.cell.specs.Ages.{AreApart, AreOfOneAge}
 use Rattle.cell.specs.Cells.{CellView, IsNew}
-use Rattle.cell.specs.Opened.{AreBeside, HasPlace, IsNodeOf, cores, world_of}
+use Rattle.cell.specs.Opened.{AreBeside, IsNodeOf, cores, world_of}
 use Rattle.cell.specs.declared.fault.Unopened.{Unopened}
 use Rattle.cell.specs.declared.fault.Unopened.TheVariants as unopened
-use Rattle.handles.specs.declared.fault.Fault.{Fault}
-use Rattle.handles.specs.declared.fault.Fault.TheVariants as fault
+use Rattle.values.specs.declared.fault.Fault.{Fault}
+use Rattle.values.specs.declared.fault.Fault.TheVariants as fault
 use Rattle.spaces.specs.declared.seated.SeatedCell.{SeatedCell}
 use Rattle.spaces.specs.declared.watching.SeatedWatch.{SeatedWatch}
 
@@ -44,6 +44,13 @@ areas_in (Some image) = record { select = 0 ∷ []; a = record_of image.items; b
 abbrev pub IsShort : Image → Type 0
 IsShort None = Unit {0}
 IsShort (Some image) = length image.items ≤ GREATEST_IMAGE
+
+-- a place of a list at which a property holds
+pub record HasPlace {X : Type 0} (Is : ℕ → X → Type 0) (xs : List X) : Type 0 where
+  pub place : ℕ
+  pub value : X
+  pub there : slice_get xs place ≡ Some value
+  pub is : Is place value
 
 -- a property holds of each element of a list
 abbrev pub EachOf : {X : Type 0} → (X → Type 0) → List X → Type 0
@@ -104,8 +111,10 @@ IsWhy shape images e = ⊥
 -- the fault for each reason
 abbrev pub fault_of : Unopened → Fault
 fault_of unopened.Disks = fault.WrongDisks
+fault_of (unopened.Another node) = fault.WrongDisks
 fault_of (unopened.Ages sender receiver) = fault.Ages sender receiver
-fault_of (unopened.Refused e) = fault.Refused e
+fault_of (unopened.Failed node e) = fault.Refused e
+fault_of unopened.Memory = fault.Refused Memory
 
 -- ---- Cells and watches in their places
 

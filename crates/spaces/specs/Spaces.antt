@@ -7,8 +7,8 @@ use Rattle.ids.specs.declared.refusal.Refusal.TheVariants.{Memory, NoNode}
 use Rattle.disk.specs.declared.memory.MemoryDisk.{MemoryDisk}
 use Rattle.wire.specs.declared.seats.Wire.{Wire}
 use Rattle.cell.specs.Cells.{CellView}
-use Rattle.handles.specs.declared.fault.Fault.{Fault}
-use Rattle.handles.specs.declared.fault.Fault.TheVariants as fault
+use Rattle.values.specs.declared.fault.Fault.{Fault}
+use Rattle.values.specs.declared.fault.Fault.TheVariants as fault
 use Rattle.spaces.specs.Opening.{AreBegun, IsFreshIn, IsOnWire, IsWhy, cell_in, watch_in}
 use Rattle.spaces.specs.declared.seated.SeatedCell.{SeatedCell}
 use Rattle.spaces.specs.declared.watching.SeatedWatch.{SeatedWatch}

@@ -2,7 +2,7 @@
 use Rattle.std.specs.Prelude.{◌≡◌, ℕ, ◌≤◌, max, Result, Ok, Err}
 use Rattle.wire.specs.Plays.{HasEnded, WasEnded}
 use Rattle.wire.specs.Readers.{heard, loaded, watch_opening, IsSameWatch}
-use Rattle.handles.specs.declared.fault.Fault.{Fault}
+use Rattle.values.specs.declared.fault.Fault.{Fault}
 use Rattle.spaces.specs.declared.watching.SeatedWatch.{SeatedWatch}
 
 -- What `Wire::look` ensures, with the number of the cycle.

@@ -4,7 +4,7 @@ ghost use Rattle.std.specs.Coded.{coded_option};
 ghost use Rattle.held.specs.Holds.{unboxed};
 ghost use Rattle.spaces.specs.declared.seated.SeatedCell.{SeatedCell};
 ghost use Rattle.spaces.specs.contracts.seated.SeatedCell.{the_row as Row};
-ghost use Rattle.handles.specs.Faults.{Freed, Through, empty, read};
+ghost use Rattle.values.specs.Faults.{Freed, Through, empty, read};
 ghost use Rattle.handles.specs.Reads.{link_of, register_of};
 ghost use Rattle.model.specs.Steps.{is_own};
 ghost use Rattle.node.specs.Summaries.{summary_of};
@@ -12,13 +12,13 @@ ghost use Rattle.spaces.specs.Cells.{CellActs, HandleImaged, Raised, Received, R
 ghost use Rattle.spaces.specs.Cells.{Sent, SizedSame};
 
 use crate::seated::SeatedCell;
-use handles::{CLink, Fault};
 use held::Held;
 use ids::Ref;
 use model::{Answer, Event};
 use node::Summary;
 use std::alloc::Global;
 use std::marker::{Model, Send};
+use values::{CLink, Fault};
 
 /// What C holds of a cell. Null is an empty handle. Only C copies its bytes, so it can't be dropped
 /// here.

@@ -4,10 +4,9 @@ ghost use Rattle.std.specs.Prelude.{◌≡◌, ◌⊎◌, All, IfErr, IfOk, IsEr
 ghost use Rattle.std.specs.Prelude.{None, Some, replicate};
 ghost use Rattle.std.specs.Arc.{arc_value};
 ghost use Rattle.ids.specs.declared.refusal.Refusal.TheVariants.{Memory};
-ghost use Rattle.cell.specs.Opened.{HasPlace};
 ghost use Rattle.disk.specs.Memory.{held_by};
 ghost use Rattle.wire.specs.Readers.{IsSeatOf, IsWatchOf};
-ghost use Rattle.spaces.specs.Opening.{AreBegun, EachOf, IsFresh, IsFreshIn, IsOnWire, IsShort};
+ghost use Rattle.spaces.specs.Opening.{AreBegun, EachOf, HasPlace, IsFresh, IsFreshIn, IsOnWire, IsShort};
 ghost use Rattle.spaces.specs.Opening.{IsWhy};
 ghost use Rattle.spaces.specs.Opening.{areas_in, cell_in, fault_of, watch_in};
 
@@ -15,10 +14,10 @@ use crate::seated::SeatedCell;
 use crate::watching::SeatedWatch;
 use cell::{Cell, Unopened, open};
 use disk::MemoryDisk;
-use handles::Fault;
 use ids::{GREATEST_IMAGE, Refusal, Shape};
 use std::alloc::Global;
 use std::sync::Arc;
+use values::Fault;
 use wire::{Watch, Wire};
 
 /// This many empty places.
@@ -78,9 +77,10 @@ fn fault_of(unopened: Unopened) -> Fault
     ensures { result ≡ fault_of unopened }
 {
     match unopened {
-        Unopened::Disks => Fault::WrongDisks,
+        Unopened::Disks | Unopened::Another { .. } => Fault::WrongDisks,
         Unopened::Ages { sender, receiver } => Fault::Ages { sender, receiver },
-        Unopened::Refused(refusal) => Fault::Refused(refusal),
+        Unopened::Failed { refusal, .. } => Fault::Refused(refusal),
+        Unopened::Memory => Fault::Refused(Refusal::Memory),
     }
 }
 

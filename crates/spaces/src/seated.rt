@@ -10,7 +10,7 @@ ghost use Rattle.handles.specs.Reads.{link_of, register_of};
 
 use cell::Cell;
 use disk::MemoryDisk;
-use handles::{CLink, Fault, link_of, put, register_of};
+use handles::{link_of, register_of};
 use ids::Ref;
 use image::to_bytes;
 use model::{Answer, Event};
@@ -18,6 +18,7 @@ use node::{Core, Summary};
 use std::alloc::Global;
 use std::snapshot::Snapshot;
 use std::sync::Arc;
+use values::{CLink, Fault, put};
 use wire::{Inbound, Outbound, Wire};
 
 /// A cell with its wire.

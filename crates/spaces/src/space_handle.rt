@@ -4,16 +4,16 @@ ghost use Rattle.std.specs.Coded.{coded_option};
 ghost use Rattle.held.specs.Holds.{unboxed};
 ghost use Rattle.spaces.specs.declared.space.Space.{Space};
 ghost use Rattle.spaces.specs.contracts.space.Space.{the_row as Row};
-ghost use Rattle.handles.specs.Faults.{Filled, Freed, Through, empty};
+ghost use Rattle.values.specs.Faults.{Filled, Freed, Through, empty};
 ghost use Rattle.spaces.specs.Spaces.{Given, Made, Moved, Opens, TakesCell, TakesWatch};
 
 use crate::cell_handle::CellHandle;
 use crate::space::Space;
 use crate::watch_handle::WatchHandle;
-use handles::Fault;
 use held::Held;
 use std::alloc::Global;
 use std::marker::{Model, Send};
+use values::Fault;
 
 /// What C holds of a space. Null is an empty handle. Only C copies its bytes, so it can't be dropped
 /// here.

@@ -4,14 +4,14 @@ ghost use Rattle.std.specs.Coded.{coded_option};
 ghost use Rattle.held.specs.Holds.{unboxed};
 ghost use Rattle.spaces.specs.declared.watching.SeatedWatch.{SeatedWatch};
 ghost use Rattle.spaces.specs.contracts.watching.SeatedWatch.{the_row as Row};
-ghost use Rattle.handles.specs.Faults.{Freed, Through, empty};
+ghost use Rattle.values.specs.Faults.{Freed, Through, empty};
 ghost use Rattle.spaces.specs.Watches.{Looks};
 
 use crate::watching::SeatedWatch;
-use handles::Fault;
 use held::Held;
 use std::alloc::Global;
 use std::marker::{Model, Send};
+use values::Fault;
 
 /// What C holds of a watch. Null is an empty handle. Only C copies its bytes, so it can't be dropped
 /// here.

@@ -1,3 +1,4 @@
 pub mod Seats
 pub mod Watches
 pub mod Backs
+pub mod Teams

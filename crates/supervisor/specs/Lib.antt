@@ -1,3 +1,4 @@
 pub mod Opened
 pub mod Closing
 pub mod Teams
+pub mod Spaces

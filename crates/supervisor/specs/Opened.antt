@@ -1,14 +1,13 @@
 -- The cells and the watches of a wire, the workers of a space, and the errors of opening a space.
-use Rattle.std.specs.Prelude.{◌≡◌, ◌≢◌, ℕ, ◌+◌, List, Option, None, Some, slice_get, vec_len}
-use Rattle.ids.specs.declared.refusal.Refusal.{Refusal}
-use Rattle.ids.specs.declared.refusal.Refusal.TheVariants.{Memory}
+use Rattle.std.specs.Prelude.{◌≡◌, ℕ, List, Some, slice_get}
 use Rattle.wire.specs.Readers.{IsSeatOf, IsWatchOf}
 use Rattle.wire.specs.declared.seats.NodeSeat.{NodeSeat}
 use Rattle.wire.specs.declared.seats.Wire.{Wire}
 use Rattle.wire.specs.declared.seats.Watch.{Watch}
 use Rattle.settings.specs.declared.fault.OpenFault.{OpenFault}
-use Rattle.settings.specs.declared.fault.OpenFault.TheVariants.{Ages, Config, Disks, Refused}
-use Rattle.supervisor.specs.declared.team.Team.{Team}
+use Rattle.settings.specs.declared.fault.OpenFault.TheVariants as fault
+use Rattle.cell.specs.declared.fault.Unopened.{Unopened}
+use Rattle.cell.specs.declared.fault.Unopened.TheVariants as unopened
 
 -- watches of this wire
 abbrev pub AreWatches : Wire → List Watch → Type 0
@@ -18,19 +17,15 @@ AreWatches wire watches = (k : ℕ) (x : Watch) → slice_get watches k ≡ Some
 abbrev pub AreSeats : Wire → List NodeSeat → Type 0
 AreSeats wire seats = (k : ℕ) (s : NodeSeat) → slice_get seats k ≡ Some s → IsSeatOf wire s
 
--- how many workers a space has, including those that have ended
-abbrev pub worker_count : Option Team → ℕ
-worker_count None = 0
-worker_count (Some t) = vec_len t.workers + vec_len t.reports
+-- nodes, each in the place of its number
+abbrev pub AreInPlace : {N : Type 0} → List N → (N → ℕ) → Type 0
+AreInPlace {N} nodes number = (k : ℕ) (n : N) → slice_get nodes k ≡ Some n → number n ≡ k
 
--- what holds for a refusal other than Memory, once the configuration has been read
-abbrev pub IfRefused : (Refusal → Type 0) → OpenFault → Type 0
-IfRefused P Config = ⊥
-IfRefused P Disks = Unit {0}
-IfRefused P (Ages sender receiver) = Unit {0}
-IfRefused P (Refused e) = e ≢ Memory → P e
-
--- what holds of two nodes that are named as not of one age
-abbrev pub IfAges : (ℕ → ℕ → Type 0) → OpenFault → Type 0
-IfAges P (Ages sender receiver) = P sender receiver
-IfAges P e = Unit {0}
+-- what holds of the fault of opening cells; the configuration has been read
+abbrev pub IfUnopened : (Unopened → Type 0) → OpenFault → Type 0
+IfUnopened P fault.Config = ⊥
+IfUnopened P fault.Disks = P unopened.Disks
+IfUnopened P (fault.Another node) = P (unopened.Another node)
+IfUnopened P (fault.Ages sender receiver) = P (unopened.Ages sender receiver)
+IfUnopened P (fault.Failed node e) = P (unopened.Failed node e)
+IfUnopened P fault.Memory = P unopened.Memory

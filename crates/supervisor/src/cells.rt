@@ -6,13 +6,12 @@ ghost use Rattle.ids.specs.declared.refusal.Refusal.TheVariants.{Memory};
 ghost use Rattle.model.specs.World.{World};
 ghost use Rattle.wire.specs.Readers.{IsSeatOf, opened_with};
 ghost use Rattle.wire.specs.Rule.{nodes_of};
-ghost use Rattle.cell.specs.Ages.{AreApart, AreOfOneAge, AreRead};
+ghost use Rattle.cell.specs.Ages.{AreOfOneAge, AreRead, IfAges, IsWhy as IsWhyUnopened};
 ghost use Rattle.cell.specs.Closing.{AreOfOneMoment, HasBegun, HaveBegun};
 ghost use Rattle.cell.specs.Names.{name_of, IsNamed};
 ghost use Rattle.cell.specs.Reached.{IsReached};
-ghost use Rattle.cell.specs.Opened.{HasPlace, HoldsAnother, IsCause};
 ghost use Rattle.settings.specs.declared.fault.OpenFault.TheVariants as fault;
-ghost use Rattle.supervisor.specs.Opened.{AreSeats, AreWatches, IfAges, IfRefused};
+ghost use Rattle.supervisor.specs.Opened.{AreInPlace, AreSeats, AreWatches, IfUnopened};
 ghost use Rattle.supervisor.specs.declared.cells.TheConstants.{WATCHES};
 
 use cell::{Cell, Naming, SharedOn, Unopened};
@@ -79,28 +78,29 @@ pub(crate) fn open_alone<D: Disk + Drop>(
     disks: Vec<D>,
 ) -> Result<(Wire, Vec<Cell<D>>, Vec<Watch>), OpenFault>
     ensures disks { vec_len disks ≢ shape.nodes → IsErrOf result fault.Disks }
-    ensures other { IsErrOf result fault.Disks → vec_len disks ≡ shape.nodes →
-        HasPlace (λ k d. HoldsAnother shape k (D.seen d)) disks.items }
-    ensures cause { IfErr result (IfRefused (λ r.
-        HasPlace (λ k d. IsCause D.seen D.moment D.faults shape k d r) disks.items)) }
-    ensures ages { IfErr result (IfAges (λ sender receiver.
-        AreRead D.seen shape disks.items (λ ns. AreApart ns sender receiver))) }
+    ensures why { IfErr result
+        (IfUnopened (IsWhyUnopened D.seen D.moment D.faults shape disks.items)) }
     ensures one_age { IfOk result (λ _. AreRead D.seen shape disks.items AreOfOneAge) }
     ensures count { IfOk result (λ r. vec_len r.1 ≡ shape.nodes) }
+    ensures places { IfOk result (λ r.
+        AreInPlace (map (λ c. c.node) r.1.items) (λ n. n.core.local.own)) }
     ensures seats { IfOk result (λ r. AreSeats r.0 (map (λ c. c.seat) r.1.items)) }
     ensures watches { IfOk result (λ r. AreWatches r.0 r.2.items) }
     ensures watch_count { IfOk result (λ r. vec_len r.2 ≡ WATCHES) }
     ensures width { IfOk result (λ r. nodes_of (opened_with r.0) ≡ shape.nodes) }
     ensures closed { (opening : World) → IsReached opening → nodes_of opening ≡ shape.nodes
         → AreOfOneMoment D.may_leave opening disks.items
-        → MatchResult result (λ r. IsReached (opened_with r.0)) (IfAges (λ _ _. ⊥)) }
+        → MatchResult result (λ r. IsReached (opened_with r.0))
+        (IfUnopened (IfAges (λ _ _. ⊥))) }
     ensures begun { IfOk result (λ r. HaveBegun r.1.items) }
 {
     match cell::open(alloc, shape, disks, WATCHES) {
         Ok(opened) => Ok(opened),
         Err(Unopened::Disks) => Err(OpenFault::Disks),
+        Err(Unopened::Another { node }) => Err(OpenFault::Another { node }),
         Err(Unopened::Ages { sender, receiver }) => Err(OpenFault::Ages { sender, receiver }),
-        Err(Unopened::Refused(refusal)) => Err(OpenFault::Refused(refusal)),
+        Err(Unopened::Failed { node, refusal }) => Err(OpenFault::Failed { node, refusal }),
+        Err(Unopened::Memory) => Err(OpenFault::Memory),
     }
 }
 

@@ -11,5 +11,5 @@ mod team;
 pub use closing::{CloseFault, Closed, Unclosed};
 pub use serving::{Program, Served};
 pub use settings::{Config, OpenFault};
-pub use space::{Opened, Space, SpaceOn};
+pub use space::{AllEnded, LastLook, Opened, Space, SpaceOn};
 pub use team::{Plan, Team};

@@ -1,25 +1,30 @@
 //! A space of nodes on their disks, with its workers. Programs use each node through its cell,
 //! concurrently with the worker. When a space is dropped, it asks its workers to stop.
-ghost use Rattle.std.specs.Prelude.{◌≡◌, ◌≤◌, ◌<◌, ◌≢◌, ◌↔◌, ◌⊎◌, ◌+◌, false, true, Some, IfErr, IfNone};
+ghost use Rattle.std.specs.Prelude.{◌≡◌, ◌≤◌, ◌<◌, ◌≢◌, ◌↔◌, ◌⊎◌, ◌+◌, ◌∷◌, ◌++◌, false, true, Some, IfErr, IfNone};
 ghost use Rattle.std.specs.Prelude.{IfOk, IfSome, IsErrOf, IsSome, IsTrue, MatchResult, OnErr, OnOk, is_some, length, map};
 ghost use Rattle.std.specs.Prelude.{max, option_to_list, slice_get, vec_len};
 ghost use Rattle.std.specs.Arc.{arc_value};
-ghost use Rattle.std.specs.List.Sorted.{IsNonDecreasingBy};
+ghost use Rattle.std.specs.List.{range_with_len};
+ghost use Rattle.std.specs.List.Sorted.{IsNonDecreasingBy, IsPermutation};
 ghost use Rattle.ids.specs.declared.refusal.Refusal.TheVariants as refusal;
 ghost use Rattle.wire.specs.Plays.{HasEnded, WasEnded};
 ghost use Rattle.model.specs.World.{World};
+ghost use Rattle.model.specs.declared.event.Event.TheVariants as event;
 ghost use Rattle.wire.specs.Readers.{heard, loaded, opened_with, watch_opening, IsSameWatch};
 ghost use Rattle.wire.specs.Readers.{IsWatchOf};
 ghost use Rattle.wire.specs.Rule.{nodes_of};
-ghost use Rattle.cell.specs.Ages.{AreApart, AreOfOneAge, AreRead};
+ghost use Rattle.cell.specs.Ages.{AreOfOneAge, AreRead, IfAges, IsWhy as IsWhyUnopened};
 ghost use Rattle.cell.specs.Closing.{AreOfOneMoment, HaveBegun};
+ghost use Rattle.cell.specs.Locked.{WasAnswered};
 ghost use Rattle.cell.specs.Names.{name_of, IsNamed};
-ghost use Rattle.cell.specs.Opened.{HasPlace, HoldsAnother, IsCause};
 ghost use Rattle.cell.specs.Reached.{IsReached};
 ghost use Rattle.settings.specs.declared.fault.OpenFault.TheVariants as fault;
 ghost use Rattle.cell.specs.Moments.{EachCell};
 ghost use Rattle.supervisor.specs.Closing.{IsBack, IsWhy};
-ghost use Rattle.supervisor.specs.Opened.{worker_count, AreSeats, AreWatches, IfAges, IfRefused};
+ghost use Rattle.supervisor.specs.Opened.{AreInPlace, AreSeats, AreWatches, IfUnopened};
+ghost use Rattle.supervisor.specs.Spaces.{Stay};
+ghost use Rattle.supervisor.specs.Teams.{AreLeftBy, AreOthers, AreOver, IsAlone};
+ghost use Rattle.supervisor.specs.Teams.{started_in, working_in};
 ghost use Rattle.supervisor.specs.declared.cells.TheConstants.{WATCHES};
 
 use crate::cells::{open_alone, share_on};
@@ -34,7 +39,7 @@ use std::alloc::Global;
 use std::sync::{Arc, Wait};
 use std::thread::Threads;
 use wire::{Watch, Wire};
-use workers::{Gate, Report};
+use workers::{Ended, Gate, Report};
 
 /// A space on its disks, before threads share its cells.
 ///
@@ -48,6 +53,8 @@ pub struct Opened<D: Disk> {
     cells: Vec<Cell<D>>,
     watches: Vec<Watch>,
     ghost each: { vec_len cells ≡ plan.nodes },
+    ghost some: { 0 < plan.nodes },
+    ghost places: { AreInPlace (map (λ c. c.node) cells.items) (λ n. n.core.local.own) },
     ghost wide: { nodes_of (opened_with wire) ≡ plan.nodes },
     ghost seats: { AreSeats wire (map (λ c. c.seat) cells.items) },
     ghost begun: { HaveBegun cells.items },
@@ -59,12 +66,8 @@ impl<D: Disk + Drop> Opened<D> {
     /// does.
     pub fn open(alloc: Global, config: &Config, disks: Vec<D>) -> Result<Opened<D>, OpenFault>
         ensures disks { vec_len disks ≢ config.now.shape.nodes → IsErrOf result fault.Disks }
-        ensures other { IsErrOf result fault.Disks → vec_len disks ≡ config.now.shape.nodes →
-            HasPlace (λ k d. HoldsAnother config.now.shape k (D.seen d)) disks.items }
-        ensures cause { IfErr result (IfRefused (λ r. HasPlace
-            (λ k d. IsCause D.seen D.moment D.faults config.now.shape k d r) disks.items)) }
-        ensures ages { IfErr result (IfAges (λ sender receiver. AreRead D.seen config.now.shape
-            disks.items (λ ns. AreApart ns sender receiver))) }
+        ensures why { IfErr result
+            (IfUnopened (IsWhyUnopened D.seen D.moment D.faults config.now.shape disks.items)) }
         ensures one_age { IfOk result (λ _.
             AreRead D.seen config.now.shape disks.items AreOfOneAge) }
         ensures nodes { IfOk result (λ s. s.plan.nodes ≡ config.now.shape.nodes) }
@@ -73,7 +76,8 @@ impl<D: Disk + Drop> Opened<D> {
         ensures closed { (opening : World) → IsReached opening
             → nodes_of opening ≡ config.now.shape.nodes
             → AreOfOneMoment D.may_leave opening disks.items
-            → MatchResult result (λ s. IsReached (opened_with s.wire)) (IfAges (λ _ _. ⊥)) }
+            → MatchResult result (λ s. IsReached (opened_with s.wire))
+            (IfUnopened (IfAges (λ _ _. ⊥))) }
     {
         let shape = config.shape;
         let (wire, cells, watches) = open_alone(alloc, shape, disks)?;
@@ -128,8 +132,31 @@ pub struct SpaceOn<D: Disk, W: Naming> {
     watches: Vec<Watch>,
     team: Option<Team>,
     ghost each: { vec_len cells ≡ plan.nodes },
+    ghost some: { 0 < plan.nodes },
     ghost wide: { nodes_of (opened_with (arc_value wire)) ≡ plan.nodes },
     ghost of: { AreWatches (arc_value wire) watches.items },
+}
+
+/// Shows that all workers of a space had ended. Only [`SpaceOn::ended`] makes one.
+#[derive(Clone, Copy, Debug)]
+pub struct AllEnded {
+    // How many were found to have ended; none if no worker was started.
+    found: Option<Ended>,
+}
+
+/// What a watch showed after all workers had ended. Only [`SpaceOn::look_last`] makes one.
+#[derive(Clone, Copy, Debug)]
+pub struct LastLook {
+    cycle: Cycle,
+}
+
+impl LastLook {
+    /// The last cycle that node 0 was known to have ended.
+    pub fn cycle(&self) -> Cycle
+        ensures { result ≡ self.now.cycle }
+    {
+        self.cycle
+    }
 }
 
 /// A space whose wire has no name in proofs.
@@ -141,19 +168,15 @@ impl<D: Disk + Drop> SpaceOn<D, Unnamed> {
     /// Disks that hold nodes have to be those of one space that was closed or stopped earlier. If
     /// they are of one moment ([`Closed`]), a run reaches the world in which the space begins.
     ///
-    /// `Disks` if the number of disks isn't the number of nodes, or if a disk holds a node of
-    /// another shape or number. `Ages` exactly if all nodes are found and two of them can't be the
-    /// saved states of one moment. `Refused` with `BadImage`, `ImageTooLarge` or `Disk` for the
-    /// causes that [`cell::find`] lists, and with `Memory` if allocation failed; with nothing else.
-    /// Never `Config`. After an error all disks are dropped.
+    /// `Disks` exactly if the number of disks isn't the number of nodes. `Another` if the disk of
+    /// this node holds a node of another shape or number. `Ages` exactly if all nodes are found and
+    /// two of them can't be the saved states of one moment. `Failed` with the node and `BadImage`,
+    /// `ImageTooLarge` or `Disk`, for the causes that [`cell::find`] lists. `Memory` if allocation
+    /// failed. Never `Config`. After an error all disks are dropped.
     pub fn open(alloc: Global, config: &Config, disks: Vec<D>) -> Result<Space<D>, OpenFault>
         ensures disks { vec_len disks ≢ config.now.shape.nodes → IsErrOf result fault.Disks }
-        ensures other { IsErrOf result fault.Disks → vec_len disks ≡ config.now.shape.nodes →
-            HasPlace (λ k d. HoldsAnother config.now.shape k (D.seen d)) disks.items }
-        ensures cause { IfErr result (IfRefused (λ r. HasPlace
-            (λ k d. IsCause D.seen D.moment D.faults config.now.shape k d r) disks.items)) }
-        ensures ages { IfErr result (IfAges (λ sender receiver. AreRead D.seen config.now.shape
-            disks.items (λ ns. AreApart ns sender receiver))) }
+        ensures why { IfErr result
+            (IfUnopened (IsWhyUnopened D.seen D.moment D.faults config.now.shape disks.items)) }
         ensures one_age { IfOk result (λ _.
             AreRead D.seen config.now.shape disks.items AreOfOneAge) }
         ensures nodes { IfOk result (λ s. s.plan.nodes ≡ config.now.shape.nodes) }
@@ -164,22 +187,24 @@ impl<D: Disk + Drop> SpaceOn<D, Unnamed> {
             → nodes_of opening ≡ config.now.shape.nodes
             → AreOfOneMoment D.may_leave opening disks.items
             → MatchResult result (λ s. IsReached (opened_with (arc_value s.wire)))
-            (IfAges (λ _ _. ⊥)) }
+            (IfUnopened (IfAges (λ _ _. ⊥))) }
     {
         let opened = Opened::open(alloc, config, disks)?;
         match opened.share::<Unnamed>() {
             Ok(space) => Ok(space),
-            Err(refusal) => Err(OpenFault::Refused(refusal)),
+            Err(_) => Err(OpenFault::Memory),
         }
     }
 }
 
 impl<D: Disk + Drop, W: Naming> SpaceOn<D, W> {
     /// Begins a collection cycle: an event of node 0, which fails as [`Event::Begin`] does.
-    pub fn begin<R: Wait>(&self, rt: &R) -> Result<Answer, Refusal> {
+    pub fn begin<R: Wait>(&self, rt: &R) -> Result<Answer, Refusal>
+        ensures answered { WasAnswered event.Begin result }
+    {
         match self.program(0) {
             Some(program) => program.act(rt, Event::Begin),
-            None => Err(Refusal::NoNode),
+            None => unreachable!(),
         }
     }
 
@@ -212,13 +237,11 @@ impl<D: Disk + Drop, W: Naming> SpaceOn<D, W> {
     /// A watch of the space's board; `None` after the sixteenth.
     pub fn watch(&mut self) -> Option<Watch>
         ensures of { IfSome result (λ x. IsWatchOf (arc_value self.new.wire) x) }
-        ensures left { vec_len self.old.watches
-            ≡ vec_len self.new.watches + length (option_to_list result) }
+        ensures left { self.old.watches.items
+            ≡ self.new.watches.items ++ option_to_list result }
         ensures none { IfNone result (vec_len self.old.watches ≡ 0) }
-        ensures wire { arc_value self.new.wire ≡ arc_value self.old.wire }
-        ensures plan { self.new.plan ≡ self.old.plan }
-        ensures team { self.new.team ≡ self.old.team }
-        ensures cells { self.new.cells ≡ self.old.cells }
+        ensures stays { Stay (self.old.plan, self.old.wire, self.old.cells, self.old.team)
+            (self.new.plan, self.new.wire, self.new.cells, self.new.team) }
     {
         self.watches.pop()
     }
@@ -242,16 +265,36 @@ impl<D: Disk + Drop, W: Naming> SpaceOn<D, W> {
     pub fn all_ended(&self) -> bool
         ensures none { is_some self.now.team ≡ false → result ≡ true }
     {
-        match &self.team {
-            Some(team) => team.all_ended(),
-            None => true,
+        self.ended().is_some()
+    }
+
+    /// Shows that no worker is left that could take a turn, if that is so.
+    pub fn ended(&self) -> Option<AllEnded>
+        ensures all { IfSome result (λ e. AreOver (started_in self.now.team) e.found) }
+        ensures none { is_some self.now.team ≡ false → IsSome result }
+    {
+        let Some(team) = &self.team else {
+            return Some(AllEnded { found: None });
+        };
+        let ended = team.ended()?;
+        Some(AllEnded { found: Some(ended) })
+    }
+
+    /// What the watch shows after all workers had ended; see [`SpaceOn::look`].
+    pub fn look_last(&self, _ended: AllEnded, watch: &mut Watch) -> LastLook
+        requires { IsWatchOf (arc_value self.now.wire) watch.old }
+        ensures same { IsSameWatch watch.old watch.new }
+        ensures number { result.cycle.number ≡ max (loaded watch.new) (heard watch.old) }
+    {
+        LastLook {
+            cycle: self.look(watch),
         }
     }
 
-    /// Stops the workers, waits until they have ended, and returns all their reports, sorted by
+    /// Stops the workers, waits until they have ended, and returns the report of each, sorted by
     /// node. The result is empty if no worker was started.
     pub fn close<R: Threads>(self, rt: &R) -> Vec<Report>
-        ensures count { vec_len result ≡ worker_count self.team }
+        ensures own { IsPermutation (started_in self.team) (map (λ r. r.node) result.items) }
         ensures sorted { IsNonDecreasingBy (λ r. r.node) result.items }
     {
         let SpaceOn { alloc, team, .. } = self;
@@ -274,7 +317,7 @@ impl<D: Disk + Drop, W: Naming> SpaceOn<D, W> {
     pub fn close_at_once<R: Threads>(self, rt: &R) -> (Vec<Report>, Result<Closed<D>, Unclosed<D>>)
         requires named { W.wire ≡ Some (name_of (arc_value self.wire)) }
         requires begun { IsTrue W.begun }
-        ensures count { vec_len result.0 ≡ worker_count self.team }
+        ensures own { IsPermutation (started_in self.team) (map (λ r. r.node) result.0.items) }
         ensures sorted { IsNonDecreasingBy (λ r. r.node) result.0.items }
         ensures wire { IfOk result.1 (λ c. arc_value c.of.value ≡ arc_value self.wire) }
         ensures once { IfOk result.1 (λ c. AreOfOneMoment D.may_leave
@@ -310,13 +353,12 @@ impl<D: Disk + Send + Drop + 'static, W: Naming + Send + 'static> SpaceOn<D, W> 
         G: Gate + Send + Sync + Drop + 'static,
         requires { is_some self.old.team ≡ false }
         ensures started { OnOk result (is_some self.new.team ≡ true) }
-        ensures workers { OnOk result (worker_count self.new.team ≡ self.new.plan.nodes) }
+        ensures workers { OnOk result
+            (started_in self.new.team ≡ range_with_len 0 self.old.plan.nodes) }
         ensures stopped { OnErr result (is_some self.new.team ≡ false) }
         ensures refused { IfErr result (λ e. e ≡ refusal.Memory) }
-        ensures wire { arc_value self.new.wire ≡ arc_value self.old.wire }
-        ensures plan { self.new.plan ≡ self.old.plan }
-        ensures cells { self.new.cells ≡ self.old.cells }
-        ensures watches { self.new.watches ≡ self.old.watches }
+        ensures stays { Stay (self.old.plan, self.old.wire, self.old.cells, self.old.watches)
+            (self.new.plan, self.new.wire, self.new.cells, self.new.watches) }
     {
         let team = Team::start(rt, self.alloc, self.cells.as_slice(), &gate, self.plan)?;
         self.team = Some(team);
@@ -337,18 +379,20 @@ impl<D: Disk + Send + Drop + 'static, W: Naming + Send + 'static> SpaceOn<D, W> 
         R: Threads + Wait + Clone + Send + Drop + 'static,
         G: Gate + Send + Sync + Drop + 'static,
         requires { is_some self.old.team ≡ true }
-        ensures begun { OnOk result (worker_count self.new.team
-            ≡ worker_count self.old.team + 1) }
-        ensures none_begun { OnErr result (worker_count self.new.team
-            ≡ worker_count self.old.team) }
+        ensures begun { OnOk result
+            (IsPermutation (node ∷ started_in self.old.team) (started_in self.new.team)) }
+        ensures alone { OnOk result (IsAlone node (working_in self.new.team)) }
+        ensures none_begun { OnErr result
+            (IsPermutation (started_in self.old.team) (started_in self.new.team)) }
+        ensures left { OnErr result
+            (AreLeftBy node (working_in self.old.team) (working_in self.new.team)) }
+        ensures ended { IsErrOf result refusal.Disk → AreOthers node (working_in self.new.team) }
         ensures team { is_some self.new.team ≡ true }
         ensures no_node { IsErrOf result refusal.NoNode ↔ (self.old.plan.nodes ≤ node) }
         ensures others { node < self.old.plan.nodes
             → IfErr result (λ e. (e ≡ refusal.Memory) ⊎ (e ≡ refusal.Disk)) }
-        ensures wire { arc_value self.new.wire ≡ arc_value self.old.wire }
-        ensures plan { self.new.plan ≡ self.old.plan }
-        ensures cells { self.new.cells ≡ self.old.cells }
-        ensures watches { self.new.watches ≡ self.old.watches }
+        ensures stays { Stay (self.old.plan, self.old.wire, self.old.cells, self.old.watches)
+            (self.new.plan, self.new.wire, self.new.cells, self.new.watches) }
     {
         if node >= self.plan.nodes {
             return Err(Refusal::NoNode);
@@ -359,6 +403,6 @@ impl<D: Disk + Send + Drop + 'static, W: Naming + Send + 'static> SpaceOn<D, W> 
         team.await_end(rt, node)?;
         let cell = &self.cells[usize::from(node)];
         cell.reopen(rt)?;
-        team.begin(rt, self.alloc, cell, &gate, node, self.plan)
+        team.begin(rt, self.alloc, cell, &gate, node)
     }
 }

@@ -1,17 +1,20 @@
 //! The threads of a space's workers. Each receives its order through a channel that was filled
 //! before the thread was created. Every thread is joined or asked to stop.
-ghost use Rattle.std.specs.Prelude.{◌≡◌, ◌≤◌, ◌<◌, ◌+◌, IfErr, IfOk, OnErr, OnOk, length};
-ghost use Rattle.std.specs.Prelude.{vec_capacity, vec_len};
-ghost use Rattle.std.specs.List.Sorted.{IsNonDecreasingBy};
+ghost use Rattle.std.specs.Prelude.{◌≡◌, ◌≤◌, ◌<◌, ◌+◌, ◌++◌, ◌∷◌, [], All, IfErr, IfNone, IfOk, IfSome, OnErr, OnOk};
+ghost use Rattle.std.specs.Prelude.{length, map, vec_capacity, vec_len};
+ghost use Rattle.std.specs.List.{range_with_len};
+ghost use Rattle.std.specs.List.Sorted.{IsNonDecreasingBy, IsPermutation};
 ghost use Rattle.ids.specs.declared.refusal.Refusal.TheVariants.{Memory};
+ghost use Rattle.workers.specs.Runs.{IsReport};
 
 use crossbeam_channel::{Receiver, bounded};
 use ids::Refusal;
 use std::alloc::Global;
+use std::marker::{Brand, PhantomData};
 use std::sync::{Arc, Wait};
 use std::thread;
-use std::thread::{JoinHandle, Threads};
-use workers::{Gate, Report, Site, Stop, run_node};
+use std::thread::{Promise, PromisedHandle, Threads};
+use workers::{Ended, Gate, Report, Site, Stop, run_node};
 
 /// How many workers there are, and how many turns each takes at most.
 #[derive(Clone, Copy, Debug, PartialEq, Eq)]
@@ -20,11 +23,40 @@ pub struct Plan {
     pub turns: u32,
 }
 
+// Names an order in proofs, so that what comes out of a channel is known to be what went in.
+trait Ordered {
+    ghost use Rattle.std.specs.Prelude.{ℕ};
+
+    ghost node: { ℕ };
+
+    ghost turns: { ℕ };
+}
+
+impl Ordered for Brand {
+    ghost node = { 0 };
+
+    ghost turns = { 0 };
+}
+
 // What a worker receives first: its node, and how many turns it takes at most.
 #[derive(Drop)]
-struct Order {
+struct Order<O: Ordered> {
     node: u8,
     turns: u32,
+    of: PhantomData<O>,
+    ghost for_node: { node ≡ O.node },
+    ghost for_turns: { turns ≡ O.turns },
+}
+
+// What a worker's thread promises: the report of a run for this node.
+#[derive(Clone, Copy)]
+struct Reports {
+    node: u8,
+    plan: Plan,
+}
+
+impl Promise<Report> for Reports {
+    ghost kept_by = { λ p r. IsReport p.node p.plan.nodes p.plan.turns r };
 }
 
 // Asks the workers to stop when it is dropped.
@@ -39,37 +71,89 @@ impl Drop for Halt {
     }
 }
 
-// A worker that hasn't been joined yet, and its node.
+// A worker that hasn't been joined yet, and what its thread promises.
 #[derive(Drop)]
 struct Worker {
-    node: u8,
-    handle: JoinHandle<Report>,
+    of: Reports,
+    handle: PromisedHandle<Report, Reports>,
+    ghost promised: { handle.promise ≡ of },
 }
 
-/// Workers in threads, at most one for each node, and the reports of those that were joined. When
-/// it is dropped, the workers are asked to stop; [`Team::close`] also waits until they have ended.
+/// Workers in threads, and the reports of those that were joined. When it is dropped, the workers
+/// are asked to stop; [`Team::close`] also waits until they have ended.
 #[derive(Drop)]
 pub struct Team {
     halt: Halt,
+    plan: Plan,
     workers: Vec<Worker>,
     reports: Vec<Report>,
     ghost room: { vec_len workers + vec_len reports ≤ vec_capacity reports },
+    ghost planned: { All (λ w. w.of.plan ≡ plan) workers.items },
+    ghost reported: { All (λ r. ∥ IsReport r.node plan.nodes plan.turns r ∥₁) reports.items },
 }
 
-// What a worker's thread does: it receives its order and takes its turns.
-fn work<R: Wait, S: Site, G: Gate>(
+// What a worker's thread does: it receives its order and takes its turns. (A channel that was
+// filled always gives the order.)
+fn work<O: Ordered, R: Wait, S: Site, G: Gate>(
     rt: &R,
-    orders: &Receiver<Order>,
+    orders: &Receiver<Order<O>>,
     site: &S,
     gate: &G,
-    plan: Plan,
+    of: Reports,
     stop: &Stop,
-) -> Report {
-    let Order { node, turns } = match orders.recv(rt) {
-        Ok(order) => order,
-        Err(_) => Order { node: 0, turns: 0 },
+) -> Report
+    requires node { of.node ≡ O.node }
+    requires turns { of.plan.turns ≡ O.turns }
+    ensures { IsReport of.node of.plan.nodes of.plan.turns result }
+{
+    let (node, turns) = match orders.recv(rt) {
+        Ok(order) => (order.node, order.turns),
+        Err(_) => (of.node, of.plan.turns),
     };
-    run_node(rt, site, gate, node, plan.nodes, turns, stop).report
+    run_node(rt, site, gate, node, of.plan.nodes, turns, stop).report
+}
+
+// Starts the thread of a worker, whose order has the name of `O`.
+fn start_named<O, R, S, G>(
+    rt: &R,
+    alloc: Global,
+    site: &Arc<S>,
+    gate: &Arc<G>,
+    stop: &Arc<Stop>,
+    of: Reports,
+) -> Result<Worker, Refusal>
+where
+    O: Ordered + Send + 'static,
+    R: Threads + Wait + Clone + Send + Drop + 'static,
+    S: Site + Send + Sync + Drop + 'static,
+    G: Gate + Send + Sync + Drop + 'static,
+    requires node { of.node ≡ O.node }
+    requires turns { of.plan.turns ≡ O.turns }
+    ensures started { IfOk result (λ w. w.of ≡ of) }
+    ensures refused { IfErr result (λ e. e ≡ Memory) }
+{
+    let site = site.clone()?;
+    let gate = gate.clone()?;
+    let stop = stop.clone()?;
+    let theirs = rt.clone()?;
+    let (sender, orders) = bounded(alloc, 1)?;
+    let order = Order {
+        node: of.node,
+        turns: of.plan.turns,
+        of: PhantomData::<O>,
+    };
+    if sender.send(rt, order).is_err() {
+        return Err(Refusal::Memory);
+    }
+    let task = move || -> Report
+        requires node { of.node ≡ O.node }
+        requires turns { of.plan.turns ≡ O.turns }
+        ensures { IsReport of.node of.plan.nodes of.plan.turns result }
+    { work::<O, R, S, G>(&theirs, &orders, &*site, &*gate, of, &*stop) };
+    match thread::spawn_with(rt, of, task) {
+        Ok(handle) => Ok(Worker { of, handle }),
+        Err(_) => Err(Refusal::Memory),
+    }
 }
 
 // Starts the thread of a worker. Its order is in the channel before the thread is created.
@@ -79,51 +163,46 @@ fn start_thread<R, S, G>(
     site: &Arc<S>,
     gate: &Arc<G>,
     stop: &Arc<Stop>,
-    node: u8,
-    plan: Plan,
-) -> Result<JoinHandle<Report>, Refusal>
+    of: Reports,
+) -> Result<Worker, Refusal>
 where
     R: Threads + Wait + Clone + Send + Drop + 'static,
     S: Site + Send + Sync + Drop + 'static,
     G: Gate + Send + Sync + Drop + 'static,
-    ensures { IfErr result (λ e. e ≡ Memory) }
+    ensures started { IfOk result (λ w. w.of ≡ of) }
+    ensures refused { IfErr result (λ e. e ≡ Memory) }
 {
-    let site = site.clone()?;
-    let gate = gate.clone()?;
-    let stop = stop.clone()?;
-    let theirs = rt.clone()?;
-    let (sender, orders) = bounded(alloc, 1)?;
-    let order = Order {
-        node,
-        turns: plan.turns,
-    };
-    if sender.send(rt, order).is_err() {
-        return Err(Refusal::Memory);
-    }
-    let task = move || work(&theirs, &orders, &*site, &*gate, plan, &*stop);
-    match thread::spawn(rt, task) {
-        Ok(handle) => Ok(handle),
-        Err(_) => Err(Refusal::Memory),
-    }
+    start_named::<Brand, R, S, G>(rt, alloc, site, gate, stop, of)
 }
 
 // Sorts reports by node.
 fn sort(reports: &mut Vec<Report>)
-    ensures count { vec_len reports.new ≡ vec_len reports.old }
+    ensures same { IsPermutation reports.old.items reports.new.items }
     ensures sorted { IsNonDecreasingBy (λ r. r.node) reports.new.items }
 {
     reports.sort_unstable_by_key(|report| report.node);
 }
 
+impl Worker {
+    // Waits until the worker has ended; its report.
+    fn join<R: Threads>(self, rt: &R) -> Report
+        ensures { IsReport self.of.node self.of.plan.nodes self.of.plan.turns result }
+    {
+        let Worker { handle, .. } = self;
+        handle.join(rt)
+    }
+}
+
 impl Team {
-    ghost use Rattle.supervisor.specs.Teams.{HasRoom};
+    ghost use Rattle.supervisor.specs.Teams.{AreOthers, HasRoom, nodes_of, working};
 
     // No workers yet, with room for those of this plan and for their reports.
     fn empty(alloc: Global, plan: Plan) -> Result<Team, Refusal>
+        ensures plan { IfOk result (λ t. t.plan ≡ plan) }
         ensures room { IfOk result (λ t. plan.nodes ≤ vec_capacity t.workers) }
         ensures reports { IfOk result (λ t. plan.nodes ≤ vec_capacity t.reports) }
-        ensures no_worker { IfOk result (λ t. vec_len t.workers ≡ 0) }
-        ensures no_report { IfOk result (λ t. vec_len t.reports ≡ 0) }
+        ensures no_worker { IfOk result (λ t. t.workers.items ≡ []) }
+        ensures no_report { IfOk result (λ t. t.reports.items ≡ []) }
         ensures refused { IfErr result (λ e. e ≡ Memory) }
     {
         let count = usize::from(plan.nodes);
@@ -132,6 +211,7 @@ impl Team {
         let reports = Vec::with_capacity(alloc, count)?;
         Ok(Team {
             halt: Halt { stop },
+            plan,
             workers,
             reports,
         })
@@ -139,12 +219,12 @@ impl Team {
 
     // Adds a worker, for which there is room.
     fn add(&mut self, worker: Worker)
-        requires room { vec_len self.old.workers < vec_capacity self.old.workers }
-        requires reports { vec_len self.old.workers + vec_len self.old.reports
-            < vec_capacity self.old.reports }
-        ensures count { vec_len self.new.workers ≡ vec_len self.old.workers + 1 }
+        requires room { HasRoom self.old }
+        requires planned { worker.of.plan ≡ self.old.plan }
+        ensures workers { self.new.workers.items ≡ self.old.workers.items ++ worker ∷ [] }
         ensures room { vec_capacity self.new.workers ≡ vec_capacity self.old.workers }
         ensures reports { self.new.reports ≡ self.old.reports }
+        ensures plan { self.new.plan ≡ self.old.plan }
     {
         self.workers.push_reserved(worker);
     }
@@ -166,14 +246,15 @@ impl Team {
         S: Site + Send + Sync + Drop + 'static,
         G: Gate + Send + Sync + Drop + 'static,
         requires { length sites.now ≡ plan.nodes }
-        ensures count { IfOk result (λ t. vec_len t.workers ≡ plan.nodes) }
-        ensures none_ended { IfOk result (λ t. vec_len t.reports ≡ 0) }
+        ensures plan { IfOk result (λ t. t.plan ≡ plan) }
+        ensures each { IfOk result (λ t. working t ≡ range_with_len 0 plan.nodes) }
+        ensures none_ended { IfOk result (λ t. t.reports.items ≡ []) }
         ensures refused { IfErr result (λ e. e ≡ Memory) }
     {
         let mut team = Team::empty(alloc, plan)?;
         for node in 0..plan.nodes {
             let site = &sites[usize::from(node)];
-            if let Err(refusal) = team.begin(rt, alloc, site, gate, node, plan) {
+            if let Err(refusal) = team.begin(rt, alloc, site, gate, node) {
                 let _ = team.close(rt);
                 return Err(refusal);
             }
@@ -181,8 +262,8 @@ impl Team {
         Ok(team)
     }
 
-    /// Starts one more worker, for a node that has none. `Memory` if an allocation or the creation
-    /// of the thread failed; nothing was started then.
+    /// Starts one more worker, for this node. `Memory` if an allocation or the creation of the
+    /// thread failed; nothing was started then.
     pub(crate) fn begin<R, S, G>(
         &mut self,
         rt: &R,
@@ -190,21 +271,25 @@ impl Team {
         site: &Arc<S>,
         gate: &Arc<G>,
         node: u8,
-        plan: Plan,
     ) -> Result<(), Refusal>
     where
         R: Threads + Wait + Clone + Send + Drop + 'static,
         S: Site + Send + Sync + Drop + 'static,
         G: Gate + Send + Sync + Drop + 'static,
-        requires { HasRoom self.old }
-        ensures count { OnOk result (vec_len self.new.workers ≡ vec_len self.old.workers + 1) }
+        requires room { HasRoom self.old }
+        ensures begun { OnOk result (working self.new ≡ working self.old ++ node ∷ []) }
         ensures room { vec_capacity self.new.workers ≡ vec_capacity self.old.workers }
         ensures reports { self.new.reports ≡ self.old.reports }
+        ensures plan { self.new.plan ≡ self.old.plan }
         ensures refused { IfErr result (λ e. e ≡ Memory) }
         ensures unchanged { OnErr result (self.new.workers ≡ self.old.workers) }
     {
-        let handle = start_thread(rt, alloc, site, gate, &self.halt.stop, node, plan)?;
-        self.add(Worker { node, handle });
+        let of = Reports {
+            node,
+            plan: self.plan,
+        };
+        let worker = start_thread(rt, alloc, site, gate, &self.halt.stop, of)?;
+        self.add(worker);
         Ok(())
     }
 
@@ -213,48 +298,85 @@ impl Team {
         ensures room { OnOk result (HasRoom self.new) }
         ensures workers { self.new.workers.items ≡ self.old.workers.items }
         ensures reports { self.new.reports.items ≡ self.old.reports.items }
+        ensures plan { self.new.plan ≡ self.old.plan }
         ensures refused { IfErr result (λ e. e ≡ Memory) }
     {
         self.reports.reserve(self.workers.len() + 1)?;
         Ok(self.workers.reserve(1)?)
     }
 
-    /// Makes room for one more worker and its report, and waits until the node's worker has ended,
-    /// if it has one. `Memory` if allocating that room failed: it waits for nothing then.
+    // The place of a worker of this node, if there is one.
+    fn place_of(&self, node: u8) -> Option<usize>
+        ensures within { IfSome result (λ place. place < vec_len self.now.workers) }
+        ensures none { IfNone result (AreOthers node (working self.now)) }
+    {
+        for place in 0..self.workers.len() {
+            if self.workers[place].of.node == node {
+                return Some(place);
+            }
+        }
+        None
+    }
+
+    // Waits until the worker in this place has ended, and keeps its report.
+    fn join_at<R: Threads>(&mut self, rt: &R, place: usize)
+        requires { place < vec_len self.old.workers }
+        ensures same { IsPermutation (nodes_of self.old) (nodes_of self.new) }
+        ensures fewer { vec_len self.new.workers + 1 ≡ vec_len self.old.workers }
+        ensures more { vec_len self.new.reports ≡ vec_len self.old.reports + 1 }
+        ensures room { vec_capacity self.new.workers ≡ vec_capacity self.old.workers }
+        ensures reports { vec_capacity self.new.reports ≡ vec_capacity self.old.reports }
+        ensures plan { self.new.plan ≡ self.old.plan }
+    {
+        let worker = self.workers.swap_remove(place);
+        self.reports.push_reserved(worker.join(rt));
+    }
+
+    /// Makes room for one more worker and its report, and waits until the node's workers have
+    /// ended, if it has any. `Memory` if allocating that room failed: it waits for nothing then.
     pub(crate) fn await_end<R: Threads>(&mut self, rt: &R, node: u8) -> Result<(), Refusal>
         ensures room { OnOk result (HasRoom self.new) }
-        ensures started { vec_len self.new.workers + vec_len self.new.reports
-            ≡ vec_len self.old.workers + vec_len self.old.reports }
+        ensures same { IsPermutation (nodes_of self.old) (nodes_of self.new) }
+        ensures ended { OnOk result (AreOthers node (working self.new)) }
+        ensures plan { self.new.plan ≡ self.old.plan }
         ensures refused { IfErr result (λ e. e ≡ Memory) }
-        ensures unchanged { OnErr result (vec_len self.new.workers ≡ vec_len self.old.workers) }
+        ensures unchanged { OnErr result (working self.new ≡ working self.old) }
     {
         self.reserve()?;
-        if let Some(place) = self.workers.iter().position(|worker| worker.node == node) {
-            let worker = self.workers.swap_remove(place);
-            self.reports.push_reserved(worker.handle.join(rt));
+        while let Some(place) = self.place_of(node) {
+            self.join_at(rt, place);
         }
         Ok(())
     }
 
-    /// Whether all workers that were started have ended.
-    pub fn all_ended(&self) -> bool {
-        self.halt.stop.ended() >= (self.workers.len() + self.reports.len()) as u64
+    /// How many workers have ended, if all that were started have.
+    pub fn ended(&self) -> Option<Ended>
+        ensures all { IfSome result (λ e. length (nodes_of self.now) ≤ e.count) }
+    {
+        let ended = self.halt.stop.look();
+        if ended.count() < (self.workers.len() + self.reports.len()) as u64 {
+            return None;
+        }
+        Some(ended)
     }
 
     /// Stops the workers, waits until they have ended, and returns all their reports, sorted by
     /// node. It allocates nothing.
     pub fn close<R: Threads>(self, rt: &R) -> Vec<Report>
-        ensures count { vec_len result ≡ vec_len self.workers + vec_len self.reports }
+        ensures own { IsPermutation (nodes_of self) (map (λ r. r.node) result.items) }
+        ensures reports { All (λ r. ∥ IsReport r.node self.plan.nodes self.plan.turns r ∥₁)
+            result.items }
         ensures sorted { IsNonDecreasingBy (λ r. r.node) result.items }
     {
         let Team {
             halt,
             mut workers,
             mut reports,
+            ..
         } = self;
         halt.stop.ask();
         while let Some(worker) = workers.pop() {
-            reports.push_reserved(worker.handle.join(rt));
+            reports.push_reserved(worker.join(rt));
         }
         sort(&mut reports);
         reports

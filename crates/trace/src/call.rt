@@ -8,7 +8,7 @@ use model::Event;
 use std::fmt;
 
 /// What a node's thread was asked to do: an event of its node, a save, or a reopening of its disk.
-#[derive(Clone, Copy, Debug, PartialEq, Eq)]
+#[derive(Clone, Copy)]
 pub enum Call {
     Alloc,
     Copy,
@@ -92,7 +92,7 @@ impl Call {
 }
 
 /// The outcome of a call.
-#[derive(Clone, Copy, Debug, PartialEq, Eq)]
+#[derive(Clone, Copy)]
 pub enum Outcome {
     /// It succeeded.
     Done,

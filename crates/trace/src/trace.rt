@@ -15,7 +15,7 @@ use std::marker::Model;
 
 /// A call and its outcome. Its text is the call's word, and `ok`, `repeat`, `early` or the number
 /// of the refusal.
-#[derive(Clone, Copy, Debug, PartialEq, Eq)]
+#[derive(Clone, Copy)]
 pub struct Line {
     pub call: Call,
     pub outcome: Outcome,

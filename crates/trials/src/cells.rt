@@ -94,9 +94,9 @@ pub(crate) fn open_cells(
             let watch = watches.remove(0);
             Ok((wire, cells, watch))
         }
-        Err(Unopened::Refused(refusal)) => Err(refusal),
-        Err(Unopened::Disks) => Err(Refusal::NoNode),
-        Err(Unopened::Ages { .. }) => Err(Refusal::NoNode),
+        Err(Unopened::Memory) => Err(Refusal::Memory),
+        Err(Unopened::Failed { refusal, .. }) => Err(refusal),
+        Err(_) => Err(Refusal::NoNode),
     }
 }
 

@@ -8,7 +8,6 @@ mod ended;
 mod endings;
 mod gates;
 mod mailboxes;
-mod member;
 mod names;
 mod once;
 mod openings;

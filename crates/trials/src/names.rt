@@ -25,7 +25,7 @@ fn put(cycle: Option<Cycle>, out: &mut Out) {
 // Calls each law once.
 fn call_laws() {
     msg::grammar();
-    image::grammar();
+    grammar::spellings();
     image::nodes_spelled();
     image::nodes_saved();
     world::laws();

@@ -174,7 +174,7 @@ fn lent<'a>(
     let disks = held.iter_mut();
     for disk in disks {
         if lent.push(Lent { disk }).is_err() {
-            return Err(OpenFault::Refused(Refusal::Memory));
+            return Err(OpenFault::Memory);
         }
     }
     Ok((config, lent))
@@ -204,7 +204,7 @@ fn close_at_once<R: Threads + Wait>(
     let opened = Opened::open(alloc, &config, disks)?;
     match close_named::<Brand, R>(rt, opened, node, event) {
         Ok(once) => Ok(once),
-        Err(refusal) => Err(OpenFault::Refused(refusal)),
+        Err(_) => Err(OpenFault::Memory),
     }
 }
 

@@ -4,7 +4,7 @@
 ghost use Rattle.std.specs.Prelude.{◌≡◌, true};
 ghost use Rattle.model.specs.Steps.{is_own};
 
-use crate::member::beside;
+use crate::program::beside;
 use cases::{ASKED, Dice, Found, Noted, compare_letters};
 use ids::Refusal;
 use model::{Answer, Event, Letter};

@@ -3,7 +3,6 @@ ghost use Rattle.std.specs.Prelude.{◌≡◌, true};
 ghost use Rattle.model.specs.Steps.{is_own};
 
 use crate::gates::pause;
-use crate::member::beside;
 use ids::{Ref, Refusal};
 use model::{Answer, Event, Letter};
 use std::alloc::Global;
@@ -235,7 +234,8 @@ impl<'a, S: Site> Program<'a, S> {
             return self.fail();
         };
         let read = self.act(rt, Event::Word { object: OTHER });
-        if letter.reference != Some(made.reference) || read != Ok(Answer::Word(made.word)) {
+        let is_right = matches!(read, Ok(Answer::Word(word)) if word == made.word);
+        if letter.reference != Some(made.reference) || !is_right {
             self.fail();
         }
     }
@@ -300,6 +300,14 @@ impl Went {
             self.freed = self.freed.saturating_add(report.freed);
         }
     }
+}
+
+/// The numbers before and after this one in a ring of this many.
+pub(crate) fn beside(own: u8, nodes: u8) -> (u8, u8) {
+    let last = nodes.saturating_sub(1);
+    let next = if own < last { own.saturating_add(1) } else { 0 };
+    let previous = if own > 0 { own.saturating_sub(1) } else { last };
+    (previous, next)
 }
 
 /// Each program in its own thread.

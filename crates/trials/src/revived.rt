@@ -46,7 +46,8 @@ pub(crate) struct Seen {
 
 // Whether the object's word is the one that was written.
 fn reads_word<R: Wait>(rt: &R, program: &Shared<MemoryDisk>) -> bool {
-    program.act(rt, Event::Word { object: 0 }) == Ok(Answer::Word(WORD))
+    let read = program.act(rt, Event::Word { object: 0 });
+    matches!(read, Ok(Answer::Word(WORD)))
 }
 
 // Whether the word could be written, and was read as written.

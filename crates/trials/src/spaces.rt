@@ -28,7 +28,7 @@ pub(crate) const MANY: u32 = 1_000_000;
 pub(crate) fn config_of(alloc: Global, size: Size) -> Result<Config, OpenFault> {
     match size.text(alloc) {
         Ok(text) => Config::from_text(alloc, text.as_str()),
-        Err(_) => Err(OpenFault::Refused(Refusal::Memory)),
+        Err(_) => Err(OpenFault::Memory),
     }
 }
 

@@ -3,7 +3,7 @@
 use model::Answer;
 
 /// What was received from another node.
-#[derive(Clone, Copy, Debug, PartialEq, Eq)]
+#[derive(Clone, Copy, Debug)]
 pub enum Inbound {
     /// No message waited for its turn, and the mailbox wasn't full.
     Empty,
@@ -13,7 +13,7 @@ pub enum Inbound {
 }
 
 /// What was sent to another node.
-#[derive(Clone, Copy, Debug, PartialEq, Eq)]
+#[derive(Clone, Copy, Debug)]
 pub enum Outbound {
     /// A frame was put into the mailbox.
     Sent,

@@ -17,3 +17,8 @@ pub record IsRun (node nodes turns : ℕ) (r : Report) (asked : Option Asked) (p
   pub all : (r.turns ≡ turns) ⊎ (IsSome r.ended_at ⊎ IsSome asked)
   pub received : r.received ≡ received_over past
   pub freed : r.freed ≡ freed_over past
+
+-- the report of some such run
+abbrev pub IsReport : ℕ → ℕ → ℕ → Report → Type 0
+IsReport node nodes turns r =
+    (asked : Option Asked) × (past : Turns) × IsRun node nodes turns r asked past

@@ -38,5 +38,5 @@ pub use calls::{Call, Past};
 pub use gate::{Gate, Point, Stage};
 pub use run::{Report, Run, Turns, run_node};
 pub use site::Site;
-pub use stop::{Asked, Counted, Stop};
+pub use stop::{Asked, Counted, Ended, Stop};
 pub use turn::{Turn, turn_node};

@@ -9,20 +9,37 @@ use crate::gate::{Gate, Stage};
 use crate::site::Site;
 use crate::stop::{Asked, Counted, Stop};
 use crate::turn::turn_node;
-use std::mem;
 use std::snapshot::Snapshot;
 use std::sync::Wait;
+use std::{fmt, mem};
 
 /// What a worker did: its node, its whole turns, the new messages that it received and the objects
 /// that it freed. `ended_at` is the stage at which the gate ended it, if it did. A turn that ended
-/// at its last point counts as whole.
-#[derive(Clone, Copy, Debug, PartialEq, Eq)]
+/// at its last point counts as whole. Only a worker's run makes a report.
+#[derive(Clone, Copy, PartialEq, Eq)]
 pub struct Report {
     pub node: u8,
     pub turns: u32,
     pub received: u64,
     pub freed: u64,
     pub ended_at: Option<Stage>,
+    made: Made,
+}
+
+// So that nothing else makes a report.
+#[derive(Clone, Copy, PartialEq, Eq)]
+struct Made;
+
+impl fmt::Debug for Report {
+    fn fmt<W: fmt::Write>(&self, f: &mut fmt::Formatter<W>) -> fmt::Result {
+        f.debug_struct("Report")
+            .field("node", &self.node)
+            .field("turns", &self.turns)
+            .field("received", &self.received)
+            .field("freed", &self.freed)
+            .field("ended_at", &self.ended_at)
+            .finish()
+    }
 }
 
 /// The completed turns. Only proofs read it: a snapshot takes up no bytes.
@@ -108,6 +125,7 @@ fn take_turns<R: Wait, S: Site, G: Gate>(
             received,
             freed,
             ended_at,
+            made: Made,
         },
         asked,
         turns: past,

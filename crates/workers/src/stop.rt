@@ -1,5 +1,7 @@
 //! What the workers of a space share. What was found in it can be shown only by a value that these
 //! calls make.
+ghost use Rattle.std.specs.Prelude.{◌≡◌};
+
 use std::sync::atomic::{AtomicBool, AtomicU64, Ordering};
 
 /// Whether the workers of a space are to stop, and how many have ended.
@@ -19,6 +21,21 @@ pub struct Asked {
 #[derive(Clone, Copy, Debug)]
 pub struct Counted {
     _added: (),
+}
+
+/// How many workers were found to have ended. Only [`Stop::look`] makes one.
+#[derive(Clone, Copy, Debug)]
+pub struct Ended {
+    count: u64,
+}
+
+impl Ended {
+    /// How many there were.
+    pub fn count(&self) -> u64
+        ensures { result ≡ self.now.count }
+    {
+        self.count
+    }
 }
 
 impl Stop {
@@ -50,8 +67,15 @@ impl Stop {
         Counted { _added: () }
     }
 
+    /// Looks how many workers have ended.
+    pub fn look(&self) -> Ended {
+        Ended {
+            count: self.ended.load(Ordering::SeqCst),
+        }
+    }
+
     /// How many workers have ended.
     pub fn ended(&self) -> u64 {
-        self.ended.load(Ordering::SeqCst)
+        self.look().count()
     }
 }

@@ -62,12 +62,12 @@ module _ (w : World) (old : SpaceView) (k : Call) (ks : List Call) (choice : ℕ
         (sym (cond-false (is_taken k.result) (met ∷ later) later lost)) rest.shown;
   }
 
-not-memory : (e : Refusal) → is_taken (Err e) ≡ true → e ≢ Memory
+pub not-memory : (e : Refusal) → is_taken (Err e) ≡ true → e ≢ Memory
 not-memory e is same =
     absurd (let never : is_taken (Err Memory) ≡ true =
     subst (λ (z : Refusal). is_taken (Err z) ≡ true) same is in cc)
 
-not-large : (e : Refusal) → is_taken (Err e) ≡ true → e ≢ ImageTooLarge
+pub not-large : (e : Refusal) → is_taken (Err e) ≡ true → e ≢ ImageTooLarge
 not-large e is same =
     absurd (let never : is_taken (Err ImageTooLarge) ≡ true =
     subst (λ (z : Refusal). is_taken (Err z) ≡ true) same is in cc)

@@ -189,6 +189,7 @@ module _ {n m : SpaceView} {i : ℕ} {q p : KeepingSite} (c : SpaceChanges n m i
       length-set n.sites i p.site in
       let after : List SiteView = set n.sites i p.site in
       let sim : IsSim after = record {
+        some = omega (arith, width, h.some);
         small = omega (arith, width, h.small);
         current = λ k less.
             subst (λ (z : ℕ). IsPlaced z k (site_at after k).current) (sym width)

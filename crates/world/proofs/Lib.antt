@@ -1,5 +1,4 @@
 pub mod Refusals
-pub mod NeverTooLarge
 pub mod Shows
 pub mod Steps
 pub mod Deliveries
@@ -7,8 +6,7 @@ pub mod Acks
 pub mod Held
 pub mod New
 pub mod Runs
-pub mod Finding
-pub mod Following
-pub mod Reading
-pub mod Reached
 pub mod Answers
+pub mod Plays
+pub mod Moves
+pub mod Playing

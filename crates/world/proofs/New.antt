@@ -78,6 +78,7 @@ new-sim shape h =
     get_or-map-range_with_len (new_site shape) 0 shape.nodes i i no_site
     (omega (arith, less, width)) (omega arith) in
     record {
+      some = omega (arith, width, h.least_nodes);
       small = omega (arith, width, h.most_nodes);
       current = λ i less. subst (λ (q : SiteView). IsPlaced (length (new_sites shape)) i q.current)
           (sym (there i less)) (record { own = refl; nodes = sym width });

@@ -24,13 +24,13 @@ use Rattle.model.specs.Steps.{act, ack_of, is_own, is_memory_free, is_shading}
 use Rattle.model.specs.View.{NodeView, IsTold, view_act, all_kept, kept_view, base_of}
 use Rattle.model.specs.World.{World, FollowsStep, IsStepRefusal, take_step, is_node, moved, acknowledged, is_step_memory_free, is_shading_step}
 use Rattle.model.proofs.Shown.{act-shown}
+use Rattle.model.proofs.Refusals.{event-never}
 use Rattle.node.specs.Invariant.{IsNode}
 use Rattle.node.specs.Summaries.{summary_of}
 use Rattle.site.specs.Sites.{SiteView, Saves, bases, bases_acked}
 use Rattle.world.specs.Shows.{SiteBases, ShowsWorld, SavesTooLarge, Stepped, Given, IsSim, no_site, site_at, site_bases, bases_of, bases_at, bases_after, summary_at}
 use Rattle.world.specs.Spaces.{outcome_by}
 use Rattle.world.proofs.Refusals.{first-refused, first-memory, first-by, step-refused}
-use Rattle.world.proofs.NeverTooLarge.{event-other}
 use Rattle.site.proofs.Refusals.{memory-or}
 use Rattle.site.proofs.SiteLemmas.{IsAckWithin}
 use Rattle.world.proofs.Shows.{Changes, unchanged-sites, shows-moved, shows-saved, node-moved, saved_after}
@@ -184,7 +184,8 @@ pub given-follows : {n m : List SiteView} {i : ℕ} {e : Event} {s : Step} {o : 
 given-follows {n = n} {m = m} {i = i} {e = e} {s = s} {w = w} (Err f) h shown gives =
     let c : Changes n m i (site_at n i) h.site =
     record { within = h.within; old = refl; new = h.others } in
-    let other : f ≢ ImageTooLarge = event-other _ (site_at n i).current e f h.acted.performs in (
+    let other : f ≢ ImageTooLarge =
+    event-never _ (site_at n i).current e f ImageTooLarge refl h.acted.performs in (
       step-refused w f other s (gives.refuses f h.acted.performs),
       rw (unchanged-sites c h.acted.unchanged) shown,
     )
@@ -217,7 +218,7 @@ given-unchanged o (Ok x) h = tt
 pub given-small : {n m : List SiteView} {i : ℕ} {e : Event} (o : Answer → Outcome)
     (r : Result Answer Refusal) → Given r n m i e → outcome_by o r ≢ Err ImageTooLarge
 given-small {n = n} {i = i} {e = e} o (Err f) h is =
-    event-other _ (site_at n i).current e f h.acted.performs
+    event-never _ (site_at n i).current e f ImageTooLarge refl h.acted.performs
     (let size : f ≡ ImageTooLarge = cc in size)
 given-small o (Ok x) h is = absurd cc
 

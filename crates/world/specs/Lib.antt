@@ -1,4 +1,6 @@
 pub mod Shows
-pub mod Reach
 pub mod Spaces
 pub mod Answered
+pub mod Played
+pub mod Moves
+pub mod Collected

@@ -1,6 +1,5 @@
 -- How the code's space shows a space of the definitions.
-use Rattle.std.specs.Prelude.{◌≡◌, ◌≢◌, ℕ, ◌++◌, ◌<◌, ◌≤◌, List, [], ◌∷◌, length, map, cond, IsTrue, IfOk, IfErr, OnErr, ◌↔◌, slice_get, slice_set, slice_index_or, Option, Some, None, Result, Err}
-use Rattle.ids.specs.Limits.{Shaped}
+use Rattle.std.specs.Prelude.{◌≡◌, ◌≢◌, ℕ, ◌<◌, ◌≤◌, List, length, map, cond, IsTrue, IfOk, IfErr, OnErr, ◌↔◌, slice_get, slice_set, slice_index_or, Option, Some, None, Result, Err}
 use Rattle.ids.specs.declared.refusal.Refusal.{Refusal}
 use Rattle.ids.specs.declared.refusal.Refusal.TheVariants.{Memory, ImageTooLarge}
 use Rattle.ids.specs.declared.limits.TheConstants.{GREATEST_NODES, GREATEST_IMAGE}
@@ -14,10 +13,10 @@ use Rattle.model.specs.declared.step.Outcome.TheVariants as outcome
 use Rattle.model.specs.State.{NodeState, node_at, sent_to}
 use Rattle.model.specs.Steps.{is_addressed}
 use Rattle.model.specs.View.{NodeView, Shows, link_to}
-use Rattle.model.specs.World.{World, KeepsSent, FollowsStep, acknowledged, new_world, run, is_node, is_step_memory_free}
+use Rattle.model.specs.World.{World, KeepsSent, FollowsStep, acknowledged, is_node, is_step_memory_free}
 use Rattle.image.specs.Images.{image_of}
 use Rattle.node.specs.Summaries.{summary_of}
-use Rattle.node.specs.declared.summary.Summary.{Summary}
+use Rattle.model.specs.declared.summary.Summary.{Summary}
 use Rattle.site.specs.Outboxes.{IsFrameOf, numbered_bytes}
 use Rattle.site.specs.Sites.{SiteView, Acted, frames_to, new_site, bases, bases_to}
 
@@ -68,6 +67,7 @@ pub record IsPlaced (count i : ℕ) (n : NodeView) : Type 0 where
   pub nodes : n.local.shape.nodes ≡ count
 
 pub record IsSim (sites : List SiteView) : Type 0 where
+  pub some : 0 < length sites
   pub small : length sites ≤ GREATEST_NODES
   pub current : (i : ℕ) → i < length sites → IsPlaced (length sites) i (site_at sites i).current
   pub saved : (i : ℕ) → i < length sites → IsPlaced (length sites) i (site_at sites i).saved

@@ -2,7 +2,9 @@
 //! are in `laws/specs`, and docs/RULES.md explains their terms.
 ghost use Rattle.laws.specs.Sights.{CollectorIsUnseen};
 ghost use Rattle.laws.specs.Statements.{OnlyEventsChange, CutsExtend, ReachIsLive, SweepsFreeNoneReachable, NodesAgree, BalancesAddUp, OldGarbageGoes, TargetsAreLive, NetGrows, NoneRefusedInTurn, NoneBeyond, AcknowledgementsGoThrough, HandsGoThrough, AcknowledgedIsTakenIn};
+ghost use Rattle.progress.specs.Progress.{MarkingCanEnd, CycleCanEnd, GarbageCanGo, EndIsFoundSoon};
 ghost use Rattle.world.specs.Answered.{AnswersAreUnseen};
+ghost use Rattle.world.specs.Played.{PlayedIsAnswered};
 
 /// The headline. It holds for every list of steps of every space: events of programs and of the
 /// collector, deliveries, losses, repeats, reorderings, acknowledgements, saves and restarts.
@@ -29,6 +31,14 @@ ghost use Rattle.world.specs.Answered.{AnswersAreUnseen};
 /// `acknowledgements`, `hands`, `taken_in`). Restarts need no further care, since any cut after one
 /// could also have come about without it (`cuts_extend`). A step that isn't an event changes
 /// nothing (`events`).
+///
+/// Collection never gets stuck. From every space that a run reaches, the collector alone ends the
+/// cycle's marking (`marking`), has each node sweep the cycle (`cycle`), and frees what was garbage
+/// at the start (`garbage`). It does so by moves that the space determines, within a bound on their
+/// number. Once marking has terminated, three rounds of the token are enough to find that (`soon`).
+/// The code answers each step of these moves, unless it has no memory, or an image is too large
+/// (`played`). [`Sim::collect`](crate::Sim::collect) plays them. No clause says that anyone calls
+/// it, or that messages arrive.
 ///
 /// This function does nothing: its contract is the theorems. The contract of
 /// [`Sim::step`](crate::Sim::step) is about the same spaces.
@@ -81,4 +91,19 @@ pub fn laws()
     ensures hands { HandsGoThrough }
     // Whatever a node has acknowledged, its current state has received.
     ensures taken_in { AcknowledgedIsTakenIn }
+    // Take the moves that the strategy plays after any run. Within a bound that the current states
+    // determine, node 0 counts the cycle's marking as ended. No step of the moves is refused, if no
+    // link runs out of numbers.
+    ensures marking { MarkingCanEnd }
+    // Within another bound, each node has swept the cycle, and node 0 was told so.
+    ensures cycle { CycleCanEnd }
+    // Within a third one, each node has swept the next cycle too. Once each is saved after that,
+    // none has an object that was old garbage at the start, rings of objects across nodes included.
+    ensures garbage { GarbageCanGo }
+    // If marking has terminated, node 0 finds that within three rounds of the token and the moves
+    // that messages in flight need.
+    ensures soon { EndIsFoundSoon }
+    // The calls of `Sim::step` for these moves all succeed, unless one fails with `Memory` or
+    // `ImageTooLarge`. The space then shows what the moves lead to.
+    ensures played { PlayedIsAnswered }
 {}

@@ -3,11 +3,10 @@
 //! run, and the theorems apply to what the space then shows.
 #![tactic(auto)]
 
+mod collecting;
 mod headline;
-mod reaching;
 mod sim;
 
 pub use headline::laws;
 pub use model::{Answer, Event, Letter, Outcome, Step};
-pub use reaching::reach;
 pub use sim::Sim;

@@ -31,6 +31,7 @@ ghost use Rattle.world.specs.Spaces.{
   step_met,
 };
 
+use control::Phases;
 use ids::{NodeId, Refusal, Shape};
 use model::{Answer, Event, Outcome, Step};
 use msg::{Ack, Frame, decode};
@@ -173,6 +174,14 @@ impl Sim {
         ensures shown { (w : World) → ShowsWorld self.now.sites w → result ≡ summary_at w number }
     {
         Some(self.node(number)?.state())
+    }
+
+    /// The phases of node 0.
+    pub(crate) fn phases(&self) -> &Phases
+        ensures some { 0 < length self.now.sites }
+        ensures value { result.now ≡ (site_at self.now.sites 0).current.local.phases }
+    {
+        self.sites[0].node().core().phases()
     }
 
     /// The site of the node of this number.

@@ -86,6 +86,7 @@ impl<D: Disk> Cell<D> {
     /// Fails as the node does, whose state then stays the same; with `Closed` exactly if the cell
     /// is closed. An event that takes no memory never fails with `Memory`. Either way a line is
     /// added to the trace.
+    #[inline(always)]
     pub fn act(&mut self, wire: &Wire, event: Event) -> Result<Answer, Refusal>
         requires wire { IsSeatOf wire.now self.old.seat }
         requires own { is_own event ≡ true }
@@ -135,7 +136,7 @@ impl<D: Disk> Cell<D> {
         if !self.shelf.is_ready() {
             return Err(Refusal::Closed);
         }
-        if self.desk.own != 0 {
+        if self.desk.own() != 0 {
             return Err(Refusal::NotDirector);
         }
         Ok(self.desk.raise(wire))
@@ -147,7 +148,7 @@ impl<D: Disk> Cell<D> {
         ensures value { result ≡ self.now.unsaved }
         ensures saved { IsUnsaved result (known self.now.seat).pair }
     {
-        self.desk.is_unsaved
+        self.desk.is_unsaved()
     }
 
     /// The current node. It shows the state that the seat's events lead to, and each message that
@@ -157,7 +158,7 @@ impl<D: Disk> Cell<D> {
         ensures value { result.now ≡ self.now.node }
         ensures kept { IsKept D.may_leave self.now }
     {
-        &self.desk.node
+        self.desk.node()
     }
 
     /// The cell's last calls as text, oldest first. Fails with `Memory` if an allocation fails.

@@ -72,7 +72,7 @@ impl<D: Disk> Cell<D> {
         if !self.desk.is_other(from) {
             return Err(Refusal::NoNode);
         }
-        if self.desk.node.waiting(from).is_some() {
+        if self.desk.node().waiting(from).is_some() {
             return self.next(wire, from);
         }
         self.receive(wire, from)

@@ -93,7 +93,7 @@ impl<D: Disk> Cell<D> {
         ensures traced { self.new.trace ≡ keep_last TRACE_EVENTS (self.old.trace
             ++ record { call = call.Save; outcome = done_outcome result } ∷ []) }
     {
-        match self.shelf.save::<Images>(&self.desk.node) {
+        match self.shelf.save::<Images>(self.desk.node()) {
             Ok(()) => {
                 self.desk.save(wire);
                 self.trace.push(Call::Save, Outcome::Done);
@@ -197,9 +197,7 @@ impl Cell<MemoryDisk> {
     /// [`MemoryDisk::fail_from`].
     pub fn fail_from(&mut self, k: u64)
         ensures plan { self.new.disk.plan ≡ fails_from k }
-        ensures state { self.new.disk.state ≡ self.old.disk.state }
-        ensures past { self.new.disk.past ≡ self.old.disk.past }
-        ensures failures { self.new.disk.failures ≡ self.old.disk.failures }
+        ensures account { self.new.disk.account ≡ self.old.disk.account }
         ensures stays { self.new ≡ record self.old { disk = self.new.disk } }
     {
         self.shelf.fail_from(k);
@@ -209,9 +207,7 @@ impl Cell<MemoryDisk> {
     /// [`MemoryDisk::fail_once`].
     pub fn fail_once(&mut self, k: u64)
         ensures plan { self.new.disk.plan ≡ fails_once k }
-        ensures state { self.new.disk.state ≡ self.old.disk.state }
-        ensures past { self.new.disk.past ≡ self.old.disk.past }
-        ensures failures { self.new.disk.failures ≡ self.old.disk.failures }
+        ensures account { self.new.disk.account ≡ self.old.disk.account }
         ensures stays { self.new ≡ record self.old { disk = self.new.disk } }
     {
         self.shelf.fail_once(k);

@@ -1,15 +1,14 @@
 //! The frames that a node's caller sends to other nodes. They take no memory.
-ghost use Rattle.handles.specs.Bytes.{WroteIf};
+ghost use Rattle.values.specs.Bytes.{WroteIf};
 ghost use Rattle.std.specs.Prelude.{length};
 ghost use Rattle.handles.specs.Frames.{Holds, Packs, ack_bytes, frame_bytes, window};
 
 use super::LoneNode;
 use super::reading::other_node;
-use crate::bytes::put;
-use crate::fault::Fault;
 use crate::packing::{Packing, spelled};
 use ids::WINDOW;
 use node::Node;
+use values::{Fault, put};
 
 impl LoneNode {
     /// Writes the frame in this place of the window to another node. Fails with `BadArgument` if

@@ -4,12 +4,11 @@ ghost use Rattle.ids.specs.declared.refusal.Refusal.TheVariants.{Memory};
 ghost use Rattle.handles.specs.Images.{Imaged, Kept, Sized, counts_of, keeps, released};
 
 use super::LoneNode;
-use crate::bytes::put;
-use crate::fault::Fault;
 use ids::Refusal;
 use image::to_bytes;
 use node::{Core, Node};
 use std::alloc::Global;
+use values::{Fault, put};
 
 /// What an image holds of the links between its node and one node.
 #[derive(Drop)]

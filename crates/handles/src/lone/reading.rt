@@ -4,10 +4,9 @@ ghost use Rattle.handles.specs.Reads.{link_of, other_node, register_of, waiting_
 ghost use Rattle.node.specs.Summaries.{summary_of};
 
 use super::LoneNode;
-use crate::fault::Fault;
-use crate::fields::CLink;
 use ids::{Ref, Refusal};
 use node::{Core, Node, Summary};
+use values::{CLink, Fault};
 
 /// Fails with `NoNode` if this isn't another node of the node's space.
 pub(crate) fn other_node(core: &Core, node: u8) -> Result<(), Fault>

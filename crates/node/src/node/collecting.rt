@@ -1,25 +1,24 @@
 //! A node's own steps of a collection cycle. Each may be requested at any time and in any order,
 //! and is refused if there is nothing to do.
-ghost use Rattle.std.specs.Prelude.{◌≡◌, ◌≢◌, ◌<◌, ◌≤◌, [], ◌∷◌, true, false, not, length, map, None, IsTrue, IsSome, IfErr, OnOk, OnErr};
-ghost use Rattle.ids.specs.declared.limits.TheConstants.{GREATEST_CYCLE};
+ghost use Rattle.std.specs.Prelude.{◌≡◌, ◌≢◌, ◌<◌, ◌≤◌, [], true, false, not, take, map, IsTrue, IsSome, IfErr, OnOk, OnErr};
+ghost use Rattle.ids.specs.declared.limits.TheConstants.{GREATEST_PLACES};
 ghost use Rattle.ids.specs.declared.refusal.Refusal.TheVariants.{LinkSpent, Memory};
-ghost use Rattle.msg.specs.declared.body.Body.TheVariants as body;
-ghost use Rattle.model.specs.Counting.{stamped};
-ghost use Rattle.model.specs.Collecting.{handed_on, judged, reports_sweep};
+ghost use Rattle.model.specs.Collecting.{handed_on, judged, places_in, reports_sweep};
+ghost use Rattle.model.specs.State.{slot_at};
 ghost use Rattle.model.specs.Steps.{fits};
 ghost use Rattle.model.specs.View.{Performed, append_to, used, view_act, view_done};
 ghost use Rattle.model.specs.declared.event.Event.TheVariants as event;
-ghost use Rattle.link.specs.Links.{IsLinks};
-ghost use Rattle.barrier.specs.Asked.{all_appended, IsRefused};
-ghost use Rattle.node.specs.Cycles.{begins, reports, with_token_sent};
+ghost use Rattle.node.specs.Cycles.{reports};
 
 use super::Core;
-use barrier::{ask_for_roots, scan, unask};
-use ids::Refusal;
-use link::Links;
+use super::errands::Extra;
+use heap::Heap;
+use ids::{GREATEST_PLACES, Ref, Refusal};
 use model::Answer;
-use msg::{Body, Message, Token};
-use safra::{Ring, Verdict};
+use msg::Body;
+use safra::Verdict;
+
+const PLACES: usize = GREATEST_PLACES as usize;
 
 impl Core {
     /// Node 0 begins the next cycle: it joins the cycle, sends the token to the last node, and
@@ -34,25 +33,8 @@ impl Core {
             return Err(Refusal::NotDirector);
         }
         self.phases.may_begin()?;
-        let own = self.own;
         let cycle = self.phases.cycle() + 1;
-        let roots = self.heap.root_count();
-        self.heap.make_room(roots, 0)?;
-        let alloc = self.asked.allocator();
-        let mut asked = ask_for_roots(alloc, &self.heap, &mut self.links, own, cycle)?;
-        let mut ring = self.ring;
-        ring.join();
-        ring.sent_marks(asked.len() as u64);
-        let token = ring.probe();
-        if let Err(refusal) = send_begins(&mut self.links, own, cycle, token) {
-            unask(&mut asked, &mut self.links, 0);
-            return Err(refusal);
-        }
-        // From here on nothing can fail.
-        self.heap.shade_roots(own, cycle);
-        self.asked = asked;
-        self.phases.begin();
-        self.ring = ring;
+        self.run(cycle, false, &[], Extra::Begins)?;
         Ok(Answer::Begun(cycle))
     }
 
@@ -62,21 +44,14 @@ impl Core {
     pub(crate) fn scan(&mut self) -> Result<Answer, Refusal>
         ensures { Performed true result self.old self.new (view_act self.old event.Scan) }
     {
-        if self.heap.grey() == 0 {
+        let Some(slot) = self.heap.last_grey() else {
             return Err(Refusal::NothingToDo);
-        }
-        let own = self.own;
+        };
+        let scanned = self.heap.reference_at(self.own, slot);
+        let mut places = [None; PLACES];
+        let count = copy_places(&self.heap, slot, &mut places);
         let cycle = self.phases.cycle();
-        let ended = self.phases.ended();
-        let scanned = scan(
-            &mut self.heap,
-            &mut self.asked,
-            &mut self.ring,
-            &mut self.links,
-            own,
-            cycle,
-            ended,
-        )?;
+        self.run(cycle, true, &places[..count], Extra::Scanned)?;
         Ok(Answer::Scanned(scanned))
     }
 
@@ -109,7 +84,8 @@ impl Core {
         let mut ring = self.ring;
         let token = ring.forward();
         let previous = self.own - 1;
-        self.send_token(previous, token, ring)?;
+        self.send(previous, Body::Token(token))?;
+        self.set_ring(ring);
         Ok(Answer::Passed(token))
     }
 
@@ -125,47 +101,18 @@ impl Core {
         match ring.verdict() {
             Verdict::Ended => {
                 let cycle = self.phases.cycle();
-                let ended = Message {
-                    stamp: cycle,
-                    body: Body::Ended,
-                };
-                self.links.announce(self.own, ended)?;
-                self.phases.on_ended();
-                self.ring = ring;
+                self.tell(Body::Ended)?;
+                self.set_ring(ring);
+                self.end_marking();
                 Ok(Answer::Ended(cycle))
             }
             Verdict::Probe(token) => {
                 let last = self.shape.nodes() - 1;
-                self.send_token(last, token, ring)?;
+                self.send(last, Body::Token(token))?;
+                self.set_ring(ring);
                 Ok(Answer::ProbeAgain)
             }
         }
-    }
-
-    /// Sends the token to the node `to`, and makes `ring` the node's part of the ring. That part
-    /// has no token any more, and may otherwise differ only in its colour. It fails with
-    /// `LinkSpent` if no number is left, and after that with `Memory` if an allocation fails. The
-    /// node is then as it was.
-    fn send_token(&mut self, to: u8, token: Token, ring: Ring) -> Result<(), Refusal>
-        requires there { to < self.old.local.shape.nodes }
-        requires other { to ≢ self.old.local.own }
-        requires within { self.old.local.phases.cycle ≤ GREATEST_CYCLE }
-        requires earlier { ring.earlier ≡ self.old.local.ring.earlier }
-        requires recent { ring.recent ≡ self.old.local.ring.recent }
-        requires left { ring.token ≡ None }
-        ensures fits { OnOk result (fits (map used self.old.links)
-            ((to, stamped self.old.local (body.Token token)) ∷ []) ≡ true) }
-        ensures done { OnOk result (self.new ≡ with_token_sent self.old to token ring) }
-        ensures refused { IfErr result (λ e. e ≢ Memory → (e ≡ LinkSpent)
-            × (fits (map used self.old.links)
-            ((to, stamped self.old.local (body.Token token)) ∷ []) ≡ false)) }
-        ensures last { IfErr result (λ e. e ≡ Memory → fits (map used self.old.links)
-            ((to, stamped self.old.local (body.Token token)) ∷ []) ≡ true) }
-        ensures unchanged { OnErr result (self.new ≡ self.old) }
-    {
-        self.send(to, Body::Token(token))?;
-        self.ring = ring;
-        Ok(())
     }
 
     /// Frees the unmarked objects in the next `count` slots at most. If no slot is left, it reports
@@ -181,12 +128,9 @@ impl Core {
         if self.phases.swept() >= self.phases.ended() {
             return Err(Refusal::NothingToDo);
         }
-        let cycle = self.phases.cycle();
-        let cursor = self.phases.cursor();
-        let left = self.heap.slots() - cursor;
+        let left = self.heap.slots() - self.phases.cursor();
         if count < left {
-            let freed = self.heap.sweep(cycle, cursor, count);
-            self.phases.advance(count);
+            let freed = self.sweep_some(count);
             return Ok(Answer::Freed {
                 count: freed,
                 done: false,
@@ -194,8 +138,7 @@ impl Core {
         }
         // A sweep can't be undone, so whatever can fail comes first.
         self.report()?;
-        let freed = self.heap.sweep(cycle, cursor, left);
-        self.phases.end_sweep();
+        let freed = self.sweep_rest();
         Ok(Answer::Freed {
             count: freed,
             done: true,
@@ -224,33 +167,13 @@ impl Core {
     }
 }
 
-/// Sends the token of a new probe to the last node, and announces the cycle to all nodes except
-/// `own`: all of it or nothing. It fails with `LinkSpent` if a message gets no number, and with
-/// `Memory` if an allocation fails.
-fn send_begins(links: &mut Links, own: u8, cycle: u64, token: Token) -> Result<(), Refusal>
-    requires { 0 < length links.old.links }
-    ensures fits { OnOk result (fits (map used links.old.links)
-        (begins own (length links.old.links) cycle token) ≡ true) }
-    ensures done { OnOk result
-        (links.new ≡ all_appended links.old (begins own (length links.old.links) cycle token)) }
-    ensures refused { IfErr result
-        (IsRefused links.old (begins own (length links.old.links) cycle token)) }
-    ensures unchanged { OnErr result (links.new ≡ links.old) }
-    ensures sound { IsLinks links.new }
+/// Copies what the places of the object in a slot hold, since the heap changes while they are
+/// shaded, and returns how many there are.
+fn copy_places(heap: &Heap, slot: u32, into: &mut [Option<Ref>; PLACES]) -> usize
+    ensures value { take result into.new ≡ places_in (slot_at heap.now.heap slot) }
+    ensures few { result ≤ GREATEST_PLACES }
 {
-    let last = links.width() - 1;
-    let token = Message {
-        stamp: cycle,
-        body: Body::Token(token),
-    };
-    links.append(last, token)?;
-    let begin = Message {
-        stamp: cycle,
-        body: Body::Begin,
-    };
-    if let Err(refusal) = links.announce(own, begin) {
-        links.retract(last);
-        return Err(refusal);
-    }
-    Ok(())
+    let held = heap.places(slot);
+    into[..held.len()].copy_from_slice(held);
+    held.len()
 }

@@ -7,122 +7,147 @@
 //! nothing yet, and this is how the token learns that. What was asked for in an earlier cycle no
 //! longer counts. Registers and letters are all that a program holds, and they are shaded; a letter
 //! that isn't accepted yet is as good as a register.
-ghost use Rattle.std.specs.Prelude.{◌≡◌, ◌<◌, ◌≤◌, ◌^◌, [], ◌∷◌, true, false, length, None, IfOk, IfErr, OnOk, OnErr};
+ghost use Rattle.std.specs.Prelude.{◌≡◌, ◌<◌, ◌≤◌, true, [], ◌++◌, cond, length, map, IfOk, IfErr, OnOk, OnErr};
 ghost use Rattle.std.specs.List.{AllByRecursion};
-ghost use Rattle.ids.specs.declared.limits.TheConstants.{GREATEST_COUNTED, GREATEST_NODES};
-ghost use Rattle.model.specs.Shading.{filled, roots};
-ghost use Rattle.model.specs.View.{Performed, view_taken};
-ghost use Rattle.link.specs.Links.{IsLinks};
-ghost use Rattle.barrier.specs.Asked.{IsRefused};
-ghost use Rattle.node.specs.Taking.{
-  AreSent,
-  IsTakable,
-  joining_asked,
-  joining_count,
-  joining_due,
+ghost use Rattle.ids.specs.declared.limits.TheConstants.{
+  GREATEST_NODES,
+  GREATEST_PLACES,
+  GREATEST_SENT,
 };
+ghost use Rattle.model.specs.Effects.{then};
+ghost use Rattle.model.specs.References.{IsWithin};
+ghost use Rattle.model.specs.Shading.{filled, join, marks_for, roots, unasked};
+ghost use Rattle.model.specs.Steps.{fits};
+ghost use Rattle.model.specs.View.{used};
+ghost use Rattle.link.specs.Links.{IsLinks};
+ghost use Rattle.barrier.specs.Asked.{AreSent, IsRefused, all_appended};
+ghost use Rattle.node.specs.Errands.{HasEnds, IsFit, MayJoin, Runs, errand_here, extra_sends};
 
 use super::Core;
-use super::settling::{Errand, brought_by, follow, follow_on_heap, met_by, reply_of, send_for};
+use super::errands::{Extra, count, letters_in, mark, send_out};
 use barrier::{RefSet, ask_for_roots, unask};
 use heap::Heap;
 use ids::{Ref, Refusal};
 use link::Links;
-use model::Answer;
-use msg::Body;
 use std::alloc::Global;
 
 /// What a node that joins a cycle has asked for, and how many Marks it has sent.
 #[derive(Drop)]
 struct Sought {
     asked: RefSet,
+    /// For what its program holds.
+    roots: usize,
+    /// For the other references of the errand.
     marks: usize,
 }
 
-/// Asks for what the node's program holds, into a new set. Then it sends what a message that makes
-/// the node join this cycle requires. All of it or nothing is done.
+impl Core {
+    /// Runs an errand by which the node joins this cycle: what its program holds is seen to first.
+    #[inline(never)]
+    pub(super) fn run_joining(
+        &mut self,
+        cycle: u64,
+        due: bool,
+        references: &[Option<Ref>],
+        extra: Extra,
+    ) -> Result<(), Refusal>
+        requires joins { MayJoin cycle self.old.local.phases }
+        requires within { AllByRecursion (IsWithin self.old.local.shape) (filled references.now) }
+        requires few { length references.now ≤ GREATEST_PLACES }
+        requires extra { IsFit self.old.local.shape self.old.local.own extra }
+        ensures { let here = errand_here due (filled references.now) extra in
+            Runs result (then (join self.old.local cycle) here) self.old self.new }
+    {
+        let own = self.own;
+        let room = self.heap.root_count() + references.len();
+        self.heap.make_room(room, letters_in(extra))?;
+        let alloc = self.asked.allocator();
+        let Sought {
+            asked,
+            roots,
+            marks,
+        } = send_joining(
+            alloc,
+            &self.heap,
+            &mut self.links,
+            own,
+            cycle,
+            due,
+            references,
+            extra,
+        )?;
+        // From here on nothing can fail.
+        self.heap.shade_roots(own, cycle);
+        mark(&mut self.heap, own, cycle, references, extra);
+        self.asked = asked;
+        self.phases.join(cycle);
+        self.ring.join();
+        self.ring.count_marks(roots as u64);
+        count(&mut self.ring, cycle, marks, extra);
+        Ok(())
+    }
+}
+
+/// Asks for what the node's program holds, into a new set. Then it does what else of the errand can
+/// fail. All of it or nothing is done.
 fn send_joining(
     alloc: Global,
     heap: &Heap,
     links: &mut Links,
     own: u8,
     cycle: u64,
-    errand: Errand,
+    due: bool,
+    references: &[Option<Ref>],
+    extra: Extra,
 ) -> Result<Sought, Refusal>
     requires roots { AllByRecursion (λ r. r.node < length links.old.links)
         (filled (roots heap.now.heap)) }
     requires nodes { AllByRecursion (λ r. r.node < length links.old.links)
-        (filled (errand.met.brought ∷ [])) }
-    requires there { errand.to < length links.old.links }
-    requires answered { errand.met.asks ≡ false → errand.reply ≡ None }
-    requires sound { IsLinks links.old }
+        (filled references.now) }
+    requires ends { HasEnds (length links.old.links) extra }
     requires many { length links.old.links ≤ GREATEST_NODES }
-    ensures done { let new = joining_asked own heap.now.heap errand.met in
-        let sends = joining_due own cycle heap.now.heap errand.met errand.to errand.reply in
-        IfOk result (λ s. AreSent [] new links.old sends s.asked.keys links.new) }
-    ensures count { IfOk result
-        (λ s. s.marks ≡ joining_count own heap.now.heap errand.met) }
-    ensures few { IfOk result (λ s. s.marks ≤ GREATEST_COUNTED) }
-    ensures refused { IfErr result (IsRefused links.old
-        (joining_due own cycle heap.now.heap errand.met errand.to errand.reply)) }
+    requires sound { IsLinks links.old }
+    ensures keys { let first = unasked own [] (filled (roots heap.now.heap)) in
+        IfOk result (λ s. s.asked.keys ≡ first ++ unasked own first (filled references.now)) }
+    ensures roots { let first = unasked own [] (filled (roots heap.now.heap)) in
+        IfOk result (λ s. s.roots ≡ length first) }
+    ensures marks { let first = unasked own [] (filled (roots heap.now.heap)) in
+        let new = unasked own first (filled references.now) in
+        IfOk result (λ s. s.marks ≡ length (cond due new [])) }
+    ensures few_roots { IfOk result (λ s. s.roots ≤ GREATEST_SENT) }
+    ensures few { IfOk result (λ s. s.marks ≤ GREATEST_SENT) }
+    ensures fits { let first = unasked own [] (filled (roots heap.now.heap)) in
+        OnOk result (fits (map used links.old.links) (marks_for cycle first) ≡ true) }
+    ensures done { let first = unasked own [] (filled (roots heap.now.heap)) in
+        let new = unasked own first (filled references.now) in
+        let sends = extra_sends own (length links.old.links) cycle extra in
+        OnOk result (AreSent (marks_for cycle (cond due new []) ++ sends)
+        (all_appended links.old (marks_for cycle first)) links.new) }
+    ensures joined { let first = unasked own [] (filled (roots heap.now.heap)) in
+        OnOk result (IsLinks (all_appended links.old (marks_for cycle first))) }
+    ensures marked { let first = unasked own [] (filled (roots heap.now.heap)) in
+        let new = unasked own first (filled references.now) in
+        let joined = all_appended links.old (marks_for cycle first) in
+        OnOk result (IsLinks (all_appended joined (marks_for cycle (cond due new [])))) }
+    ensures refused { let first = unasked own [] (filled (roots heap.now.heap)) in
+        let new = unasked own first (filled references.now) in
+        let sends = extra_sends own (length links.old.links) cycle extra in
+        IfErr result (IsRefused links.old
+        (marks_for cycle first ++ (marks_for cycle (cond due new []) ++ sends))) }
     ensures unchanged { OnErr result (links.new ≡ links.old) }
     ensures sound { OnOk result (IsLinks links.new) }
 {
     let mut asked = ask_for_roots(alloc, heap, links, own, cycle)?;
-    let first = asked.len();
-    match send_for(&mut asked, links, own, cycle, errand) {
+    let roots = asked.len();
+    match send_out(&mut asked, links, own, cycle, due, references, extra) {
         Ok(marks) => Ok(Sought {
             asked,
-            marks: first + marks,
+            roots,
+            marks,
         }),
         Err(refusal) => {
             unask(&mut asked, links, 0);
             Err(refusal)
         }
-    }
-}
-
-impl Core {
-    /// Receives a message of the next cycle, which the node joins.
-    pub(super) fn take_joining(
-        &mut self,
-        from: u8,
-        stamp: u64,
-        body: Body,
-    ) -> Result<Answer, Refusal>
-        requires takable { IsTakable self.old.local from stamp body }
-        requires later { self.old.local.phases.cycle < stamp }
-        ensures { Performed true result self.old self.new (view_taken self.old from stamp body) }
-    {
-        let own = self.own;
-        let alloc = self.asked.allocator();
-        let brought = brought_by(&self.heap, body);
-        let met = met_by(true, stamp, stamp, brought, body);
-        let reply = reply_of(stamp, brought, body);
-        let errand = Errand {
-            met,
-            to: from,
-            reply,
-        };
-        let room = self.heap.root_count() + 2;
-        self.heap.make_room(room, 1)?;
-        let Sought { asked, marks } = send_joining(
-            alloc,
-            &self.heap,
-            &mut self.links,
-            own,
-            stamp,
-            errand,
-        )?;
-        self.heap.shade_roots(own, stamp);
-        self.heap.shade(own, stamp, &[met.target, met.brought]);
-        follow_on_heap(&mut self.heap, from, body);
-        self.links.take_next(from);
-        self.asked = asked;
-        self.phases.join(stamp);
-        self.ring.join();
-        self.ring.sent_marks(marks as u64);
-        follow(&mut self.phases, &mut self.ring, from, stamp, body);
-        Ok(Answer::Received)
     }
 }

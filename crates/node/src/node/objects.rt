@@ -8,13 +8,13 @@ ghost use Rattle.model.specs.View.{Performed, Performs, view_act};
 ghost use Rattle.model.specs.declared.event.Event.TheVariants as event;
 
 use super::Core;
-use barrier::shade_all;
+use super::errands::Extra;
 use ids::Refusal;
 use model::Answer;
 
 impl Core {
     #[inline(always)]
-    #[tactic(auto, unfolding(model::specs::View::view_act, model::specs::Steps::allocated, model::specs::Heaps::heap_alloc))]
+    #[tactic(auto, unfolding(model::specs::View::view_act, model::specs::Heaps::heap_alloc))]
     pub(crate) fn allocate(&mut self, register: u16, places: u8) -> Result<Answer, Refusal>
         ensures { Performed false result self.old self.new
             (view_act self.old (event.Alloc register places)) }
@@ -24,7 +24,7 @@ impl Core {
         Ok(Answer::New(reference))
     }
 
-    #[tactic(auto, unfolding(model::specs::View::view_act, model::specs::Steps::copied, model::specs::Heaps::heap_copy))]
+    #[tactic(auto, unfolding(model::specs::View::view_act, model::specs::Heaps::heap_copy))]
     pub(crate) fn copy_register(&mut self, register: u16, source: u16) -> Result<Answer, Refusal>
         ensures performed { Performed false result self.old self.new
             (view_act self.old (event.Copy register source)) }
@@ -34,7 +34,7 @@ impl Core {
         Ok(Answer::Done)
     }
 
-    #[tactic(auto, unfolding(model::specs::View::view_act, model::specs::Steps::dropped, model::specs::Heaps::heap_drop))]
+    #[tactic(auto, unfolding(model::specs::View::view_act, model::specs::Heaps::heap_drop))]
     pub(crate) fn drop_register(&mut self, register: u16) -> Result<Answer, Refusal>
         ensures performed { Performed false result self.old self.new
             (view_act self.old (event.Drop register)) }
@@ -52,23 +52,13 @@ impl Core {
         let own = self.own;
         let value = self.heap.loaded(own, register, object, place)?;
         let cycle = self.phases.cycle();
-        let ended = self.phases.ended();
-        shade_all(
-            &mut self.heap,
-            &mut self.asked,
-            &mut self.ring,
-            &mut self.links,
-            own,
-            cycle,
-            ended,
-            &[value],
-        )?;
-        self.heap.set_register(register, value);
+        self.run(cycle, true, &[value], Extra::Nothing)?;
+        self.set_register(register, value);
         Ok(Answer::Value(value))
     }
 
     #[inline(always)]
-    #[tactic(auto, using(crate::proofs::Refusing::store_refused), unfolding(model::specs::View::view_act, model::specs::Steps::stored, model::specs::Heaps::heap_store))]
+    #[tactic(auto, using(crate::proofs::Refusing::store_refused), unfolding(model::specs::View::view_act, model::specs::Heaps::heap_store))]
     pub(crate) fn store(&mut self, object: u16, place: u8, register: u16) -> Result<Answer, Refusal>
         ensures performed { Performed false result self.old self.new
             (view_act self.old (event.Store object place register)) }
@@ -79,7 +69,7 @@ impl Core {
         Ok(Answer::Done)
     }
 
-    #[tactic(auto, unfolding(model::specs::View::view_act, model::specs::Steps::cleared, model::specs::Heaps::heap_clear))]
+    #[tactic(auto, unfolding(model::specs::View::view_act, model::specs::Heaps::heap_clear))]
     pub(crate) fn clear(&mut self, object: u16, place: u8) -> Result<Answer, Refusal>
         ensures performed { Performed false result self.old self.new
             (view_act self.old (event.Clear object place)) }
@@ -90,7 +80,7 @@ impl Core {
         Ok(Answer::Done)
     }
 
-    #[tactic(auto, unfolding(model::specs::View::view_act, model::specs::Steps::word_read, model::specs::Heaps::heap_word))]
+    #[tactic(auto, unfolding(model::specs::View::view_act, model::specs::Heaps::heap_word))]
     pub(crate) fn word(&self, object: u16) -> Result<Answer, Refusal>
         ensures performs { Performs false result self.now (view_act self.now (event.Word object)) }
         ensures memory_free { IfErr result (λ e. e ≢ Memory) }
@@ -99,7 +89,7 @@ impl Core {
         Ok(Answer::Word(word))
     }
 
-    #[tactic(auto, unfolding(model::specs::View::view_act, model::specs::Steps::word_set, model::specs::Heaps::heap_set_word))]
+    #[tactic(auto, unfolding(model::specs::View::view_act, model::specs::Heaps::heap_set_word))]
     pub(crate) fn set_word(&mut self, object: u16, word: u64) -> Result<Answer, Refusal>
         ensures performed { Performed false result self.old self.new
             (view_act self.old (event.SetWord object word)) }
@@ -110,7 +100,7 @@ impl Core {
         Ok(Answer::Done)
     }
 
-    #[tactic(auto, unfolding(model::specs::View::view_act, model::specs::Steps::accepted, model::specs::Heaps::heap_accept))]
+    #[tactic(auto, unfolding(model::specs::View::view_act, model::specs::Heaps::heap_accept))]
     pub(crate) fn accept(&mut self, register: u16) -> Result<Answer, Refusal>
         ensures performed { Performed false result self.old self.new
             (view_act self.old (event.Accept register)) }

@@ -2,10 +2,9 @@
 //! tested on the node as it is. What the ring and the end of marking require is tested on the node
 //! after it has joined, since a token may be the very message by which it joins. In its turn, no
 //! message that a node has released fails these tests.
-ghost use Rattle.std.specs.Prelude.{◌≡◌, ◌≢◌, ◌<◌, true, false, option_to_list, IsTrue, IfErr, OnErr};
+ghost use Rattle.std.specs.Prelude.{◌≡◌, ◌≢◌, ◌<◌, ◌&&◌, true, false, option_to_list, IsTrue, IfErr, OnErr};
 ghost use Rattle.ids.specs.declared.refusal.Refusal.TheVariants.{Memory};
-ghost use Rattle.model.proofs.Joining.{settles_joining};
-ghost use Rattle.model.specs.Shading.{joined};
+ghost use Rattle.model.specs.Shading.{is_calm, joined};
 ghost use Rattle.model.specs.Steps.{
   are_within,
   is_marking,
@@ -17,9 +16,8 @@ ghost use Rattle.model.specs.Steps.{
   may_take,
   mentioned,
 };
-ghost use Rattle.model.specs.View.{Performed, Performs, view_act, view_taken};
+ghost use Rattle.model.specs.View.{Performed, Performs, view_act};
 ghost use Rattle.model.specs.declared.event.Event.TheVariants as event;
-ghost use Rattle.node.specs.Taking.{IsTakable};
 
 use super::Core;
 use ids::{Ref, Refusal};
@@ -61,24 +59,10 @@ impl Core {
         Err(Refusal::NothingToDo)
     }
 
-    /// Receives a message that the node may receive, in its turn.
-    fn take(&mut self, from: u8, stamp: u64, body: Body) -> Result<Answer, Refusal>
-        requires { IsTakable self.old.local from stamp body }
-        ensures { Performed true result self.old self.new (view_taken self.old from stamp body) }
-    {
-        if stamp > self.phases.cycle() {
-            self.take_joining(from, stamp, body)
-        } else {
-            self.take_settled(from, stamp, body)
-        }
-    }
-
     fn may_take(&self, from: u8, stamp: u64, body: Body) -> bool
         ensures { result ≡ may_take self.now.local from stamp body }
     {
-        self.may_reach(stamp)
-            && (self.has_room_for(body)
-                && (self.may_follow(from, body) && self.may_settle(stamp, body)))
+        self.may_reach(stamp) && self.suits(from, stamp, body)
     }
 
     /// Whether the node is in this cycle or past it, or may join it.
@@ -89,19 +73,38 @@ impl Core {
         stamp <= cycle || (self.own != 0 && (stamp <= cycle + 1 && cycle <= self.phases.swept()))
     }
 
-    /// Whether every reference in the body is within the shape.
-    fn has_room_for(&self, body: Body) -> bool
-        ensures { result ≡ are_within self.now.local.shape (mentioned body) }
+    /// The tests of each body: whether its references are within the shape, whether the node may
+    /// follow such a body from that node, and whether it fits the node once that has joined the
+    /// message's cycle. (Node 0 joins no cycle, so no Swept is of a later one.)
+    #[inline(always)]
+    fn suits(&self, from: u8, stamp: u64, body: Body) -> bool
+        ensures { result ≡ (are_within self.now.local.shape (mentioned body)
+            && (may_follow self.now.local from body
+            && may_settle (joined self.now.local stamp).local stamp body)) }
     {
         match body {
-            Body::Begin | Body::Token(_) | Body::Ended | Body::Swept => true,
-            Body::Mark { target } | Body::Get { target, .. } => self.is_within(target),
+            Body::Begin => from == 0,
+            Body::Token(_) => {
+                from == (self.own + 1) % self.shape.nodes()
+                    && (self.marks_once_joined(stamp) && self.ring.token().is_none())
+            }
+            Body::Mark { target } | Body::Get { target, .. } => {
+                self.is_within(target) && target.node == self.own
+            }
             Body::Give { reference, .. } => self.is_any_within(reference),
             Body::Put {
                 target,
                 reference,
                 ..
-            } => self.is_within(target) && self.is_any_within(reference),
+            } => {
+                (self.is_within(target) && self.is_any_within(reference)) && target.node == self.own
+            }
+            Body::Ended => {
+                from == 0
+                    && (self.marks_once_joined(stamp)
+                        && (self.is_calm_once_joined(stamp) && self.ring.token().is_none()))
+            }
+            Body::Swept => self.own == 0 && stamp >= self.phases.cycle(),
         }
     }
 
@@ -120,75 +123,25 @@ impl Core {
         reference.node < self.shape.nodes() && reference.slot < self.shape.slots()
     }
 
-    /// Whether the node may follow such a body from that node.
-    fn may_follow(&self, from: u8, body: Body) -> bool
-        ensures { result ≡ may_follow self.now.local from body }
-    {
-        match body {
-            Body::Begin | Body::Ended => from == 0,
-            Body::Token(_) => from == (self.own + 1) % self.shape.nodes(),
-            Body::Mark { target } | Body::Put { target, .. } | Body::Get { target, .. } => {
-                target.node == self.own
-            }
-            Body::Give { .. } => true,
-            Body::Swept => self.own == 0,
-        }
-    }
-
-    /// Whether the body fits the node once it has joined the message's cycle.
-    fn may_settle(&self, stamp: u64, body: Body) -> bool
-        ensures { result ≡ may_settle (joined self.now.local stamp).local stamp body }
-    {
-        if stamp > self.phases.cycle() {
-            self.settles_joining(stamp, body)
-        } else {
-            self.settles(stamp, body)
-        }
-    }
-
-    /// The same of a node that is about to join that cycle, tested before it does.
-    fn settles_joining(&self, stamp: u64, body: Body) -> bool
-        ensures { result ≡ settles_joining self.now.local stamp body }
-    {
-        match body {
-            Body::Token(_) => self.ring.token().is_none(),
-            Body::Ended => {
-                (self.heap.grey() == 0 && !self.heap.wakes_root(self.own, stamp))
-                    && self.ring.token().is_none()
-            }
-            Body::Begin
-            | Body::Mark { .. }
-            | Body::Give { .. }
-            | Body::Put { .. }
-            | Body::Get { .. }
-            | Body::Swept => true,
-        }
-    }
-
-    /// The same of a node that is in that cycle or past it.
-    fn settles(&self, stamp: u64, body: Body) -> bool
-        ensures { result ≡ may_settle self.now.local stamp body }
-    {
-        match body {
-            Body::Token(_) => self.is_marking(stamp) && self.ring.token().is_none(),
-            Body::Ended => {
-                self.is_marking(stamp) && (self.heap.grey() == 0 && self.ring.token().is_none())
-            }
-            Body::Swept => stamp == self.phases.cycle(),
-            Body::Begin
-            | Body::Mark { .. }
-            | Body::Give { .. }
-            | Body::Put { .. }
-            | Body::Get { .. } => true,
-        }
-    }
-
-    /// Whether the node is in this cycle and doesn't know its marking to have ended.
-    fn is_marking(&self, stamp: u64) -> bool
-        ensures { result ≡ is_marking self.now.local stamp }
+    /// Whether the node, once it has joined this cycle, is in it and doesn't know its marking to
+    /// have ended.
+    fn marks_once_joined(&self, stamp: u64) -> bool
+        ensures { result ≡ is_marking (joined self.now.local stamp).local stamp }
     {
         let cycle = self.phases.cycle();
-        stamp == cycle && self.phases.ended() != cycle
+        stamp > cycle || (stamp == cycle && self.phases.ended() != cycle)
+    }
+
+    /// Whether no object is grey once the node has joined this cycle.
+    fn is_calm_once_joined(&self, stamp: u64) -> bool
+        ensures { result ≡ is_calm (joined self.now.local stamp).local.heap }
+    {
+        let calm = self.heap.grey() == 0;
+        if stamp > self.phases.cycle() {
+            calm && !self.heap.wakes_root(self.own, stamp)
+        } else {
+            calm
+        }
     }
 
     /// Drops the messages that were acknowledged.

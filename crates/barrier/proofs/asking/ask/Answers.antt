@@ -2,7 +2,7 @@ use Rattle.std.proofs.Common.{◌<◌, List, length, sym, ◌∙◌, subst}
 use Rattle.std.specs.List.{AllByRecursion}
 use Rattle.ids.specs.declared.names.Ref.{Ref}
 use Rattle.model.specs.Shading.{filled, unasked}
-use Rattle.model.proofs.ShadingParts.{unasked-all}
+use Rattle.model.proofs.Shading.{unasked-all}
 use Rattle.barrier.proofs.Sent.{cut_end}
 use Rattle.barrier.proofs.InTurn.{all-asked, few-asked}
 use Rattle.barrier.proofs.asking.ask.Goals as goal

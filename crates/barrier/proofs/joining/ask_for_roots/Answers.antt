@@ -4,7 +4,7 @@ use Rattle.std.specs.Option.{option_to_list}
 use Rattle.std.proofs.lemmas.List.{take_all}
 use Rattle.ids.specs.declared.names.Ref.{Ref}
 use Rattle.model.specs.Shading.{filled, roots, unasked}
-use Rattle.model.proofs.ShadingParts.{unasked-all}
+use Rattle.model.proofs.Shading.{unasked-all}
 use Rattle.barrier.proofs.InTurn.{included, all-asked, few-asked}
 use Rattle.barrier.proofs.joining.ask_for_roots.Goals as goal
 

@@ -1,14 +1,15 @@
 use Rattle.std.proofs.Common.{◌≡◌, ◌∙◌, true, ap, arith, length, subst, sym}
 use Rattle.std.proofs.lemmas.List.{with_items_is}
+use Rattle.std.proofs.lemmas.Result.{err_from_is_err_and}
 use Rattle.cell.specs.Ages.{AreApart}
 use Rattle.cell.specs.Disks.{OpensToNode}
 use Rattle.cell.specs.Looking.{AreLookedAt, AreOn, AreUnmoved}
-use Rattle.cell.specs.Opened.{AreFound, HasPlace, IsCause}
-use Rattle.cell.proofs.Looking.{all-on, all-read, cause-before}
+use Rattle.cell.specs.Opened.{AreFound}
+use Rattle.cell.proofs.Looking.{all-on, all-read, why-before}
 use Rattle.cell.proofs.finding.find.Goals as goal
 
-pub returns-in-Some-clause-ages : goal.returns-in-Some-clause-ages
-returns-in-Some-clause-ages g c =
+pub returns-in-Some-clause-why : goal.returns-in-Some-clause-why
+returns-in-Some-clause-why g c =
     let old = c.args.disks.now.items in
     let new = c.look_at_all.new.disks in
     let many : length old ≡ c.args.shape.nodes = omega (arith, c.args.disks.now.ok) in
@@ -28,8 +29,8 @@ returns-in-Some-clause-ages g c =
           c.in-Some.ensures.apart;
     }
 
-pub put_all_on-requires : goal.put_all_on-requires
-put_all_on-requires g c =
+pub put_all_on-requires-clause-on : goal.put_all_on-requires-clause-on
+put_all_on-requires-clause-on g c =
     let old = c.args.disks.now.items in
     let new = c.look_at_all.new.disks in
     let many : length old ≡ c.args.shape.nodes = omega (arith, c.args.disks.now.ok) in
@@ -56,15 +57,15 @@ put_all_on-requires g c =
     (all-on g.D.Disk.seen g.D.Disk.may_leave g.D.Disk.faults c.args.shape old new
     c.in_ok-nodes.nodes.items c.in_ok-nodes.areas.items found many quiet.count)))
 
-pub returns-in-Ok-clause-found : goal.returns-in-Ok-clause-found
-returns-in-Ok-clause-found g c =
+pub returns-clause-found : goal.returns-clause-found
+returns-clause-found g c =
     subst
     (λ l. AreFound (λ n s. (s.ready ≡ true) × OpensToNode n (g.D.Disk.seen s.disk))
-    c.args.shape l c.in-Ok.shelves.items)
-    c.as_slice-2.ensures.value c.in-Ok.ensures.found
+    c.args.shape l c.in_ok-shelves.shelves.items)
+    c.as_slice-2.ensures.value c.in_ok-shelves.ensures.found
 
-pub returns-in-Ok-clause-read : goal.returns-in-Ok-clause-read
-returns-in-Ok-clause-read g c =
+pub returns-clause-read : goal.returns-clause-read
+returns-clause-read g c =
     let old = c.args.disks.now.items in
     let new = c.look_at_all.new.disks in
     let many : length old ≡ c.args.shape.nodes = omega (arith, c.args.disks.now.ok) in
@@ -78,8 +79,9 @@ returns-in-Ok-clause-read g c =
     all-read g.D.Disk.seen g.D.Disk.may_leave g.D.Disk.faults c.args.shape old new
     c.in_ok-nodes.nodes.items c.in_ok-nodes.areas.items found many quiet.count
 
-pub returns-in-Err-clause-cause : goal.returns-in-Err-clause-cause
-returns-in-Err-clause-cause g c = λ other.
+pub returns-in_err-shelves-clause-why : goal.returns-in_err-shelves-clause-why
+returns-in_err-shelves-clause-why g c =
+    let p = err_from_is_err_and c.from_residual-in_err-shelves.result c.from_residual-in_err-shelves.ensures.1 in
     let old = c.args.disks.now.items in
     let new = c.look_at_all.new.disks in
     let many : length old ≡ c.args.shape.nodes = omega (arith, c.args.disks.now.ok) in
@@ -94,13 +96,12 @@ returns-in-Err-clause-cause g c = λ other.
     ap (λ v. v.items) c.replace-found.ensures.value
     ∙ with_items_is c.args.disks.now new
     (let count = quiet.count in omega (arith, count, c.args.disks.now.ok)) in
-    cause-before g.D.Disk.seen g.D.Disk.may_leave g.D.Disk.faults c.args.shape g.D.Disk.moment
-    g.D.Disk.left_since old new c.in_ok-nodes.nodes.items c.in_ok-nodes.areas.items
-    c.in-Err.refusal found many quiet
-    (subst
-    (λ l. HasPlace
-    (λ k d. IsCause g.D.Disk.seen g.D.Disk.moment g.D.Disk.faults c.args.shape k d c.in-Err.refusal)
-    l) items (c.in-Err.ensures.cause other))
+    rw (p.1, p.2)
+    (why-before g.D.Disk.seen g.D.Disk.may_leave g.D.Disk.faults c.args.shape g.D.Disk.moment
+    g.D.Disk.left_since old new _ c.in_ok-nodes.nodes.items c.in_ok-nodes.areas.items _ found many
+    quiet items c.in_err-shelves.ensures.all_read c.in_err-shelves.ensures.why)
 
-pub returns-in-Err-clause-untouched : goal.returns-in-Err-clause-untouched
-returns-in-Err-clause-untouched g c = λ bad. absurd (c.in-Err.ensures.not_bad bad)
+pub returns-in_err-shelves-clause-untouched : goal.returns-in_err-shelves-clause-untouched
+returns-in_err-shelves-clause-untouched g c =
+    let p = err_from_is_err_and c.from_residual-in_err-shelves.result c.from_residual-in_err-shelves.ensures.1 in
+    rw (p.1, p.2) (λ reading. absurd (c.in_err-shelves.ensures.all_read reading))

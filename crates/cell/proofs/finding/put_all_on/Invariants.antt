@@ -3,11 +3,11 @@ use Rattle.cell.specs.Disks.{OpensToNode}
 use Rattle.cell.specs.Opened.{AreBeside}
 use Rattle.cell.proofs.finding.put_all_on.Given as goal
 
-abbrev pub invariant-loop-place : goal.invariant-loop-place
-invariant-loop-place g l = record {
+abbrev pub invariant-loop-number : goal.invariant-loop-number
+invariant-loop-number g l = record {
   made : AreBeside (λ k s n. (s.ready ≡ true) × OpensToNode n (g.D.Disk.seen s.disk))
       l.shelves.items l.nodes;
-  count : length l.shelves.items ≡ l.place;
-  rest : l.disks.items ≡ drop l.place l.fn.disks.items;
-  left : vec_len l.disks + l.place ≡ length l.nodes;
+  count : length l.shelves.items ≡ l.number;
+  rest : l.disks.items ≡ drop l.number l.fn.disks.items;
+  left : vec_len l.disks + l.number ≡ length l.nodes;
 }

@@ -52,15 +52,10 @@ returns-in_err-nodes-clause-disks g c =
     let p = err_from_is_err_and c.from_residual.result c.from_residual.ensures.1 in
     rw (p.1, p.2) (λ apart. same-error _ _ (c.in_err-nodes.ensures.disks apart))
 
-pub returns-in_err-nodes-clause-other : goal.returns-in_err-nodes-clause-other
-returns-in_err-nodes-clause-other g c =
+pub returns-in_err-nodes-clause-why : goal.returns-in_err-nodes-clause-why
+returns-in_err-nodes-clause-why g c =
     let p = err_from_is_err_and c.from_residual.result c.from_residual.ensures.1 in
-    rw (p.1, p.2) (λ failed same. c.in_err-nodes.ensures.other (same-error _ _ failed) same)
-
-pub returns-in_err-nodes-clause-cause : goal.returns-in_err-nodes-clause-cause
-returns-in_err-nodes-clause-cause g c =
-    let p = err_from_is_err_and c.from_residual.result c.from_residual.ensures.1 in
-    rw (p.1, p.2) c.in_err-nodes.ensures.cause
+    rw (p.1, p.2) c.in_err-nodes.ensures.why
 
 pub returns-in-Ok-clause-closed : goal.returns-in-Ok-clause-closed
 returns-in-Ok-clause-closed g c = λ opening reached width once.
@@ -75,7 +70,8 @@ returns-in_err-nodes-clause-closed g c = λ opening reached width once.
     let p = err_from_is_err_and c.from_residual.result c.from_residual.ensures.1 in
     rw (p.1, p.2)
     (never-ages g.D.Disk.seen g.D.Disk.may_leave g.met.D.Disk.reads_left c.args.shape opening
-    c.args.disks.items reached width once _ c.in_err-nodes.ensures.ages)
+    c.args.disks.items reached width once g.D.Disk.moment g.D.Disk.faults _
+    c.in_err-nodes.ensures.why)
 
 pub returns-in-Ok-clause-begun : goal.returns-in-Ok-clause-begun
 returns-in-Ok-clause-begun g c =

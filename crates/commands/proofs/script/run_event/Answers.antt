@@ -1,4 +1,4 @@
-use Rattle.std.proofs.Common.{subst, refl, rules}
+use Rattle.std.proofs.Common.{subst, rules}
 use Rattle.model.specs.declared.step.Outcome.TheVariants as outcome
 use Rattle.model.specs.declared.step.Step.TheVariants as step
 use Rattle.commands.specs.Freed.{KeepsSums, freed_in, freed_with}
@@ -6,12 +6,13 @@ use Rattle.commands.specs.declared.script.Reply.TheVariants as reply
 use Rattle.commands.proofs.Replies.{outcome_shows, printed_as, refusal_shows}
 use Rattle.commands.proofs.script.run_event.Goals as goal
 
-pub returns-in-Ok-print : goal.returns-in-Ok-print
-returns-in-Ok-print g c number =
+pub returns-in-Ok : goal.returns-in-Ok
+returns-in-Ok g c number =
     let shows = g.S.Space.shows in
     let keeps = g.S.Space.keeps in
     let o = outcome.Answer c.in-Ok.answer in
-    record {
+    printed_as c.print_answer.result c.print_answer.ensures.text c.print_answer.ensures.status
+    (λ text status zero. record {
       reply = reply.Outcome o;
       answers = λ h shown. outcome_shows shows keeps h (step.Act c.args.node c.args.event.now)
           c.args.space.now _ c.args.freed.now _ o shown (rw c.in-Ok.is at c.act.ensures.follows)
@@ -21,9 +22,9 @@ returns-in-Ok-print g c number =
           (subst (λ k. KeepsSums c.note.new.freed.sums
           (freed_with w c.sweeper-swept.result k sums)) c.freed_by.ensures
           (c.note.ensures w sums there kept)));
-      prints = c.in-Ok-print.ensures;
-      is = refl;
-    }
+      prints = text;
+      is = zero;
+    })
 
 -- what has to hold of the refusal is found by search, so that a different refusal fails at the fact
 -- that it violates

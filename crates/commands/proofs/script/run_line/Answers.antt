@@ -1,4 +1,4 @@
-use Rattle.std.proofs.Common.{◌≡◌, ◌∙◌, IfSome, Option, Some, not, sym, ap, subst}
+use Rattle.std.proofs.Common.{◌≡◌, ◌∙◌, IfOk, Option, Some, not, sym, ap, subst}
 use Rattle.lines.specs.declared.line.Line.{Line}
 use Rattle.lines.specs.Grammar.{line_of, words_of}
 use Rattle.commands.specs.Script.{PrintsReply, TakesLine}
@@ -15,7 +15,7 @@ read g c =
 
 pub returns-in-Step : goal.returns-in-Step
 returns-in-Step g c =
-    subst (λ (l : Option Line). IfSome c.run_step.result (PrintsReply g.S.Space.shows
+    subst (λ (l : Option Line). IfOk c.run_step.result (PrintsReply g.S.Space.shows
     g.S.Space.keeps (λ h r later. TakesLine h l r later) c.args.number c.args.state.now
     c.run_step.new.state (g.W.Write.contents c.args.out.now)
     (g.W.Write.contents c.run_step.new.out)))
@@ -25,7 +25,7 @@ returns-in-Step g c =
 
 pub returns-in_default : goal.returns-in_default
 returns-in_default g c =
-    subst (λ (l : Option Line). IfSome c.run_other.result (PrintsReply g.S.Space.shows
+    subst (λ (l : Option Line). IfOk c.run_other.result (PrintsReply g.S.Space.shows
     g.S.Space.keeps (λ h r later. TakesLine h l r later) c.args.number c.args.state.now
     c.run_other.new.state (g.W.Write.contents c.args.out.now)
     (g.W.Write.contents c.run_other.new.out)))

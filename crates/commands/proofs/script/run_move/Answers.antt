@@ -1,24 +1,25 @@
-use Rattle.std.proofs.Common.{refl, rules}
+use Rattle.std.proofs.Common.{rules}
 use Rattle.commands.specs.Freed.{KeepsSums}
 use Rattle.commands.specs.declared.script.Reply.TheVariants as reply
 use Rattle.commands.proofs.Replies.{no_sweep, outcome_shows, printed_as, refusal_shows}
 use Rattle.commands.proofs.script.run_move.Goals as goal
 
-pub returns-in-Ok-print_outcome : goal.returns-in-Ok-print_outcome
-returns-in-Ok-print_outcome g c number =
+pub returns-in-Ok : goal.returns-in-Ok
+returns-in-Ok g c number =
     let shows = g.S.Space.shows in
     let keeps = g.S.Space.keeps in
     let o = c.in-Ok.outcome in
-    record {
+    printed_as c.print_step.result c.print_step.ensures.text c.print_step.ensures.status
+    (λ text status zero. record {
       reply = reply.Outcome o;
       answers = λ h shown. outcome_shows shows keeps h c.args.step.now
-          c.args.space.now _ c.args.freed.now c.args.freed.now o shown (rw c.in-Ok.is at c.step.ensures.follows)
-          (rw c.in-Ok.is at c.step.ensures.early)
+          c.args.space.now _ c.args.freed.now c.args.freed.now o shown
+          (rw c.in-Ok.is at c.step.ensures.follows) (rw c.in-Ok.is at c.step.ensures.early)
           (λ w sums there kept. no_sweep w c.args.step.now o sums c.requires.other
           (KeepsSums c.args.freed.now.sums) kept);
-      prints = c.in-Ok-print_outcome.ensures;
-      is = refl;
-    }
+      prints = text;
+      is = zero;
+    })
 
 -- what has to hold of the refusal is found by search, so that a different refusal fails at the fact
 -- that it violates

@@ -5,7 +5,7 @@ use Rattle.disk.proofs.file.load.Goals as goal
 
 pub returns : goal.returns
 returns c =
-    let s = c.args.memory.now.state in
+    let s = c.args.account.now.state in
     let mid = c.risk.new.self.state in
     let s' = c.set.new.self in
     let content = c.read_to_end.new.buf in

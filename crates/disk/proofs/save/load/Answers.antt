@@ -1,17 +1,19 @@
-use Rattle.std.proofs.Common.{ap, arith, length, ◌∙◌, Err, inr, refl}
+use Rattle.std.proofs.Common.{ap, arith, drop, length, ◌∙◌, Err, inr, refl}
 use Rattle.std.proofs.lemmas.Result.{err_from_is_err_and}
 use Rattle.std.proofs.lemmas.Bool.{false≢true}
 use Rattle.disk.specs.Areas.{part}
 use Rattle.disk.proofs.Quiet.{bad_no_disk, both_unmoved, err_cause, handed_cause, later_cause, no_cause, ok_no_err}
-use Rattle.disk.proofs.Records.{recorded_cut, image_read}
+use Rattle.disk.proofs.Records.{recorded_cut, image_read, whole_behind}
 use Rattle.disk.proofs.save.load.Goals as goal
 
 pub returns-then-not-branch-clause-none : goal.returns-then-not-branch-clause-none
 returns-then-not-branch-clause-none g c bad =
+    let whole = whole_behind c.args.at 8 c.in-Some.from c.in-Some.ensures.1 (omega arith)
+    c.in_ok-read_whole.ensures.whole in
     recorded_cut _ (omega (
       arith,
-      c.in_ok-read_whole.ensures.whole.short c.if-not-branch.true,
-      ap (λ d. length (part c.args.area d)) c.told_length.ensures.quiet.same,
+      whole.short c.if-not-branch.true,
+      ap (λ d. length (drop c.args.at (part c.args.area d))) c.told_length.ensures.quiet.same,
       c.in_ok-len.ensures.told,
       c.in_ok-image.ensures.len,
       c.deref_mut.ensures.len,
@@ -19,8 +21,10 @@ returns-then-not-branch-clause-none g c bad =
 
 pub returns-clause-image : goal.returns-clause-image
 returns-clause-image g c =
-    image_read _ c.in_ok-image.image.len c.in_ok-read_whole.ensures.whole c.if-not-branch.false
-    c.deref_mut.ensures.len (ap (part c.args.area) c.told_length.ensures.quiet.same)
+    let whole = whole_behind c.args.at 8 c.in-Some.from c.in-Some.ensures.1 (omega arith)
+    c.in_ok-read_whole.ensures.whole in
+    image_read _ c.in_ok-image.image.len whole c.if-not-branch.false c.deref_mut.ensures.len
+    (ap (λ d. drop c.args.at (part c.args.area d)) c.told_length.ensures.quiet.same)
     (omega (arith, c.in_ok-len.ensures.told, c.in_ok-image.ensures.len)) c.in_ok-len.ensures.tells
 
 pub returns-in_err-read_whole-clause-quiet : goal.returns-in_err-read_whole-clause-quiet

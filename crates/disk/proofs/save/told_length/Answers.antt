@@ -2,30 +2,35 @@ use Rattle.std.proofs.Common.{◌∙◌, Err, ap, inr, sym, arith, refl}
 use Rattle.std.proofs.lemmas.Result.{err_from_is_err_and}
 use Rattle.std.proofs.lemmas.Bool.{false≢true}
 use Rattle.disk.proofs.Quiet.{bad_no_disk, err_cause, no_cause, ok_no_err}
-use Rattle.disk.proofs.Records.{recorded_short, recorded_long, told_read}
+use Rattle.disk.proofs.Records.{recorded_short, recorded_long, told_read, whole_behind}
 use Rattle.disk.proofs.save.told_length.Goals as goal
 
 pub returns-then-not-branch-clause-none : goal.returns-then-not-branch-clause-none
 returns-then-not-branch-clause-none g c bad =
-    recorded_short _ (c.in_ok-read_whole.ensures.whole.short c.if-not-branch.true)
+    let whole = whole_behind c.args.at 0 c.args.at (omega arith) (omega arith)
+    c.in_ok-read_whole.ensures.whole in
+    recorded_short _ (whole.short c.if-not-branch.true)
 
 pub returns-then-len-gt-GREATEST_IMAGE-clause-none :
     goal.returns-then-len-gt-GREATEST_IMAGE-clause-none
 returns-then-len-gt-GREATEST_IMAGE-clause-none g c bad =
-    let tells = told_read _ c.read_whole.new.into
-    (c.in_ok-read_whole.ensures.whole.bytes c.if-not-branch.false) in
+    let whole = whole_behind c.args.at 0 c.args.at (omega arith) (omega arith)
+    c.in_ok-read_whole.ensures.whole in
+    let tells = told_read _ c.read_whole.new.into (whole.bytes c.if-not-branch.false) in
     recorded_long _
     (omega (arith, tells, c.from_be_bytes-len.ensures, c.if-len-gt-GREATEST_IMAGE.true))
 
 pub returns-clause-told : goal.returns-clause-told
 returns-clause-told g c =
-    told_read _ c.read_whole.new.into
-    (c.in_ok-read_whole.ensures.whole.bytes c.if-not-branch.false)
+    let whole = whole_behind c.args.at 0 c.args.at (omega arith) (omega arith)
+    c.in_ok-read_whole.ensures.whole in
+    told_read _ c.read_whole.new.into (whole.bytes c.if-not-branch.false)
     ∙ sym c.from_be_bytes-len.ensures
 
 pub returns-clause-tells : goal.returns-clause-tells
 returns-clause-tells g c =
-    let whole = c.in_ok-read_whole.ensures.whole in (
+    let whole = whole_behind c.args.at 0 c.args.at (omega arith) (omega arith)
+    c.in_ok-read_whole.ensures.whole in (
       omega (arith, whole.enough c.if-not-branch.false),
       omega (arith, returns-clause-told g c, c.if-len-gt-GREATEST_IMAGE.false),
     )

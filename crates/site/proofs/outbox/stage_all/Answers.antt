@@ -1,5 +1,5 @@
 use Rattle.std.proofs.Common.{◌<◌, length, ap, sym, ◌∙◌, arith}
-use Rattle.node.specs.declared.summary.Summary.{Summary}
+use Rattle.model.specs.declared.summary.Summary.{Summary}
 use Rattle.model.proofs.Lookups.{map-set_same}
 use Rattle.site.specs.Outboxes.{released_frames}
 use Rattle.site.proofs.OutboxLemmas.{read_released, row_staged, row_own}

@@ -1,4 +1,4 @@
-use Rattle.std.proofs.Common.{◌∙◌, Err, ap, subst, sym}
+use Rattle.std.proofs.Common.{◌∙◌, subst, sym}
 use Rattle.spaces.specs.Opening.{IsWhy}
 use Rattle.spaces.proofs.Given.{AreDisksOf, all-begin, same-count, why}
 use Rattle.spaces.proofs.opening.begin.Goals as goal
@@ -26,5 +26,5 @@ returns-in-Err-clause-refused c =
     let are : AreDisksOf c.args.images.now c.in_ok-disks.disks.items =
     record { held = given.held; short = given.short } in
     subst (IsWhy c.args.shape c.args.images.now) (sym c.fault_of.ensures)
-    (why _ _ c.args.shape c.args.images.now disks.items are c.in-Err.unopened
-    (λ is. h.other (ap Err is) (disks.ok.0 ∙ same-count are ∙ c.requires)) h.cause h.ages)
+    (why _ _ c.args.shape c.args.images.now disks.items are (same-count are ∙ c.requires)
+    c.in-Err.unopened h.why)

@@ -7,3 +7,6 @@ returns-in-Ok-clause-seats g c = λ k s there. (c.in-Ok.ensures.made.each_seat k
 pub returns-in-Ok-clause-one_age : goal.returns-in-Ok-clause-one_age
 returns-in-Ok-clause-one_age g c =
     opened-read _ _ _ _ c.in-Ok.ensures.all c.in-Ok.ensures.read c.in-Ok.ensures.one_age
+
+pub returns-in-Ok-clause-places : goal.returns-in-Ok-clause-places
+returns-in-Ok-clause-places g c = λ k n there. (c.in-Ok.ensures.shaped k n there).numbered

@@ -5,7 +5,9 @@ use Rattle.laws.proofs.OldGarbage.{old-garbage-goes}
 use Rattle.laws.proofs.Deliveries.{targets-are-live, none-refused-in-turn}
 use Rattle.laws.proofs.Net.{net-grows, none-beyond, acknowledgements-go-through, hands-go-through, acknowledged-is-taken-in}
 use Rattle.laws.proofs.Transparent.{collector-is-unseen}
+use Rattle.progress.proofs.Theorems.{marking-can-end, cycle-can-end, garbage-can-go, end-is-found-soon}
 use Rattle.world.proofs.Answers.{answers-are-unseen}
+use Rattle.world.proofs.Plays.{played-is-answered}
 use Rattle.world.proofs.headline.laws.Goals as goal
 
 pub returns-clause-transparent : goal.returns-clause-transparent
@@ -55,3 +57,18 @@ returns-clause-hands c = hands-go-through
 
 pub returns-clause-taken_in : goal.returns-clause-taken_in
 returns-clause-taken_in c = acknowledged-is-taken-in
+
+pub returns-clause-marking : goal.returns-clause-marking
+returns-clause-marking c = marking-can-end
+
+pub returns-clause-cycle : goal.returns-clause-cycle
+returns-clause-cycle c = cycle-can-end
+
+pub returns-clause-garbage : goal.returns-clause-garbage
+returns-clause-garbage c = garbage-can-go
+
+pub returns-clause-soon : goal.returns-clause-soon
+returns-clause-soon c = end-is-found-soon
+
+pub returns-clause-played : goal.returns-clause-played
+returns-clause-played c = played-is-answered

@@ -1,12 +1,12 @@
-use Rattle.std.proofs.Common.{◌≡◌, true, false, ap, sym, ◌∙◌, subst, Bool}
+use Rattle.std.proofs.Common.{◌≡◌, true, false, ap, sym, ◌∙◌, Bool}
 use Rattle.wire.specs.Readers.{known}
 use Rattle.cell.proofs.Dropping.{dropped-as, given-dropped, given-took, own-none}
 use Rattle.cell.proofs.Opening.{stays-open}
 use Rattle.model.specs.Steps.{is_shading}
 use Rattle.node.specs.Keeping.{met}
-use Rattle.cell.specs.Cells.{CellView, GoesOn}
 use Rattle.cell.proofs.Marks.{marked-after}
 use Rattle.cell.proofs.Refusing.{never-closed}
+use Rattle.cell.proofs.Views.{cell_at}
 use Rattle.cell.proofs.cell.Cell.act.Goals as goal
 
 pub invariant_of-self-inside-2 : goal.invariant_of-self-inside-2
@@ -17,16 +17,16 @@ invariant_of-self-inside-2 g c =
     let v = known cell.desk.seat in
     let w = known desk.seat in
     let given = c.act-answered.ensures.given in
+    let same = ap (λ d. d.saved) c.act-answered.ensures.stays in
     let first = cell.first.value in (
       given-dropped first _ _ _ _ cell.desk.node desk.node v w given
           (own-none cell.desk.node.early c.args.event c.requires.own) cell.dropped,
       (
-        dropped-as first v w cell.desk.saved.value desk.saved.value
-            (given-took _ _ _ _ cell.desk.node desk.node v w given) c.act-answered.ensures.saved
-            cell.saved_dropped,
-        stays-open cell.desk.saved.value desk.saved.value desk.node.core
-            (g.D.Disk.seen cell.shelf.disk) (g.D.Disk.may_leave cell.shelf.disk)
-            c.act-answered.ensures.saved (cell.shelf.settled ready).0 (cell.while_open ready),
+        dropped-as first v w cell.desk.saved desk.saved
+            (given-took _ _ _ _ cell.desk.node desk.node v w given) same cell.saved_dropped,
+        stays-open cell.desk.saved desk.saved desk.node.core (g.D.Disk.seen cell.shelf.disk)
+            (g.D.Disk.may_leave cell.shelf.disk) same (cell.shelf.settled ready).0
+            (cell.while_open ready),
       ),
     )
 
@@ -44,22 +44,11 @@ returns-clause-closed g c =
 pub returns-clause-goes_on : goal.returns-clause-goes_on
 returns-clause-goes_on g c =
     let cell = c.self.inside in
-    let desk = c.act-answered.new.self in
     let said = c.act-answered.ensures in
-    let new : CellView g.row.D.Denot = record {
-      node = desk.node;
-      saved = desk.saved.value;
-      first = c.self.inside.first.value;
-      seat = desk.seat;
-      places = desk.places;
-      unsaved = desk.is_unsaved;
-      disk = cell.shelf.disk;
-      is_open = cell.shelf.ready;
-      trace = c.push-2.new.self;
-    } in
-    subst (λ (v : CellView g.row.D.Denot). GoesOn v new) c.self.view_is
+    rw (← c.self.view_is)
     record {
       same = said.same;
       marked = marked-after _ _ c.act-answered.result _ _ _ _ said.given.acted.known said.unsaved;
-      stays = λ i. record new { saved = said.saved i; places = said.places i };
+      stays = ap (cell_at cell.first.value cell.shelf.disk cell.shelf.ready c.push-2.new.self)
+          said.stays;
     }

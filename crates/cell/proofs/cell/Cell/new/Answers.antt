@@ -19,11 +19,11 @@ invariant_of-result g c =
     let first = c.of-first.result.value in
     let is : c.args.node.core ≡ first = sym (c.of-first.ensures ∙ c.core.ensures.value) in (
       dropped-same first desk.node.core (known desk.seat)
-          (ap (λ n. n.core) c.new-2.ensures.node ∙ is),
+          (ap (λ d. d.node.core) c.new-2.ensures ∙ is),
       (
-        dropped-same first desk.saved.value (known desk.seat) (c.new-2.ensures.saved ∙ is),
-        stays-open c.args.node.core desk.saved.value desk.node.core seen
-            (g.D.Disk.may_leave c.args.shelf.disk) c.new-2.ensures.saved
+        dropped-same first desk.saved (known desk.seat) (ap (λ d. d.saved) c.new-2.ensures ∙ is),
+        stays-open c.args.node.core desk.saved desk.node.core seen
+            (g.D.Disk.may_leave c.args.shelf.disk) (ap (λ d. d.saved) c.new-2.ensures)
             (c.args.shelf.settled c.requires.ready).0 ∣ core-found c.args.node seen c.requires.disk ∣₁,
       ),
     )

@@ -6,6 +6,7 @@ use Rattle.cell.specs.Pumping.{is_out}
 use Rattle.cell.specs.Sending.{frame_due, places_after, IsSent}
 use Rattle.cell.proofs.Dropping.{dropped-as, send-took}
 use Rattle.cell.proofs.Opening.{stays-open}
+use Rattle.cell.proofs.Views.{cell_at}
 use Rattle.cell.proofs.cell.Cell.pump_out.Goals as goal
 use Rattle.cell.proofs.cell.Cell.pump_out.Goals.{then-is_sent, else-is_sent}
 
@@ -17,15 +18,15 @@ invariant_of-self-inside g c =
     let said = c.send.ensures in
     let v = known cell.desk.seat in
     let w = known desk.seat in
-    let took = send-took _ _ _ _ c.send.result cell.desk.seat desk.seat said.sent said.refused in
+    let took = send-took _ _ c.send.result cell.desk desk said.sent said.refused in
     let first = cell.first.value in (
-      dropped-as first v w cell.desk.node.core desk.node.core took (ap (λ n. n.core) said.node)
-          cell.dropped,
+      dropped-as first v w cell.desk.node.core desk.node.core took
+          (ap (λ d. d.node.core) said.stays) cell.dropped,
       (
-        dropped-as first v w cell.desk.saved.value desk.saved.value took said.saved
+        dropped-as first v w cell.desk.saved desk.saved took (ap (λ d. d.saved) said.stays)
             cell.saved_dropped,
-        stays-open cell.desk.saved.value desk.saved.value desk.node.core
-            (g.D.Disk.seen cell.shelf.disk) (g.D.Disk.may_leave cell.shelf.disk) said.saved
+        stays-open cell.desk.saved desk.saved desk.node.core (g.D.Disk.seen cell.shelf.disk)
+            (g.D.Disk.may_leave cell.shelf.disk) (ap (λ d. d.saved) said.stays)
             (cell.shelf.settled ready).0 (cell.while_open ready),
       ),
     )
@@ -33,76 +34,22 @@ invariant_of-self-inside g c =
 pub returns-clause-stays : goal.returns-clause-stays
 returns-clause-stays g c =
     let cell = c.self.inside in
-    let desk = c.send.new.self in
-    let said = c.send.ensures in
-    let new : CellView g.row.D.Denot = record {
-      node = desk.node;
-      saved = desk.saved.value;
-      first = c.self.inside.first.value;
-      seat = desk.seat;
-      places = desk.places;
-      unsaved = desk.is_unsaved;
-      disk = cell.shelf.disk;
-      is_open = cell.shelf.ready;
-      trace = cell.trace;
-    } in
-    subst
-    (λ (v : CellView g.row.D.Denot). new ≡ record v { seat = desk.seat; places = desk.places })
-    c.self.view_is
-    (λ i. record new { node = said.node i; saved = said.saved i; unsaved = said.unsaved i })
+    rw (← c.self.view_is)
+    (ap (cell_at cell.first.value cell.shelf.disk cell.shelf.ready cell.trace) c.send.ensures.stays)
 
 pub returns-in_err-is_sent-clause-stays : goal.returns-in_err-is_sent-clause-stays
 returns-in_err-is_sent-clause-stays g c =
     let cell = c.self.inside in
-    let desk = c.send.new.self in
-    let said = c.send.ensures in
-    let new : CellView g.row.D.Denot = record {
-      node = desk.node;
-      saved = desk.saved.value;
-      first = c.self.inside.first.value;
-      seat = desk.seat;
-      places = desk.places;
-      unsaved = desk.is_unsaved;
-      disk = cell.shelf.disk;
-      is_open = cell.shelf.ready;
-      trace = cell.trace;
-    } in
-    subst
-    (λ (v : CellView g.row.D.Denot). new ≡ record v { seat = desk.seat; places = desk.places })
-    c.self.view_is
-    (λ i. record new { node = said.node i; saved = said.saved i; unsaved = said.unsaved i })
+    rw (← c.self.view_is)
+    (ap (cell_at cell.first.value cell.shelf.disk cell.shelf.ready cell.trace) c.send.ensures.stays)
 
 pub returns-in_err-is_sent-clause-refused : goal.returns-in_err-is_sent-clause-refused
 returns-in_err-is_sent-clause-refused g c =
     let cell = c.self.inside in
-    let desk = c.send.new.self in
-    let said = c.send.ensures in
-    let same = c.in_err-is_sent.ensures.refused in
-    let new : CellView g.row.D.Denot = record {
-      node = desk.node;
-      saved = desk.saved.value;
-      first = c.self.inside.first.value;
-      seat = desk.seat;
-      places = desk.places;
-      unsaved = desk.is_unsaved;
-      disk = cell.shelf.disk;
-      is_open = cell.shelf.ready;
-      trace = cell.trace;
-    } in
     let p = err_from_is_err_and c.from_residual.result c.from_residual.ensures.1 in
-    rw p.1
-    (subst (λ (v : CellView g.row.D.Denot). new ≡ v) c.self.view_is
-    (λ i. record {
-      node = said.node i;
-      saved = said.saved i;
-      first = c.self.inside.first.value;
-      seat = same.1 i;
-      places = same.2 i;
-      unsaved = said.unsaved i;
-      disk = cell.shelf.disk;
-      is_open = cell.shelf.ready;
-      trace = cell.trace;
-    }))
+    rw (p.1, ← c.self.view_is)
+    (ap (cell_at cell.first.value cell.shelf.disk cell.shelf.ready cell.trace)
+    c.in_err-is_sent.ensures.refused.1)
 
 pub returns-clause-sent : goal.returns-clause-sent
 returns-clause-sent g c =

@@ -1,6 +1,6 @@
-use Rattle.std.proofs.Common.{◌≡◌, ◌⊎◌, Bool, IsTrue, inl, inr, ⊎_elim, true, false, replicate, refl, sym, ap, ◌∙◌, subst, [], ◌∷◌, ◌++◌}
+use Rattle.std.proofs.Common.{◌≡◌, ◌⊎◌, Bool, IsTrue, inl, inr, ⊎_elim, true, refl, sym, ap, ◌∙◌, subst, [], ◌∷◌, ◌++◌}
 use Rattle.circular_buffer.specs.Buffer.{keep_last}
-use Rattle.ids.specs.declared.limits.TheConstants.{GREATEST_NODES, TRACE_EVENTS}
+use Rattle.ids.specs.declared.limits.TheConstants.{TRACE_EVENTS}
 use Rattle.node.specs.Keeping.{WholeNode}
 use Rattle.trace.specs.declared.call.Call.TheVariants as call
 use Rattle.trace.specs.declared.call.Outcome.TheVariants as outcome
@@ -8,9 +8,10 @@ use Rattle.wire.specs.Readers.{known, IsSame}
 use Rattle.cell.specs.Cells.{CellView}
 use Rattle.cell.specs.Disks.{HoldsSaved, OpensTo, OpensToNode, is_same_image}
 use Rattle.cell.specs.Events.{found_step, reopened_by, restarted_by, Entered}
-use Rattle.cell.specs.Desks.{HasDropped}
+use Rattle.cell.specs.Desks.{new_desk, HasDropped}
 use Rattle.cell.proofs.Dropping.{dropped-found, took-same}
 use Rattle.cell.proofs.Opening.{core-found, image-found, never-bad, open-holds, saved-found, stays-open, which-found}
+use Rattle.cell.proofs.Views.{cell_at}
 use Rattle.cell.proofs.cell.Cell.reopen.Goals as goal
 
 pub returns-in-Err-clause-others : goal.returns-in-Err-clause-others
@@ -19,7 +20,7 @@ returns-in-Err-clause-others g c =
     let seen = g.D.Disk.seen cell.shelf.disk in
     ⊎_elim inl
     (⊎_elim
-    (λ bad. absurd (never-bad cell.desk.saved.value cell.desk.node.core seen
+    (λ bad. absurd (never-bad cell.desk.saved cell.desk.node.core seen
     (cell.left seen (g.met.D.Disk.reads_left cell.shelf.disk)) (c.in-Err.ensures.bad bad)))
     inr)
     c.in-Err.ensures.others
@@ -36,7 +37,7 @@ pub reopen-requires-in-Ok-clause-which : goal.reopen-requires-in-Ok-clause-which
 reopen-requires-in-Ok-clause-which g c =
     let cell = c.self.inside in
     let seen = g.D.Disk.seen cell.shelf.disk in
-    which-found cell.desk.saved.value cell.desk.node.core c.in-Ok.found.core seen
+    which-found cell.desk.saved cell.desk.node.core c.in-Ok.found.core seen
     (core-found c.in-Ok.found seen c.in-Ok.ensures.opened)
     (cell.left seen (g.met.D.Disk.reads_left cell.shelf.disk))
 
@@ -54,16 +55,17 @@ invariant_of-self-inside g c =
     let w = known desk.seat in
     let took = took-same v w (ap (λ u. u.me) said.known) (ap (λ u. u.taken) said.known) in
     let first = cell.first.value in
-    let kept = dropped-found first v w cell.desk.node.core cell.desk.saved.value found.core took
-    (image-found found.core was_seen there) cell.desk.was.image
-    (which-found cell.desk.saved.value cell.desk.node.core found.core was_seen there
+    let kept = dropped-found first v w cell.desk.node.core cell.desk.saved found.core took
+    (image-found found.core was_seen there) said.was
+    (which-found cell.desk.saved cell.desk.node.core found.core was_seen there
     (cell.left was_seen (g.met.D.Disk.reads_left cell.shelf.disk)))
     cell.dropped cell.saved_dropped in (
-      subst (HasDropped first w) (sym (ap (λ (n : WholeNode). n.core) said.node)) kept,
+      subst (HasDropped first w) (sym (ap (λ d. d.node.core) said.done)) kept,
       (
-        subst (HasDropped first w) (sym said.saved) kept,
-        stays-open found.core desk.saved.value desk.node.core seen
-            (g.D.Disk.may_leave shelf.disk) said.saved (shelf.settled c.in-Ok.ensures.ready).0
+        subst (HasDropped first w) (sym (ap (λ d. d.saved) said.done)) kept,
+        stays-open found.core desk.saved desk.node.core seen
+            (g.D.Disk.may_leave shelf.disk) (ap (λ d. d.saved) said.done)
+            (shelf.settled c.in-Ok.ensures.ready).0
             ∣ subst (OpensTo found.core) (sym c.reopen.ensures.quiet.same) there ∣₁,
       ),
     )
@@ -77,7 +79,7 @@ returns-in-Ok-clause-restarted g c =
     → known c.reopen-in-Ok.new.self.seat ≡ restarted_by (known v.seat)) c.self.view_is
     (λ held. c.reopen-in-Ok.ensures.known
     ∙ ap (λ (b : Bool). reopened_by b (known cell.desk.seat))
-    (saved-found cell.desk.saved.value c.in-Ok.found.core seen
+    (saved-found cell.desk.saved c.in-Ok.found.core seen
     (core-found c.in-Ok.found seen c.in-Ok.ensures.opened)
     (⊎_elim (λ ready. cell.while_open ready)
     (λ holds. holds seen (g.met.D.Disk.reads_left cell.shelf.disk)) held)))
@@ -89,14 +91,14 @@ returns-in-Ok-clause-entered g c =
     Entered (found_step (is_same_image desk.node.core v.saved) (known v.seat).me) (known v.seat)
     (known desk.seat)) c.self.view_is
     (subst (λ (n : WholeNode).
-    Entered (found_step (is_same_image n.core c.self.inside.desk.saved.value)
+    Entered (found_step (is_same_image n.core c.self.inside.desk.saved)
     (known c.self.inside.desk.seat).me) (known c.self.inside.desk.seat) (known desk.seat))
-    (sym c.reopen-in-Ok.ensures.node) c.reopen-in-Ok.ensures.entered)
+    (sym (ap (λ d. d.node) c.reopen-in-Ok.ensures.done)) c.reopen-in-Ok.ensures.entered)
 
 pub returns-in-Err-clause-saved_still : goal.returns-in-Err-clause-saved_still
 returns-in-Err-clause-saved_still g c =
     let cell = c.self.inside in
-    let saved = cell.desk.saved.value in
+    let saved = cell.desk.saved in
     subst (λ (v : CellView g.row.D.Denot).
     IsTrue v.is_open ⊎ HoldsSaved (g.D.Disk.may_leave v.disk) v.saved
     → HoldsSaved (g.D.Disk.may_leave c.reopen.new.self.disk) saved) c.self.view_is
@@ -110,40 +112,21 @@ pub returns-in-Ok-clause-done : goal.returns-in-Ok-clause-done
 returns-in-Ok-clause-done g c =
     let desk = c.reopen-in-Ok.new.self in
     let said = c.reopen-in-Ok.ensures in
-    let new : CellView g.row.D.Denot = record {
-      node = desk.node;
-      saved = desk.saved.value;
-      first = c.self.inside.first.value;
-      seat = desk.seat;
-      places = desk.places;
-      unsaved = desk.is_unsaved;
-      disk = c.reopen.new.self.disk;
-      is_open = c.reopen.new.self.ready;
-      trace = c.push.new.self;
-    } in
-    subst (λ (v : CellView g.row.D.Denot). new ≡ record v {
-      node = desk.node;
-      saved = desk.node.core;
-      seat = desk.seat;
-      places = replicate GREATEST_NODES 0;
-      unsaved = false;
-      disk = c.reopen.new.self.disk;
-      is_open = true;
-      trace = c.push.new.self;
-    }) c.self.view_is
-    (λ i. record new {
-      saved = (said.saved ∙ sym (ap (λ (n : WholeNode). n.core) said.node)) i;
-      places = said.places i;
-      unsaved = said.unsaved i;
-      is_open = c.in-Ok.ensures.ready i;
-    })
+    let shelf = c.reopen.new.self in
+    let first = c.self.inside.first.value in
+    let trace = c.push.new.self in
+    rw (← c.self.view_is)
+    (ap (λ (b : Bool). cell_at first shelf.disk b trace desk) c.in-Ok.ensures.ready
+    ∙ ap (cell_at first shelf.disk true trace)
+    (said.done ∙ ap (λ (n : WholeNode). new_desk n desk.seat)
+    (sym (ap (λ d. d.node) said.done))))
 
 pub returns-in-Ok-clause-opened : goal.returns-in-Ok-clause-opened
 returns-in-Ok-clause-opened g c =
     let node = c.reopen-in-Ok.new.self.node in
     subst (λ (v : CellView g.row.D.Denot). OpensToNode node (g.D.Disk.seen v.disk)) c.self.view_is
     (subst (λ (n : WholeNode). OpensToNode n (g.D.Disk.seen c.self.inside.shelf.disk))
-    (sym c.reopen-in-Ok.ensures.node) c.in-Ok.ensures.opened)
+    (sym (ap (λ d. d.node) c.reopen-in-Ok.ensures.done)) c.in-Ok.ensures.opened)
 
 pub returns-in-Ok-clause-known : goal.returns-in-Ok-clause-known
 returns-in-Ok-clause-known g c =
@@ -153,8 +136,8 @@ returns-in-Ok-clause-known g c =
     known desk.seat ≡ reopened_by (is_same_image desk.node.core v.saved) (known v.seat))
     c.self.view_is
     (c.reopen-in-Ok.ensures.known
-    ∙ ap (λ (n : WholeNode). reopened_by (is_same_image n.core old.saved.value) (known old.seat))
-    (sym c.reopen-in-Ok.ensures.node))
+    ∙ ap (λ (n : WholeNode). reopened_by (is_same_image n.core old.saved) (known old.seat))
+    (sym (ap (λ d. d.node) c.reopen-in-Ok.ensures.done)))
 
 pub returns-in-Ok-clause-same : goal.returns-in-Ok-clause-same
 returns-in-Ok-clause-same g c =
@@ -169,23 +152,9 @@ returns-in-Ok-clause-traced g c =
 
 pub returns-in-Err-clause-refused : goal.returns-in-Err-clause-refused
 returns-in-Err-clause-refused g c =
-    let desk = c.self.inside.desk in
-    let shelf = c.reopen.new.self in
-    let trace = c.push-in-Err.new.self in
-    let new : CellView g.row.D.Denot = record {
-      node = desk.node;
-      saved = desk.saved.value;
-      first = c.self.inside.first.value;
-      seat = desk.seat;
-      places = desk.places;
-      unsaved = desk.is_unsaved;
-      disk = shelf.disk;
-      is_open = shelf.ready;
-      trace = trace;
-    } in
-    subst (λ (v : CellView g.row.D.Denot).
-    new ≡ record v { disk = shelf.disk; is_open = false; trace = trace }) c.self.view_is
-    (λ i. record new { is_open = c.in-Err.ensures.shut refl i })
+    rw (← c.self.view_is)
+    (ap (λ (b : Bool). cell_at c.self.inside.first.value c.reopen.new.self.disk b
+    c.push-in-Err.new.self c.self.inside.desk) (c.in-Err.ensures.shut refl))
 
 pub returns-in-Err-clause-same : goal.returns-in-Err-clause-same
 returns-in-Err-clause-same g c =

@@ -3,26 +3,25 @@ use Rattle.std.proofs.lemmas.Bool.{cases_Bool}
 use Rattle.ids.specs.declared.refusal.Refusal.{Refusal}
 use Rattle.ids.specs.declared.refusal.Refusal.TheVariants as refusal
 use Rattle.model.specs.View.{kept_view}
-use Rattle.node.specs.Keeping.{kept_whole}
 use Rattle.image.specs.Images.{image_of}
 use Rattle.disk.specs.Areas.{Areas}
-use Rattle.cell.specs.Cells.{CellView}
 use Rattle.cell.specs.Disks.{OpensTo, OpensToEither}
 use Rattle.wire.specs.Readers.{known}
 use Rattle.cell.specs.Desks.{HasDropped}
 use Rattle.cell.proofs.Dropping.{dropped-kept, took-same}
 use Rattle.cell.proofs.Opening.{failed-left, stays-open}
+use Rattle.cell.proofs.Views.{cell_at}
 use Rattle.cell.proofs.cell.Cell.save.Goals as goal
 
 pub save-requires-in-Ok-clause-image : goal.save-requires-in-Ok-clause-image
 save-requires-in-Ok-clause-image g c =
-    (image_of c.self.inside.desk.node.core, c.in-Ok.ensures.readable.0)
+    (image_of c.self.inside.desk.node.core, rw c.node.ensures.value at c.in-Ok.ensures.readable.0)
 
 pub invariant_of-self-inside-in-Err : goal.invariant_of-self-inside-in-Err
 invariant_of-self-inside-in-Err g c =
     let cell = c.self.inside in
     let shelf = c.save.new.self in
-    let saved = cell.desk.saved.value in
+    let saved = cell.desk.saved in
     let n = cell.desk.node.core in
     let e = c.in-Err.refusal in
     let said = c.in-Err.ensures in
@@ -46,7 +45,8 @@ invariant_of-self-inside-in-Err g c =
           sym ready ∙ (said.disk (ap (λ (r : Refusal). Err r) is)).1 in absurd cc),
       failed-left g.D.Disk.seen g.D.Disk.may_leave g.D.Disk.moment g.D.Disk.left_since
           cell.shelf.disk shelf.disk saved n (g.met.D.Disk.counts_now shelf.disk)
-          (said.any_moment was_open) (cell.while_open was_open) (said.readable is).0,
+          (rw c.node.ensures.value at (said.any_moment was_open)) (cell.while_open was_open)
+          (rw c.node.ensures.value at (said.readable is).0),
     )) in
     let kept : Kept =
     ⊎_elim (λ is. unchanged (λ d. (let never = sym is ∙ d in absurd cc)))
@@ -55,8 +55,8 @@ invariant_of-self-inside-in-Err g c =
     said.others in
     (cell.dropped, (cell.saved_dropped, (kept.0, (kept.1, tt))))
 
-pub invariant_of-self-inside-in-Ok : goal.invariant_of-self-inside-in-Ok
-invariant_of-self-inside-in-Ok g c =
+pub invariant_of-self-inside : goal.invariant_of-self-inside
+invariant_of-self-inside g c =
     let n = c.self.inside.desk.node.core in
     let shelf = c.save.new.self in
     let desk = c.save-in-Ok.new.self in
@@ -67,44 +67,25 @@ invariant_of-self-inside-in-Ok g c =
     let took = took-same v w (ap (λ u. u.me) now.known) (ap (λ u. u.taken) now.known) in
     let first = c.self.inside.first.value in
     let kept = dropped-kept first v w n took c.self.inside.dropped in (
-      subst (HasDropped first w) (sym (ap (λ m. m.core) now.node)) kept,
+      subst (HasDropped first w) (sym (ap (λ d. d.node.core) now.done)) kept,
       (
-        subst (HasDropped first w) (sym now.saved) kept,
-        stays-open (kept_view n) desk.saved.value desk.node.core (g.D.Disk.seen shelf.disk)
-            (g.D.Disk.may_leave shelf.disk) now.saved (shelf.settled said.ready).0
-            ∣ (image_of n, said.saved, said.readable.0) ∣₁,
+        subst (HasDropped first w) (sym (ap (λ d. d.saved) now.done)) kept,
+        stays-open (kept_view n) desk.saved desk.node.core (g.D.Disk.seen shelf.disk)
+            (g.D.Disk.may_leave shelf.disk) (ap (λ d. d.saved) now.done)
+            (shelf.settled said.ready).0
+            ∣ (
+              image_of n,
+              rw c.node.ensures.value at said.saved,
+              rw c.node.ensures.value at said.readable.0,
+            ) ∣₁,
       ),
     )
 
 pub returns-in-Ok-clause-done : goal.returns-in-Ok-clause-done
 returns-in-Ok-clause-done g c =
     let shelf = c.save.new.self in
-    let desk = c.save-in-Ok.new.self in
-    let said = c.save-in-Ok.ensures in
-    let new : CellView g.row.D.Denot = record {
-      node = desk.node;
-      saved = desk.saved.value;
-      first = c.self.inside.first.value;
-      seat = desk.seat;
-      places = desk.places;
-      unsaved = desk.is_unsaved;
-      disk = shelf.disk;
-      is_open = shelf.ready;
-      trace = c.push.new.self;
-    } in
-    subst (λ (v : CellView g.row.D.Denot). new ≡ record v {
-      node = kept_whole v.node;
-      saved = kept_view v.node.core;
-      seat = desk.seat;
-      unsaved = false;
-      disk = shelf.disk;
-      is_open = true;
-      trace = c.push.new.self;
-    }) c.self.view_is
-    (λ i. record new {
-      node = said.node i;
-      saved = said.saved i;
-      places = said.places i;
-      unsaved = said.unsaved i;
-      is_open = c.in-Ok.ensures.ready i;
-    })
+    let first = c.self.inside.first.value in
+    let trace = c.push.new.self in
+    rw (← c.self.view_is)
+    (ap (λ (b : Bool). cell_at first shelf.disk b trace c.save-in-Ok.new.self) c.in-Ok.ensures.ready
+    ∙ ap (cell_at first shelf.disk true trace) c.save-in-Ok.ensures.done)

@@ -5,17 +5,17 @@ use Rattle.circular_buffer.specs.Buffer.{keep_last}
 use Rattle.ids.specs.declared.limits.TheConstants.{TRACE_EVENTS}
 use Rattle.msg.specs.Frames.{plain}
 use Rattle.model.specs.Steps.{is_memory_free}
-use Rattle.model.specs.View.{is_other}
 use Rattle.node.specs.Keeping.{WholeNode}
 use Rattle.trace.specs.Lines.{call_of}
 use Rattle.wire.specs.Rule.{sender}
 use Rattle.wire.specs.Views.{Known}
 use Rattle.wire.specs.Readers.{inbox, known}
-use Rattle.cell.specs.Cells.{CellView, GoesOn}
+use Rattle.cell.specs.Cells.{CellView}
+use Rattle.cell.specs.Desks.{DeskView}
 use Rattle.cell.specs.Events.{event_of, Handled, IsMarked}
 use Rattle.cell.specs.Pumping.{TookIn}
-use Rattle.cell.proofs.Releasing.{inside}
 use Rattle.cell.proofs.Seats.{same-again}
+use Rattle.cell.proofs.Views.{cell_at}
 use Rattle.cell.proofs.cell.Cell.take_in.Goals as goal
 
 pub invariant_of-self-inside : goal.invariant_of-self-inside
@@ -29,13 +29,13 @@ invariant_of-self-inside g c =
     let missed = c.in_err-frame.ensures.taken.3 in
     let took = took-same v w (ap (λ u. u.me) missed) (ap (λ u. u.taken) missed) in
     let first = cell.first.value in (
-      dropped-as first v w cell.desk.node.core desk.node.core took (ap (λ n. n.core) said.node)
-          cell.dropped,
+      dropped-as first v w cell.desk.node.core desk.node.core took
+          (ap (λ d. d.node.core) said.stays) cell.dropped,
       (
-        dropped-as first v w cell.desk.saved.value desk.saved.value took said.saved
+        dropped-as first v w cell.desk.saved desk.saved took (ap (λ d. d.saved) said.stays)
             cell.saved_dropped,
-        stays-open cell.desk.saved.value desk.saved.value desk.node.core
-            (g.D.Disk.seen cell.shelf.disk) (g.D.Disk.may_leave cell.shelf.disk) said.saved
+        stays-open cell.desk.saved desk.saved desk.node.core (g.D.Disk.seen cell.shelf.disk)
+            (g.D.Disk.may_leave cell.shelf.disk) (ap (λ d. d.saved) said.stays)
             (cell.shelf.settled ready).0 (cell.while_open ready),
       ),
     )
@@ -52,6 +52,7 @@ invariant_of-self-inside-2 g c =
     let w = known desk.seat in
     let f = plain c.in_ok-frame.frame in
     let told = c.in_ok-frame.ensures.taken in
+    let saved = ap (λ d. d.saved) said.stays ∙ ap (λ d. d.saved) took.stays in
     let more : TookMore u v = record {
       me = ap (λ (x : Known). x.me) told.3.2;
       taken = (f ∷ [], ap (λ (x : Known). x.taken) told.3.2);
@@ -60,15 +61,15 @@ invariant_of-self-inside-2 g c =
       handled-dropped first c.in_ok-frame.frame c.handle-answered.result c.take.new.self.node
           desk.node v w said.handled (at-last u v f more.taken.1) (told.1 ∙ sym more.me)
           (dropped-as first u v cell.desk.node.core c.take.new.self.node.core more
-          (ap (λ n. n.core) took.node) cell.dropped),
+          (ap (λ d. d.node.core) took.stays) cell.dropped),
       (
-        dropped-as first u w cell.desk.saved.value desk.saved.value
+        dropped-as first u w cell.desk.saved desk.saved
             (took-again u v w more (handled-took c.in_ok-frame.frame c.handle-answered.result
             c.take.new.self.node desk.node v w said.handled))
-            (said.saved ∙ took.saved) cell.saved_dropped,
-        stays-open cell.desk.saved.value desk.saved.value desk.node.core
-            (g.D.Disk.seen cell.shelf.disk) (g.D.Disk.may_leave cell.shelf.disk)
-            (said.saved ∙ took.saved) (cell.shelf.settled ready).0 (cell.while_open ready),
+            saved cell.saved_dropped,
+        stays-open cell.desk.saved desk.saved desk.node.core (g.D.Disk.seen cell.shelf.disk)
+            (g.D.Disk.may_leave cell.shelf.disk) saved (cell.shelf.settled ready).0
+            (cell.while_open ready),
       ),
     )
 
@@ -99,11 +100,11 @@ returns-clause-took g c =
           taken.3.2
           (subst (λ (n : WholeNode).
           Handled f result n desk.node (known c.take.new.self.seat) (known desk.seat))
-          c.take.ensures.node c.handle-answered.ensures.handled);
+          (ap (λ d. d.node) c.take.ensures.stays) c.handle-answered.ensures.handled);
       memory_free = λ free.
           c.handle-answered.ensures.memory_free
           (subst (λ (n : WholeNode). is_memory_free n.core.local (event_of f) ≡ true)
-          (sym c.take.ensures.node) free);
+          (sym (ap (λ d. d.node) c.take.ensures.stays)) free);
       traced = c.push.ensures
           ∙ (λ i. keep_last TRACE_EVENTS (cell.trace ++ record {
             call = (c.of.ensures ∙ ap call_of c.event_of.ensures) i;
@@ -113,16 +114,11 @@ returns-clause-took g c =
 
 pub handle-answered-requires-clause-sender : goal.handle-answered-requires-clause-sender
 handle-answered-requires-clause-sender g c =
-    let desk = c.self.inside.desk in
     let f = plain c.in_ok-frame.frame in
     let taken = c.in_ok-frame.ensures.taken in
-    let other : is_other desk.node.core.local c.args.from ≡ true =
-    ap (λ v. is_other v.node.core.local c.args.from) c.self.view_is ∙ c.requires.other in
     subst (λ (v : Known). sender f < v.nodes) (sym taken.3.2)
-    (subst (λ (k : ℕ). k < (known desk.seat).nodes) (sym taken.0)
-    (subst (λ (k : ℕ). c.args.from < k)
-    (desk.stands.nodes ∙ sym desk.at.nodes ∙ desk.seat.sits.nodes_is)
-    (inside desk.node.core.local c.args.from other)))
+    (subst (λ (k : ℕ). k < (known c.self.inside.desk.seat).nodes) (sym taken.0)
+    c.take.ensures.inside)
 
 pub handle-answered-requires-clause-receiver : goal.handle-answered-requires-clause-receiver
 handle-answered-requires-clause-receiver g c =
@@ -135,28 +131,18 @@ returns-clause-goes_on g c =
     let desk = c.handle-answered.new.self in
     let took = c.take.ensures in
     let said = c.handle-answered.ensures in
-    let new : CellView g.row.D.Denot = record {
-      node = desk.node;
-      saved = desk.saved.value;
-      first = c.self.inside.first.value;
-      seat = desk.seat;
-      places = desk.places;
-      unsaved = desk.is_unsaved;
-      disk = cell.shelf.disk;
-      is_open = cell.shelf.ready;
-      trace = c.push.new.self;
-    } in
-    subst (λ (v : CellView g.row.D.Denot). GoesOn v new) c.self.view_is
+    let v = known cell.desk.seat in
+    rw (← c.self.view_is)
     record {
       same = same-again cell.desk.seat c.take.new.self.seat desk.seat took.same said.same;
-      marked = subst
-          (λ (b : Bool). IsMarked (known cell.desk.seat) (known desk.seat) b desk.is_unsaved)
-          took.unsaved
-          (subst (λ (v : Known).
-          IsMarked v (known desk.seat) c.take.new.self.is_unsaved desk.is_unsaved)
+      marked = subst (λ (b : Bool). IsMarked v (known desk.seat) b desk.unsaved)
+          (ap (λ d. d.unsaved) took.stays)
+          (subst (λ (u : Known). IsMarked u (known desk.seat) c.take.new.self.unsaved desk.unsaved)
           c.in_ok-frame.ensures.taken.3.2 said.unsaved);
-      stays = λ i. record new {
-        saved = (said.saved ∙ took.saved) i;
-        places = (said.places ∙ took.places) i;
-      };
+      stays = ap (cell_at cell.first.value cell.shelf.disk cell.shelf.ready c.push.new.self)
+          (said.stays ∙ ap (λ (d : DeskView). record d {
+            node = desk.node;
+            seat = desk.seat;
+            unsaved = desk.unsaved;
+          }) took.stays);
     }

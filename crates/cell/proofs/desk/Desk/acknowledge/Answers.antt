@@ -1,10 +1,27 @@
+use Rattle.std.proofs.Common.{sym, subst}
 use Rattle.wire.specs.Readers.{known}
+use Rattle.cell.specs.Desks.{AreTaken}
 use Rattle.cell.proofs.Standing.{stands-acknowledged}
 use Rattle.cell.proofs.desk.Desk.acknowledge.Goals as goal
 
-pub invariant_of-self-clause-stands : goal.invariant_of-self-clause-stands
-invariant_of-self-clause-stands c =
-    let desk = c.args.self.now in
-    stands-acknowledged desk.own desk.nodes (known desk.seat).pair desk.node.core c.act.new.self.core
-    c.args.ack c.act.result desk.stands c.act.ensures.leaves
-    (c.act.ensures.states (known desk.seat).pair.current desk.stands.shows) c.act.ensures.unchanged
+pub invariant_of-self-inside : goal.invariant_of-self-inside
+invariant_of-self-inside c =
+    let desk = c.self.inside in
+    let pair = (known desk.seat).pair in (
+      desk.at,
+      (
+        stands-acknowledged desk.own desk.nodes pair desk.node.core c.act.new.self.core c.args.ack
+            c.act.result desk.stands c.act.ensures.leaves
+            (c.act.ensures.states pair.current desk.stands.shows) c.act.ensures.unchanged,
+        (
+          desk.was,
+          (
+            desk.ended_is,
+            (
+              desk.unsaved,
+              (subst (AreTaken (known desk.seat).taken) (sym c.act.ensures.early) desk.taken, tt),
+            ),
+          ),
+        ),
+      ),
+    )

@@ -5,17 +5,27 @@ use Rattle.cell.specs.Desks.{AreTaken}
 use Rattle.cell.proofs.Seats.{steps-on}
 use Rattle.cell.proofs.desk.Desk.learn.Goals as goal
 
-pub invariant_of-self : goal.invariant_of-self
-invariant_of-self c =
-    let desk = c.args.self.now in
+pub invariant_of-self-inside : goal.invariant_of-self-inside
+invariant_of-self-inside c =
+    let desk = c.self.inside in
     let same = c.learn.ensures.learned.known in
-    let kept = steps-on desk c.learn.new.seat c.learn.ensures.same (ap (λ (v : Known). v.pair) same) in
-    record {
-      at = kept.at;
-      stands = kept.stands;
-      was = kept.was;
-      ended_is = kept.ended_is;
-      unsaved = kept.unsaved;
-      taken = subst (λ (ts : List Plain). AreTaken ts desk.node.early)
-          (sym (ap (λ (v : Known). v.taken) same)) desk.taken;
-    }
+    let kept = steps-on desk c.learn.new.seat c.learn.ensures.same (ap (λ (v : Known). v.pair) same) in (
+      kept.at,
+      (
+        kept.stands,
+        (
+          kept.was,
+          (
+            kept.ended_is,
+            (
+              kept.unsaved,
+              (
+                subst (λ (ts : List Plain). AreTaken ts desk.node.early)
+                    (sym (ap (λ (v : Known). v.taken) same)) desk.taken,
+                tt,
+              ),
+            ),
+          ),
+        ),
+      ),
+    )

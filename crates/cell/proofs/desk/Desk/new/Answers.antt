@@ -1,7 +1,7 @@
 use Rattle.std.proofs.Common.{◌≡◌, sym, ap, ◌∙◌, subst}
 use Rattle.model.specs.State.{LocalState, NodeState}
 use Rattle.model.specs.View.{NodeView}
-use Rattle.node.specs.declared.summary.Summary.{Summary}
+use Rattle.model.specs.declared.summary.Summary.{Summary}
 use Rattle.wire.specs.Readers.{known}
 use Rattle.wire.specs.Views.{Pair}
 use Rattle.node.specs.Keeping.{WholeNode}
@@ -23,24 +23,34 @@ invariant_of-result c =
     ap (λ (s : NodeState). let p : Pair = record { current = pair.current; saved = s } in p)
     c.requires.seat.saved in
     let found = found-read c.state-state.result.own c.nodes.result pair.current n own nodes
-    c.requires.seat.shows c.requires.image in
-    record {
-      at = record {
+    c.requires.seat.shows c.requires.image in (
+      record {
         own = sym c.requires.seat.own ∙ own;
         nodes = sym c.requires.seat.nodes ∙ nodes;
-      };
-      stands = subst (λ (p : Pair). StandsAt c.state-state.result.own c.nodes.result p n)
-          (sym pair_is) found.stands;
-      was = subst
-          (λ (m : NodeView). IsSavedNode c.state-state.result.own c.nodes.result pair.saved m)
-          (sym (c.of.ensures ∙ c.core.ensures.value))
-          (subst (λ (p : Pair). IsSavedNode c.state-state.result.own c.nodes.result p.saved n)
-          (sym pair_is) found.saved);
-      ended_is = c.ended_by.ensures
-          ∙ ap (λ (l : LocalState). l.phases.ended) found.saved.shows.local
-          ∙ sym (ap (λ (p : Pair). p.saved.local.phases.ended) pair_is);
-      unsaved = λ _. sym c.requires.seat.saved;
-      taken = subst (AreTaken (known c.args.seat).taken)
-          (sym (ap (λ (m : WholeNode). m.early) c.requires.alone))
-          (taken-none (known c.args.seat).taken n.local.shape.nodes);
-    }
+      },
+      (
+        subst (λ (p : Pair). StandsAt c.state-state.result.own c.nodes.result p n)
+            (sym pair_is) found.stands,
+        (
+          subst
+              (λ (m : NodeView). IsSavedNode c.state-state.result.own c.nodes.result pair.saved m)
+              (sym (c.of.ensures ∙ c.core.ensures.value))
+              (subst (λ (p : Pair). IsSavedNode c.state-state.result.own c.nodes.result p.saved n)
+              (sym pair_is) found.saved),
+          (
+            c.ended_by.ensures
+                ∙ ap (λ (l : LocalState). l.phases.ended) found.saved.shows.local
+                ∙ sym (ap (λ (p : Pair). p.saved.local.phases.ended) pair_is),
+            (
+              λ _. sym c.requires.seat.saved,
+              (
+                subst (AreTaken (known c.args.seat).taken)
+                    (sym (ap (λ (m : WholeNode). m.early) c.requires.alone))
+                    (taken-none (known c.args.seat).taken n.local.shape.nodes),
+                tt,
+              ),
+            ),
+          ),
+        ),
+      ),
+    )

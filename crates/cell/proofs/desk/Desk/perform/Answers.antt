@@ -17,129 +17,164 @@ use Rattle.cell.proofs.Standing.{behind-acted, stands-moved, stands-quiet}
 use Rattle.cell.proofs.Waiting.{taken-after}
 use Rattle.cell.proofs.desk.Desk.perform.Goals as goal
 
-pub invariant_of-self : goal.invariant_of-self
-invariant_of-self c =
-    let desk = c.args.self.now in
-    record {
-      at = desk.at;
-      stands = subst (λ (m : NodeView). StandsAt desk.own desk.nodes (known desk.seat).pair m)
-          (sym c.in_err-answer.ensures.unchanged) desk.stands;
-      was = desk.was;
-      ended_is = desk.ended_is;
-      unsaved = desk.unsaved;
-      taken = subst (AreTaken (known desk.seat).taken) (sym c.in_err-answer.ensures.early)
-          (taken-after (known desk.seat).taken desk.node.core.local desk.node.early c.args.event _
-          desk.taken c.requires.taken);
-    }
+pub invariant_of-self-inside : goal.invariant_of-self-inside
+invariant_of-self-inside c =
+    let desk = c.self.inside in (
+      desk.at,
+      (
+        subst (λ (m : NodeView). StandsAt desk.own desk.nodes (known desk.seat).pair m)
+            (sym c.in_err-answer.ensures.unchanged) desk.stands,
+        (
+          desk.was,
+          (
+            desk.ended_is,
+            (
+              desk.unsaved,
+              (
+                subst (AreTaken (known desk.seat).taken) (sym c.in_err-answer.ensures.early)
+                    (taken-after (known desk.seat).taken desk.node.core.local desk.node.early c.args.event _
+                    desk.taken (rw (← c.self.view_is) at c.requires.taken)),
+                tt,
+              ),
+            ),
+          ),
+        ),
+      ),
+    )
 
-pub invariant_of-self-then-is_counted_answer : goal.invariant_of-self-then-is_counted_answer
-invariant_of-self-then-is_counted_answer c =
-    let desk = c.args.self.now in
+pub invariant_of-self-inside-then-is_counted_answer : goal.invariant_of-self-inside-then-is_counted_answer
+invariant_of-self-inside-then-is_counted_answer c =
+    let desk = c.self.inside in
     let pair = (known desk.seat).pair in
     let e = met desk.node.early c.args.event in
     let found = c.in_ok-answer.ensures.states pair.current desk.stands.shows in
     let after : Pair = record { current = found.0; saved = pair.saved } in
     let pair_is : (known c.enter.new.seat).pair ≡ after =
     ap (λ (v : Known). v.pair) c.enter.ensures.ticked
-    ∙ ap (λ (x : Event). pair_by x pair) c.requires.met
+    ∙ ap (λ (x : Event). pair_by x pair) (rw (← c.self.view_is) at c.requires.met)
     ∙ ap (λ (r : Result (NodeState × Answer) Refusal).
     let q : Pair = record { current = state_of pair.current r; saved = pair.saved } in q)
-    found.1 in
-    record {
-      at = record {
+    found.1 in (
+      record {
         own = c.enter.ensures.same.2 ∙ desk.at.own;
         nodes = c.enter.ensures.same.3 ∙ desk.at.nodes;
-      };
-      stands = subst (λ (p : Pair). StandsAt desk.own desk.nodes p c.act.new.self.core)
-          (sym pair_is)
-          (stands-moved desk.own desk.nodes pair found.0 desk.node.core c.act.new.self.core e
-          desk.stands c.in_ok-answer.ensures.leaves found.2
-          (behind-acted pair.saved pair.current e found.0 c.in_ok-answer.answer
-          desk.stands.behind found.1));
-      was = subst (λ (p : Pair). IsSavedNode desk.own desk.nodes p.saved desk.saved.value)
-          (sym pair_is) desk.was;
-      ended_is = desk.ended_is
-          ∙ sym (ap (λ (p : Pair). p.saved.local.phases.ended) pair_is);
-      unsaved = λ never. absurd cc;
-      taken = subst (λ (ts : List Plain). AreTaken ts c.act.new.self.early)
-          (sym (ap (λ (v : Known). v.taken) c.enter.ensures.ticked))
-          (subst (AreTaken (known desk.seat).taken) (sym c.in_ok-answer.ensures.early)
-          (taken-after (known desk.seat).taken desk.node.core.local desk.node.early c.args.event
-          (Ok c.in_ok-answer.answer) desk.taken c.requires.taken));
-    }
+      },
+      (
+        subst (λ (p : Pair). StandsAt desk.own desk.nodes p c.act.new.self.core)
+            (sym pair_is)
+            (stands-moved desk.own desk.nodes pair found.0 desk.node.core c.act.new.self.core e
+            desk.stands c.in_ok-answer.ensures.leaves found.2
+            (behind-acted pair.saved pair.current e found.0 c.in_ok-answer.answer
+            desk.stands.behind found.1)),
+        (
+          subst (λ (p : Pair). IsSavedNode desk.own desk.nodes p.saved desk.saved.value)
+              (sym pair_is) desk.was,
+          (
+            desk.ended_is
+                ∙ sym (ap (λ (p : Pair). p.saved.local.phases.ended) pair_is),
+            (
+              λ never. absurd cc,
+              (
+                subst (λ (ts : List Plain). AreTaken ts c.act.new.self.early)
+                    (sym (ap (λ (v : Known). v.taken) c.enter.ensures.ticked))
+                    (subst (AreTaken (known desk.seat).taken) (sym c.in_ok-answer.ensures.early)
+                    (taken-after (known desk.seat).taken desk.node.core.local desk.node.early c.args.event
+                    (Ok c.in_ok-answer.answer) desk.taken (rw (← c.self.view_is) at c.requires.taken))),
+                tt,
+              ),
+            ),
+          ),
+        ),
+      ),
+    )
 
-pub invariant_of-self-else-is_counted_answer : goal.invariant_of-self-else-is_counted_answer
-invariant_of-self-else-is_counted_answer c =
-    let desk = c.args.self.now in
+pub invariant_of-self-inside-else-is_counted_answer : goal.invariant_of-self-inside-else-is_counted_answer
+invariant_of-self-inside-else-is_counted_answer c =
+    let desk = c.self.inside in
     let pair = (known desk.seat).pair in
     let e = met desk.node.early c.args.event in
-    let found = c.in_ok-answer.ensures.states pair.current desk.stands.shows in
-    record {
-      at = desk.at;
-      stands = stands-quiet desk.own desk.nodes pair found.0 desk.node.core c.act.new.self.core e
-          desk.stands c.in_ok-answer.ensures.leaves found.2
-          (c.requires.may.quiet found.0 c.in_ok-answer.answer
-          (ap (act pair.current) c.requires.met ∙ found.1)
-          (sym c.is_counted_answer.ensures ∙ c.if-is_counted_answer.false));
-      was = desk.was;
-      ended_is = desk.ended_is;
-      unsaved = desk.unsaved;
-      taken = subst (AreTaken (known desk.seat).taken) (sym c.in_ok-answer.ensures.early)
-          (taken-after (known desk.seat).taken desk.node.core.local desk.node.early c.args.event
-          (Ok c.in_ok-answer.answer) desk.taken c.requires.taken);
-    }
+    let found = c.in_ok-answer.ensures.states pair.current desk.stands.shows in (
+      desk.at,
+      (
+        stands-quiet desk.own desk.nodes pair found.0 desk.node.core c.act.new.self.core e
+            desk.stands c.in_ok-answer.ensures.leaves found.2
+            ((rw (← c.self.view_is) at c.requires.may).quiet found.0 c.in_ok-answer.answer
+            (ap (act pair.current) (rw (← c.self.view_is) at c.requires.met) ∙ found.1)
+            (sym c.is_counted_answer.ensures ∙ c.if-is_counted_answer.false)),
+        (
+          desk.was,
+          (
+            desk.ended_is,
+            (
+              desk.unsaved,
+              (
+                subst (AreTaken (known desk.seat).taken) (sym c.in_ok-answer.ensures.early)
+                    (taken-after (known desk.seat).taken desk.node.core.local desk.node.early c.args.event
+                    (Ok c.in_ok-answer.answer) desk.taken (rw (← c.self.view_is) at c.requires.taken)),
+                tt,
+              ),
+            ),
+          ),
+        ),
+      ),
+    )
 
 pub enter-requires : goal.enter-requires
 enter-requires c =
-    let v = known c.args.self.now.seat in
-    let found = c.in_ok-answer.ensures.states v.pair.current c.args.self.now.stands.shows in
+    let v = known c.self.inside.seat in
+    let found = c.in_ok-answer.ensures.states v.pair.current c.self.inside.stands.shows in
     let answered : act v.pair.current c.args.meant.now ≡ Ok (found.0, c.in_ok-answer.answer) =
-    ap (act v.pair.current) c.requires.met ∙ found.1 in (
-      c.requires.wire,
+    ap (act v.pair.current) (rw (← c.self.view_is) at c.requires.met) ∙ found.1 in (
+      (rw (← c.self.view_is) at c.requires.wire),
       subst (Happens v c.args.step)
           (sym (ap (λ (r : Result (NodeState × Answer) Refusal).
           let q : Pair = record { current = state_of v.pair.current r; saved = v.pair.saved } in q)
           answered))
-          (c.requires.may.happens found.0 c.in_ok-answer.answer answered
+          ((rw (← c.self.view_is) at c.requires.may).happens found.0 c.in_ok-answer.answer answered
           (sym c.is_counted_answer.ensures ∙ c.if-is_counted_answer.true)),
     )
 
 pub returns-then-is_counted_answer-clause-given : goal.returns-then-is_counted_answer-clause-given
 returns-then-is_counted_answer-clause-given c =
-    let desk = c.args.self.now in
+    let desk = c.self.inside in
     let v = known desk.seat in
     let a = c.in_ok-answer.answer in
     let e = met desk.node.early c.args.event in
     let counts : is_counted a ≡ true =
     sym c.is_counted_answer.ensures ∙ c.if-is_counted_answer.true in
-    subst (λ (m : Event).
+    rw (← c.self.view_is)
+    (subst (λ (m : Event).
     Given c.args.event m c.args.step (Ok a) desk.node c.act.new.self v (known c.enter.new.seat))
-    (sym c.requires.met)
+    (sym (rw (← c.self.view_is) at c.requires.met))
     record {
       acted = record {
         performs = c.in_ok-answer.ensures.performs;
         states = c.in_ok-answer.ensures.states v.pair.current desk.stands.shows;
         unchanged = tt;
         known = c.enter.ensures.ticked
-            ∙ ap (λ (m : Event). ticks c.args.step (pair_by m v.pair) v) c.requires.met
+            ∙ ap (λ (m : Event). ticks c.args.step (pair_by m v.pair) v)
+            (rw (← c.self.view_is) at c.requires.met)
             ∙ sym (cond-true (is_counted a) (ticks c.args.step (pair_by e v.pair) v) v counts);
         entered = λ _. c.enter.ensures.entered;
       };
       early = c.in_ok-answer.ensures.early;
       turn = c.in_ok-answer.ensures.turn;
-      due = λ from d next is. c.requires.due from d next (c.requires.met ∙ is);
-    }
+      due = λ from d next is.
+          (rw (← c.self.view_is) at c.requires.due) from d next
+          ((rw (← c.self.view_is) at c.requires.met) ∙ is);
+    })
 
 pub returns-else-is_counted_answer-clause-given : goal.returns-else-is_counted_answer-clause-given
 returns-else-is_counted_answer-clause-given c =
-    let desk = c.args.self.now in
+    let desk = c.self.inside in
     let v = known desk.seat in
     let a = c.in_ok-answer.answer in
     let e = met desk.node.early c.args.event in
     let quiet : is_counted a ≡ false =
     sym c.is_counted_answer.ensures ∙ c.if-is_counted_answer.false in
-    subst (λ (m : Event). Given c.args.event m c.args.step (Ok a) desk.node c.act.new.self v v)
-    (sym c.requires.met)
+    rw (← c.self.view_is)
+    (subst (λ (m : Event). Given c.args.event m c.args.step (Ok a) desk.node c.act.new.self v v)
+    (sym (rw (← c.self.view_is) at c.requires.met))
     record {
       acted = record {
         performs = c.in_ok-answer.ensures.performs;
@@ -151,17 +186,21 @@ returns-else-is_counted_answer-clause-given c =
       };
       early = c.in_ok-answer.ensures.early;
       turn = c.in_ok-answer.ensures.turn;
-      due = λ from d next is. c.requires.due from d next (c.requires.met ∙ is);
-    }
+      due = λ from d next is.
+          (rw (← c.self.view_is) at c.requires.due) from d next
+          ((rw (← c.self.view_is) at c.requires.met) ∙ is);
+    })
 
 pub returns-then-is_counted_answer-clause-unsaved
     : goal.returns-then-is_counted_answer-clause-unsaved
 returns-then-is_counted_answer-clause-unsaved c =
-    sym (cond-true (is_counted c.in_ok-answer.answer) true c.args.self.now.is_unsaved
-    (sym c.is_counted_answer.ensures ∙ c.if-is_counted_answer.true))
+    rw (← c.self.view_is)
+    (sym (cond-true (is_counted c.in_ok-answer.answer) true c.self.inside.is_unsaved
+    (sym c.is_counted_answer.ensures ∙ c.if-is_counted_answer.true)))
 
 pub returns-else-is_counted_answer-clause-unsaved
     : goal.returns-else-is_counted_answer-clause-unsaved
 returns-else-is_counted_answer-clause-unsaved c =
-    sym (cond-false (is_counted c.in_ok-answer.answer) true c.args.self.now.is_unsaved
-    (sym c.is_counted_answer.ensures ∙ c.if-is_counted_answer.false))
+    rw (← c.self.view_is)
+    (sym (cond-false (is_counted c.in_ok-answer.answer) true c.self.inside.is_unsaved
+    (sym c.is_counted_answer.ensures ∙ c.if-is_counted_answer.false)))

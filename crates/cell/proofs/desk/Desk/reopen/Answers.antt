@@ -14,27 +14,28 @@ use Rattle.cell.proofs.desk.Desk.reopen.Goals as goal
 
 pub enter_found-requires : goal.enter_found-requires
 enter_found-requires c = (
-  c.requires.wire,
+  rw (← c.self.view_is) at c.requires.wire,
   subst (λ (m : NodeView).
-      Happens (known c.args.self.now.seat)
-      (found_step (is_same_image m c.args.self.now.saved.value) (known c.args.self.now.seat).me)
-      (found_pair (is_same_image m c.args.self.now.saved.value)
-      (known c.args.self.now.seat).pair))
+      Happens (known c.self.inside.seat)
+      (found_step (is_same_image m c.self.inside.saved.value) (known c.self.inside.seat).me)
+      (found_pair (is_same_image m c.self.inside.saved.value)
+      (known c.self.inside.seat).pair))
       (sym c.core.ensures.value)
-      (found-happens (is_same_image c.args.found.core c.args.self.now.saved.value)
-      (known c.args.self.now.seat)),
+      (found-happens (is_same_image c.args.found.core c.self.inside.saved.value)
+      (known c.self.inside.seat)),
 )
 
 pub returns-clause-known : goal.returns-clause-known
 returns-clause-known c =
-    c.enter_found.ensures.ticked
+    rw (← c.self.view_is)
+    (c.enter_found.ensures.ticked
     ∙ ap (λ (m : NodeView).
-    reopened_by (is_same_image m c.args.self.now.saved.value) (known c.args.self.now.seat))
-    c.core.ensures.value
+    reopened_by (is_same_image m c.self.inside.saved.value) (known c.self.inside.seat))
+    c.core.ensures.value)
 
-pub invariant_of-self : goal.invariant_of-self
-invariant_of-self c =
-    let desk = c.args.self.now in
+pub invariant_of-self-inside : goal.invariant_of-self-inside
+invariant_of-self-inside c =
+    let desk = c.self.inside in
     let pair = (known desk.seat).pair in
     let found_core = c.args.found.core in
     let same = is_same_image found_core desk.saved.value in
@@ -43,26 +44,39 @@ invariant_of-self c =
     ∙ ap (λ (m : NodeView). found_pair (is_same_image m desk.saved.value) pair)
     c.core.ensures.value in
     let found = is-found desk.own desk.nodes pair desk.node.core desk.saved.value found_core
-    desk.stands desk.was c.requires.image c.requires.which in
-    record {
-      at = record {
+    desk.stands desk.was c.requires.image (rw (← c.self.view_is) at c.requires.which) in (
+      record {
         own = c.enter_found.ensures.same.2 ∙ desk.at.own;
         nodes = c.enter_found.ensures.same.3 ∙ desk.at.nodes;
-      };
-      stands = subst (λ (p : Pair). StandsAt desk.own desk.nodes p found_core) (sym pair_is)
-          found.stands;
-      was = subst
-          (λ (m : NodeView).
-          IsSavedNode desk.own desk.nodes (known c.enter_found.new.seat).pair.saved m)
-          (sym (c.of.ensures ∙ c.core-2.ensures.value))
-          (subst (λ (p : Pair). IsSavedNode desk.own desk.nodes p.saved found_core)
-          (sym pair_is) found.saved);
-      ended_is = c.ended_by-self.ensures
-          ∙ ap (λ (l : LocalState). l.phases.ended) found.saved.shows.local
-          ∙ sym (ap (λ (p : Pair). p.saved.local.phases.ended) pair_is);
-      unsaved = λ _. ap (λ (p : Pair). p.current) pair_is
-          ∙ sym (ap (λ (p : Pair). p.saved) pair_is);
-      taken = subst (AreTaken (known c.enter_found.new.seat).taken)
-          (sym (ap (λ (m : WholeNode). m.early) c.requires.alone))
-          (taken-none (known c.enter_found.new.seat).taken found_core.local.shape.nodes);
-    }
+      },
+      (
+        subst (λ (p : Pair). StandsAt desk.own desk.nodes p found_core) (sym pair_is)
+            found.stands,
+        (
+          subst
+              (λ (m : NodeView).
+              IsSavedNode desk.own desk.nodes (known c.enter_found.new.seat).pair.saved m)
+              (sym (c.of.ensures ∙ c.core-2.ensures.value))
+              (subst (λ (p : Pair). IsSavedNode desk.own desk.nodes p.saved found_core)
+              (sym pair_is) found.saved),
+          (
+            c.ended_by-self-inside.ensures
+                ∙ ap (λ (l : LocalState). l.phases.ended) found.saved.shows.local
+                ∙ sym (ap (λ (p : Pair). p.saved.local.phases.ended) pair_is),
+            (
+              λ _. ap (λ (p : Pair). p.current) pair_is
+                  ∙ sym (ap (λ (p : Pair). p.saved) pair_is),
+              (
+                subst (AreTaken (known c.enter_found.new.seat).taken)
+                    (sym (ap (λ (m : WholeNode). m.early) c.requires.alone))
+                    (taken-none (known c.enter_found.new.seat).taken found_core.local.shape.nodes),
+                tt,
+              ),
+            ),
+          ),
+        ),
+      ),
+    )
+
+pub returns-clause-was : goal.returns-clause-was
+returns-clause-was c = rw (← c.self.view_is) c.self.inside.was.image

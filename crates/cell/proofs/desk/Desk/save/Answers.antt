@@ -10,41 +10,51 @@ use Rattle.cell.specs.Events.{both_states}
 use Rattle.cell.proofs.Found.{found-read, shows-kept}
 use Rattle.cell.proofs.desk.Desk.save.Goals as goal
 
-pub invariant_of-self : goal.invariant_of-self
-invariant_of-self c =
-    let desk = c.args.self.now in
+pub invariant_of-self-inside : goal.invariant_of-self-inside
+invariant_of-self-inside c =
+    let desk = c.self.inside in
     let pair = (known desk.seat).pair in
     let n = desk.node.core in
     let pair_is : (known c.enter_save.new.seat).pair ≡ both_states pair.current =
     ap (λ (v : Known). v.pair) c.enter_save.ensures.ticked in
     let found = found-read desk.own desk.nodes pair.current (kept_view n) desk.stands.own
     desk.stands.nodes (shows-kept n pair.current desk.stands.shows)
-    c.requires.image in
-    record {
-      at = record {
+    (rw (← c.self.view_is) at c.requires.image) in (
+      record {
         own = c.enter_save.ensures.same.2 ∙ desk.at.own;
         nodes = c.enter_save.ensures.same.3 ∙ desk.at.nodes;
-      };
-      stands = subst
-          (λ (m : NodeView). StandsAt desk.own desk.nodes (known c.enter_save.new.seat).pair m)
-          (sym (ap (λ (m : WholeNode). m.core) c.kept.ensures))
-          (subst (λ (p : Pair). StandsAt desk.own desk.nodes p (kept_view n)) (sym pair_is)
-          found.stands);
-      was = subst
-          (λ (m : NodeView).
-          IsSavedNode desk.own desk.nodes (known c.enter_save.new.seat).pair.saved m)
-          (sym (c.of.ensures ∙ c.core.ensures.value
-          ∙ ap (λ (m : WholeNode). m.core) c.kept.ensures))
-          (subst (λ (p : Pair). IsSavedNode desk.own desk.nodes p.saved (kept_view n))
-          (sym pair_is) found.saved);
-      ended_is = c.ended_by-self.ensures
-          ∙ ap (λ (m : WholeNode). m.core.local.phases.ended) c.kept.ensures
-          ∙ ap (λ (l : LocalState). l.phases.ended) found.saved.shows.local
-          ∙ sym (ap (λ (p : Pair). p.saved.local.phases.ended) pair_is);
-      unsaved = λ _. ap (λ (p : Pair). p.current) pair_is
-          ∙ sym (ap (λ (p : Pair). p.saved) pair_is);
-      taken = subst (λ (ts : List Plain). AreTaken ts c.kept.new.self.early)
-          (sym (ap (λ (v : Known). v.taken) c.enter_save.ensures.ticked))
-          (subst (AreTaken (known desk.seat).taken)
-          (sym (ap (λ (m : WholeNode). m.early) c.kept.ensures)) desk.taken);
-    }
+      },
+      (
+        subst
+            (λ (m : NodeView). StandsAt desk.own desk.nodes (known c.enter_save.new.seat).pair m)
+            (sym (ap (λ (m : WholeNode). m.core) c.kept.ensures))
+            (subst (λ (p : Pair). StandsAt desk.own desk.nodes p (kept_view n)) (sym pair_is)
+            found.stands),
+        (
+          subst
+              (λ (m : NodeView).
+              IsSavedNode desk.own desk.nodes (known c.enter_save.new.seat).pair.saved m)
+              (sym (c.of.ensures ∙ c.core.ensures.value
+              ∙ ap (λ (m : WholeNode). m.core) c.kept.ensures))
+              (subst (λ (p : Pair). IsSavedNode desk.own desk.nodes p.saved (kept_view n))
+              (sym pair_is) found.saved),
+          (
+            c.ended_by-self-inside.ensures
+                ∙ ap (λ (m : WholeNode). m.core.local.phases.ended) c.kept.ensures
+                ∙ ap (λ (l : LocalState). l.phases.ended) found.saved.shows.local
+                ∙ sym (ap (λ (p : Pair). p.saved.local.phases.ended) pair_is),
+            (
+              λ _. ap (λ (p : Pair). p.current) pair_is
+                  ∙ sym (ap (λ (p : Pair). p.saved) pair_is),
+              (
+                subst (λ (ts : List Plain). AreTaken ts c.kept.new.self.early)
+                    (sym (ap (λ (v : Known). v.taken) c.enter_save.ensures.ticked))
+                    (subst (AreTaken (known desk.seat).taken)
+                    (sym (ap (λ (m : WholeNode). m.early) c.kept.ensures)) desk.taken),
+                tt,
+              ),
+            ),
+          ),
+        ),
+      ),
+    )

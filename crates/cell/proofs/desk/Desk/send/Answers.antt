@@ -11,7 +11,8 @@ use Rattle.cell.proofs.desk.Desk.send.Goals as goal
 
 pub send-is_sent-requires-clause-to : goal.send-is_sent-requires-clause-to
 send-is_sent-requires-clause-to c =
-    other-on c.args.self.now c.args.wire.now c.args.to c.requires.wire c.requires.other
+    other-on c.self.inside c.args.wire.now c.args.to
+    (rw (← c.self.view_is) at c.requires.wire) (rw (← c.self.view_is) at c.requires.other)
 
 pub send-is_sent-requires-clause-spelled : goal.send-is_sent-requires-clause-spelled
 send-is_sent-requires-clause-spelled c =
@@ -20,47 +21,67 @@ send-is_sent-requires-clause-spelled c =
 
 pub send-is_sent-requires-clause-receiver : goal.send-is_sent-requires-clause-receiver
 send-is_sent-requires-clause-receiver c =
-    due-to c.args.self.now.node.core c.args.to
-    (slice_index_or c.args.self.now.places c.from.result 0)
+    due-to c.self.inside.node.core c.args.to
+    (slice_index_or c.self.inside.places c.from.result 0)
 
 pub send-is_sent-requires-clause-released : goal.send-is_sent-requires-clause-released
 send-is_sent-requires-clause-released c =
-    let desk = c.args.self.now in
+    let desk = c.self.inside in
     let place = slice_index_or desk.places c.from.result 0 in
     subst (λ (i : ℕ). Releases i (known desk.seat).pair.saved
     (frame_due desk.node.core c.args.to place))
     (sym desk.at.own ∙ desk.seat.sits.me_is)
     (due-releases desk.own desk.nodes (known desk.seat).pair desk.node.core c.args.to place
-    desk.stands c.requires.other)
+    desk.stands (rw (← c.self.view_is) at c.requires.other))
 
-pub invariant_of-self : goal.invariant_of-self
-invariant_of-self c =
-    let desk = c.args.self.now in
+pub invariant_of-self-inside : goal.invariant_of-self-inside
+invariant_of-self-inside c =
+    let desk = c.self.inside in
     let sent = c.send-is_sent.ensures.sent in
     let kept = steps-on desk c.send-is_sent.new.seat c.send-is_sent.ensures.same
-    (sent-pair _ _ c.send-is_sent.result _ _ sent) in
-    record {
-      at = kept.at;
-      stands = kept.stands;
-      was = kept.was;
-      ended_is = kept.ended_is;
-      unsaved = kept.unsaved;
-      taken = subst (λ (ts : List Plain). AreTaken ts desk.node.early)
-          (sym (sent-taken _ _ c.send-is_sent.result _ _ sent)) desk.taken;
-    }
+    (sent-pair _ _ c.send-is_sent.result _ _ sent) in (
+      kept.at,
+      (
+        kept.stands,
+        (
+          kept.was,
+          (
+            kept.ended_is,
+            (
+              kept.unsaved,
+              (
+                subst (λ (ts : List Plain). AreTaken ts desk.node.early)
+                    (sym (sent-taken _ _ c.send-is_sent.result _ _ sent)) desk.taken,
+                tt,
+              ),
+            ),
+          ),
+        ),
+      ),
+    )
 
-pub invariant_of-self-else-is_sent : goal.invariant_of-self-else-is_sent
-invariant_of-self-else-is_sent c =
-    let desk = c.args.self.now in
+pub invariant_of-self-inside-else-is_sent : goal.invariant_of-self-inside-else-is_sent
+invariant_of-self-inside-else-is_sent c =
+    let desk = c.self.inside in
     let sent = c.send-is_sent.ensures.sent in
     let kept = steps-on desk c.send-is_sent.new.seat c.send-is_sent.ensures.same
-    (sent-pair _ _ c.send-is_sent.result _ _ sent) in
-    record {
-      at = kept.at;
-      stands = kept.stands;
-      was = kept.was;
-      ended_is = kept.ended_is;
-      unsaved = kept.unsaved;
-      taken = subst (λ (ts : List Plain). AreTaken ts desk.node.early)
-          (sym (sent-taken _ _ c.send-is_sent.result _ _ sent)) desk.taken;
-    }
+    (sent-pair _ _ c.send-is_sent.result _ _ sent) in (
+      kept.at,
+      (
+        kept.stands,
+        (
+          kept.was,
+          (
+            kept.ended_is,
+            (
+              kept.unsaved,
+              (
+                subst (λ (ts : List Plain). AreTaken ts desk.node.early)
+                    (sym (sent-taken _ _ c.send-is_sent.result _ _ sent)) desk.taken,
+                tt,
+              ),
+            ),
+          ),
+        ),
+      ),
+    )

@@ -10,4 +10,4 @@ returns-clause-filled c = c.holding.ensures.held ∙ c.in_ok-left.ensures
 pub returns-clause-left : goal.returns-clause-left
 returns-clause-left c =
     subst (λ (d : Areas). left_by c.args.self.now d) (sym (returns-clause-filled c))
-    (filled_left c.args.fill c.args.self.now.state)
+    (filled_left c.args.fill c.args.self.now.account.state)

@@ -16,12 +16,14 @@ returns-then-falters-clause-kept c x left =
 
 pub returns-then-falters-clause-time : goal.returns-then-falters-clause-time
 returns-then-falters-clause-time c =
-    elapses_same c.args.self.now.past.value c.fault.new.self.past.value c.args.self.now.state
+    let old = c.args.self.now.account in
+    elapses_same old.past.value c.fault.new.self.past.value old.state
     c.fault.new.self.state (ap (λ p. p.value) c.fault.ensures.past) c.fault.ensures.state
 
 pub returns-clause-time : goal.returns-clause-time
 returns-clause-time c =
-    elapses_then c.args.self.now.past.value c.settle.new.self.past.value c.args.self.now.state
+    let old = c.args.self.now.account in
+    elapses_then old.past.value c.settle.new.self.past.value old.state
     c.settle.new.self.state c.settle.ensures.time
 
 pub returns-then-falters-clause-cause : goal.returns-then-falters-clause-cause

@@ -1,6 +1,6 @@
 use Rattle.std.proofs.Common.{rules, ap, subst, ◌∙◌}
 use Rattle.std.specs.Prelude.{Ok}
-use Rattle.handles.specs.Bytes.{Wrote}
+use Rattle.values.specs.Bytes.{Wrote}
 use Rattle.handles.specs.Images.{counts_of}
 use Rattle.handles.proofs.lone.LoneNode.image.Goals as goal
 

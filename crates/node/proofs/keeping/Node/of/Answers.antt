@@ -1,6 +1,6 @@
 use Rattle.std.proofs.Common.{ℕ, ◌∙◌, ap, sym, subst, replicate}
 use Rattle.link.specs.Early.{no_early}
-use Rattle.node.specs.declared.summary.Summary.{Summary}
+use Rattle.model.specs.declared.summary.Summary.{Summary}
 use Rattle.node.specs.Keeping.{Rings, AreKept}
 use Rattle.node.proofs.Held.{alone-kept}
 use Rattle.node.proofs.keeping.Node.of.Goals as goal

@@ -1,51 +1,50 @@
-use Rattle.std.proofs.Common.{◌≡◌, ℕ, ◌-◌, true, [], ◌∷◌, map, ap, ◌∙◌, subst, sym}
+use Rattle.std.proofs.Common.{◌≡◌, ◌-◌, false, Ok, Err, ap, subst}
 use Rattle.std.proofs.lemmas.Result.{err_from_is_err_and}
-use Rattle.msg.specs.declared.body.Body.TheVariants as body
+use Rattle.model.specs.declared.event.Answer.TheVariants as answer
 use Rattle.model.specs.Collecting.{forwarded, handed_on, whitened, without_token}
-use Rattle.model.specs.Counting.{stamped}
-use Rattle.model.specs.Steps.{fits}
-use Rattle.model.specs.View.{NodeView, used}
-use Rattle.node.specs.Cycles.{with_token_sent}
-use Rattle.node.proofs.Passing.{handed-answered, handed-sends, token-refused}
+use Rattle.model.specs.Effects.{Effect, answers}
+use Rattle.model.specs.View.{NodeView, Performed, view_done}
+use Rattle.node.proofs.Events.{effect-performed, effect-refused}
+use Rattle.node.proofs.Passing.{handed-is, sends_token, token-run}
 use Rattle.node.proofs.node.Core.hand_on.Goals as goal
+use Rattle.node.proofs.node.Core.hand_on.Goals.{After-send}
 
-pub returns-in_err-send_token : goal.returns-in_err-send_token
-returns-in_err-send_token c =
+-- the effect, from what the code has read
+abbrev read : After-send → Effect
+read c =
+    answers
+    (sends_token c.args.self.now.local (c.self.inside.own - 1) c.forward-token.result
+    c.forward-token.new.self)
+    (answer.Passed c.forward-token.result)
+
+is : (c : After-send) → read c ≡ handed_on c.args.self.now.local
+is c =
+    handed-is c.args.self.now.local
+    (ap (λ (m : NodeView). m.local.own - 1) c.self.view_is)
+    (subst (λ (m : NodeView). c.forward-token.result ≡ forwarded m.local.ring) c.self.view_is
+    c.forward-token.ensures.token)
+    (subst (λ (m : NodeView). c.forward-token.new.self ≡ whitened (without_token m.local.ring))
+    c.self.view_is c.forward-token.ensures.done)
+
+pub returns-in_err-send : goal.returns-in_err-send
+returns-in_err-send c =
+    let at = (goal.at.returns-in_err-send c).After-send in
     let p = err_from_is_err_and c.from_residual.result c.from_residual.ensures.1 in
-    let left = c.in_err-send_token.ensures in
+    let left = c.in_err-send.ensures in
     let n : NodeView = c.args.self.now in
-    let same = subst (λ (m : NodeView). c.forward-token.result ≡ forwarded m.local.ring)
-    c.self.view_is c.forward-token.ensures.token in
-    let to-is : c.self.inside.own - 1 ≡ n.local.own - 1 =
-    ap (λ (m : NodeView). m.local.own - 1) c.self.view_is in
-    rw (p.1, p.2) (record {
-      performs = token-refused n (handed_on n.local) (c.self.inside.own - 1) c.forward-token.result
-          (handed-sends n c.forward-token.result same
-          ∙ ap (λ (k : ℕ). (k, stamped n.local (body.Token c.forward-token.result)) ∷ [])
-          (sym to-is))
-          _ left.refused left.last;
-      unchanged = left.unchanged;
-    })
+    rw (p.1, p.2)
+    (subst
+    (λ (x : Effect). Performed false (Err c.in_err-send.field-0.0) n c.send.new.self
+    (view_done n x))
+    (is at) (effect-refused (read at) _ left.refused left.last left.unchanged))
 
 pub returns : goal.returns
 returns c =
-    let left = c.in_ok-send_token.ensures in
+    let at = (goal.at.returns c).After-send in
+    let left = c.in_ok-send.ensures in
     let n : NodeView = c.args.self.now in
-    let token = c.forward-token.result in
-    let same = subst (λ (m : NodeView). token ≡ forwarded m.local.ring)
-    c.self.view_is c.forward-token.ensures.token in
-    let ring = subst (λ (m : NodeView).
-    c.forward-token.new.self ≡ whitened (without_token m.local.ring))
-    c.self.view_is c.forward-token.ensures.done in
-    let to-is : c.self.inside.own - 1 ≡ n.local.own - 1 =
-    ap (λ (m : NodeView). m.local.own - 1) c.self.view_is in
-    record {
-      performs = handed-answered n token same c.send_token.new.self c.forward-token.new.self ring
-          (subst (λ (k : ℕ).
-          fits (map used n.links) ((k, stamped n.local (body.Token token)) ∷ []) ≡ true) to-is
-          left.fits)
-          (subst (λ (k : ℕ).
-          c.send_token.new.self ≡ with_token_sent n k token c.forward-token.new.self) to-is
-          left.done);
-      unchanged = tt;
-    }
+    subst
+    (λ (x : Effect). Performed false (Ok (answer.Passed c.forward-token.result)) n
+    c.set_ring.new.self (view_done n x))
+    (is at)
+    (effect-performed (read at) (token-run _ _ _ left.fits left.done c.set_ring.ensures))

@@ -1,16 +1,30 @@
-use Rattle.std.proofs.Common.{◌<◌, true, List, length, Option, Ok, Err, ap, ◌∙◌, refl, subst, sym}
+use Rattle.std.proofs.Common.{◌<◌, List, length, Option, true, Err, ap, ◌∙◌, refl, subst, sym}
 use Rattle.std.proofs.lemmas.Result.{err_from_is_err_and}
+use Rattle.ids.specs.Limits.{Shaped}
 use Rattle.ids.specs.declared.names.Ref.{Ref}
-use Rattle.model.specs.declared.event.Answer.TheVariants as answer
 use Rattle.model.specs.declared.event.Event.TheVariants as event
+use Rattle.model.specs.References.{IfAny, IsWithin}
 use Rattle.model.specs.View.{NodeView, Performed, view_act}
-use Rattle.heap.specs.Heap.{HeapView}
 use Rattle.node.specs.Inside.{view_of}
-use Rattle.node.proofs.Balances.{balance-small}
-use Rattle.node.proofs.Events.{parts-same, with_parts}
-use Rattle.node.proofs.Loading.{load-answered, load-sound, load-spent, load-there, with_value}
 use Rattle.node.proofs.Refusing.{load_refused}
+use Rattle.node.proofs.Runs.{run-stands}
+use Rattle.node.proofs.Shading.{IsLoad, load-performed, load-refused, load-there, value-within}
 use Rattle.node.proofs.node.Core.load.Goals as goal
+use Rattle.node.proofs.node.Core.load.Goals.{After-run}
+
+-- ---- what several goals need
+
+inside : (c : After-run) → IsLoad (view_of c.self.inside) c.args.register c.args.object c.args.place
+    c.cycle-cycle.result c.in_ok-value.value
+inside c = record { now = c.cycle-cycle.ensures.value; found = sym c.in_ok-value.ensures.value }
+
+read : (c : After-run) → IsLoad c.args.self.now c.args.register c.args.object c.args.place
+    c.cycle-cycle.result c.in_ok-value.value
+read c =
+    subst (λ (m : NodeView). IsLoad m c.args.register c.args.object c.args.place
+    c.cycle-cycle.result c.in_ok-value.value) c.self.view_is (inside c)
+
+-- ---- the goals
 
 pub returns-in_err-value : goal.returns-in_err-value
 returns-in_err-value c =
@@ -28,100 +42,30 @@ returns-in_err-value c =
       unchanged = refl;
     }))
 
-pub shade_all-requires-clause-small : goal.shade_all-requires-clause-small
-shade_all-requires-clause-small c = balance-small (view_of c.self.inside) c.self.invariant.node
+pub returns-in_err-run : goal.returns-in_err-run
+returns-in_err-run c =
+    let at = (goal.at.returns-in_err-run c).After-run in
+    let p = err_from_is_err_and c.from_residual-in_err-run.result
+    c.from_residual-in_err-run.ensures.1 in
+    rw (p.1, p.2) (load-refused (read at) c.in_err-run.ensures)
 
-pub returns-in_err-shade_all : goal.returns-in_err-shade_all
-returns-in_err-shade_all c =
-    let p = err_from_is_err_and c.from_residual-in_err-shade_all.result
-    c.from_residual-in_err-shade_all.ensures.1 in
-    let n : NodeView = view_of c.self.inside in
-    let found = sym c.in_ok-value.ensures.value in
-    let left = c.in_err-shade_all.ensures in
-    let refused = left.refused n.local
-    (record {
-      own = refl;
-      cycle = sym c.cycle-cycle.ensures.value;
-      ended =
-          sym c.ended-ended.ensures;
-    })
-    in
-    rw (p.1, p.2)
-    (subst
-    (λ (m : NodeView).
-    Performed true (Err c.in_err-shade_all.field-0.0) m
-    (with_parts n c.shade_all.new.heap.heap c.shade_all.new.asked.keys n.local.phases
-    c.shade_all.new.ring c.shade_all.new.links)
-    (view_act m (event.Load c.args.register c.args.object c.args.place)))
-    c.self.view_is
-    (record {
-      performs = load-spent n c.args.register c.args.object c.args.place c.in_ok-value.value found _
-          refused;
-      unchanged = parts-same n _ _ _ _ left.unchanged.0 left.unchanged.1 left.unchanged.2
-          left.unchanged.3;
-    }))
-
-pub set_register-requires : goal.set_register-requires
-set_register-requires c =
-    let n : NodeView = view_of c.self.inside in
-    let found = sym c.in_ok-value.ensures.value in
-    let done = c.in_ok-shade_all.ensures.done n.local
-    (record {
-      own = refl;
-      cycle = sym c.cycle-cycle.ensures.value;
-      ended =
-          sym c.ended-ended.ensures;
-    })
-    in
+pub set_register-requires-clause-there : goal.set_register-requires-clause-there
+set_register-requires-clause-there c =
+    let at = (goal.at.set_register-requires-clause-there c).After-run in
     subst (λ (rs : List (Option Ref)). c.args.register < length rs)
-    (sym (load-there n c.args.register c.args.object c.args.place c.in_ok-value.value found
-    _ _ _ _ done))
+    (sym (load-there (read at) c.in_ok-run.ensures.done
+    ∙ ap (λ (m : NodeView). m.local.heap.registers) (sym c.self.view_is)))
     c.in_ok-value.ensures.there
 
-pub invariant_of-self-2 : goal.invariant_of-self-2
-invariant_of-self-2 c =
-    let n : NodeView = view_of c.self.inside in
-    let found = sym c.in_ok-value.ensures.value in
-    let left = c.in_ok-shade_all.ensures in
-    let done = left.done n.local
-    (record {
-      own = refl;
-      cycle = sym c.cycle-cycle.ensures.value;
-      ended =
-          sym c.ended-ended.ensures;
-    })
-    in
-    record {
-      node = rw c.set_register.ensures
-          (load-sound n c.args.register c.args.object c.args.place c.in_ok-value.value found
-          _ _ _ _ done c.self.invariant.node left.sound);
-      limit = ap (λ (h : HeapView). h.limit) c.set_register.ensures ∙ left.limit
-          ∙ c.self.invariant.limit;
-    }
+pub set_register-requires-clause-within : goal.set_register-requires-clause-within
+set_register-requires-clause-within c =
+    let at = (goal.at.set_register-requires-clause-within c).After-run in
+    let same = run-stands c.cycle-cycle.result _ _ _ c.in_ok-run.ensures.done in
+    subst (λ (s : Shaped). IfAny (IsWithin s) c.in_ok-value.value)
+    (sym (same.shape ∙ ap (λ (m : NodeView). m.local.shape) (sym c.self.view_is)))
+    (value-within (inside at) c.self.invariant.node)
 
 pub returns : goal.returns
 returns c =
-    let n : NodeView = view_of c.self.inside in
-    let found = sym c.in_ok-value.ensures.value in
-    let done = c.in_ok-shade_all.ensures.done n.local
-    (record {
-      own = refl;
-      cycle = sym c.cycle-cycle.ensures.value;
-      ended =
-          sym c.ended-ended.ensures;
-    })
-    in
-    rw c.set_register.ensures
-    (subst
-    (λ (m : NodeView).
-    Performed true (Ok (answer.Value c.in_ok-value.value)) m
-    (with_value c.args.register c.in_ok-value.value
-    (with_parts n c.shade_all.new.heap.heap c.shade_all.new.asked.keys n.local.phases
-    c.shade_all.new.ring c.shade_all.new.links))
-    (view_act m (event.Load c.args.register c.args.object c.args.place)))
-    c.self.view_is
-    (record {
-      performs = load-answered n c.args.register c.args.object c.args.place c.in_ok-value.value
-          found _ _ _ _ done;
-      unchanged = tt;
-    }))
+    let at = (goal.at.returns c).After-run in
+    load-performed (read at) c.in_ok-run.ensures.done c.set_register.ensures

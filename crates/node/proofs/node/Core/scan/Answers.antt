@@ -1,102 +1,74 @@
-use Rattle.std.proofs.Common.{◌≡◌, true, false, length, Ok, Err, arith, ◌∙◌, refl, subst, sym}
-use Rattle.std.proofs.lemmas.Bool.{eq-eqb, ne_eqb}
+use Rattle.std.proofs.Common.{◌≡◌, ℕ, true, false, ap, sym, ◌∙◌, subst, refl, Err}
+use Rattle.std.specs.Prelude.{take}
 use Rattle.std.proofs.lemmas.Result.{err_from_is_err_and}
+use Rattle.std.specs.List.{AllByRecursion}
 use Rattle.ids.specs.declared.refusal.Refusal.TheVariants.{NothingToDo}
-use Rattle.model.specs.declared.event.Answer.TheVariants as answer
+use Rattle.heap.specs.Heap.{reference_in}
 use Rattle.model.specs.declared.event.Event.TheVariants as event
-use Rattle.model.specs.Shading.{is_calm}
+use Rattle.model.specs.Collecting.{places_in, scanned_reference}
+use Rattle.model.specs.References.{IsWithin}
+use Rattle.model.specs.Shading.{filled, is_calm, last_grey}
+use Rattle.model.specs.State.{slot_at}
 use Rattle.model.specs.View.{NodeView, Performed, view_act}
-use Rattle.barrier.specs.Parts.{IsAt}
 use Rattle.node.specs.Inside.{view_of}
-use Rattle.node.proofs.Balances.{balance-small}
-use Rattle.node.proofs.Events.{parts-same, with_parts}
-use Rattle.node.proofs.Scanning.{scan-answered, scan-none, scan-nodes, scan-sound, scan-spent}
+use Rattle.node.proofs.Shading.{held, held-within, scan-none, scan-performed, scan-refused}
 use Rattle.node.proofs.node.Core.scan.Goals as goal
+use Rattle.node.proofs.node.Core.scan.Goals.{After-cycle-cycle}
 
-pub returns-then-grey-eq0 : goal.returns-then-grey-eq0
-returns-then-grey-eq0 c =
+-- ---- what several goals need
+
+slot-is : (c : After-cycle-cycle) → c.in-Some.slot ≡ last_grey (view_of c.self.inside).local.heap
+slot-is c = c.in-Some.ensures.value
+
+holds : (c : After-cycle-cycle)
+    → filled (take c.copy_places-count.result c.copy_places-count.new.into) ≡ held c.args.self.now
+holds c =
     let n : NodeView = view_of c.self.inside in
-    let calm : is_calm n.local.heap ≡ true =
-    eq-eqb (length n.local.heap.grey) 0 (omega (arith, c.if-grey-eq0.true, c.grey.ensures)) in
+    ap filled c.copy_places-count.ensures.value
+    ∙ ap (λ (k : ℕ). filled (places_in (slot_at n.local.heap k))) (slot-is c)
+    ∙ ap held c.self.view_is
+
+busy : (c : After-cycle-cycle) → is_calm c.args.self.now.local.heap ≡ false
+busy c =
+    subst (λ (m : NodeView). is_calm m.local.heap ≡ false) c.self.view_is
+    (sym c.in-Some.ensures.none)
+
+now : (c : After-cycle-cycle) → c.cycle-cycle.result ≡ c.args.self.now.local.phases.cycle
+now c =
+    c.cycle-cycle.ensures.value ∙ ap (λ (m : NodeView). m.local.phases.cycle) c.self.view_is
+
+-- ---- the goals
+
+pub returns-in_default : goal.returns-in_default
+returns-in_default c =
     subst
     (λ (m : NodeView). Performed true (Err NothingToDo) m m (view_act m event.Scan))
     c.self.view_is
-    (record { performs = scan-none n calm; unchanged = refl })
+    (record {
+      performs = scan-none (view_of c.self.inside) (sym c.in_default.ensures.none);
+      unchanged = refl;
+    })
 
-pub scan-requires-clause-nodes : goal.scan-requires-clause-nodes
-scan-requires-clause-nodes c = scan-nodes (view_of c.self.inside) c.self.invariant.node
+pub run-requires-clause-within : goal.run-requires-clause-within
+run-requires-clause-within c =
+    let at = goal.at.run-requires-clause-within c in
+    subst (AllByRecursion (IsWithin c.args.self.now.local.shape)) (sym (holds at.After-cycle-cycle))
+    (subst (λ (m : NodeView). AllByRecursion (IsWithin m.local.shape) (held m)) c.self.view_is
+    (held-within (view_of c.self.inside) c.self.invariant.node))
 
-pub scan-requires-clause-small : goal.scan-requires-clause-small
-scan-requires-clause-small c = balance-small (view_of c.self.inside) c.self.invariant.node
-
-pub returns-in_err-scanned : goal.returns-in_err-scanned
-returns-in_err-scanned c =
+pub returns-in_err-run : goal.returns-in_err-run
+returns-in_err-run c =
+    let at = (goal.at.returns-in_err-run c).After-cycle-cycle in
     let p = err_from_is_err_and c.from_residual.result c.from_residual.ensures.1 in
-    let n : NodeView = view_of c.self.inside in
-    let busy : is_calm n.local.heap ≡ false =
-    ne_eqb (length n.local.heap.grey) 0
-    (λ e. c.if-grey-eq0.false (c.grey.ensures ∙ e)) in
-    let left = c.in_err-scanned.ensures in
-    let refused = left.refused n.local
-    (record {
-      own = refl;
-      cycle = sym c.cycle-cycle.ensures.value;
-      ended =
-          sym c.ended-ended.ensures;
-    })
-    in
     rw (p.1, p.2)
-    (subst
-    (λ (m : NodeView).
-    Performed true (Err c.in_err-scanned.field-0.0) m
-    (with_parts n c.scan.new.heap.heap c.scan.new.asked.keys n.local.phases c.scan.new.ring
-    c.scan.new.links)
-    (view_act m event.Scan))
-    c.self.view_is
-    (record {
-      performs = scan-spent n _ busy refused;
-      unchanged = parts-same n _ _ _ _ left.unchanged.0 left.unchanged.1 left.unchanged.2
-          left.unchanged.3;
-    }))
-
-pub invariant_of-self-2 : goal.invariant_of-self-2
-invariant_of-self-2 c =
-    let n : NodeView = view_of c.self.inside in
-    let left = c.in_ok-scanned.ensures in
-    let done = left.done n.local
-    (record {
-      own = refl;
-      cycle = sym c.cycle-cycle.ensures.value;
-      ended =
-          sym c.ended-ended.ensures;
-    })
-    in
-    record {
-      node = scan-sound n _ _ _ _ done c.self.invariant.node left.sound;
-      limit = left.limit ∙ c.self.invariant.limit;
-    }
+    (scan-refused c.args.self.now _ _ (now at) (holds at) (busy at) c.in_err-run.ensures)
 
 pub returns : goal.returns
 returns c =
-    let n : NodeView = view_of c.self.inside in
-    let left = c.in_ok-scanned.ensures in
-    let busy : is_calm n.local.heap ≡ false =
-    ne_eqb (length n.local.heap.grey) 0
-    (λ e. c.if-grey-eq0.false (c.grey.ensures ∙ e)) in
-    let here : IsAt c.self.inside.own c.cycle-cycle.result c.ended-ended.result n.local = record {
-      own = refl;
-      cycle = sym c.cycle-cycle.ensures.value;
-      ended = sym c.ended-ended.ensures;
-    } in
-    subst
-    (λ (m : NodeView).
-    Performed true (Ok (answer.Scanned c.in_ok-scanned.scanned)) m
-    (with_parts n c.scan.new.heap.heap c.scan.new.asked.keys n.local.phases c.scan.new.ring
-    c.scan.new.links)
-    (view_act m event.Scan))
-    c.self.view_is
-    (record {
-      performs = scan-answered n _ _ _ _ (left.done n.local here) _ busy
-          (left.scanned n.local here);
-      unchanged = tt;
-    })
+    let at = (goal.at.returns c).After-cycle-cycle in
+    scan-performed c.args.self.now _ _ (now at) (holds at) (busy at)
+    (c.reference_at-scanned.ensures
+    ∙ ap (λ (k : ℕ). reference_in (view_of c.self.inside).local.own
+    (view_of c.self.inside).local.heap k) (slot-is at)
+    ∙ ap (λ (m : NodeView). scanned_reference m.local) c.self.view_is)
+    c.in_ok-run.ensures.done

@@ -10,8 +10,8 @@ use Rattle.node.proofs.Balances.{balance-small}
 use Rattle.node.proofs.Nodes.{node-sent}
 use Rattle.node.proofs.node.Core.send.Goals as goal
 
-pub sent-requires : goal.sent-requires
-sent-requires c = balance-small (view_of c.self.inside) c.self.invariant.node
+pub count_sent-requires : goal.count_sent-requires
+count_sent-requires c = balance-small (view_of c.self.inside) c.self.invariant.node
 
 pub invariant_of-self-2 : goal.invariant_of-self-2
 invariant_of-self-2 c =
@@ -32,7 +32,7 @@ invariant_of-self-2 c =
             links = c.in_ok-number.ensures.done
                 ∙ ap (λ (k : ℕ).
                 appended_to (links_of n) c.args.to (record { stamp = k; body = c.args.body })) same;
-            ring = c.sent.ensures
+            ring = c.count_sent.ensures
                 ∙ ap (λ (b : Option Balance). counted_up b n.local.ring) c.balance_of.ensures
                 ∙ ap (λ (k : ℕ). counted_up (balance_of k k c.args.body) n.local.ring) same;
           });

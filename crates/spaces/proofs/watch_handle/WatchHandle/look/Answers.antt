@@ -1,5 +1,5 @@
 use Rattle.std.proofs.Common.{Ok, Option, Some, subst, sym}
-use Rattle.handles.specs.Faults.{Through}
+use Rattle.values.specs.Faults.{Through}
 use Rattle.spaces.specs.Watches.{Looked, Looks}
 use Rattle.spaces.specs.declared.watching.SeatedWatch.{SeatedWatch}
 use Rattle.spaces.proofs.watch_handle.WatchHandle.look.Goals as goal

@@ -11,6 +11,7 @@ invariant_of-result g c =
     let same = c.in_ok-wire.ensures.wire in
     record {
       each = c.in_ok-wire.ensures.count ∙ opened.each;
+      some = opened.some;
       wide = ap (λ (w : Wire). nodes_of (opened_with w)) same ∙ opened.wide;
       of = subst (λ (w : Wire). AreWatches w opened.watches.items) (sym same) opened.of;
     }

@@ -7,6 +7,7 @@ invariant_of-self g c =
     let space = c.args.self.now in
     record {
       each = space.each;
+      some = space.some;
       wide = space.wide;
       of = left-of (arc_value space.wire) _ _ c.pop.result space.of c.pop.ensures.items;
     }

@@ -1,3 +1,4 @@
+use Rattle.std.proofs.Common.{ap}
 use Rattle.cell.proofs.Opening.{told-to-fail}
 use Rattle.cell.proofs.cell.saving.Cell+MemoryDisk.fail_from.Goals as goal
 
@@ -7,7 +8,8 @@ invariant_of-self-inside c =
       cell.dropped,
       (
         cell.saved_dropped,
-        told-to-fail _ _ cell.desk.saved.value cell.desk.node.core _ _ c.fail_from.ensures.state
+        told-to-fail _ _ cell.desk.saved cell.desk.node.core _ _
+            (ap (λ a. a.state) c.fail_from.ensures.account)
             c.fail_from.ensures.ready cell.while_open cell.left,
       ),
     )

@@ -1,0 +1,23 @@
+use Rattle.std.proofs.Common.{ℕ, subst, sym}
+use Rattle.wire.specs.Readers.{known}
+use Rattle.cell.specs.Desks.{IsSavedNode, StandsAt}
+use Rattle.cell.proofs.desk.Desk.node.Goals as goal
+
+pub returns-clause-kept : goal.returns-clause-kept
+returns-clause-kept c =
+    let desk = c.self.inside in
+    rw (← c.self.view_is)
+    record {
+      stands = subst (λ (i : ℕ). StandsAt i desk.seat.nodes (known desk.seat).pair desk.node.core)
+          (sym desk.at.own)
+          (subst (λ (i : ℕ). StandsAt desk.own i (known desk.seat).pair desk.node.core)
+          (sym desk.at.nodes) desk.stands);
+      was = subst
+          (λ (i : ℕ). IsSavedNode i desk.seat.nodes (known desk.seat).pair.saved desk.saved.value)
+          (sym desk.at.own)
+          (subst
+          (λ (i : ℕ). IsSavedNode desk.own i (known desk.seat).pair.saved desk.saved.value)
+          (sym desk.at.nodes) desk.was);
+      unsaved = desk.unsaved;
+      taken = desk.taken;
+    }

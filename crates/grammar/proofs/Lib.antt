@@ -1,0 +1,5 @@
+pub mod Formats
+pub mod Joins
+pub mod Kept
+pub mod Readings
+pub mod Logs

@@ -1,0 +1,11 @@
+use Rattle.std.proofs.Common.{take}
+use Rattle.codec.specs.Writing.{PutsAll}
+use Rattle.link.specs.Links.{link_at}
+use Rattle.msg.specs.declared.version.Version.TheVariants.{Second}
+use Rattle.grammar.specs.Grammar.{message_format}
+use Rattle.grammar.proofs.links.put_messages.Given as goal
+
+abbrev pub invariant-loop-place : goal.invariant-loop-place
+invariant-loop-place l =
+    PutsAll (message_format Second) l.initial.out l.out
+    (take l.place (link_at l.links l.to).unacknowledged)

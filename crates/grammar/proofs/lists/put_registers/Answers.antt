@@ -1,0 +1,25 @@
+use Rattle.std.proofs.Common.{◌≡◌, ◌+◌, ◌-◌, ◌++◌, ℕ, List, Option, take, drop, sym, ◌∙◌, ap, subst, arith}
+use Rattle.std.proofs.Math.Seq.{take-add}
+use Rattle.codec.specs.Writing.{PutsAll}
+use Rattle.codec.proofs.Writing.{written_also}
+use Rattle.ids.specs.declared.names.Ref.{Ref}
+use Rattle.msg.specs.Formats.{optional}
+use Rattle.msg.specs.declared.version.Version.TheVariants.{Second}
+use Rattle.grammar.proofs.lists.put_registers.Goals as goal
+
+pub loop-done-preserved : goal.loop-done-preserved
+loop-done-preserved c =
+    let F = optional Second in
+    let xs : List (Option Ref) = c.args.registers.now in
+    let done = c.loop-done.done in
+    let end = c.min-end.result in
+    let further : done + (end - done) ≡ end =
+    omega (arith, c.min-end.ensures, c.loop-done.invariant.within) in
+    let more : take done xs ++ take (end - done) (drop done xs) ≡ take end xs =
+    sym (take-add done (end - done) xs) ∙ ap (λ (n : ℕ). take n xs) further in
+    record {
+      within = omega (arith, c.min-end.ensures);
+      written = subst (λ (ys : List (Option Ref)). PutsAll F c.args.out.now c.put_few.new.out ys) more
+          (written_also F.spell F.IsWide (take done xs) _ c.args.out.now c.loop-done.out
+          c.put_few.new.out c.loop-done.invariant.written c.put_few.ensures);
+    }

@@ -1,0 +1,6 @@
+pub mod Links
+pub mod Grammar
+pub mod Numbers
+pub mod Parts
+pub mod Stored
+pub mod Logs

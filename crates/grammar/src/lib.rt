@@ -1,0 +1,21 @@
+//! The grammar of images: the parts that an image says about a node, and their bytes.
+//!
+//! [`whole`] reads the parts; [`put_start`], [`put_front`] and the others write them, in the order
+//! of the table in docs/FORMATS.md ("Images"). `specs/Grammar.antt` has their spelling. The crate
+//! `image` says which parts form a node, and which node that is.
+#![tactic(auto)]
+
+mod law;
+mod links;
+mod lists;
+mod parts;
+mod reading;
+mod slots;
+mod tags;
+mod writing;
+
+pub use law::spellings;
+pub use parts::{Head, NodeParts, PhasesParts, StoredLink};
+pub use reading::{begins_logged, whole, whole_logged};
+pub use tags::LOGGED;
+pub use writing::{put_front, put_others, put_slots, put_start, put_told};

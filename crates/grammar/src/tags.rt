@@ -1,0 +1,28 @@
+//! Tag bytes. A value that may be one of several kinds begins with a byte that says which.
+
+/// What an image begins with.
+pub const START: [u8; 2] = [0x4D, 0x52];
+
+/// The first version of the format, after the start. It is only read.
+pub const FIRST: u8 = 1;
+
+/// The second version of the format, after the start. It is read and written.
+pub const SECOND: u8 = 2;
+
+/// In the place of the version: the second version, and a log of events follows the image.
+pub const LOGGED: u8 = 3;
+
+/// In place of a token, or of a register's reference, that is absent.
+pub const ABSENT: u8 = 0;
+
+/// Before a token that may be absent.
+pub const PRESENT: u8 = 1;
+
+/// Before a free slot.
+pub const FREE: u8 = 0;
+
+/// Before a slot with an object.
+pub const OCCUPIED: u8 = 1;
+
+/// In place of a slot that has run out of generations.
+pub const RETIRED: u8 = 2;

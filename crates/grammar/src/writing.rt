@@ -1,0 +1,139 @@
+//! Writes the parts of an image as bytes. They follow one another without gaps, each in its own
+//! format.
+ghost use Rattle.std.specs.Prelude.{◌≡◌, ◌≤◌, ◌+◌, length, map};
+ghost use Rattle.std.specs.List.{remove};
+ghost use Rattle.codec.specs.Formats.{many, number8};
+ghost use Rattle.codec.specs.Pieces.{Adds};
+ghost use Rattle.codec.specs.declared.piece.TheConstants.{GREATEST_PIECE};
+ghost use Rattle.codec.specs.Writing.{Puts};
+ghost use Rattle.msg.specs.declared.version.Version.TheVariants.{Second};
+ghost use Rattle.grammar.specs.Grammar.{head_format, phases_format, held_format, ring_format};
+ghost use Rattle.grammar.specs.Grammar.{start_format, front_format, told_format, slots_format};
+ghost use Rattle.grammar.specs.Grammar.{others_format};
+ghost use Rattle.grammar.specs.Stored.{phases_by, stored_slot, stored_links};
+
+use crate::links::put_links;
+use crate::lists::{put_all, put_counted, put_registers};
+use crate::parts::Head;
+use crate::slots::{put_free_list, put_letters, put_slot_list};
+use crate::tags::{ABSENT, PRESENT, SECOND, START};
+use codec::{Piece, Writer};
+use control::Phases;
+use heap::Heap;
+use ids::Ref;
+use link::Links;
+use msg::Token;
+use msg::writing::{add_colour, add_token};
+use safra::Ring;
+
+// The sizes of the space and the node's own number.
+#[tactic(auto, unfolding(crate::specs::Grammar::head_format, crate::specs::Grammar::nodes_format), using(crate::proofs::Joins::gained))]
+#[inline(always)]
+fn add_head(piece: &mut Piece, head: Head)
+    requires { length piece.old + 8 ≤ GREATEST_PIECE }
+    ensures { Adds (head_format Second) 8 piece.old piece.new head }
+{
+    piece.u8(head.nodes);
+    piece.u8(head.own);
+    piece.u16(head.registers);
+    piece.u32(head.slots);
+}
+
+// A node's cycles, and how far it has swept.
+#[tactic(auto, unfolding(crate::specs::Grammar::phases_format), using(crate::proofs::Joins::gained))]
+#[inline(always)]
+fn add_phases(piece: &mut Piece, p: &Phases)
+    requires { length piece.old + 28 ≤ GREATEST_PIECE }
+    ensures { Adds phases_format 28 piece.old piece.new (phases_by p.now) }
+{
+    piece.u64(p.cycle());
+    piece.u64(p.ended());
+    piece.u64(p.swept());
+    piece.u32(p.cursor());
+}
+
+#[tactic(auto, unfolding(crate::specs::Grammar::held_format), using(crate::proofs::Joins::gained))]
+#[inline(always)]
+fn add_held(piece: &mut Piece, held: Option<Token>)
+    requires { length piece.old + 10 ≤ GREATEST_PIECE }
+    ensures { Adds held_format 10 piece.old piece.new held }
+{
+    match held {
+        None => piece.u8(ABSENT),
+        Some(token) => {
+            piece.u8(PRESENT);
+            add_token(piece, token);
+        }
+    }
+}
+
+// A node's colour, its balances and the token that it holds.
+#[tactic(auto, unfolding(crate::specs::Grammar::ring_format), using(crate::proofs::Joins::gained))]
+#[inline(always)]
+fn add_ring(piece: &mut Piece, ring: Ring)
+    requires { length piece.old + 27 ≤ GREATEST_PIECE }
+    ensures { Adds ring_format 27 piece.old piece.new ring }
+{
+    add_colour(piece, ring.colour());
+    piece.i64(ring.earlier());
+    piece.i64(ring.recent());
+    add_held(piece, ring.token());
+}
+
+/// Appends what an image begins with: two letters, and the second version.
+#[tactic(auto, unfolding(crate::specs::Grammar::start_format, crate::specs::Grammar::version_format))]
+pub fn put_start(out: &mut Writer)
+    ensures { Puts start_format out.old out.new Second }
+{
+    out.append(&[START[0], START[1], SECOND]);
+}
+
+/// Appends what comes before the lists, in one piece.
+#[tactic(auto, unfolding(crate::specs::Grammar::front_format), using(crate::proofs::Joins::gained, crate::proofs::Joins::piece_written))]
+pub fn put_front(out: &mut Writer, head: Head, phases: &Phases, ring: Ring)
+    ensures { Puts (front_format Second) out.old out.new (head, (phases_by phases.now, ring)) }
+{
+    let mut piece = Piece::new();
+    add_head(&mut piece, head);
+    add_phases(&mut piece, phases);
+    add_ring(&mut piece, ring);
+    out.append(piece.as_slice());
+}
+
+/// Appends the lists whose lengths are known from the head: the reports of the other nodes, and the
+/// registers.
+#[tactic(auto, unfolding(crate::specs::Grammar::told_format), using(crate::proofs::Joins::both))]
+pub fn put_told(out: &mut Writer, head: Head, reports: &[u64], registers: &[Option<Ref>])
+    ensures { Puts (told_format Second head) out.old out.new (reports.now, registers.now) }
+{
+    put_all(out, reports);
+    put_registers(out, registers);
+}
+
+/// Appends the slots of a heap, and which of them are free and which grey.
+#[tactic(auto, unfolding(crate::specs::Grammar::slots_format), using(crate::proofs::Joins::both))]
+pub fn put_slots(out: &mut Writer, heap: &Heap)
+    ensures { Puts (slots_format Second) out.old out.new
+        (map stored_slot heap.now.heap.slots, (heap.now.heap.free, heap.now.heap.grey)) }
+{
+    put_slot_list(out, heap);
+    put_free_list(out, heap);
+    put_counted(out, heap.grey_slots());
+}
+
+/// Appends the references that were asked for, the letters, and the links to all nodes except the
+/// head's own.
+#[tactic(auto, unfolding(crate::specs::Grammar::others_format), using(crate::proofs::Joins::both))]
+pub fn put_others(out: &mut Writer, head: Head, asked: &[Ref], heap: &Heap, links: &Links)
+    ensures { Puts (others_format Second head) out.old out.new (
+      asked.now,
+      (
+        heap.now.heap.letters,
+        remove (stored_links links.now.links links.now.got) head.own,
+      ),
+    ) }
+{
+    put_counted(out, asked);
+    put_letters(out, heap);
+    put_links(out, head.own, links);
+}

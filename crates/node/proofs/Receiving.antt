@@ -1,0 +1,280 @@
+-- A message that is received: each body by an errand and a step that can't fail.
+use Rattle.std.proofs.Common.{◌≡◌, ◌≢◌, ℕ, ◌+◌, ◌<◌, Bool, true, false, ◌==◌, ◌&&◌, List, [], ◌∷◌, ◌++◌, Option, Some, None, option_to_list, Ok, Err, append-nil, append_assoc, ap, refl, sym, ◌∙◌, subst, arith, le_refl, le-ltb}
+use Rattle.std.specs.Prelude.{nat_lt, is_none, slice_index_or}
+use Rattle.std.proofs.lemmas.Bool.{and_parts, cond_both, eqb-true, ltb-true}
+use Rattle.ids.specs.declared.names.Ref.{Ref}
+use Rattle.ids.specs.declared.refusal.Refusal.{Refusal}
+use Rattle.msg.specs.declared.body.Body.{Body}
+use Rattle.msg.specs.declared.body.Body.TheVariants as body
+use Rattle.msg.specs.declared.body.Message.{Message}
+use Rattle.msg.specs.declared.body.Token.{Token}
+use Rattle.model.specs.declared.event.Answer.TheVariants as answer
+use Rattle.control.specs.Phases.{with_ended, with_report}
+use Rattle.model.specs.Counting.{append}
+use Rattle.model.specs.Effects.{Work, at_rest, then}
+use Rattle.model.specs.Heaps.{object_at, place_of, with_place}
+use Rattle.model.specs.Shading.{filled, is_calm, is_open, join, joined, see_to}
+use Rattle.model.specs.State.{LocalState, Phases, got_from}
+use Rattle.model.specs.Steps.{are_within, answer_get, count_in, is_marking, may_follow, may_reach, may_settle, mentioned, settled, take_body, take_carried, taken_in}
+use Rattle.model.specs.View.{NodeView, Performed, view_taken}
+use Rattle.model.proofs.Joining.{calm-none, join-phases}
+use Rattle.model.proofs.Leaving.{Stands, stands-walks}
+use Rattle.model.proofs.Shading.{see_to-none, see_to-then}
+use Rattle.model.proofs.Stocks.{open-apart}
+use Rattle.model.proofs.Walk.{joined-walks, taken-walks}
+use Rattle.node.specs.Errands.{IsRun, Runs, errand, errand_here}
+use Rattle.node.specs.Taking.{IsSender, IsTakable, followed}
+use Rattle.node.specs.declared.node.errands.Extra.{Extra}
+use Rattle.node.specs.declared.node.errands.Extra.TheVariants as extra
+use Rattle.node.proofs.Events.{after_step, answered, okay, shading_refused}
+use Rattle.node.proofs.Places.{joined-places, seen-places}
+
+-- ---- the message counts
+
+module _ (n : NodeView) (from stamp : ℕ) (b : Body) where
+  followed-stands : Stands n.local (followed from stamp b n.local).local
+  unfolding followed
+  followed-stands = taken-walks stands-walks n.local from stamp b
+
+  pub run-sender : {mid : NodeView} → IsRun (followed from stamp b n.local) n mid
+      → IsSender n.local from → IsSender mid.local from
+  run-sender {mid = mid} run sender =
+      let is : Stands n.local mid.local =
+      subst (λ (m : NodeView). Stands n.local m.local) (sym run.now) followed-stands in
+      record {
+        there = rw is.shape sender.there;
+        other = λ same. sender.other (same ∙ is.own);
+        room = rw is.got sender.room;
+      }
+
+  pub taken-performed : {mid new : NodeView} → IsRun (followed from stamp b n.local) n mid
+      → new ≡ record mid {
+        local = count_in from (got_from mid.local from + 1) stamp b mid.local;
+      }
+      → Performed true (Ok answer.Received) n new (view_taken n from stamp b)
+  unfolding taken_in settled followed
+  taken-performed {mid = mid} {new = new} run step =
+      let w : Work = followed from stamp b n.local in
+      let x = taken_in n.local from (got_from n.local from + 1) stamp b in
+      let now : new ≡ after_step n x.local x.sends =
+      step
+      ∙ ap (λ (m : NodeView). record m {
+        local = count_in from (got_from m.local from + 1) stamp b m.local;
+      }) run.now
+      ∙ ap (λ (got : List ℕ). after_step n
+      (count_in from (slice_index_or got from 0 + 1) stamp b w.local) w.sends)
+      followed-stands.got in
+      record {
+        performs = answered n [] x tt run.fits
+            ∙ ap (λ (m : NodeView). okay m answer.Received) (sym now);
+        unchanged = tt;
+      }
+
+  pub taken-refused : {e : Refusal} {new : NodeView}
+      → Runs (Err e) (followed from stamp b n.local) n new
+      → Performed true (Err e) n new (view_taken n from stamp b)
+  unfolding taken_in settled followed
+  taken-refused {e = e} runs = record {
+    performs = shading_refused n []
+        (taken_in n.local from (got_from n.local from + 1) stamp b) e tt runs.refused;
+    unchanged = runs.unchanged;
+  }
+
+-- ---- the tests
+
+module _ {p : LocalState} {from stamp : ℕ} {b : Body} (t : IsTakable p from stamp b) where
+  parts : (may_reach p stamp ≡ true) × ((may_follow p from b ≡ true)
+      × (may_settle (joined p stamp).local stamp b ≡ true))
+  parts =
+      let first = and_parts (may_reach p stamp)
+      (are_within p.shape (mentioned b)
+      && (may_follow p from b && may_settle (joined p stamp).local stamp b)) t.may in
+      let second = and_parts (are_within p.shape (mentioned b))
+      (may_follow p from b && may_settle (joined p stamp).local stamp b) first.1 in
+      (first.0, and_parts (may_follow p from b) (may_settle (joined p stamp).local stamp b) second.1)
+
+  pub follows : may_follow p from b ≡ true
+  follows = parts.1.0
+
+  pub settles : may_settle (joined p stamp).local stamp b ≡ true
+  settles = parts.1.1
+
+-- what the tests of these bodies say of the node that has joined
+module _ (p : LocalState) (stamp : ℕ) where
+  abbrev now : LocalState
+  now = (joined p stamp).local
+
+  pub token-open : {from : ℕ} {token : Token} → IsTakable p from stamp (body.Token token)
+      → now.phases.ended ≢ now.phases.cycle
+  token-open t =
+      let both = and_parts (is_marking now stamp) (is_none now.ring.token) (settles t) in
+      open-apart now (and_parts (stamp == now.phases.cycle) (is_open now) both.0).1
+
+  ended-both : {from : ℕ} → IsTakable p from stamp body.Ended
+      → (is_calm now.heap ≡ true) × (is_none now.ring.token ≡ true)
+  ended-both t =
+      and_parts (is_calm now.heap) (is_none now.ring.token)
+      (and_parts (is_marking now stamp) (is_calm now.heap && is_none now.ring.token) (settles t)).1
+
+  pub ended-calm : {from : ℕ} → IsTakable p from stamp body.Ended → now.heap.grey ≡ []
+  ended-calm t = calm-none now.heap (ended-both t).0
+
+  pub ended-free : {from : ℕ} → IsTakable p from stamp body.Ended → now.ring.token ≡ None
+  ended-free t = absent now.ring.token (ended-both t).1
+    where
+      absent : (o : Option Token) → is_none o ≡ true → o ≡ None
+      absent None none = refl
+      absent (Some token) none = absurd cc
+
+  pub swept-now : {from : ℕ} → IsTakable p from stamp body.Swept → stamp ≡ now.phases.cycle
+  swept-now t = eqb-true stamp now.phases.cycle (settles t)
+
+-- ---- its body
+
+joined-cycle : (p : LocalState) (stamp : ℕ)
+    → nat_lt stamp (joined p stamp).local.phases.cycle ≡ nat_lt stamp p.phases.cycle
+joined-cycle p stamp =
+    cond_both (nat_lt p.phases.cycle stamp) (join p stamp) (at_rest p)
+    (λ (w : Work). nat_lt stamp w.local.phases.cycle ≡ nat_lt stamp p.phases.cycle)
+    (λ later.
+    let less : p.phases.cycle < stamp = ltb-true p.phases.cycle stamp later in
+    ap (λ (z : Phases). nat_lt stamp z.cycle) (join-phases p stamp)
+    ∙ le-ltb stamp stamp (le_refl stamp)
+    ∙ sym (le-ltb stamp p.phases.cycle (omega (arith, less))))
+    (λ _. refl)
+
+pub filled-one : (v : Option Ref) → filled (v ∷ []) ≡ option_to_list v
+filled-one None = refl
+filled-one (Some r) = refl
+
+module _ (from stamp : ℕ) (p : LocalState) where
+  abbrev q : LocalState
+  q = (joined p stamp).local
+
+  abbrev late : Bool
+  late = nat_lt stamp p.phases.cycle
+
+  -- an errand, and then a step of the node alone
+  abbrev stepped : Work → (LocalState → LocalState) → Work
+  stepped w f = record { local = f w.local; sends = w.sends }
+
+  by-errand : (b : Body) (due : Bool) (rs : List Ref) (x : Extra) (f : LocalState → LocalState)
+      → then (take_carried stamp b q) (take_body from stamp b) ≡ stepped (errand_here due rs x q) f
+      → followed from stamp b p ≡ stepped (errand stamp due rs x p) f
+  unfolding followed errand
+  by-errand b due rs x f same =
+      ap (λ (w : Work). record { local = w.local; sends = (joined p stamp).sends ++ w.sends }) same
+
+  quiet : (f : LocalState → LocalState)
+      → then (see_to (nat_lt stamp q.phases.cycle) [] q) (λ z. at_rest (f z))
+      ≡ stepped (errand_here false [] extra.Nothing q) f
+  unfolding errand_here
+  quiet f =
+      ap (λ (w : Work). then w (λ z. at_rest (f z)))
+      (see_to-none (nat_lt stamp q.phases.cycle) q ∙ sym (see_to-none false q))
+
+  pub begin-followed : followed from stamp body.Begin p ≡ errand stamp false [] extra.Nothing p
+  unfolding take_body
+  begin-followed = by-errand body.Begin false [] extra.Nothing (λ z. z) (quiet (λ z. z))
+
+  pub token-followed : (token : Token) → followed from stamp (body.Token token) p
+      ≡ stepped (errand stamp false [] extra.Nothing p)
+      (λ z. record z { ring = record z.ring { token = Some token } })
+  unfolding take_body
+  token-followed token =
+      let held : LocalState → LocalState =
+      λ z. record z { ring = record z.ring { token = Some token } } in
+      by-errand (body.Token token) false [] extra.Nothing held (quiet held)
+
+  pub ended-followed : followed from stamp body.Ended p
+      ≡ stepped (errand stamp false [] extra.Nothing p)
+      (λ z. record z { phases = with_ended z.phases })
+  unfolding take_body
+  ended-followed =
+      let ended : LocalState → LocalState = λ z. record z { phases = with_ended z.phases } in
+      by-errand body.Ended false [] extra.Nothing ended (quiet ended)
+
+  pub swept-followed : followed from stamp body.Swept p
+      ≡ stepped (errand stamp false [] extra.Nothing p)
+      (λ z. record z { phases = with_report from stamp z.phases })
+  unfolding take_body
+  swept-followed =
+      let noted : LocalState → LocalState =
+      λ z. record z { phases = with_report from stamp z.phases } in
+      by-errand body.Swept false [] extra.Nothing noted (quiet noted)
+
+  pub mark-followed : (target : Ref) → followed from stamp (body.Mark target) p
+      ≡ errand stamp true (filled (Some target ∷ [])) extra.Nothing p
+  unfolding take_body errand_here
+  mark-followed target =
+      by-errand (body.Mark target) true (target ∷ []) extra.Nothing (λ z. z) same
+    where
+      same : then (take_carried stamp (body.Mark target) q) (take_body from stamp (body.Mark target))
+          ≡ errand_here true (target ∷ []) extra.Nothing q
+      same =
+          let w : Work = see_to true (target ∷ []) q in
+          ap (λ (z : Work). then z (see_to true (target ∷ [])))
+          (see_to-none (nat_lt stamp q.phases.cycle) q)
+          ∙ ap (λ (ms : List (ℕ × Message)). record { local = w.local; sends = ms })
+          (sym (append-nil w.sends))
+
+  pub give-followed : (due : Bool) (label : ℕ) (v : Option Ref) → due ≡ late
+      → followed from stamp (body.Give label v) p
+      ≡ errand stamp due (filled (v ∷ []))
+      (extra.Letter (record { from = from; label = label; reference = v })) p
+  unfolding take_body errand_here
+  give-followed due label v is =
+      by-errand (body.Give label v) due (filled (v ∷ [])) l (λ z. z) same
+    where
+      l : Extra
+      l = extra.Letter (record { from = from; label = label; reference = v })
+
+      same : then (take_carried stamp (body.Give label v) q) (take_body from stamp (body.Give label v))
+          ≡ errand_here due (filled (v ∷ [])) l q
+      same = rw (is, joined-cycle p stamp, filled-one v) refl
+
+  pub put-followed : (due : Bool) (target : Ref) (place : ℕ) (v : Option Ref) → due ≡ late
+      → followed from stamp (body.Put target place v) p
+      ≡ stepped (errand stamp due (filled (Some target ∷ v ∷ [])) extra.Nothing p)
+      (λ z. record z { heap = with_place z.heap target place v })
+  unfolding take_body errand_here
+  put-followed due target place v is =
+      by-errand (body.Put target place v) due (filled (Some target ∷ v ∷ [])) extra.Nothing
+      (λ (z : LocalState). record z { heap = with_place z.heap target place v }) same
+    where
+      same : then (take_carried stamp (body.Put target place v) q)
+          (take_body from stamp (body.Put target place v))
+          ≡ stepped (errand_here due (filled (Some target ∷ v ∷ [])) extra.Nothing q)
+          (λ z. record z { heap = with_place z.heap target place v })
+      same = rw (is, joined-cycle p stamp, filled-one v) refl
+
+  -- What is in the place is read before the node joins. Marking doesn't change it.
+  pub get-followed : (target : Ref) (place label : ℕ) (v : Option Ref)
+      → (target.node == p.own) ≡ true → v ≡ place_of (object_at p.heap target) place
+      → followed from stamp (body.Get target place label) p
+      ≡ errand stamp true (filled (Some target ∷ v ∷ [])) (extra.Answer from label v) p
+  unfolding take_body errand_here append
+  get-followed target place label v own is =
+      by-errand (body.Get target place label) true (filled (Some target ∷ v ∷ []))
+      (extra.Answer from label v) (λ z. z) same
+    where
+      same : then (take_carried stamp (body.Get target place label) q)
+          (take_body from stamp (body.Get target place label))
+          ≡ errand_here true (filled (Some target ∷ v ∷ [])) (extra.Answer from label v) q
+      same =
+          let due : Bool = nat_lt stamp q.phases.cycle in
+          let here : (target.node == q.own) ≡ true =
+          ap (λ (k : ℕ). target.node == k) (joined-walks stands-walks.collects p stamp).own
+          ∙ own in
+          let w : Work = see_to due (target ∷ []) q in
+          let there : place_of (object_at w.local.heap target) place ≡ v =
+          seen-places due (target ∷ []) q target place ∙ joined-places p stamp target place
+          ∙ sym is in
+          let s : Work = see_to true (option_to_list v) w.local in
+          let a : Work = append from (body.Give label v) s.local in
+          ap (λ (z : Option Ref). then w (answer_get from label z)) there
+          ∙ ap (λ (ms : List (ℕ × Message)). record { local = a.local; sends = ms })
+          (sym (append_assoc w.sends s.sends a.sends))
+          ∙ ap (λ (z : Work). then z (append from (body.Give label v)))
+          (see_to-then due target (option_to_list v) q here
+          ∙ ap (λ (rs : List Ref). see_to true (target ∷ rs) q) (sym (filled-one v)))

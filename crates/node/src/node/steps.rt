@@ -1,0 +1,162 @@
+//! The steps of an event that can't fail. Each is one of the definitions, and keeps what holds of
+//! every node.
+ghost use Rattle.std.specs.Prelude.{◌≡◌, ◌≢◌, ◌+◌, ◌<◌, ◌≤◌, ◌^◌, [], Some, None, length, nat_lt};
+ghost use Rattle.control.specs.Phases.{advanced, all_swept, with_ended, with_report};
+ghost use Rattle.model.specs.Collecting.{unswept};
+ghost use Rattle.model.specs.Heaps.{object_at, place_of, with_place, with_register};
+ghost use Rattle.model.specs.References.{IfAny, IsWithin};
+ghost use Rattle.model.specs.State.{got_from};
+ghost use Rattle.model.specs.Steps.{count_in};
+ghost use Rattle.node.specs.Cycles.{slots_swept};
+ghost use Rattle.node.specs.Taking.{IsSender};
+
+use super::Core;
+use ids::Ref;
+use msg::{Body, Token};
+use safra::{Ring, balance_of};
+
+impl Core {
+    /// Whether a message of this stamp is from before the node's cycle. Its sender hadn't joined
+    /// then, so what it carries is to be shaded; otherwise the sender has seen to that.
+    pub(super) fn is_late(&self, stamp: u64) -> bool
+        ensures { result ≡ nat_lt stamp self.now.local.phases.cycle }
+    {
+        stamp < self.phases.cycle()
+    }
+
+    /// What is in a place of an object of this node. `None` if the place is empty, or there is no
+    /// such place or object.
+    pub(super) fn place(&self, object: Ref, place: u8) -> Option<Ref>
+        ensures value { result ≡ place_of (object_at self.now.local.heap object) place }
+        ensures within { IfAny (IsWithin self.now.local.shape) result }
+    {
+        self.heap.place(object, place)
+    }
+
+    /// Sets the register.
+    pub(super) fn set_register(&mut self, register: u16, value: Option<Ref>)
+        requires there { register < length self.old.local.heap.registers }
+        requires within { IfAny (IsWithin self.old.local.shape) value }
+        ensures { self.new ≡ record self.old {
+          local = record self.old.local {
+            heap = with_register self.old.local.heap register value;
+          };
+        } }
+    {
+        self.heap.set_register(register, value);
+    }
+
+    /// Sets a place of an object of this node. If there is no such place or object, nothing
+    /// changes.
+    pub(super) fn put_place(&mut self, object: Ref, place: u8, value: Option<Ref>)
+        requires { IfAny (IsWithin self.old.local.shape) value }
+        ensures { self.new ≡ record self.old {
+          local = record self.old.local {
+            heap = with_place self.old.local.heap object place value;
+          };
+        } }
+    {
+        self.heap.set_place(object, place, value);
+    }
+
+    /// Sets the node's part of the ring. It has no token any more, and may otherwise differ only in
+    /// its colour.
+    pub(super) fn set_ring(&mut self, ring: Ring)
+        requires earlier { ring.earlier ≡ self.old.local.ring.earlier }
+        requires recent { ring.recent ≡ self.old.local.ring.recent }
+        requires left { ring.token ≡ None }
+        ensures { self.new ≡ record self.old { local = record self.old.local { ring = ring } } }
+    {
+        self.ring = ring;
+    }
+
+    /// Holds the token, while marking goes on.
+    pub(super) fn hold(&mut self, token: Token)
+        requires { self.old.local.phases.ended ≢ self.old.local.phases.cycle }
+        ensures { self.new ≡ record self.old {
+          local = record self.old.local {
+            ring = record self.old.local.ring { token = Some token };
+          };
+        } }
+    {
+        self.ring.hold(token);
+    }
+
+    /// Notes that marking has ended. No object may be grey, and the node may not have the token.
+    pub(super) fn end_marking(&mut self)
+        requires calm { self.old.local.heap.grey ≡ [] }
+        requires free { self.old.local.ring.token ≡ None }
+        ensures { self.new ≡ record self.old {
+          local = record self.old.local { phases = with_ended self.old.local.phases };
+        } }
+    {
+        self.phases.on_ended();
+    }
+
+    /// Notes at node 0 that another node has swept this cycle, which is no later than node 0's own.
+    pub(super) fn note_swept(&mut self, from: u8, cycle: u64)
+        requires director { self.old.local.own ≡ 0 }
+        requires there { from < self.old.local.shape.nodes }
+        requires other { from ≢ 0 }
+        requires reached { cycle ≤ self.old.local.phases.cycle }
+        ensures { self.new ≡ record self.old {
+          local = record self.old.local {
+            phases = with_report from cycle self.old.local.phases;
+          };
+        } }
+    {
+        self.phases.on_swept(from, cycle);
+    }
+
+    /// Sweeps this many slots, and not the last one, and returns how many objects it freed. Marking
+    /// has ended in the node's cycle, and the node hasn't swept it.
+    pub(super) fn sweep_some(&mut self, count: u32) -> u32
+        requires unfinished { self.old.local.phases.swept < self.old.local.phases.ended }
+        requires some { count < unswept self.old.local }
+        requires room { self.old.local.phases.cursor + count < 2 ^ 32 }
+        ensures freed { result ≡ (slots_swept count self.old.local).freed }
+        ensures done { self.new ≡ record self.old {
+          local = record self.old.local {
+            heap = (slots_swept count self.old.local).heap;
+            phases = advanced count self.old.local.phases;
+          };
+        } }
+    {
+        let cursor = self.phases.cursor();
+        let freed = self.heap.sweep(self.phases.cycle(), cursor, count);
+        self.phases.advance(count);
+        freed
+    }
+
+    /// Sweeps all slots that are left, and returns how many objects it freed. Marking has ended in
+    /// the node's cycle, and the node hasn't swept it.
+    pub(super) fn sweep_rest(&mut self) -> u32
+        requires { self.old.local.phases.swept < self.old.local.phases.ended }
+        ensures freed { result ≡ (slots_swept (unswept self.old.local) self.old.local).freed }
+        ensures done { self.new ≡ record self.old {
+          local = record self.old.local {
+            heap = (slots_swept (unswept self.old.local) self.old.local).heap;
+            phases = all_swept self.old.local.phases;
+          };
+        } }
+    {
+        let cursor = self.phases.cursor();
+        let left = self.heap.slots() - cursor;
+        let freed = self.heap.sweep(self.phases.cycle(), cursor, left);
+        self.phases.end_sweep();
+        freed
+    }
+
+    /// Counts the next message from a node as received.
+    #[inline(always)]
+    pub(super) fn count_in(&mut self, from: u8, stamp: u64, body: Body)
+        requires { IsSender self.old.local from }
+        ensures { self.new ≡ record self.old {
+          local = count_in from (got_from self.old.local from + 1) stamp body self.old.local;
+        } }
+    {
+        self.links.take_next(from);
+        self.ring
+            .count_received(balance_of(self.phases.cycle(), stamp, body));
+    }
+}

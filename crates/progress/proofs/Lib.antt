@@ -1,0 +1,16 @@
+mod Example
+pub mod Paths
+mod Flights
+mod HeapWork
+mod Hearing
+pub mod Choices
+mod Heard
+mod Spaces
+mod Falls
+mod Stages
+mod Ends
+mod Costs
+mod Sweeping
+pub mod Theorems
+mod TokenMoves
+mod Soon

@@ -1,0 +1,3 @@
+pub mod Strategy
+pub mod Bounds
+pub mod Progress

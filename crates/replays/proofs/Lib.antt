@@ -1,0 +1,4 @@
+pub mod Alone
+pub mod Ends
+pub mod Noting
+pub mod Quiet

@@ -1,0 +1,29 @@
+-- What becomes of a log.
+use Rattle.std.proofs.Common.{◌≡◌, ◌++◌, ℕ, List, Option, Some, None, sym, ◌∙◌}
+use Rattle.codec.specs.Formats.{Fits}
+use Rattle.model.specs.declared.event.Event.{Event}
+use Rattle.events.specs.Entries.{entry}
+use Rattle.events.specs.Events.{entry_of}
+use Rattle.replays.specs.Noted.{Noted}
+use Rattle.replays.proofs.Ends.{entry_within}
+
+pub event_fits : (e : Event) → entry.IsWide (entry_of e) → Fits entry (entry_of e)
+event_fits e wide = record { wide = wide; within = entry_within e }
+
+some_one : {x y : List ℕ} → ◌≡◌ {A = Option (List ℕ)} (Some x) (Some y) → x ≡ y
+some_one both = cc both
+
+pub lost : (old : Option (List ℕ)) {new : Option (List ℕ)} (e : Event) → Fits entry (entry_of e)
+    → new ≡ None → Noted old new e
+lost old e fits none = record {
+  fits = fits;
+  more = λ bytes is.
+      let both : ◌≡◌ {A = Option (List ℕ)} None (Some bytes) = sym none ∙ is in absurd cc;
+}
+
+pub added : (old : Option (List ℕ)) (e : Event) (before after : List ℕ) → Fits entry (entry_of e)
+    → old ≡ Some before → after ≡ before ++ entry.spell (entry_of e) → Noted old (Some after) e
+added old e before after fits was is = record {
+  fits = fits;
+  more = λ bytes same. (before, was, sym (some_one same) ∙ is);
+}

@@ -1,0 +1,4 @@
+pub mod Logs
+pub mod Noted
+pub mod Values
+pub mod Laws

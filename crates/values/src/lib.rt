@@ -1,0 +1,15 @@
+//! What crosses to C by value: answers, events and numbers of nodes as structs of plain numbers,
+//! why a call did nothing, and how a result is written to the places that C gave for it.
+//!
+//! It is below the crates of nodes, and is proved beside them.
+#![tactic(auto)]
+
+mod bytes;
+mod fault;
+mod fields;
+mod results;
+
+pub use bytes::put;
+pub use fault::{Fault, OK};
+pub use fields::{CAnswer, CEvent, CLink, CRef, CState};
+pub use results::{answered, flagged, status, written};

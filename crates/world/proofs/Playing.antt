@@ -1,0 +1,387 @@
+-- Playing the collector's strategy, move by move.
+use Rattle.std.proofs.Common.{◌≡◌, ◌≢◌, ℕ, zero, suc, ◌+◌, ◌<◌, ◌≤◌, inl, inr, true, false, Bool, List, [], ◌∷◌, ◌++◌, length, take, drop, Result, Ok, Err, IsOk, refl, ap, sym, ◌∙◌, subst, arith, ⊎_elim, append-nil, take-append-drop, get_or}
+use Rattle.std.specs.Prelude.{IfOk, IfErr}
+use Rattle.std.specs.List.{AllByRecursion}
+use Rattle.std.proofs.lemmas.Bool.{cases_Bool, cases_eq, cases_lt, false≢true}
+use Rattle.std.proofs.lemmas.List.{take_more, drop_more}
+use Rattle.std.proofs.lemmas.List.FromFn.{length-map-range_with_len}
+use Rattle.ids.specs.Limits.{Shaped, IsShape}
+use Rattle.ids.specs.declared.refusal.Refusal.{Refusal}
+use Rattle.ids.specs.declared.refusal.Refusal.TheVariants.{Memory, ImageTooLarge}
+use Rattle.ids.specs.declared.limits.TheConstants.{GREATEST_NUMBER}
+use Rattle.model.specs.declared.event.Event.TheVariants as event
+use Rattle.model.specs.declared.step.Step.{Step}
+use Rattle.model.specs.declared.step.Step.TheVariants as step
+use Rattle.model.specs.declared.step.Outcome.{Outcome}
+use Rattle.model.specs.State.{LocalState, new_node}
+use Rattle.model.specs.World.{World, new_world, FollowsStep, take_step, outcome_of, world_after, is_shading_step, is_own_step, run, outcomes}
+use Rattle.progress.specs.Strategy.{now, is_collectors, next_steps, played, play}
+use Rattle.progress.specs.Progress.{IsSwept, Comes, current_cycle}
+use Rattle.progress.specs.Bounds.{cycle_moves}
+use Rattle.progress.proofs.Theorems.{cycle-can-end, garbage-can-go, gone}
+use Rattle.laws.proofs.KeepsSent.{run-count}
+use Rattle.progress.proofs.Paths.{run-append, outcomes-append}
+use Rattle.world.specs.Spaces.{SpaceView, ShowsSpace, FollowsSpace}
+use Rattle.world.specs.Collected.{IsOfCode, BreaksOff, TakesAll, Collects, StopsShort, PlaysUntil, CanFinish, CanCollect, HasCollected}
+use Rattle.world.specs.Answered.{is_taken}
+use Rattle.world.specs.Moves.{local_at}
+use Rattle.world.proofs.Moves.{local-shown}
+use Rattle.world.proofs.Refusals.{refused-as, step-first}
+use Rattle.world.proofs.Answers.{not-memory, not-large}
+use Rattle.world.proofs.Plays.{met-same}
+
+-- ---- one more move
+
+pub play-more : (n moves : ℕ) (w : World)
+    → play n (suc moves) w ≡ run (play n moves w) (next_steps n (play n moves w))
+play-more n zero w = ap (run w) (append-nil (next_steps n w))
+play-more n (suc moves) w =
+    let ss : List Step = next_steps n w in
+    let v : World = run w ss in
+    run-append w ss (played n (suc moves) v)
+    ∙ play-more n moves v
+    ∙ ap (λ (z : World). run z (next_steps n z)) (sym (run-append w ss (played n moves v)))
+
+all-front : {A : Type 0} (P : A → Type 0) (xs ys : List A) → AllByRecursion P (xs ++ ys)
+    → AllByRecursion P xs
+all-front P [] ys h = tt
+all-front P (x ∷ xs) ys h = (h.0, all-front P xs ys h.1)
+
+all-back : {A : Type 0} (P : A → Type 0) (xs ys : List A) → AllByRecursion P (xs ++ ys)
+    → AllByRecursion P ys
+all-back P [] ys h = h
+all-back P (x ∷ xs) ys h = all-back P xs ys h.1
+
+-- the steps of the first k moves are answered
+abbrev Answers : ℕ → ℕ → World → Type 0
+Answers n k w = AllByRecursion IsOk (outcomes w (played n k w))
+
+first-and-rest : (n k : ℕ) (w : World) → Answers n (suc k) w
+    → AllByRecursion IsOk
+    (outcomes w (next_steps n w)
+    ++ outcomes (run w (next_steps n w)) (played n k (run w (next_steps n w))))
+first-and-rest n k w all =
+    subst (AllByRecursion IsOk)
+    (outcomes-append w (next_steps n w) (played n k (run w (next_steps n w)))) all
+
+-- if the definitions answer the steps of k moves, they answer those of each of them
+pub move-answered : (n k moves : ℕ) (w : World) → Answers n k w → moves < k
+    → AllByRecursion IsOk (outcomes (play n moves w) (next_steps n (play n moves w)))
+move-answered n zero moves w all less = absurd (omega (arith, less))
+move-answered n (suc k) zero w all less =
+    all-front IsOk (outcomes w (next_steps n w)) _ (first-and-rest n k w all)
+move-answered n (suc k) (suc moves) w all less =
+    let v : World = run w (next_steps n w) in
+    subst (λ (z : World). AllByRecursion IsOk (outcomes z (next_steps n z)))
+    (sym (run-append w (next_steps n w) (played n moves v)))
+    (move-answered n k moves v
+    (all-back IsOk (outcomes w (next_steps n w)) (outcomes v (played n k v))
+    (first-and-rest n k w all))
+    (omega (arith, less)))
+
+-- ---- a list of steps
+
+lost-is : (e : Refusal) → is_taken (Err e) ≡ false → IsOfCode e
+lost-is Memory lost = inl refl
+lost-is ImageTooLarge lost = inr refl
+lost-is e lost = absurd cc
+
+-- a step that the definitions answer, and the code doesn't
+of-code : (w : World) (s : Step) (e : Refusal) (new : SpaceView)
+    → FollowsStep ShowsSpace w s (Err e) new → IsOk (outcome_of (take_step w s)) → IsOfCode e
+of-code w s e new f ok =
+    ⊎_elim {C = IsOfCode e}
+    (λ (taken : is_taken (Err e) ≡ true).
+    let refused : take_step w s ≡ Err e =
+    refused-as (is_shading_step s) (take_step w s) e (step-first w e (not-large e taken) s f.0)
+    (not-memory e taken) in
+    let never : IsOk (outcome_of (Err e)) = subst (λ z. IsOk (outcome_of z)) refused ok in
+    absurd cc)
+    (λ (lost : is_taken (Err e) ≡ false). lost-is e lost)
+    (cases_Bool (is_taken (Err e)))
+
+-- the collector's steps are a node's own
+pub collectors-own : (s : Step) → is_collectors s ≡ true → is_own_step s ≡ true
+collectors-own (step.Act i event.Begin) is = refl
+collectors-own (step.Act i event.Scan) is = refl
+collectors-own (step.Act i event.Pass) is = refl
+collectors-own (step.Act i (event.Sweep count)) is = refl
+collectors-own (step.Act i e) is = absurd cc
+collectors-own s is = refl
+
+-- what the list of steps says of the one in this place
+all-at : {A : Type 0} (P : A → Type 0) (xs : List A) (i : ℕ) (d : A) → AllByRecursion P xs
+    → i < length xs → P (get_or xs i d)
+all-at P [] i d h less = absurd (omega (arith, less))
+all-at P (x ∷ xs) zero d h less = h.0
+all-at P (x ∷ xs) (suc i) d h less = all-at P xs i d h.1 (omega (arith, less))
+
+pub item-is : (steps : List Step) (place : ℕ) (s : Step)
+    → AllByRecursion (λ z. is_collectors z ≡ true) steps → place < length steps
+    → s ≡ get_or steps place s → is_collectors s ≡ true
+item-is steps place s all less item =
+    subst (λ (z : Step). is_collectors z ≡ true) (sym item)
+    (all-at (λ z. is_collectors z ≡ true) steps place s all less)
+
+pub taken-more : (w : World) (old new : SpaceView) (steps : List Step) (place : ℕ) (s : Step)
+    (o : Outcome) → place < length steps → s ≡ get_or steps place s → is_collectors s ≡ true
+    → ShowsSpace old (run w (take place steps)) → FollowsSpace (Ok o) old new s
+    → ShowsSpace new (run w (take (place + 1) steps))
+taken-more w old new steps place s o less item is shown follows =
+    let v : World = run w (take place steps) in
+    let f : FollowsStep ShowsSpace v s (Ok o) new =
+    subst (λ (z : Step). FollowsStep ShowsSpace v z (Ok o) new) (met-same old.early s is)
+    (follows v shown) in
+    subst (ShowsSpace new)
+    (sym
+    (ap (run w)
+    (take_more steps place s less ∙ ap (λ (z : Step). take place steps ++ z ∷ []) (sym item))
+    ∙ run-append w (take place steps) (s ∷ [])
+    ∙ ap (world_after v) f.1))
+    f.2
+
+pub broken : (w : World) (old new : SpaceView) (steps : List Step) (place : ℕ) (s : Step)
+    (e : Refusal) → place < length steps → s ≡ get_or steps place s → is_collectors s ≡ true
+    → ShowsSpace old (run w (take place steps)) → FollowsSpace (Err e) old new s
+    → BreaksOff e w new steps
+broken w old new steps place s e less item is shown follows =
+    let v : World = run w (take place steps) in
+    let f : FollowsStep ShowsSpace v s (Err e) new =
+    subst (λ (z : Step). FollowsStep ShowsSpace v z (Err e) new) (met-same old.early s is)
+    (follows v shown) in
+    record {
+      done = take place steps;
+      rest = drop place steps;
+      parts = sym (take-append-drop place steps);
+      shown = f.1;
+      cause = λ oks.
+          let front : AllByRecursion IsOk (outcomes w (take place steps ++ drop place steps)) =
+          subst (λ (z : List Step). AllByRecursion IsOk (outcomes w z))
+          (sym (take-append-drop place steps)) oks in
+          let back : AllByRecursion IsOk (outcomes v (drop place steps)) =
+          all-back IsOk (outcomes w (take place steps)) (outcomes v (drop place steps))
+          (subst (AllByRecursion IsOk) (outcomes-append w (take place steps) (drop place steps))
+          front) in
+          let ok : IsOk (outcome_of (take_step v s)) =
+          (subst (λ (z : List Step). AllByRecursion IsOk (outcomes v z))
+          (drop_more steps place s less ∙ ap (λ (z : Step). z ∷ drop (place + 1) steps) (sym item))
+          back).0 in
+          of-code v s e new f ok;
+    }
+
+-- ---- moves up to the end of a cycle
+
+-- What is known after some moves: the space that they lead to, and that no space before it is the
+-- one that is looked for.
+pub record Played (n cycle moves : ℕ) (w : World) (new : SpaceView) : Type 0 where
+  pub shown : ShowsSpace new (play n moves w)
+  pub before : (k : ℕ) → k < moves → IsSwept n cycle (now (play n k w)) → ⊥
+
+not-yet : {n cycle moves : ℕ} {w : World} {old : SpaceView} → Played n cycle moves w old
+    → (IsSwept n cycle (now (play n moves w)) → ⊥) → (k : ℕ) → k < suc moves
+    → IsSwept n cycle (now (play n k w)) → ⊥
+not-yet {n = n} {cycle = cycle} {moves = moves} {w = w} p here k less is =
+    ⊎_elim {C = ⊥} (λ (same : k ≡ moves).
+    here (subst (λ (z : ℕ). IsSwept n cycle (now (play n z w))) same is))
+    (λ (apart : k ≢ moves). p.before k (omega (arith, less, apart)) is)
+    (cases_eq k moves)
+
+pub played-more : {n cycle moves : ℕ} {w : World} {old : SpaceView} (new : SpaceView)
+    → Played n cycle moves w old → (IsSwept n cycle (now (play n moves w)) → ⊥)
+    → ShowsSpace new (run (play n moves w) (next_steps n (play n moves w)))
+    → Played n cycle (suc moves) w new
+played-more {n = n} {moves = moves} {w = w} new p here shown = record {
+  shown = subst (ShowsSpace new) (sym (play-more n moves w)) shown;
+  before = not-yet p here;
+}
+
+pub stops-short : {n cycle moves : ℕ} {w : World} {old : SpaceView} (e : Refusal)
+    (new : SpaceView) → moves ≤ GREATEST_NUMBER → Played n cycle moves w old
+    → (IsSwept n cycle (now (play n moves w)) → ⊥)
+    → BreaksOff e (play n moves w) new (next_steps n (play n moves w))
+    → StopsShort n cycle e w new
+stops-short {moves = moves} e new few p here b = record {
+  moves = moves;
+  few = few;
+  before = λ k le less. not-yet p here k (omega (arith, le));
+  done = b.done;
+  rest = b.rest;
+  parts = b.parts;
+  shown = b.shown;
+  cause = λ less. b.cause;
+}
+
+-- after the greatest number of moves
+pub gives-up : {n cycle moves : ℕ} {w : World} (e : Refusal) (new : SpaceView)
+    → moves ≡ GREATEST_NUMBER → Played n cycle moves w new → StopsShort n cycle e w new
+gives-up {n = n} {moves = moves} {w = w} e new same p = record {
+  moves = moves;
+  few = omega (arith, same);
+  before = λ k le less. p.before k (omega (arith, less, same));
+  done = [];
+  rest = next_steps n (play n moves w);
+  parts = refl;
+  shown = p.shown;
+  cause = λ less. absurd (omega (arith, less, same));
+}
+
+-- ---- what the code knows at the end of a move
+
+same-width : {w : World} {old new : SpaceView} (ss : List Step) → ShowsSpace old w
+    → ShowsSpace new (run w ss) → length new.sites ≡ length old.sites
+same-width {w = w} ss before after =
+    after.world.width ∙ run-count w ss ∙ sym before.world.width
+
+-- what the code says of each space that it shows: whether it is the one that is looked for
+abbrev pub Finds : Bool → SpaceView → ℕ → Type 0
+Finds found n cycle =
+    (v : World) → ShowsSpace n v
+    → (found ≡ true → IsSwept (length n.sites) cycle (now v))
+    × (IsSwept (length n.sites) cycle (now v) → found ≡ true)
+
+pub found-here : {cycle moves : ℕ} {w : World} {old new : SpaceView} → ShowsSpace old w
+    → Played (length old.sites) cycle moves w new → Finds true new cycle
+    → Collects (length old.sites) cycle moves w new
+found-here {cycle = cycle} {moves = moves} {w = w} {old = old} {new = new} shown p finds =
+    let n : ℕ = length old.sites in
+    record {
+      shown = p.shown;
+      swept = subst (λ (z : ℕ). IsSwept z cycle (now (play n moves w)))
+          (same-width (played n moves w) shown p.shown) ((finds (play n moves w) p.shown).0 refl);
+      first = p.before;
+    }
+
+pub not-here : {cycle moves : ℕ} {w : World} {old new : SpaceView} → ShowsSpace old w
+    → Played (length old.sites) cycle moves w new → Finds false new cycle
+    → IsSwept (length old.sites) cycle (now (play (length old.sites) moves w)) → ⊥
+not-here {cycle = cycle} {moves = moves} {w = w} {old = old} {new = new} shown p finds is =
+    let n : ℕ = length old.sites in
+    false≢true
+    ((finds (play n moves w) p.shown).1
+    (subst (λ (z : ℕ). IsSwept z cycle (now (play n moves w)))
+    (sym (same-width (played n moves w) shown p.shown)) is))
+
+-- what the code's next move leaves
+abbrev pub Plays : Result Unit Refusal → SpaceView → SpaceView → Type 0
+Plays result old new =
+    (v : World) → ShowsSpace old v → TakesAll result v new (next_steps (length old.sites) v)
+
+pub moves-on : {cycle moves : ℕ} {w : World} {old here new : SpaceView} (u : Unit)
+    → ShowsSpace old w → Played (length old.sites) cycle moves w here → Finds false here cycle
+    → Plays (Ok u) here new → Played (length old.sites) cycle (moves + 1) w new
+moves-on {cycle = cycle} {moves = moves} {w = w} {old = old} {here = here} {new = new} u shown p
+    finds plays =
+    let n : ℕ = length old.sites in
+    let v : World = play n moves w in
+    subst (λ (z : ℕ). Played n cycle z w new) (omega arith)
+    (played-more new p (not-here shown p finds)
+    (subst (λ (z : ℕ). ShowsSpace new (run v (next_steps z v)))
+    (same-width (played n moves w) shown p.shown) (plays v p.shown)))
+
+pub breaks-off : {cycle moves : ℕ} {w : World} {old here new : SpaceView} (e : Refusal)
+    → ShowsSpace old w → moves ≤ GREATEST_NUMBER → Played (length old.sites) cycle moves w here
+    → Finds false here cycle → Plays (Err e) here new
+    → StopsShort (length old.sites) cycle e w new
+breaks-off {cycle = cycle} {moves = moves} {w = w} {old = old} {here = here} {new = new} e shown
+    few p finds plays =
+    let n : ℕ = length old.sites in
+    let v : World = play n moves w in
+    stops-short e new few p (not-here shown p finds)
+    (subst (λ (z : ℕ). BreaksOff e v new (next_steps z v))
+    (same-width (played n moves w) shown p.shown) (plays v p.shown))
+
+-- ---- by the theorems
+
+-- moves that were played to the end are as few as it takes
+few-moves : {n cycle most k : ℕ} {w : World} {new : SpaceView} {P : World → Type 0}
+    → Collects n cycle k w new → (c : Comes n most w P)
+    → IsSwept n cycle (now (play n c.moves w)) → k ≤ most
+few-moves {n = n} {cycle = cycle} {most = most} {k = k} {w = w} h c is =
+    ⊎_elim {C = k ≤ most} (λ (less : c.moves < k). absurd (h.first c.moves less is))
+    (λ (le : k ≤ c.moves). omega (arith, le, c.few))
+    (cases_lt c.moves k)
+
+code-fails : {n cycle most : ℕ} {e : Refusal} {w : World} {new : SpaceView} {P : World → Type 0}
+    → StopsShort n cycle e w new → (c : Comes n most w P) → most < GREATEST_NUMBER
+    → IsSwept n cycle (now (play n c.moves w)) → IsOfCode e
+code-fails {n = n} {cycle = cycle} {most = most} {e = e} {w = w} h c less is =
+    ⊎_elim {C = IsOfCode e}
+    (λ (below : h.moves < c.moves).
+    h.cause (omega (arith, below, c.few, less))
+    (move-answered n c.moves h.moves w c.played.answered below))
+    (λ (le : c.moves ≤ h.moves). absurd (h.before c.moves le (omega (arith, c.few, less)) is))
+    (cases_lt h.moves c.moves)
+
+-- ---- the two public calls
+
+shape-width : (shape : Shaped) (steps : List Step) {old : SpaceView}
+    → ShowsSpace old (run (new_world shape) steps) → length old.sites ≡ shape.nodes
+shape-width shape steps shown =
+    shown.world.width ∙ run-count (new_world shape) steps
+    ∙ length-map-range_with_len (new_node shape) 0 shape.nodes
+
+-- what a call that plays until the cycle of this number comes to
+abbrev pub PlaysTo : Result ℕ Refusal → SpaceView → SpaceView → (World → ℕ) → Type 0
+PlaysTo result old new cycle =
+    (w : World) → ShowsSpace old w → PlaysUntil result (length old.sites) (cycle w) w new
+
+pub from-cycle : (result : Result ℕ Refusal) (old new : SpaceView) (cycle : ℕ)
+    → cycle ≡ (local_at old.sites 0).phases.cycle → PlaysTo result old new (λ w. cycle)
+    → PlaysTo result old new current_cycle
+from-cycle result old new cycle is plays w shown =
+    subst (λ (k : ℕ). PlaysUntil result (length old.sites) k w new)
+    (is ∙ ap (λ (p : LocalState). p.phases.cycle) (local-shown shown.world 0)) (plays w shown)
+
+pub after-cycle : (result : Result ℕ Refusal) (old new : SpaceView) (cycle : ℕ)
+    → cycle ≡ (local_at old.sites 0).phases.cycle → PlaysTo result old new (λ w. cycle + 1)
+    → PlaysTo result old new (λ w. current_cycle w + 1)
+after-cycle result old new cycle is plays w shown =
+    subst (λ (k : ℕ). PlaysUntil result (length old.sites) (k + 1) w new)
+    (is ∙ ap (λ (p : LocalState). p.phases.cycle) (local-shown shown.world 0)) (plays w shown)
+
+pub finishes : (result : Result ℕ Refusal) (old new : SpaceView)
+    → PlaysTo result old new current_cycle → (shape : Shaped) → IsShape shape
+    → (steps : List Step) → ShowsSpace old (run (new_world shape) steps)
+    → CanFinish shape.nodes (run (new_world shape) steps)
+    → IfOk result (λ k. k ≤ cycle_moves shape.nodes (now (run (new_world shape) steps)))
+    × IfErr result IsOfCode
+finishes (Ok k) old new plays shape limits steps shown room =
+    let w : World = run (new_world shape) steps in
+    let c = cycle-can-end shape limits steps room in
+    let h : Collects shape.nodes (current_cycle w) k w new =
+    subst (λ (z : ℕ). Collects z (current_cycle w) k w new) (shape-width shape steps shown) (plays w shown) in
+    (few-moves h c c.then, tt)
+finishes (Err e) old new plays shape limits steps shown room =
+    let w : World = run (new_world shape) steps in
+    let c = cycle-can-end shape limits steps room in
+    let h : StopsShort shape.nodes (current_cycle w) e w new =
+    subst (λ (z : ℕ). StopsShort z (current_cycle w) e w new) (shape-width shape steps shown) (plays w shown)
+    in
+    (tt, code-fails h c (omega (arith, room 0 0, limits.least_nodes)) c.then)
+
+pub collects : (result : Result ℕ Refusal) (old new : SpaceView)
+    → PlaysTo result old new (λ w. current_cycle w + 1) → (shape : Shaped) → IsShape shape
+    → (steps : List Step) → ShowsSpace old (run (new_world shape) steps)
+    → CanCollect shape.nodes (run (new_world shape) steps)
+    → IfOk result (λ k. HasCollected shape.nodes k (run (new_world shape) steps))
+    × IfErr result IsOfCode
+collects (Ok k) old new plays shape limits steps shown can =
+    let w : World = run (new_world shape) steps in
+    let c = garbage-can-go shape limits steps can.cycle can.room in
+    let h : Collects shape.nodes (current_cycle w + 1) k w new =
+    subst (λ (z : ℕ). Collects z (current_cycle w + 1) k w new) (shape-width shape steps shown)
+    (plays w shown) in (
+      record {
+        few = few-moves h c c.then.0;
+        gone = gone shape limits steps (played shape.nodes k w) (current_cycle w + 1)
+            (omega arith) h.swept;
+      },
+      tt,
+    )
+collects (Err e) old new plays shape limits steps shown can =
+    let w : World = run (new_world shape) steps in
+    let c = garbage-can-go shape limits steps can.cycle can.room in
+    let h : StopsShort shape.nodes (current_cycle w + 1) e w new =
+    subst (λ (z : ℕ). StopsShort z (current_cycle w + 1) e w new) (shape-width shape steps shown)
+    (plays w shown) in
+    (tt, code-fails h c (omega (arith, can.room 0 0, limits.least_nodes)) c.then.0)

@@ -1,0 +1,17 @@
+use Rattle.std.proofs.Common.{◌∙◌, ap}
+use Rattle.model.specs.State.{Phases}
+use Rattle.world.proofs.Playing.{from-cycle, finishes}
+use Rattle.world.proofs.sim.Sim.finish_cycle.Goals as goal
+
+pub returns-clause-plays : goal.returns-clause-plays
+returns-clause-plays c =
+    from-cycle c.play_until.result c.args.self.now c.play_until.new.self c.cycle-cycle.result
+    (c.cycle-cycle.ensures.value ∙ ap (λ (p : Phases). p.cycle) c.phases.ensures.value)
+    c.play_until.ensures
+
+pub returns-clause-ends : goal.returns-clause-ends
+returns-clause-ends c =
+    finishes c.play_until.result c.args.self.now c.play_until.new.self
+    (from-cycle c.play_until.result c.args.self.now c.play_until.new.self c.cycle-cycle.result
+    (c.cycle-cycle.ensures.value ∙ ap (λ (p : Phases). p.cycle) c.phases.ensures.value)
+    c.play_until.ensures)

@@ -1,0 +1,25 @@
+use Rattle.std.proofs.Common.{arith, subst}
+use Rattle.std.proofs.lemmas.Result.{err_from_is_err_and}
+use Rattle.world.proofs.Playing.{Finds, found-here, moves-on, breaks-off}
+use Rattle.world.proofs.sim.Sim.play_until.Goals as goal
+
+pub returns-then-is_swept : goal.returns-then-is_swept
+returns-then-is_swept c = λ w shown.
+    found-here shown (c.loop-moves.invariant w shown)
+    (subst (λ b. Finds b c.loop-moves.self c.args.cycle) c.if-is_swept.true c.is_swept.ensures)
+
+pub returns-in_err-play : goal.returns-in_err-play
+returns-in_err-play c =
+    let p = err_from_is_err_and c.from_residual.result c.from_residual.ensures.1 in
+    rw (p.1, p.2)
+    (λ w shown.
+    breaks-off c.in_err-play.field-0.0 shown (omega (arith, c.loop-moves-test.true))
+    (c.loop-moves.invariant w shown)
+    (subst (λ b. Finds b c.loop-moves.self c.args.cycle) c.if-is_swept.false c.is_swept.ensures)
+    c.in_err-play.ensures)
+
+pub loop-moves-preserved : goal.loop-moves-preserved
+loop-moves-preserved c = λ w shown.
+    moves-on c.in_ok-play.field-0 shown (c.loop-moves.invariant w shown)
+    (subst (λ b. Finds b c.loop-moves.self c.args.cycle) c.if-is_swept.false c.is_swept.ensures)
+    c.in_ok-play.ensures
