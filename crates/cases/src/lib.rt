@@ -10,7 +10,7 @@ pub mod collected;
 pub mod crashes;
 mod dice;
 pub mod disks;
-mod events;
+mod parsing;
 pub mod files;
 mod folders;
 mod found;
@@ -24,7 +24,7 @@ mod sizes;
 
 pub use case::{Line, Stop, Subject, number, read, read_lines, take_all, verb, word};
 pub use dice::{ASKED, Dice};
-pub use events::{event_of, repeated};
+pub use parsing::{event_of, repeated};
 pub use folders::{disks_in, nodes_in};
 pub use found::{Found, Noted, compare_letters};
 pub use lent::Lent;

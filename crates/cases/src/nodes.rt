@@ -1,7 +1,7 @@
 //! One node: its events, its frames and its image. It may be created from any image, so a case
 //! reaches nodes that no short run does.
 use crate::case::{Stop, Subject, bytes_of, number, verb, word};
-use crate::events::{event_of, repeated};
+use crate::parsing::{event_of, repeated};
 use crate::out::Out;
 use ids::{NodeId, Refusal, Shape};
 use lines::SummaryText;
