@@ -4,8 +4,6 @@ use Rattle.std.specs.Io.KnownBytes.{Appends, Keeps}
 use Rattle.std.specs.Str.Lines.{lines}
 use Rattle.std.proofs.KnownBytes.{Appends-nil, Appends-trans, Appends-kept}
 use Rattle.std.proofs.lemmas.List.{nil_from_length}
-use Rattle.model.specs.World.{World}
-use Rattle.node.specs.Keeping.{Rings}
 use Rattle.commands.specs.declared.reading.Unread.{Unread}
 use Rattle.commands.specs.declared.script.Reply.{Reply}
 use Rattle.commands.specs.declared.script.Reply.TheVariants as reply
@@ -49,30 +47,28 @@ small_replies script status old new prints =
 
 -- A point of the loop over a script's lines: the remaining text, how many lines were processed, the
 -- space, the status so far, and the contents of the output, if they are known.
-pub record Point (S : Type 0) : Type 0 where
+pub record Point : Type 0 where
   pub rest : List ℕ
   pub count : ℕ
-  pub state : State S
+  pub state : State
   pub status : ℕ
   pub output : Option (List ℕ)
 
 -- before an iteration: the replies to the lines processed so far, and the remaining text
-pub record PrintedBefore {S : Type 0} (shows : S → World → Type 0) (keeps : S → List Rings) (script : List ℕ)
-    (start : Option (List ℕ)) (p : Point S) : Type 0 where
+pub record PrintedBefore (script : List ℕ) (start : Option (List ℕ)) (p : Point) : Type 0 where
   pub replies : List Reply
   pub counted : length replies ≡ p.count
   pub held : Held
-  pub shown : ShowsHeld shows keeps p.state held
+  pub shown : ShowsHeld p.state held
   pub follow : (more : List Reply) → Replies held (lines p.rest) more
       → Replies awaited (lines script) (replies ++ more)
   pub worst : p.status ≡ status_of replies
   pub appended : Appends start p.output (printed 1 replies)
 
 -- before the first line
-pub printed_nothing : {S : Type 0} (shows : S → World → Type 0) (keeps : S → List Rings) (script : List ℕ)
-    (known : Option (List ℕ)) → PrintedBefore shows keeps script known
+pub printed_nothing : (script : List ℕ) (known : Option (List ℕ)) → PrintedBefore script known
     (record { rest = script; count = 0; state = state.Unopened; status = 0; output = known })
-printed_nothing shows keeps script known =
+printed_nothing script known =
     record {
       replies = [];
       counted = refl;
@@ -108,17 +104,17 @@ no_last : (r : Reply) → status_after r ≢ 2 → r ≢ reply.NoCommand
 no_last r other e = other (ap status_after e)
 
 -- an iteration: the line and its reply
-pub record Turn {S : Type 0} (shows : S → World → Type 0) (keeps : S → List Rings) (p q : Point S) : Type 0 where
+pub record Turn (p q : Point) : Type 0 where
   pub text : List ℕ
   pub status : ℕ
   pub step : lines p.rest ≡ text ∷ lines q.rest
   pub counts : q.count ≡ p.count + 1
-  pub says : PrintsReply shows keeps (λ h r later. TakesLine h (line_of (words_of text)) r later)
+  pub says : PrintsReply (λ h r later. TakesLine h (line_of (words_of text)) r later)
       q.count p.state q.state p.output q.output status
   pub worse : q.status ≡ max p.status status
 
-module _ {S : Type 0} (shows : S → World → Type 0) (keeps : S → List Rings) (script : List ℕ) (start : Option (List ℕ))
-    (p q : Point S) (before : PrintedBefore shows keeps script start p) (turn : Turn shows keeps p q) where
+module _ (script : List ℕ) (start : Option (List ℕ)) (p q : Point)
+    (before : PrintedBefore script start p) (turn : Turn p q) where
   abbrev reply_now : Reply
   reply_now = turn.says.reply
 
@@ -144,7 +140,7 @@ module _ {S : Type 0} (shows : S → World → Type 0) (keeps : S → List Rings
       ∙ sym (status_of_push before.replies reply_now)
 
   -- it doesn't end the program
-  pub printed_more : turn.status ≢ 2 → PrintedBefore shows keeps script start q
+  pub printed_more : turn.status ≢ 2 → PrintedBefore script start q
   printed_more other =
       let taken = turn.says.answers before.held before.shown in
       let goes = no_last reply_now (λ e. other (turn.says.is ∙ e)) in
@@ -180,10 +176,9 @@ module _ {S : Type 0} (shows : S → World → Type 0) (keeps : S → List Rings
       }
 
 -- no line is left
-pub printed_all : {S : Type 0} (shows : S → World → Type 0) (keeps : S → List Rings) (script : List ℕ)
-    (start : Option (List ℕ)) (p : Point S) → PrintedBefore shows keeps script start p
-    → length p.rest ≡ 0 → PrintsReplies script p.status start p.output
-printed_all shows keeps script start p before none =
+pub printed_all : (script : List ℕ) (start : Option (List ℕ)) (p : Point)
+    → PrintedBefore script start p → length p.rest ≡ 0 → PrintsReplies script p.status start p.output
+printed_all script start p before none =
     record {
       replies = before.replies;
       follow = subst (Replies awaited (lines script)) (append-nil before.replies)

@@ -13,7 +13,7 @@ use Rattle.model.specs.declared.step.Outcome.TheVariants as outcome
 use Rattle.commands.specs.declared.script.Reply.TheVariants as reply
 use Rattle.commands.specs.declared.script.State.TheVariants as state
 use Rattle.node.specs.Keeping.{Rings}
-use Rattle.world.specs.Spaces.{KeepsAfter, step_met}
+use Rattle.world.specs.Spaces.{KeepsAfter, ShowsSpace, SpaceView, step_met}
 use Rattle.commands.specs.declared.freed.Freed.{Freed}
 use Rattle.commands.specs.Freed.{KeepsSums, freed_after}
 use Rattle.commands.specs.Script.{Held, RefusesStep, awaited, denied, there, ShowsHeld, TakesSpace, TakesStep, none_kept}
@@ -40,59 +40,58 @@ no_sweep w (step.Restart i) o sums other P p = p
 no_sweep w (step.Deliver from to number) o sums other P p = p
 no_sweep w (step.Hand from to) o sums other P p = p
 
-module _ {S : Type 0} (shows : S → World → Type 0) (keeps : S → List Rings) where
-  pub made_shows : (h : Held) (sizes : Shaped) (x : S) (f : Freed)
-      → ShowsHeld shows keeps state.Unopened h → shows x (new_world sizes)
-      → keeps x ≡ none_kept sizes.nodes → KeepsSums f.sums []
-      → (k : Held) × TakesSpace h sizes (reply.Outcome outcome.Done) k
-      × ShowsHeld shows keeps (state.Open x f) k
-  made_shows awaited sizes x f shown made none fresh =
-      (there (new_world sizes) (none_kept sizes.nodes) [], inl (refl, refl), (made, none, fresh))
-  made_shows denied sizes x f shown made none fresh = absurd shown
-  made_shows (there w all sums) sizes x f shown made none fresh = absurd shown
+pub made_shows : (h : Held) (sizes : Shaped) (x : SpaceView) (f : Freed)
+    → ShowsHeld state.Unopened h → ShowsSpace x (new_world sizes)
+    → x.early ≡ none_kept sizes.nodes → KeepsSums f.sums []
+    → (k : Held) × TakesSpace h sizes (reply.Outcome outcome.Done) k
+    × ShowsHeld (state.Open x f) k
+made_shows awaited sizes x f shown made none fresh =
+    (there (new_world sizes) (none_kept sizes.nodes) [], inl (refl, refl), (made, none, fresh))
+made_shows denied sizes x f shown made none fresh = absurd shown
+made_shows (there w all sums) sizes x f shown made none fresh = absurd shown
 
-  -- a step of a space that was refused
-  pub denied_shows : (h : Held) (step : Step) (e : Refusal)
-      → ShowsHeld shows keeps (state.Refused e) h
-      → (k : Held) × TakesStep h step (reply.Refused e) k
-      × ShowsHeld shows keeps (state.Refused e) k
-  denied_shows awaited step e shown = absurd shown
-  denied_shows denied step e shown = (denied, (ap reply.Refused shown, refl), shown)
-  denied_shows (there w all sums) step e shown = absurd shown
+-- a step of a space that was refused
+pub denied_shows : (h : Held) (step : Step) (e : Refusal)
+    → ShowsHeld (state.Refused e) h
+    → (k : Held) × TakesStep h step (reply.Refused e) k
+    × ShowsHeld (state.Refused e) k
+denied_shows awaited step e shown = absurd shown
+denied_shows denied step e shown = (denied, (ap reply.Refused shown, refl), shown)
+denied_shows (there w all sums) step e shown = absurd shown
 
-  -- a step that was taken
-  pub outcome_shows : (h : Held) (step : Step) (x y : S) (f g : Freed) (o : Outcome)
-      → ShowsHeld shows keeps (state.Open x f) h
-      → ((w : World) → shows x w → FollowsStep shows w (step_met (keeps x) step) (Ok o) y)
-      → ((w : World) → shows x w → KeepsAfter w (keeps x) step (Ok o) (keeps y))
-      → ((v : World) (sums : List ℕ) → shows y v → KeepsSums f.sums sums
-      → KeepsSums g.sums (freed_after v step o sums))
-      → (k : Held) × TakesStep h step (reply.Outcome o) k
-      × ShowsHeld shows keeps (state.Open y g) k
-  outcome_shows awaited step x y f g o shown follows early noted = absurd shown
-  outcome_shows denied step x y f g o shown follows early noted = absurd shown
-  outcome_shows (there w all sums) step x y f g o shown follows early noted =
-      let r = follows w shown.0 in
-      let stepped = subst (λ (z : List Rings). take_step w (step_met z step) ≡ Ok (r.0, o)) shown.1
-      r.1 in
-      let kept = subst (λ (z : List Rings). KeepsAfter w z step (Ok o) (keeps y)) shown.1
-      (early w shown.0) in (
-        there r.0 (keeps y) (freed_after r.0 step o sums),
-        (r.0, keeps y, stepped, kept, refl),
-        (r.2, refl, noted r.0 sums r.2 shown.2),
-      )
+-- a step that was taken
+pub outcome_shows : (h : Held) (step : Step) (x y : SpaceView) (f g : Freed) (o : Outcome)
+    → ShowsHeld (state.Open x f) h
+    → ((w : World) → ShowsSpace x w → FollowsStep ShowsSpace w (step_met x.early step) (Ok o) y)
+    → ((w : World) → ShowsSpace x w → KeepsAfter w x.early step (Ok o) y.early)
+    → ((v : World) (sums : List ℕ) → ShowsSpace y v → KeepsSums f.sums sums
+    → KeepsSums g.sums (freed_after v step o sums))
+    → (k : Held) × TakesStep h step (reply.Outcome o) k
+    × ShowsHeld (state.Open y g) k
+outcome_shows awaited step x y f g o shown follows early noted = absurd shown
+outcome_shows denied step x y f g o shown follows early noted = absurd shown
+outcome_shows (there w all sums) step x y f g o shown follows early noted =
+    let r = follows w shown.0 in
+    let stepped = subst (λ (z : List Rings). take_step w (step_met z step) ≡ Ok (r.0, o)) shown.1
+    r.1 in
+    let kept = subst (λ (z : List Rings). KeepsAfter w z step (Ok o) y.early) shown.1
+    (early w shown.0) in (
+      there r.0 y.early (freed_after r.0 step o sums),
+      (r.0, y.early, stepped, kept, refl),
+      (r.2, refl, noted r.0 sums r.2 shown.2),
+    )
 
-  -- a step that was refused
-  pub refusal_shows : (h : Held) (step : Step) (x y : S) (f : Freed) (e : Refusal)
-      → ShowsHeld shows keeps (state.Open x f) h
-      → ((w : World) → shows x w → RefusesStep w (keeps x) step e
-      × KeepsAfter w (keeps x) step (Err e) (keeps y) × shows y w)
-      → (k : Held) × TakesStep h step (reply.Refused e) k
-      × ShowsHeld shows keeps (state.Open y f) k
-  refusal_shows awaited step x y f e shown refused = absurd shown
-  refusal_shows denied step x y f e shown refused = absurd shown
-  refusal_shows (there w all sums) step x y f e shown refused =
-      let r = refused w shown.0 in
-      let why = subst (λ (z : List Rings). RefusesStep w z step e) shown.1 r.0 in
-      let kept = subst (λ (z : List Rings). KeepsAfter w z step (Err e) (keeps y)) shown.1 r.1 in
-      (there w (keeps y) sums, (keeps y, why, kept, refl), (r.2, refl, shown.2))
+-- a step that was refused
+pub refusal_shows : (h : Held) (step : Step) (x y : SpaceView) (f : Freed) (e : Refusal)
+    → ShowsHeld (state.Open x f) h
+    → ((w : World) → ShowsSpace x w → RefusesStep w x.early step e
+    × KeepsAfter w x.early step (Err e) y.early × ShowsSpace y w)
+    → (k : Held) × TakesStep h step (reply.Refused e) k
+    × ShowsHeld (state.Open y f) k
+refusal_shows awaited step x y f e shown refused = absurd shown
+refusal_shows denied step x y f e shown refused = absurd shown
+refusal_shows (there w all sums) step x y f e shown refused =
+    let r = refused w shown.0 in
+    let why = subst (λ (z : List Rings). RefusesStep w z step e) shown.1 r.0 in
+    let kept = subst (λ (z : List Rings). KeepsAfter w z step (Err e) y.early) shown.1 r.1 in
+    (there w y.early sums, (y.early, why, kept, refl), (r.2, refl, shown.2))

@@ -24,7 +24,7 @@ use Rattle.commands.specs.declared.script.State.TheVariants as state
 use Rattle.commands.specs.Freed.{KeepsSums, freed_after}
 use Rattle.lines.specs.Grammar.{line_of, words_of}
 use Rattle.world.specs.Shows.{ShowsNode, summary_at}
-use Rattle.world.specs.Spaces.{KeepsAfter, step_met}
+use Rattle.world.specs.Spaces.{KeepsAfter, ShowsSpace, step_met}
 use Rattle.lines.specs.Text.{outcome_text, refused_text, report_text, summary_text}
 use Rattle.node.specs.Keeping.{Rings, no_rings}
 use Rattle.model.specs.declared.summary.Summary.{Summary}
@@ -39,20 +39,17 @@ pub data Held : Type 0 where
 
 -- the program's space shows that of the definitions and keeps these messages; the program also
 -- keeps the sums
-abbrev pub ShowsHeld : {S : Type 0} → (S → World → Type 0) → (S → List Rings) → State S → Held
-    → Type 0
-ShowsHeld shows keeps state.Unopened awaited = Unit {0}
-ShowsHeld shows keeps (state.Refused e) denied = e ≡ Memory
-ShowsHeld shows keeps (state.Open s f) (there w all sums) =
-    shows s w × (keeps s ≡ all) × KeepsSums f.sums sums
-ShowsHeld shows keeps s h = ⊥
+abbrev pub ShowsHeld : State → Held → Type 0
+ShowsHeld state.Unopened awaited = Unit {0}
+ShowsHeld (state.Refused e) denied = e ≡ Memory
+ShowsHeld (state.Open s f) (there w all sums) =
+    ShowsSpace s w × (s.early ≡ all) × KeepsSums f.sums sums
+ShowsHeld s h = ⊥
 
 -- whatever the old state shows, the new one shows the result of this change
-abbrev pub Moves : {S : Type 0} → (S → World → Type 0) → (S → List Rings)
-    → (Held → Held → Type 0) → State S → State S → Type 0
-Moves shows keeps becomes old new =
-    (h : Held) → ShowsHeld shows keeps old h
-    → (later : Held) × becomes h later × ShowsHeld shows keeps new later
+abbrev pub Moves : (Held → Held → Type 0) → State → State → Type 0
+Moves becomes old new =
+    (h : Held) → ShowsHeld old h → (later : Held) × becomes h later × ShowsHeld new later
 
 -- The step saves a node, and an image of a node that shows its state is longer than an image may
 -- be. A state doesn't say which messages the node has dropped.
@@ -170,11 +167,10 @@ status_after reply.NoCommand = 2
 
 -- A line that changes the space like this has a reply; the reply is printed, and the status is that
 -- of the reply.
-pub record PrintsReply {S : Type 0} (shows : S → World → Type 0) (keeps : S → List Rings)
-    (takes : Held → Reply → Held → Type 0) (number : ℕ) (old new : State S)
+pub record PrintsReply (takes : Held → Reply → Held → Type 0) (number : ℕ) (old new : State)
     (before after : Option (List ℕ)) (status : ℕ) : Type 0 where
   pub reply : Reply
-  pub answers : Moves shows keeps (λ h later. takes h reply later) old new
+  pub answers : Moves (λ h later. takes h reply later) old new
   pub prints : Appends before after (reply_text number reply)
   pub is : status ≡ status_after reply
 

@@ -2,21 +2,18 @@
 //! printed; a line outside the grammar is the last. The status is that of the worst reply.
 ghost use Rattle.std.specs.Prelude.{◌≡◌, ◌≤◌, ℕ, List, Some, IfOk, OnOk, IfErr, IsTrue, ◌≢◌, string_bytes};
 ghost use Rattle.std.specs.Io.KnownBytes.{Appends};
-ghost use Rattle.ids.specs.declared.refusal.Refusal.TheVariants.{Memory, ImageTooLarge};
 ghost use Rattle.model.specs.Steps.{is_own};
 ghost use Rattle.model.specs.declared.event.Event.{Event};
 ghost use Rattle.model.specs.declared.step.Outcome.TheVariants as outcome;
 ghost use Rattle.model.specs.declared.step.Step.{Step};
 ghost use Rattle.model.specs.declared.step.Step.TheVariants as steps;
-ghost use Rattle.model.specs.World.{World, FollowsStep, new_world, is_own_step, is_step_memory_free};
-ghost use Rattle.node.specs.Keeping.{Rings};
-ghost use Rattle.world.specs.Shows.{summary_at};
-ghost use Rattle.world.specs.Spaces.{KeepsAfter, ShowsSpace, outcome_by, step_met};
+ghost use Rattle.model.specs.World.{World, is_own_step};
+ghost use Rattle.world.specs.Spaces.{ShowsSpace};
 ghost use Rattle.commands.specs.Freed.{KeepsSums, freed_with};
 ghost use Rattle.lines.specs.Grammar.{line_of, words_of};
-ghost use Rattle.commands.specs.Script.{MayBeTooLarge, Moves, PrintsReplies};
+ghost use Rattle.commands.specs.Script.{Moves, PrintsReplies};
 ghost use Rattle.commands.specs.Script.{PrintsUnread, TakesLine, TakesReport, TakesSpace};
-ghost use Rattle.commands.specs.Script.{TakesState, TakesStep, none_kept, reply_text, status_after};
+ghost use Rattle.commands.specs.Script.{TakesState, TakesStep, reply_text, status_after};
 ghost use Rattle.commands.specs.Script.{PrintsReply};
 ghost use Rattle.commands.specs.declared.script.Reply.TheVariants as reply;
 ghost use Rattle.commands.specs.declared.script.State.TheVariants as state;
@@ -31,92 +28,20 @@ use crate::reading::Unread;
 use crate::splitting::first_line;
 use ids::{Refusal, Shape};
 use lines::{Line, Printer};
-use model::{Answer, Event, Outcome, Step};
+use model::{Event, Outcome, Step};
 use node::Summary;
 use std::alloc::Global;
 use std::io::Write;
 use words::{DONE, UNREADABLE};
 use world::Sim;
 
-/// What a script runs on.
-trait Space: Drop + Sized {
-    /// Which spaces of the definitions this one shows.
-    ghost shows: { Self → World → Type 0 };
-
-    /// The messages that each node keeps until their turn.
-    ghost keeps: { Self → List Rings };
-
-    /// A new space of this shape. `Memory` if allocation fails.
-    fn new(alloc: Global, shape: Shape) -> Result<Self, Refusal>
-        ensures made { IfOk result (λ s. shows s (new_world shape)) }
-        ensures early { IfOk result (λ s. keeps s ≡ none_kept shape.nodes) }
-        ensures refused { IfErr result (λ e. e ≡ Memory) };
-
-    /// Takes a step, or refuses it and shows the same as before; a message that waited for its turn
-    /// may have left its place then. A step that allocates nothing isn't refused for lack of
-    /// memory, and `ImageTooLarge` comes only from a save of an image that is too large.
-    fn step(&mut self, step: Step) -> Result<Outcome, Refusal>
-        requires own { IsTrue (is_own_step step) }
-        ensures follows { (w : World) → shows self.old w
-            → FollowsStep shows w (step_met (keeps self.old) step) result self.new }
-        ensures early { (w : World) → shows self.old w
-            → KeepsAfter w (keeps self.old) step result (keeps self.new) }
-        ensures memory_free { (w : World) → shows self.old w
-            → IsTrue (is_step_memory_free w (step_met (keeps self.old) step))
-            → IfErr result (λ e. e ≢ Memory) }
-        ensures too_large { (w : World) → shows self.old w
-            → IfErr result (λ e. e ≡ ImageTooLarge → MayBeTooLarge w step) };
-
-    /// Gives a node an event of its own: the step [`Step::Act`], but it returns just the node's
-    /// answer.
-    fn act(&mut self, node: u8, event: Event) -> Result<Answer, Refusal>
-        requires own { IsTrue (is_own event) }
-        ensures follows { (w : World) → shows self.old w
-            → FollowsStep shows w (step_met (keeps self.old) (steps.Act node event))
-            (outcome_by (λ a. outcome.Answer a) result) self.new }
-        ensures early { (w : World) → shows self.old w
-            → KeepsAfter w (keeps self.old) (steps.Act node event)
-            (outcome_by (λ a. outcome.Answer a) result) (keeps self.new) }
-        ensures memory_free { (w : World) → shows self.old w
-            → IsTrue (is_step_memory_free w (step_met (keeps self.old) (steps.Act node event)))
-            → IfErr result (λ e. e ≢ Memory) }
-        ensures small { IfErr result (λ e. e ≢ ImageTooLarge) };
-
-    /// The node of this number in numbers, if there is one.
-    fn state(&self, number: u8) -> Option<Summary>
-        ensures shown { (w : World) → shows self.now w → result ≡ summary_at w number };
-}
-
-impl Space for Sim {
-    ghost shows = { ShowsSpace };
-
-    ghost keeps = { λ n. n.early };
-
-    fn new(alloc: Global, shape: Shape) -> Result<Sim, Refusal> {
-        Sim::new(alloc, shape)
-    }
-
-    fn step(&mut self, step: Step) -> Result<Outcome, Refusal> {
-        Sim::step(self, step)
-    }
-
-    #[inline(always)]
-    fn act(&mut self, node: u8, event: Event) -> Result<Answer, Refusal> {
-        Sim::act(self, node, event)
-    }
-
-    fn state(&self, number: u8) -> Option<Summary> {
-        Sim::state(self, number)
-    }
-}
-
 /// The space of a script.
 #[derive(Drop)]
-enum State<S> {
+enum State {
     /// No line has asked for it yet.
     Unopened,
     /// It is there, with the numbers of objects that its sweeps freed.
-    Open { space: S, freed: Freed },
+    Open { space: Sim, freed: Freed },
     /// It was refused, and so is each step of it.
     Refused(Refusal),
 }
@@ -154,40 +79,20 @@ pub fn sim<W: Write>(
         PrintsUnread why status (W.contents out.old) (W.contents out.new))) }
     ensures small { IfOk result (λ status. status ≤ 2) }
 {
-    match script {
-        Ok(text) => run::<Sim, W>(alloc, text.as_str(), out),
-        Err(unread) => tell_unread(out, unread),
-    }
-}
-
-/// Runs a script, flushes the output, and returns the status.
-fn run<S: Space, W: Write>(alloc: Global, script: &str, out: &mut W) -> Result<u8, Lost>
-    ensures replies { IfOk result (λ status.
-        PrintsReplies script.now status (W.contents out.old) (W.contents out.new)) }
-    ensures small { IfOk result (λ status. status ≤ 2) }
-{
-    let status = run_lines::<S, W>(alloc, script, out)?;
-    flush(out)?;
-    Ok(status)
-}
-
-/// Prints why a script couldn't be read, flushes the output, and returns the status.
-fn tell_unread<W: Write>(out: &mut W, unread: &Unread) -> Result<u8, Lost>
-    ensures unread { IfOk result (λ status.
-        PrintsUnread unread.now status (W.contents out.old) (W.contents out.new)) }
-    ensures small { IfOk result (λ status. status ≤ 2) }
-{
-    let status = print_unread(out, unread)?;
+    let status = match script {
+        Ok(text) => run_lines(alloc, text.as_str(), out)?,
+        Err(unread) => print_unread(out, unread)?,
+    };
     flush(out)?;
     Ok(status)
 }
 
 /// Runs a script's lines, and returns the status. It fails if the output does.
-fn run_lines<S: Space, W: Write>(alloc: Global, script: &str, out: &mut W) -> Result<u8, Lost>
+fn run_lines<W: Write>(alloc: Global, script: &str, out: &mut W) -> Result<u8, Lost>
     ensures { IfOk result (λ status.
         PrintsReplies script.now status (W.contents out.old) (W.contents out.new)) }
 {
-    let mut state = State::<S>::Unopened;
+    let mut state = State::Unopened;
     let mut status = DONE;
     let mut said = Line::Blank;
     let mut printer = Printer::new();
@@ -217,16 +122,16 @@ fn run_lines<S: Space, W: Write>(alloc: Global, script: &str, out: &mut W) -> Re
 /// Does what the line of this number says, prints the reply, and returns the line's status. It
 /// fails if the output does. The line is read into a value that all lines share, because a new one
 /// would be zeroed first.
-fn run_line<S: Space, W: Write>(
+fn run_line<W: Write>(
     alloc: Global,
-    state: &mut State<S>,
+    state: &mut State,
     said: &mut Line,
     printer: &mut Printer,
     number: usize,
     text: &str,
     out: &mut W,
 ) -> Result<u8, Lost>
-    ensures { IfOk result (PrintsReply S.shows S.keeps
+    ensures { IfOk result (PrintsReply
         (λ h r later. TakesLine h (line_of (words_of text.now)) r later) number
         state.old state.new (W.contents out.old) (W.contents out.new)) }
 {
@@ -241,15 +146,15 @@ fn run_line<S: Space, W: Write>(
 
 /// Takes a step of the space, if a line has asked for a space, and prints the outcome. Most lines
 /// are steps and most steps are events, so their outcomes aren't moved into replies.
-fn run_step<S: Space, W: Write>(
-    state: &mut State<S>,
+fn run_step<W: Write>(
+    state: &mut State,
     printer: &mut Printer,
     number: usize,
     step: &Step,
     out: &mut W,
 ) -> Result<u8, Lost>
     requires { IsTrue (is_own_step step.now) }
-    ensures { IfOk result (PrintsReply S.shows S.keeps
+    ensures { IfOk result (PrintsReply
         (λ h r later. TakesStep h step.now r later) number
         state.old state.new (W.contents out.old) (W.contents out.new)) }
 {
@@ -265,8 +170,8 @@ fn run_step<S: Space, W: Write>(
 
 /// Gives a node an event, and prints the outcome.
 #[inline(always)]
-fn run_event<S: Space, W: Write>(
-    space: &mut S,
+fn run_event<W: Write>(
+    space: &mut Sim,
     freed: &mut Freed,
     printer: &mut Printer,
     node: u8,
@@ -274,7 +179,7 @@ fn run_event<S: Space, W: Write>(
     out: &mut W,
 ) -> Result<u8, Lost>
     requires { IsTrue (is_own event.now) }
-    ensures { (number : ℕ) → IfOk result (PrintsReply S.shows S.keeps
+    ensures { (number : ℕ) → IfOk result (PrintsReply
         (λ h r later. TakesStep h (steps.Act node event.now) r later) number
         (state.Open space.old freed.old) (state.Open space.new freed.new)
         (W.contents out.old) (W.contents out.new)) }
@@ -292,15 +197,15 @@ fn run_event<S: Space, W: Write>(
 /// Takes a step that isn't an event, and prints the outcome. (Not inlined, because an outcome is
 /// large.)
 #[inline(never)]
-fn run_move<S: Space, W: Write>(
-    space: &mut S,
+fn run_move<W: Write>(
+    space: &mut Sim,
     freed: &mut Freed,
     step: &Step,
     out: &mut W,
 ) -> Result<u8, Lost>
     requires own { IsTrue (is_own_step step.now) }
     requires other { (node : ℕ) (event : Event) → step.now ≢ steps.Act node event }
-    ensures { (number : ℕ) → IfOk result (PrintsReply S.shows S.keeps
+    ensures { (number : ℕ) → IfOk result (PrintsReply
         (λ h r later. TakesStep h step.now r later) number
         (state.Open space.old freed.old) (state.Open space.new freed.new)
         (W.contents out.old) (W.contents out.new)) }
@@ -314,15 +219,15 @@ fn run_move<S: Space, W: Write>(
 /// Does what a line says that isn't a step, as [`run_line`] does. (Not inlined there: a reply is
 /// large, and would be zeroed for each step.)
 #[inline(never)]
-fn run_other<S: Space, W: Write>(
+fn run_other<W: Write>(
     alloc: Global,
-    state: &mut State<S>,
+    state: &mut State,
     number: usize,
     said: &Line,
     out: &mut W,
 ) -> Result<u8, Lost>
     requires { (step : Step) → said.now ≢ line.Step step }
-    ensures { IfOk result (PrintsReply S.shows S.keeps
+    ensures { IfOk result (PrintsReply
         (λ h r later. TakesLine h (Some said.now) r later) number
         state.old state.new (W.contents out.old) (W.contents out.new)) }
 {
@@ -360,14 +265,8 @@ fn print_reply<W: Write>(out: &mut W, number: usize, reply: &Reply) -> Result<u8
 
 /// Creates the space of these sizes, if no line asked for one before and they are within the
 /// limits.
-fn take_space<S: Space>(
-    alloc: Global,
-    state: &mut State<S>,
-    nodes: u8,
-    registers: u16,
-    slots: u32,
-) -> Reply
-    ensures { Moves S.shows S.keeps
+fn take_space(alloc: Global, state: &mut State, nodes: u8, registers: u16, slots: u32) -> Reply
+    ensures { Moves
         (λ h later. TakesLine h (Some (line.Space nodes registers slots)) result later)
         state.old state.new }
 {
@@ -378,14 +277,14 @@ fn take_space<S: Space>(
 }
 
 /// Creates the space, if no line asked for one before.
-fn open<S: Space>(alloc: Global, state: &mut State<S>, shape: Shape) -> Reply
-    ensures { Moves S.shows S.keeps
+fn open(alloc: Global, state: &mut State, shape: Shape) -> Reply
+    ensures { Moves
         (λ h later. TakesSpace h shape result later) state.old state.new }
 {
     let State::Unopened = state else {
         return Reply::NoCommand;
     };
-    match S::new(alloc, shape) {
+    match Sim::new(alloc, shape) {
         Ok(space) => {
             let freed = Freed::new(alloc);
             *state = State::Open { space, freed };
@@ -399,8 +298,8 @@ fn open<S: Space>(alloc: Global, state: &mut State<S>, shape: Shape) -> Reply
 }
 
 /// Adds what a sweep of this node freed to the sum of the node's cycle.
-fn note<S: Space>(space: &S, freed: &mut Freed, swept: Option<u8>, count: Option<u32>)
-    ensures { (w : World) (sums : List ℕ) → S.shows space.now w → KeepsSums freed.old.sums sums
+fn note(space: &Sim, freed: &mut Freed, swept: Option<u8>, count: Option<u32>)
+    ensures { (w : World) (sums : List ℕ) → ShowsSpace space.now w → KeepsSums freed.old.sums sums
         → KeepsSums freed.new.sums (freed_with w swept count sums) }
 {
     let (Some(node), Some(count)) = (swept, count) else {
@@ -413,8 +312,8 @@ fn note<S: Space>(space: &S, freed: &mut Freed, swept: Option<u8>, count: Option
 
 /// Looks at a node, if a line has asked for a space. `NoNode` if the space has no node of that
 /// number.
-fn show_state<S: Space>(state: &State<S>, node: u8) -> Reply
-    ensures { Moves S.shows S.keeps
+fn show_state(state: &State, node: u8) -> Reply
+    ensures { Moves
         (λ h later. TakesState h node result later) state.now state.now }
 {
     match state {
@@ -429,8 +328,8 @@ fn show_state<S: Space>(state: &State<S>, node: u8) -> Reply
 
 /// Reports what the sweeps freed, if a line has asked for a space. `Memory` if that isn't known or
 /// there is no room to report it, but never before the first sweep.
-fn report<S: Space>(alloc: Global, state: &State<S>) -> Reply
-    ensures { Moves S.shows S.keeps
+fn report(alloc: Global, state: &State) -> Reply
+    ensures { Moves
         (λ h later. TakesReport h result later) state.now state.now }
 {
     match state {

@@ -31,9 +31,13 @@ module _ {S : Type 0} (bytes : S → List ℕ) (opening : World) where
   Seats views left right id = set views id left ++ right ∷ []
 
   -- the dealer becomes `left`, and the new seat is `right`
-  record Deal (s : State S Known) (h : Holds bytes opening s) (id : ℕ)
-      (v left right : Known) : Type 0
-    where
+  record Deal : Type 0 where
+      pub s : State S Known
+      pub h : Holds bytes opening s
+      pub id : ℕ
+      pub v : Known
+      pub left : Known
+      pub right : Known
       pub at : get_elem? s.views id ≡ some v
       pub was : v.role ≡ dealer
       pub role : left.role ≡ dealer
@@ -67,10 +71,21 @@ module _ {S : Type 0} (bytes : S → List ℕ) (opening : World) where
       subst (SeatOk opening h.log (slice_index s.words (n * n + 1)) s.views h.mail id v) role
       (h.each_seat id v at)
 
-  module _ (s : State S Known) (h : Holds bytes opening s) (id : ℕ) (v left right : Known)
-      (t : Deal s h id v left right) where
-    views : List Known
-    views = Seats s.views left right id
+  module _ (t : Deal) where
+    abbrev s : State S Known
+    s = t.s
+
+    abbrev h : Holds bytes opening s
+    h = t.h
+
+    abbrev id : ℕ
+    id = t.id
+
+    abbrev left : Known
+    left = t.left
+
+    abbrev right : Known
+    right = t.right
 
     not-node : {r : Role} → r ≡ dealer → r ≢ node
     not-node e f = let never : ◌≡◌ {A = Role} dealer node = sym e ∙ f in absurd cc
@@ -93,7 +108,9 @@ module _ {S : Type 0} (bytes : S → List ℕ) (opening : World) where
         (λ is.
         not-node t.was
         (ap (λ (x : Known). x.role)
-        (some-injective v u (sym t.at ∙ subst (λ (k : ℕ). get_elem? s.views k ≡ some u) is e)) ∙ r))
+        (some-injective t.v u
+        (sym t.at ∙ subst (λ (k : ℕ). get_elem? s.views k ≡ some u) is e))
+        ∙ r))
         ∙ e)
 
     content-kept : (m : ℕ) (b : Box) → Content bytes n (run opening h.log) s.homes s.views m b
@@ -109,7 +126,7 @@ module _ {S : Type 0} (bytes : S → List ℕ) (opening : World) where
         → SeatOk opening h.log (slice_index s.words (n * n + 1)) (Seats s.views left right id)
         h.mail j u r
     seat-kept j u apart e dealer is ok =
-        absurd (apart ((dealer-of s h id v t.at t.was).alone j u e is))
+        absurd (apart ((dealer-of s h id t.v t.at t.was).alone j u e is))
     seat-kept j u apart e node is ok = ok
     seat-kept j u apart e watch is ok = ok
 
@@ -205,7 +222,13 @@ module _ {S : Type 0} (bytes : S → List ℕ) (opening : World) where
   next_splits id v role below s h at =
       let ok = dealer-of s h id v at role in
       let rest = ok.still v.me (omega arith) in
-      dealt s h id v (dealer_after v) (next_node v) (record {
+      dealt (record {
+        s = s;
+        h = h;
+        id = id;
+        v = v;
+        left = dealer_after v;
+        right = next_node v;
         at = at;
         was = role;
         role = role;
@@ -264,21 +287,33 @@ module _ {S : Type 0} (bytes : S → List ℕ) (opening : World) where
 
   -- ---- One more seat that may only be read
 
-  module _ (s : State S Known) (h : Holds bytes opening s) (w : Known) (is : w.role ≡ watch)
-      (ok : WatchOk opening (slice_index s.words (n * n + 1)) w)
-      (seen : Continues w.seen h.log) where
-    abbrev more : List Known
-    more = s.views ++ w ∷ []
+  record OneMore : Type 0 where
+    pub state : State S Known
+    pub holds : Holds bytes opening state
+    pub seat : Known
+    pub is : seat.role ≡ watch
+    pub ok : WatchOk opening (slice_index state.words (n * n + 1)) seat
+    pub seen : Continues seat.seen holds.log
+
+  module _ (t : OneMore) where
+    abbrev st : State S Known
+    st = t.state
+
+    abbrev ok : Holds bytes opening st
+    ok = t.holds
+
+    abbrev w : Known
+    w = t.seat
 
     -- a seat of another role is one from before
-    before : {r : Role} (k : ℕ) (u : Known) → get_elem? (s.views ++ w ∷ []) k ≡ some u → u.role ≡ r
-        → r ≢ watch → get_elem? s.views k ≡ some u
+    before : {r : Role} (k : ℕ) (u : Known) → get_elem? (st.views ++ w ∷ []) k ≡ some u → u.role ≡ r
+        → r ≢ watch → get_elem? st.views k ≡ some u
     before k u e role other =
         ⊎_elim
         (λ was. was)
         (λ (last : w ≡ u).
-        absurd (other (sym role ∙ ap (λ (x : Known). x.role) (sym last) ∙ is)))
-        (at_snoc s.views w u k e)
+        absurd (other (sym role ∙ ap (λ (x : Known). x.role) (sym last) ∙ t.is)))
+        (at_snoc st.views w u k e)
 
     no-watch : node ≢ watch
     no-watch e = let never : ◌≡◌ {A = Role} node watch = e in absurd cc
@@ -286,22 +321,23 @@ module _ {S : Type 0} (bytes : S → List ℕ) (opening : World) where
     dealer-watch : dealer ≢ watch
     dealer-watch e = let never : ◌≡◌ {A = Role} dealer watch = e in absurd cc
 
-    still-has : {i : ℕ} → HasSeat s.views i → HasSeat (s.views ++ w ∷ []) i
+    still-has : {i : ℕ} → HasSeat st.views i → HasSeat (st.views ++ w ∷ []) i
     still-has seat =
-        (seat.0, seat.1, at_longer s.views (w ∷ []) seat.0 seat.1 seat.2, seat.3, seat.4)
+        (seat.0, seat.1, at_longer st.views (w ∷ []) seat.0 seat.1 seat.2, seat.3, seat.4)
 
-    content-still : (m : ℕ) (b : Box) → Content bytes n (run opening h.log) s.homes s.views m b
-        → Content bytes n (run opening h.log) s.homes (s.views ++ w ∷ []) m b
+    content-still : (m : ℕ) (b : Box) → Content bytes n (run opening ok.log) st.homes st.views m b
+        → Content bytes n (run opening ok.log) st.homes (st.views ++ w ∷ []) m b
     content-still m empty c = c
     content-still m (full f) c = c
     content-still m (filling_by j) c =
-        (c.0, at_longer s.views (w ∷ []) j c.0 c.1, c.2, c.3, c.4)
+        (c.0, at_longer st.views (w ∷ []) j c.0 c.1, c.2, c.3, c.4)
     content-still m (emptying_by j f) c =
-        (c.0, at_longer s.views (w ∷ []) j c.0 c.1, c.2, c.3, c.4)
+        (c.0, at_longer st.views (w ∷ []) j c.0 c.1, c.2, c.3, c.4)
 
     seat-still : (j : ℕ) (u : Known) (r : Role)
-        → SeatOk opening h.log (slice_index s.words (n * n + 1)) s.views h.mail j u r
-        → SeatOk opening h.log (slice_index s.words (n * n + 1)) (s.views ++ w ∷ []) h.mail j u r
+        → SeatOk opening ok.log (slice_index st.words (n * n + 1)) st.views ok.mail j u r
+        → SeatOk opening ok.log (slice_index st.words (n * n + 1)) (st.views ++ w ∷ []) ok.mail j u
+        r
     seat-still j u dealer good = record {
       nodes_is = good.nodes_is;
       opening_is = good.opening_is;
@@ -316,57 +352,66 @@ module _ {S : Type 0} (bytes : S → List ℕ) (opening : World) where
     seat-still j u watch good = good
 
     watched : Holds bytes opening
-        (record { words = s.words; homes = s.homes; views = s.views ++ w ∷ [] })
+        (record { words = st.words; homes = st.homes; views = st.views ++ w ∷ [] })
     watched = record {
-      log = h.log;
-      mail = h.mail;
-      in_order = h.in_order;
-      visits = h.visits;
-      visitors = λ m below k x e. still-has (h.visitors m below k x e);
-      opens = h.opens;
-      wide = h.wide;
-      slots = h.slots;
-      events = h.events;
-      count = h.count;
-      board = h.board;
-      fits = h.fits;
+      log = ok.log;
+      mail = ok.mail;
+      in_order = ok.in_order;
+      visits = ok.visits;
+      visitors = λ m below k x e. still-has (ok.visitors m below k x e);
+      opens = ok.opens;
+      wide = ok.wide;
+      slots = ok.slots;
+      events = ok.events;
+      count = ok.count;
+      board = ok.board;
+      fits = ok.fits;
       each_box = λ m below. (
-          let b = h.each_box m below in
-          record { shows = b.shows; content = content-still m (h.mail.boxes m) b.content }
+          let b = ok.each_box m below in
+          record { shows = b.shows; content = content-still m (ok.mail.boxes m) b.content }
           );
       each_seat = λ j u e. ⊎_elim
-          (λ was. seat-still j u u.role (h.each_seat j u was))
+          (λ was. seat-still j u u.role (ok.each_seat j u was))
           (λ (last : w ≡ u).
-          subst (λ (x : Known). SeatOk opening h.log (slice_index s.words (n * n + 1))
-          (s.views ++ w ∷ []) h.mail j x x.role) last
-          (subst (SeatOk opening h.log (slice_index s.words (n * n + 1)) (s.views ++ w ∷ []) h.mail
-          j w) (sym is) ok))
-          (at_snoc s.views w u j e);
+          subst (λ (x : Known). SeatOk opening ok.log (slice_index st.words (n * n + 1))
+          (st.views ++ w ∷ []) ok.mail j x x.role) last
+          (subst (SeatOk opening ok.log (slice_index st.words (n * n + 1)) (st.views ++ w ∷ [])
+          ok.mail j w) (sym t.is) t.ok))
+          (at_snoc st.views w u j e);
       learned = λ j u e. ⊎_elim
-          (λ was. h.learned j u was)
-          (λ (last : w ≡ u). subst (λ (x : Known). Continues x.seen h.log) last seen)
-          (at_snoc s.views w u j e);
+          (λ was. ok.learned j u was)
+          (λ (last : w ≡ u). subst (λ (x : Known). Continues x.seen ok.log) last t.seen)
+          (at_snoc st.views w u j e);
       one = λ j k x u ex eu rx ru.
-          h.one j k x u (before j x ex rx no-watch) (before k u eu ru no-watch) rx ru;
+          ok.one j k x u (before j x ex rx no-watch) (before k u eu ru no-watch) rx ru;
     }
 
-  watch-after : (s : State S Known) (h : Holds bytes opening s) (id : ℕ) (v w : Known)
-      → get_elem? s.views id ≡ some v → w.role ≡ watch
-      → WatchOk opening (slice_index s.words (n * n + 1)) w → Continues w.seen h.log
-      → Holds bytes opening
-      (record { words = s.words; homes = s.homes; views = Seats s.views v w id })
-  watch-after s h id v w at is ok seen =
+  watch-after : (t : OneMore) (id : ℕ) (v : Known) → get_elem? t.state.views id ≡ some v
+      → Holds bytes opening (record {
+        words = t.state.words;
+        homes = t.state.homes;
+        views = Seats t.state.views v t.seat id;
+      })
+  watch-after t id v at =
       subst
       (λ (vs : List Known). Holds bytes opening
-      (record { words = s.words; homes = s.homes; views = vs ++ w ∷ [] }))
-      (sym (set_again s.views id v at)) (watched s h w is ok seen)
+      (record { words = t.state.words; homes = t.state.homes; views = vs ++ t.seat ∷ [] }))
+      (sym (set_again t.state.views id v at)) (watched t)
 
   pub watch_splits : (id : ℕ) (v : Known) → v.role ≡ dealer
       → Splits (Holds bytes opening) id v v (next_watch v)
   watch_splits id v role s h at =
       let ok = dealer-of s h id v at role in
-      watch-after s h id v (next_watch v) at refl
-      (record { opening_is = ok.opening_is; loaded = zero-le }) (h.log, refl)
+      watch-after
+      (record {
+        state = s;
+        holds = h;
+        seat = next_watch v;
+        is = refl;
+        ok = record { opening_is = ok.opening_is; loaded = zero-le };
+        seen = (h.log, refl);
+      })
+      id v at
 
   -- a node's seat makes a note
   pub note_splits : (id : ℕ) (v : Known) → v.role ≡ node
@@ -374,8 +419,16 @@ module _ {S : Type 0} (bytes : S → List ℕ) (opening : World) where
   note_splits id v role s h at =
       let ok = node-of bytes opening
       (record { state = s; holds = h; id = id; view = v; at = at }) role in
-      watch-after s h id v (note_of v) at refl
-      (record { opening_is = ok.opening_is; loaded = zero-le }) (h.learned id v at)
+      watch-after
+      (record {
+        state = s;
+        holds = h;
+        seat = note_of v;
+        is = refl;
+        ok = record { opening_is = ok.opening_is; loaded = zero-le };
+        seen = h.learned id v at;
+      })
+      id v at
 
   first-at : (v u : Known) (j : ℕ) → get_elem? (v ∷ []) j ≡ some u → (j ≡ 0) × (v ≡ u)
   first-at v u zero e = (refl, some-injective v u e)

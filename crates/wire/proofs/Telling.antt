@@ -108,8 +108,38 @@ last-one m before after e [] place first h g = (g.2 ∙ h, g.3)
 last-one m before after e (x ∷ xs) place first h g =
     last-one m before after e xs (suc place) x.left h.3 g.3
 
-module _ {S : Type 0} (bytes : S → List ℕ) (opening : World) (s t : State S Known)
-    (box place found left : ℕ) (h : Tells bytes opening s t box place found left) where
+-- a seat's step on a mailbox, between two states of the wire
+record Telling {S : Type 0} (bytes : S → List ℕ) (opening : World) : Type 0 where
+  pub s : State S Known
+  pub t : State S Known
+  pub box : ℕ
+  pub place : ℕ
+  pub found : ℕ
+  pub left : ℕ
+  pub tells : Tells bytes opening s t box place found left
+
+module _ {S : Type 0} (bytes : S → List ℕ) (opening : World) (it : Telling bytes opening) where
+  abbrev s : State S Known
+  s = it.s
+
+  abbrev t : State S Known
+  t = it.t
+
+  abbrev box : ℕ
+  box = it.box
+
+  abbrev place : ℕ
+  place = it.place
+
+  abbrev found : ℕ
+  found = it.found
+
+  abbrev left : ℕ
+  left = it.left
+
+  abbrev h : Tells bytes opening s t box place found left
+  h = it.tells
+
   abbrev last : Visit
   last = visit box place found left h.old
 
@@ -231,13 +261,21 @@ module _ {S : Type 0} (bytes : S → List ℕ) (opening : World) (s t : State S 
 
   told : (found ≡ slice_index s.words box) × (left ≡ slice_index t.words box)
   told =
-      let it = last-one box _ _ last olds 0 0 (h.before.visits box h.inside)
+      let ends = last-one box _ _ last olds 0 0 (h.before.visits box h.inside)
       (subst (AreVisits box (face (h.after.mail.boxes box)) 0 0) one-more
       (h.after.visits box h.inside)) in (
-        it.0 ∙ sym (h.before.each_box box h.inside).shows,
-        it.1 ∙ sym (h.after.each_box box h.inside).shows,
+        ends.0 ∙ sym (h.before.each_box box h.inside).shows,
+        ends.1 ∙ sym (h.after.each_box box h.inside).shows,
       )
 
 pub visits-true : {S : Type 0} (bytes : S → List ℕ) → VisitsAreTrue bytes
 visits-true bytes opening s t box place found left h =
-    told bytes opening s t box place found left h
+    told bytes opening (record {
+      s = s;
+      t = t;
+      box = box;
+      place = place;
+      found = found;
+      left = left;
+      tells = h;
+    })

@@ -1,12 +1,12 @@
 -- The messages that the nodes of a space keep were released; this is so after each step.
 use Rattle.std.proofs.Common.{◌≡◌, ◌≢◌, ℕ, ◌-◌, ◌<◌, ◌≤◌, ◌==◌, ltb, ap₂, true, List, [], ◌∷◌, length, get_or, set, Option, Some, None, Result, Ok, Err, refl, ap, sym, ◌∙◌, subst, ⊎_elim, arith}
-use Rattle.std.specs.Prelude.{IfOk, OnErr, OnOk, slice_get}
+use Rattle.std.specs.Prelude.{IfErr, IfOk, OnErr, OnOk, slice_get}
 use Rattle.std.proofs.lemmas.Bool.{cases_lt, cond_both}
 use Rattle.std.proofs.lemmas.List.{length-set, length-map, get_or_read, get_or_past, set-get_or, set_past, map-set}
 use Rattle.std.proofs.Math.ListN.{get_or-map}
 use Rattle.ids.specs.Limits.{Shaped}
 use Rattle.ids.specs.declared.refusal.Refusal.{Refusal}
-use Rattle.ids.specs.declared.refusal.Refusal.TheVariants.{NoNode}
+use Rattle.ids.specs.declared.refusal.Refusal.TheVariants.{ImageTooLarge, NoNode}
 use Rattle.msg.specs.Frames.{plain_data}
 use Rattle.msg.specs.Grammar.{Plain, Fits, spelling, data_frame}
 use Rattle.msg.specs.declared.body.Message.{Message}
@@ -32,8 +32,9 @@ use Rattle.laws.proofs.Net.{released-grows}
 use Rattle.node.specs.Keeping.{OfAll, Rings, early_after, no_rings, next_event, next_step, met, waiting}
 use Rattle.site.specs.Sites.{SiteView, KeepingSite, Acted, ActedKeeping, Saves, restarted}
 use Rattle.world.specs.Shows.{ShowsWorld, Stepped, Given, IsAckOf, IsSim, IsPlaced, frame_at, no_site, site_at}
-use Rattle.world.specs.Spaces.{SpaceView, GivenSpace, IsOfNet, KeepsAfter, ShowsSpace, SteppedSpace, early_of, given_early, kept_at, keeping_at, outcome_by, site_of, space_of, step_met}
+use Rattle.world.specs.Spaces.{SpaceView, FollowsSpace, GivenSpace, IsOfNet, KeepsAfter, ShowsSpace, SteppedSpace, early_of, given_early, kept_at, keeping_at, outcome_by, site_of, space_of, step_met}
 use Rattle.node.proofs.Kept.{of-none, after-all}
+use Rattle.world.proofs.Runs.{extends_space}
 use Rattle.world.proofs.Shows.{Changes}
 use Rattle.world.proofs.Steps.{Gives, acted, given-follows, given-free, given-lets-go, given-small, given-unchanged, no-node}
 use Rattle.world.proofs.Acks.{hands}
@@ -92,20 +93,23 @@ KeepsSo n m s r = (w : World) → ShowsSpace n w → KeepsAfter w n.early s r m.
 -- a step of the sites is one of the space
 pub lifted : {n m : SpaceView} {s : Step} {r : Result Outcome Refusal} → step_met n.early s ≡ s
     → KeepsNet n m → KeepsSo n m s r → Stepped r n.sites m.sites s → SteppedSpace r n m s
-lifted {n = n} {m = m} {s = s} {r = r} is keeps early h = record {
-  follows = λ w shown.
-      let kept = keeps w shown in
-      subst (λ (z : Step). FollowsStep ShowsSpace w z r m) (sym is)
-      (follows-space m s r shown kept.0 kept.1 (h.follows w shown.world));
-  too_large = h.too_large;
-  unchanged = h.unchanged;
-  early = early;
-  turn = λ other. absurd (other is);
-  lets_go = h.lets_go;
-  memory_free = λ w shown free.
-      h.memory_free w shown.world
-      (subst (λ (z : Step). is_step_memory_free w z ≡ true) is free);
-}
+lifted {n = n} {m = m} {s = s} {r = r} is keeps early h =
+    let follows : FollowsSpace r n m s = λ w shown.
+    let kept = keeps w shown in
+    subst (λ (z : Step). FollowsStep ShowsSpace w z r m) (sym is)
+    (follows-space m s r shown kept.0 kept.1 (h.follows w shown.world)) in
+    record {
+      follows = follows;
+      runs = extends_space r n m s follows;
+      too_large = h.too_large;
+      unchanged = h.unchanged;
+      early = early;
+      turn = λ other. absurd (other is);
+      lets_go = h.lets_go;
+      memory_free = λ w shown free.
+          h.memory_free w shown.world
+          (subst (λ (z : Step). is_step_memory_free w z ≡ true) is free);
+    }
 
 -- ---- one site changes
 
@@ -365,13 +369,15 @@ waiting-taken : {n m : SpaceView} {i : ℕ} {r : Result Answer Refusal} (from : 
 waiting-taken {n = n} {m = m} {i = i} {r = r} from d waits h keeps early received =
     let is : step.Deliver from i d.number ≡ step_met n.early (step.Act i (event.Next from)) =
     sym (ap (next_step i from) waits) in
+    let taken : Result Outcome Refusal = outcome_by outcome.Answer r in
+    let follows : FollowsSpace taken n m (step.Act i (event.Next from)) = λ w shown.
+    let kept = keeps w shown in
+    subst (λ (z : Step). FollowsStep ShowsSpace w z taken m) is
+    (follows-space m (step.Deliver from i d.number) taken shown kept.0 kept.1
+    (given-follows r h shown.world (waiting-gives shown h.within waits))) in
     record {
-      follows = λ w shown.
-          let kept = keeps w shown in
-          subst (λ (z : Step). FollowsStep ShowsSpace w z (outcome_by outcome.Answer r) m) is
-          (follows-space m (step.Deliver from i d.number) (outcome_by outcome.Answer r) shown
-          kept.0 kept.1
-          (given-follows r h shown.world (waiting-gives shown h.within waits)));
+      follows = follows;
+      runs = extends_space taken n m (step.Act i (event.Next from)) follows;
       too_large = (λ large. absurd (given-small outcome.Answer r h large), λ saves. absurd saves);
       unchanged = given-unchanged outcome.Answer r h;
       early = early;
@@ -404,6 +410,13 @@ acted-space {n = n} {i = i} {r = r} (event.Next from) h own =
 acted-space {r = r} e h own =
     lifted refl (keeps-given h (λ w shown d is. absurd cc)) (early-acted r h)
     (acted (sites-given h) own)
+
+-- an event never makes an image too large
+pub acted-small : {n m : SpaceView} {i : ℕ} {e : Event} (r : Result Answer Refusal)
+    → SteppedSpace (outcome_by outcome.Answer r) n m (step.Act i e)
+    → IfErr r (λ f. f ≢ ImageTooLarge)
+acted-small (Ok a) h = tt
+acted-small (Err f) h = λ is. h.too_large.0 (ap (λ (z : Refusal). Err z) is)
 
 -- the acknowledgement that is handed over
 pub handed-space : {n m : SpaceView} {from to : ℕ} {a : Ack} {r : Result Answer Refusal}

@@ -3,9 +3,9 @@ pub mod Shows
 pub mod Steps
 pub mod Deliveries
 pub mod Acks
+pub mod Runs
 pub mod Held
 pub mod New
-pub mod Runs
 pub mod Answers
 pub mod Plays
 pub mod Moves

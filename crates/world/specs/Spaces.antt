@@ -109,11 +109,20 @@ abbrev pub FollowsSpace : Result Outcome Refusal → SpaceView → SpaceView →
 FollowsSpace result old new s =
     (w : World) → ShowsSpace old w → FollowsStep ShowsSpace w (step_met old.early s) result new
 
+-- Steps one after another are a run of the definitions, without those that fail with `Memory` or
+-- `ImageTooLarge`.
+abbrev pub ExtendsSpace : Result Outcome Refusal → SpaceView → SpaceView → Step → Type 0
+ExtendsSpace result old new s =
+    (shape : Shaped) (steps : List Step) → ShowsSpace old (run (new_world shape) steps)
+    → result ≢ Err Memory → result ≢ Err ImageTooLarge
+    → ShowsSpace new (run (new_world shape) (steps ++ step_met old.early s ∷ []))
+
 -- The result of a step, and the space after it. A refusal leaves every site as it was, but an early
 -- frame may have left its place.
 pub record SteppedSpace (result : Result Outcome Refusal) (old new : SpaceView) (s : Step)
     : Type 0 where
   pub follows : FollowsSpace result old new s
+  pub runs : ExtendsSpace result old new s
   pub too_large : result ≡ Err ImageTooLarge ↔ SavesTooLarge old.sites s
   pub unchanged : OnErr result (new.sites ≡ old.sites)
   pub early : (w : World) → ShowsSpace old w → KeepsAfter w old.early s result new.early
@@ -122,11 +131,3 @@ pub record SteppedSpace (result : Result Outcome Refusal) (old new : SpaceView) 
   pub memory_free : (w : World) → ShowsSpace old w
       → IsTrue (is_step_memory_free w (step_met old.early s))
       → IfErr result (λ e. e ≢ Memory)
-
--- Steps one after another are a run of the definitions, without those that fail with `Memory` or
--- `ImageTooLarge`.
-abbrev pub ExtendsSpace : Result Outcome Refusal → SpaceView → SpaceView → Step → Type 0
-ExtendsSpace result old new s =
-    (shape : Shaped) (steps : List Step) → ShowsSpace old (run (new_world shape) steps)
-    → result ≢ Err Memory → result ≢ Err ImageTooLarge
-    → ShowsSpace new (run (new_world shape) (steps ++ step_met old.early s ∷ []))

@@ -1,34 +1,26 @@
 //! A space in one thread. It looks up the nodes that a step names, and leaves the work on one node
 //! to its `Site`.
-ghost use Rattle.std.specs.Prelude.{◌≡◌, ◌<◌, length, slice_get, Err, IsTrue, IfOk, IfErr, OnOk, OnErr, ◌≢◌, ◌↔◌, replicate};
+ghost use Rattle.std.specs.Prelude.{◌≡◌, ◌<◌, length, slice_get, IsTrue, IfOk, IfErr, ◌≢◌, replicate};
 ghost use Rattle.std.specs.Option.{option_copied, option_map};
 ghost use Rattle.ids.specs.declared.refusal.Refusal.TheVariants.{Memory, ImageTooLarge};
 ghost use Rattle.model.specs.Steps.{is_own};
 ghost use Rattle.node.specs.Keeping.{no_rings};
 ghost use Rattle.node.specs.Summaries.{summary_of};
-ghost use Rattle.model.specs.World.{World, new_world, is_own_step, is_step_memory_free};
-ghost use Rattle.model.specs.declared.event.Answer.TheVariants as answer;
+ghost use Rattle.model.specs.World.{World, new_world, is_own_step};
 ghost use Rattle.model.specs.declared.step.Outcome.TheVariants as outcome;
 ghost use Rattle.model.specs.declared.step.Step.TheVariants as step;
 ghost use Rattle.world.specs.Shows.{
   ShowsWorld,
-  SavesTooLarge,
   IsAckOf,
-  bases_of,
-  bases_after,
   frame_at,
   site_at,
   summary_at,
 };
 ghost use Rattle.world.specs.Spaces.{
   ShowsSpace,
-  FollowsSpace,
   SteppedSpace,
-  ExtendsSpace,
   GivenSpace,
-  KeepsAfter,
   outcome_by,
-  step_met,
 };
 
 use control::Phases;
@@ -101,50 +93,6 @@ impl Sim {
     #[inline(always)]
     pub fn step(&mut self, step: Step) -> Result<Outcome, Refusal>
         requires own { IsTrue (is_own_step step) }
-        ensures follows { FollowsSpace result self.old self.new step }
-        ensures runs { ExtendsSpace result self.old self.new step }
-        ensures lets_go { IfOk result (λ o.
-            bases_of self.new.sites ≡ bases_after (bases_of self.old.sites) step o) }
-        ensures too_large { result ≡ Err ImageTooLarge ↔ SavesTooLarge self.old.sites step }
-        ensures unchanged { OnErr result (self.new.sites ≡ self.old.sites) }
-        ensures early { (w : World) → ShowsSpace self.old w
-            → KeepsAfter w self.old.early step result self.new.early }
-        ensures turn { step_met self.old.early step ≢ step
-            → IfOk result (λ o. o ≡ outcome.Answer answer.Received) }
-        ensures memory_free { (w : World) → ShowsSpace self.old w
-            → IsTrue (is_step_memory_free w (step_met self.old.early step))
-            → IfErr result (λ e. e ≢ Memory) }
-    {
-        self.take(step)
-    }
-
-    /// Gives a node an event that comes from no other node. This is the step [`Step::Act`], as
-    /// [`Sim::step`] takes it, except that only the node's answer is returned.
-    #[inline(always)]
-    pub fn act(&mut self, node: u8, event: Event) -> Result<Answer, Refusal>
-        requires own { IsTrue (is_own event) }
-        ensures follows { FollowsSpace (outcome_by (λ a. outcome.Answer a) result) self.old self.new
-            (step.Act node event) }
-        ensures runs { ExtendsSpace (outcome_by (λ a. outcome.Answer a) result) self.old self.new
-            (step.Act node event) }
-        ensures lets_go { OnOk result (bases_of self.new.sites ≡ bases_of self.old.sites) }
-        ensures unchanged { OnErr result (self.new.sites ≡ self.old.sites) }
-        ensures turn { step_met self.old.early (step.Act node event) ≢ step.Act node event
-            → IfOk result (λ a. a ≡ answer.Received) }
-        ensures early { (w : World) → ShowsSpace self.old w
-            → KeepsAfter w self.old.early (step.Act node event)
-            (outcome_by (λ a. outcome.Answer a) result) self.new.early }
-        ensures small { IfErr result (λ e. e ≢ ImageTooLarge) }
-        ensures memory_free { (w : World) → ShowsSpace self.old w
-            → IsTrue (is_step_memory_free w (step_met self.old.early (step.Act node event)))
-            → IfErr result (λ e. e ≢ Memory) }
-    {
-        self.answer(node, event)
-    }
-
-    #[inline(always)]
-    fn take(&mut self, step: Step) -> Result<Outcome, Refusal>
-        requires own { IsTrue (is_own_step step) }
         ensures { SteppedSpace result self.old self.new step }
     {
         match step {
@@ -154,6 +102,21 @@ impl Sim {
             Step::Deliver { from, to, number } => self.deliver(from, to, number),
             Step::Hand { from, to } => self.hand(from, to),
         }
+    }
+
+    /// Gives a node an event that comes from no other node. This is the step [`Step::Act`], as
+    /// [`Sim::step`] takes it, except that only the node's answer is returned.
+    #[inline(always)]
+    pub fn act(&mut self, node: u8, event: Event) -> Result<Answer, Refusal>
+        requires own { IsTrue (is_own event) }
+        ensures stepped { SteppedSpace (outcome_by (λ a. outcome.Answer a) result) self.old self.new
+            (step.Act node event) }
+        ensures small { IfErr result (λ e. e ≢ ImageTooLarge) }
+    {
+        if node >= self.count() {
+            return Err(Refusal::NoNode);
+        }
+        self.give(node, event)
     }
 
     /// The current node of this number, if there is one.
@@ -200,25 +163,13 @@ impl Sim {
         self.sites.len() as u8
     }
 
-    #[inline(always)]
-    fn answer(&mut self, node: u8, event: Event) -> Result<Answer, Refusal>
-        requires own { IsTrue (is_own event) }
-        ensures { SteppedSpace (outcome_by (λ a. outcome.Answer a) result) self.old self.new
-            (step.Act node event) }
-    {
-        if node >= self.count() {
-            return Err(Refusal::NoNode);
-        }
-        self.give(node, event)
-    }
-
     // Kept out of `step`, so that the other steps, which need little, don't pay for this one.
     #[inline(never)]
     fn act_step(&mut self, node: u8, event: Event) -> Result<Outcome, Refusal>
         requires own { IsTrue (is_own event) }
         ensures { SteppedSpace result self.old self.new (step.Act node event) }
     {
-        match self.answer(node, event) {
+        match self.act(node, event) {
             Ok(answer) => Ok(Outcome::Answer(answer)),
             Err(refusal) => Err(refusal),
         }

@@ -4,9 +4,7 @@ use Rattle.commands.proofs.Replies.{made_shows}
 use Rattle.commands.proofs.script.open.Goals as goal
 
 pub returns-in-Ok : goal.returns-in-Ok
-returns-in-Ok g c =
-    let shows = g.S.Space.shows in
-    let keeps = g.S.Space.keeps in
-    λ h shown. made_shows shows keeps h c.args.shape c.in-Ok.space c.new-freed.result
-    (subst (λ s. ShowsHeld shows keeps s h) c.in-Unopened.is shown) c.in-Ok.ensures.made
+returns-in-Ok c =
+    λ h shown. made_shows h c.args.shape c.in-Ok.space c.new-freed.result
+    (subst (λ s. ShowsHeld s h) c.in-Unopened.is shown) c.in-Ok.ensures.made
     c.in-Ok.ensures.early c.new-freed.ensures

@@ -8,15 +8,14 @@ use Rattle.commands.proofs.script.run_event.Goals as goal
 
 pub returns-in-Ok : goal.returns-in-Ok
 returns-in-Ok g c number =
-    let shows = g.S.Space.shows in
-    let keeps = g.S.Space.keeps in
     let o = outcome.Answer c.in-Ok.answer in
     printed_as c.print_answer.result c.print_answer.ensures.text c.print_answer.ensures.status
     (λ text status zero. record {
       reply = reply.Outcome o;
-      answers = λ h shown. outcome_shows shows keeps h (step.Act c.args.node c.args.event.now)
-          c.args.space.now _ c.args.freed.now _ o shown (rw c.in-Ok.is at c.act.ensures.follows)
-          (rw c.in-Ok.is at c.act.ensures.early)
+      answers = λ h shown. outcome_shows h (step.Act c.args.node c.args.event.now)
+          c.args.space.now _ c.args.freed.now _ o shown
+          (rw c.in-Ok.is at c.act.ensures.stepped.follows)
+          (rw c.in-Ok.is at c.act.ensures.stepped.early)
           (λ w sums there kept. subst (λ s. KeepsSums c.note.new.freed.sums
           (freed_with w s (freed_in o) sums)) c.sweeper-swept.ensures
           (subst (λ k. KeepsSums c.note.new.freed.sums
@@ -30,16 +29,14 @@ returns-in-Ok g c number =
 -- that it violates
 pub returns-in-Err : goal.returns-in-Err
 returns-in-Err g c number =
-    let shows = g.S.Space.shows in
-    let keeps = g.S.Space.keeps in
-    let follows = rw c.in-Err.is at c.act.ensures.follows in
-    let free = rw c.in-Err.is at c.act.ensures.memory_free in
+    let follows = rw c.in-Err.is at c.act.ensures.stepped.follows in
+    let free = rw c.in-Err.is at c.act.ensures.stepped.memory_free in
     let small = rw c.in-Err.is at c.act.ensures.small in
-    let early = rw c.in-Err.is at c.act.ensures.early in
+    let early = rw c.in-Err.is at c.act.ensures.stepped.early in
     printed_as c.print_refusal.result c.print_refusal.ensures.text c.print_refusal.ensures.status
     (λ text status one. record {
       reply = reply.Refused c.in-Err.refusal;
-      answers = λ h shown. refusal_shows shows keeps h (step.Act c.args.node c.args.event.now)
+      answers = λ h shown. refusal_shows h (step.Act c.args.node c.args.event.now)
           c.args.space.now _ c.args.freed.now _ shown
           (λ w s. (
             record {

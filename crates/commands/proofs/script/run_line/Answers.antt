@@ -15,18 +15,16 @@ read g c =
 
 pub returns-in-Step : goal.returns-in-Step
 returns-in-Step g c =
-    subst (λ (l : Option Line). IfOk c.run_step.result (PrintsReply g.S.Space.shows
-    g.S.Space.keeps (λ h r later. TakesLine h l r later) c.args.number c.args.state.now
-    c.run_step.new.state (g.W.Write.contents c.args.out.now)
-    (g.W.Write.contents c.run_step.new.out)))
+    subst (λ (l : Option Line). IfOk c.run_step.result (PrintsReply
+    (λ h r later. TakesLine h l r later) c.args.number c.args.state.now c.run_step.new.state
+    (g.W.Write.contents c.args.out.now) (g.W.Write.contents c.run_step.new.out)))
     (ap (λ (l : Line). Some l) (sym c.in-Step.is)
     ∙ read g (goal.at.returns-in-Step g c).Else-is_none)
     c.run_step.ensures
 
 pub returns-in_default : goal.returns-in_default
 returns-in_default g c =
-    subst (λ (l : Option Line). IfOk c.run_other.result (PrintsReply g.S.Space.shows
-    g.S.Space.keeps (λ h r later. TakesLine h l r later) c.args.number c.args.state.now
-    c.run_other.new.state (g.W.Write.contents c.args.out.now)
-    (g.W.Write.contents c.run_other.new.out)))
+    subst (λ (l : Option Line). IfOk c.run_other.result (PrintsReply
+    (λ h r later. TakesLine h l r later) c.args.number c.args.state.now c.run_other.new.state
+    (g.W.Write.contents c.args.out.now) (g.W.Write.contents c.run_other.new.out)))
     (read g (goal.at.returns-in_default g c).Else-is_none) c.run_other.ensures

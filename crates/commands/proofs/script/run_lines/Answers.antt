@@ -7,7 +7,7 @@ pub loop-rest-init : goal.loop-rest-init
 loop-rest-init g c = (
   search rules,
   omega arith,
-  printed_nothing g.S.Space.shows g.S.Space.keeps c.args.script.now
+  printed_nothing c.args.script.now
       (g.W.Write.contents c.args.out.now),
 )
 
@@ -16,7 +16,7 @@ pub loop-rest-preserved : goal.loop-rest-preserved
 loop-rest-preserved g c = (
   search rules,
   omega (arith, c.loop-rest.invariant.1, c.first_line.ensures.less),
-  printed_more g.S.Space.shows g.S.Space.keeps c.args.script.now (g.W.Write.contents c.args.out.now) _ _
+  printed_more c.args.script.now (g.W.Write.contents c.args.out.now) _ _
       c.loop-rest.invariant.2
       (record {
         text = c.first_line.result.0.now;
@@ -32,7 +32,7 @@ loop-rest-preserved g c = (
 -- a line that does
 pub returns-then-reached-eq-UNREADABLE : goal.returns-then-reached-eq-UNREADABLE
 returns-then-reached-eq-UNREADABLE g c =
-    printed_last g.S.Space.shows g.S.Space.keeps c.args.script.now (g.W.Write.contents c.args.out.now) _
+    printed_last c.args.script.now (g.W.Write.contents c.args.out.now) _
     (record {
       rest = c.first_line.result.1.now;
       count = c.loop-rest.number + 1;
@@ -54,6 +54,6 @@ returns-then-reached-eq-UNREADABLE g c =
 -- the end of the script
 pub returns : goal.returns
 returns g c =
-    printed_all g.S.Space.shows g.S.Space.keeps c.args.script.now (g.W.Write.contents c.args.out.now) _
+    printed_all c.args.script.now (g.W.Write.contents c.args.out.now) _
     c.loop-rest.invariant.2
     (eqb-true _ 0 (sym c.is_empty.ensures ∙ c.loop-rest-test.false))

@@ -10,7 +10,7 @@ invariant-loop-rest g l =
     let contents = g.W.Write.contents in
     shadow (Utf8 l.rest)
     × (l.number + length l.rest ≤ length l.script)
-    × PrintedBefore g.S.Space.shows g.S.Space.keeps l.script (contents l.initial.out) (record {
+    × PrintedBefore l.script (contents l.initial.out) (record {
       rest = l.rest;
       count = l.number;
       state = l.state;

@@ -6,10 +6,8 @@ use Rattle.commands.proofs.script.run_other.Goals.{in-Blank, in-Space, in-State,
 
 pub returns : goal.returns
 returns g c =
-    let shows = g.S.Space.shows in
-    let keeps = g.S.Space.keeps in
     let ran = c.match-said in
-    let moves : Moves shows keeps (λ h later. TakesLine h (Some c.args.said.now) ran.reply later)
+    let moves : Moves (λ h later. TakesLine h (Some c.args.said.now) ran.reply later)
     c.args.state.now ran.state = elim ran.branch [
       | in-Blank w ↦
           rw (w.state-is, w.reply-is, w.in-Blank.is) (λ h shown. (h, (refl, refl), shown))

@@ -6,14 +6,12 @@ use Rattle.commands.proofs.script.run_step.Goals as goal
 
 pub returns-in-Refused : goal.returns-in-Refused
 returns-in-Refused g c =
-    let shows = g.S.Space.shows in
-    let keeps = g.S.Space.keeps in
     let e = c.in-Refused.refusal in
     printed_as c.print_refusal.result c.print_refusal.ensures.text c.print_refusal.ensures.status
     (λ text status one. record {
       reply = reply.Refused e;
-      answers = λ h shown. denied_shows shows keeps h c.args.step.now e
-          (subst (λ s. ShowsHeld shows keeps s h) c.in-Refused.is shown);
+      answers = λ h shown. denied_shows h c.args.step.now e
+          (subst (λ s. ShowsHeld s h) c.in-Refused.is shown);
       prints = text;
       is = one;
     })

@@ -1,10 +1,15 @@
-use Rattle.model.specs.declared.step.Outcome.TheVariants as outcome
-use Rattle.model.specs.declared.step.Step.TheVariants as step
-use Rattle.world.specs.Spaces.{outcome_by}
-use Rattle.world.proofs.Runs.{extends_space}
+use Rattle.std.proofs.Common.{arith}
+use Rattle.world.proofs.Held.{acted-small, acted-space, no-node-acts}
 use Rattle.world.proofs.sim.Sim.act.Goals as goal
 
-pub returns-clause-runs : goal.returns-clause-runs
-returns-clause-runs c =
-    extends_space (outcome_by (λ a. outcome.Answer a) c.answer.result) _ _
-    (step.Act c.args.node c.args.event) c.answer.ensures.follows
+pub returns-then-node-count-clause-stepped : goal.returns-then-node-count-clause-stepped
+returns-then-node-count-clause-stepped c =
+    no-node-acts _ _ _ c.count.ensures.early
+    (omega (arith, c.count.ensures.value))
+
+pub returns-clause-stepped : goal.returns-clause-stepped
+returns-clause-stepped c = acted-space _ c.give.ensures c.requires.own
+
+pub returns-clause-small : goal.returns-clause-small
+returns-clause-small c =
+    acted-small c.give.result (acted-space c.args.event c.give.ensures c.requires.own)
