@@ -6,8 +6,8 @@ use Rattle.std.specs.Borrow.{Bor}
 use Rattle.arena.specs.declared.Slot.{Slot}
 use Rattle.arena.specs.declared.Slot.TheVariants.{Free, Occupied, Retired}
 use Rattle.arena.specs.declared.Key.{Key}
-use Rattle.arena.specs.declared.Fault.{Fault}
-use Rattle.arena.specs.declared.Fault.TheVariants.{Full, Memory, Shape}
+use Rattle.arena.specs.declared.ArenaError.{ArenaError}
+use Rattle.arena.specs.declared.ArenaError.TheVariants.{Full, Memory, Shape}
 use Rattle.ids.specs.declared.limits.TheConstants.{GREATEST_GENERATION}
 use Rattle.arena.specs.declared.TheConstants.{FIRST_GENERATION}
 
@@ -109,10 +109,10 @@ module _ {T : Type 0} where
   is_full a = (length a.free == 0) && nat_le a.limit (length a.slots)
 
   -- why inserting a value failed; only a fresh slot needs memory
-  abbrev pub IsFaultOf : Arena T → Fault → Type 0
-  IsFaultOf a Full = is_full a ≡ true
-  IsFaultOf a Memory = (is_full a ≡ false) × (a.free ≡ [])
-  IsFaultOf a Shape = ⊥
+  abbrev pub IsErrorOf : Arena T → ArenaError → Type 0
+  IsErrorOf a Full = is_full a ≡ true
+  IsErrorOf a Memory = (is_full a ≡ false) × (a.free ≡ [])
+  IsErrorOf a Shape = ⊥
 
   -- the slot with its borrowed value
   abbrev pub slot_read : Slot (Bor T) → Slot T

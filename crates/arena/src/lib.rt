@@ -36,10 +36,10 @@ ghost use Rattle.std.specs.Prelude.{◌≡◌, ◌<◌, ◌==◌, [], length, op
 ghost use Rattle.std.specs.Prelude.{IsSome, IsOk, OnOk, OnErr, IfOk, IfErr, Some};
 ghost use Rattle.std.specs.Option.{option_copied_mut};
 ghost use Rattle.std.specs.Borrow.{sem};
-ghost use Rattle.arena.specs.Arena.{IsSound, IsFaultOf, IsKey, get, key_at, generation_at, next_key};
+ghost use Rattle.arena.specs.Arena.{IsSound, IsErrorOf, IsKey, get, key_at, generation_at, next_key};
 ghost use Rattle.arena.specs.Arena.{inserted, removed, occupied_count, is_full};
 ghost use Rattle.arena.specs.Arena.{slot_at, slot_read, plain};
-ghost use Rattle.arena.specs.declared.Fault.TheVariants.{Shape};
+ghost use Rattle.arena.specs.declared.ArenaError.TheVariants.{Shape};
 
 mod block;
 mod chunk;
@@ -80,7 +80,7 @@ pub enum Slot<T> {
 
 /// Why an arena took no value, or why no arena was made.
 #[derive(Clone, Copy, Debug, PartialEq, Eq)]
-pub enum Fault {
+pub enum ArenaError {
     /// As many slots as the limit allows have been used, and none of them is free.
     Full,
     /// There was no memory for another slot.
@@ -148,10 +148,10 @@ impl<T> Arena<T> {
     /// It will use at most `limit` slots. It allocates nothing, and takes time linear in the length
     /// of `free`.
     ///
-    /// It fails only with [`Fault::Shape`]: if there are more slots than the limit, or a generation
-    /// is below [`FIRST_GENERATION`], or `free` doesn't list exactly the free slots, each once.
-    /// What it refuses is dropped.
-    pub fn from_slots(limit: u32, slots: Slots<T>, free: &[u32]) -> Result<Self, Fault>
+    /// It fails only with [`ArenaError::Shape`]: if there are more slots than the limit, or a
+    /// generation is below [`FIRST_GENERATION`], or `free` doesn't list exactly the free slots, each
+    /// once. What it refuses is dropped.
+    pub fn from_slots(limit: u32, slots: Slots<T>, free: &[u32]) -> Result<Self, ArenaError>
     where
         T: Drop,
         ensures made { IfOk result (λ a. a ≡ plain slots.items free.now limit) }
@@ -161,12 +161,12 @@ impl<T> Arena<T> {
     {
         let (entries, occupied, vacant, born) = slots.parts();
         if !born || entries.len() > limit as usize {
-            return Err(Fault::Shape);
+            return Err(ArenaError::Shape);
         }
         let mut entries = entries.limited(limit as usize);
         let first = made::link(&mut entries, free)?;
         if free.len() < vacant as usize {
-            return Err(Fault::Shape);
+            return Err(ArenaError::Shape);
         }
         Ok(Arena {
             entries,
@@ -279,21 +279,21 @@ impl<T> Arena<T> {
     /// Stores `value`, and returns its key. The value goes into the slot that was freed last, under
     /// its next generation, or else into the next fresh slot, under [`FIRST_GENERATION`].
     ///
-    /// It fails with [`Fault::Full`] if the arena [is full](Arena::is_full), and with
-    /// [`Fault::Memory`] if a fresh slot needs memory and gets none. It then returns `value`,
+    /// It fails with [`ArenaError::Full`] if the arena [is full](Arena::is_full), and with
+    /// [`ArenaError::Memory`] if a fresh slot needs memory and gets none. It then returns `value`,
     /// and the arena is as it was. While a slot is free it allocates nothing and never fails.
-    pub fn insert(&mut self, value: T) -> Result<Key, (T, Fault)>
+    pub fn insert(&mut self, value: T) -> Result<Key, (T, ArenaError)>
         ensures key { IfOk result (λ key. key ≡ next_key self.old) }
         ensures within { IfOk result (IsKey self.old) }
         ensures done { OnOk result (self.new ≡ inserted self.old value) }
 
         ensures back { IfErr result (λ e. e.0 ≡ value) }
         ensures unchanged { OnErr result (self.new ≡ self.old) }
-        ensures full { IfErr result (λ e. IsFaultOf self.old e.1) }
+        ensures full { IfErr result (λ e. IsErrorOf self.old e.1) }
         ensures reuses { 0 < length self.old.free → IsOk result }
     {
         if self.is_full() {
-            return Err((value, Fault::Full));
+            return Err((value, ArenaError::Full));
         }
         if self.vacant > 0 {
             return Ok(self.reuse(value));
@@ -307,7 +307,7 @@ impl<T> Arena<T> {
                     generation: FIRST_GENERATION,
                 })
             }
-            Err(entry) => Err((entry.into_value(), Fault::Memory)),
+            Err(entry) => Err((entry.into_value(), ArenaError::Memory)),
         }
     }
 

@@ -9,11 +9,11 @@ ghost use Rattle.arena.specs.Made.{AreCounted, IsLinking};
 ghost use Rattle.arena.specs.Made.{unlinked_of, is_unlinked, linked_to, entry_at};
 ghost use Rattle.arena.specs.Row.{row};
 ghost use Rattle.arena.specs.declared.Slot.TheVariants as slot;
-ghost use Rattle.arena.specs.declared.Fault.TheVariants.{Shape};
+ghost use Rattle.arena.specs.declared.ArenaError.TheVariants.{Shape};
 
 use crate::entry::Entry;
 use crate::store::Store;
-use crate::{FIRST_GENERATION, Fault, Slot};
+use crate::{ArenaError, FIRST_GENERATION, Slot};
 use std::alloc::{AllocError, Global};
 use std::marker::Model;
 
@@ -149,8 +149,9 @@ impl<T> Slot<T> {
 /// Links the slots that `free` names, in its order, and returns the first one. If `free` is empty,
 /// there is no first one.
 ///
-/// It fails with [`Fault::Shape`] if one of them isn't free, was never used, or is named twice.
-pub(crate) fn link<T>(entries: &mut Store<Entry<T>>, free: &[u32]) -> Result<u32, Fault>
+/// It fails with [`ArenaError::Shape`] if one of them isn't free, was never used, or is named
+/// twice.
+pub(crate) fn link<T>(entries: &mut Store<Entry<T>>, free: &[u32]) -> Result<u32, ArenaError>
     requires unlinked { IsLinking entries.old.items [] 0 }
     requires short { length entries.old.items < 2 ^ 32 }
     ensures linked { IfOk result (IsLinking entries.new.items free.now) }
@@ -167,7 +168,7 @@ pub(crate) fn link<T>(entries: &mut Store<Entry<T>>, free: &[u32]) -> Result<u32
     while left > 0 {
         left -= 1;
         if !link_one(entries, free[left], first) {
-            return Err(Fault::Shape);
+            return Err(ArenaError::Shape);
         }
         first = free[left];
     }

@@ -10,14 +10,14 @@ use Rattle.model.specs.declared.event.Event.TheVariants as event
 use Rattle.model.specs.Steps.{is_memory_free}
 use Rattle.node.specs.Keeping.{WholeNode, next_event, next_step}
 use Rattle.trace.specs.Lines.{call_of}
-use Rattle.trace.specs.declared.trace.Line.{Line}
+use Rattle.trace.specs.declared.trace.TraceLine.{TraceLine}
 use Rattle.wire.specs.Views.{Known}
 use Rattle.wire.specs.declared.pumped.Inbound.TheVariants as inbound
 use Rattle.cell.specs.Events.{outcome_of, Given}
 use Rattle.cell.specs.Pumping.{PumpedBy}
 
 module _ (o : Option Data) (from box : ℕ) (old new : WholeNode) (v w : Known)
-    (before after : List Line) (waits : is_some o ≡ true) where
+    (before after : List TraceLine) (waits : is_some o ≡ true) where
   abbrev pub Took : Result Answer Refusal → Type 0
   Took r =
       Given (event.Next from) (next_event from o) (next_step v.me from o) r old new v w
@@ -26,7 +26,7 @@ module _ (o : Option Data) (from box : ℕ) (old new : WholeNode) (v w : Known)
       ++ record { call = call_of (event.Next from); outcome = outcome_of r } ∷ []))
 
 pub next-taken : (o : Option Data) (from box : ℕ) (old new : WholeNode) (v w : Known)
-    (before after : List Line) (waits : is_some o ≡ true) (a : Answer)
+    (before after : List TraceLine) (waits : is_some o ≡ true) (a : Answer)
     → Took o from box old new v w before after waits (Ok a)
     → PumpedBy o box from (Ok (inbound.Event a)) old new v w before after
 next-taken None from box old new v w before after waits a h = absurd cc
@@ -34,7 +34,7 @@ next-taken (Some d) from box old new v w before after waits a h =
     record { given = h.0; memory_free = h.1; traced = h.2 }
 
 pub next-refused : (o : Option Data) (from box : ℕ) (old new : WholeNode) (v w : Known)
-    (before after : List Line) (waits : is_some o ≡ true) (e : Refusal)
+    (before after : List TraceLine) (waits : is_some o ≡ true) (e : Refusal)
     → Took o from box old new v w before after waits (Err e)
     → PumpedBy o box from (Err e) old new v w before after
 next-refused None from box old new v w before after waits e h = absurd cc

@@ -9,7 +9,7 @@ use Rattle.msg.specs.Frames.{plain}
 use Rattle.msg.specs.declared.frame.Data.{Data}
 use Rattle.msg.specs.declared.frame.Frame.{Frame}
 use Rattle.msg.specs.declared.frame.Frame.TheVariants as frame
-use Rattle.trace.specs.declared.trace.Line.{Line}
+use Rattle.trace.specs.declared.trace.TraceLine.{TraceLine}
 use Rattle.node.specs.Keeping.{WholeNode, waiting}
 use Rattle.wire.specs.Readers.{inbox, known}
 use Rattle.wire.specs.Views.{Known}
@@ -35,7 +35,7 @@ handled-not-closed (frame.Ack a) old new v w h =
     never-closed false (event.Ack a) old.core new.core (Err Closed) h.performs refl
 
 by-not-closed : (o : Option Data) (box from : ℕ) (r : Result Inbound Refusal)
-    (old new : WholeNode) (v w : Known) (before after : List Line)
+    (old new : WholeNode) (v w : Known) (before after : List TraceLine)
     → PumpedBy o box from r old new v w before after → r ≡ Err Closed → ⊥
 by-not-closed o box from (Ok i) old new v w before after took closed = absurd cc
 by-not-closed (Some d) box from (Err e) old new v w before after took closed =

@@ -1,11 +1,11 @@
 -- A cell as its callers see it, in terms of what it sees of its desk.
 use Rattle.std.specs.Prelude.{Bool, List}
 use Rattle.model.specs.View.{NodeView}
-use Rattle.trace.specs.declared.trace.Line.{Line}
+use Rattle.trace.specs.declared.trace.TraceLine.{TraceLine}
 use Rattle.cell.specs.Cells.{CellView}
 use Rattle.cell.specs.Desks.{DeskView}
 
-abbrev pub cell_at : {D : Type 0} → NodeView → D → Bool → List Line → DeskView → CellView D
+abbrev pub cell_at : {D : Type 0} → NodeView → D → Bool → List TraceLine → DeskView → CellView D
 cell_at first disk is_open trace desk = record {
   node = desk.node;
   saved = desk.saved;

@@ -4,7 +4,7 @@ use Rattle.std.specs.Prelude.{◌≡◌, ℕ, Bool, true, false, List, [], IsTru
 use Rattle.ids.specs.declared.limits.TheConstants.{GREATEST_NODES}
 use Rattle.model.specs.View.{NodeView}
 use Rattle.node.specs.Keeping.{WholeNode}
-use Rattle.trace.specs.declared.trace.Line.{Line}
+use Rattle.trace.specs.declared.trace.TraceLine.{TraceLine}
 use Rattle.disk.specs.Areas.{Areas}
 use Rattle.wire.specs.Readers.{known, seat_node, IsSame}
 use Rattle.wire.specs.declared.seats.NodeSeat.{NodeSeat}
@@ -27,7 +27,7 @@ pub record CellView (D : Type 0) : Type 0 where
   pub disk : D
   pub is_open : Bool
   -- the last calls and their outcomes, oldest first
-  pub trace : List Line
+  pub trace : List TraceLine
 
 -- a cell that was just made
 abbrev pub new_cell : {D : Type 0} → WholeNode → NodeSeat → D → CellView D

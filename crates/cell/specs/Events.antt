@@ -21,8 +21,8 @@ use Rattle.model.specs.World.{is_eventful}
 use Rattle.node.specs.Keeping.{WholeNode, early_after}
 use Rattle.wire.specs.Views.{Known, Pair, ticks, clears, takes_in}
 use Rattle.wire.specs.Plays.{Arrives, Enters, Happens, IsEventful}
-use Rattle.trace.specs.declared.call.Outcome as trace
-use Rattle.trace.specs.declared.call.Outcome.TheVariants as traced
+use Rattle.trace.specs.declared.call.CallOutcome as trace
+use Rattle.trace.specs.declared.call.CallOutcome.TheVariants as traced
 
 -- whether a node's answer is that of an event of the space, provided that it wasn't given an
 -- acknowledgement
@@ -148,15 +148,15 @@ restarted_by v = reopened_by true v
 -- ---- traces
 
 -- what the trace records of an answer
-abbrev pub outcome_of_answer : Answer → trace.Outcome
+abbrev pub outcome_of_answer : Answer → trace.CallOutcome
 outcome_of_answer answer.Repeat = traced.Repeat
 outcome_of_answer answer.Early = traced.Early
 outcome_of_answer a = traced.Done
 
-abbrev pub outcome_of : Result Answer Refusal → trace.Outcome
+abbrev pub outcome_of : Result Answer Refusal → trace.CallOutcome
 outcome_of (Ok a) = outcome_of_answer a
 outcome_of (Err e) = traced.Refused e
 
-abbrev pub done_outcome : Result (Unit {0}) Refusal → trace.Outcome
+abbrev pub done_outcome : Result (Unit {0}) Refusal → trace.CallOutcome
 done_outcome (Ok u) = traced.Done
 done_outcome (Err e) = traced.Refused e

@@ -18,7 +18,7 @@ use Rattle.model.specs.State.{NodeState, Object, Occupied, got_from, node_at, sl
 use Rattle.model.specs.View.{NodeView, Shows}
 use Rattle.model.specs.World.{World, new_world, run}
 use Rattle.model.specs.Cuts.{cut, Reachable}
-use Rattle.trace.specs.declared.trace.Line.{Line}
+use Rattle.trace.specs.declared.trace.TraceLine.{TraceLine}
 use Rattle.node.specs.Keeping.{WholeNode}
 use Rattle.disk.specs.Areas.{Areas}
 use Rattle.wire.specs.Readers.{AreOpened}
@@ -94,8 +94,8 @@ pub record HasRefused (d : Data) (e : Refusal) (old : WholeNode) (v : Known) : T
   pub from : ℕ
   pub new : WholeNode
   pub w : Known
-  pub before : List Line
-  pub after : List Line
+  pub before : List TraceLine
+  pub after : List TraceLine
   pub took : TookIn box from (Err e) old new v w before after
   pub is : took.frame ≡ frame.Data d
 

@@ -13,7 +13,7 @@ use Rattle.model.specs.declared.step.Step.TheVariants as step
 use Rattle.msg.specs.declared.frame.Data.{Data}
 use Rattle.node.specs.Keeping.{WholeNode, waiting}
 use Rattle.trace.specs.Lines.{call_of}
-use Rattle.trace.specs.declared.trace.Line.{Line}
+use Rattle.trace.specs.declared.trace.TraceLine.{TraceLine}
 use Rattle.wire.specs.Rule as rule
 use Rattle.wire.specs.Plays.{Arrives, IsReleased}
 use Rattle.wire.specs.Readers.{inbox, known}
@@ -30,7 +30,7 @@ use Rattle.cell.specs.Events.{emptied, event_of, outcome_of, Given, Handled}
 -- answered this, and a line about it was added to the trace. What takes no memory isn't refused for
 -- lack of memory.
 pub record TookIn (box from : ℕ) (result : Result Answer Refusal) (old new : WholeNode)
-    (v w : Known) (before after : List Line) : Type 0 where
+    (v w : Known) (before after : List TraceLine) : Type 0 where
   pub frame : Frame
   pub sender : rule.sender (plain frame) ≡ from
   pub receiver : rule.receiver (plain frame) ≡ v.me
@@ -48,7 +48,7 @@ pub record TookIn (box from : ℕ) (result : Result Answer Refusal) (old new : W
 -- The waiting message was given to the node as its delivery, with this answer, and a line about it
 -- was added to the trace. The mailbox wasn't touched.
 pub record TookNext (from : ℕ) (d : Data) (result : Result Answer Refusal) (old new : WholeNode)
-    (v w : Known) (before after : List Line) : Type 0 where
+    (v w : Known) (before after : List TraceLine) : Type 0 where
   pub given : Given (event.Next from) (event.Data d) (step.Deliver from v.me d.number) result
       old new v w
   pub memory_free : IsTrue (is_memory_free old.core.local (event.Data d))
@@ -57,7 +57,7 @@ pub record TookNext (from : ℕ) (d : Data) (result : Result Answer Refusal) (ol
       ++ record { call = call_of (event.Next from); outcome = outcome_of result } ∷ [])
 
 -- the seat took a step on the mailbox that found it not full, and did nothing else
-pub record SawEmpty (box : ℕ) (old new : WholeNode) (v w : Known) (before after : List Line)
+pub record SawEmpty (box : ℕ) (old new : WholeNode) (v w : Known) (before after : List TraceLine)
     : Type 0 where
   pub found : FindsOther box 1 v w
   pub node : new ≡ old
@@ -66,7 +66,7 @@ pub record SawEmpty (box : ℕ) (old new : WholeNode) (v w : Known) (before afte
 -- What happened to the waiting message, or if none waits, to a mailbox from another node. The
 -- mailbox is called empty only if the seat took a step on it that found it not full.
 abbrev pub PumpedBy : Option Data → ℕ → ℕ → Result Inbound Refusal → WholeNode → WholeNode → Known
-    → Known → List Line → List Line → Type 0
+    → Known → List TraceLine → List TraceLine → Type 0
 PumpedBy (Some d) box from (Ok inbound.Empty) old new v w before after = ⊥
 PumpedBy (Some d) box from (Ok (inbound.Event a)) old new v w before after =
     TookNext from d (Ok a) old new v w before after

@@ -31,7 +31,7 @@ use std::alloc::Global;
 use std::marker::{Brand, PhantomData};
 use std::sync::{Arc, Mutex, Wait};
 use wire::{Inbound, Outbound, Raised, Wire};
-use workers::Site;
+use workers::Station;
 
 /// Names a wire in proofs, so that a watch of the same wire can use what was raised through a
 /// shared cell, and so that cells which are given back are known to be of one wire.
@@ -251,7 +251,7 @@ impl<D: Disk, W: Naming> SharedOn<D, W> {
     }
 }
 
-impl<D: Disk, W: Naming> Site for SharedOn<D, W> {
+impl<D: Disk, W: Naming> Station for SharedOn<D, W> {
     #[inline(always)]
     fn pump_in<R: Wait>(&self, rt: &R, from: u8) -> Result<Inbound, Refusal> {
         SharedOn::pump_in(self, rt, from)

@@ -5,14 +5,14 @@ ghost use Rattle.cell.specs.Events.{outcome_of, outcome_of_answer};
 
 use ids::Refusal;
 use model::Answer;
-use trace::Outcome;
+use trace::CallOutcome;
 
-fn answer_outcome(answer: &Answer) -> Outcome
+fn answer_outcome(answer: &Answer) -> CallOutcome
     ensures { result ≡ outcome_of_answer answer.now }
 {
     match answer {
-        Answer::Repeat => Outcome::Repeat,
-        Answer::Early => Outcome::Early,
+        Answer::Repeat => CallOutcome::Repeat,
+        Answer::Early => CallOutcome::Early,
         Answer::Word(_)
         | Answer::New(_)
         | Answer::Done
@@ -25,15 +25,15 @@ fn answer_outcome(answer: &Answer) -> Outcome
         | Answer::ProbeAgain
         | Answer::Ended(_)
         | Answer::Freed { .. }
-        | Answer::Received => Outcome::Done,
+        | Answer::Received => CallOutcome::Done,
     }
 }
 
-pub(crate) fn outcome(answered: &Result<Answer, Refusal>) -> Outcome
+pub(crate) fn outcome(answered: &Result<Answer, Refusal>) -> CallOutcome
     ensures { result ≡ outcome_of answered.now }
 {
     match answered {
         Ok(answer) => answer_outcome(answer),
-        Err(refusal) => Outcome::Refused(*refusal),
+        Err(refusal) => CallOutcome::Refused(*refusal),
     }
 }

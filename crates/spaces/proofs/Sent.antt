@@ -11,7 +11,7 @@ use Rattle.wire.proofs.seats.Watch.TheSendSync as Watch
 use Rattle.wire.proofs.seats.Wire.TheSendSync as Wire
 use Rattle.cell.proofs.Sent.{cell-send}
 use Rattle.spaces.specs.contracts.seated.SeatedCell as SeatedCell
-use Rattle.spaces.specs.contracts.space.Space as Space
+use Rattle.spaces.specs.contracts.space.SeatedSpace as SeatedSpace
 use Rattle.spaces.specs.contracts.watching.SeatedWatch as SeatedWatch
 
 pub seated-send : IsSend SeatedCell.the_row
@@ -33,9 +33,9 @@ watch-send =
     (struct_send (shape d)
     (Watch.the_field_send, (Arc-send _ Wire.the_send Wire.the_sync, tt)))
 
-pub space-send : IsSend Space.the_row
+pub space-send : IsSend SeatedSpace.the_row
 space-send =
-    let d = Space.the_type in
+    let d = SeatedSpace.the_type in
     recorded_send (Struct (shape d)) d.D d.to d.to_one
     (struct_send (shape d) (
       Shape.the_send,

@@ -3,7 +3,7 @@
 //!
 //! ```text
 //! C               exports           here          below
-//! markring_space  markring_space_*  SpaceHandle   Space: images, then cells and watches
+//! markring_space  markring_space_*  SpaceHandle   SeatedSpace: images, then cells and watches
 //! markring_cell   markring_cell_*   CellHandle    SeatedCell: cell::Cell, its wire, a mark
 //! markring_watch  markring_watch_*  WatchHandle   SeatedWatch: wire::Watch, its wire
 //! ```
@@ -22,7 +22,7 @@ mod watching;
 
 pub use cell_handle::CellHandle;
 pub use seated::SeatedCell;
-pub use space::Space;
+pub use space::SeatedSpace;
 pub use space_handle::SpaceHandle;
 pub use watch_handle::WatchHandle;
 pub use watching::SeatedWatch;

@@ -13,7 +13,7 @@ use values::Fault;
 /// A space, with the images that were given while it isn't open, and with the cells and watches
 /// that weren't taken out yet.
 #[derive(Drop)]
-pub struct Space {
+pub struct SeatedSpace {
     shape: Shape,
     watches: u8,
     is_open: bool,
@@ -24,7 +24,7 @@ pub struct Space {
     ghost seated: { vec_len cells ≡ shape.nodes },
 }
 
-impl Space {
+impl SeatedSpace {
     ghost use Rattle.spaces.specs.Spaces.{Given, Made, Opens, TakesCell, TakesWatch, taken};
 
     /// A space that isn't open. Fails with `BadArgument` if these are no sizes of a space, and with
@@ -35,14 +35,14 @@ impl Space {
         registers: u16,
         slots: u32,
         watches: u8,
-    ) -> Result<Space, Fault>
+    ) -> Result<SeatedSpace, Fault>
         ensures { Made (record { nodes = nodes; registers = registers; slots = slots }) watches
             result }
     {
         let shape = Shape::new(nodes, registers, slots).ok_or(Fault::BadArgument)?;
         let images = places(alloc, nodes)?;
         let cells = places(alloc, nodes)?;
-        Ok(Space {
+        Ok(SeatedSpace {
             shape,
             watches,
             is_open: false,

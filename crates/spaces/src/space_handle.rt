@@ -1,14 +1,14 @@
-//! A space as C holds it: a pointer to a [`Space`], or null.
+//! A space as C holds it: a pointer to a [`SeatedSpace`], or null.
 ghost use Rattle.std.specs.Prelude.{◌≡◌, None, Some, Option};
 ghost use Rattle.std.specs.Coded.{coded_option};
 ghost use Rattle.held.specs.Holds.{unboxed};
-ghost use Rattle.spaces.specs.declared.space.Space.{Space};
-ghost use Rattle.spaces.specs.contracts.space.Space.{the_row as Row};
+ghost use Rattle.spaces.specs.declared.space.SeatedSpace.{SeatedSpace};
+ghost use Rattle.spaces.specs.contracts.space.SeatedSpace.{the_row as Row};
 ghost use Rattle.values.specs.Faults.{Filled, Freed, Through, empty};
 ghost use Rattle.spaces.specs.Spaces.{Given, Made, Moved, Opens, TakesCell, TakesWatch};
 
 use crate::cell_handle::CellHandle;
-use crate::space::Space;
+use crate::space::SeatedSpace;
 use crate::watch_handle::WatchHandle;
 use held::Held;
 use std::alloc::Global;
@@ -20,12 +20,12 @@ use values::Fault;
 #[repr(C)]
 pub struct SpaceHandle {
     at: *mut u8,
-    pub ghost held: { Option Space } by { coded_option Row.coded },
+    pub ghost held: { Option SeatedSpace } by { coded_option Row.coded },
 }
 
 impl Model for SpaceHandle {
     ghost use Rattle.held.specs.Holds.{holds};
-    ghost use Rattle.spaces.specs.contracts.space.Space.{the_row as Row};
+    ghost use Rattle.spaces.specs.contracts.space.SeatedSpace.{the_row as Row};
 
     ghost also_owns = { λ h. holds Row h.at h.held };
 }
@@ -34,20 +34,20 @@ unsafe impl Send for SpaceHandle {}
 
 impl SpaceHandle {
     // Exchanges what the handle holds.
-    fn swap(&mut self, held: Held<Space>) -> Held<Space>
+    fn swap(&mut self, held: Held<SeatedSpace>) -> Held<SeatedSpace>
         ensures { (self.new.held ≡ held.value) × (result.value ≡ self.old.held) }
     {
         let Held { at } = held;
         let old = self.at;
         self.at = at as *mut u8;
         Held {
-            at: old as *mut Space,
+            at: old as *mut SeatedSpace,
         }
     }
 
     // Takes out what the handle holds.
     #[inline(always)]
-    fn take(&mut self, alloc: Global) -> Option<Box<Space>>
+    fn take(&mut self, alloc: Global) -> Option<Box<SeatedSpace>>
         ensures taken { unboxed result ≡ self.old.held }
         ensures empty { self.new.held ≡ None }
     {
@@ -56,7 +56,7 @@ impl SpaceHandle {
 
     // Puts a space into the handle; what it held is dropped.
     #[inline(always)]
-    fn put(&mut self, alloc: Global, full: Box<Space>)
+    fn put(&mut self, alloc: Global, full: Box<SeatedSpace>)
         ensures { self.new.held ≡ Some full.value }
     {
         let _none = self.swap(Held::of(full)).into_box(alloc);
@@ -86,8 +86,8 @@ impl SpaceHandle {
         }
     }
 
-    /// Fills an empty handle with a space that isn't open; see [`Space::new`]. Fails with `InUse`
-    /// before that.
+    /// Fills an empty handle with a space that isn't open; see [`SeatedSpace::new`]. Fails with
+    /// `InUse` before that.
     pub fn fill_new(
         &mut self,
         alloc: Global,
@@ -101,13 +101,13 @@ impl SpaceHandle {
             self.old.held self.new.held result }
     {
         self.test_empty(alloc)?;
-        let space = Space::new(alloc, nodes, registers, slots, watches)?;
+        let space = SeatedSpace::new(alloc, nodes, registers, slots, watches)?;
         let full = Box::new(alloc, space)?;
         self.put(alloc, full);
         Ok(())
     }
 
-    /// Gives the space the image of a node; see [`Space::give`].
+    /// Gives the space the image of a node; see [`SeatedSpace::give`].
     pub fn give(&mut self, alloc: Global, node: u8, image: &[u8]) -> Result<(), Fault>
         ensures { Through (Given node image.now) self.old.held self.new.held result }
     {
@@ -119,7 +119,7 @@ impl SpaceHandle {
         done
     }
 
-    /// Opens the space; see [`Space::open`].
+    /// Opens the space; see [`SeatedSpace::open`].
     pub fn open(&mut self, alloc: Global) -> Result<(), Fault>
         ensures { Through Opens self.old.held self.new.held result }
     {
@@ -131,8 +131,8 @@ impl SpaceHandle {
         done
     }
 
-    /// Moves the cell of a node into an empty handle; see [`Space::cell`]. Fails with `NoHandle` if
-    /// there is no space, and then with `InUse` if the cell's handle isn't empty.
+    /// Moves the cell of a node into an empty handle; see [`SeatedSpace::cell`]. Fails with
+    /// `NoHandle` if there is no space, and then with `InUse` if the cell's handle isn't empty.
     pub fn cell(&mut self, alloc: Global, node: u8, to: &mut CellHandle) -> Result<(), Fault>
         ensures { Moved (TakesCell node) self.old.held self.new.held to.old.held to.new.held
             result }
@@ -150,8 +150,8 @@ impl SpaceHandle {
         Ok(())
     }
 
-    /// Moves a watch into an empty handle; see [`Space::watch`]. Fails with `NoHandle` if there is
-    /// no space, and then with `InUse` if the watch's handle isn't empty.
+    /// Moves a watch into an empty handle; see [`SeatedSpace::watch`]. Fails with
+    /// `NoHandle` if there is no space, and then with `InUse` if the watch's handle isn't empty.
     pub fn watch(&mut self, alloc: Global, to: &mut WatchHandle) -> Result<(), Fault>
         ensures { Moved TakesWatch self.old.held self.new.held to.old.held to.new.held result }
     {

@@ -12,7 +12,7 @@ use Rattle.cell.proofs.Places.{mapped-there}
 use Rattle.workers.specs.Runs.{IsReport}
 use Rattle.workers.specs.declared.run.Report.{Report}
 use Rattle.supervisor.specs.Teams.{AreOthers, HasRoom, working}
-use Rattle.supervisor.specs.declared.team.Plan.{Plan}
+use Rattle.supervisor.specs.declared.team.TeamPlan.{TeamPlan}
 use Rattle.supervisor.specs.declared.team.Reports.{Reports}
 use Rattle.supervisor.specs.declared.team.Team.{Team}
 
@@ -82,10 +82,10 @@ room-left t node nodes each none more room reports =
     }
 
 -- the report that a worker of this plan promised
-pub report-in : (plan : Plan) (of : Reports) (r : Report) → of.plan ≡ plan
+pub report-in : (plan : TeamPlan) (of : Reports) (r : Report) → of.plan ≡ plan
     → IsReport of.node of.plan.nodes of.plan.turns r → IsReport r.node plan.nodes plan.turns r
 report-in plan of r same h =
-    subst (λ (p : Plan). IsReport r.node p.nodes p.turns r) same
+    subst (λ (p : TeamPlan). IsReport r.node p.nodes p.turns r) same
     (subst (λ (n : ℕ). IsReport n of.plan.nodes of.plan.turns r) (sym h.2.own) h)
 
 -- the worker of one more node, for those that were started before

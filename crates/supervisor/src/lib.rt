@@ -12,4 +12,4 @@ pub use closing::{CloseFault, Closed, Unclosed};
 pub use serving::{Program, Served};
 pub use settings::{Config, OpenFault};
 pub use space::{AllEnded, LastLook, Opened, Space, SpaceOn};
-pub use team::{Plan, Team};
+pub use team::{Team, TeamPlan};

@@ -29,7 +29,7 @@ ghost use Rattle.supervisor.specs.declared.cells.TheConstants.{WATCHES};
 
 use crate::cells::{open_alone, share_on};
 use crate::closing::{Closed, Unclosed, close_cells};
-use crate::team::{Plan, Team};
+use crate::team::{Team, TeamPlan};
 use cell::{Cell, Naming, SharedOn, Unnamed};
 use disk::Disk;
 use ids::{Cycle, Refusal};
@@ -48,7 +48,7 @@ use workers::{Ended, Gate, Report};
 #[derive(Drop)]
 pub struct Opened<D: Disk> {
     alloc: Global,
-    plan: Plan,
+    plan: TeamPlan,
     wire: Wire,
     cells: Vec<Cell<D>>,
     watches: Vec<Watch>,
@@ -83,7 +83,7 @@ impl<D: Disk + Drop> Opened<D> {
         let (wire, cells, watches) = open_alone(alloc, shape, disks)?;
         Ok(Opened {
             alloc,
-            plan: Plan {
+            plan: TeamPlan {
                 nodes: shape.nodes(),
                 turns: config.turns,
             },
@@ -126,7 +126,7 @@ impl<D: Disk + Drop> Opened<D> {
 #[derive(Drop)]
 pub struct SpaceOn<D: Disk, W: Naming> {
     alloc: Global,
-    plan: Plan,
+    plan: TeamPlan,
     wire: Arc<Wire>,
     cells: Vec<Arc<SharedOn<D, W>>>,
     watches: Vec<Watch>,

@@ -14,11 +14,11 @@ use std::marker::{Brand, PhantomData};
 use std::sync::{Arc, Wait};
 use std::thread;
 use std::thread::{Promise, PromisedHandle, Threads};
-use workers::{Ended, Gate, Report, Site, Stop, run_node};
+use workers::{Ended, Gate, Report, Station, Stop, run_node};
 
 /// How many workers there are, and how many turns each takes at most.
 #[derive(Clone, Copy, Debug, PartialEq, Eq)]
-pub struct Plan {
+pub struct TeamPlan {
     pub nodes: u8,
     pub turns: u32,
 }
@@ -52,7 +52,7 @@ struct Order<O: Ordered> {
 #[derive(Clone, Copy)]
 struct Reports {
     node: u8,
-    plan: Plan,
+    plan: TeamPlan,
 }
 
 impl Promise<Report> for Reports {
@@ -84,7 +84,7 @@ struct Worker {
 #[derive(Drop)]
 pub struct Team {
     halt: Halt,
-    plan: Plan,
+    plan: TeamPlan,
     workers: Vec<Worker>,
     reports: Vec<Report>,
     ghost room: { vec_len workers + vec_len reports ≤ vec_capacity reports },
@@ -94,10 +94,10 @@ pub struct Team {
 
 // What a worker's thread does: it receives its order and takes its turns. (A channel that was
 // filled always gives the order.)
-fn work<O: Ordered, R: Wait, S: Site, G: Gate>(
+fn work<O: Ordered, R: Wait, S: Station, G: Gate>(
     rt: &R,
     orders: &Receiver<Order<O>>,
-    site: &S,
+    station: &S,
     gate: &G,
     of: Reports,
     stop: &Stop,
@@ -110,14 +110,14 @@ fn work<O: Ordered, R: Wait, S: Site, G: Gate>(
         Ok(order) => (order.node, order.turns),
         Err(_) => (of.node, of.plan.turns),
     };
-    run_node(rt, site, gate, node, of.plan.nodes, turns, stop).report
+    run_node(rt, station, gate, node, of.plan.nodes, turns, stop).report
 }
 
 // Starts the thread of a worker, whose order has the name of `O`.
 fn start_named<O, R, S, G>(
     rt: &R,
     alloc: Global,
-    site: &Arc<S>,
+    station: &Arc<S>,
     gate: &Arc<G>,
     stop: &Arc<Stop>,
     of: Reports,
@@ -125,14 +125,14 @@ fn start_named<O, R, S, G>(
 where
     O: Ordered + Send + 'static,
     R: Threads + Wait + Clone + Send + Drop + 'static,
-    S: Site + Send + Sync + Drop + 'static,
+    S: Station + Send + Sync + Drop + 'static,
     G: Gate + Send + Sync + Drop + 'static,
     requires node { of.node ≡ O.node }
     requires turns { of.plan.turns ≡ O.turns }
     ensures started { IfOk result (λ w. w.of ≡ of) }
     ensures refused { IfErr result (λ e. e ≡ Memory) }
 {
-    let site = site.clone()?;
+    let station = station.clone()?;
     let gate = gate.clone()?;
     let stop = stop.clone()?;
     let theirs = rt.clone()?;
@@ -149,7 +149,7 @@ where
         requires node { of.node ≡ O.node }
         requires turns { of.plan.turns ≡ O.turns }
         ensures { IsReport of.node of.plan.nodes of.plan.turns result }
-    { work::<O, R, S, G>(&theirs, &orders, &*site, &*gate, of, &*stop) };
+    { work::<O, R, S, G>(&theirs, &orders, &*station, &*gate, of, &*stop) };
     match thread::spawn_with(rt, of, task) {
         Ok(handle) => Ok(Worker { of, handle }),
         Err(_) => Err(Refusal::Memory),
@@ -160,19 +160,19 @@ where
 fn start_thread<R, S, G>(
     rt: &R,
     alloc: Global,
-    site: &Arc<S>,
+    station: &Arc<S>,
     gate: &Arc<G>,
     stop: &Arc<Stop>,
     of: Reports,
 ) -> Result<Worker, Refusal>
 where
     R: Threads + Wait + Clone + Send + Drop + 'static,
-    S: Site + Send + Sync + Drop + 'static,
+    S: Station + Send + Sync + Drop + 'static,
     G: Gate + Send + Sync + Drop + 'static,
     ensures started { IfOk result (λ w. w.of ≡ of) }
     ensures refused { IfErr result (λ e. e ≡ Memory) }
 {
-    start_named::<Brand, R, S, G>(rt, alloc, site, gate, stop, of)
+    start_named::<Brand, R, S, G>(rt, alloc, station, gate, stop, of)
 }
 
 // Sorts reports by node.
@@ -197,7 +197,7 @@ impl Team {
     ghost use Rattle.supervisor.specs.Teams.{AreOthers, HasRoom, nodes_of, working};
 
     // No workers yet, with room for those of this plan and for their reports.
-    fn empty(alloc: Global, plan: Plan) -> Result<Team, Refusal>
+    fn empty(alloc: Global, plan: TeamPlan) -> Result<Team, Refusal>
         ensures plan { IfOk result (λ t. t.plan ≡ plan) }
         ensures room { IfOk result (λ t. plan.nodes ≤ vec_capacity t.workers) }
         ensures reports { IfOk result (λ t. plan.nodes ≤ vec_capacity t.reports) }
@@ -229,23 +229,23 @@ impl Team {
         self.workers.push_reserved(worker);
     }
 
-    /// Starts a worker for each site, the first for node 0. Each receives its order, its node and
-    /// its turn limit, through a channel of its own.
+    /// Starts a worker for each station, the first for node 0. Each receives its order, its node
+    /// and its turn limit, through a channel of its own.
     ///
     /// `Memory` if an allocation or the creation of a thread failed: the workers that had been
     /// started are then stopped and joined.
     pub fn start<R, S, G>(
         rt: &R,
         alloc: Global,
-        sites: &[Arc<S>],
+        stations: &[Arc<S>],
         gate: &Arc<G>,
-        plan: Plan,
+        plan: TeamPlan,
     ) -> Result<Team, Refusal>
     where
         R: Threads + Wait + Clone + Send + Drop + 'static,
-        S: Site + Send + Sync + Drop + 'static,
+        S: Station + Send + Sync + Drop + 'static,
         G: Gate + Send + Sync + Drop + 'static,
-        requires { length sites.now ≡ plan.nodes }
+        requires { length stations.now ≡ plan.nodes }
         ensures plan { IfOk result (λ t. t.plan ≡ plan) }
         ensures each { IfOk result (λ t. working t ≡ range_with_len 0 plan.nodes) }
         ensures none_ended { IfOk result (λ t. t.reports.items ≡ []) }
@@ -253,8 +253,8 @@ impl Team {
     {
         let mut team = Team::empty(alloc, plan)?;
         for node in 0..plan.nodes {
-            let site = &sites[usize::from(node)];
-            if let Err(refusal) = team.begin(rt, alloc, site, gate, node) {
+            let station = &stations[usize::from(node)];
+            if let Err(refusal) = team.begin(rt, alloc, station, gate, node) {
                 let _ = team.close(rt);
                 return Err(refusal);
             }
@@ -268,13 +268,13 @@ impl Team {
         &mut self,
         rt: &R,
         alloc: Global,
-        site: &Arc<S>,
+        station: &Arc<S>,
         gate: &Arc<G>,
         node: u8,
     ) -> Result<(), Refusal>
     where
         R: Threads + Wait + Clone + Send + Drop + 'static,
-        S: Site + Send + Sync + Drop + 'static,
+        S: Station + Send + Sync + Drop + 'static,
         G: Gate + Send + Sync + Drop + 'static,
         requires room { HasRoom self.old }
         ensures begun { OnOk result (working self.new ≡ working self.old ++ node ∷ []) }
@@ -288,7 +288,7 @@ impl Team {
             node,
             plan: self.plan,
         };
-        let worker = start_thread(rt, alloc, site, gate, &self.halt.stop, of)?;
+        let worker = start_thread(rt, alloc, station, gate, &self.halt.stop, of)?;
         self.add(worker);
         Ok(())
     }

@@ -5,9 +5,9 @@ use Rattle.model.specs.declared.event.Event.{Event}
 use Rattle.model.specs.declared.event.Event.TheVariants as event
 use Rattle.trace.specs.declared.call.Call.{Call}
 use Rattle.trace.specs.declared.call.Call.TheVariants.{Alloc, Copy, Drop, Load, Store, Clear, Word, SetWord, Give, Accept, Put, Get, Begin, Scan, Pass, Sweep, Next, Data, Ack, Save, Reopen}
-use Rattle.trace.specs.declared.call.Outcome.{Outcome}
-use Rattle.trace.specs.declared.call.Outcome.TheVariants.{Done, Repeat, Early, Refused}
-use Rattle.trace.specs.declared.trace.Line.{Line}
+use Rattle.trace.specs.declared.call.CallOutcome.{CallOutcome}
+use Rattle.trace.specs.declared.call.CallOutcome.TheVariants.{Done, Repeat, Early, Refused}
+use Rattle.trace.specs.declared.trace.TraceLine.{TraceLine}
 
 abbrev pub call_of : Event → Call
 call_of (event.Alloc register places) = Alloc
@@ -54,11 +54,11 @@ word_of Save = codes "save"
 word_of Reopen = codes "reopen"
 
 -- a refusal is written as its number
-abbrev pub outcome_text : Outcome → List ℕ
+abbrev pub outcome_text : CallOutcome → List ℕ
 outcome_text Done = codes "ok"
 outcome_text Repeat = codes "repeat"
 outcome_text Early = codes "early"
 outcome_text (Refused e) = decimal (number_of e)
 
-abbrev pub line_text : Line → List ℕ
+abbrev pub line_text : TraceLine → List ℕ
 line_text l = word_of l.call ++ (codes " " ++ outcome_text l.outcome)

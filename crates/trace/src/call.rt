@@ -93,7 +93,7 @@ impl Call {
 
 /// The outcome of a call.
 #[derive(Clone, Copy)]
-pub enum Outcome {
+pub enum CallOutcome {
     /// It succeeded.
     Done,
     /// The message had been received before.
@@ -104,15 +104,15 @@ pub enum Outcome {
     Refused(Refusal),
 }
 
-impl fmt::Display for Outcome {
+impl fmt::Display for CallOutcome {
     ghost output = { λ o. Some (outcome_text o) };
 
     fn fmt<W: fmt::Write>(&self, f: &mut fmt::Formatter<W>) -> fmt::Result {
         match self {
-            Outcome::Done => write!(f, "ok"),
-            Outcome::Repeat => write!(f, "repeat"),
-            Outcome::Early => write!(f, "early"),
-            Outcome::Refused(refusal) => write!(f, "{}", refusal.number()),
+            CallOutcome::Done => write!(f, "ok"),
+            CallOutcome::Repeat => write!(f, "repeat"),
+            CallOutcome::Early => write!(f, "early"),
+            CallOutcome::Refused(refusal) => write!(f, "{}", refusal.number()),
         }
     }
 }

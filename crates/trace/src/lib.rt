@@ -5,5 +5,5 @@
 mod call;
 mod trace;
 
-pub use call::{Call, Outcome};
-pub use trace::{Line, Trace};
+pub use call::{Call, CallOutcome};
+pub use trace::{Trace, TraceLine};

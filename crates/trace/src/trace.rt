@@ -6,7 +6,7 @@ ghost use Rattle.ids.specs.declared.limits.TheConstants.{TRACE_EVENTS};
 ghost use Rattle.ids.specs.declared.refusal.Refusal.TheVariants.{Memory};
 ghost use Rattle.trace.specs.Lines.{line_text};
 
-use crate::call::{Call, Outcome};
+use crate::call::{Call, CallOutcome};
 use circular_buffer::HeapCircularBuffer;
 use ids::{Refusal, TRACE_EVENTS};
 use std::alloc::Global;
@@ -16,12 +16,12 @@ use std::marker::Model;
 /// A call and its outcome. Its text is the call's word, and `ok`, `repeat`, `early` or the number
 /// of the refusal.
 #[derive(Clone, Copy)]
-pub struct Line {
+pub struct TraceLine {
     pub call: Call,
-    pub outcome: Outcome,
+    pub outcome: CallOutcome,
 }
 
-impl fmt::Display for Line {
+impl fmt::Display for TraceLine {
     ghost output = { λ l. Some (line_text l) };
 
     fn fmt<W: fmt::Write>(&self, f: &mut fmt::Formatter<W>) -> fmt::Result {
@@ -31,7 +31,7 @@ impl fmt::Display for Line {
 
 /// The last [`TRACE_EVENTS`] calls.
 pub struct Trace {
-    lines: HeapCircularBuffer<Line, Global>,
+    lines: HeapCircularBuffer<TraceLine, Global>,
 }
 
 // Written out, so that the crates above need not prove again how each field is dropped.
@@ -44,9 +44,9 @@ impl Drop for Trace {
 impl Model for Trace {
     ghost use Rattle.std.specs.Prelude.{◌≡◌, List};
     ghost use Rattle.ids.specs.declared.limits.TheConstants.{TRACE_EVENTS};
-    ghost use Rattle.trace.specs.declared.trace.Line.{Line};
+    ghost use Rattle.trace.specs.declared.trace.TraceLine.{TraceLine};
 
-    ghost Value = { List Line };
+    ghost Value = { List TraceLine };
 
     ghost view = { λ t. t.lines.items };
 
@@ -64,11 +64,11 @@ impl Trace {
     }
 
     /// Adds a call. If the trace is full, it replaces the oldest one. It allocates nothing.
-    pub fn push(&mut self, call: Call, outcome: Outcome)
+    pub fn push(&mut self, call: Call, outcome: CallOutcome)
         ensures { self.new
             ≡ keep_last TRACE_EVENTS (self.old ++ record { call = call; outcome = outcome } ∷ []) }
     {
-        self.lines.push_back(Line { call, outcome });
+        self.lines.push_back(TraceLine { call, outcome });
     }
 
     /// The texts of the calls, the oldest first. `Memory` if allocation fails.

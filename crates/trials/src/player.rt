@@ -10,7 +10,7 @@ use ids::Refusal;
 use model::{Answer, Event, Letter};
 use std::alloc::{AllocError, Global};
 use std::sync::Wait;
-use workers::Site;
+use workers::Station;
 
 // The register of the object whose word is the label of the next letter to be given.
 const GIVEN: u16 = 0;
@@ -53,19 +53,19 @@ pub(crate) struct Player {
 }
 
 // An event of a program, which may be refused.
-fn act<R: Wait, S: Site>(rt: &R, cell: &S, event: Event) -> Result<Answer, Refusal>
+fn act<R: Wait, S: Station>(rt: &R, cell: &S, event: Event) -> Result<Answer, Refusal>
     requires { is_own event ≡ true }
 {
     cell.act(rt, event)
 }
 
-fn write_word<R: Wait, S: Site>(rt: &R, cell: &S, object: u16, label: u32) {
+fn write_word<R: Wait, S: Station>(rt: &R, cell: &S, object: u16, label: u32) {
     let word = u64::from(label) + 1;
     let _ = act(rt, cell, Event::SetWord { object, word });
 }
 
 // The word of an object; 0 if there is no object.
-fn word<R: Wait, S: Site>(rt: &R, cell: &S, object: u16) -> u64 {
+fn word<R: Wait, S: Station>(rt: &R, cell: &S, object: u16) -> u64 {
     match act(rt, cell, Event::Word { object }) {
         Ok(Answer::Word(word)) => word,
         _ => 0,
@@ -73,7 +73,7 @@ fn word<R: Wait, S: Site>(rt: &R, cell: &S, object: u16) -> u64 {
 }
 
 /// Accepts all letters at a node that other programs used, and drops what two registers hold.
-pub(crate) fn clear_node<R: Wait, S: Site>(rt: &R, cell: &S) {
+pub(crate) fn clear_node<R: Wait, S: Station>(rt: &R, cell: &S) {
     for _ in 0..LETTERS {
         if act(rt, cell, Event::Accept { register: OTHERS }).is_err() {
             break;
@@ -105,7 +105,7 @@ fn cut(letters: &mut Vec<Noted>, label: u64) {
 impl Player {
     /// The program of a node of this many. It has the objects for its words, and has been saved
     /// with them.
-    pub(crate) fn new<R: Wait, S: Site>(
+    pub(crate) fn new<R: Wait, S: Station>(
         rt: &R,
         alloc: Global,
         cell: &S,
@@ -132,13 +132,13 @@ impl Player {
     }
 
     /// Its node was restarted.
-    pub(crate) fn restart<R: Wait, S: Site>(&mut self, rt: &R, cell: &S) {
+    pub(crate) fn restart<R: Wait, S: Station>(&mut self, rt: &R, cell: &S) {
         cut(&mut self.given, word(rt, cell, GIVEN));
         cut(&mut self.taken, word(rt, cell, TAKEN));
     }
 
     /// Takes a random step.
-    pub(crate) fn step<R: Wait, S: Site>(
+    pub(crate) fn step<R: Wait, S: Station>(
         &mut self,
         rt: &R,
         cell: &S,
@@ -159,7 +159,7 @@ impl Player {
         }
     }
 
-    fn give<R: Wait, S: Site>(
+    fn give<R: Wait, S: Station>(
         &mut self,
         rt: &R,
         cell: &S,
@@ -184,7 +184,7 @@ impl Player {
     }
 
     // Accepts a letter, if one is there.
-    fn take<R: Wait, S: Site>(
+    fn take<R: Wait, S: Station>(
         &mut self,
         rt: &R,
         cell: &S,
@@ -200,7 +200,7 @@ impl Player {
     }
 
     /// Its node was restarted; it accepts all letters that are there.
-    pub(crate) fn take_all<R: Wait, S: Site>(
+    pub(crate) fn take_all<R: Wait, S: Station>(
         &mut self,
         rt: &R,
         cell: &S,

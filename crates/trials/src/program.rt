@@ -12,7 +12,7 @@ use std::sync::atomic::{AtomicU64, Ordering};
 use std::thread;
 use std::thread::Threads;
 use std::time::Clock;
-use workers::{Report, Site};
+use workers::{Report, Station};
 
 // The register of a program's newest object.
 const OWN: u16 = 0;
@@ -64,7 +64,7 @@ pub struct Program<'a, S> {
     seen: Seen,
 }
 
-impl<'a, S: Site> Program<'a, S> {
+impl<'a, S: Station> Program<'a, S> {
     /// The program of a node of this many, which plays this many rounds.
     pub fn new(
         alloc: Global,
@@ -314,7 +314,7 @@ pub(crate) fn beside(own: u8, nodes: u8) -> (u8, u8) {
 pub fn play_all<R, S>(rt: &R, programs: &mut [Program<'_, S>], nodes: u8)
 where
     R: Clock + Threads + Wait + Sync,
-    S: Site + Sync,
+    S: Station + Sync,
 {
     let count = u64::from(nodes);
     let play = move |_place: usize, program: &mut Program<'_, S>| {

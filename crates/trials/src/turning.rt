@@ -11,7 +11,7 @@ use disk::MemoryDisk;
 use model::Event;
 use std::alloc::Global;
 use std::sync::Wait;
-use workers::{Site, turn_node};
+use workers::{Station, turn_node};
 
 /// How many words are written before each turn, as the case says. If one is, each turn saves the
 /// node.
@@ -24,12 +24,12 @@ pub(crate) fn writes_of(word: &str) -> Result<u32, Stop> {
 }
 
 // Repeats an event of a node's program this many times; how often it was refused.
-fn act<R: Wait, S: Site>(rt: &R, site: &S, event: Event, count: u32) -> u64
+fn act<R: Wait, S: Station>(rt: &R, station: &S, event: Event, count: u32) -> u64
     requires { is_own event ≡ true }
 {
     let mut refused = 0u64;
     for _ in 0..count {
-        if site.act(rt, event).is_err() {
+        if station.act(rt, event).is_err() {
             refused = refused.saturating_add(1);
         }
     }
@@ -38,17 +38,23 @@ fn act<R: Wait, S: Site>(rt: &R, site: &S, event: Event, count: u32) -> u64
 
 // Takes this many turns of node 0, after filling its slots and saving it. The result is how many
 // events were refused.
-fn take_turns<R: Wait, S: Site>(rt: &R, site: &S, size: Size, turns: u32, writes: u32) -> u64 {
+fn take_turns<R: Wait, S: Station>(
+    rt: &R,
+    station: &S,
+    size: Size,
+    turns: u32,
+    writes: u32,
+) -> u64 {
     let object = Event::Alloc {
         register: 0,
         places: 0,
     };
-    let mut refused = act(rt, site, object, size.slots);
-    let _ = site.save(rt);
+    let mut refused = act(rt, station, object, size.slots);
+    let _ = station.save(rt);
     for _ in 0..turns {
         let word = Event::SetWord { object: 0, word: 7 };
-        refused = refused.saturating_add(act(rt, site, word, writes));
-        drop(turn_node(rt, site, &Open, 0, size.nodes, 1));
+        refused = refused.saturating_add(act(rt, station, word, writes));
+        drop(turn_node(rt, station, &Open, 0, size.nodes, 1));
     }
     refused
 }
@@ -64,7 +70,7 @@ pub(crate) fn turn_often<R: Wait>(
 ) -> Option<u64> {
     let space = opened(alloc, size)?;
     let refused = match space.program(0) {
-        Some(site) => Some(take_turns(rt, site, size, turns, writes)),
+        Some(station) => Some(take_turns(rt, station, size, turns, writes)),
         None => None,
     };
     drop(space);
@@ -72,16 +78,16 @@ pub(crate) fn turn_often<R: Wait>(
 }
 
 // The calls of node 0 in a turn, an event of its program, and two more turns.
-fn trace_turns<R: Wait>(rt: &R, site: &Shared<MemoryDisk>, nodes: u8) -> Option<Vec<String>> {
-    drop(turn_node(rt, site, &Open, 0, nodes, 1));
+fn trace_turns<R: Wait>(rt: &R, station: &Shared<MemoryDisk>, nodes: u8) -> Option<Vec<String>> {
+    drop(turn_node(rt, station, &Open, 0, nodes, 1));
     let object = Event::Alloc {
         register: 0,
         places: 0,
     };
-    site.act(rt, object).ok()?;
-    drop(turn_node(rt, site, &Open, 0, nodes, 2));
-    drop(turn_node(rt, site, &Open, 0, nodes, 3));
-    site.trace_lines(rt).ok()
+    station.act(rt, object).ok()?;
+    drop(turn_node(rt, station, &Open, 0, nodes, 2));
+    drop(turn_node(rt, station, &Open, 0, nodes, 3));
+    station.trace_lines(rt).ok()
 }
 
 /// Node 0 of a space of this many nodes takes a turn, makes an object, and takes two more turns. The

@@ -1,5 +1,6 @@
-//! Turns of a worker on a site that records what it is asked and gives scripted answers. So the
-//! calls of a turn are seen in order. Runs of a worker are on a site that always answers the same.
+//! Turns of a worker on a station that records what it is asked and gives scripted answers. So the
+//! calls of a turn are seen in order. Runs of a worker are on a station that always answers the
+//! same.
 use crate::spaces::stage_of;
 use cases::{Out, Stop, number, verb, word};
 use ids::{Ref, Refusal};
@@ -9,7 +10,7 @@ use std::cell::{Cell, RefCell};
 use std::fmt::Display;
 use std::sync::Wait;
 use wire::{Inbound, Outbound, Raised};
-use workers::{Gate, Point, Report, Site, Stage, run_node, turn_node};
+use workers::{Gate, Point, Report, Stage, Station, run_node, turn_node};
 
 // The number of the turn that is recorded.
 const TURN: u32 = 7;
@@ -57,7 +58,7 @@ impl Recorder {
     }
 }
 
-impl Site for Recorder {
+impl Station for Recorder {
     fn pump_in<R: Wait>(&self, _rt: &R, from: u8) -> Result<Inbound, Refusal> {
         self.note(&format_args!("pump_in {from}"));
         Ok(Inbound::Empty)
@@ -112,11 +113,11 @@ impl Gate for Recorder {
     }
 }
 
-// How many objects each sweep of a busy site frees.
+// How many objects each sweep of a busy station frees.
 const FREED: u32 = 2;
 
-/// A site that always has a message of each other node, and frees objects in each sweep. As a gate
-/// it ends the worker at a stage of a turn.
+/// A station that always has a message of each other node, and frees objects in each sweep. As a
+/// gate it ends the worker at a stage of a turn.
 #[derive(Drop)]
 struct Busy {
     end: (u32, Stage),
@@ -124,7 +125,7 @@ struct Busy {
     last: Cell<u32>,
 }
 
-impl Site for Busy {
+impl Station for Busy {
     fn pump_in<R: Wait>(&self, _rt: &R, _from: u8) -> Result<Inbound, Refusal> {
         Ok(Inbound::Event(Answer::Received))
     }
@@ -166,7 +167,7 @@ impl Gate for Busy {
     }
 }
 
-// What was seen of a worker's run on a busy site.
+// What was seen of a worker's run on a busy station.
 #[derive(Clone, Copy, Debug)]
 struct Ran {
     report: Report,
@@ -176,7 +177,7 @@ struct Ran {
     ended: (u64, u64),
 }
 
-// A worker's run on a busy site: `NODE NODES TURNS END STAGE`.
+// A worker's run on a busy station: `NODE NODES TURNS END STAGE`.
 fn run<R: Wait>(rt: &R, words: &[&str], stop: &workers::Stop) -> Result<Ran, Stop> {
     let busy = Busy {
         end: (number(words, 4)?, stage_of(word(words, 5)?)?),

@@ -3,12 +3,12 @@ use Rattle.std.proofs.Common.{◌≡◌, ℕ, ◌+◌, Bool, true, List, ◌∷�
 use Rattle.std.specs.Result.{result_err}
 use Rattle.workers.specs.Calls.{Called, Makes, asked}
 use Rattle.workers.specs.Turns.{at, collects, raises, saves, sends, takes, turn_of}
-use Rattle.workers.specs.declared.calls.Past.{Past}
+use Rattle.workers.specs.declared.calls.CallsMade.{CallsMade}
 use Rattle.workers.specs.declared.gate.Stage.{Stage}
 use Rattle.workers.specs.declared.gate.Stage.TheVariants as stage
 
 -- these calls, and then those
-pub then : {first second : List Called} {r f s g : ℕ} {old middle new : Past}
+pub then : {first second : List Called} {r f s g : ℕ} {old middle new : CallsMade}
     → Makes first r f old middle → Makes second s g middle new
     → Makes (first ++ second) (r + s) (f + g) old new
 then {first} {second} {r} {f} {s} {g} {old} {middle} {new} before after =
@@ -21,7 +21,7 @@ then {first} {second} {r} {f} {s} {g} {old} {middle} {new} before after =
     }
 
 -- a question to the gate, with its answer
-pub answered : {node turn r f : ℕ} {s : Stage} {b : Bool} {old new : Past} (answer : Bool)
+pub answered : {node turn r f : ℕ} {s : Stage} {b : Bool} {old new : CallsMade} (answer : Bool)
     → b ≡ answer → Makes (at node turn s b ∷ []) r f old new
     → Makes (at node turn s answer ∷ []) r f old new
 answered {node} {turn} {r} {f} {s} {old = old} {new = new} answer is makes =
@@ -37,7 +37,7 @@ up_to_sent node nodes turn scanned unsaved goes_on =
     ++ (sends node nodes ++ (raises node ++ at node turn stage.Sent goes_on ∷ []))))))))
 
 -- a whole turn, whether or not its last question ends the worker
-pub at-last : {T : Type 0} (past : Past) (node nodes turn scanned : ℕ) (unsaved : Bool)
+pub at-last : {T : Type 0} (past : CallsMade) (node nodes turn scanned : ℕ) (unsaved : Bool)
     (r : Result T Stage) → IfErr r (λ s. s ≡ stage.Sent)
     → asked past ≡ up_to_sent node nodes turn scanned unsaved (is_ok r)
     → asked past ≡ turn_of node nodes turn (result_err r) scanned unsaved

@@ -2,9 +2,9 @@
 use Rattle.std.specs.Prelude.{◌≡◌, ℕ, ◌+◌, Bool, is_ok, List, [], ◌∷◌, ◌++◌, Ok}
 use Rattle.model.specs.declared.event.Answer.TheVariants as answer
 use Rattle.wire.specs.declared.pumped.Inbound.TheVariants as inbound
-use Rattle.workers.specs.declared.calls.Call.{Call}
-use Rattle.workers.specs.declared.calls.Call.TheVariants as call
-use Rattle.workers.specs.declared.calls.Past.{Past, Start, Then'}
+use Rattle.workers.specs.declared.calls.WorkerCall.{WorkerCall}
+use Rattle.workers.specs.declared.calls.WorkerCall.TheVariants as call
+use Rattle.workers.specs.declared.calls.CallsMade.{CallsMade, Start, Then'}
 use Rattle.workers.specs.declared.gate.Point.{Point}
 
 -- what was called: a call without its answer, unless the turn depends on that
@@ -19,7 +19,7 @@ pub data Called : Type 0 where
   PumpOut : ℕ → Called
   Raise : Called
 
-abbrev pub plain : Call → Called
+abbrev pub plain : WorkerCall → Called
 plain (call.At point goes_on) = At point goes_on
 plain (call.PumpIn from answered) = PumpIn from
 plain (call.Scan answered) = Scan (is_ok answered)
@@ -32,34 +32,34 @@ plain call.Raise = Raise
 
 -- how many messages a call received: a message counts once it is received, neither when it comes
 -- early nor when it comes again
-abbrev pub received_by : Call → ℕ
+abbrev pub received_by : WorkerCall → ℕ
 received_by (call.PumpIn from (Ok (inbound.Event answer.Received))) = 1
 received_by _ = 0
 
 -- how many objects a call freed
-abbrev pub freed_by : Call → ℕ
+abbrev pub freed_by : WorkerCall → ℕ
 freed_by (call.Sweep count (Ok (answer.Freed freed done))) = freed
 freed_by _ = 0
 
 -- the completed calls
-abbrev pub asked : Past → List Called
+abbrev pub asked : CallsMade → List Called
 asked Start = []
 asked (Then' m before c) = asked before ++ plain c ∷ []
 
-abbrev pub received_in : Past → ℕ
+abbrev pub received_in : CallsMade → ℕ
 received_in Start = 0
 received_in (Then' m before c) = received_in before + received_by c
 
-abbrev pub freed_in : Past → ℕ
+abbrev pub freed_in : CallsMade → ℕ
 freed_in Start = 0
 freed_in (Then' m before c) = freed_in before + freed_by c
 
 -- these calls were made, and received this many messages and freed this many objects
-pub record Makes (calls : List Called) (received freed : ℕ) (old new : Past) : Type 0 where
+pub record Makes (calls : List Called) (received freed : ℕ) (old new : CallsMade) : Type 0 where
   pub asks : asked new ≡ asked old ++ calls
   pub receives : received_in new ≡ received_in old + received
   pub frees : freed_in new ≡ freed_in old + freed
 
 -- one more call
-abbrev pub Adds : Call → Past → Past → Type 0
+abbrev pub Adds : WorkerCall → CallsMade → CallsMade → Type 0
 Adds c old new = Makes (plain c ∷ []) (received_by c) (freed_by c) old new

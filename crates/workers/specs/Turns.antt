@@ -1,7 +1,7 @@
 -- The calls of a worker's turns.
 use Rattle.std.specs.Prelude.{◌≡◌, ℕ, ◌+◌, ◌≤◌, zero, suc, nat_lt, ◌==◌, Bool, true, false, not, cond, List, [], ◌∷◌, ◌++◌, replicate, Option, Some, None}
 use Rattle.workers.specs.Calls.{Called, At, Pass, PumpIn, PumpOut, Raise, Save, Scan, Sweep, Unsaved, asked, freed_in, received_in}
-use Rattle.workers.specs.declared.calls.Past.{Past}
+use Rattle.workers.specs.declared.calls.CallsMade.{CallsMade}
 use Rattle.workers.specs.declared.gate.Stage.{Stage}
 use Rattle.workers.specs.declared.gate.Stage.TheVariants as stage
 use Rattle.workers.specs.declared.run.Turns.{Turns, Start, Then'}
@@ -62,14 +62,14 @@ turn_of node nodes turn ended scanned unsaved =
 
 -- a turn with this number, for a node of a space of this many nodes, up to the stage at which the
 -- gate ended the worker
-pub record IsTurn (node nodes turn : ℕ) (ended : Option Stage) (past : Past) : Type 0 where
+pub record IsTurn (node nodes turn : ℕ) (ended : Option Stage) (past : CallsMade) : Type 0 where
   pub scanned : ℕ
   pub few : scanned ≤ 8
   pub unsaved : Bool
   pub whole : asked past ≡ turn_of node nodes turn ended scanned unsaved
 
 -- nothing has been done yet in the turn
-pub record IsNew (c : Counts) (past : Past) : Type 0 where
+pub record IsNew (c : Counts) (past : CallsMade) : Type 0 where
   pub asks : asked past ≡ []
   pub receives : received_in past ≡ 0
   pub frees : freed_in past ≡ 0
@@ -107,7 +107,7 @@ freed_over Start = 0
 freed_over (Then' m before past) = freed_over before + freed_in past.value
 
 -- One more turn. If the turns before are a node's turns and this is its next one, all of them are.
-pub record AddsTurn (past : Past) (old new : Turns) : Type 0 where
+pub record AddsTurn (past : CallsMade) (old new : Turns) : Type 0 where
   pub counts : count new ≡ count old + 1
   pub wholes : (ended : Option Stage)
       → whole_turns ended new ≡ count old + cond (is_whole ended) 1 0

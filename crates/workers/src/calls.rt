@@ -1,12 +1,12 @@
-//! The calls of a worker's turn. A turn calls its site and its gate only through [`Calls`], which
-//! adds each call to a record. So the record is what was called, in order, and a turn's contract is
-//! stated in terms of it. Only proofs read it: it takes up no bytes.
+//! The calls of a worker's turn. A turn calls its station and its gate only through [`Calls`],
+//! which adds each call to a record. So the record is what was called, in order, and a turn's
+//! contract is stated in terms of it. Only proofs read it: it takes up no bytes.
 ghost use Rattle.std.specs.Prelude.{◌≡◌, ◌∷◌, [], cond};
 ghost use Rattle.workers.specs.Calls.{At, Pass, PumpIn, PumpOut, Raise, Save, Scan, Sweep, Unsaved};
 ghost use Rattle.workers.specs.Calls.{asked, freed_in, received_in, Adds, Makes};
 
 use crate::gate::{Gate, Point};
-use crate::site::Site;
+use crate::station::Station;
 use ids::Refusal;
 use model::{Answer, Event};
 use std::mem;
@@ -16,7 +16,7 @@ use wire::Inbound;
 
 /// A call that a worker made, with its answer if that is counted or decides how the turn goes on.
 #[derive(Clone, Copy)]
-pub enum Call {
+pub enum WorkerCall {
     /// The gate was told of this point, and then asked; whether the worker continues.
     At {
         point: Point,
@@ -54,47 +54,50 @@ pub enum Call {
 
 /// The completed calls of a turn. Only proofs read it: a snapshot takes up no bytes.
 #[derive(Drop)]
-pub enum Past {
+pub enum CallsMade {
     Start,
-    Then { before: Snapshot<Past>, call: Call },
+    Then {
+        before: Snapshot<CallsMade>,
+        call: WorkerCall,
+    },
 }
 
-/// The site and the gate of a worker, with the record of a turn's calls. Each method makes one call
-/// and adds it. Nothing else has the site or the gate, or changes the record.
+/// The station and the gate of a worker, with the record of a turn's calls. Each method makes one
+/// call and adds it. Nothing else has the station or the gate, or changes the record.
 #[derive(Drop)]
 pub(crate) struct Calls<'a, S, G> {
-    site: &'a S,
+    station: &'a S,
     gate: &'a G,
-    past: Snapshot<Past>,
+    past: Snapshot<CallsMade>,
 }
 
-impl<'a, S: Site, G: Gate> Calls<'a, S, G> {
+impl<'a, S: Station, G: Gate> Calls<'a, S, G> {
     /// No calls yet.
-    pub(crate) fn new(site: &'a S, gate: &'a G) -> Self
+    pub(crate) fn new(station: &'a S, gate: &'a G) -> Self
         ensures asked { asked result.past.value ≡ [] }
         ensures received { received_in result.past.value ≡ 0 }
         ensures freed { freed_in result.past.value ≡ 0 }
     {
         Calls {
-            site,
+            station,
             gate,
-            past: Snapshot::of(&Past::Start),
+            past: Snapshot::of(&CallsMade::Start),
         }
     }
 
     /// The record.
-    pub(crate) fn into_past(self) -> Snapshot<Past>
+    pub(crate) fn into_past(self) -> Snapshot<CallsMade>
         ensures { result ≡ self.entry.past }
     {
         let Calls { past, .. } = self;
         past
     }
 
-    fn note(&mut self, call: Call)
+    fn note(&mut self, call: WorkerCall)
         ensures { Adds call self.old.past.value self.new.past.value }
     {
-        let before = mem::replace(&mut self.past, Snapshot::of(&Past::Start));
-        self.past = Snapshot::of(&Past::Then { before, call });
+        let before = mem::replace(&mut self.past, Snapshot::of(&CallsMade::Start));
+        self.past = Snapshot::of(&CallsMade::Then { before, call });
     }
 
     /// Calls `at` of the gate, and then `go_on`, which returns whether the worker continues.
@@ -103,7 +106,7 @@ impl<'a, S: Site, G: Gate> Calls<'a, S, G> {
     {
         self.gate.at(point);
         let goes_on = self.gate.go_on(point);
-        self.note(Call::At { point, goes_on });
+        self.note(WorkerCall::At { point, goes_on });
         goes_on
     }
 
@@ -113,8 +116,8 @@ impl<'a, S: Site, G: Gate> Calls<'a, S, G> {
         ensures { Makes (PumpIn from ∷ []) (cond result 1 0) 0
             self.old.past.value self.new.past.value }
     {
-        let answered = self.site.pump_in(rt, from);
-        self.note(Call::PumpIn { from, answered });
+        let answered = self.station.pump_in(rt, from);
+        self.note(WorkerCall::PumpIn { from, answered });
         match answered {
             Ok(Inbound::Event(Answer::Received)) => true,
             Ok(_) | Err(_) => false,
@@ -125,8 +128,8 @@ impl<'a, S: Site, G: Gate> Calls<'a, S, G> {
     pub(crate) fn scan<R: Wait>(&mut self, rt: &R) -> bool
         ensures { Makes (Scan result ∷ []) 0 0 self.old.past.value self.new.past.value }
     {
-        let answered = self.site.act(rt, Event::Scan);
-        self.note(Call::Scan { answered });
+        let answered = self.station.act(rt, Event::Scan);
+        self.note(WorkerCall::Scan { answered });
         answered.is_ok()
     }
 
@@ -134,16 +137,16 @@ impl<'a, S: Site, G: Gate> Calls<'a, S, G> {
     pub(crate) fn pass<R: Wait>(&mut self, rt: &R)
         ensures { Makes (Pass ∷ []) 0 0 self.old.past.value self.new.past.value }
     {
-        let _ = self.site.act(rt, Event::Pass);
-        self.note(Call::Pass);
+        let _ = self.station.act(rt, Event::Pass);
+        self.note(WorkerCall::Pass);
     }
 
     /// Sweeps slots, if there is a cycle to sweep; returns how many objects it freed.
     pub(crate) fn sweep<R: Wait>(&mut self, rt: &R, count: u32) -> u32
         ensures { Makes (Sweep count ∷ []) 0 result self.old.past.value self.new.past.value }
     {
-        let answered = self.site.act(rt, Event::Sweep { count });
-        self.note(Call::Sweep { count, answered });
+        let answered = self.station.act(rt, Event::Sweep { count });
+        self.note(WorkerCall::Sweep { count, answered });
         match answered {
             Ok(Answer::Freed { count, .. }) => count,
             Ok(_) | Err(_) => 0,
@@ -154,8 +157,8 @@ impl<'a, S: Site, G: Gate> Calls<'a, S, G> {
     pub(crate) fn unsaved<R: Wait>(&mut self, rt: &R) -> bool
         ensures { Makes (Unsaved result ∷ []) 0 0 self.old.past.value self.new.past.value }
     {
-        let unsaved = self.site.unsaved(rt);
-        self.note(Call::Unsaved { unsaved });
+        let unsaved = self.station.unsaved(rt);
+        self.note(WorkerCall::Unsaved { unsaved });
         unsaved
     }
 
@@ -163,23 +166,23 @@ impl<'a, S: Site, G: Gate> Calls<'a, S, G> {
     pub(crate) fn save<R: Wait>(&mut self, rt: &R)
         ensures { Makes (Save ∷ []) 0 0 self.old.past.value self.new.past.value }
     {
-        let _ = self.site.save(rt);
-        self.note(Call::Save);
+        let _ = self.station.save(rt);
+        self.note(WorkerCall::Save);
     }
 
     /// Sends a frame to another node, if there is room.
     pub(crate) fn send<R: Wait>(&mut self, rt: &R, to: u8)
         ensures { Makes (PumpOut to ∷ []) 0 0 self.old.past.value self.new.past.value }
     {
-        let _ = self.site.pump_out(rt, to);
-        self.note(Call::PumpOut { to });
+        let _ = self.station.pump_out(rt, to);
+        self.note(WorkerCall::PumpOut { to });
     }
 
     /// Raises the last ended cycle on the board.
     pub(crate) fn raise<R: Wait>(&mut self, rt: &R)
         ensures { Makes (Raise ∷ []) 0 0 self.old.past.value self.new.past.value }
     {
-        let _ = self.site.raise(rt);
-        self.note(Call::Raise);
+        let _ = self.station.raise(rt);
+        self.note(WorkerCall::Raise);
     }
 }

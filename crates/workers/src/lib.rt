@@ -16,8 +16,8 @@
 //! gate: Sent
 //! ```
 //!
-//! Each line except those of the gate is one or more calls of the site, and programs may act on the
-//! node between any two calls. No lock is held while the gate is asked: it may wait, call the
+//! Each line except those of the gate is one or more calls of the station, and programs may act on
+//! the node between any two calls. No lock is held while the gate is asked: it may wait, call the
 //! space, or end the worker at that point. [`turn_node`] guarantees that a turn makes exactly these
 //! calls, but not what each of them did.
 //!
@@ -29,14 +29,14 @@
 mod calls;
 mod gate;
 mod run;
-mod site;
+mod station;
 mod steps;
 mod stop;
 mod turn;
 
-pub use calls::{Call, Past};
+pub use calls::{CallsMade, WorkerCall};
 pub use gate::{Gate, Point, Stage};
 pub use run::{Report, Run, Turns, run_node};
-pub use site::Site;
+pub use station::Station;
 pub use stop::{Asked, Counted, Ended, Stop};
 pub use turn::{Turn, turn_node};

@@ -4,9 +4,9 @@ ghost use Rattle.std.specs.Prelude.{◌≡◌};
 ghost use Rattle.workers.specs.Runs.{IsRun};
 ghost use Rattle.workers.specs.Turns.{is_whole, AddsTurn};
 
-use crate::calls::Past;
+use crate::calls::CallsMade;
 use crate::gate::{Gate, Stage};
-use crate::site::Site;
+use crate::station::Station;
 use crate::stop::{Asked, Counted, Stop};
 use crate::turn::turn_node;
 use std::snapshot::Snapshot;
@@ -48,7 +48,7 @@ pub enum Turns {
     Start,
     Then {
         before: Snapshot<Turns>,
-        turn: Snapshot<Past>,
+        turn: Snapshot<CallsMade>,
     },
 }
 
@@ -79,7 +79,7 @@ fn is_whole(ended_at: Option<Stage>) -> bool
 }
 
 // Adds a turn.
-fn add(turns: &mut Snapshot<Turns>, turn: Snapshot<Past>)
+fn add(turns: &mut Snapshot<Turns>, turn: Snapshot<CallsMade>)
     ensures { AddsTurn turn.value turns.old.value turns.new.value }
 {
     let before = mem::replace(turns, Snapshot::of(&Turns::Start));
@@ -87,9 +87,9 @@ fn add(turns: &mut Snapshot<Turns>, turn: Snapshot<Past>)
 }
 
 // Takes this many turns, or fewer if the workers are asked to stop or the gate ends this one.
-fn take_turns<R: Wait, S: Site, G: Gate>(
+fn take_turns<R: Wait, S: Station, G: Gate>(
     rt: &R,
-    site: &S,
+    station: &S,
     gate: &G,
     node: u8,
     nodes: u8,
@@ -109,7 +109,7 @@ fn take_turns<R: Wait, S: Site, G: Gate>(
         if asked.is_some() || ended_at.is_some() {
             break;
         }
-        let taken = turn_node(rt, site, gate, node, nodes, turn + 1);
+        let taken = turn_node(rt, station, gate, node, nodes, turn + 1);
         ended_at = taken.ended_at;
         if is_whole(ended_at) {
             over += 1;
@@ -135,9 +135,9 @@ fn take_turns<R: Wait, S: Site, G: Gate>(
 /// Takes `turns` turns for a node of a space of `nodes` nodes. It takes fewer only if it finds,
 /// before a turn, that the workers were asked to stop, or if the gate ends this worker. Then it
 /// counts the worker as ended. The report sums up the turns.
-pub fn run_node<R: Wait, S: Site, G: Gate>(
+pub fn run_node<R: Wait, S: Station, G: Gate>(
     rt: &R,
-    site: &S,
+    station: &S,
     gate: &G,
     node: u8,
     nodes: u8,
@@ -150,7 +150,7 @@ pub fn run_node<R: Wait, S: Site, G: Gate>(
         report,
         asked,
         turns,
-    } = take_turns(rt, site, gate, node, nodes, turns, stop);
+    } = take_turns(rt, station, gate, node, nodes, turns, stop);
     Run {
         report,
         asked,

@@ -5,7 +5,7 @@ ghost use Rattle.workers.specs.Turns.{at, collects, raises, saves, scans, sends,
 
 use crate::calls::Calls;
 use crate::gate::{Gate, Point, Stage};
-use crate::site::Site;
+use crate::station::Station;
 use std::sync::Wait;
 
 // The most objects that a turn scans.
@@ -15,7 +15,7 @@ const SCANS: u8 = 8;
 const SWEPT: u32 = 64;
 
 // Asks the gate. If the worker is to end there, that stage is the error.
-pub(crate) fn ask<S: Site, G: Gate>(
+pub(crate) fn ask<S: Station, G: Gate>(
     calls: &mut Calls<'_, S, G>,
     node: u8,
     turn: u32,
@@ -33,7 +33,7 @@ pub(crate) fn ask<S: Site, G: Gate>(
 }
 
 // Receives from each other node, ascending; returns how many new messages there were.
-pub(crate) fn take_in<R: Wait, S: Site, G: Gate>(
+pub(crate) fn take_in<R: Wait, S: Station, G: Gate>(
     rt: &R,
     calls: &mut Calls<'_, S, G>,
     node: u8,
@@ -51,7 +51,7 @@ pub(crate) fn take_in<R: Wait, S: Site, G: Gate>(
 }
 
 // Scans objects until a scan fails, at most 8 times.
-fn scan_some<R: Wait, S: Site, G: Gate>(rt: &R, calls: &mut Calls<'_, S, G>)
+fn scan_some<R: Wait, S: Station, G: Gate>(rt: &R, calls: &mut Calls<'_, S, G>)
     ensures { (n : ℕ) × (n ≤ 8) × Makes (scans n) 0 0 calls.old.past.value calls.new.past.value }
 {
     for _place in 0..SCANS {
@@ -62,7 +62,7 @@ fn scan_some<R: Wait, S: Site, G: Gate>(rt: &R, calls: &mut Calls<'_, S, G>)
 }
 
 // Scans, passes the token on and sweeps; returns how many objects were freed.
-pub(crate) fn collect<R: Wait, S: Site, G: Gate>(rt: &R, calls: &mut Calls<'_, S, G>) -> u32
+pub(crate) fn collect<R: Wait, S: Station, G: Gate>(rt: &R, calls: &mut Calls<'_, S, G>) -> u32
     ensures { (n : ℕ) × (n ≤ 8)
         × Makes (collects n) 0 result calls.old.past.value calls.new.past.value }
 {
@@ -72,7 +72,7 @@ pub(crate) fn collect<R: Wait, S: Site, G: Gate>(rt: &R, calls: &mut Calls<'_, S
 }
 
 // Saves the node, if something is unsaved.
-pub(crate) fn save_unsaved<R: Wait, S: Site, G: Gate>(rt: &R, calls: &mut Calls<'_, S, G>)
+pub(crate) fn save_unsaved<R: Wait, S: Station, G: Gate>(rt: &R, calls: &mut Calls<'_, S, G>)
     ensures { (b : Bool) × Makes (saves b) 0 0 calls.old.past.value calls.new.past.value }
 {
     if calls.unsaved(rt) {
@@ -81,7 +81,7 @@ pub(crate) fn save_unsaved<R: Wait, S: Site, G: Gate>(rt: &R, calls: &mut Calls<
 }
 
 // Sends a frame to each other node, ascending.
-pub(crate) fn send_out<R: Wait, S: Site, G: Gate>(
+pub(crate) fn send_out<R: Wait, S: Station, G: Gate>(
     rt: &R,
     calls: &mut Calls<'_, S, G>,
     node: u8,
@@ -97,7 +97,7 @@ pub(crate) fn send_out<R: Wait, S: Site, G: Gate>(
 }
 
 // Raises the last ended cycle on the board, at node 0.
-pub(crate) fn raise<R: Wait, S: Site, G: Gate>(rt: &R, calls: &mut Calls<'_, S, G>, node: u8)
+pub(crate) fn raise<R: Wait, S: Station, G: Gate>(rt: &R, calls: &mut Calls<'_, S, G>, node: u8)
     ensures { Makes (raises node) 0 0 calls.old.past.value calls.new.past.value }
 {
     if node == 0 {

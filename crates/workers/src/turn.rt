@@ -5,9 +5,9 @@ ghost use Rattle.std.specs.Result.{result_err};
 ghost use Rattle.workers.specs.Calls.{freed_in, received_in};
 ghost use Rattle.workers.specs.Turns.{IsNew, IsTurn};
 
-use crate::calls::{Calls, Past};
+use crate::calls::{Calls, CallsMade};
 use crate::gate::{Gate, Stage};
-use crate::site::Site;
+use crate::station::Station;
 use crate::steps::{ask, collect, raise, save_unsaved, send_out, take_in};
 use std::snapshot::Snapshot;
 use std::sync::Wait;
@@ -22,7 +22,7 @@ pub struct Turn {
     /// The stage at which the gate ended the worker, if it did.
     pub ended_at: Option<Stage>,
     /// Its calls, for proofs alone.
-    pub past: Snapshot<Past>,
+    pub past: Snapshot<CallsMade>,
 }
 
 // How many new messages a turn received, and how many objects it freed.
@@ -33,7 +33,7 @@ struct Counts {
 
 // Takes a turn in which nothing has been done yet. If the gate ends the worker, the error is the
 // stage at which it did.
-fn take_turn<R: Wait, S: Site, G: Gate>(
+fn take_turn<R: Wait, S: Station, G: Gate>(
     rt: &R,
     calls: &mut Calls<'_, S, G>,
     node: u8,
@@ -66,9 +66,9 @@ fn take_turn<R: Wait, S: Site, G: Gate>(
 /// The gate is asked at the start, after the frames, after the sweep, after the save and at the
 /// end. If it ends the worker, the turn ends there. A call that fails doesn't change the order: the
 /// turn continues with the next one.
-pub fn turn_node<R: Wait, S: Site, G: Gate>(
+pub fn turn_node<R: Wait, S: Station, G: Gate>(
     rt: &R,
-    site: &S,
+    station: &S,
     gate: &G,
     node: u8,
     nodes: u8,
@@ -78,7 +78,7 @@ pub fn turn_node<R: Wait, S: Site, G: Gate>(
     ensures received { result.received ≡ received_in result.past.value }
     ensures freed { result.freed ≡ freed_in result.past.value }
 {
-    let mut calls = Calls::new(site, gate);
+    let mut calls = Calls::new(station, gate);
     let mut counts = Counts {
         received: 0,
         freed: 0,

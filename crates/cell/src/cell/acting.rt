@@ -47,7 +47,7 @@ use model::{Answer, Event};
 use node::Node;
 use std::alloc::Global;
 use std::snapshot::Snapshot;
-use trace::{Call, Outcome, Trace};
+use trace::{Call, CallOutcome, Trace};
 use wire::{NodeSeat, Raised, Wire};
 
 impl<D: Disk> Cell<D> {
@@ -105,7 +105,7 @@ impl<D: Disk> Cell<D> {
             ++ record { call = call_of event; outcome = outcome_of result } ∷ []) }
     {
         if !self.shelf.is_ready() {
-            let closed = Outcome::Refused(Refusal::Closed);
+            let closed = CallOutcome::Refused(Refusal::Closed);
             self.trace.push(Call::of(&event), closed);
             return Err(Refusal::Closed);
         }

@@ -48,7 +48,7 @@ use super::Cell;
 use disk::{Disk, MemoryDisk};
 use ids::Refusal;
 use image::Images;
-use trace::{Call, Outcome};
+use trace::{Call, CallOutcome};
 use wire::Wire;
 
 impl<D: Disk> Cell<D> {
@@ -96,11 +96,11 @@ impl<D: Disk> Cell<D> {
         match self.shelf.save::<Images>(self.desk.node()) {
             Ok(()) => {
                 self.desk.save(wire);
-                self.trace.push(Call::Save, Outcome::Done);
+                self.trace.push(Call::Save, CallOutcome::Done);
                 Ok(())
             }
             Err(refusal) => {
-                self.trace.push(Call::Save, Outcome::Refused(refusal));
+                self.trace.push(Call::Save, CallOutcome::Refused(refusal));
                 Err(refusal)
             }
         }
@@ -154,11 +154,11 @@ impl<D: Disk> Cell<D> {
         match self.shelf.reopen::<Images>() {
             Ok(found) => {
                 self.desk.reopen(wire, found);
-                self.trace.push(Call::Reopen, Outcome::Done);
+                self.trace.push(Call::Reopen, CallOutcome::Done);
                 Ok(())
             }
             Err(refusal) => {
-                self.trace.push(Call::Reopen, Outcome::Refused(refusal));
+                self.trace.push(Call::Reopen, CallOutcome::Refused(refusal));
                 Err(refusal)
             }
         }

@@ -6,7 +6,7 @@ use denote.Struct.Struct.{exits_of}
 use Rattle.std_alloc.proofs.SendSync.{quiet}
 use Rattle.held.proofs.Crossing.{holds-keyless}
 use Rattle.spaces.proofs.Sent.{space-send}
-use Rattle.spaces.specs.contracts.space.Space.{the_row as T}
+use Rattle.spaces.specs.contracts.space.SeatedSpace.{the_row as T}
 use Rattle.spaces.specs.contracts.space_handle.SpaceHandle.{the_row, the_type}
 
 pub send : IsSend the_row

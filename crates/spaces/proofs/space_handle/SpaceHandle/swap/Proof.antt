@@ -9,7 +9,7 @@ use Rattle.held.proofs.Names.{cell_at, Stays, stay_dropped, stay_ref, walk_of, G
 use Rattle.held.proofs.Names.{proved_at}
 use Rattle.held.proofs.Parts.{Holder, Pointer, fields-made, held_in, held_out, word, word-good}
 use denote.Exit.{yes}
-use Rattle.spaces.specs.contracts.space.Space.{the_row as T}
+use Rattle.spaces.specs.contracts.space.SeatedSpace.{the_row as T}
 use Rattle.spaces.specs.contracts.space_handle.SpaceHandle.{the_row as R}
 use Rattle.spaces.proofs.space_handle.SpaceHandle.TheLaws.{lowers}
 use Rattle.spaces.specs.contracts.space_handle.SpaceHandle.swap as F

@@ -4,7 +4,7 @@ use Rattle.wire.specs.declared.seats.Watch.{Watch}
 use Rattle.wire.specs.declared.seats.Wire.{Wire}
 use Rattle.cell.proofs.Places.{mapped-there}
 use Rattle.spaces.specs.Opening.{AreBegun, EachOf, Image, IsFreshIn, IsOnWire, watch_in}
-use Rattle.spaces.proofs.space.Space.open.Goals as goal
+use Rattle.spaces.proofs.space.SeatedSpace.open.Goals as goal
 
 pub seat_all-requires : goal.seat_all-requires
 seat_all-requires c =

@@ -1,5 +1,5 @@
 use Rattle.std.proofs.Common.{ℕ, Some, ap, arith, refl, slice_set}
-use Rattle.spaces.proofs.space.Space.give.Goals as goal
+use Rattle.spaces.proofs.space.SeatedSpace.give.Goals as goal
 
 pub returns : goal.returns
 returns c =

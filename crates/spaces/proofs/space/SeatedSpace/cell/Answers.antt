@@ -3,7 +3,7 @@ use Rattle.std.specs.Prelude.{slice_get, slice_set}
 use Rattle.std.proofs.lemmas.List.{set-get_or}
 use Rattle.wire.proofs.NewWires.{there}
 use Rattle.spaces.specs.Opening.{Seat}
-use Rattle.spaces.proofs.space.Space.cell.Goals as goal
+use Rattle.spaces.proofs.space.SeatedSpace.cell.Goals as goal
 
 pub returns-in-Some : goal.returns-in-Some
 returns-in-Some c =

@@ -1,4 +1,4 @@
-//! What a worker's turn calls. Turns are proved for any such site, so the proofs don't depend on
+//! What a worker's turn calls. Turns are proved for any such station, so the proofs don't depend on
 //! how a cell is shared, or on cells at all.
 ghost use Rattle.std.specs.Prelude.{◌≡◌, true};
 ghost use Rattle.model.specs.Steps.{is_own};
@@ -10,7 +10,7 @@ use wire::{Inbound, Outbound, Raised};
 
 /// A node with its disk, as several threads share it. Each call is at most one event of the node,
 /// and may wait for the call of another thread.
-pub trait Site {
+pub trait Station {
     /// Receives a frame or a waiting message from another node, if there is one.
     fn pump_in<R: Wait>(&self, rt: &R, from: u8) -> Result<Inbound, Refusal>;
 
