@@ -2,7 +2,7 @@
 //! value is dropped once, also when the arena ends. No clause says that.
 use crate::case::{Line, Stop, number, verb};
 use crate::out::Out;
-use arena::{Arena, Fault, Key, Slot, Slots};
+use arena::{Arena, ArenaError, Key, Slot, Slots};
 use std::alloc::Global;
 use std::cell::Cell;
 
@@ -67,7 +67,7 @@ fn key_of(words: &[&str]) -> Result<Key, Stop> {
     })
 }
 
-fn put_inserted(inserted: Result<Key, (u64, Fault)>, out: &mut Out) {
+fn put_inserted(inserted: Result<Key, (u64, ArenaError)>, out: &mut Out) {
     match inserted {
         Ok(key) => put_key(Some(key), out),
         Err((word, fault)) => out.show(&format_args!("{word} {fault:?}")),
