@@ -16,11 +16,11 @@ use Rattle.msg.specs.declared.version.Version.{Version}
 use Rattle.model.specs.References.{IsPlaced, no_message}
 use Rattle.model.specs.View.{Link, NodeView, no_link, link_to, used}
 use Rattle.model.specs.WellFormed.{AreReports}
-use Rattle.node.specs.Invariant.{AreLinked, links_of}
+use Rattle.node.specs.Invariant.{AreLinked, IsStanding, links_of}
 use Rattle.grammar.specs.Grammar.{Stored, Fits, message_format, link_format}
 use Rattle.grammar.specs.Grammar.{stored_format, lists_format, others_format}
 use Rattle.grammar.specs.Links.{StoredLink}
-use Rattle.image.specs.Nodes.{link_of, received_of, node_of, Spells, IsStanding}
+use Rattle.image.specs.Nodes.{link_of, received_of, node_of, Spells}
 use Rattle.image.specs.Conditions.{IsSaved}
 use Rattle.image.proofs.Elements.{at_any, all_insert}
 use Rattle.grammar.proofs.Readings.{own_below, links_count, reports_count}

@@ -18,7 +18,8 @@ use Rattle.grammar.proofs.Logs.{begun, logged_second, logged_so}
 use Rattle.grammar.proofs.Readings.{again, read}
 use Rattle.image.specs.Images.{image_of, stored_by}
 use Rattle.image.specs.Logged.{IsLoggedOf, logged_image}
-use Rattle.image.specs.Nodes.{IsImageOf, IsStanding, node_of}
+use Rattle.node.specs.Invariant.{IsStanding}
+use Rattle.image.specs.Nodes.{IsImageOf, node_of}
 use Rattle.image.proofs.Made.{is_image, is_none}
 use Rattle.image.proofs.Spelled.{image_of_one}
 

@@ -9,11 +9,10 @@ use Rattle.ids.specs.declared.refusal.Refusal.{Refusal}
 use Rattle.ids.specs.declared.refusal.Refusal.TheVariants.{Memory, BadImage}
 use Rattle.msg.specs.declared.version.Version.{Version}
 use Rattle.model.specs.View.{NodeView}
-use Rattle.node.specs.Parts.{IsRestorable}
-use Rattle.node.proofs.Restorable.{restorable}
+use Rattle.node.specs.Invariant.{IsStanding}
 use Rattle.grammar.specs.Grammar.{Stored, Fits, IsImage}
 use Rattle.image.specs.Conditions.{IsSaved}
-use Rattle.image.specs.Nodes.{node_of, IsStanding, IsImageOf}
+use Rattle.image.specs.Nodes.{node_of, IsImageOf}
 use Rattle.image.proofs.Conditions.{standing_saved, saved_standing}
 use Rattle.grammar.proofs.Readings.{read, again}
 
@@ -22,18 +21,13 @@ pub same_more : {A B C : Type 0} (f : A → C) (g : B → C) (xs : List A) (ys :
     → map f xs ≡ map g ys → f x ≡ g y → map f (xs ++ x ∷ []) ≡ map g (ys ++ y ∷ [])
 same_more f g xs ys x y same one = rw (map_push f xs x, map_push g ys y, same, one) refl
 
--- the refusal of the node's call, stated for the node that the parts say
+-- the refusal of the node's call, stated for the node that the image says
 pub said_refused : {given : NodeView} (said : NodeView) (r : Result NodeView Refusal)
-    → IfErr r (λ e. e ≢ Memory → (e ≡ BadImage) × (IsRestorable given → ⊥)) → given ≡ said
+    → IfErr r (λ e. e ≢ Memory → (e ≡ BadImage) × (IsStanding given → ⊥)) → given ≡ said
     → IfErr r (λ e. e ≢ Memory → (e ≡ BadImage) × (IsStanding said → ⊥))
-said_refused said (Ok n) refused same = tt
-said_refused said (Err e) refused same = λ other.
-    let h = refused other in (
-      h.0,
-      λ is.
-          let there = subst IsStanding (sym same) is in
-          h.1 (restorable _ there.node there.slots),
-    )
+said_refused said r refused same =
+    subst (λ (m : NodeView). IfErr r (λ e. e ≢ Memory → (e ≡ BadImage) × (IsStanding m → ⊥))) same
+    refused
 
 module _ (bytes : List ℕ) where
   pub is_image : (v : Version) (s : Stored) (r : Result NodeView Refusal) → IsImage bytes v s

@@ -16,7 +16,7 @@ use Rattle.ids.specs.declared.names.Ref.{Ref}
 use Rattle.ids.specs.declared.limits.TheConstants.{GREATEST_NODES, GREATEST_SLOTS, GREATEST_PLACES}
 use Rattle.ids.specs.declared.limits.TheConstants.{GREATEST_IMAGE}
 use Rattle.ids.specs.declared.refusal.Refusal.{Refusal}
-use Rattle.heap.specs.Heap.{slot_of, IsSlotted}
+use Rattle.heap.specs.Heap.{slot_of}
 use Rattle.model.proofs.Lookups.{get_or-replicate_any}
 use Rattle.model.specs.declared.event.Letter.{Letter}
 use Rattle.model.specs.State.{Object, Slot, Free, Occupied, Retired}
@@ -31,9 +31,7 @@ use Rattle.msg.specs.declared.body.Message.{Message}
 use Rattle.msg.specs.declared.body.Token.{Token}
 use Rattle.msg.specs.declared.version.Version.TheVariants.{Second}
 use Rattle.msg.specs.Limits.{optional_fits, place_fits, body_fits}
-use Rattle.node.specs.Invariant.{IsNode, AllSendable}
-use Rattle.node.proofs.Restorable.{standing}
-use Rattle.node.specs.Parts.{IsRestorable}
+use Rattle.node.specs.Invariant.{AllSendable, IsNode, IsStanding}
 use Rattle.msg.proofs.Written.{any_colour, any_token, any_reference, any_optional, any_body}
 use Rattle.codec.proofs.Growing.{each}
 use Rattle.codec.specs.Formats.{number2, number4, number8, signed8}
@@ -245,10 +243,10 @@ module _ (n : NodeView) (is : IsNode n) where
   -- what was written within the limit
   pub is_saved : {V : Type 0} (r : Result V Refusal) (is_open : Type 0) (limit : ℕ)
       → limit ≡ GREATEST_IMAGE
-      → IsSlotted n.local.heap n.local.shape.slots → IsRestorable (kept_view n) → OnOk r is_open
+      → IsStanding (kept_view n) → OnOk r is_open
       → (is_open → (stored_format Second).IsWide (stored_by n))
       → OnOk r (length (image_of n) ≤ limit) → OnOk r (IsImageOf (image_of n) (kept_view n))
-  is_saved (Ok v) is_open limit all slots restorable opened wide short = record {
+  is_saved (Ok v) is_open limit all stands opened wide short = record {
     version = Second;
     spelled = record {
       says = stored_by n;
@@ -259,9 +257,6 @@ module _ (n : NodeView) (is : IsNode n) where
       };
       node = node_again;
     };
-    saved = standing_saved (kept_view n) (record {
-      node = standing (kept_view n) is.shape is.phases.phases restorable;
-      slots = slots;
-    });
+    saved = standing_saved (kept_view n) stands;
   }
-  is_saved (Err e) is_open limit all slots restorable opened wide short = tt
+  is_saved (Err e) is_open limit all stands opened wide short = tt

@@ -1,8 +1,7 @@
 -- Which node an image says.
 use Rattle.std.specs.Prelude.{◌≡◌, ℕ, ◌+◌, ◌==◌, if◌then◌else◌, List, ◌∷◌, length, map, replicate}
 use Rattle.std.specs.List.{insert}
-use Rattle.heap.specs.Heap.{slot_of, IsSlotted}
-use Rattle.node.specs.Invariant.{IsNode}
+use Rattle.heap.specs.Heap.{slot_of}
 use Rattle.model.specs.View.{Link, NodeView, no_link}
 use Rattle.msg.specs.declared.version.Version.{Version}
 use Rattle.grammar.specs.declared.parts.Head.{Head}
@@ -67,11 +66,6 @@ pub record Spells (v : Version) (bytes : List ℕ) (n : NodeView) : Type 0 where
   pub says : Stored
   pub image : IsImage bytes v says
   pub node : node_of says ≡ n
-
--- a node that the code may have: it is well-formed, and its heap is one of its shape
-pub record IsStanding (n : NodeView) : Type 0 where
-  pub node : IsNode n
-  pub slots : IsSlotted n.local.heap n.local.shape.slots
 
 -- the bytes are an image of the node: they spell it, and it meets the conditions of a saved node
 pub record IsImageOf (bytes : List ℕ) (n : NodeView) : Type 0 where

@@ -7,7 +7,8 @@ ghost use Rattle.msg.specs.declared.version.Version.TheVariants.{Second};
 ghost use Rattle.model.specs.View.{NodeView, kept_view};
 ghost use Rattle.image.specs.Images.{image_of};
 ghost use Rattle.image.specs.Conditions.{IsSaved};
-ghost use Rattle.image.specs.Nodes.{IsStanding, Spells};
+ghost use Rattle.node.specs.Invariant.{IsStanding};
+ghost use Rattle.image.specs.Nodes.{Spells};
 
 /// Bytes spell at most one node, and a node has at most one spelling in each version. All messages
 /// and numbers of a node that has a spelling count as saved. What the first version spells, the

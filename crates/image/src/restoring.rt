@@ -6,10 +6,11 @@ ghost use Rattle.ids.specs.declared.refusal.Refusal.TheVariants.{BadImage, Memor
 ghost use Rattle.msg.specs.declared.version.Version.{Version};
 ghost use Rattle.model.specs.View.{NodeView, no_link};
 ghost use Rattle.link.specs.Parts.{link_given, taken_given};
+ghost use Rattle.node.specs.Invariant.{IsStanding};
 ghost use Rattle.node.specs.Keeping.{alone};
 ghost use Rattle.grammar.specs.Grammar.{Fits};
 ghost use Rattle.image.specs.Nodes.{link_of, received_of, reports_of, node_of};
-ghost use Rattle.image.specs.Nodes.{IsStanding, IsImageOf};
+ghost use Rattle.image.specs.Nodes.{IsImageOf};
 ghost use Rattle.grammar.specs.Logs.{begins_logged};
 ghost use Rattle.grammar.specs.Parts.{stored_of};
 ghost use Rattle.image.specs.Logged.{IsAnyImageOf, IsLoggedOf};

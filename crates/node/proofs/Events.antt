@@ -1,19 +1,19 @@
 -- The effect of an event on a node by the definitions, from its tests and its messages.
-use Rattle.std.proofs.Common.{◌≡◌, ◌≢◌, ℕ, Bool, true, false, List, [], ◌∷◌, ◌++◌, map, Result, Ok, Err, ap, refl, sym, ◌∙◌, subst}
-use Rattle.std.specs.List.{AllByRecursion}
+use Rattle.std.proofs.Common.{◌≡◌, ◌≢◌, ℕ, ◌&&◌, not, Bool, true, false, List, [], ◌∷◌, ◌++◌, map, Result, Ok, Err, ap, refl, sym, ◌∙◌, subst}
+use Rattle.std.proofs.lemmas.Bool.{and_parts}
 use Rattle.ids.specs.declared.names.Ref.{Ref}
 use Rattle.ids.specs.declared.refusal.Refusal.{Refusal}
 use Rattle.ids.specs.declared.refusal.Refusal.TheVariants.{LinkSpent, Memory}
 use Rattle.msg.specs.declared.body.Message.{Message}
 use Rattle.model.specs.declared.event.Answer.{Answer}
 use Rattle.model.specs.Checks.{guarded, AllPass, IsFirstRefusal, IsOkOrSpent, IsReplaced}
-use Rattle.model.specs.Effects.{Effect}
+use Rattle.model.specs.Effects.{Effect, Work, answers}
 use Rattle.model.specs.State.{Heap, Phases, Ring, LocalState}
 use Rattle.model.specs.Steps.{checked, fits}
 use Rattle.model.specs.View.{NodeView, Performed, append_to, used, view_after, view_done}
 use Rattle.model.proofs.Checks.{guarded-passed}
 use Rattle.link.specs.Links.{LinksView}
-use Rattle.node.specs.Errands.{IsRun}
+use Rattle.node.specs.Errands.{IsRun, Runs}
 use Rattle.node.specs.Invariant.{links_of}
 
 -- ---- lists of tests
@@ -25,12 +25,26 @@ guarded-err [] ds x y e h = absurd cc
 guarded-err ((true, r) ∷ cs) ds x y e h = guarded-err cs ds x y e h
 guarded-err ((false, r) ∷ cs) ds x y e h = cc
 
--- a refusal that no test gives never occurs
-pub guarded-never : {A : Type 0} (cs : List (Bool × Refusal)) (x : A) (k : Refusal)
-    → AllByRecursion (λ c. c.1 ≢ k) cs → guarded cs x ≢ Err k
-guarded-never [] x k others h = absurd cc
-guarded-never ((true, r) ∷ cs) x k others h = guarded-never cs x k others.1 h
-guarded-never ((false, r) ∷ cs) x k others h = others.0 (let same : r ≡ k = cc in same)
+abbrev pub is_memory : Refusal → Bool
+is_memory Memory = true
+is_memory e = false
+
+-- no test gives Memory
+abbrev pub spares : List (Bool × Refusal) → Bool
+spares [] = true
+spares (c ∷ cs) = not (is_memory c.1) && spares cs
+
+pub spared : {A : Type 0} (cs : List (Bool × Refusal)) (x : A) (e : Refusal) → spares cs ≡ true
+    → guarded cs x ≡ Err e → e ≢ Memory
+spared [] x e safe h = absurd cc
+spared ((true, r) ∷ cs) x e safe h =
+    spared cs x e (and_parts (not (is_memory r)) (spares cs) safe).1 h
+spared ((false, r) ∷ cs) x e safe h = λ memory.
+    let same : r ≡ Memory = cc in
+    let never : not (is_memory Memory) ≡ true =
+    subst (λ (z : Refusal). not (is_memory z) ≡ true) same
+    (and_parts (not (is_memory r)) (spares cs) safe).0 in
+    absurd cc
 
 -- ---- an event other than an acknowledgement
 
@@ -129,3 +143,32 @@ module _ {n new : NodeView} (x : Effect) where
       → Performed false (Err e) n new (view_done n x)
   effect-refused e told last same =
       record { performs = sending_refused n [] x e tt told last; unchanged = same }
+
+-- ---- an event that shades: the effect of its errand, and its answer
+
+module _ {n new : NodeView} (ts : List (Bool × Refusal)) {x : Effect} {w : Work} {a : Answer}
+    (passed : AllPass ts) (is : x ≡ answers w a) where
+  pub shaded : IsRun w n new → Performed true (Ok a) n new (judged_view n ts x)
+  shaded run =
+      subst (λ (z : Effect). Performed true (Ok a) n new (judged_view n ts z)) (sym is)
+      (record {
+        performs = answered n ts (answers w a) passed run.fits
+            ∙ ap (λ (m : NodeView). okay m a) (sym run.now);
+        unchanged = tt;
+      })
+
+  pub shaded-refused : {e : Refusal} → Runs (Err e) w n new
+      → Performed true (Err e) n new (judged_view n ts x)
+  shaded-refused {e = e} runs =
+      subst (λ (z : Effect). Performed true (Err e) n new (judged_view n ts z)) (sym is)
+      (record {
+        performs = shading_refused n ts (answers w a) e passed runs.refused;
+        unchanged = runs.unchanged;
+      })
+
+-- one of its own tests fails
+pub shading-tested : {A : Type 0} (n : NodeView) (ts : List (Bool × Refusal)) (x : Effect) (y : A)
+    (e : Refusal) → spares ts ≡ true → guarded ts y ≡ Err e
+    → Performed true (Err e) n n (judged_view n ts x)
+shading-tested n ts x y e safe h =
+    record { performs = test_refused n ts x true y e h (spared ts y e safe h); unchanged = refl }

@@ -1,9 +1,8 @@
 -- The early messages that a node keeps are in their places, and no event changes that.
-use Rattle.std.proofs.Common.{◌≡◌, ◌≢◌, ℕ, suc, ◌+◌, ◌-◌, ◌==◌, Bool, true, not, eq-eqb, List, [], ◌∷◌, length, drop, get_or, set, Option, Some, None, is_some, Result, Ok, Err, refl, ap, sym, ◌∙◌, subst, arith, eqb-true}
+use Rattle.std.proofs.Common.{◌≡◌, ◌≢◌, ℕ, suc, ◌+◌, ◌-◌, ◌==◌, Bool, true, not, eq-eqb, List, length, get_or, set, Option, Some, None, Result, Ok, Err, refl, ap, sym, ◌∙◌, subst, arith, eqb-true}
 use Rattle.std.specs.Prelude.{IfOk, IfErr, IsTrue}
-use Rattle.std.proofs.lemmas.Bool.{and_parts, cond_both}
+use Rattle.std.proofs.lemmas.Bool.{and_parts}
 use Rattle.std.proofs.lemmas.List.{length-set, length-replicate}
-use Rattle.ids.specs.declared.limits.TheConstants.{WINDOW}
 use Rattle.ids.specs.declared.refusal.Refusal.{Refusal}
 use Rattle.ids.specs.declared.refusal.Refusal.TheVariants.{Memory}
 use Rattle.msg.specs.declared.frame.Data.{Data}
@@ -15,60 +14,28 @@ use Rattle.model.specs.State.{got_from}
 use Rattle.model.specs.Steps.{is_addressed, is_memory_free, is_shading}
 use Rattle.model.specs.View.{NodeView, Performed, view_act}
 use Rattle.model.proofs.Leaving.{Turned, again, ahead, due, got_after, act-got, act-leaves, data-turned}
-use Rattle.model.proofs.Lookups.{at_push, at_set_if, both_set_if, get_or-replicate_any}
-use Rattle.link.specs.Early.{no_early, place_at, placed, shifted, emptied}
+use Rattle.model.proofs.Lookups.{at_set_if, both_set_if, get_or-replicate_any}
+use Rattle.link.specs.Early.{no_early, shifted, emptied}
 use Rattle.node.specs.Invariant.{IsNode}
+use Rattle.node.proofs.Rings.{empty-fills, emptied-fills, placed-fills, shifted-fills}
 use Rattle.node.specs.Keeping.{Rings, WholeNode, alone, ring_of, waiting, next_event, met, shifted_at, after_data, after_next, early_after, Handled, IsInPlace, RingStands, AreKept, AreKeptIn}
 
 -- ---- one ring
 
-empty-stands : (own got from : ℕ) → RingStands own got from no_early
-empty-stands own got from place d there =
-    let none : ◌≡◌ {A = Option Data} None (Some d) =
-    sym (get_or-replicate_any {A = Option Data} WINDOW place None) ∙ there in
-    absurd cc
-
 -- a frame moves to the place before
-one-behind : (own got from : ℕ) (ring : List (Option Data)) → RingStands own got from ring
-    → (place : ℕ) (d : Data) → get_or (drop 1 ring) place None ≡ Some d
+in-place : (own got from place : ℕ) (d : Data) → IsInPlace own got from (suc place) d
     → IsInPlace own (got + 1) from place d
-one-behind own got from [] h place d there =
-    let none : ◌≡◌ {A = Option Data} None (Some d) = there in absurd cc
-one-behind own got from (x ∷ xs) h place d there =
-    let was : IsInPlace own got from (suc place) d = h (suc place) d there in
-    record {
-      apart = was.apart;
-      sender = was.sender;
-      receiver = was.receiver;
-      number = omega (arith, was.number);
-    }
+in-place own got from place d was = record {
+  apart = was.apart;
+  sender = was.sender;
+  receiver = was.receiver;
+  number = omega (arith, was.number);
+}
 
 shifted-stands : (own got from : ℕ) (ring : List (Option Data)) → RingStands own got from ring
     → RingStands own (got + 1) from (shifted ring)
-shifted-stands own got from ring h place d =
-    at_push (λ (o : Option Data). o ≡ Some d → IsInPlace own (got + 1) from place d) (drop 1 ring)
-    place None None (λ never. absurd cc) (λ never. absurd cc) (one-behind own got from ring h place d)
-
-emptied-stands : (own got from : ℕ) (ring : List (Option Data)) → RingStands own got from ring
-    → RingStands own got from (emptied ring)
-emptied-stands own got from ring h place d =
-    at_set_if (λ (o : Option Data). o ≡ Some d → IsInPlace own got from place d) ring 0 place None
-    None (λ _ never. absurd cc) (h place d)
-
-placed-stands : (own got from at : ℕ) (e : Data) (ring : List (Option Data))
-    → IsInPlace own got from at e → RingStands own got from ring
-    → RingStands own got from (placed ring at e)
-placed-stands own got from at e ring fits h =
-    cond_both (is_some (place_at ring at)) ring (set ring at (Some e)) (RingStands own got from)
-    (λ _. h)
-    (λ _ place d.
-    at_set_if (λ (o : Option Data). o ≡ Some d → IsInPlace own got from place d) ring at place
-    (Some e) None
-    (λ same there.
-    let is : e ≡ d = cc in
-    subst (λ (z : ℕ). IsInPlace own got from z d) same
-    (subst (λ (z : Data). IsInPlace own got from at z) is fits))
-    (h place d))
+shifted-stands own got from =
+    shifted-fills (IsInPlace own got from) (IsInPlace own (got + 1) from) (in-place own got from)
 
 -- ---- all rings
 
@@ -111,7 +78,7 @@ alone-kept n h = record {
       subst (RingStands n.local.own (got_from n.local from) from)
       (sym
       (get_or-replicate_any {A = List (Option Data)} n.local.shape.nodes from no_early))
-      (empty-stands n.local.own (got_from n.local from) from);
+      (empty-fills (IsInPlace n.local.own (got_from n.local from) from));
 }
 
 -- ---- an event
@@ -140,7 +107,8 @@ data-kept n new es d (Ok a) h p =
         let place : ℕ = d.number - got_from n.local d.from - 1 in
         subst Goal (sym says)
         (kept-set _ _ n.local.got es d.from _ h
-        (placed-stands n.local.own (got_from n.local d.from) d.from place d (ring_of es d.from)
+        (placed-fills (IsInPlace n.local.own (got_from n.local d.from) d.from) place d
+        (ring_of es d.from)
         (record {
           apart = λ same.
               (let differs : not (d.from == n.local.own) ≡ true =
@@ -179,7 +147,7 @@ module _ (n new : NodeView) (es : Rings) (from : ℕ) (d : Data)
     refused-kept Memory = h
     refused-kept f =
         kept-set _ _ n.local.got es from _ h
-        (emptied-stands n.local.own (get_or n.local.got from 0) from (ring_of es from)
+        (emptied-fills (IsInPlace n.local.own (get_or n.local.got from 0) from) (ring_of es from)
         (h.named from))
 
     waited-kept : (r : Result Answer Refusal) → Performed true r n new (view_act n (event.Data d))
@@ -292,7 +260,8 @@ emptied-kept n m es fs from h same left =
     AreKeptIn (record { core = v; early = set es from (emptied (ring_of es from)) }))
     (sym same)
     (kept-set _ _ n.local.got es from _ h
-    (emptied-stands n.local.own (got_from n.local from) from (ring_of es from) (h.named from))))
+    (emptied-fills (IsInPlace n.local.own (got_from n.local from) from) (ring_of es from)
+    (h.named from))))
 
 -- any other event
 pub other-handled : (n m : NodeView) (es : Rings) (e : Event) (r : Result Answer Refusal)

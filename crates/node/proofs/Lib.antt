@@ -18,5 +18,6 @@ mod Receipts
 mod Lists
 mod Listed
 pub mod Restorable
+pub mod Rings
 pub mod Held
 pub mod Kept

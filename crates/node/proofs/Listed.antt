@@ -1,39 +1,38 @@
 -- Tests of all elements of a list, and of elements that occur once, in other words.
 use Rattle.std.proofs.Common.{◌≡◌, ◌≢◌, ℕ, zero, suc, ◌<◌, Bool, true, false, eqb, List, [], ◌∷◌}
 use Rattle.std.proofs.Common.{length, take, get_or, refl, ◌∙◌, arith}
+use Rattle.std.specs.Prelude.{◌↔◌}
 use Rattle.std.specs.List.{AllByRecursion, IsDistinct, list_all, list_any}
 use Rattle.std.proofs.lemmas.Bool.{and_parts, and_from, eqb-false, ne_eqb, or_from, or_parts}
 
+-- what a test says of one element it says of all, also past the end
+module _ {A : Type 0} (P : A → Type 0) (p : A → Bool) (is : (x : A) → p x ≡ true ↔ P x) where
+  pub listed-is : (xs : List A) → list_all p xs ≡ true ↔ AllByRecursion P xs
+  listed-is [] = (λ _. tt, λ _. refl)
+  listed-is (x ∷ xs) = (
+    λ all. let parts = and_parts (p x) (list_all p xs) all in
+        ((is x).0 parts.0, (listed-is xs).0 parts.1),
+    λ all. and_from (p x) (list_all p xs) ((is x).1 all.0) ((listed-is xs).1 all.1),
+  )
+
+  first-or : (x : A) (xs : List A) (d : A) → P x → ((k : ℕ) → P (get_or xs k d)) → (k : ℕ)
+      → P (get_or (x ∷ xs) k d)
+  first-or x xs d first rest zero = first
+  first-or x xs d first rest (suc k) = rest k
+
+  pub each-is : (xs : List A) (d : A) → P d
+      → list_all p xs ≡ true ↔ ((k : ℕ) → P (get_or xs k d))
+  each-is [] d none = (λ _ k. none, λ _. refl)
+  each-is (x ∷ xs) d none =
+      let rest = each-is xs d none in (
+        λ all.
+            let parts = and_parts (p x) (list_all p xs) all in
+            first-or x xs d ((is x).0 parts.0) (rest.0 parts.1),
+        λ each.
+            and_from (p x) (list_all p xs) ((is x).1 (each 0)) (rest.1 (λ k. each (suc k))),
+      )
+
 module _ {A : Type 0} where
-  -- each element passes
-  pub listed : (p : A → Bool) (xs : List A) (d : A)
-      → ((k : ℕ) → k < length xs → p (get_or xs k d) ≡ true) → list_all p xs ≡ true
-  listed p [] d each = refl
-  listed p (x ∷ xs) d each =
-      and_from (p x) (list_all p xs) (each 0 (omega arith))
-      (listed p xs d (λ k inside. each (suc k) (omega (arith, inside))))
-
-  -- what a passed test says of each element, also past the end
-  pub listed-each : (P : A → Type 0) (p : A → Bool) (xs : List A) (d : A)
-      → ((x : A) → p x ≡ true → P x) → P d → list_all p xs ≡ true → (k : ℕ) → P (get_or xs k d)
-  listed-each P p [] d says none all k = none
-  listed-each P p (x ∷ xs) d says none all zero = says x (and_parts (p x) (list_all p xs) all).0
-  listed-each P p (x ∷ xs) d says none all (suc k) =
-      listed-each P p xs d says none (and_parts (p x) (list_all p xs) all).1 k
-
-  pub all-from-listed : (P : A → Type 0) (p : A → Bool) → ((x : A) → p x ≡ true → P x)
-      → (xs : List A) → list_all p xs ≡ true → AllByRecursion P xs
-  all-from-listed P p says [] all = tt
-  all-from-listed P p says (x ∷ xs) all =
-      let parts = and_parts (p x) (list_all p xs) all in
-      (says x parts.0, all-from-listed P p says xs parts.1)
-
-  pub listed-from-all : (P : A → Type 0) (p : A → Bool) → ((x : A) → P x → p x ≡ true)
-      → (xs : List A) → AllByRecursion P xs → list_all p xs ≡ true
-  listed-from-all P p says [] all = refl
-  listed-from-all P p says (x ∷ xs) all =
-      and_from (p x) (list_all p xs) (says x all.0) (listed-from-all P p says xs all.1)
-
   pub all-at : (P : A → Type 0) (xs : List A) (d : A) (k : ℕ) → k < length xs
       → AllByRecursion P xs → P (get_or xs k d)
   all-at P [] d k inside all = absurd (omega (arith, inside))

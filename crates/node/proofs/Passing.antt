@@ -1,22 +1,16 @@
 -- The token is passed on, or judged by node 0.
-use Rattle.std.proofs.Common.{◌≡◌, ℕ, ◌-◌, ◌==◌, Bool, true, false, cond, [], ◌∷◌, map, ap, sym, ◌∙◌, refl}
-use Rattle.std.specs.Prelude.{is_some}
-use Rattle.std.proofs.lemmas.Bool.{cond-true, cond-false}
-use Rattle.ids.specs.declared.refusal.Refusal.TheVariants.{NothingToDo}
+use Rattle.std.proofs.Common.{◌≡◌, ℕ, ◌-◌, Bool, true, false, cond, [], ◌∷◌, map, ap, sym, ◌∙◌, refl}
 use Rattle.msg.specs.declared.body.Body.{Body}
 use Rattle.msg.specs.declared.body.Body.TheVariants as body
 use Rattle.msg.specs.declared.body.Message.{Message}
 use Rattle.msg.specs.declared.body.Token.{Token}
 use Rattle.model.specs.declared.event.Answer.TheVariants as answer
-use Rattle.model.specs.declared.event.Event.TheVariants as event
-use Rattle.model.specs.Checks.{AllPass, IsFirstRefusal}
 use Rattle.model.specs.Counting.{announce, append, stamped, to_others}
 use Rattle.model.specs.Effects.{Work, answers}
 use Rattle.model.specs.State.{Ring, LocalState}
-use Rattle.model.specs.Collecting.{conclude, forwarded, handed_on, is_concluded, judged, new_token, pass_tests, passed, probe, whitened, without_token}
-use Rattle.model.specs.Shading.{is_calm}
+use Rattle.model.specs.Collecting.{conclude, forwarded, handed_on, is_concluded, judged, new_token, probe, whitened, without_token}
 use Rattle.model.specs.Steps.{fits}
-use Rattle.model.specs.View.{NodeView, used, view_act, view_done}
+use Rattle.model.specs.View.{NodeView, used}
 use Rattle.control.specs.Phases.{with_ended}
 use Rattle.safra.specs.declared.verdict.Verdict.TheVariants.{Ended, Probe}
 use Rattle.safra.specs.Verdicts.{judged_ring, verdict_of}
@@ -24,40 +18,6 @@ use Rattle.link.specs.Links.{for_others}
 use Rattle.link.proofs.Announcing.{to_others-is}
 use Rattle.node.specs.Errands.{IsRun}
 use Rattle.node.specs.Sending.{with_sent}
-use Rattle.node.proofs.Events.{judged_view, past_tests, test_refused}
-
--- ---- the tests
-
-module _ (n : NodeView) where
-  pub pass-without : is_some n.local.ring.token ≡ false
-      → IsFirstRefusal false NothingToDo (view_act n event.Pass)
-  unfolding view_act
-  pass-without none =
-      test_refused n (pass_tests n.local) (passed n.local) false (tt {0}) NothingToDo
-      (rw none refl) (λ e. absurd cc)
-
-  pub pass-busy : is_some n.local.ring.token ≡ true → is_calm n.local.heap ≡ false
-      → IsFirstRefusal false NothingToDo (view_act n event.Pass)
-  unfolding view_act
-  pass-busy there busy =
-      test_refused n (pass_tests n.local) (passed n.local) false (tt {0}) NothingToDo
-      (rw (there, busy) refl) (λ e. absurd cc)
-
-  pub pass-first : (n.local.own == 0) ≡ true → AllPass (pass_tests n.local)
-      → view_act n event.Pass ≡ view_done n (judged n.local)
-  unfolding view_act passed
-  pass-first first all =
-      past_tests n (pass_tests n.local) (passed n.local) all
-      ∙ ap (judged_view n [])
-      (cond-true (n.local.own == 0) (judged n.local) (handed_on n.local) first)
-
-  pub pass-other : (n.local.own == 0) ≡ false → AllPass (pass_tests n.local)
-      → view_act n event.Pass ≡ view_done n (handed_on n.local)
-  unfolding view_act passed
-  pass-other other all =
-      past_tests n (pass_tests n.local) (passed n.local) all
-      ∙ ap (judged_view n [])
-      (cond-false (n.local.own == 0) (judged n.local) (handed_on n.local) other)
 
 -- ---- another node passes it on
 

@@ -11,7 +11,7 @@ use Rattle.msg.specs.declared.body.Token.{Token}
 use Rattle.model.specs.declared.event.Answer.TheVariants as answer
 use Rattle.control.specs.Phases.{with_ended, with_report}
 use Rattle.model.specs.Counting.{append}
-use Rattle.model.specs.Effects.{Work, at_rest, then}
+use Rattle.model.specs.Effects.{Effect, Work, answers, at_rest, then}
 use Rattle.model.specs.Heaps.{object_at, place_of, with_place}
 use Rattle.model.specs.Shading.{filled, is_calm, is_open, join, joined, see_to}
 use Rattle.model.specs.State.{LocalState, Phases, got_from}
@@ -26,7 +26,8 @@ use Rattle.node.specs.Errands.{IsRun, Runs, errand, errand_here}
 use Rattle.node.specs.Taking.{IsSender, IsTakable, followed}
 use Rattle.node.specs.declared.node.errands.Extra.{Extra}
 use Rattle.node.specs.declared.node.errands.Extra.TheVariants as extra
-use Rattle.node.proofs.Events.{after_step, answered, okay, shading_refused}
+use Rattle.node.proofs.Events.{shaded, shaded-refused}
+use Rattle.node.proofs.Runs.{run-then, runs-refused}
 use Rattle.node.proofs.Places.{joined-places, seen-places}
 
 -- ---- the message counts
@@ -47,38 +48,39 @@ module _ (n : NodeView) (from stamp : ℕ) (b : Body) where
         room = rw is.got sender.room;
       }
 
-  pub taken-performed : {mid new : NodeView} → IsRun (followed from stamp b n.local) n mid
-      → new ≡ record mid {
-        local = count_in from (got_from mid.local from + 1) stamp b mid.local;
-      }
-      → Performed true (Ok answer.Received) n new (view_taken n from stamp b)
+  abbrev counts : LocalState → LocalState
+  counts p = count_in from (got_from p from + 1) stamp b p
+
+  abbrev taken : Effect
+  taken = taken_in n.local from (got_from n.local from + 1) stamp b
+
+  taken-is : taken
+      ≡ answers
+      (record {
+        local = counts (followed from stamp b n.local).local;
+        sends = (followed from stamp b n.local).sends;
+      })
+      answer.Received
   unfolding taken_in settled followed
-  taken-performed {mid = mid} {new = new} run step =
+  taken-is =
       let w : Work = followed from stamp b n.local in
-      let x = taken_in n.local from (got_from n.local from + 1) stamp b in
-      let now : new ≡ after_step n x.local x.sends =
-      step
-      ∙ ap (λ (m : NodeView). record m {
-        local = count_in from (got_from m.local from + 1) stamp b m.local;
-      }) run.now
-      ∙ ap (λ (got : List ℕ). after_step n
-      (count_in from (slice_index_or got from 0 + 1) stamp b w.local) w.sends)
-      followed-stands.got in
-      record {
-        performs = answered n [] x tt run.fits
-            ∙ ap (λ (m : NodeView). okay m answer.Received) (sym now);
-        unchanged = tt;
-      }
+      ap (λ (got : List ℕ).
+      answers
+      (record {
+        local = count_in from (slice_index_or got from 0 + 1) stamp b w.local;
+        sends = w.sends;
+      })
+      answer.Received) (sym followed-stands.got)
+
+  pub taken-performed : {mid new : NodeView} → IsRun (followed from stamp b n.local) n mid
+      → new ≡ record mid { local = counts mid.local }
+      → Performed true (Ok answer.Received) n new (view_taken n from stamp b)
+  taken-performed run step = shaded [] tt taken-is (run-then counts run step)
 
   pub taken-refused : {e : Refusal} {new : NodeView}
       → Runs (Err e) (followed from stamp b n.local) n new
       → Performed true (Err e) n new (view_taken n from stamp b)
-  unfolding taken_in settled followed
-  taken-refused {e = e} runs = record {
-    performs = shading_refused n []
-        (taken_in n.local from (got_from n.local from + 1) stamp b) e tt runs.refused;
-    unchanged = runs.unchanged;
-  }
+  taken-refused runs = shaded-refused [] tt taken-is (runs-refused refl runs)
 
 -- ---- the tests
 

@@ -1,13 +1,12 @@
 -- If the heap refuses an event, so does its node.
-use Rattle.std.proofs.Common.{◌≡◌, ℕ, true, false, Err, subst, map}
+use Rattle.std.proofs.Common.{◌≡◌, ℕ, true, false, Err, refl, map}
 use Rattle.ids.specs.declared.refusal.Refusal.{Refusal}
-use Rattle.ids.specs.declared.refusal.Refusal.TheVariants.{Memory}
 use Rattle.model.specs.declared.event.Event.TheVariants as event
 use Rattle.model.specs.Checks.{guarded, IsFirstRefusal}
 use Rattle.model.specs.State.{register_at}
 use Rattle.model.specs.Heaps.{heap_store, load_tests, named, place_loaded, store_tests, with_place}
-use Rattle.model.specs.View.{NodeView, view_act, used}
-use Rattle.node.proofs.Events.{guarded-never, test_refused}
+use Rattle.model.specs.View.{NodeView, Performed, view_act, used}
+use Rattle.node.proofs.Events.{shading-tested, spared, test_refused}
 use Rattle.model.specs.Steps.{made}
 
 module _ (n : NodeView) (object place register : ℕ) (e : Refusal) where
@@ -20,45 +19,14 @@ module _ (n : NodeView) (object place register : ℕ) (e : Refusal) where
       let new = with_place p.heap (named p.heap object) place (register_at p.heap register) in
       test_refused n ts (made p (map used n.links) (event.Store object place register))
       false new e h
-      (λ memory. guarded-never ts new Memory (
-        λ e. absurd cc,
-        (
-          λ e. absurd cc,
-          (
-            λ e. absurd cc,
-            (
-              λ e. absurd cc,
-              (
-                λ e. absurd cc,
-                (λ e. absurd cc, tt),
-              ),
-            ),
-          ),
-        ),
-      )
-      (subst (λ (z : Refusal). guarded ts new ≡ Err z) memory h))
+      (spared ts new e refl h)
 
   pub load_refused : guarded (load_tests n.local.own n.local.heap register object place)
       (place_loaded n.local.heap object place) ≡ Err e
-      → IsFirstRefusal true e (view_act n (event.Load register object place))
+      → Performed true (Err e) n n (view_act n (event.Load register object place))
   unfolding view_act
   load_refused h =
       let p = n.local in
-      let ts = load_tests p.own p.heap register object place in
-      let value = place_loaded p.heap object place in
-      test_refused n ts (made p (map used n.links) (event.Load register object place))
-      true value e h
-      (λ memory. guarded-never ts value Memory (
-        λ e. absurd cc,
-        (
-          λ e. absurd cc,
-          (
-            λ e. absurd cc,
-            (
-              λ e. absurd cc,
-              (λ e. absurd cc, tt),
-            ),
-          ),
-        ),
-      )
-      (subst (λ (z : Refusal). guarded ts value ≡ Err z) memory h))
+      shading-tested n (load_tests p.own p.heap register object place)
+      (made p (map used n.links) (event.Load register object place))
+      (place_loaded p.heap object place) e refl h

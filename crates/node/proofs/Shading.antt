@@ -1,15 +1,16 @@
 -- The program's and the collector's events that see to references, each by an errand: Load, Begin
 -- and Scan.
-use Rattle.std.proofs.Common.{◌≡◌, ℕ, ◌+◌, ◌-◌, ◌==◌, Bool, true, false, List, [], ◌∷◌, ◌++◌, map, Option, Ok, Err, append-nil, append_assoc, ap, refl, sym, ◌∙◌, subst, arith, le_refl}
+use Rattle.std.proofs.Common.{◌≡◌, ℕ, ◌+◌, ◌-◌, Bool, true, false, List, [], ◌∷◌, ◌++◌, map, Option, Result, Ok, Err, append-nil, append_assoc, ap, refl, sym, ◌∙◌, subst, arith, le_refl}
 use Rattle.std.specs.List.{AllByRecursion}
 use Rattle.ids.specs.declared.names.Ref.{Ref}
+use Rattle.std.specs.Prelude.{IfOk}
 use Rattle.ids.specs.declared.refusal.Refusal.{Refusal}
-use Rattle.ids.specs.declared.refusal.Refusal.TheVariants.{Memory, NotDirector, NothingToDo}
+use Rattle.ids.specs.declared.refusal.Refusal.TheVariants.{NothingToDo}
 use Rattle.msg.specs.declared.body.Body.TheVariants as body
 use Rattle.msg.specs.declared.body.Message.{Message}
 use Rattle.model.specs.declared.event.Answer.TheVariants as answer
 use Rattle.model.specs.declared.event.Event.TheVariants as event
-use Rattle.model.specs.Checks.{guarded, AllPass, IsFirstRefusal}
+use Rattle.model.specs.Checks.{guarded, AllPass}
 use Rattle.model.specs.Collecting.{begin_tests, begun, new_token, places_in, probe, scan, scan_tests, scanned, scanned_reference, whitened}
 use Rattle.model.specs.Counting.{announce, append, stamped}
 use Rattle.model.specs.Effects.{Effect, Work, answers, then}
@@ -17,20 +18,19 @@ use Rattle.model.specs.Heaps.{load_tests, named, place_loaded, with_register}
 use Rattle.model.specs.References.{IfAny, IsWithin}
 use Rattle.model.specs.Shading.{filled, is_calm, join, last_grey, see_to}
 use Rattle.model.specs.State.{LocalState, slot_at}
-use Rattle.model.specs.Steps.{Loads, carry, fits, made}
+use Rattle.model.specs.Steps.{Loads, carry, made}
 use Rattle.model.specs.View.{NodeView, Performed, used, view_act}
 use Rattle.model.proofs.Checks.{guarded-ok, guarded-passes}
 use Rattle.model.proofs.References.{holds-place_of, holds-places}
 use Rattle.model.proofs.Shading.{see_to-none}
-use Rattle.control.specs.Phases.{cycle_tests}
 use Rattle.link.specs.Links.{for_others}
 use Rattle.link.proofs.Announcing.{to_others-is}
 use Rattle.node.specs.Errands.{IsRun, Runs, errand, errand_here, extra_work}
 use Rattle.node.specs.Invariant.{IsNode}
 use Rattle.node.specs.declared.node.errands.Extra.TheVariants as extra
-use Rattle.node.proofs.Events.{after_step, answered, guarded-never, okay, shading_refused, test_refused}
+use Rattle.node.proofs.Events.{shaded, shaded-refused, shading-tested}
 use Rattle.node.proofs.Receiving.{filled-one}
-use Rattle.node.proofs.Runs.{errand-joins, errand-stays, run-then}
+use Rattle.node.proofs.Runs.{errand-joins, errand-stays, run-then, runs-refused}
 use Rattle.node.proofs.Seeing.{seen-registers}
 
 -- ---- Begin
@@ -62,58 +62,30 @@ begun-errand p =
     ∙ ap (λ (w : Work). answers w (answer.Begun cycle))
     (sym (errand-joins cycle false [] extra.Begins p (omega arith)))
 
-module _ (n : NodeView) where
-  pub begin-other : (n.local.own == 0) ≡ false
-      → IsFirstRefusal true NotDirector (view_act n event.Begin)
-  unfolding view_act
-  begin-other other =
-      test_refused n (begin_tests n.local) (begun n.local) true (tt {0}) NotDirector
-      (rw other refl) (λ e. absurd cc)
+module _ (n : NodeView) (cycle : ℕ) (next : cycle ≡ n.local.phases.cycle + 1) where
+  begun-is : begun n.local
+      ≡ answers (errand cycle false [] extra.Begins n.local) (answer.Begun cycle)
+  begun-is =
+      begun-errand n.local
+      ∙ ap (λ (k : ℕ). answers (errand k false [] extra.Begins n.local) (answer.Begun k)) (sym next)
 
-  pub begin-early : (e : Refusal) → (n.local.own == 0) ≡ true
-      → guarded {A = Unit {0}} (cycle_tests n.local.phases) tt ≡ Err e
-      → IsFirstRefusal true e (view_act n event.Begin)
-  unfolding view_act
-  begin-early e first h =
-      test_refused n (begin_tests n.local) (begun n.local) true (tt {0}) e
-      (rw first h)
-      (λ memory. guarded-never (cycle_tests n.local.phases) (tt {0}) Memory
-      (λ k. absurd cc, (λ k. absurd cc, tt))
-      (subst (λ (z : Refusal). guarded {A = Unit {0}} (cycle_tests n.local.phases) tt ≡ Err z)
-      memory h))
-
-  module _ (cycle : ℕ) (next : cycle ≡ n.local.phases.cycle + 1)
-      (tests : AllPass (begin_tests n.local)) where
-    begun-by : (P : Work → Type 0) → P (errand cycle false [] extra.Begins n.local)
-        → P (record { local = (begun n.local).local; sends = (begun n.local).sends })
-    begun-by P h =
-        subst (λ (x : Effect). P (record { local = x.local; sends = x.sends }))
-        (sym (begun-errand n.local))
-        (subst (λ (k : ℕ). P (errand k false [] extra.Begins n.local)) next h)
-
+  module _ (tests : AllPass (begin_tests n.local)) where
     pub begin-performed : {new : NodeView} → IsRun (errand cycle false [] extra.Begins n.local) n new
         → Performed true (Ok (answer.Begun cycle)) n new (view_act n event.Begin)
     unfolding view_act
-    begin-performed {new = new} run =
-        let is = begun-by (λ (w : Work). IsRun w n new) run in
-        record {
-          performs = answered n (begin_tests n.local) (begun n.local) tests is.fits
-              ∙ ap (λ (m : NodeView). okay m (begun n.local).answer) (sym is.now)
-              ∙ ap (λ (x : Effect). okay new x.answer) (begun-errand n.local)
-              ∙ ap (λ (k : ℕ). okay new (answer.Begun k)) (sym next);
-          unchanged = tt;
-        }
+    begin-performed = shaded (begin_tests n.local) tests begun-is
 
     pub begin-refused : {e : Refusal} {new : NodeView}
         → Runs (Err e) (errand cycle false [] extra.Begins n.local) n new
         → Performed true (Err e) n new (view_act n event.Begin)
     unfolding view_act
-    begin-refused {e = e} {new = new} runs =
-        let is = begun-by (λ (w : Work). Runs (Err e) w n new) runs in
-        record {
-          performs = shading_refused n (begin_tests n.local) (begun n.local) e tests is.refused;
-          unchanged = runs.unchanged;
-        }
+    begin-refused = shaded-refused (begin_tests n.local) tests begun-is
+
+pub begin-tested : (n : NodeView) (e : Refusal)
+    → guarded {A = Unit {0}} (begin_tests n.local) tt ≡ Err e
+    → Performed true (Err e) n n (view_act n event.Begin)
+unfolding view_act
+begin-tested n e = shading-tested n (begin_tests n.local) (begun n.local) (tt {0}) e refl
 
 -- ---- Scan
 
@@ -134,56 +106,41 @@ scan-errand p =
     (filled (places_in (slot_at p.heap (last_grey p.heap)))) extra.Scanned p
     (le_refl p.phases.cycle))
 
-module _ (n : NodeView) where
-  pub scan-none : is_calm n.local.heap ≡ true
-      → IsFirstRefusal true NothingToDo (view_act n event.Scan)
+pub scan-none : (n : NodeView) → is_calm n.local.heap ≡ true
+    → Performed true (Err NothingToDo) n n (view_act n event.Scan)
+unfolding view_act
+scan-none n calm =
+    shading-tested n (scan_tests n.local) (scanned n.local) (tt {0}) NothingToDo refl
+    (rw calm refl)
+
+pub held-within : (n : NodeView) → IsNode n → AllByRecursion (IsWithin n.local.shape) (held n)
+held-within n old =
+    holds-places (IsWithin n.local.shape) n.local.heap (last_grey n.local.heap) old.references
+
+module _ (n : NodeView) {cycle : ℕ} {rs : List Ref} {r : Ref}
+    (now : cycle ≡ n.local.phases.cycle) (same : rs ≡ held n)
+    (name : r ≡ scanned_reference n.local) (busy : is_calm n.local.heap ≡ false) where
+  scanned-is : scanned n.local
+      ≡ answers (errand cycle true rs extra.Scanned n.local) (answer.Scanned r)
+  unfolding scanned
+  scanned-is =
+      ap (λ (w : Work). answers w (answer.Scanned (scanned_reference n.local)))
+      (scan-errand n.local
+      ∙ ap (λ (k : ℕ). errand k true (held n) extra.Scanned n.local) (sym now)
+      ∙ ap (λ (us : List Ref). errand cycle true us extra.Scanned n.local) (sym same))
+      ∙ ap (λ (z : Ref). answers (errand cycle true rs extra.Scanned n.local) (answer.Scanned z))
+      (sym name)
+
+  pub scan-performed : {new : NodeView} → IsRun (errand cycle true rs extra.Scanned n.local) n new
+      → Performed true (Ok (answer.Scanned r)) n new (view_act n event.Scan)
   unfolding view_act
-  scan-none calm =
-      test_refused n (scan_tests n.local) (scanned n.local) true (tt {0}) NothingToDo
-      (rw calm refl) (λ e. absurd cc)
+  scan-performed = shaded (scan_tests n.local) (rw busy refl, tt) scanned-is
 
-  pub held-within : IsNode n → AllByRecursion (IsWithin n.local.shape) (held n)
-  held-within old =
-      holds-places (IsWithin n.local.shape) n.local.heap (last_grey n.local.heap) old.references
-
-  module _ (cycle : ℕ) (rs : List Ref) (now : cycle ≡ n.local.phases.cycle) (same : rs ≡ held n)
-      (busy : is_calm n.local.heap ≡ false) where
-    scan-tests : AllPass (scan_tests n.local)
-    scan-tests = (rw busy refl, tt)
-
-    scan-by : (P : Work → Type 0) → P (errand cycle true rs extra.Scanned n.local)
-        → P (scan n.local)
-    scan-by P h =
-        subst P (sym (scan-errand n.local))
-        (subst (λ (us : List Ref). P (errand n.local.phases.cycle true us extra.Scanned n.local))
-        same
-        (subst (λ (k : ℕ). P (errand k true rs extra.Scanned n.local)) now h))
-
-    pub scan-performed : {r : Ref} {new : NodeView} → r ≡ scanned_reference n.local
-        → IsRun (errand cycle true rs extra.Scanned n.local) n new
-        → Performed true (Ok (answer.Scanned r)) n new (view_act n event.Scan)
-    unfolding view_act scanned
-    scan-performed {new = new} name run =
-        let is = scan-by (λ (w : Work). IsRun w n new) run in
-        record {
-          performs = answered n (scan_tests n.local) (scanned n.local) scan-tests is.fits
-              ∙ ap (λ (m : NodeView). okay m (answer.Scanned (scanned_reference n.local)))
-              (sym is.now)
-              ∙ ap (λ (z : Ref). okay new (answer.Scanned z)) (sym name);
-          unchanged = tt;
-        }
-
-    pub scan-refused : {e : Refusal} {new : NodeView}
-        → Runs (Err e) (errand cycle true rs extra.Scanned n.local) n new
-        → Performed true (Err e) n new (view_act n event.Scan)
-    unfolding view_act scanned
-    scan-refused {e = e} {new = new} runs =
-        let is = scan-by (λ (w : Work). Runs (Err e) w n new) runs in
-        record {
-          performs = shading_refused n (scan_tests n.local) (scanned n.local) e scan-tests
-              is.refused;
-          unchanged = runs.unchanged;
-        }
+  pub scan-refused : {e : Refusal} {new : NodeView}
+      → Runs (Err e) (errand cycle true rs extra.Scanned n.local) n new
+      → Performed true (Err e) n new (view_act n event.Scan)
+  unfolding view_act
+  scan-refused = shaded-refused (scan_tests n.local) (rw busy refl, tt) scanned-is
 
 -- ---- Load
 
@@ -238,30 +195,14 @@ module _ {n : NodeView} {register object place cycle : ℕ} {value : Option Ref}
   pub load-refused : {e : Refusal} {new : NodeView} → Runs (Err e) asks n new
       → Performed true (Err e) n new (view_act n (event.Load register object place))
   unfolding view_act
-  load-refused {e = e} runs = record {
-    performs = shading_refused n load_tests_of load_effect e tests-pass
-        (λ other. (
-          (runs.refused other).0,
-          ap (λ (x : Effect). fits (map used n.links) x.sends) effect-is
-              ∙ (runs.refused other).1,
-        ));
-    unchanged = runs.unchanged;
-  }
+  load-refused runs = shaded-refused load_tests_of tests-pass effect-is (runs-refused refl runs)
 
   pub load-performed : {mid new : NodeView} → IsRun asks n mid
       → new ≡ record mid { local = loads mid.local }
       → Performed true (Ok (answer.Value value)) n new
       (view_act n (event.Load register object place))
   unfolding view_act
-  load-performed {new = new} run step =
-      let is = run-then loads run step in
-      record {
-        performs = answered n load_tests_of load_effect tests-pass
-            (ap (λ (x : Effect). fits (map used n.links) x.sends) effect-is ∙ is.fits)
-            ∙ ap (λ (x : Effect). okay (after_step n x.local x.sends) x.answer) effect-is
-            ∙ ap (λ (m : NodeView). okay m (answer.Value value)) (sym is.now);
-        unchanged = tt;
-      }
+  load-performed run step = shaded load_tests_of tests-pass effect-is (run-then loads run step)
 
   -- the registers are still there
   pub load-there : {mid : NodeView} → IsRun asks n mid
@@ -271,8 +212,16 @@ module _ {n : NodeView} {register object place cycle : ℕ} {value : Option Ref}
       ∙ ap (λ (w : Work). w.local.heap.registers) asks-is
       ∙ seen-registers true (filled (value ∷ [])) n.local
 
-  pub value-within : IsNode n → IfAny (IsWithin n.local.shape) value
-  value-within old =
-      subst (IfAny (IsWithin n.local.shape)) value-is
-      (holds-place_of (IsWithin n.local.shape) n.local.heap (named n.local.heap object) place
-      old.references)
+-- what is read is within the shape
+pub loaded-within : (n : NodeView) (register object place : ℕ) (r : Result (Option Ref) Refusal)
+    → IsNode n
+    → r ≡ guarded (load_tests n.local.own n.local.heap register object place)
+    (place_loaded n.local.heap object place)
+    → IfOk r (IfAny (IsWithin n.local.shape))
+loaded-within n register object place (Err e) old is = tt
+loaded-within n register object place (Ok v) old is =
+    subst (IfAny (IsWithin n.local.shape))
+    (guarded-ok (load_tests n.local.own n.local.heap register object place)
+    (place_loaded n.local.heap object place) v (sym is))
+    (holds-place_of (IsWithin n.local.shape) n.local.heap (named n.local.heap object) place
+    old.references)

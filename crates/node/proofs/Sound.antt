@@ -1,14 +1,15 @@
 -- Each event on the heap alone preserves what holds of every node.
-use Rattle.std.proofs.Common.{◌≡◌, ℕ, ◌<◌, ◌≤◌, List, [], ◌∷◌, drop, length, get_or, Some, None, Ok, ap, sym, ◌∙◌, subst, arith, rules, length-append, le_refl}
+use Rattle.std.proofs.Common.{◌≡◌, ℕ, ◌<◌, ◌≤◌, Bool, List, [], ◌∷◌, drop, length, get_or, Option, Some, None, Ok, ap, sym, ◌∙◌, subst, arith, rules, length-append, le_refl}
 use Rattle.std.proofs.lemmas.Bool.{leb-true}
 use Rattle.std.proofs.lemmas.List.{length-set}
 use Rattle.ids.specs.declared.limits.TheConstants.{GREATEST_PLACES}
 use Rattle.ids.specs.declared.names.Ref.{Ref}
+use Rattle.ids.specs.declared.refusal.Refusal.{Refusal}
 use Rattle.model.specs.declared.event.Letter.{Letter}
-use Rattle.model.specs.Checks.{AllPass}
+use Rattle.model.specs.Checks.{AllPass, guarded}
 use Rattle.model.specs.State.{Object, Slot, Occupied, Retired, Heap, register_at}
-use Rattle.model.specs.Heaps.{next_generation, slots_with, heap_alloc, alloc_tests, alloc_heap, with_object, new_object, new_reference, named, heap_copy, copy_tests, heap_drop, drop_tests, heap_accept, accept_tests, letter_taken, oldest_letter, heap_store, store_tests, with_place, heap_clear, clear_tests, heap_set_word, word_tests, with_word}
-use Rattle.model.specs.References.{IsWithin}
+use Rattle.model.specs.Heaps.{with_register, next_generation, slots_with, heap_alloc, alloc_tests, alloc_heap, with_object, new_object, new_reference, named, heap_copy, copy_tests, heap_drop, drop_tests, heap_accept, accept_tests, letter_taken, oldest_letter, heap_store, store_tests, with_place, heap_clear, clear_tests, heap_set_word, word_tests, with_word}
+use Rattle.model.specs.References.{IfAny, IsWithin}
 use Rattle.model.specs.declared.event.Answer.TheVariants as answer
 use Rattle.model.specs.declared.event.Event.TheVariants as event
 use Rattle.model.specs.View.{NodeView, view_act}
@@ -82,31 +83,32 @@ module _ (n : NodeView) (old : IsNode n) where
       register (Some (new_reference p.own h)))
       (slots_with-more h.free h.slots o))
 
+  -- the heap is what passed the tests of an event
+  tested : (tests : List (Bool × Refusal)) (h g : Heap) → guarded tests h ≡ Ok g
+      → IsNode (with_heap n h) → IsNode (with_heap n g)
+  tested tests h g e is = subst (λ (z : Heap). IsNode (with_heap n z)) (guarded-ok tests h g e) is
+
+  node-registered : (register : ℕ) (v : Option Ref) → IfAny (IsWithin n.local.shape) v
+      → IsNode (with_heap n (with_register n.local.heap register v))
+  node-registered register v within =
+      let p = n.local in
+      node-heap n (with_register p.heap register v) old
+      (holds-with_register (IsWithin p.shape) p.heap register v old.references within)
+      (stocked-register p.shape p.own p.phases.cycle p.phases.ended p.heap old.stocked register v)
+      (le_refl (length p.heap.slots))
+
   pub node-copied : (register source : ℕ) (g : Heap)
       → heap_copy n.local.heap register source ≡ Ok g → IsNode (with_heap n g)
   unfolding heap_copy
   node-copied register source g e =
-      let p = n.local in
-      subst (λ (z : Heap). IsNode (with_heap n z))
-      (guarded-ok (copy_tests p.heap register source) _ _ e)
-      (node-heap n _ old
-      (holds-with_register (IsWithin p.shape) p.heap register (register_at p.heap source)
-      old.references (old.references.registers source))
-      (stocked-register p.shape p.own p.phases.cycle p.phases.ended p.heap old.stocked register
-      (register_at p.heap source))
-      (le_refl (length p.heap.slots)))
+      tested (copy_tests n.local.heap register source) _ g e
+      (node-registered register (register_at n.local.heap source) (old.references.registers source))
 
   pub node-dropped : (register : ℕ) (g : Heap) → heap_drop n.local.heap register ≡ Ok g
       → IsNode (with_heap n g)
   unfolding heap_drop
   node-dropped register g e =
-      let p = n.local in
-      subst (λ (z : Heap). IsNode (with_heap n z)) (guarded-ok (drop_tests p.heap register) _ _ e)
-      (node-heap n _ old
-      (holds-with_register (IsWithin p.shape) p.heap register None old.references tt)
-      (stocked-register p.shape p.own p.phases.cycle p.phases.ended p.heap old.stocked register
-      None)
-      (le_refl (length p.heap.slots)))
+      tested (drop_tests n.local.heap register) _ g e (node-registered register None tt)
 
   pub node-accepted : (register : ℕ) (g : Heap) (l : Letter)
       → heap_accept n.local.heap register ≡ Ok (g, l) → IsNode (with_heap n g)
@@ -126,37 +128,31 @@ module _ (n : NodeView) (old : IsNode n) where
       (oldest_letter p.heap).reference)
       (le_refl (length p.heap.slots)))
 
+  pub node-placed : (r : Ref) (place : ℕ) (v : Option Ref) → IfAny (IsWithin n.local.shape) v
+      → IsNode (with_heap n (with_place n.local.heap r place v))
+  node-placed r place v within =
+      let p = n.local in
+      let slots : length (with_place p.heap r place v).slots ≡ length p.heap.slots =
+      length-set p.heap.slots r.slot _ in
+      node-heap n (with_place p.heap r place v) old
+      (holds-with_place (IsWithin p.shape) p.heap r place v old.references within)
+      (stocked-place p.shape p.own p.phases.cycle p.phases.ended p.heap old.stocked r place v)
+      (omega (arith, slots))
+
   pub node-stored : (object place register : ℕ) (g : Heap)
       → heap_store n.local.own n.local.heap object place register ≡ Ok g → IsNode (with_heap n g)
   unfolding heap_store
   node-stored object place register g e =
-      let p = n.local in
-      let r : Ref = named p.heap object in
-      let v = register_at p.heap register in
-      let slots : length (with_place p.heap r place v).slots ≡ length p.heap.slots =
-      length-set p.heap.slots r.slot _ in
-      subst (λ (z : Heap). IsNode (with_heap n z))
-      (guarded-ok (store_tests p.own p.heap object place register) _ _ e)
-      (node-heap n (with_place p.heap r place v) old
-      (holds-with_place (IsWithin p.shape) p.heap r place v old.references
+      tested (store_tests n.local.own n.local.heap object place register) _ g e
+      (node-placed (named n.local.heap object) place (register_at n.local.heap register)
       (old.references.registers register))
-      (stocked-place p.shape p.own p.phases.cycle p.phases.ended p.heap old.stocked r place v)
-      (omega (arith, slots)))
 
   pub node-cleared : (object place : ℕ) (g : Heap)
       → heap_clear n.local.own n.local.heap object place ≡ Ok g → IsNode (with_heap n g)
   unfolding heap_clear
   node-cleared object place g e =
-      let p = n.local in
-      let r : Ref = named p.heap object in
-      let slots : length (with_place p.heap r place None).slots ≡ length p.heap.slots =
-      length-set p.heap.slots r.slot _ in
-      subst (λ (z : Heap). IsNode (with_heap n z))
-      (guarded-ok (clear_tests p.own p.heap object place) _ _ e)
-      (node-heap n (with_place p.heap r place None) old
-      (holds-with_place (IsWithin p.shape) p.heap r place None old.references tt)
-      (stocked-place p.shape p.own p.phases.cycle p.phases.ended p.heap old.stocked r place None)
-      (omega (arith, slots)))
+      tested (clear_tests n.local.own n.local.heap object place) _ g e
+      (node-placed (named n.local.heap object) place None tt)
 
   pub node-word_set : (object word : ℕ) (g : Heap)
       → heap_set_word n.local.own n.local.heap object word ≡ Ok g → IsNode (with_heap n g)
@@ -166,8 +162,7 @@ module _ (n : NodeView) (old : IsNode n) where
       let r : Ref = named p.heap object in
       let slots : length (with_word p.heap r word).slots ≡ length p.heap.slots =
       length-set p.heap.slots r.slot _ in
-      subst (λ (z : Heap). IsNode (with_heap n z))
-      (guarded-ok (word_tests p.own p.heap object) _ _ e)
+      tested (word_tests p.own p.heap object) _ g e
       (node-heap n (with_word p.heap r word) old
       (holds-with_word (IsWithin p.shape) p.heap r word old.references)
       (stocked-word p.shape p.own p.phases.cycle p.phases.ended p.heap old.stocked r word)

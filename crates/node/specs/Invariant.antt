@@ -2,6 +2,7 @@
 use Rattle.std.specs.Prelude.{◌≡◌, ℕ, ◌+◌, ◌<◌, ◌≤◌, List, length, slice_index_or}
 use Rattle.std.specs.List.{sum_by}
 use Rattle.ids.specs.Limits.{Shaped, IsShape}
+use Rattle.heap.specs.Heap.{IsSlotted}
 use Rattle.link.specs.Links.{LinksView, IsLinks}
 use Rattle.model.specs.State.{Slot, Phases, Ring}
 use Rattle.model.specs.View.{Link, NodeView, used, no_link}
@@ -53,3 +54,8 @@ pub record IsNode (n : NodeView) : Type 0 where
   pub token : IsHeld n.local.phases.cycle n.local.phases.ended n.local.ring.token
   pub links : AreLinked n.local.shape n.local.own n.local.phases.cycle (links_of n)
   pub balance : IsBalanced n.local.ring n.links n.local.got
+
+-- a node that may be saved and made again: it is well-formed, and its heap is one of its shape
+pub record IsStanding (n : NodeView) : Type 0 where
+  pub node : IsNode n
+  pub slots : IsSlotted n.local.heap n.local.shape.slots

@@ -16,13 +16,10 @@ use Rattle.model.specs.Shading.{is_calm, is_in}
 use Rattle.model.specs.Steps.{is_within, mentioned}
 use Rattle.model.specs.View.{Link, NodeView, used}
 use Rattle.control.specs.Phases.{IsPhases}
-use Rattle.heap.specs.Heap.{IsHeapFor}
 use Rattle.heap.specs.Parts.{heap_given}
-use Rattle.link.specs.Links.{LinksView, IsLinks, link_at, got_at}
+use Rattle.link.specs.Links.{LinksView, link_at, got_at}
 use Rattle.link.specs.Parts.{links_given}
-use Rattle.node.specs.Inside.{view_of}
-use Rattle.node.specs.Invariant.{IsBalanced, links_of}
-use Rattle.node.specs.declared.node.Core.TheInside.{Inside}
+use Rattle.node.specs.Invariant.{links_of}
 use Rattle.node.specs.declared.node.parts.NodeParts.{NodeParts}
 
 -- all of the node except its links
@@ -153,28 +150,11 @@ pub record AreAtEnds (shape : Shaped) (own cycle : ℕ) (v : LinksView) : Type 0
   pub unsent : used (link_at v own) ≡ 0
   pub untaken : got_at v own ≡ 0
 
--- a node that may be a saved one
-pub record IsRestorable (n : NodeView) : Type 0 where
+-- what is tested of the parts of a saved node, other than its free slots, its numbers and balances
+pub record AreParts (n : NodeView) : Type 0 where
+  pub shape : IsShape n.local.shape
+  pub phases : IsPhases n.local.phases
   pub home : IsAtHome n.local
-  pub heap : IsHeapFor n.local.shape n.local.heap
   pub grey : AreGreyIn n.local.phases.cycle n.local.heap.slots n.local.heap.grey
   pub asked : AreAsked n.local.shape n.local.own n.local.asked
   pub ends : AreAtEnds n.local.shape n.local.own n.local.phases.cycle (links_of n)
-  pub links : IsLinks (links_of n)
-  pub balance : IsBalanced n.local.ring n.links n.local.got
-
--- what is tested of parts before a node is made of them
-pub record AreParts (p : NodeParts) : Type 0 where
-  pub shape : IsShape p.shape
-  pub phases : IsPhases p.phases
-  pub home : IsAtHome (local_given p)
-  pub grey : AreGreyIn p.phases.cycle (heap_given p.heap).slots p.heap.grey.items
-  pub asked : AreAsked p.shape p.own p.asked.items
-  pub ends : AreAtEnds p.shape p.own p.phases.cycle (links_given p.links.items)
-
--- parts that a node can be made of: they were tested, and the heap may use the slots of the shape
-pub record IsTested (n : Inside) : Type 0 where
-  pub shape : IsShape n.shape
-  pub phases : IsPhases n.phases
-  pub right : IsRestorable (view_of n)
-  pub limit : n.heap.limit ≡ n.shape.slots

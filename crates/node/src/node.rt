@@ -72,8 +72,7 @@ impl Model for Core {
 impl Core {
     ghost use Rattle.node.specs.Summaries.{summary_of};
     ghost use Rattle.heap.specs.Heap.{IsSlotted};
-    ghost use Rattle.node.specs.Invariant.{IsNode};
-    ghost use Rattle.node.specs.Parts.{IsRestorable};
+    ghost use Rattle.node.specs.Invariant.{IsNode, IsStanding};
 
     /// Makes a new node of the shape: nothing allocated, nothing sent, nothing received. It fails
     /// with `NoNode` if the shape has no such node, and with `Memory` if an allocation fails.
@@ -175,7 +174,7 @@ impl Core {
         ensures value { result ≡ summary_of self.now.local }
         ensures sound { IsNode self.now }
         ensures slots { IsSlotted self.now.local.heap self.now.local.shape.slots }
-        ensures restorable { IsRestorable (kept_view self.now) }
+        ensures saved { IsStanding (kept_view self.now) }
     {
         Summary {
             shape: self.shape,

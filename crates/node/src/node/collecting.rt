@@ -4,6 +4,7 @@ ghost use Rattle.std.specs.Prelude.{◌≡◌, ◌≢◌, ◌<◌, ◌≤◌, []
 ghost use Rattle.ids.specs.declared.limits.TheConstants.{GREATEST_PLACES};
 ghost use Rattle.ids.specs.declared.refusal.Refusal.TheVariants.{LinkSpent, Memory};
 ghost use Rattle.model.specs.Collecting.{handed_on, judged, places_in, reports_sweep};
+ghost use Rattle.model.specs.Shading.{is_calm};
 ghost use Rattle.model.specs.State.{slot_at};
 ghost use Rattle.model.specs.Steps.{fits};
 ghost use Rattle.model.specs.View.{Performed, append_to, used, view_act, view_done};
@@ -29,11 +30,8 @@ impl Core {
     pub(crate) fn begin(&mut self) -> Result<Answer, Refusal>
         ensures { Performed true result self.old self.new (view_act self.old event.Begin) }
     {
-        if self.own != 0 {
-            return Err(Refusal::NotDirector);
-        }
-        self.phases.may_begin()?;
-        let cycle = self.phases.cycle() + 1;
+        self.may_begin()?;
+        let cycle = self.cycle() + 1;
         self.run(cycle, false, &[], Extra::Begins)?;
         Ok(Answer::Begun(cycle))
     }
@@ -50,7 +48,7 @@ impl Core {
         let scanned = self.heap.reference_at(self.own, slot);
         let mut places = [None; PLACES];
         let count = copy_places(&self.heap, slot, &mut places);
-        let cycle = self.phases.cycle();
+        let cycle = self.cycle();
         self.run(cycle, true, &places[..count], Extra::Scanned)?;
         Ok(Answer::Scanned(scanned))
     }
@@ -58,16 +56,17 @@ impl Core {
     /// Passes the token on, or at node 0 judges it. It fails with `NothingToDo` if the node has no
     /// token or has grey objects. After that it fails with `LinkSpent` if a message gets no number,
     /// and then with `Memory` if an allocation fails.
+    #[tactic(auto, unfolding(model::specs::View::view_act, model::specs::Collecting::passed))]
     pub(crate) fn pass(&mut self) -> Result<Answer, Refusal>
         ensures { Performed false result self.old self.new (view_act self.old event.Pass) }
     {
-        if self.ring.token().is_none() {
+        if !self.has_token() {
             return Err(Refusal::NothingToDo);
         }
-        if self.heap.grey() > 0 {
+        if !self.is_calm() {
             return Err(Refusal::NothingToDo);
         }
-        if self.own == 0 {
+        if self.is_director() {
             self.judge()
         } else {
             self.hand_on()
@@ -81,8 +80,7 @@ impl Core {
         ensures { Performed false result self.old self.new
             (view_done self.old (handed_on self.old.local)) }
     {
-        let mut ring = self.ring;
-        let token = ring.forward();
+        let (ring, token) = self.forward();
         let previous = self.own - 1;
         self.send(previous, Body::Token(token))?;
         self.set_ring(ring);
@@ -92,15 +90,15 @@ impl Core {
     /// Announces to all others that marking has ended, or starts another probe.
     fn judge(&mut self) -> Result<Answer, Refusal>
         requires first { self.old.local.own ≡ 0 }
-        requires calm { self.old.local.heap.grey ≡ [] }
+        requires calm { is_calm self.old.local.heap ≡ true }
         requires token { IsSome self.old.local.ring.token }
         ensures { Performed false result self.old self.new
             (view_done self.old (judged self.old.local)) }
     {
-        let mut ring = self.ring;
-        match ring.verdict() {
+        let (ring, verdict) = self.verdict();
+        match verdict {
             Verdict::Ended => {
-                let cycle = self.phases.cycle();
+                let cycle = self.cycle();
                 self.tell(Body::Ended)?;
                 self.set_ring(ring);
                 self.end_marking();

@@ -49,9 +49,8 @@ impl Core {
         ensures { Performed true result self.old self.new
             (view_act self.old (event.Load register object place)) }
     {
-        let own = self.own;
-        let value = self.heap.loaded(own, register, object, place)?;
-        let cycle = self.phases.cycle();
+        let value = self.loaded(register, object, place)?;
+        let cycle = self.cycle();
         self.run(cycle, true, &[value], Extra::Nothing)?;
         self.set_register(register, value);
         Ok(Answer::Value(value))

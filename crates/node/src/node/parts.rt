@@ -2,8 +2,8 @@
 //! them. All messages of the new node count as released.
 ghost use Rattle.std.specs.Prelude.{◌≡◌, ◌≢◌, IfOk, IfErr, OnOk};
 ghost use Rattle.ids.specs.declared.refusal.Refusal.TheVariants.{BadImage, Memory};
-ghost use Rattle.node.specs.Inside.{view_of};
-ghost use Rattle.node.specs.Parts.{node_given, AreParts, IsRestorable, IsTested};
+ghost use Rattle.node.specs.Invariant.{IsStanding};
+ghost use Rattle.node.specs.Parts.{node_given, AreParts};
 
 mod ends;
 mod home;
@@ -40,9 +40,9 @@ pub struct NodeParts {
 /// that were asked or vouched for.
 fn tested(alloc: Global, parts: &NodeParts) -> Result<RefSet, Refusal>
     ensures asked { IfOk result (λ s. s.keys ≡ parts.now.asked.items) }
-    ensures right { OnOk result (AreParts parts.now) }
+    ensures right { OnOk result (AreParts (node_given parts.now)) }
     ensures refused { IfErr result (λ e.
-        e ≢ Memory → (e ≡ BadImage) × (AreParts parts.now → ⊥)) }
+        e ≢ Memory → (e ≡ BadImage) × (AreParts (node_given parts.now) → ⊥)) }
 {
     if !is_at_home(parts) {
         return Err(Refusal::BadImage);
@@ -66,9 +66,9 @@ impl Core {
     /// Parts that are refused are dropped.
     pub fn from_parts(alloc: Global, parts: NodeParts) -> Result<Core, Refusal>
         ensures made { IfOk result (λ n. n ≡ node_given parts) }
-        ensures right { OnOk result (IsRestorable (node_given parts)) }
+        ensures right { OnOk result (IsStanding (node_given parts)) }
         ensures refused { IfErr result (λ e.
-            e ≢ Memory → (e ≡ BadImage) × (IsRestorable (node_given parts) → ⊥)) }
+            e ≢ Memory → (e ≡ BadImage) × (IsStanding (node_given parts) → ⊥)) }
     {
         let asked = tested(alloc, &parts)?;
         let NodeParts {
@@ -85,39 +85,7 @@ impl Core {
             return Err(Refusal::BadImage);
         }
         let heap = Heap::from_parts(shape, heap)?;
-        Ok(Core::of_tested(shape, own, heap, asked, phases, ring, links))
-    }
-
-    fn of_tested(
-        shape: Shape,
-        own: u8,
-        heap: Heap,
-        asked: RefSet,
-        phases: Phases,
-        ring: Ring,
-        links: Links,
-    ) -> Core
-        requires { IsTested (record {
-          shape = shape;
-          own = own;
-          heap = heap;
-          asked = asked;
-          phases = phases;
-          ring = ring;
-          links = links;
-        }) }
-        ensures made { result ≡ view_of (record {
-          shape = shape;
-          own = own;
-          heap = heap;
-          asked = asked;
-          phases = phases;
-          ring = ring;
-          links = links;
-        }) }
-        ensures right { IsRestorable result }
-    {
-        Core {
+        Ok(Core {
             shape,
             own,
             heap,
@@ -125,6 +93,6 @@ impl Core {
             phases,
             ring,
             links,
-        }
+        })
     }
 }

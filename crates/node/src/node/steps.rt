@@ -1,21 +1,94 @@
 //! The steps of an event that can't fail. Each is one of the definitions, and keeps what holds of
 //! every node.
-ghost use Rattle.std.specs.Prelude.{◌≡◌, ◌≢◌, ◌+◌, ◌<◌, ◌≤◌, ◌^◌, [], Some, None, length, nat_lt};
-ghost use Rattle.control.specs.Phases.{advanced, all_swept, with_ended, with_report};
-ghost use Rattle.model.specs.Collecting.{unswept};
-ghost use Rattle.model.specs.Heaps.{object_at, place_of, with_place, with_register};
+ghost use Rattle.std.specs.Prelude.{◌≡◌, ◌≢◌, ◌==◌, ◌+◌, ◌<◌, ◌≤◌, ◌^◌, [], Some, None, is_some, length, nat_lt, IsSome, IfOk, OnOk};
+ghost use Rattle.ids.specs.declared.limits.TheConstants.{GREATEST_CYCLE};
+ghost use Rattle.model.specs.Checks.{guarded};
+ghost use Rattle.control.specs.Phases.{MayBegin, advanced, all_swept, with_ended, with_report};
+ghost use Rattle.model.specs.Collecting.{begin_tests, forwarded, unswept, whitened, without_token};
+ghost use Rattle.model.specs.Heaps.{load_tests, object_at, place_loaded, place_of, with_place, with_register};
 ghost use Rattle.model.specs.References.{IfAny, IsWithin};
+ghost use Rattle.model.specs.Shading.{is_calm};
 ghost use Rattle.model.specs.State.{got_from};
 ghost use Rattle.model.specs.Steps.{count_in};
+ghost use Rattle.safra.specs.Verdicts.{judged_ring, verdict_of};
 ghost use Rattle.node.specs.Cycles.{slots_swept};
 ghost use Rattle.node.specs.Taking.{IsSender};
 
 use super::Core;
-use ids::Ref;
+use ids::{Ref, Refusal};
 use msg::{Body, Token};
-use safra::{Ring, balance_of};
+use safra::{Ring, Verdict, balance_of};
 
 impl Core {
+    /// The node's cycle.
+    #[inline(always)]
+    pub(super) fn cycle(&self) -> u64
+        ensures value { result ≡ self.now.local.phases.cycle }
+        ensures within { result ≤ GREATEST_CYCLE }
+    {
+        self.phases.cycle()
+    }
+
+    /// Whether this is node 0, which begins and ends cycles.
+    #[inline(always)]
+    pub(super) fn is_director(&self) -> bool
+        ensures { result ≡ (self.now.local.own == 0) }
+    {
+        self.own == 0
+    }
+
+    /// Tests whether node 0 may begin the next cycle.
+    pub(super) fn may_begin(&self) -> Result<(), Refusal>
+        ensures tests { result ≡ guarded (begin_tests self.now.local) tt }
+        ensures first { OnOk result (self.now.local.own ≡ 0) }
+        ensures ready { OnOk result (MayBegin self.now.local.phases) }
+    {
+        if !self.is_director() {
+            return Err(Refusal::NotDirector);
+        }
+        self.phases.may_begin()
+    }
+
+    /// Whether no object is grey.
+    #[inline(always)]
+    pub(super) fn is_calm(&self) -> bool
+        ensures { result ≡ is_calm self.now.local.heap }
+    {
+        self.heap.grey() == 0
+    }
+
+    /// Whether the node has the token.
+    #[inline(always)]
+    pub(super) fn has_token(&self) -> bool
+        ensures { result ≡ is_some self.now.local.ring.token }
+    {
+        self.ring.token().is_some()
+    }
+
+    /// The token that the node passes on, and its part of the ring after that.
+    #[inline(always)]
+    pub(super) fn forward(&self) -> (Ring, Token)
+        requires { IsSome self.now.local.ring.token }
+        ensures ring { result.0 ≡ whitened (without_token self.now.local.ring) }
+        ensures token { result.1 ≡ forwarded self.now.local.ring }
+    {
+        let mut ring = self.ring;
+        let token = ring.forward();
+        (ring, token)
+    }
+
+    /// What node 0 finds by the token, and its part of the ring after that.
+    #[inline(always)]
+    pub(super) fn verdict(&self) -> (Ring, Verdict)
+        requires { IsSome self.now.local.ring.token }
+        ensures ring { result.0 ≡ judged_ring self.now.local.ring }
+        ensures verdict { result.1 ≡ verdict_of self.now.local.ring }
+    {
+        let mut ring = self.ring;
+        let verdict = ring.verdict();
+        (ring, verdict)
+    }
+
     /// Whether a message of this stamp is from before the node's cycle. Its sender hadn't joined
     /// then, so what it carries is to be shaded; otherwise the sender has seen to that.
     pub(super) fn is_late(&self, stamp: u64) -> bool
@@ -31,6 +104,23 @@ impl Core {
         ensures within { IfAny (IsWithin self.now.local.shape) result }
     {
         self.heap.place(object, place)
+    }
+
+    /// What the register gets by a Load of this place.
+    #[inline(always)]
+    pub(super) fn loaded(
+        &self,
+        register: u16,
+        object: u16,
+        place: u8,
+    ) -> Result<Option<Ref>, Refusal>
+        ensures value { let heap = self.now.local.heap in
+            result ≡ guarded (load_tests self.now.local.own heap register object place)
+            (place_loaded heap object place) }
+        ensures there { OnOk result (register < length self.now.local.heap.registers) }
+        ensures within { IfOk result (IfAny (IsWithin self.now.local.shape)) }
+    {
+        self.heap.loaded(self.own, register, object, place)
     }
 
     /// Sets the register.

@@ -1,8 +1,8 @@
 use Rattle.std.proofs.Common.{refl, sym, true≢false, arith}
-use Rattle.image.specs.Nodes.{node_of}
 use Rattle.grammar.specs.Parts.{stored_of}
-use Rattle.image.proofs.Made.{said_refused}
 use Rattle.grammar.proofs.Readings.{own_below, links_count}
+use Rattle.image.specs.Nodes.{node_of}
+use Rattle.image.proofs.Made.{said_refused}
 use Rattle.image.proofs.restoring.restored.Goals as goal
 
 pub returns-in_default-clause-refused : goal.returns-in_default-clause-refused

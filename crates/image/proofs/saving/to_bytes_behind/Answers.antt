@@ -24,7 +24,7 @@ returns c =
     (record {
       written = c.finish.ensures.written text said;
       image = is_saved n state.sound c.finish.result (IsOpen c.put_node.new.out)
-          GREATEST_IMAGE refl state.slots state.restorable c.finish.ensures.within
+          GREATEST_IMAGE refl state.saved c.finish.ensures.within
           (λ is. let k = c.put_node.ensures.known is in k.1)
           (on_ok_weaker c.finish.result (λ fits. omega (arith, fits, limit, long))
           (c.finish.ensures.fits text said));

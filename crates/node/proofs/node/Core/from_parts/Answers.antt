@@ -1,42 +1,45 @@
+use Rattle.std.proofs.lemmas.Result.{err_from_is_err_and}
 use Rattle.link.specs.Links.{LinksView}
 use Rattle.link.specs.Parts.{links_given}
-use Rattle.node.specs.Invariant.{IsBalanced}
-use Rattle.node.specs.Parts.{IsRestorable, node_given}
+use Rattle.node.specs.Invariant.{IsBalanced, IsNode}
+use Rattle.node.specs.Parts.{node_given}
+use Rattle.node.proofs.Restorable.{parts-from, standing}
 use Rattle.node.proofs.node.Core.from_parts.Goals as goal
 
-pub of_tested-requires : goal.of_tested-requires
-of_tested-requires c =
+pub returns-in_err-asked-clause-refused : goal.returns-in_err-asked-clause-refused
+returns-in_err-asked-clause-refused c =
+    let r = err_from_is_err_and c.from_residual.result c.from_residual.ensures.1 in
+    rw (r.1, r.2)
+    (λ other.
+    let told = c.in_err-asked.ensures.refused other in
+    (told.0, λ is. told.1 (parts-from (node_given c.args.parts) is.node)))
+
+pub returns-clause-right : goal.returns-clause-right
+returns-clause-right c =
     let p = c.args.parts in
-    let tested = c.in_ok-asked.ensures.right in
+    let heap = c.in_ok-heap.ensures.sound in
     let v : LinksView = links_given p.links.items in
     let balance : IsBalanced p.ring v.links v.got =
     rw (c.number_sum.ensures, c.in_ok-links.ensures.made) at
     (c.is_bounded.ensures.0 c.if-not-is_bounded.false) in
-    let right : IsRestorable (node_given p) = record {
-      home = tested.home;
-      heap = c.in_ok-heap.ensures.sound;
-      grey = tested.grey;
-      asked = tested.asked;
-      ends = tested.ends;
-      links = c.in_ok-links.ensures.sound;
-      balance = balance;
-    } in
     record {
-      shape = tested.shape;
-      phases = tested.phases;
-      right = rw (
-        c.in_ok-heap.ensures.made.heap,
-        c.in_ok-asked.ensures.asked,
-        c.in_ok-links.ensures.made,
-      ) right;
-      limit = c.in_ok-heap.ensures.made.limit;
+      node = standing (node_given p) c.in_ok-asked.ensures.right heap c.in_ok-links.ensures.sound
+          balance;
+      slots = heap.slots;
     }
 
-pub returns-clause-right : goal.returns-clause-right
-returns-clause-right c =
-    rw (
-      c.of_tested.ensures.made,
-      c.in_ok-heap.ensures.made.heap,
-      c.in_ok-asked.ensures.asked,
-      c.in_ok-links.ensures.made,
-    ) at c.of_tested.ensures.right
+pub invariant_of-result : goal.invariant_of-result
+invariant_of-result c =
+    let p = c.args.parts in
+    let heap = c.in_ok-heap.ensures in
+    let v : LinksView = links_given p.links.items in
+    let balance : IsBalanced p.ring v.links v.got =
+    rw (c.number_sum.ensures, c.in_ok-links.ensures.made) at
+    (c.is_bounded.ensures.0 c.if-not-is_bounded.false) in
+    let node : IsNode (node_given p) =
+    standing (node_given p) c.in_ok-asked.ensures.right heap.sound c.in_ok-links.ensures.sound
+    balance in
+    record {
+      node = rw (heap.made.heap, c.in_ok-asked.ensures.asked, c.in_ok-links.ensures.made) node;
+      limit = heap.made.limit;
+    }

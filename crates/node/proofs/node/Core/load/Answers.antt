@@ -1,46 +1,24 @@
-use Rattle.std.proofs.Common.{◌<◌, List, length, Option, true, Err, ap, ◌∙◌, refl, subst, sym}
+use Rattle.std.proofs.Common.{◌<◌, List, length, Option, subst, sym}
 use Rattle.std.proofs.lemmas.Result.{err_from_is_err_and}
 use Rattle.ids.specs.Limits.{Shaped}
 use Rattle.ids.specs.declared.names.Ref.{Ref}
-use Rattle.model.specs.declared.event.Event.TheVariants as event
 use Rattle.model.specs.References.{IfAny, IsWithin}
-use Rattle.model.specs.View.{NodeView, Performed, view_act}
-use Rattle.node.specs.Inside.{view_of}
 use Rattle.node.proofs.Refusing.{load_refused}
 use Rattle.node.proofs.Runs.{run-stands}
-use Rattle.node.proofs.Shading.{IsLoad, load-performed, load-refused, load-there, value-within}
+use Rattle.node.proofs.Shading.{IsLoad, load-performed, load-refused, load-there}
 use Rattle.node.proofs.node.Core.load.Goals as goal
 use Rattle.node.proofs.node.Core.load.Goals.{After-run}
 
--- ---- what several goals need
-
-inside : (c : After-run) → IsLoad (view_of c.self.inside) c.args.register c.args.object c.args.place
-    c.cycle-cycle.result c.in_ok-value.value
-inside c = record { now = c.cycle-cycle.ensures.value; found = sym c.in_ok-value.ensures.value }
-
 read : (c : After-run) → IsLoad c.args.self.now c.args.register c.args.object c.args.place
     c.cycle-cycle.result c.in_ok-value.value
-read c =
-    subst (λ (m : NodeView). IsLoad m c.args.register c.args.object c.args.place
-    c.cycle-cycle.result c.in_ok-value.value) c.self.view_is (inside c)
-
--- ---- the goals
+read c = record { now = c.cycle-cycle.ensures.value; found = sym c.in_ok-value.ensures.value }
 
 pub returns-in_err-value : goal.returns-in_err-value
 returns-in_err-value c =
     let p = err_from_is_err_and c.from_residual.result c.from_residual.ensures.1 in
-    let n : NodeView = view_of c.self.inside in
-    let found = sym c.in_err-value.ensures.value in
     rw (p.1, p.2)
-    (subst
-    (λ (m : NodeView).
-    Performed true (Err c.in_err-value.field-0.0) m m
-    (view_act m (event.Load c.args.register c.args.object c.args.place)))
-    c.self.view_is
-    (record {
-      performs = load_refused n c.args.object c.args.place c.args.register _ found;
-      unchanged = refl;
-    }))
+    (load_refused c.args.self.now c.args.object c.args.place c.args.register _
+    (sym c.in_err-value.ensures.value))
 
 pub returns-in_err-run : goal.returns-in_err-run
 returns-in_err-run c =
@@ -53,17 +31,14 @@ pub set_register-requires-clause-there : goal.set_register-requires-clause-there
 set_register-requires-clause-there c =
     let at = (goal.at.set_register-requires-clause-there c).After-run in
     subst (λ (rs : List (Option Ref)). c.args.register < length rs)
-    (sym (load-there (read at) c.in_ok-run.ensures.done
-    ∙ ap (λ (m : NodeView). m.local.heap.registers) (sym c.self.view_is)))
-    c.in_ok-value.ensures.there
+    (sym (load-there (read at) c.in_ok-run.ensures.done)) c.in_ok-value.ensures.there
 
 pub set_register-requires-clause-within : goal.set_register-requires-clause-within
 set_register-requires-clause-within c =
     let at = (goal.at.set_register-requires-clause-within c).After-run in
     let same = run-stands c.cycle-cycle.result _ _ _ c.in_ok-run.ensures.done in
-    subst (λ (s : Shaped). IfAny (IsWithin s) c.in_ok-value.value)
-    (sym (same.shape ∙ ap (λ (m : NodeView). m.local.shape) (sym c.self.view_is)))
-    (value-within (inside at) c.self.invariant.node)
+    subst (λ (s : Shaped). IfAny (IsWithin s) c.in_ok-value.value) (sym same.shape)
+    c.in_ok-value.ensures.within
 
 pub returns : goal.returns
 returns c =

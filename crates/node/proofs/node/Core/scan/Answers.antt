@@ -1,15 +1,13 @@
-use Rattle.std.proofs.Common.{◌≡◌, ℕ, true, false, ap, sym, ◌∙◌, subst, refl, Err}
+use Rattle.std.proofs.Common.{◌≡◌, ℕ, true, false, ap, sym, ◌∙◌, subst}
 use Rattle.std.specs.Prelude.{take}
 use Rattle.std.proofs.lemmas.Result.{err_from_is_err_and}
 use Rattle.std.specs.List.{AllByRecursion}
-use Rattle.ids.specs.declared.refusal.Refusal.TheVariants.{NothingToDo}
 use Rattle.heap.specs.Heap.{reference_in}
-use Rattle.model.specs.declared.event.Event.TheVariants as event
 use Rattle.model.specs.Collecting.{places_in, scanned_reference}
 use Rattle.model.specs.References.{IsWithin}
 use Rattle.model.specs.Shading.{filled, is_calm, last_grey}
 use Rattle.model.specs.State.{slot_at}
-use Rattle.model.specs.View.{NodeView, Performed, view_act}
+use Rattle.model.specs.View.{NodeView}
 use Rattle.node.specs.Inside.{view_of}
 use Rattle.node.proofs.Shading.{held, held-within, scan-none, scan-performed, scan-refused}
 use Rattle.node.proofs.node.Core.scan.Goals as goal
@@ -34,20 +32,22 @@ busy c =
     (sym c.in-Some.ensures.none)
 
 now : (c : After-cycle-cycle) → c.cycle-cycle.result ≡ c.args.self.now.local.phases.cycle
-now c =
-    c.cycle-cycle.ensures.value ∙ ap (λ (m : NodeView). m.local.phases.cycle) c.self.view_is
+now c = c.cycle-cycle.ensures.value
+
+name : (c : After-cycle-cycle) → c.reference_at-scanned.result ≡ scanned_reference c.args.self.now.local
+name c =
+    let n : NodeView = view_of c.self.inside in
+    c.reference_at-scanned.ensures
+    ∙ ap (λ (k : ℕ). reference_in n.local.own n.local.heap k) (slot-is c)
+    ∙ ap (λ (m : NodeView). scanned_reference m.local) c.self.view_is
 
 -- ---- the goals
 
 pub returns-in_default : goal.returns-in_default
 returns-in_default c =
-    subst
-    (λ (m : NodeView). Performed true (Err NothingToDo) m m (view_act m event.Scan))
-    c.self.view_is
-    (record {
-      performs = scan-none (view_of c.self.inside) (sym c.in_default.ensures.none);
-      unchanged = refl;
-    })
+    scan-none c.args.self.now
+    (subst (λ (m : NodeView). is_calm m.local.heap ≡ true) c.self.view_is
+    (sym c.in_default.ensures.none))
 
 pub run-requires-clause-within : goal.run-requires-clause-within
 run-requires-clause-within c =
@@ -61,14 +61,9 @@ returns-in_err-run c =
     let at = (goal.at.returns-in_err-run c).After-cycle-cycle in
     let p = err_from_is_err_and c.from_residual.result c.from_residual.ensures.1 in
     rw (p.1, p.2)
-    (scan-refused c.args.self.now _ _ (now at) (holds at) (busy at) c.in_err-run.ensures)
+    (scan-refused c.args.self.now (now at) (holds at) (name at) (busy at) c.in_err-run.ensures)
 
 pub returns : goal.returns
 returns c =
     let at = (goal.at.returns c).After-cycle-cycle in
-    scan-performed c.args.self.now _ _ (now at) (holds at) (busy at)
-    (c.reference_at-scanned.ensures
-    ∙ ap (λ (k : ℕ). reference_in (view_of c.self.inside).local.own
-    (view_of c.self.inside).local.heap k) (slot-is at)
-    ∙ ap (λ (m : NodeView). scanned_reference m.local) c.self.view_is)
-    c.in_ok-run.ensures.done
+    scan-performed c.args.self.now (now at) (holds at) (name at) (busy at) c.in_ok-run.ensures.done

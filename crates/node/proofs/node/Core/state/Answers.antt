@@ -1,15 +1,23 @@
-use Rattle.std.proofs.Common.{subst}
+use Rattle.std.proofs.Common.{refl, subst}
 use Rattle.heap.specs.Heap.{IsSlotted}
+use Rattle.link.specs.Links.{kept_links}
+use Rattle.link.proofs.EveryLink.{links-kept}
 use Rattle.model.specs.View.{NodeView, kept_view}
 use Rattle.node.specs.Inside.{view_of}
-use Rattle.node.specs.Parts.{IsRestorable}
-use Rattle.node.proofs.Restorable.{kept-restorable}
+use Rattle.node.specs.Invariant.{IsStanding, links_of}
+use Rattle.node.proofs.Nodes.{node-kept}
 use Rattle.node.proofs.node.Core.state.Goals as goal
 
-pub returns-clause-restorable : goal.returns-clause-restorable
-returns-clause-restorable c =
-    let n = c.self.inside in
-    let slots : IsSlotted n.heap.heap n.shape.slots =
-    subst (IsSlotted n.heap.heap) c.self.invariant.limit c.live.ensures.slots in
-    subst (λ (m : NodeView). IsRestorable (kept_view m)) c.self.view_is
-    (kept-restorable (view_of n) c.self.invariant.node slots)
+pub returns-clause-saved : goal.returns-clause-saved
+returns-clause-saved c =
+    let m = c.self.inside in
+    let n : NodeView = view_of m in
+    let is = c.self.invariant.node in
+    let slots : IsSlotted m.heap.heap m.shape.slots =
+    subst (IsSlotted m.heap.heap) c.self.invariant.limit c.live.ensures.slots in
+    subst (λ (v : NodeView). IsStanding (kept_view v)) c.self.view_is
+    (record {
+      node = node-kept n {l = kept_links (links_of n)} is
+          (record { sound = links-kept (links_of n) is.links.links; links = refl; ring = refl });
+      slots = slots;
+    })
