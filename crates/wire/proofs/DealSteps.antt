@@ -67,7 +67,7 @@ module _ {S : Type 0} (bytes : S → List ℕ) (opening : World) where
       subst (SeatOk opening h.log (slice_index s.words (n * n + 1)) s.views h.mail id v) role
       (h.each_seat id v at)
 
-  module _ (s : State S Known) (h : Holds bytes opening s) (id : ℕ) (v left right : Known)
+  module _ {s : State S Known} {h : Holds bytes opening s} {id : ℕ} {v left right : Known}
       (t : Deal s h id v left right) where
     views : List Known
     views = Seats s.views left right id
@@ -205,7 +205,7 @@ module _ {S : Type 0} (bytes : S → List ℕ) (opening : World) where
   next_splits id v role below s h at =
       let ok = dealer-of s h id v at role in
       let rest = ok.still v.me (omega arith) in
-      dealt s h id v (dealer_after v) (next_node v) (record {
+      let deal : Deal s h id v (dealer_after v) (next_node v) = record {
         at = at;
         was = role;
         role = role;
@@ -260,13 +260,17 @@ module _ {S : Type 0} (bytes : S → List ℕ) (opening : World) where
         alone = λ r k u a ru same. (let before : u.me < v.me = ok.earlier k u a ru in omega arith);
         left_seen = h.learned id v at;
         right_seen = (h.log, refl);
-      })
+      } in
+      dealt deal
 
   -- ---- One more seat that may only be read
 
-  module _ (s : State S Known) (h : Holds bytes opening s) (w : Known) (is : w.role ≡ watch)
-      (ok : WatchOk opening (slice_index s.words (n * n + 1)) w)
-      (seen : Continues w.seen h.log) where
+  record Watches (s : State S Known) (h : Holds bytes opening s) (w : Known) : Type 0 where
+    pub is : w.role ≡ watch
+    pub ok : WatchOk opening (slice_index s.words (n * n + 1)) w
+    pub seen : Continues w.seen h.log
+
+  module _ {s : State S Known} {h : Holds bytes opening s} {w : Known} (t : Watches s h w) where
     abbrev more : List Known
     more = s.views ++ w ∷ []
 
@@ -277,7 +281,7 @@ module _ {S : Type 0} (bytes : S → List ℕ) (opening : World) where
         ⊎_elim
         (λ was. was)
         (λ (last : w ≡ u).
-        absurd (other (sym role ∙ ap (λ (x : Known). x.role) (sym last) ∙ is)))
+        absurd (other (sym role ∙ ap (λ (x : Known). x.role) (sym last) ∙ t.is)))
         (at_snoc s.views w u k e)
 
     no-watch : node ≢ watch
@@ -340,33 +344,35 @@ module _ {S : Type 0} (bytes : S → List ℕ) (opening : World) where
           subst (λ (x : Known). SeatOk opening h.log (slice_index s.words (n * n + 1))
           (s.views ++ w ∷ []) h.mail j x x.role) last
           (subst (SeatOk opening h.log (slice_index s.words (n * n + 1)) (s.views ++ w ∷ []) h.mail
-          j w) (sym is) ok))
+          j w) (sym t.is) t.ok))
           (at_snoc s.views w u j e);
       learned = λ j u e. ⊎_elim
           (λ was. h.learned j u was)
-          (λ (last : w ≡ u). subst (λ (x : Known). Continues x.seen h.log) last seen)
+          (λ (last : w ≡ u). subst (λ (x : Known). Continues x.seen h.log) last t.seen)
           (at_snoc s.views w u j e);
       one = λ j k x u ex eu rx ru.
           h.one j k x u (before j x ex rx no-watch) (before k u eu ru no-watch) rx ru;
     }
 
-  watch-after : (s : State S Known) (h : Holds bytes opening s) (id : ℕ) (v w : Known)
-      → get_elem? s.views id ≡ some v → w.role ≡ watch
-      → WatchOk opening (slice_index s.words (n * n + 1)) w → Continues w.seen h.log
+  watch-after : {s : State S Known} {h : Holds bytes opening s} {w : Known} (id : ℕ) (v : Known)
+      → get_elem? s.views id ≡ some v → Watches s h w
       → Holds bytes opening
       (record { words = s.words; homes = s.homes; views = Seats s.views v w id })
-  watch-after s h id v w at is ok seen =
+  watch-after {s = s} {w = w} id v at t =
       subst
       (λ (vs : List Known). Holds bytes opening
       (record { words = s.words; homes = s.homes; views = vs ++ w ∷ [] }))
-      (sym (set_again s.views id v at)) (watched s h w is ok seen)
+      (sym (set_again s.views id v at)) (watched t)
 
   pub watch_splits : (id : ℕ) (v : Known) → v.role ≡ dealer
       → Splits (Holds bytes opening) id v v (next_watch v)
   watch_splits id v role s h at =
-      let ok = dealer-of s h id v at role in
-      watch-after s h id v (next_watch v) at refl
-      (record { opening_is = ok.opening_is; loaded = zero-le }) (h.log, refl)
+      let t : Watches s h (next_watch v) = record {
+        is = refl;
+        ok = record { opening_is = (dealer-of s h id v at role).opening_is; loaded = zero-le };
+        seen = (h.log, refl);
+      } in
+      watch-after id v at t
 
   -- a node's seat makes a note
   pub note_splits : (id : ℕ) (v : Known) → v.role ≡ node
@@ -374,8 +380,12 @@ module _ {S : Type 0} (bytes : S → List ℕ) (opening : World) where
   note_splits id v role s h at =
       let ok = node-of bytes opening
       (record { state = s; holds = h; id = id; view = v; at = at }) role in
-      watch-after s h id v (note_of v) at refl
-      (record { opening_is = ok.opening_is; loaded = zero-le }) (h.learned id v at)
+      let t : Watches s h (note_of v) = record {
+        is = refl;
+        ok = record { opening_is = ok.opening_is; loaded = zero-le };
+        seen = h.learned id v at;
+      } in
+      watch-after id v at t
 
   first-at : (v u : Known) (j : ℕ) → get_elem? (v ∷ []) j ≡ some u → (j ≡ 0) × (v ≡ u)
   first-at v u zero e = (refl, some-injective v u e)

@@ -108,8 +108,8 @@ last-one m before after e [] place first h g = (g.2 ∙ h, g.3)
 last-one m before after e (x ∷ xs) place first h g =
     last-one m before after e xs (suc place) x.left h.3 g.3
 
-module _ {S : Type 0} (bytes : S → List ℕ) (opening : World) (s t : State S Known)
-    (box place found left : ℕ) (h : Tells bytes opening s t box place found left) where
+module _ {S : Type 0} {bytes : S → List ℕ} {opening : World} {s t : State S Known}
+    {box place found left : ℕ} (h : Tells bytes opening s t box place found left) where
   abbrev last : Visit
   last = visit box place found left h.old
 
@@ -239,5 +239,4 @@ module _ {S : Type 0} (bytes : S → List ℕ) (opening : World) (s t : State S 
       )
 
 pub visits-true : {S : Type 0} (bytes : S → List ℕ) → VisitsAreTrue bytes
-visits-true bytes opening s t box place found left h =
-    told bytes opening s t box place found left h
+visits-true bytes opening s t box place found left h = told h
