@@ -2,6 +2,7 @@
 use Rattle.std.proofs.Common.{◌≡◌, ◌≢◌, ℕ, ◌+◌, ◌<◌, Bool, true, false, ◌==◌, ◌&&◌, List, [], ◌∷◌, ◌++◌, Option, Some, None, option_to_list, Ok, Err, append-nil, append_assoc, ap, refl, sym, ◌∙◌, subst, arith, le_refl, le-ltb}
 use Rattle.std.specs.Prelude.{nat_lt, is_none, slice_index_or}
 use Rattle.std.proofs.lemmas.Bool.{and_parts, cond_both, eqb-true, ltb-true}
+use Rattle.std.proofs.lemmas.Bool.Decides.{nat_tests}
 use Rattle.ids.specs.declared.names.Ref.{Ref}
 use Rattle.ids.specs.declared.refusal.Refusal.{Refusal}
 use Rattle.msg.specs.declared.body.Body.{Body}
@@ -15,7 +16,7 @@ use Rattle.model.specs.Effects.{Effect, Work, answers, at_rest, then}
 use Rattle.model.specs.Heaps.{object_at, place_of, with_place}
 use Rattle.model.specs.Shading.{filled, is_calm, is_open, join, joined, see_to}
 use Rattle.model.specs.State.{LocalState, Phases, got_from}
-use Rattle.model.specs.Steps.{are_within, answer_get, count_in, is_marking, may_follow, may_reach, may_settle, mentioned, settled, take_body, take_carried, taken_in}
+use Rattle.model.specs.Steps.{answer_get, count_in, is_marking, may_follow, may_settle, settled, take_body, take_carried, taken_in}
 use Rattle.model.specs.View.{NodeView, Performed, view_taken}
 use Rattle.model.proofs.Joining.{calm-none, join-phases}
 use Rattle.model.proofs.Leaving.{Stands, stands-walks}
@@ -85,21 +86,11 @@ module _ (n : NodeView) (from stamp : ℕ) (b : Body) where
 -- ---- the tests
 
 module _ {p : LocalState} {from stamp : ℕ} {b : Body} (t : IsTakable p from stamp b) where
-  parts : (may_reach p stamp ≡ true) × ((may_follow p from b ≡ true)
-      × (may_settle (joined p stamp).local stamp b ≡ true))
-  parts =
-      let first = and_parts (may_reach p stamp)
-      (are_within p.shape (mentioned b)
-      && (may_follow p from b && may_settle (joined p stamp).local stamp b)) t.may in
-      let second = and_parts (are_within p.shape (mentioned b))
-      (may_follow p from b && may_settle (joined p stamp).local stamp b) first.1 in
-      (first.0, and_parts (may_follow p from b) (may_settle (joined p stamp).local stamp b) second.1)
-
   pub follows : may_follow p from b ≡ true
-  follows = parts.1.0
+  follows = grind (arith, nat_tests, t.may)
 
   pub settles : may_settle (joined p stamp).local stamp b ≡ true
-  settles = parts.1.1
+  settles = grind (arith, nat_tests, t.may)
 
 -- what the tests of these bodies say of the node that has joined
 module _ (p : LocalState) (stamp : ℕ) where
