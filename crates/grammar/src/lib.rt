@@ -15,7 +15,7 @@ mod tags;
 mod writing;
 
 pub use law::spellings;
-pub use parts::{Head, NodeParts, PhasesParts, StoredLink};
+pub use parts::{Head, PhasesParts, StoredLink, StoredNode};
 pub use reading::{begins_logged, whole, whole_logged};
 pub use tags::LOGGED;
 pub use writing::{put_front, put_others, put_slots, put_start, put_told};

@@ -1,8 +1,7 @@
 //! A node as the parts that its image says. The parts may contradict each other; whether they form
 //! a node is checked when the node is made of them.
-use heap::{Object, Slots};
+use heap::HeapParts;
 use ids::Ref;
-use model::Letter;
 use msg::Message;
 use safra::Ring;
 use std::marker::Model;
@@ -50,23 +49,16 @@ impl Model for StoredLink {
 
 /// All that an image says about a node.
 #[derive(Drop)]
-pub struct NodeParts {
+pub struct StoredNode {
     pub head: Head,
     pub phases: PhasesParts,
     pub ring: Ring,
     /// At node 0 the cycle that each other node reported as swept, in ascending order; at other
     /// nodes empty.
     pub reports: Vec<u64>,
-    pub registers: Vec<Option<Ref>>,
-    pub slots: Slots<Object>,
-    /// The free slots, the next to be used first.
-    pub free: Vec<u32>,
-    /// The slots of the marked objects that are still to be scanned; the last one is scanned first.
-    pub grey: Vec<u32>,
+    pub heap: HeapParts,
     /// The references of other nodes that were asked for in this cycle, in order.
     pub asked: Vec<Ref>,
-    /// The letters that wait for the program, oldest first.
-    pub letters: Vec<Letter>,
     /// The links to the other nodes, in ascending order.
     pub links: Vec<StoredLink>,
 }

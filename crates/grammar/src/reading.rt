@@ -17,10 +17,10 @@ ghost use Rattle.grammar.specs.Logs.{begins_logged, logged_at};
 ghost use Rattle.grammar.specs.Parts.{stored_of};
 
 use crate::lists::{Readable, counted, many};
-use crate::parts::{Head, NodeParts, PhasesParts, StoredLink};
+use crate::parts::{Head, PhasesParts, StoredLink, StoredNode};
 use crate::tags::{ABSENT, FIRST, FREE, LOGGED, OCCUPIED, PRESENT, RETIRED, SECOND, START};
 use codec::Reader;
-use heap::{Object, Slot, Slots};
+use heap::{HeapParts, Object, Slot, Slots};
 use ids::{FIRST_VERSION_NODES, GREATEST_NODES, GREATEST_PLACES, Ref, Refusal};
 use model::Letter;
 use msg::reading::{
@@ -29,6 +29,7 @@ use msg::reading::{
 use msg::{Message, Token, Version, body_fits, optional_fits};
 use safra::Ring;
 use std::alloc::Global;
+use std::collections::VecDeque;
 
 // ---- what comes before the lists
 
@@ -402,7 +403,7 @@ fn read_others(
 }
 
 #[tactic(auto, unfolding(crate::specs::Grammar::stored_format, crate::specs::Grammar::lists_format), using(crate::proofs::Joins::both_read, crate::proofs::Joins::joined_read, crate::proofs::Joins::made))]
-fn read_stored(alloc: Global, version: Version, reader: &mut Reader) -> Result<NodeParts, Refusal>
+fn read_stored(alloc: Global, version: Version, reader: &mut Reader) -> Result<StoredNode, Refusal>
     ensures value { IfOk result
         (λ x. Reads (stored_format version) reader.old reader.new (stored_of x)) }
     ensures refused { IfErr result (λ e. e ≡ Memory) }
@@ -411,23 +412,26 @@ fn read_stored(alloc: Global, version: Version, reader: &mut Reader) -> Result<N
     let (reports, registers) = read_told(alloc, version, head, reader)?;
     let (slots, (free, grey)) = read_slots(alloc, version, reader)?;
     let (asked, (letters, links)) = read_others(alloc, version, head, reader)?;
-    Ok(NodeParts {
+    let heap = HeapParts {
+        slots,
+        free,
+        registers,
+        letters: VecDeque::from_vec(letters),
+        grey,
+    };
+    Ok(StoredNode {
         head,
         phases,
         ring,
         reports,
-        registers,
-        slots,
-        free,
-        grey,
+        heap,
         asked,
-        letters,
         links,
     })
 }
 
 #[tactic(auto, unfolding(crate::specs::Grammar::image_format), using(crate::proofs::Joins::joined_read))]
-fn read_image(alloc: Global, reader: &mut Reader) -> Result<(Version, NodeParts), Refusal>
+fn read_image(alloc: Global, reader: &mut Reader) -> Result<(Version, StoredNode), Refusal>
     ensures value { IfOk result
         (λ x. Reads image_format reader.old reader.new (x.0, stored_of x.1)) }
     ensures refused { IfErr result (λ e. e ≡ Memory) }
@@ -442,7 +446,7 @@ fn read_image(alloc: Global, reader: &mut Reader) -> Result<(Version, NodeParts)
 /// parts, and with `Memory` if an allocation fails. Memory and time are proportional to the number
 /// of bytes.
 #[tactic(auto, using(crate::proofs::Joins::whole_read))]
-pub fn whole(alloc: Global, bytes: &[u8]) -> Result<(Version, NodeParts), Refusal>
+pub fn whole(alloc: Global, bytes: &[u8]) -> Result<(Version, StoredNode), Refusal>
     ensures { Gives (λ x. (x.0, stored_of x.1)) result (whole_at image_format.read bytes.now) }
 {
     let mut reader = Reader::new(bytes);
@@ -469,7 +473,7 @@ pub fn begins_logged(bytes: &[u8]) -> bool
 /// The parts that all of the bytes together say, if they begin as [`begins_logged`] tests. It fails
 /// as [`whole`] does.
 #[tactic(auto, unfolding(crate::specs::Logs::logged_at), using(crate::proofs::Joins::whole_read))]
-pub fn whole_logged(alloc: Global, bytes: &[u8]) -> Result<NodeParts, Refusal>
+pub fn whole_logged(alloc: Global, bytes: &[u8]) -> Result<StoredNode, Refusal>
     ensures { Gives stored_of result (logged_at bytes.now) }
 {
     if !begins_logged(bytes) {

@@ -16,11 +16,10 @@ ghost use Rattle.grammar.specs.Parts.{stored_of};
 ghost use Rattle.image.specs.Logged.{IsAnyImageOf, IsLoggedOf};
 
 use control::Phases;
-use grammar::{Head, NodeParts, StoredLink, begins_logged, whole, whole_logged};
-use heap::HeapParts;
+use grammar::{Head, StoredLink, StoredNode, begins_logged, whole, whole_logged};
 use ids::{GREATEST_IMAGE, Refusal, Shape};
 use link::LinkParts;
-use node::{Core, Node};
+use node::{Core, Node, NodeParts};
 use std::alloc::Global;
 use std::collections::VecDeque;
 
@@ -95,24 +94,20 @@ fn core_from_logged(alloc: Global, bytes: &[u8]) -> Result<Core, Refusal>
 }
 
 // The node that the image says.
-fn restored(alloc: Global, image: NodeParts) -> Result<Core, Refusal>
+fn restored(alloc: Global, image: StoredNode) -> Result<Core, Refusal>
     requires { (v : Version) × Fits v (stored_of image) }
     ensures made { IfOk result (λ n. n ≡ node_of (stored_of image)) }
     ensures stands { OnOk result (IsStanding (node_of (stored_of image))) }
     ensures refused { IfErr result (λ e. e ≢ Memory
         → (e ≡ BadImage) × (IsStanding (node_of (stored_of image)) → ⊥)) }
 {
-    let NodeParts {
+    let StoredNode {
         head,
         phases,
         ring,
         reports,
-        registers,
-        slots,
-        free,
-        grey,
+        heap,
         asked,
-        letters,
         links,
     } = image;
     let Some(shape) = Shape::new(head.nodes, head.registers, head.slots) else {
@@ -124,16 +119,10 @@ fn restored(alloc: Global, image: NodeParts) -> Result<Core, Refusal>
         return Err(Refusal::BadImage);
     };
     let links = every_link(alloc, head.own, links)?;
-    let parts = node::NodeParts {
+    let parts = NodeParts {
         shape,
         own: head.own,
-        heap: HeapParts {
-            slots,
-            free,
-            registers,
-            letters: VecDeque::from_vec(letters),
-            grey,
-        },
+        heap,
         asked,
         phases,
         ring,

@@ -189,25 +189,7 @@ handled-kept old new e r x =
     record {
       width = ap length x.early ∙ kept.width ∙ sym nodes;
       counted = ap length got ∙ kept.counted ∙ sym nodes;
-      named =
-          subst
-          (λ (g : List ℕ).
-          (from : ℕ)
-          → RingStands new.core.local.own (get_or g from 0) from (ring_of new.early from))
-          (sym got)
-          (subst
-          (λ (es : Rings).
-          (from : ℕ)
-          → RingStands new.core.local.own
-          (get_or (got_after old.core.local.got (met old.early e) r) from 0) from (ring_of es from))
-          (sym x.early)
-          (subst
-          (λ (own : ℕ).
-          (from : ℕ)
-          → RingStands own
-          (get_or (got_after old.core.local.got (met old.early e) r) from 0) from
-          (ring_of (early_after old.core.local old.early e r) from))
-          (sym leaves.own) kept.named));
+      named = λ from. rw (got, x.early, leaves.own) (kept.named from);
     }
 
 -- the answer to Next, when a frame waits
@@ -254,14 +236,10 @@ pub emptied-kept : (n m : NodeView) (es fs : Rings) (from : ℕ)
     → fs ≡ set es from (emptied (ring_of es from))
     → AreKeptIn (record { core = m; early = fs })
 emptied-kept n m es fs from h same left =
-    subst (λ (z : Rings). AreKeptIn (record { core = m; early = z })) (sym left)
-    (subst
-    (λ (v : NodeView).
-    AreKeptIn (record { core = v; early = set es from (emptied (ring_of es from)) }))
-    (sym same)
+    rw (same, left)
     (kept-set _ _ n.local.got es from _ h
     (emptied-fills (IsInPlace n.local.own (got_from n.local from) from) (ring_of es from)
-    (h.named from))))
+    (h.named from)))
 
 -- any other event
 pub other-handled : (n m : NodeView) (es : Rings) (e : Event) (r : Result Answer Refusal)

@@ -1,8 +1,7 @@
 -- Each change of a node preserves what holds of every node.
-use Rattle.std.proofs.Common.{◌≡◌, ◌≢◌, ℕ, ◌+◌, ◌-◌, ◌<◌, ◌≤◌, ◌==◌, not, List, [], ◌∷◌, length, get_or, set, replicate, refl, sym, ap, ◌∙◌, subst, true, arith, le_refl}
-use Rattle.std.specs.Prelude.{nat_lt}
+use Rattle.std.proofs.Common.{◌≡◌, ◌≢◌, ℕ, ◌+◌, ◌-◌, ◌<◌, ◌≤◌, List, [], ◌∷◌, length, get_or, set, replicate, refl, sym, ap, ◌∙◌, subst, true, arith, le_refl}
 use Rattle.std.specs.List.{sum_by}
-use Rattle.std.proofs.lemmas.Bool.{and_parts, eqb-false, ltb-true, not-true}
+use Rattle.std.proofs.lemmas.Bool.Decides.{nat_tests}
 use Rattle.std.proofs.lemmas.List.{length-set, length-map, length-replicate, get_or-drop}
 use Rattle.std.proofs.lemmas.List.Elements.{All-replicate}
 use Rattle.std.proofs.lemmas.List.Sums.{sum_by-set}
@@ -277,12 +276,9 @@ node-new shape own s within links = record {
 
 pub other-from : (n : NodeView) (i : ℕ) → is_other n.local i ≡ true
     → IsOther n.local.shape n.local.own i
-other-from n i h =
-    let parts = and_parts (nat_lt i n.local.shape.nodes) (not (i == n.local.own)) h in
-    (ltb-true _ _ parts.0, eqb-false i n.local.own (not-true (i == n.local.own) parts.1))
+other-from n i h = grind (arith, nat_tests, h)
 
 -- a frame that is addressed to the node comes from another node of the shape
 pub addressed-from : (n : NodeView) (from to : ℕ) → is_addressed n.local from to ≡ true
     → IsOther n.local.shape n.local.own from
-addressed-from n from to h =
-    other-from n from (and_parts (to == n.local.own) _ h).1
+addressed-from n from to h = grind (arith, nat_tests, h)

@@ -2,6 +2,7 @@
 use Rattle.std.proofs.Common.{◌≡◌, ◌≢◌, ℕ, ◌+◌, ◌<◌, Bool, true, false, ◌==◌, ◌&&◌, List, [], ◌∷◌, ◌++◌, Option, Some, None, option_to_list, Ok, Err, append-nil, append_assoc, ap, refl, sym, ◌∙◌, subst, arith, le_refl, le-ltb}
 use Rattle.std.specs.Prelude.{nat_lt, is_none, slice_index_or}
 use Rattle.std.proofs.lemmas.Bool.{and_parts, cond_both, eqb-true, ltb-true}
+use Rattle.std.proofs.lemmas.Bool.Decides.{nat_tests}
 use Rattle.ids.specs.declared.names.Ref.{Ref}
 use Rattle.ids.specs.declared.refusal.Refusal.{Refusal}
 use Rattle.msg.specs.declared.body.Body.{Body}
@@ -15,7 +16,7 @@ use Rattle.model.specs.Effects.{Effect, Work, answers, at_rest, then}
 use Rattle.model.specs.Heaps.{object_at, place_of, with_place}
 use Rattle.model.specs.Shading.{filled, is_calm, is_open, join, joined, see_to}
 use Rattle.model.specs.State.{LocalState, Phases, got_from}
-use Rattle.model.specs.Steps.{are_within, answer_get, count_in, is_marking, may_follow, may_reach, may_settle, mentioned, settled, take_body, take_carried, taken_in}
+use Rattle.model.specs.Steps.{answer_get, count_in, is_marking, may_follow, may_settle, settled, take_body, take_carried, taken_in}
 use Rattle.model.specs.View.{NodeView, Performed, view_taken}
 use Rattle.model.proofs.Joining.{calm-none, join-phases}
 use Rattle.model.proofs.Leaving.{Stands, stands-walks}
@@ -27,7 +28,7 @@ use Rattle.node.specs.Taking.{IsSender, IsTakable, followed}
 use Rattle.node.specs.declared.node.errands.Extra.{Extra}
 use Rattle.node.specs.declared.node.errands.Extra.TheVariants as extra
 use Rattle.node.proofs.Events.{shaded, shaded-refused}
-use Rattle.node.proofs.Runs.{run-then, runs-refused}
+use Rattle.node.proofs.Runs.{IsStep, run-then, runs-refused, stepped}
 use Rattle.node.proofs.Places.{joined-places, seen-places}
 
 -- ---- the message counts
@@ -85,21 +86,11 @@ module _ (n : NodeView) (from stamp : ℕ) (b : Body) where
 -- ---- the tests
 
 module _ {p : LocalState} {from stamp : ℕ} {b : Body} (t : IsTakable p from stamp b) where
-  parts : (may_reach p stamp ≡ true) × ((may_follow p from b ≡ true)
-      × (may_settle (joined p stamp).local stamp b ≡ true))
-  parts =
-      let first = and_parts (may_reach p stamp)
-      (are_within p.shape (mentioned b)
-      && (may_follow p from b && may_settle (joined p stamp).local stamp b)) t.may in
-      let second = and_parts (are_within p.shape (mentioned b))
-      (may_follow p from b && may_settle (joined p stamp).local stamp b) first.1 in
-      (first.0, and_parts (may_follow p from b) (may_settle (joined p stamp).local stamp b) second.1)
-
   pub follows : may_follow p from b ≡ true
-  follows = parts.1.0
+  follows = grind (arith, nat_tests, t.may)
 
   pub settles : may_settle (joined p stamp).local stamp b ≡ true
-  settles = parts.1.1
+  settles = grind (arith, nat_tests, t.may)
 
 -- what the tests of these bodies say of the node that has joined
 module _ (p : LocalState) (stamp : ℕ) where
@@ -156,10 +147,6 @@ module _ (from stamp : ℕ) (p : LocalState) where
   abbrev late : Bool
   late = nat_lt stamp p.phases.cycle
 
-  -- an errand, and then a step of the node alone
-  abbrev stepped : Work → (LocalState → LocalState) → Work
-  stepped w f = record { local = f w.local; sends = w.sends }
-
   by-errand : (b : Body) (due : Bool) (rs : List Ref) (x : Extra) (f : LocalState → LocalState)
       → then (take_carried stamp b q) (take_body from stamp b) ≡ stepped (errand_here due rs x q) f
       → followed from stamp b p ≡ stepped (errand stamp due rs x p) f
@@ -179,31 +166,31 @@ module _ (from stamp : ℕ) (p : LocalState) where
   unfolding take_body
   begin-followed = by-errand body.Begin false [] extra.Nothing (λ z. z) (quiet (λ z. z))
 
-  pub token-followed : (token : Token) → followed from stamp (body.Token token) p
-      ≡ stepped (errand stamp false [] extra.Nothing p)
+  pub token-followed : (token : Token)
+      → IsStep (followed from stamp (body.Token token) p) (errand stamp false [] extra.Nothing p)
       (λ z. record z { ring = record z.ring { token = Some token } })
   unfolding take_body
   token-followed token =
       let held : LocalState → LocalState =
       λ z. record z { ring = record z.ring { token = Some token } } in
-      by-errand (body.Token token) false [] extra.Nothing held (quiet held)
+      record { is = by-errand (body.Token token) false [] extra.Nothing held (quiet held) }
 
-  pub ended-followed : followed from stamp body.Ended p
-      ≡ stepped (errand stamp false [] extra.Nothing p)
+  pub ended-followed : IsStep (followed from stamp body.Ended p)
+      (errand stamp false [] extra.Nothing p)
       (λ z. record z { phases = with_ended z.phases })
   unfolding take_body
   ended-followed =
       let ended : LocalState → LocalState = λ z. record z { phases = with_ended z.phases } in
-      by-errand body.Ended false [] extra.Nothing ended (quiet ended)
+      record { is = by-errand body.Ended false [] extra.Nothing ended (quiet ended) }
 
-  pub swept-followed : followed from stamp body.Swept p
-      ≡ stepped (errand stamp false [] extra.Nothing p)
+  pub swept-followed : IsStep (followed from stamp body.Swept p)
+      (errand stamp false [] extra.Nothing p)
       (λ z. record z { phases = with_report from stamp z.phases })
   unfolding take_body
   swept-followed =
       let noted : LocalState → LocalState =
       λ z. record z { phases = with_report from stamp z.phases } in
-      by-errand body.Swept false [] extra.Nothing noted (quiet noted)
+      record { is = by-errand body.Swept false [] extra.Nothing noted (quiet noted) }
 
   pub mark-followed : (target : Ref) → followed from stamp (body.Mark target) p
       ≡ errand stamp true (filled (Some target ∷ [])) extra.Nothing p
@@ -236,13 +223,15 @@ module _ (from stamp : ℕ) (p : LocalState) where
       same = rw (is, joined-cycle p stamp, filled-one v) refl
 
   pub put-followed : (due : Bool) (target : Ref) (place : ℕ) (v : Option Ref) → due ≡ late
-      → followed from stamp (body.Put target place v) p
-      ≡ stepped (errand stamp due (filled (Some target ∷ v ∷ [])) extra.Nothing p)
+      → IsStep (followed from stamp (body.Put target place v) p)
+      (errand stamp due (filled (Some target ∷ v ∷ [])) extra.Nothing p)
       (λ z. record z { heap = with_place z.heap target place v })
   unfolding take_body errand_here
   put-followed due target place v is =
-      by-errand (body.Put target place v) due (filled (Some target ∷ v ∷ [])) extra.Nothing
-      (λ (z : LocalState). record z { heap = with_place z.heap target place v }) same
+      record {
+        is = by-errand (body.Put target place v) due (filled (Some target ∷ v ∷ [])) extra.Nothing
+            (λ (z : LocalState). record z { heap = with_place z.heap target place v }) same;
+      }
     where
       same : then (take_carried stamp (body.Put target place v) q)
           (take_body from stamp (body.Put target place v))

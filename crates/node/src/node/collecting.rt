@@ -123,11 +123,10 @@ impl Core {
         ensures memory_free { IsTrue (not (reports_sweep self.old.local count))
             → IfErr result (λ e. e ≢ Memory) }
     {
-        if self.phases.swept() >= self.phases.ended() {
+        if self.has_swept() {
             return Err(Refusal::NothingToDo);
         }
-        let left = self.heap.slots() - self.phases.cursor();
-        if count < left {
+        if count < self.unswept() {
             let freed = self.sweep_some(count);
             return Ok(Answer::Freed {
                 count: freed,

@@ -1,6 +1,6 @@
 //! The steps of an event that can't fail. Each is one of the definitions, and keeps what holds of
 //! every node.
-ghost use Rattle.std.specs.Prelude.{◌≡◌, ◌≢◌, ◌==◌, ◌+◌, ◌<◌, ◌≤◌, ◌^◌, [], Some, None, is_some, length, nat_lt, IsSome, IfOk, OnOk};
+ghost use Rattle.std.specs.Prelude.{◌≡◌, ◌≢◌, ◌==◌, ◌+◌, ◌<◌, ◌≤◌, ◌^◌, false, [], Some, None, is_some, length, nat_lt, IsTrue, IsSome, IfOk, OnOk};
 ghost use Rattle.ids.specs.declared.limits.TheConstants.{GREATEST_CYCLE};
 ghost use Rattle.model.specs.Checks.{guarded};
 ghost use Rattle.control.specs.Phases.{MayBegin, advanced, all_swept, with_ended, with_report};
@@ -196,6 +196,26 @@ impl Core {
         } }
     {
         self.phases.on_swept(from, cycle);
+    }
+
+    /// Whether the node has swept each cycle whose marking it knows to have ended.
+    #[inline(always)]
+    pub(super) fn has_swept(&self) -> bool
+        ensures done { IsTrue result → self.now.local.phases.ended ≤ self.now.local.phases.swept }
+        ensures left { result ≡ false
+            → self.now.local.phases.swept < self.now.local.phases.ended }
+    {
+        self.phases.swept() >= self.phases.ended()
+    }
+
+    /// How many slots are left to be swept.
+    #[inline(always)]
+    pub(super) fn unswept(&self) -> u32
+        ensures value { result ≡ unswept self.now.local }
+        ensures inside { self.now.local.phases.cursor ≤ length self.now.local.heap.slots }
+        ensures room { self.now.local.phases.cursor + result < 2 ^ 32 }
+    {
+        self.heap.slots() - self.phases.cursor()
     }
 
     /// Sweeps this many slots, and not the last one, and returns how many objects it freed. Marking

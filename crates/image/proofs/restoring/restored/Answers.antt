@@ -36,5 +36,4 @@ returns-clause-refused c =
       c.in-Some.ensures.value,
       c.in-Some-from_parts.ensures.value,
       c.in_ok-reports.ensures.made,
-      c.from_vec.ensures.items,
     ) refl)

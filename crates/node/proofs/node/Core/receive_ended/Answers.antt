@@ -1,20 +1,16 @@
-use Rattle.std.proofs.Common.{◌∙◌, ap, subst, sym}
+use Rattle.std.proofs.Common.{◌∙◌, ap}
 use Rattle.std.proofs.lemmas.Result.{err_from_is_err_and}
-use Rattle.control.specs.Phases.{with_ended}
-use Rattle.model.specs.Effects.{Work}
 use Rattle.model.specs.State.{LocalState}
-use Rattle.node.specs.Errands.{IsRun}
 use Rattle.node.proofs.Receiving.{ended-calm, ended-followed, ended-free}
-use Rattle.node.proofs.Runs.{run-quiet, run-then, runs-done, runs-refused}
+use Rattle.node.proofs.Runs.{run-quiet, step-done, step-refused}
 use Rattle.node.proofs.node.Core.receive_ended.Goals as goal
 
 pub returns-in_err-run : goal.returns-in_err-run
 returns-in_err-run c =
     let r = err_from_is_err_and c.from_residual.result c.from_residual.ensures.1 in
     rw (r.1, r.2)
-    (runs-refused
-    (ap (λ (w : Work). w.sends)
-    (ended-followed c.args.from c.args.stamp c.args.self.now.local))
+    (step-refused
+    (ended-followed c.args.from c.args.stamp c.args.self.now.local)
     c.in_err-run.ensures)
 
 pub end_marking-requires-clause-calm : goal.end_marking-requires-clause-calm
@@ -29,8 +25,6 @@ end_marking-requires-clause-free c =
 
 pub returns : goal.returns
 returns c =
-    runs-done
-    (subst (λ (w : Work). IsRun w c.args.self.now c.end_marking.new.self)
-    (sym (ended-followed c.args.from c.args.stamp c.args.self.now.local))
-    (run-then (λ (z : LocalState). record z { phases = with_ended z.phases })
-    c.in_ok-run.ensures.done c.end_marking.ensures))
+    step-done
+    (ended-followed c.args.from c.args.stamp c.args.self.now.local)
+    c.in_ok-run.ensures.done c.end_marking.ensures

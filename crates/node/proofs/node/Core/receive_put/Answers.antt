@@ -1,24 +1,19 @@
-use Rattle.std.proofs.Common.{ap, subst, sym}
+use Rattle.std.proofs.Common.{subst, sym}
 use Rattle.std.proofs.lemmas.Result.{err_from_is_err_and}
 use Rattle.ids.specs.Limits.{Shaped}
-use Rattle.model.specs.Effects.{Work}
-use Rattle.model.specs.Heaps.{with_place}
 use Rattle.model.specs.References.{IfAny, IsWithin}
-use Rattle.model.specs.State.{LocalState}
 use Rattle.model.proofs.References.{list-any}
-use Rattle.node.specs.Errands.{IsRun}
 use Rattle.node.proofs.Receiving.{put-followed}
-use Rattle.node.proofs.Runs.{run-stands, run-then, runs-done, runs-refused}
+use Rattle.node.proofs.Runs.{run-stands, step-done, step-refused}
 use Rattle.node.proofs.node.Core.receive_put.Goals as goal
 
 pub returns-in_err-run : goal.returns-in_err-run
 returns-in_err-run c =
     let r = err_from_is_err_and c.from_residual.result c.from_residual.ensures.1 in
     rw (r.1, r.2)
-    (runs-refused
-    (ap (λ (w : Work). w.sends)
+    (step-refused
     (put-followed c.args.from c.args.stamp c.args.self.now.local _ c.args.target c.args.place
-    c.args.reference c.is_late-due.ensures))
+    c.args.reference c.is_late-due.ensures)
     c.in_err-run.ensures)
 
 pub put_place-requires : goal.put_place-requires
@@ -29,12 +24,7 @@ put_place-requires c =
 
 pub returns : goal.returns
 returns c =
-    runs-done
-    (subst (λ (w : Work). IsRun w c.args.self.now c.put_place.new.self)
-    (sym (put-followed c.args.from c.args.stamp c.args.self.now.local _ c.args.target c.args.place
-    c.args.reference c.is_late-due.ensures))
-    (run-then
-    (λ (z : LocalState). record z {
-      heap = with_place z.heap c.args.target c.args.place c.args.reference;
-    })
-    c.in_ok-run.ensures.done c.put_place.ensures))
+    step-done
+    (put-followed c.args.from c.args.stamp c.args.self.now.local _ c.args.target c.args.place
+    c.args.reference c.is_late-due.ensures)
+    c.in_ok-run.ensures.done c.put_place.ensures

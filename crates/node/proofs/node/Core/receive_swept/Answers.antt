@@ -1,22 +1,17 @@
 use Rattle.std.proofs.Common.{◌<◌, ◌∙◌, arith, ap, subst, sym}
 use Rattle.std.proofs.lemmas.Result.{err_from_is_err_and}
 use Rattle.std.proofs.lemmas.Bool.{eqb-true}
-use Rattle.control.specs.Phases.{with_report}
 use Rattle.ids.specs.Limits.{Shaped}
-use Rattle.model.specs.Effects.{Work}
-use Rattle.model.specs.State.{LocalState}
-use Rattle.node.specs.Errands.{IsRun}
 use Rattle.node.proofs.Receiving.{follows, swept-followed, swept-now}
-use Rattle.node.proofs.Runs.{run-phases, run-stands, run-then, runs-done, runs-refused}
+use Rattle.node.proofs.Runs.{run-phases, run-stands, step-done, step-refused}
 use Rattle.node.proofs.node.Core.receive_swept.Goals as goal
 
 pub returns-in_err-run : goal.returns-in_err-run
 returns-in_err-run c =
     let r = err_from_is_err_and c.from_residual.result c.from_residual.ensures.1 in
     rw (r.1, r.2)
-    (runs-refused
-    (ap (λ (w : Work). w.sends)
-    (swept-followed c.args.from c.args.stamp c.args.self.now.local))
+    (step-refused
+    (swept-followed c.args.from c.args.stamp c.args.self.now.local)
     c.in_err-run.ensures)
 
 pub note_swept-requires-clause-director : goal.note_swept-requires-clause-director
@@ -36,8 +31,6 @@ note_swept-requires-clause-reached c =
 
 pub returns : goal.returns
 returns c =
-    runs-done
-    (subst (λ (w : Work). IsRun w c.args.self.now c.note_swept.new.self)
-    (sym (swept-followed c.args.from c.args.stamp c.args.self.now.local))
-    (run-then (λ (z : LocalState). record z { phases = with_report c.args.from c.args.stamp z.phases })
-    c.in_ok-run.ensures.done c.note_swept.ensures))
+    step-done
+    (swept-followed c.args.from c.args.stamp c.args.self.now.local)
+    c.in_ok-run.ensures.done c.note_swept.ensures

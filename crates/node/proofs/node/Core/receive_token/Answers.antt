@@ -1,19 +1,16 @@
-use Rattle.std.proofs.Common.{◌≢◌, Some, ap, subst, sym}
+use Rattle.std.proofs.Common.{◌≢◌, subst, sym}
 use Rattle.std.proofs.lemmas.Result.{err_from_is_err_and}
-use Rattle.model.specs.Effects.{Work}
-use Rattle.model.specs.State.{LocalState, Phases}
-use Rattle.node.specs.Errands.{IsRun}
+use Rattle.model.specs.State.{Phases}
 use Rattle.node.proofs.Receiving.{token-followed, token-open}
-use Rattle.node.proofs.Runs.{run-phases, run-then, runs-done, runs-refused}
+use Rattle.node.proofs.Runs.{run-phases, step-done, step-refused}
 use Rattle.node.proofs.node.Core.receive_token.Goals as goal
 
 pub returns-in_err-run : goal.returns-in_err-run
 returns-in_err-run c =
     let r = err_from_is_err_and c.from_residual.result c.from_residual.ensures.1 in
     rw (r.1, r.2)
-    (runs-refused
-    (ap (λ (w : Work). w.sends)
-    (token-followed c.args.from c.args.stamp c.args.self.now.local c.args.token))
+    (step-refused
+    (token-followed c.args.from c.args.stamp c.args.self.now.local c.args.token)
     c.in_err-run.ensures)
 
 pub hold-requires : goal.hold-requires
@@ -24,8 +21,6 @@ hold-requires c =
 
 pub returns : goal.returns
 returns c =
-    runs-done
-    (subst (λ (w : Work). IsRun w c.args.self.now c.hold.new.self)
-    (sym (token-followed c.args.from c.args.stamp c.args.self.now.local c.args.token))
-    (run-then (λ (z : LocalState). record z { ring = record z.ring { token = Some c.args.token } })
-    c.in_ok-run.ensures.done c.hold.ensures))
+    step-done
+    (token-followed c.args.from c.args.stamp c.args.self.now.local c.args.token)
+    c.in_ok-run.ensures.done c.hold.ensures

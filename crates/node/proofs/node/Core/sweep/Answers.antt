@@ -1,56 +1,37 @@
-use Rattle.std.proofs.Common.{◌<◌, ◌≤◌, false, length, Err, ap, arith, ◌∙◌, refl, subst}
+use Rattle.std.proofs.Common.{◌<◌, ◌≤◌, ap, arith, ◌∙◌, refl}
 use Rattle.std.proofs.lemmas.Result.{err_from_is_err_and}
-use Rattle.ids.specs.declared.refusal.Refusal.TheVariants.{NothingToDo}
 use Rattle.control.specs.Phases.{all_swept}
-use Rattle.model.specs.declared.event.Event.TheVariants as event
 use Rattle.model.specs.Collecting.{unswept}
 use Rattle.model.specs.State.{LocalState}
-use Rattle.model.specs.View.{NodeView, Performed, view_act}
+use Rattle.model.specs.View.{NodeView}
 use Rattle.node.specs.Cycles.{slots_swept}
-use Rattle.node.specs.Inside.{view_of}
 use Rattle.node.proofs.Runs.{run-then}
 use Rattle.node.proofs.Sweeping.{part-performed, rest-performed, rest-refused, sweep-none}
 use Rattle.node.proofs.node.Core.sweep.Goals as goal
-use Rattle.node.proofs.node.Core.sweep.Goals.{Else-swept-ended, Else-count-left}
+use Rattle.node.proofs.node.Core.sweep.Goals.{Else-has_swept, Else-count-unswept}
 
 -- ---- what several goals need
 
-unfinished : (c : Else-swept-ended)
+unfinished : (c : Else-has_swept)
     → c.args.self.now.local.phases.swept < c.args.self.now.local.phases.ended
-unfinished c =
-    subst (λ (m : NodeView). m.local.phases.swept < m.local.phases.ended) c.self.view_is
-    (omega (arith, c.if-swept-ended.false, c.swept.ensures, c.ended.ensures))
+unfinished c = c.has_swept.ensures.left c.if-has_swept.false
 
-all : (c : Else-count-left) → unswept c.args.self.now.local ≤ c.args.count
-all c =
-    subst (λ (m : NodeView). unswept m.local ≤ c.args.count) c.self.view_is
-    (omega (arith, c.if-count-left.false, c.slots.ensures, c.cursor.ensures))
-
-inside : (c : Else-count-left)
-    → c.args.self.now.local.phases.cursor ≤ length c.args.self.now.local.heap.slots
-inside c =
-    subst (λ (m : NodeView). m.local.phases.cursor ≤ length m.local.heap.slots) c.self.view_is
-    c.self.invariant.node.phases.cursor
+all : (c : Else-count-unswept) → unswept c.args.self.now.local ≤ c.args.count
+all c = omega (arith, c.if-count-unswept.false, c.unswept.ensures.value)
 
 -- ---- the goals
 
-pub returns-then-swept-ended-clause-performed : goal.returns-then-swept-ended-clause-performed
-returns-then-swept-ended-clause-performed c =
-    let n : NodeView = view_of c.self.inside in
-    let over : n.local.phases.ended ≤ n.local.phases.swept =
-    omega (arith, c.if-swept-ended.true, c.swept.ensures, c.ended.ensures) in
-    subst
-    (λ (m : NodeView).
-    Performed false (Err NothingToDo) m m (view_act m (event.Sweep c.args.count)))
-    c.self.view_is
-    (record { performs = sweep-none n c.args.count over; unchanged = refl })
+pub returns-then-has_swept-clause-performed : goal.returns-then-has_swept-clause-performed
+returns-then-has_swept-clause-performed c = record {
+  performs = sweep-none c.args.self.now c.args.count (c.has_swept.ensures.done c.if-has_swept.true);
+  unchanged = refl;
+}
 
-pub returns-then-count-left-clause-performed : goal.returns-then-count-left-clause-performed
-returns-then-count-left-clause-performed c =
-    let at = (goal.at.returns-then-count-left-clause-performed c).Else-swept-ended in
+pub returns-then-count-unswept-clause-performed : goal.returns-then-count-unswept-clause-performed
+returns-then-count-unswept-clause-performed c =
+    let at = (goal.at.returns-then-count-unswept-clause-performed c).Else-has_swept in
     part-performed c.args.self.now c.args.count (unfinished at)
-    (subst (λ (m : NodeView). c.args.count < unswept m.local) c.self.view_is
-    (omega (arith, c.if-count-left.true, c.slots.ensures, c.cursor.ensures)))
+    (omega (arith, c.if-count-unswept.true, c.unswept.ensures.value))
     c.sweep_some-freed.ensures.freed c.sweep_some-freed.ensures.done
 
 pub returns-in_err-report-clause-performed : goal.returns-in_err-report-clause-performed
@@ -59,8 +40,8 @@ returns-in_err-report-clause-performed c =
     let p = err_from_is_err_and c.from_residual.result c.from_residual.ensures.1 in
     let left = c.in_err-report.ensures in
     rw (p.1, p.2)
-    (rest-refused c.args.self.now c.args.count (unfinished at.Else-swept-ended)
-    (all at.Else-count-left) (inside at.Else-count-left) left.refused left.last left.unchanged)
+    (rest-refused c.args.self.now c.args.count (unfinished at.Else-has_swept)
+    (all at.Else-count-unswept) at.Else-count-unswept.unswept.ensures.inside left.refused left.last left.unchanged)
 
 pub returns-clause-performed : goal.returns-clause-performed
 returns-clause-performed c =
@@ -68,8 +49,8 @@ returns-clause-performed c =
     let n : NodeView = c.args.self.now in
     let left = c.in_ok-report.ensures in
     let done = c.sweep_rest-freed.ensures in
-    rest-performed n c.args.count (unfinished at.Else-swept-ended) (all at.Else-count-left)
-    (inside at.Else-count-left)
+    rest-performed n c.args.count (unfinished at.Else-has_swept) (all at.Else-count-unswept)
+    at.Else-count-unswept.unswept.ensures.inside
     (done.freed
     ∙ ap (λ (m : NodeView). (slots_swept (unswept m.local) m.local).freed) left.done)
     (run-then
