@@ -1,8 +1,8 @@
 //! One node: its events, its frames and its image. It may be created from any image, so a case
 //! reaches nodes that no short run does.
 use crate::case::{Stop, Subject, bytes_of, number, verb, word};
-use crate::parsing::{event_of, repeated};
 use crate::out::Out;
+use crate::parsing::{event_of, repeated};
 use ids::{NodeId, Refusal, Shape};
 use lines::SummaryText;
 use model::{Answer, Event};
@@ -84,7 +84,6 @@ fn on_node(
 ) -> Result<(), Stop> {
     match verb(words) {
         "bytes" => put_image(alloc, node, out),
-        "check" => out.done(check(alloc, node)),
         "state" => out.show(&SummaryText(node.state())),
         "kept" => {
             node.kept();
@@ -110,10 +109,10 @@ fn ask_frame(
 ) -> Result<(), Stop> {
     let frame = match verb(words) {
         "frame-at" => node.frame_at(number(words, 1)?, number(words, 2)?),
+        "ack-for" => node.ack_for(number(words, 1)?),
         "numbered" => node
             .core()
             .numbered_frame(number(words, 1)?, number(words, 2)?),
-        "ack-for" => node.ack_for(number(words, 1)?),
         _ => return take_event(alloc, node, log, words, out),
     };
     put_frame(alloc, frame, out);
@@ -151,19 +150,6 @@ fn repeat(node: &mut Node, log: &mut Log, event: Event, count: u64) -> Result<An
         last = act(node, log, event)?;
     }
     Ok(last)
-}
-
-// Whether the node's image is read as a node with the same image; `BadImage` if it isn't.
-fn check(alloc: Global, node: &Node) -> Result<(), Refusal> {
-    let bytes = image::to_bytes(alloc, node)?;
-    let again = image::from_bytes(alloc, &bytes)?;
-    let spelled = image::to_bytes(alloc, &again);
-    drop(again);
-    if spelled?.as_slice() == bytes.as_slice() {
-        Ok(())
-    } else {
-        Err(Refusal::BadImage)
-    }
 }
 
 /// The node's image as bytes, or why there isn't one.

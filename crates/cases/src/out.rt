@@ -83,6 +83,13 @@ impl Out {
         }
     }
 
+    /// The lines of another one, after those so far.
+    pub fn add(&mut self, other: &Out) {
+        if other.failed || self.text.push_str(other.text.as_str()).is_err() {
+            self.failed = true;
+        }
+    }
+
     /// Two hexadecimal digits for each byte; `-` for no bytes.
     pub fn bytes(&mut self, bytes: &[u8]) {
         if bytes.is_empty() {

@@ -8,7 +8,7 @@ ghost use Rattle.wire.specs.Readers.{IsSeatOf, IsWatchOf};
 use crate::cells::open_cells;
 use cases::{Line, Out, Stop, Subject, event_of, number, read, take_all, verb};
 use cell::{Cell, Naming, SharedOn};
-use disk::MemoryDisk;
+use disk::{Disk, MemoryDisk};
 use ids::{Refusal, Shape};
 use std::alloc::Global;
 use std::marker::Brand;
@@ -76,11 +76,11 @@ impl<W: Naming, R: Wait> Subject for Sharing<'_, W, R> {
     }
 }
 
-// A command to a cell.
-fn on_cell<R: Wait, W: Naming>(
+/// A command to a cell.
+pub(crate) fn on_cell<R: Wait, D: Disk, W: Naming>(
     rt: &R,
     alloc: Global,
-    cell: &SharedOn<MemoryDisk, W>,
+    cell: &SharedOn<D, W>,
     words: &[&str],
     out: &mut Out,
 ) -> Result<(), Stop> {

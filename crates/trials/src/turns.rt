@@ -1,6 +1,6 @@
 //! Turns of a worker on a site that records what it is asked and gives scripted answers. So the
 //! calls of a turn are seen in order. Runs of a worker are on a site that always answers the same.
-use crate::spaces::stage_of;
+use crate::gates::stage_of;
 use cases::{Out, Stop, number, verb, word};
 use ids::{Ref, Refusal};
 use model::{Answer, Event};
