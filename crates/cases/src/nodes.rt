@@ -152,13 +152,13 @@ fn repeat(node: &mut Node, log: &mut Log, event: Event, count: u64) -> Result<An
     Ok(last)
 }
 
-/// The node's image as bytes, or why there isn't one.
-pub fn put_image(alloc: Global, node: &Node, out: &mut Out) {
+// The node's image as bytes, or why there isn't one.
+fn put_image(alloc: Global, node: &Node, out: &mut Out) {
     out.spelled(image::to_bytes(alloc, node));
 }
 
-/// The frame's bytes, or `-` for no frame.
-pub fn put_frame(alloc: Global, frame: Option<Frame>, out: &mut Out) {
+// The frame's bytes, or `-` for no frame.
+fn put_frame(alloc: Global, frame: Option<Frame>, out: &mut Out) {
     match frame {
         Some(frame) => out.spelled(encode(alloc, &frame)),
         None => out.text("-"),

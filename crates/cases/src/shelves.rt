@@ -300,8 +300,8 @@ fn write_to<D: Disk>(
     Ok(())
 }
 
-/// The area of a disk that the word names.
-pub fn area_of(word: &str) -> Result<Area, Stop> {
+// The area of a disk that the word names.
+fn area_of(word: &str) -> Result<Area, Stop> {
     match word {
         "select" => Ok(Area::Select),
         "a" => Ok(Area::A),

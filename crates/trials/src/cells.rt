@@ -3,7 +3,6 @@ ghost use Rattle.std.specs.Prelude.{◌≡◌, true, All, IfOk};
 ghost use Rattle.model.specs.Steps.{is_own};
 ghost use Rattle.wire.specs.Readers.{IsSeatOf, IsWatchOf};
 
-use cases::nodes::{put_frame, put_image};
 use cases::{
     Line, Out, Stop, Subject, blank_disks, event_of, node_on, number, read, repeated, take_all,
     verb,
@@ -132,30 +131,15 @@ fn on_wire(
 ) -> Result<Result<(), Stop>, Refusal> {
     let (wire, cells, watch) = open_cells(alloc, shape)?;
     let cells = seat_all(alloc, &wire, cells)?;
-    let cells = Cells {
-        alloc,
-        wire: &wire,
-        watch,
-        cells,
-    };
-    Ok(take_all(cells, lines, out))
+    drop(watch);
+    Ok(take_all(Cells { alloc, cells }, lines, out))
 }
 
-// The cells of a case, and a watch that is never told anything.
+// The cells of a case.
 #[derive(Drop)]
 struct Cells<'a> {
     alloc: Global,
-    wire: &'a Wire,
-    watch: Watch,
     cells: Vec<Seated<'a>>,
-    ghost looks: { IsWatchOf wire.now watch },
-}
-
-impl Cells<'_> {
-    fn look(&mut self, out: &mut Out) {
-        let seen = self.wire.look(&mut self.watch);
-        out.show(&seen.number);
-    }
 }
 
 impl Subject for Cells<'_> {
@@ -163,10 +147,6 @@ impl Subject for Cells<'_> {
         let [first, words @ ..] = words else {
             return Err(Stop::Unknown);
         };
-        if *first == "look" {
-            self.look(out);
-            return Ok(());
-        }
         match self.cells.get_mut(read::<usize>(first)?) {
             Some(seated) => on_cell(self.alloc, seated, words, out),
             None => Err(Stop::Unknown),
@@ -201,15 +181,7 @@ fn ask(alloc: Global, seated: &mut Seated<'_>, words: &[&str], out: &mut Out) ->
     match verb(words) {
         "unsaved" => out.debug(&seated.is_unsaved()),
         "state" => out.show(&SummaryText(seated.cell.node().state())),
-        "bytes" => put_image(alloc, seated.cell.node(), out),
         "trace" => put_trace(seated, out),
-        "frame-at" => {
-            let frame = seated
-                .cell
-                .node()
-                .frame_at(number(words, 1)?, number(words, 2)?);
-            put_frame(alloc, frame, out);
-        }
         "crash" => put_crashed(alloc, seated, number(words, 1)?, out),
         _ => return act(alloc, seated, words, out),
     }

@@ -333,7 +333,7 @@ where
         }
         "trace" => put_trace(rt, cell, false, out),
         "last" => put_trace(rt, cell, true, out),
-        "pause" | "take" | "await" => return on_site(rt, alloc, cell, words, out),
+        "pause" | "take" | "until" => return on_site(rt, alloc, cell, words, out),
         _ => return on_cell(rt, alloc, cell, words, out),
     }
     Ok(())

@@ -1,5 +1,8 @@
 //! Programs of nodes that run concurrently, each with its lines in its own thread, and concurrently
 //! with the workers.
+ghost use Rattle.std.specs.Prelude.{◌≡◌, true};
+ghost use Rattle.model.specs.Steps.{is_own};
+
 use crate::gates::pause;
 use cases::{Line, Out, Stop, event_of, number, read, verb};
 use cell::Shared;
@@ -103,7 +106,10 @@ pub(crate) fn on_site<R: Clock + Wait, S: Site>(
     match verb(words) {
         "pause" => pause(rt),
         "take" => take_letters(rt, site, number(words, 1)?, number(words, 2)?, out),
-        "await" => await_letter(rt, site, number(words, 1)?, out),
+        "until" => match words {
+            [_, words @ ..] => act_until(rt, site, event_of(alloc, words)?, out),
+            _ => return Err(Stop::Unknown),
+        },
         _ => out.answer(site.act(rt, event_of(alloc, words)?)),
     }
     Ok(())
@@ -130,11 +136,13 @@ fn take_letters<R: Wait, S: Site>(rt: &R, site: &S, register: u16, count: u32, o
     }
 }
 
-// Accepts a letter into a register, once there is one.
-fn await_letter<R: Clock + Wait, S: Site>(rt: &R, site: &S, register: u16, out: &mut Out) {
+// Repeats an event until there is a letter, a free slot, or no cycle under way.
+fn act_until<R: Clock + Wait, S: Site>(rt: &R, site: &S, event: Event, out: &mut Out)
+    requires { is_own event ≡ true }
+{
     for _ in rt.forever() {
-        match site.act(rt, Event::Accept { register }) {
-            Err(Refusal::NoLetter) => pause(rt),
+        match site.act(rt, event) {
+            Err(Refusal::NoLetter | Refusal::ArenaFull | Refusal::CycleRunning) => pause(rt),
             answer => {
                 out.answer(answer);
                 return;
