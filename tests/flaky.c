@@ -21,7 +21,7 @@
 
 enum { WELL, INTERRUPTED, SHORT, STOPS, FAILS, LOST };
 
-// The byte in a file of the current folder; 0 if there is none.
+// The byte in a file of the current folder; 0 if there isn't one.
 static unsigned char get(const char *kind, const char *name)
 {
     char path[32];

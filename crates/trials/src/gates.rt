@@ -56,7 +56,7 @@ struct End {
     turn: u32,
 }
 
-/// Where workers wait, and where they end.
+/// The places at which workers wait, and those at which they end.
 #[derive(Drop)]
 pub(crate) struct Rules {
     holds: Vec<Hold>,
@@ -139,7 +139,7 @@ pub(crate) struct Ruled<R> {
 // How many stages a turn has.
 const STAGES: usize = 5;
 
-// Where a gate records that a worker of this node was at this stage.
+// The place at which a gate records that a worker of this node was at this stage.
 fn index(node: u8, stage: Stage) -> usize {
     let place = match stage {
         Stage::Start => 0,
@@ -193,12 +193,12 @@ impl<R> Ruled<R> {
         }
     }
 
-    /// From now on workers may go on that the case lets go on.
+    /// From now on, workers that wait for the case may continue.
     pub(crate) fn go(&self) {
         self.may_go.store(true, Ordering::SeqCst);
     }
 
-    // What tells whether a worker that waits may go on.
+    // The flag that says whether a worker that waits may continue.
     fn flag(&self, hold: Hold) -> &AtomicBool {
         match hold.until {
             Some((node, stage)) => match self.seen.get(index(node, stage)) {

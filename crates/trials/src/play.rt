@@ -146,7 +146,7 @@ where
         }
     }
 
-    // The gate. It is made with the rules so far if there is none.
+    // The gate. It is made with the rules so far if there isn't one.
     fn gate(&mut self) -> Result<Arc<Ruled<R>>, Refusal> {
         if let Some(gate) = &self.gate {
             return Ok(gate.clone()?);
@@ -206,8 +206,8 @@ where
         Ok(())
     }
 
-    // Closes the space: how many reports there are; the reports; or where workers were ended, and
-    // then the nodes of all others.
+    // Closes the space: how many reports there are; the reports; or the stages at which workers were
+    // ended, and then the nodes of all others.
     fn close(&mut self, what: &str, out: &mut Out) -> Result<(), Stop> {
         let Some(opened) = self.opened.take() else {
             return Err(Stop::Unknown);

@@ -115,9 +115,8 @@ pub(crate) fn on_site<R: Clock + Wait, S: Site>(
     Ok(())
 }
 
-// Accepts letters into a register until there is none, or until there were this many. The word of
-// the object in register 1 becomes the label of each, plus one, so that a restart shows which
-// letters had been accepted.
+// Accepts at most this many letters into a register. The word of the object in register 1 becomes
+// the label of each, plus one, so that a restart shows which letters had been accepted.
 fn take_letters<R: Wait, S: Site>(rt: &R, site: &S, register: u16, count: u32, out: &mut Out) {
     for _ in 0..count {
         let answer = site.act(rt, Event::Accept { register });
